@@ -1,0 +1,10 @@
+pub mod Appending
+pub mod Characters
+pub mod Counting
+pub mod FailedRows
+pub mod Grouping
+pub mod InOrder
+pub mod Measured
+pub mod OnlyOutcomes
+pub mod RowsInOrder
+pub mod WholeReport

@@ -1,0 +1,127 @@
+-- Rows of trials that run one after another.
+use Rattle.std.proofs.Common.{◌≡◌, ℕ, zero, suc, ◌+◌, ◌-◌, ◌^◌, ◌<◌, ◌≤◌, List, [], ◌∷◌, ◌++◌, Option, Result, Some, Bool, not, filter, length, map, refl, sym, ap, ◌∙◌, subst, arith, add-one, append-nil, append_assoc, length-append, vec_len}
+use Rattle.std.proofs.lemmas.List.{length-map}
+use Rattle.std.proofs.lemmas.List.Concat.{flat_map-append}
+use Rattle.std.proofs.lemmas.List.Elements.{All-nil, All-cons}
+use Rattle.std.proofs.lemmas.List.Sums.{count_by-le-length, length-filter}
+use Rattle.std.specs.List.{enumerate_from}
+use Rattle.std.specs.Prelude.{All, IsSomeAnd, slice_get}
+use Rattle.libtest_mimic.specs.declared.args.Arguments.{Arguments}
+use Rattle.libtest_mimic.specs.declared.outcome.Outcome.{Outcome}
+use Rattle.libtest_mimic.specs.declared.printer.Printer.{Printer}
+use Rattle.libtest_mimic.specs.declared.run.tally.Tally.{Tally}
+use Rattle.libtest_mimic.specs.declared.runner.Runner.{Runner}
+use Rattle.libtest_mimic.specs.declared.sink.Sink.{Sink}
+use Rattle.libtest_mimic.specs.declared.trial.Trial.{Trial}
+use Rattle.libtest_mimic.specs.Arrangement.{IsOwn, IsOwnAt, Placed, label_at, rows_at}
+use Rattle.libtest_mimic.specs.Count.{is_failed, counts_of, HasRoom}
+use Rattle.libtest_mimic.specs.Promise.{PromisesOutcome}
+use Rattle.libtest_mimic.specs.Report.{announcement_text, outcome_text, row_text, rows_text}
+use Rattle.libtest_mimic.specs.Row.{Label, Row, label_of, outcomes_of}
+use Rattle.libtest_mimic.specs.Sink.{Put, Stopped}
+use Rattle.libtest_mimic.specs.Steps.{HasCounted, HasRoomFor, OwnRows, rows_from}
+use Rattle.libtest_mimic.specs.Trial.{info_of, runner_of, labels_of}
+use Rattle.libtest_mimic.proofs.Appending.{Put-trans, Put-Stopped, Stopped-more}
+use Rattle.libtest_mimic.proofs.Counting.{HasRoom-counts}
+use Rattle.libtest_mimic.proofs.FailedRows.{length-rows_from}
+
+-- ---- texts
+
+rows_text-push : (p : Printer) (rows : List Row) (row : Row) → rows_text p (rows ++ row ∷ []) ≡ rows_text p rows ++ row_text p row
+rows_text-push p rows row =
+    flat_map-append (row_text p) rows (row ∷ []) ∙ ap (λ l. rows_text p rows ++ l) (append-nil (row_text p row))
+
+module _ {W : Type 0} (contents : W → Option (List ℕ)) where
+  -- one more row
+  pub Put-row : (p : Printer) (rows : List Row) (row : Row) (a b c d : Sink W)
+      → Put contents a b (rows_text p rows) → Put contents b c (announcement_text p row.label) → Put contents c d (outcome_text p row.label row.outcome)
+      → Put contents a d (rows_text p (rows ++ row ∷ []))
+  Put-row p rows row a b c d u v w =
+      let P : List ℕ → Type 0 = λ t. Put contents a d t in
+      subst P (sym (rows_text-push p rows row)) (Put-trans contents _ _ u (Put-trans contents _ _ v w))
+
+  -- a fault in one more row's outcome
+  pub Stopped-row : (p : Printer) (rows : List Row) (row : Row) (a b c d : Sink W)
+      → Put contents a b (rows_text p rows) → Put contents b c (announcement_text p row.label) → Stopped contents c d (outcome_text p row.label row.outcome)
+      → Stopped contents a d (rows_text p (rows ++ row ∷ []))
+  Stopped-row p rows row a b c d u v w =
+      let P : List ℕ → Type 0 = λ t. Stopped contents a d t in
+      subst P (sym (rows_text-push p rows row)) (Put-Stopped contents _ _ u (Put-Stopped contents _ _ v w))
+
+-- ---- own rows
+
+module _ {X Y : Type 0} {F : X → Type 0} {G : Y → Type 0} {g : _} {h : _} where
+  -- one more trial and its row
+  pub OwnRows-push : (args : Arguments) (ts : List (Trial X Y F G g h)) (rows : List Row) (t : Trial X Y F G g h) (row : Row)
+      → length ts ≡ length rows → OwnRows args ts rows → row.label ≡ label_of (info_of t) → IsOwn args t row.outcome → OwnRows args (ts ++ t ∷ []) (rows ++ row ∷ [])
+  OwnRows-push args [] [] t row e own label here = (label, here, tt)
+  OwnRows-push args [] (r ∷ rows) t row e own label here = absurd own
+  OwnRows-push args (s ∷ ts) [] t row e own label here = absurd (omega arith)
+  OwnRows-push args (s ∷ ts) (r ∷ rows) t row e own label here = (own.0, own.1, OwnRows-push args ts rows t row (omega arith) own.2 label here)
+
+  OwnRows-more : (args : Arguments) (ts more : List (Trial X Y F G g h)) (rows : List Row) → OwnRows args ts rows → OwnRows args (ts ++ more) rows
+  OwnRows-more args ts more [] own = tt
+  OwnRows-more args [] more (r ∷ rows) own = absurd own
+  OwnRows-more args (t ∷ ts) more (r ∷ rows) own = (own.0, own.1, OwnRows-more args ts more rows own.2)
+
+  -- the rows are the trials' own where the rest did not run
+  pub OwnRows-seen : (args : Arguments) (seen rest all : List (Trial X Y F G g h)) (rows : List Row) → seen ++ rest ≡ all → OwnRows args seen rows → OwnRows args all rows
+  OwnRows-seen args seen rest all rows e own = let P : List (Trial X Y F G g h) → Type 0 = λ l. OwnRows args l rows in subst P e (OwnRows-more args seen rest rows own)
+
+  label_at-seam : (front rest : List (Trial X Y F G g h)) (t : Trial X Y F G g h) → label_at (labels_of (front ++ (t ∷ rest))) (length front) ≡ label_of (info_of t)
+  label_at-seam [] rest t = refl
+  label_at-seam (s ∷ front) rest t = label_at-seam front rest t
+
+  -- what a report shows of the next trial
+  pub label_at-next : (front rest all : List (Trial X Y F G g h)) (t : Trial X Y F G g h) (n : ℕ) → front ++ (t ∷ rest) ≡ all → n ≡ length front → label_of (info_of t) ≡ label_at (labels_of all) n
+  label_at-next front rest all t n e k =
+      sym (label_at-seam front rest t) ∙ ap (λ l. label_at (labels_of l) (length front)) e ∙ ap (label_at (labels_of all)) (sym k)
+
+-- the outcome of what a trial's runner promises is its own
+pub IsOwn-from_runner : {X Y : Type 0} {F : X → Type 0} {G : Y → Type 0} {g : _} {h : _} (args : Arguments) (t : Trial X Y F G g h) (r : Runner X Y F G g h) (o : Outcome)
+    → r ≡ runner_of t → PromisesOutcome r (not args.bench) o → IsOwn args t o
+IsOwn-from_runner {X} {Y} {F} {G} {g} {h} args t r o e own = let P : Runner X Y F G g h → Type 0 = λ x. PromisesOutcome x (not args.bench) o in subst P e own
+
+-- a list with one element more behind the front is longer
+pub longer : {A : Type 0} (front rest all : List A) (x : A) → front ++ (x ∷ rest) ≡ all → length front < length all
+longer front rest all x e = omega (arith, length-append front (x ∷ rest), ap length e)
+
+-- ---- what a tally has room for
+
+length-outcomes : (rows : List Row) → length (outcomes_of rows) ≡ length rows
+length-outcomes rows = length-map rows (λ (row : Row). row.outcome)
+
+length-failed : (rows : List Row) → length (filter (λ (row : Row). is_failed row.outcome) rows) ≤ length rows
+length-failed rows =
+    let f : Row → Bool = λ row. is_failed row.outcome in
+    omega (arith, length-filter f rows, count_by-le-length f rows)
+
+-- a tally has kept at most as many infos as it has counted rows
+length-kept : (t : Tally) (filtered_out : ℕ) (rows : List Row) → HasCounted t filtered_out rows → vec_len t.infos ≤ length rows
+length-kept t filtered_out rows h =
+    let same : length t.infos.items ≡ length t.outcomes.items = sym t.infos.ok.0 ∙ t.side_by_side ∙ t.outcomes.ok.0 in
+    omega (arith, t.infos.ok.0, length-rows_from t.infos.items t.outcomes.items same, ap length h.failed, length-failed rows)
+
+-- there is room to count one more row
+pub HasRoom-tally : (t : Tally) (filtered_out : ℕ) (rows : List Row) → HasCounted t filtered_out rows → length rows < 2 ^ 64 - 1 → HasRoom t.conclusion
+HasRoom-tally t filtered_out rows h small =
+    subst HasRoom (sym h.counts) (HasRoom-counts (outcomes_of rows) filtered_out (omega (arith, length-outcomes rows)))
+
+-- and to keep it
+pub HasRoomFor-tally : (t : Tally) (filtered_out : ℕ) (rows : List Row) (n : ℕ) → HasCounted t filtered_out rows → HasRoomFor t n → length rows < n → HasRoomFor t (vec_len t.infos + 1)
+HasRoomFor-tally t filtered_out rows n h room within = record {
+  infos = omega (arith, length-kept t filtered_out rows h, room.infos);
+  outcomes = omega (arith, length-kept t filtered_out rows h, room.outcomes);
+  order = omega (arith, length-kept t filtered_out rows h, room.order);
+}
+
+-- ---- the rows so far
+
+module _ {X Y : Type 0} {F : X → Type 0} {G : Y → Type 0} {g : _} {h : _} {W : Type 0} (contents : W → Option (List ℕ)) where
+  -- the rows of these trials were appended, and the tally has counted them
+  pub record RowsSoFar (args : Arguments) (trials : List (Trial X Y F G g h)) (p : Printer) (filtered_out : ℕ) (old new : Sink W) (t : Tally) : Type 0 where
+    pub rows : List Row
+    pub own : OwnRows args trials rows
+    pub count : length rows ≡ length trials
+    pub text : Put contents old new (rows_text p rows)
+    pub tally : HasCounted t filtered_out rows

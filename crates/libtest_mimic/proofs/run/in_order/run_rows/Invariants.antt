@@ -1,0 +1,12 @@
+use Rattle.std.proofs.Common.{◌≡◌, ◌++◌, vec_len}
+use Rattle.std.specs.Vec.Iter.{into_iter_items}
+use Rattle.libtest_mimic.specs.Steps.{HasRoomFor}
+use Rattle.libtest_mimic.proofs.RowsInOrder.{RowsSoFar}
+use Rattle.libtest_mimic.proofs.run.in_order.run_rows.Given as goal
+
+abbrev pub invariant-loop-trial : goal.invariant-loop-trial
+invariant-loop-trial g l = record {
+  seen : l.yielded ++ into_iter_items l.trial-iterator ≡ l.fn.trials.items;
+  room : HasRoomFor l.tally (vec_len l.fn.trials);
+  so_far : RowsSoFar g.W.Write.contents l.args l.yielded l.printer l.initial.tally.conclusion.num_filtered_out l.initial.sink l.sink l.tally;
+}

@@ -1,0 +1,13 @@
+use Rattle.std.proofs.Common.{rules, ◌≡◌, ◌∙◌, ap, subst, take, sym, decimal}
+use Rattle.std.specs.Str.{IsUtf8}
+use Rattle.std.proofs.lemmas.Str.{IsUtf8-from_ascii}
+use Rattle.libtest_mimic.specs.Text.{grouped}
+use Rattle.libtest_mimic.proofs.Grouping.{utf8_ok, IsAscii-grouped}
+use Rattle.libtest_mimic.proofs.text.thousands.Goals as goal
+
+pub unwrap-requires : goal.unwrap-requires
+unwrap-requires c =
+    let digits = c.as_bytes.ensures.value in
+    utf8_ok _ c.from_utf8.result (take c.write_grouped-len.result c.write_grouped-len.new.buf) c.from_utf8.ensures.cases
+    (subst IsUtf8 (sym (c.write_grouped-len.ensures.written ∙ ap grouped digits))
+    (IsUtf8-from_ascii _ (IsAscii-grouped _ c.format.ensures.ascii)))

@@ -1,0 +1,41 @@
+-- What the arguments of a run ask for.
+use Rattle.std.specs.Prelude.{◌≡◌, Bool, true, false, if◌then◌else◌, List, [], Option, None, Some, unwrap_or, is_none, ◌&&◌}
+use Rattle.libtest_mimic.specs.declared.args.Arguments.{Arguments}
+use Rattle.libtest_mimic.specs.declared.args.ColorSetting.{ColorSetting}
+use Rattle.libtest_mimic.specs.declared.args.ColorSetting.TheVariants.{Auto, Always, Never}
+use Rattle.libtest_mimic.specs.declared.args.FormatSetting.{FormatSetting}
+use Rattle.libtest_mimic.specs.declared.args.FormatSetting.TheVariants.{Pretty, Terse}
+
+-- the format of a report: terse with `quiet`, else what is set, else pretty (the Rust crate's)
+abbrev pub format_of : Arguments → FormatSetting
+format_of args = if args.quiet then Terse else unwrap_or args.format Pretty
+
+-- whether a setting colours, where the caller says what it comes to without one
+abbrev pub setting_colours : ColorSetting → Bool → Bool
+setting_colours Auto unset = unset
+setting_colours Always unset = true
+setting_colours Never unset = false
+
+-- whether a report has colours: `Always` yes, `Never` no, else exactly where the caller says so and no logfile is set
+-- (the Rust crate's, with the test for a terminal handed in)
+abbrev pub colours_of : Arguments → Bool → Bool
+colours_of args auto = setting_colours (unwrap_or args.color Auto) (auto && is_none args.logfile)
+
+-- each flag is false, each option is not set, and nothing is skipped
+pub record AsksNothing (args : Arguments) : Type 0 where
+  pub include_ignored : args.include_ignored ≡ false
+  pub ignored : args.ignored ≡ false
+  pub test : args.test ≡ false
+  pub bench : args.bench ≡ false
+  pub list : args.list ≡ false
+  pub nocapture : args.nocapture ≡ false
+  pub show_output : args.show_output ≡ false
+  pub unstable_flags : args.unstable_flags ≡ None
+  pub exact : args.exact ≡ false
+  pub quiet : args.quiet ≡ false
+  pub test_threads : args.test_threads ≡ None
+  pub logfile : args.logfile ≡ None
+  pub skip : args.skip.items ≡ []
+  pub color : args.color ≡ None
+  pub format : args.format ≡ None
+  pub filter : args.filter ≡ None

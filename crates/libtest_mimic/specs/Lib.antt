@@ -1,0 +1,14 @@
+pub mod Text
+pub mod Failed
+pub mod Promise
+pub mod Count
+pub mod Sink
+pub mod Stopwatch
+pub mod Arguments
+pub mod Row
+pub mod Widths
+pub mod Trial
+pub mod Arrangement
+pub mod Report
+pub mod Run
+pub mod Steps

@@ -1,0 +1,67 @@
+-- What a run answers, and what it leaves in the sink and on the watch.
+use Rattle.std.specs.Prelude.{◌≡◌, ℕ, ◌<◌, ◌≤◌, List, ◌++◌, length, take, Option, Some, Result, MatchResult, Bool, slice_index_or, All}
+use Rattle.std.specs.List.{range_with_len}
+use Rattle.libtest_mimic.specs.declared.args.Arguments.{Arguments}
+use Rattle.libtest_mimic.specs.declared.trial.Trial.{Trial}
+use Rattle.libtest_mimic.specs.declared.printer.Printer.{Printer}
+use Rattle.libtest_mimic.specs.declared.outcome.conclusion.Conclusion.{Conclusion}
+use Rattle.libtest_mimic.specs.declared.sink.Sink.{Sink}
+use Rattle.libtest_mimic.specs.declared.stopwatch.Readings.{Readings}
+use Rattle.libtest_mimic.specs.declared.run.RunError.{RunError}
+use Rattle.libtest_mimic.specs.declared.run.RunError.TheVariants.{OutOfMemory, Write}
+use Rattle.libtest_mimic.specs.Arguments.{format_of, colours_of}
+use Rattle.libtest_mimic.specs.Arrangement.{Placed, places_of, IsOwnAt, IsArrangement, InOrder, label_at, rows_at}
+use Rattle.libtest_mimic.specs.Count.{counts_of}
+use Rattle.libtest_mimic.specs.Report.{title_text, announcement_text, rows_text, report_text}
+use Rattle.libtest_mimic.specs.Row.{Label, outcomes_of}
+use Rattle.libtest_mimic.specs.Sink.{Put, Stopped}
+use Rattle.libtest_mimic.specs.Stopwatch.{elapsed_of, IsRunning}
+use Rattle.libtest_mimic.specs.Trial.{labels_of}
+use Rattle.libtest_mimic.specs.Widths.{name_width_of, kind_width_of}
+
+-- In the signatures below X, Y, F, G, g and h stand for what the runners' boxed closures promise.
+
+-- the printer of a run: the format and the colours that the arguments ask for, and columns as wide as the trials need
+abbrev pub printer_for : Arguments → Bool → List Label → Printer
+printer_for args auto_colours labels = record {
+  format = format_of args;
+  colour = colours_of args auto_colours;
+  name_width = name_width_of labels;
+  kind_width = kind_width_of labels;
+}
+
+module _ {X Y : Type 0} {F : X → Type 0} {G : Y → Type 0} {g : _} {h : _} {W : Type 0} (contents : W → Option (List ℕ)) where
+  -- a report of this arrangement of the trials was appended, the watch was stopped, and these are the report's counts
+  pub record Reported (args : Arguments) (trials : List (Trial X Y F G g h)) (p : Printer) (filtered_out : ℕ) (placed : List Placed) (old new : Sink W) (watch : Readings) (c : Conclusion) : Type 0 where
+    pub arranged : IsArrangement args trials placed
+    pub nanos : ℕ
+    pub elapsed : elapsed_of watch ≡ Some nanos
+    pub appended : Put contents old new (report_text p (rows_at (labels_of trials) placed) filtered_out nanos)
+    pub counts : c ≡ counts_of (outcomes_of (rows_at (labels_of trials) placed)) filtered_out
+
+  -- a start of a report was appended, in which the trials stand in this order of their places: a beginning of the title,
+  -- some rows with own outcomes and the next announcement; where all rows are there, of the whole report, with the time
+  -- of the watch where it was stopped
+  pub record StartsReport (args : Arguments) (trials : List (Trial X Y F G g h)) (p : Printer) (filtered_out : ℕ) (order : List ℕ) (old new : Sink W) (watch : Readings) : Type 0 where
+    pub placed : List Placed
+    pub some : length placed ≤ length trials
+    pub places : places_of placed ≡ take (length placed) order
+    pub own : All (IsOwnAt args trials) placed
+    pub partly : length placed < length trials → Stopped contents old new
+        (title_text p (length trials) ++ (rows_text p (rows_at (labels_of trials) placed)
+        ++ announcement_text p (label_at (labels_of trials) (slice_index_or order (length placed) 0))))
+    pub nanos : ℕ
+    pub elapsed : (m : ℕ) → elapsed_of watch ≡ Some m → nanos ≡ m
+    pub whole : length placed ≡ length trials → Stopped contents old new (report_text p (rows_at (labels_of trials) placed) filtered_out nanos)
+
+  -- what stands after a refusal of a run in order: nothing was written and the watch runs, or a start of a report stands
+  abbrev pub RefusedInOrder : Arguments → List (Trial X Y F G g h) → Printer → ℕ → Sink W → Sink W → Readings → RunError → Type 0
+  RefusedInOrder args trials p filtered_out old new watch OutOfMemory = (new ≡ old) × IsRunning watch
+  RefusedInOrder args trials p filtered_out old new watch (Write fault) =
+      StartsReport args trials p filtered_out (range_with_len 0 (length trials)) old new watch
+
+  -- what stands after a run in order: a report of an arrangement in order, or what a refusal leaves
+  abbrev pub RanInOrder : Arguments → List (Trial X Y F G g h) → Printer → ℕ → Sink W → Sink W → Readings → Result Conclusion RunError → Type 0
+  RanInOrder args trials p filtered_out old new watch result = MatchResult result
+      (λ c. (placed : List Placed) × InOrder placed × Reported args trials p filtered_out placed old new watch c)
+      (λ e. RefusedInOrder args trials p filtered_out old new watch e)

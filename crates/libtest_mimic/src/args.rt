@@ -1,0 +1,121 @@
+//! What is asked of a run.
+ghost use Rattle.std.specs.Prelude.{◌≡◌, false, None, []};
+
+use std::alloc::Global;
+
+/// When a report has colours.
+#[derive(Clone, Copy, Debug, Default, PartialEq, Eq)]
+pub enum ColorSetting {
+    /// Where the caller of a run says so and no logfile is set.
+    #[default]
+    Auto,
+    /// Always, but in formats that have no colour.
+    Always,
+    /// Never.
+    Never,
+}
+
+/// How a report is written.
+#[derive(Clone, Copy, Debug, Default, PartialEq, Eq)]
+pub enum FormatSetting {
+    /// One line for each trial.
+    #[default]
+    Pretty,
+    /// One character for each trial, and one line for each measurement.
+    Terse,
+}
+
+/// What `-Z` may ask for. It has no effect.
+#[derive(Clone, Copy, Debug, PartialEq, Eq)]
+pub enum UnstableFlags {
+    /// `unstable-options`.
+    UnstableOptions,
+}
+
+/// What is asked of a run.
+#[derive(Debug, Drop)]
+pub struct Arguments {
+    /// Run ignored trials too.
+    pub include_ignored: bool,
+    /// Run ignored trials alone.
+    pub ignored: bool,
+    /// Run tests and ignore benchmarks.
+    pub test: bool,
+    /// Run and measure benchmarks, and ignore tests.
+    pub bench: bool,
+    /// List the trials and run none.
+    pub list: bool,
+    /// Has no effect: output isn't captured.
+    pub nocapture: bool,
+    /// Has no effect: output isn't captured.
+    pub show_output: bool,
+    /// Has no effect.
+    pub unstable_flags: Option<UnstableFlags>,
+    /// The filter and the skip patterns match whole names alone.
+    pub exact: bool,
+    /// Ask for the terse format, whatever `format` says.
+    pub quiet: bool,
+    /// How many threads run trials.
+    pub test_threads: Option<usize>,
+    /// The path of the file that gets the report. The caller of a run opens it.
+    pub logfile: Option<String>,
+    /// Patterns of trials that are left out.
+    pub skip: Vec<String>,
+    /// When the report has colours.
+    pub color: Option<ColorSetting>,
+    /// How the report is written.
+    pub format: Option<FormatSetting>,
+    /// The pattern of the trials that are run.
+    pub filter: Option<String>,
+}
+
+impl Arguments {
+    ghost use Rattle.libtest_mimic.specs.Arguments.{format_of, colours_of, AsksNothing};
+
+    /// Asks for nothing: each flag is false, each option `None`, and no pattern is skipped.
+    pub fn new(alloc: Global) -> Self
+        ensures { AsksNothing result }
+    {
+        Arguments {
+            include_ignored: false,
+            ignored: false,
+            test: false,
+            bench: false,
+            list: false,
+            nocapture: false,
+            show_output: false,
+            unstable_flags: None,
+            exact: false,
+            quiet: false,
+            test_threads: None,
+            logfile: None,
+            skip: Vec::new(alloc),
+            color: None,
+            format: None,
+            filter: None,
+        }
+    }
+
+    /// The format of the report: terse with `quiet`, else `format`, else pretty.
+    pub fn format_used(&self) -> FormatSetting
+        ensures { result ≡ format_of self.now }
+    {
+        if self.quiet {
+            FormatSetting::Terse
+        } else {
+            self.format.unwrap_or_default()
+        }
+    }
+
+    /// Whether the report has colours. `auto` is what the caller says where the setting is `Auto` or
+    /// isn't there: whether the report goes to a terminal that shows colours.
+    pub fn colours(&self, auto: bool) -> bool
+        ensures { result ≡ colours_of self.now auto }
+    {
+        match self.color.unwrap_or_default() {
+            ColorSetting::Auto => auto && self.logfile.is_none(),
+            ColorSetting::Always => true,
+            ColorSetting::Never => false,
+        }
+    }
+}

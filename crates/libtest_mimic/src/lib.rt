@@ -1,0 +1,20 @@
+//! A test harness of one's own that looks and behaves as that of `rustc --test`.
+#![tactic(auto)]
+
+pub mod args;
+pub mod outcome;
+pub mod printer;
+mod run;
+mod runner;
+mod sink;
+mod stopwatch;
+pub mod text;
+mod trial;
+
+pub use args::{Arguments, ColorSetting, FormatSetting, UnstableFlags};
+pub use outcome::{Conclusion, Failed, Measurement, Outcome, count_rows, run_single};
+pub use run::{RunError, run_here};
+pub use runner::{BenchRunner, Runner, TestRunner};
+pub use sink::{Sink, WriteFault};
+pub use stopwatch::{Clock, Stopwatch};
+pub use trial::{TestInfo, Trial};

@@ -1,0 +1,88 @@
+//! Why a trial failed.
+ghost use Rattle.std.specs.Prelude.{◌≡◌, Some, None, string_bytes};
+ghost use Rattle.std.specs.Option.{option_copied};
+ghost use Rattle.std.specs.Cmp.Rules.{comparing};
+ghost use Rattle.std.proofs.Common.{rules};
+ghost use Rattle.libtest_mimic.specs.Failed.{not_measured_text, same_text};
+
+use std::marker::Model;
+
+/// The failure of a trial, with a message or without one. Contracts see it as an optional text.
+#[derive(Debug, Drop)]
+pub struct Failed {
+    message: Option<Message>,
+}
+
+// A message, or the one message that is kept without memory.
+#[derive(Debug, Drop)]
+enum Message {
+    Owned(String),
+    NotMeasured,
+}
+
+const NOT_MEASURED: &str = "bench runner returned `Ok(None)` in bench mode";
+
+impl Model for Failed {
+    ghost use Rattle.std.specs.Prelude.{ℕ, List, Option, option_map};
+    ghost use Rattle.libtest_mimic.specs.Failed.{message_text};
+
+    ghost Value = { Option (List ℕ) };
+
+    ghost view = { λ f. option_map message_text f.message };
+}
+
+impl Failed {
+    /// A failure without a message.
+    pub fn without_message() -> Self
+        ensures { result ≡ None }
+    {
+        Failed { message: None }
+    }
+
+    /// A failure with this message, which may be empty.
+    pub fn with_message(message: String) -> Self
+        ensures { result ≡ Some (string_bytes message) }
+    {
+        Failed {
+            message: Some(Message::Owned(message)),
+        }
+    }
+
+    // The failure of a benchmark that measured nothing in bench mode.
+    pub(crate) fn not_measured() -> Self
+        ensures { result ≡ Some not_measured_text }
+    {
+        Failed {
+            message: Some(Message::NotMeasured),
+        }
+    }
+
+    /// The message, if there is one.
+    pub fn message(&self) -> Option<&str>
+        ensures { option_copied result ≡ self.now }
+    {
+        match &self.message {
+            Some(Message::Owned(message)) => Some(message.as_str()),
+            Some(Message::NotMeasured) => Some(NOT_MEASURED),
+            None => None,
+        }
+    }
+}
+
+impl PartialEq for Failed {
+    ghost eq = { same_text };
+
+    ghost laws = { Prim.search (comparing, rules) };
+
+    fn eq(&self, other: &Failed) -> bool {
+        match (self.message(), other.message()) {
+            (Some(mine), Some(theirs)) => mine == theirs,
+            (None, None) => true,
+            _ => false,
+        }
+    }
+}
+
+impl Eq for Failed {
+    ghost laws = { Prim.search (comparing, rules) };
+}

@@ -1,0 +1,82 @@
+//! Texts that are written piece by piece, with no memory.
+ghost use Rattle.std.specs.Prelude.{◌-◌, ◌^◌, ◌<◌, decimal};
+ghost use Rattle.libtest_mimic.specs.Sink.{Puts, faults_of};
+ghost use Rattle.libtest_mimic.specs.Text.{spaces, right_aligned, grouped};
+ghost use Rattle.libtest_mimic.specs.Steps.{pieces_text};
+
+use crate::sink::{Sink, WriteFault};
+use crate::text::thousands;
+use itoa::Buffer;
+use std::io::Write;
+
+/// A part of a text.
+#[derive(Clone, Copy)]
+pub(crate) enum Piece<'a> {
+    /// The text itself.
+    Text(&'a str),
+    /// The number in decimal.
+    Number(u64),
+    /// A number below 100 in two digits.
+    TwoDigits(u8),
+    /// So many spaces.
+    Spaces(usize),
+    /// The number with commas between groups of three digits, and spaces before it up to the width.
+    Grouped { number: u64, width: usize },
+}
+
+/// Writes the pieces one after another.
+pub(crate) fn put_pieces<W: Write>(
+    sink: &mut Sink<W>,
+    pieces: &[Piece<'_>],
+) -> Result<(), WriteFault>
+    requires { faults_of sink.old < 2 ^ 64 - 1 }
+    ensures { Puts W.contents sink.old sink.new (pieces_text pieces.now) result }
+{
+    for piece in pieces {
+        piece.put(sink)?;
+    }
+    Ok(())
+}
+
+impl Piece<'_> {
+    ghost use Rattle.libtest_mimic.specs.Steps.{piece_text};
+
+    fn put<W: Write>(self, sink: &mut Sink<W>) -> Result<(), WriteFault>
+        requires { faults_of sink.old < 2 ^ 64 - 1 }
+        ensures { Puts W.contents sink.old sink.new (piece_text self.entry) result }
+    {
+        match self {
+            Piece::Text(text) => sink.put(text.as_bytes()),
+            Piece::Number(number) => sink.put(Buffer::new().format(number).as_bytes()),
+            Piece::TwoDigits(number) => sink.put(&[b'0' + number / 10, b'0' + number % 10]),
+            Piece::Spaces(count) => put_spaces(sink, count),
+            Piece::Grouped { number, width } => put_grouped(sink, number, width),
+        }
+    }
+}
+
+// So many spaces are written at once.
+const SPACES: [u8; 32] = [b' '; 32];
+
+fn put_spaces<W: Write>(sink: &mut Sink<W>, count: usize) -> Result<(), WriteFault>
+    requires { faults_of sink.old < 2 ^ 64 - 1 }
+    ensures { Puts W.contents sink.old sink.new (spaces count) result }
+{
+    let mut left = count;
+    while left > 0 {
+        let now = left.min(SPACES.len());
+        sink.put(&SPACES[..now])?;
+        left -= now;
+    }
+    Ok(())
+}
+
+fn put_grouped<W: Write>(sink: &mut Sink<W>, number: u64, width: usize) -> Result<(), WriteFault>
+    requires { faults_of sink.old < 2 ^ 64 - 1 }
+    ensures { Puts W.contents sink.old sink.new (right_aligned width (grouped (decimal number))) result }
+{
+    let mut buf = [0; 26];
+    let text = thousands(number, &mut buf);
+    put_spaces(sink, width.saturating_sub(text.len()))?;
+    sink.put(text.as_bytes())
+}

@@ -1,0 +1,66 @@
+//! Runs trials in the calling thread, one after another.
+ghost use Rattle.std.specs.Prelude.{◌≡◌, ◌-◌, ◌^◌, ◌<◌, [], vec_len};
+ghost use Rattle.libtest_mimic.specs.Sink.{faults_of};
+ghost use Rattle.libtest_mimic.specs.Steps.{HasCounted, HasRoomFor, RowsRun, WritesReport};
+ghost use Rattle.libtest_mimic.specs.Stopwatch.{IsRunning};
+
+use crate::args::Arguments;
+use crate::outcome::{Conclusion, run_single};
+use crate::printer::Printer;
+use crate::run::tally::Tally;
+use crate::sink::{Sink, WriteFault};
+use crate::stopwatch::{Clock, Stopwatch};
+use crate::trial::Trial;
+use std::io::Write;
+
+// Runs the trials in their order, and writes the whole report. The watch is stopped directly before
+// the summary is written.
+pub(super) fn write_report<W: Write, C: Clock>(
+    printer: &Printer,
+    args: &Arguments,
+    trials: Vec<Trial>,
+    tally: Tally,
+    sink: &mut Sink<W>,
+    watch: &mut Stopwatch<C>,
+) -> Result<Conclusion, WriteFault>
+    requires room { faults_of sink.old < 2 ^ 64 - 1 }
+    requires running { IsRunning watch.old }
+    requires empty { HasCounted tally tally.conclusion.num_filtered_out [] }
+    requires capacity { HasRoomFor tally (vec_len trials) }
+    ensures { WritesReport W.contents args.now trials.items printer.now tally.conclusion.num_filtered_out
+        sink.old sink.new watch.new result }
+{
+    let mut tally = tally;
+    printer.print_title(sink, trials.len() as u64)?;
+    run_rows(printer, args, trials, &mut tally, sink)?;
+    tally.print_failures(printer, sink)?;
+    watch.stop();
+    let nanos = watch.elapsed().unwrap_or(0);
+    printer.print_summary(sink, tally.conclusion(), nanos)?;
+    sink.flush()?;
+    Ok(tally.into_conclusion())
+}
+
+// Runs the trials in their order, and writes the row of each: its announcement before it runs.
+fn run_rows<W: Write>(
+    printer: &Printer,
+    args: &Arguments,
+    trials: Vec<Trial>,
+    tally: &mut Tally,
+    sink: &mut Sink<W>,
+) -> Result<(), WriteFault>
+    requires room { faults_of sink.old < 2 ^ 64 - 1 }
+    requires empty { HasCounted tally.old tally.old.conclusion.num_filtered_out [] }
+    requires capacity { HasRoomFor tally.old (vec_len trials) }
+    ensures { RowsRun W.contents args.now trials.items printer.now tally.old.conclusion.num_filtered_out
+        sink.old sink.new tally.new result }
+{
+    for trial in trials {
+        let (info, runner) = trial.into_parts();
+        printer.print_test(sink, &info)?;
+        let outcome = run_single(runner, !args.bench);
+        printer.print_single_outcome(sink, &info, &outcome)?;
+        tally.record(info, outcome);
+    }
+    Ok(())
+}

@@ -1,0 +1,90 @@
+//! What a run keeps of the trials that ran: their counts, and those that failed.
+ghost use Rattle.std.specs.Prelude.{ℕ, ◌≡◌, ◌+◌, ◌-◌, ◌^◌, ◌∷◌, ◌++◌, ◌<◌, [], IfOk, List, vec_len};
+ghost use Rattle.std.specs.List.{range_with_len};
+ghost use Rattle.libtest_mimic.specs.Report.{failures_text};
+ghost use Rattle.libtest_mimic.specs.Sink.{Puts, faults_of};
+
+use crate::outcome::{Conclusion, Outcome};
+use crate::printer::Printer;
+use crate::sink::{Sink, WriteFault};
+use crate::trial::TestInfo;
+use std::alloc::{AllocError, Global};
+use std::io::Write;
+
+// The counts so far, and the trials that failed with their outcomes, in their order. The room is made
+// beforehand; room that no failure takes costs no memory that is touched.
+#[derive(Drop)]
+pub(crate) struct Tally {
+    conclusion: Conclusion,
+    infos: Vec<TestInfo>,
+    outcomes: Vec<Outcome>,
+    order: Vec<usize>,
+    ghost side_by_side: { vec_len infos ≡ vec_len outcomes },
+    ghost in_order: { order.items ≡ range_with_len 0 (vec_len infos) },
+}
+
+impl Tally {
+    ghost use Rattle.libtest_mimic.specs.Count.{HasRoom};
+    ghost use Rattle.libtest_mimic.specs.Row.{Row, row_of};
+    ghost use Rattle.libtest_mimic.specs.Steps.{HasCounted, HasRoomFor};
+
+    // Nothing is counted yet, and there is room for so many failures.
+    pub(crate) fn with_capacity(
+        alloc: Global,
+        trials: usize,
+        filtered_out: u64,
+    ) -> Result<Self, AllocError>
+        ensures counted { IfOk result (λ t. HasCounted t filtered_out []) }
+        ensures room { IfOk result (λ t. HasRoomFor t trials) }
+    {
+        Ok(Tally {
+            conclusion: Conclusion::empty(filtered_out),
+            infos: Vec::with_capacity(alloc, trials)?,
+            outcomes: Vec::with_capacity(alloc, trials)?,
+            order: Vec::with_capacity(alloc, trials)?,
+        })
+    }
+
+    // Counts the outcome, and keeps both where the trial failed.
+    pub(crate) fn record(&mut self, info: TestInfo, outcome: Outcome)
+        requires counts { HasRoom self.old.conclusion }
+        requires room { HasRoomFor self.old (vec_len self.old.infos + 1) }
+        ensures counted { (filtered_out : ℕ) (rows : List Row) → HasCounted self.old filtered_out rows
+            → HasCounted self.new filtered_out (rows ++ row_of info outcome ∷ []) }
+        ensures room { (count : ℕ) → HasRoomFor self.old count → HasRoomFor self.new count }
+    {
+        self.conclusion.count(&outcome);
+        if let Outcome::Failed(_) = outcome {
+            self.order.push_reserved(self.infos.len());
+            self.infos.push_reserved(info);
+            self.outcomes.push_reserved(outcome);
+        }
+    }
+
+    // Writes the failures of all rows that were counted.
+    pub(crate) fn print_failures<W: Write>(
+        &self,
+        printer: &Printer,
+        sink: &mut Sink<W>,
+    ) -> Result<(), WriteFault>
+        requires { faults_of sink.old < 2 ^ 64 - 1 }
+        ensures { (filtered_out : ℕ) (rows : List Row) → HasCounted self.now filtered_out rows
+            → Puts W.contents sink.old sink.new (failures_text printer.now rows) result }
+    {
+        printer.print_failures(sink, &self.infos, &self.order, &self.outcomes)
+    }
+
+    // The counts.
+    pub(crate) fn conclusion(&self) -> &Conclusion
+        ensures { result.now ≡ self.now.conclusion }
+    {
+        &self.conclusion
+    }
+
+    // Gives the counts, and drops what was kept of the failures.
+    pub(crate) fn into_conclusion(self) -> Conclusion
+        ensures { result ≡ self.conclusion }
+    {
+        self.conclusion
+    }
+}

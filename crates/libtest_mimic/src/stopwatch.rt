@@ -1,0 +1,92 @@
+//! The time that a run takes.
+ghost use Rattle.std.specs.Prelude.{◌≡◌};
+ghost use Rattle.libtest_mimic.specs.Stopwatch.{elapsed_of, is_fresh, is_running, IsFresh, IsRunning, StopsAfter};
+
+use std::marker::Model;
+
+/// A clock that counts nanoseconds from some moment on.
+///
+/// Nothing is promised of its readings: where the later one is the smaller, no time has elapsed.
+pub trait Clock {
+    /// The nanoseconds since that moment.
+    fn now(&mut self) -> u64;
+}
+
+/// What a watch has read from its clock.
+#[derive(Clone, Copy, Debug, PartialEq, Eq)]
+enum Readings {
+    Fresh,
+    Running { started: u64 },
+    Stopped { started: u64, stopped: u64 },
+}
+
+/// A clock, and what it read at the start and at the end of a run. It can be started once.
+#[derive(Drop)]
+pub struct Stopwatch<C: Clock> {
+    clock: C,
+    readings: Readings,
+}
+
+impl<C: Clock> Model for Stopwatch<C> {
+    ghost use Rattle.libtest_mimic.specs.declared.stopwatch.Readings.{Readings};
+
+    ghost Value = { Readings };
+
+    ghost view = { λ w. w.readings };
+}
+
+impl<C: Clock> Stopwatch<C> {
+    /// A fresh watch, which has read nothing.
+    pub fn new(clock: C) -> Self
+        ensures { IsFresh result }
+    {
+        Stopwatch {
+            clock,
+            readings: Readings::Fresh,
+        }
+    }
+
+    /// Reads the clock for the first time.
+    pub fn start(&mut self)
+        requires { IsFresh self.old }
+        ensures { IsRunning self.new }
+    {
+        let started = self.clock.now();
+        self.readings = Readings::Running { started };
+    }
+
+    /// Reads the clock for the second time, and keeps the first reading.
+    pub fn stop(&mut self)
+        requires { IsRunning self.old }
+        ensures { StopsAfter self.old self.new }
+    {
+        if let Readings::Running { started } = self.readings {
+            let stopped = self.clock.now();
+            self.readings = Readings::Stopped { started, stopped };
+        }
+    }
+
+    /// Whether the watch was not started yet.
+    pub fn is_fresh(&self) -> bool
+        ensures { result ≡ is_fresh self.now }
+    {
+        matches!(self.readings, Readings::Fresh)
+    }
+
+    /// Whether the watch was started and not stopped yet.
+    pub fn is_running(&self) -> bool
+        ensures { result ≡ is_running self.now }
+    {
+        matches!(self.readings, Readings::Running { .. })
+    }
+
+    /// The nanoseconds between start and stop, 0 where the clock went back. `None` before the stop.
+    pub fn elapsed(&self) -> Option<u64>
+        ensures { result ≡ elapsed_of self.now }
+    {
+        match self.readings {
+            Readings::Stopped { started, stopped } => Some(stopped.saturating_sub(started)),
+            _ => None,
+        }
+    }
+}

@@ -1,0 +1,46 @@
+//! The small texts of reports: seconds and grouped numbers.
+ghost use Rattle.std.specs.Prelude.{◌≡◌, ◌/◌, ◌%◌, ◌≤◌, length, take, decimal};
+ghost use Rattle.libtest_mimic.specs.Text.{grouped, nearest_hundredths};
+
+use itoa::Buffer;
+use std::str;
+
+/// The nanoseconds as whole seconds and hundredths below 100, to the nearest hundredth, ties up.
+pub fn hundredths(nanos: u64) -> (u64, u8)
+    ensures seconds { result.0 ≡ nearest_hundredths nanos / 100 }
+    ensures rest { result.1 ≡ nearest_hundredths nanos % 100 }
+{
+    let all = (u128::from(nanos) + 5_000_000) / 10_000_000;
+    ((all / 100) as u64, (all % 100) as u8)
+}
+
+/// The number in decimal with a comma between groups of three digits, in the caller's buffer.
+///
+/// The greatest number takes all 26 bytes.
+pub fn thousands(v: u64, buf: &mut [u8; 26]) -> &str
+    ensures { result.now ≡ grouped (decimal v) }
+{
+    let mut digits = Buffer::new();
+    let len = write_grouped(digits.format(v).as_bytes(), buf);
+    let all = &buf[..];
+    str::from_utf8(&all[..len]).unwrap()
+}
+
+// Writes the digits with their commas, and answers how many bytes that took.
+fn write_grouped(digits: &[u8], buf: &mut [u8; 26]) -> usize
+    requires { length digits.now ≤ 20 }
+    ensures within { result ≤ 26 }
+    ensures written { take result buf.new ≡ grouped digits.now }
+{
+    let mut at = 0;
+    for (i, digit) in digits.iter().enumerate() {
+        buf[at] = *digit;
+        at += 1;
+        let left = digits.len() - i - 1;
+        if left > 0 && left % 3 == 0 {
+            buf[at] = b',';
+            at += 1;
+        }
+    }
+    at
+}

@@ -1,0 +1,99 @@
+//! Tests and benchmarks.
+ghost use Rattle.std.specs.Prelude.{◌≡◌, ◌↔◌, string_bytes, [], true, false, not};
+
+use crate::outcome::failed::Failed;
+use crate::outcome::measurement::Measurement;
+use crate::runner::{BenchRunner, Runner, TestRunner};
+use std::fmt;
+
+/// What is known of a trial before it runs.
+#[derive(Debug, Drop)]
+pub struct TestInfo {
+    /// The name, which filters and skip patterns look at and which rows show.
+    pub name: String,
+    /// The kind, shown in brackets before the name. Most trials have none: it is empty.
+    pub kind: String,
+    /// Whether the trial is ignored where the arguments don't ask for ignored trials.
+    pub is_ignored: bool,
+    /// Whether the trial is a benchmark.
+    pub is_bench: bool,
+}
+
+/// A test or a benchmark: what is known of it, and how to run it.
+#[derive(Drop)]
+pub struct Trial {
+    info: TestInfo,
+    runner: Runner,
+}
+
+impl Trial {
+    ghost use Rattle.libtest_mimic.specs.Promise.{PromisesOutcome, outcome_of_test};
+    ghost use Rattle.libtest_mimic.specs.Trial.{info_of, runner_of};
+
+    /// A test without a kind and without the ignored flag. It passes where the runner answers `Ok`.
+    pub fn test(name: String, runner: Box<dyn FnOnce() -> Result<(), Failed> + Send>) -> Self
+        requires { pre runner }
+        ensures name { string_bytes (info_of result).name ≡ string_bytes name }
+        ensures kind { string_bytes (info_of result).kind ≡ [] }
+        ensures flag { (info_of result).is_ignored ≡ false }
+        ensures sort { (info_of result).is_bench ≡ false }
+        ensures promise { (mode : _) (o : _) → PromisesOutcome (runner_of result) mode o
+            ↔ ((answer : _) × post runner answer × (o ≡ outcome_of_test answer)) }
+    {
+        let kind = String::new(*name.allocator());
+        Trial {
+            info: TestInfo {
+                name,
+                kind,
+                is_ignored: false,
+                is_bench: false,
+            },
+            runner: Runner::Test(TestRunner::new(runner)),
+        }
+    }
+
+    /// The name.
+    pub fn name(&self) -> &str
+        ensures { result.now ≡ string_bytes (info_of self.now).name }
+    {
+        self.info.name.as_str()
+    }
+
+    /// The kind, empty where none was set.
+    pub fn kind(&self) -> &str
+        ensures { result.now ≡ string_bytes (info_of self.now).kind }
+    {
+        self.info.kind.as_str()
+    }
+
+    /// Whether the trial is marked as ignored.
+    pub fn has_ignored_flag(&self) -> bool
+        ensures { result ≡ (info_of self.now).is_ignored }
+    {
+        self.info.is_ignored
+    }
+
+    // What is known of the trial.
+    pub(crate) fn info(&self) -> &TestInfo
+        ensures { result.now ≡ info_of self.now }
+    {
+        &self.info
+    }
+
+    // Takes the trial apart.
+    pub(crate) fn into_parts(self) -> (TestInfo, Runner)
+        ensures info { result.0 ≡ info_of self }
+        ensures runner { result.1 ≡ runner_of self }
+    {
+        let Trial { info, runner } = self;
+        (info, runner)
+    }
+}
+
+impl fmt::Debug for Trial {
+    fn fmt<W: fmt::Write>(&self, f: &mut fmt::Formatter<W>) -> fmt::Result {
+        f.debug_struct("Trial")
+            .field("info", &self.info)
+            .finish_non_exhaustive()
+    }
+}
