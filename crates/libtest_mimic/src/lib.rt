@@ -18,3 +18,6 @@ pub use runner::{BenchRunner, Runner, TestRunner};
 pub use sink::{Sink, WriteFault};
 pub use stopwatch::{Clock, Stopwatch};
 pub use trial::{TestInfo, Trial};
+
+#[cfg(test)]
+mod tests;

@@ -18,7 +18,7 @@ use crate::sink::{Sink, WriteFault};
 use crate::stopwatch::{Clock, Stopwatch};
 use crate::trial::Trial;
 use in_order::write_report;
-use std::alloc::Global;
+use std::alloc::{AllocError, AllocFailed, Global};
 use std::io::Write;
 use tally::Tally;
 use thiserror::Error;
@@ -83,4 +83,16 @@ fn printer_for(args: &Arguments, trials: &[Trial], auto_colours: bool) -> Printe
         name_width,
         kind_width,
     )
+}
+
+impl From<AllocError> for RunError {
+    fn from(_error: AllocError) -> RunError {
+        RunError::OutOfMemory
+    }
+}
+
+impl<T: Drop> From<AllocFailed<T>> for RunError {
+    fn from(failed: AllocFailed<T>) -> RunError {
+        AllocError::from(failed).into()
+    }
 }

@@ -90,10 +90,20 @@ impl Trial {
     }
 }
 
+// Stands for a runner, of which there is nothing to show.
+struct OpaqueRunner;
+
+impl fmt::Debug for OpaqueRunner {
+    fn fmt<W: fmt::Write>(&self, f: &mut fmt::Formatter<W>) -> fmt::Result {
+        f.write_str("<runner>")
+    }
+}
+
 impl fmt::Debug for Trial {
     fn fmt<W: fmt::Write>(&self, f: &mut fmt::Formatter<W>) -> fmt::Result {
         f.debug_struct("Trial")
             .field("info", &self.info)
-            .finish_non_exhaustive()
+            .field("runner", &OpaqueRunner)
+            .finish()
     }
 }

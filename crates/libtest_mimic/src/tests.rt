@@ -1,0 +1,17 @@
+//! What no clause says: whole reports as texts, flushes, which runners were called, and each public call
+//! once. Expected texts are worked by hand from the format's rules, and those of the Rust crate.
+mod calls;
+mod faults;
+mod reports;
+mod texts;
+mod writers;
+
+// A test of this name over the closure.
+macro_rules! test_trial {
+    ($alloc:expr, $name:expr, $runner:expr) => {{
+        let runner: Box<dyn FnOnce() -> Result<(), Failed> + Send> = Box::new($alloc, $runner)?;
+        Trial::test(String::from_str($alloc, $name)?, runner)
+    }};
+}
+
+use test_trial;

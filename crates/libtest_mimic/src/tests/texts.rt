@@ -1,0 +1,66 @@
+//! Numbers as texts, and texts of values.
+use super::test_trial;
+use crate::text::{hundredths, thousands};
+use crate::{Failed, RunError, Trial, WriteFault};
+use std::test::Fail;
+
+#[test]
+fn rounds_to_hundredths(rt: HostRuntime) {
+    let vectors = [
+        (0, (0, 0)),
+        (4_999_999, (0, 0)),
+        (5_000_000, (0, 1)),
+        (995_000_000, (1, 0)),
+        (1_500_000_000, (1, 50)),
+        (u64::MAX, (18_446_744_073, 71)),
+    ];
+    for (nanos, want) in vectors {
+        assert_eq!(rt; hundredths(nanos), want, "{nanos}");
+    }
+}
+
+#[test]
+fn groups_thousands(rt: HostRuntime) {
+    let vectors = [
+        (0, "0"),
+        (999, "999"),
+        (1000, "1,000"),
+        (1_000_001, "1,000,001"),
+        (u64::MAX, "18,446,744,073,709,551,615"),
+    ];
+    for (number, want) in vectors {
+        assert_eq!(rt; thousands(number, &mut [0; 26]), want);
+    }
+}
+
+#[test]
+fn shows_values(rt: HostRuntime) -> Result<(), Fail> {
+    let alloc = rt.alloc();
+    let trial = test_trial!(alloc, "a", || Ok(()));
+    assert_eq!(rt;
+        format!(in alloc; "{trial:?}")?.as_str(),
+        "Trial { info: TestInfo { name: \"a\", kind: \"\", is_ignored: false, is_bench: false }, runner: <runner> }"
+    );
+    let texts = [
+        (
+            format!(in alloc; "{}", RunError::OutOfMemory)?,
+            "out of memory",
+        ),
+        (
+            format!(in alloc; "{}", RunError::Write(WriteFault::Zero))?,
+            "cannot write the report",
+        ),
+        (
+            format!(in alloc; "{}", WriteFault::Zero)?,
+            "the writer took no byte",
+        ),
+    ];
+    for (text, want) in &texts {
+        assert_eq!(rt; text.as_str(), *want);
+    }
+    let failed = Failed::with_message(String::from_str(alloc, "x")?);
+    assert_eq!(rt; failed.message(), Some("x"));
+    assert!(rt; failed != Failed::without_message());
+    assert!(rt; Failed::without_message() == Failed::without_message());
+    Ok(())
+}
