@@ -85,6 +85,7 @@ impl Tally {
     pub(crate) fn into_conclusion(self) -> Conclusion
         ensures { result ≡ self.conclusion }
     {
-        self.conclusion
+        let Tally { conclusion, .. } = self;
+        conclusion
     }
 }
