@@ -1,5 +1,5 @@
 //! Runs trials and writes their report.
-ghost use Rattle.std.specs.Prelude.{◌≡◌, ◌-◌, ◌^◌, ◌<◌, [], List, false, None, IfOk};
+ghost use Rattle.std.specs.Prelude.{◌≡◌, ◌≢◌, ◌-◌, ◌^◌, ◌<◌, [], List, false, None, IfOk};
 ghost use Rattle.libtest_mimic.specs.declared.outcome.Outcome.{Outcome};
 ghost use Rattle.libtest_mimic.specs.Arrangement.{OnlyOwn};
 ghost use Rattle.libtest_mimic.specs.Count.{counts_of};
@@ -59,6 +59,7 @@ pub fn run_here<W: Write, C: Clock>(
     requires benches { args.now.bench ≡ false }
     ensures ran { RanInOrder W.contents args.now tests.items
         (printer_for args.now auto_colours (labels_of tests.items)) 0 sink.old sink.new watch.new result }
+    ensures empty { tests.items ≡ [] → result ≢ Err RunError.OutOfMemory }
     ensures answer { (os : List Outcome) → OnlyOwn args.now tests.items os → IfOk result (λ c. c ≡ counts_of os 0) }
 {
     watch.start();

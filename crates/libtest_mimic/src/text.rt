@@ -1,6 +1,6 @@
 //! The small texts of reports: seconds and grouped numbers.
 ghost use Rattle.std.specs.Prelude.{◌≡◌, ◌/◌, ◌%◌, ◌≤◌, length, take, decimal};
-ghost use Rattle.libtest_mimic.specs.Text.{grouped, nearest_hundredths};
+ghost use Rattle.libtest_mimic.specs.Text.{grouped, without_commas, nearest_hundredths};
 
 use itoa::Buffer;
 use std::str;
@@ -18,7 +18,8 @@ pub fn hundredths(nanos: u64) -> (u64, u8)
 ///
 /// The greatest number takes all 26 bytes.
 pub fn thousands(v: u64, buf: &mut [u8; 26]) -> &str
-    ensures { result.now ≡ grouped (decimal v) }
+    ensures text { result.now ≡ grouped (decimal v) }
+    ensures digits { without_commas result.now ≡ decimal v }
 {
     let mut digits = Buffer::new();
     let len = write_grouped(digits.format(v).as_bytes(), buf);

@@ -1,5 +1,5 @@
 //! What a run keeps of the trials that ran: their counts, and those that failed.
-ghost use Rattle.std.specs.Prelude.{ℕ, ◌≡◌, ◌+◌, ◌-◌, ◌^◌, ◌∷◌, ◌++◌, ◌<◌, [], IfOk, List, vec_len};
+ghost use Rattle.std.specs.Prelude.{ℕ, ◌≡◌, ◌+◌, ◌-◌, ◌^◌, ◌∷◌, ◌++◌, ◌<◌, [], IfOk, IsOk, List, vec_len};
 ghost use Rattle.std.specs.List.{range_with_len};
 ghost use Rattle.libtest_mimic.specs.Report.{failures_text};
 ghost use Rattle.libtest_mimic.specs.Sink.{Puts, faults_of};
@@ -36,6 +36,7 @@ impl Tally {
     ) -> Result<Self, AllocError>
         ensures counted { IfOk result (λ t. HasCounted t filtered_out []) }
         ensures room { IfOk result (λ t. HasRoomFor t trials) }
+        ensures succeeds { trials ≡ 0 → IsOk result }
     {
         Ok(Tally {
             conclusion: Conclusion::empty(filtered_out),
