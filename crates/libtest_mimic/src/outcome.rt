@@ -39,10 +39,10 @@ pub fn run_single(runner: Runner, test_mode: bool) -> Outcome
             Err(failed) => Outcome::Failed(failed),
         },
         Runner::Bench(bench) => match bench.call(test_mode) {
-            Err(failed) => Outcome::Failed(failed),
             Ok(_) if test_mode => Outcome::Passed,
-            Ok(Some(measurement)) => Outcome::Measured(measurement),
+            Ok(Some(measured)) => Outcome::Measured(measured),
             Ok(None) => Outcome::Failed(Failed::not_measured()),
+            Err(failed) => Outcome::Failed(failed),
         },
     }
 }

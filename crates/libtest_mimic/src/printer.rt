@@ -290,8 +290,8 @@ fn word(outcome: &Outcome) -> &'static str
 {
     match outcome {
         Outcome::Passed => "ok",
-        Outcome::Failed(_) => "FAILED",
         Outcome::Ignored => "ignored",
+        Outcome::Failed(_) => "FAILED",
         Outcome::Measured(_) => "bench",
     }
 }
