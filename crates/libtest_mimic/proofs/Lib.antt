@@ -4,6 +4,7 @@ pub mod Counting
 pub mod FailedRows
 pub mod Grouping
 pub mod InOrder
+pub mod Listing
 pub mod Measured
 pub mod OnlyOutcomes
 pub mod RowsInOrder

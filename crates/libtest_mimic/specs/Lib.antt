@@ -10,5 +10,6 @@ pub mod Widths
 pub mod Trial
 pub mod Arrangement
 pub mod Report
+pub mod List
 pub mod Run
 pub mod Steps

@@ -1,5 +1,5 @@
 -- What the private functions of the printer and of a run promise one another. No public clause names these words.
-use Rattle.std.specs.Prelude.{◌≡◌, ℕ, ◌+◌, ◌<◌, ◌≤◌, List, [], ◌∷◌, ◌++◌, map, filter, length, decimal, Option, Some, Result, MatchResult, vec_capacity}
+use Rattle.std.specs.Prelude.{◌≡◌, ℕ, Bool, not, ◌||◌, if◌then◌else◌, ◌+◌, ◌<◌, ◌≤◌, List, [], ◌∷◌, ◌++◌, map, filter, length, decimal, Option, Some, Result, MatchResult, vec_capacity}
 use Rattle.std.specs.List.{flat_map, range_with_len}
 use Rattle.libtest_mimic.specs.declared.args.Arguments.{Arguments}
 use Rattle.libtest_mimic.specs.declared.outcome.Outcome.{Outcome}
@@ -14,6 +14,7 @@ use Rattle.libtest_mimic.specs.declared.trial.TestInfo.{TestInfo}
 use Rattle.libtest_mimic.specs.declared.trial.Trial.{Trial}
 use Rattle.libtest_mimic.specs.Arrangement.{IsOwn, label_at, outcome_at}
 use Rattle.libtest_mimic.specs.Count.{is_failed, counts_of}
+use Rattle.libtest_mimic.specs.List.{list_line}
 use Rattle.libtest_mimic.specs.Report.{title_text, announcement_text, rows_text, report_text, failure_text, failed_name}
 use Rattle.libtest_mimic.specs.Row.{Label, Row, label_of, row_of, outcomes_of}
 use Rattle.libtest_mimic.specs.Sink.{Put, Stopped}
@@ -43,6 +44,12 @@ failure_at labels outcomes place = failure_text (label_at labels place) (outcome
 -- the line that names the failure at a place
 abbrev pub failed_name_at : List Label → List Outcome → ℕ → List ℕ
 failed_name_at labels outcomes place = failed_name (label_at labels place) (outcome_at outcomes place)
+
+-- ---- the list
+
+-- the line of a trial in a list that may be asked for ignored trials alone
+abbrev pub listed_line : Bool → TestInfo → List ℕ
+listed_line ignored info = if not ignored || info.is_ignored then list_line info else []
 
 -- ---- rows of trials that ran in order
 

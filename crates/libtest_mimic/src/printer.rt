@@ -1,24 +1,25 @@
 //! Writes the parts of a report.
-ghost use Rattle.std.specs.Prelude.{◌≡◌, ◌-◌, ◌^◌, ◌<◌, ◌++◌, map, length, All};
+ghost use Rattle.std.specs.Prelude.{◌≡◌, ◌-◌, ◌^◌, ◌<◌, map, length, All};
 ghost use Rattle.libtest_mimic.specs.Sink.{Puts, faults_of};
 ghost use Rattle.libtest_mimic.specs.Arrangement.{rows_at, placed_at};
 ghost use Rattle.libtest_mimic.specs.Row.{label_of};
 ghost use Rattle.libtest_mimic.specs.Report.{title_text, announcement_text, pretty_announcement, outcome_text, outcome_line, outcome_mark, terse_outcome, outcome_word, failures_text, verdict_of, noun_text, summary_text, colour_start, colour_end};
-ghost use Rattle.libtest_mimic.specs.Text.{kind_part};
+ghost use Rattle.libtest_mimic.specs.List.{list_text, listed};
 
 mod columns;
 mod failures;
+mod list;
 pub(crate) mod piece;
 
 use crate::args::FormatSetting;
 use crate::outcome::{Conclusion, Failed, Outcome};
 use crate::sink::{Sink, WriteFault};
 use crate::text::hundredths;
-use crate::trial::TestInfo;
+use crate::trial::{TestInfo, Trial};
 pub use columns::widths;
 pub(crate) use columns::widths_of_trials;
 use columns::{kind_len, name_len};
-use piece::{Piece, put_pieces};
+use piece::{Piece, brackets, put_pieces};
 use std::io::Write;
 
 /// How a report looks: plain data, and no writer. No call takes memory, and no width is refused.
@@ -256,6 +257,21 @@ impl Printer {
         put_pieces(sink, &pieces)
     }
 
+    /// Writes the list: one line for each trial, or with `ignored` for each that is marked as ignored.
+    pub fn write_list<W: Write>(
+        tests: &[Trial],
+        ignored: bool,
+        sink: &mut Sink<W>,
+    ) -> Result<(), WriteFault>
+        requires { faults_of sink.old < 2 ^ 64 - 1 }
+        ensures { Puts W.contents sink.old sink.new (list_text (listed ignored tests.now)) result }
+    {
+        for trial in tests {
+            list::put_listed(sink, trial.info(), ignored)?;
+        }
+        Ok(())
+    }
+
     // What stands directly before an outcome's word or character.
     fn colour_start(&self, outcome: &Outcome) -> &'static str
         ensures { result.now ≡ colour_start self.now outcome.now }
@@ -304,16 +320,5 @@ fn verdict(failed: u64) -> Outcome
         Outcome::Failed(Failed::without_message())
     } else {
         Outcome::Passed
-    }
-}
-
-// What stands before and after a kind: brackets, and nothing for an empty kind.
-fn brackets(kind: &str) -> (&'static str, &'static str)
-    ensures { result.0.now ++ (kind.now ++ result.1.now) ≡ kind_part kind.now }
-{
-    if kind.is_empty() {
-        ("", "")
-    } else {
-        ("[", "] ")
     }
 }

@@ -1,8 +1,9 @@
 //! The small texts of reports: seconds and grouped numbers.
-ghost use Rattle.std.specs.Prelude.{◌≡◌, ◌/◌, ◌%◌, ◌≤◌, length, take, decimal};
+ghost use Rattle.std.specs.Prelude.{◌≡◌, ◌/◌, ◌%◌, ◌≤◌, IfOk, length, take, decimal, string_bytes};
 ghost use Rattle.libtest_mimic.specs.Text.{grouped, without_commas, nearest_hundredths};
 
 use itoa::Buffer;
+use std::alloc::{AllocError, Global};
 use std::str;
 
 /// The nanoseconds as whole seconds and hundredths below 100, to the nearest hundredth, ties up.
@@ -25,6 +26,14 @@ pub fn thousands(v: u64, buf: &mut [u8; 26]) -> &str
     let len = write_grouped(digits.format(v).as_bytes(), buf);
     let all = &buf[..];
     str::from_utf8(&all[..len]).unwrap()
+}
+
+/// The number as `thousands` writes it, in memory of its own.
+pub fn fmt_with_thousand_sep(alloc: Global, v: u64) -> Result<String, AllocError>
+    ensures text { IfOk result (λ s. string_bytes s ≡ grouped (decimal v)) }
+    ensures digits { IfOk result (λ s. without_commas (string_bytes s) ≡ decimal v) }
+{
+    String::from_str(alloc, thousands(v, &mut [0; 26]))
 }
 
 // Writes the digits with their commas, and answers how many bytes that took.

@@ -27,7 +27,7 @@ pub struct Trial {
 }
 
 impl Trial {
-    ghost use Rattle.libtest_mimic.specs.Promise.{PromisesOutcome, outcome_of_test};
+    ghost use Rattle.libtest_mimic.specs.Promise.{PromisesOutcome, outcome_of_test, outcome_of_bench};
     ghost use Rattle.libtest_mimic.specs.Trial.{info_of, runner_of};
 
     /// A test without a kind and without the ignored flag. It passes where the runner answers `Ok`.
@@ -52,6 +52,57 @@ impl Trial {
         }
     }
 
+    /// A benchmark without a kind and without the ignored flag.
+    ///
+    /// In test mode the runner is to run its code once and need not measure. In bench mode it is to
+    /// measure, and the benchmark fails where it answers `Ok(None)`.
+    pub fn bench(
+        name: String,
+        runner: Box<dyn FnOnce(bool) -> Result<Option<Measurement>, Failed> + Send>,
+    ) -> Self
+        requires { IsAlwaysCallable runner }
+        ensures name { string_bytes (info_of result).name ≡ string_bytes name }
+        ensures kind { string_bytes (info_of result).kind ≡ [] }
+        ensures flag { (info_of result).is_ignored ≡ false }
+        ensures sort { (info_of result).is_bench ≡ true }
+        ensures promise { (mode : _) (o : _) → PromisesOutcome (runner_of result) mode o
+            ↔ ((answer : _) × post runner mode answer × (o ≡ outcome_of_bench mode answer)) }
+    {
+        let kind = String::new(*name.allocator());
+        Trial {
+            info: TestInfo {
+                name,
+                kind,
+                is_ignored: false,
+                is_bench: true,
+            },
+            runner: Runner::Bench(BenchRunner::new(runner)),
+        }
+    }
+
+    /// The same trial with this kind, which rows show in brackets before the name.
+    pub fn with_kind(self, kind: String) -> Self
+        ensures info { info_of result ≡ record (info_of self) { kind = kind } }
+        ensures runner { runner_of result ≡ runner_of self }
+    {
+        let Trial { mut info, runner } = self;
+        info.kind = kind;
+        Trial { info, runner }
+    }
+
+    /// The same trial, marked as ignored or not.
+    ///
+    /// An ignored trial is not run where the arguments have neither `ignored` nor `include_ignored`.
+    /// With `ignored`, trials that are not marked are not even selected.
+    pub fn with_ignored_flag(self, is_ignored: bool) -> Self
+        ensures info { info_of result ≡ record (info_of self) { is_ignored = is_ignored } }
+        ensures runner { runner_of result ≡ runner_of self }
+    {
+        let Trial { mut info, runner } = self;
+        info.is_ignored = is_ignored;
+        Trial { info, runner }
+    }
+
     /// The name.
     pub fn name(&self) -> &str
         ensures { result.now ≡ string_bytes (info_of self.now).name }
@@ -71,6 +122,20 @@ impl Trial {
         ensures { result ≡ (info_of self.now).is_ignored }
     {
         self.info.is_ignored
+    }
+
+    /// Whether the trial is a test.
+    pub fn is_test(&self) -> bool
+        ensures { result ≡ not (info_of self.now).is_bench }
+    {
+        !self.info.is_bench
+    }
+
+    /// Whether the trial is a benchmark.
+    pub fn is_bench(&self) -> bool
+        ensures { result ≡ (info_of self.now).is_bench }
+    {
+        self.info.is_bench
     }
 
     // What is known of the trial.

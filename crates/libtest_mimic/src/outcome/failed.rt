@@ -1,10 +1,12 @@
 //! Why a trial failed.
-ghost use Rattle.std.specs.Prelude.{◌≡◌, Some, None, string_bytes};
+ghost use Rattle.std.specs.Prelude.{◌≡◌, Some, None, IsSome, IfSome, IfOk, string_bytes};
 ghost use Rattle.std.specs.Option.{option_copied};
 ghost use Rattle.std.specs.Cmp.Rules.{comparing};
 ghost use Rattle.std.proofs.Common.{rules};
 ghost use Rattle.libtest_mimic.specs.Failed.{not_measured_text, same_text};
 
+use std::alloc::{AllocError, Global};
+use std::fmt::Display;
 use std::marker::Model;
 
 /// The failure of a trial, with a message or without one. Contracts see it as an optional text.
@@ -46,6 +48,16 @@ impl Failed {
         Failed {
             message: Some(Message::Owned(message)),
         }
+    }
+
+    /// A failure whose message is what the value displays.
+    ///
+    /// An `Err` is answered where a growth was refused, or where the value's own `Display` failed.
+    pub fn from_display<M: Display>(alloc: Global, message: &M) -> Result<Self, AllocError>
+        ensures some { IfOk result (λ f. IsSome f) }
+        ensures kept { IfOk result (λ f. IfSome (M.output message.now) (λ text. f ≡ Some text)) }
+    {
+        Ok(Failed::with_message(message.to_string(alloc)?))
     }
 
     // The failure of a benchmark that measured nothing in bench mode.

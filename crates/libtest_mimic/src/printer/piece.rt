@@ -1,7 +1,7 @@
 //! Texts that are written piece by piece, with no memory.
-ghost use Rattle.std.specs.Prelude.{◌-◌, ◌^◌, ◌<◌, decimal};
+ghost use Rattle.std.specs.Prelude.{◌≡◌, ◌-◌, ◌^◌, ◌<◌, ◌++◌, decimal};
 ghost use Rattle.libtest_mimic.specs.Sink.{Puts, faults_of};
-ghost use Rattle.libtest_mimic.specs.Text.{spaces, right_aligned, grouped};
+ghost use Rattle.libtest_mimic.specs.Text.{spaces, right_aligned, grouped, kind_part};
 ghost use Rattle.libtest_mimic.specs.Steps.{pieces_text};
 
 use crate::sink::{Sink, WriteFault};
@@ -79,4 +79,15 @@ fn put_grouped<W: Write>(sink: &mut Sink<W>, number: u64, width: usize) -> Resul
     let text = thousands(number, &mut buf);
     put_spaces(sink, width.saturating_sub(text.len()))?;
     sink.put(text.as_bytes())
+}
+
+// What stands before and after a kind: brackets, and nothing for an empty kind.
+pub(super) fn brackets(kind: &str) -> (&'static str, &'static str)
+    ensures { result.0.now ++ (kind.now ++ result.1.now) ≡ kind_part kind.now }
+{
+    if kind.is_empty() {
+        ("", "")
+    } else {
+        ("[", "] ")
+    }
 }
