@@ -1,19 +1,18 @@
 -- The failures of a report: by place, and of the rows that failed alone.
-use Rattle.std.proofs.Common.{◌≡◌, ℕ, zero, suc, ◌+◌, ◌<◌, List, [], ◌∷◌, ◌++◌, Bool, true, false, cond, ◌||◌, filter, map, length, get_or, refl, sym, ap, ap₂, ◌∙◌, subst, arith, add-one, append-nil, All}
-use Rattle.std.proofs.lemmas.List.{get_or-map, get_or_default, length-map}
+use Rattle.std.proofs.Common.{◌≡◌, ℕ, zero, suc, ◌+◌, ◌<◌, List, [], ◌∷◌, ◌++◌, Bool, true, false, cond, ◌||◌, filter, map, length, get_or, refl, sym, ap, ap₂, ◌∙◌, arith, add-one, append-nil, All}
+use Rattle.std.proofs.lemmas.List.{get_or-map, get_or_default}
 use Rattle.std.proofs.lemmas.List.Elements.{filter-append}
-use Rattle.std.proofs.lemmas.List.Folds.{flat_map-map}
 use Rattle.std.proofs.lemmas.List.FromFn.{length-range_with_len, get_or-range_with_len}
 use Rattle.std.specs.List.{flat_map, list_any, range_with_len}
 use Rattle.libtest_mimic.specs.declared.outcome.Outcome.{Outcome}
 use Rattle.libtest_mimic.specs.declared.outcome.Outcome.TheVariants.{Passed, Failed, Ignored, Measured}
 use Rattle.libtest_mimic.specs.declared.printer.Printer.{Printer}
 use Rattle.libtest_mimic.specs.declared.trial.TestInfo.{TestInfo}
-use Rattle.libtest_mimic.specs.Arrangement.{Placed, label_at, outcome_at, placed_at, rows_at}
+use Rattle.libtest_mimic.specs.Arrangement.{label_at, outcome_at, placed_at, rows_at}
 use Rattle.libtest_mimic.specs.Count.{is_failed}
 use Rattle.libtest_mimic.specs.Report.{failure_text, failed_name, row_failure, row_failed_name, failures_of, failures_text}
 use Rattle.libtest_mimic.specs.Row.{Label, Row, label_of, row_of, outcomes_of}
-use Rattle.libtest_mimic.specs.Steps.{failure_at, failed_name_at, rows_from}
+use Rattle.libtest_mimic.specs.Steps.{rows_from}
 
 -- ---- by place
 

@@ -1,5 +1,5 @@
 -- What was written of trials one after another is a report of an arrangement of them in order, or a start of one.
-use Rattle.std.proofs.Common.{◌≡◌, ℕ, zero, suc, ◌+◌, ◌<◌, ◌≤◌, Bool, List, [], ◌∷◌, ◌++◌, Option, Some, length, map, take, refl, sym, ap, ap₂, ◌∙◌, subst, arith, add-one, append_assoc, length-append}
+use Rattle.std.proofs.Common.{◌≡◌, ℕ, zero, suc, ◌+◌, ◌<◌, ◌≤◌, Bool, List, [], ◌∷◌, ◌++◌, Option, Some, length, take, refl, sym, ap, ap₂, ◌∙◌, subst, arith, add-one, append_assoc, length-append}
 use Rattle.std.proofs.lemmas.List.{length-map}
 use Rattle.std.proofs.lemmas.List.Elements.{All-nil, All-cons}
 use Rattle.std.proofs.lemmas.List.FromFn.{length-enumerate_from, get_or-range_with_len}
@@ -15,7 +15,7 @@ use Rattle.libtest_mimic.specs.declared.printer.Printer.{Printer}
 use Rattle.libtest_mimic.specs.declared.sink.Sink.{Sink}
 use Rattle.libtest_mimic.specs.declared.stopwatch.Readings.{Readings}
 use Rattle.libtest_mimic.specs.declared.trial.Trial.{Trial}
-use Rattle.libtest_mimic.specs.Arrangement.{InOrder, IsArrangement, IsOwn, IsOwnAt, Placed, label_at, places_of, rows_at}
+use Rattle.libtest_mimic.specs.Arrangement.{InOrder, IsOwn, IsOwnAt, Placed, label_at, places_of, rows_at}
 use Rattle.libtest_mimic.specs.Count.{counts_of}
 use Rattle.libtest_mimic.specs.Report.{announcement_text, report_text, rows_text, title_text}
 use Rattle.libtest_mimic.specs.Row.{Label, Row, label_of, outcomes_of}

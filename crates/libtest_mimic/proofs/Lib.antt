@@ -1,11 +1,14 @@
+pub mod Answered
 pub mod Appending
 pub mod Characters
 pub mod Counting
 pub mod FailedRows
+pub mod FullName
 pub mod Grouping
 pub mod InOrder
 pub mod Listing
 pub mod Measured
 pub mod OnlyOutcomes
 pub mod RowsInOrder
+pub mod Selecting
 pub mod WholeReport

@@ -1,5 +1,5 @@
 -- Where each trial has exactly one own outcome, every report of the trials has the same counts.
-use Rattle.std.proofs.Common.{◌≡◌, ℕ, zero, suc, ◌+◌, List, [], ◌∷◌, Bool, cond, map, length, refl, sym, ap, ◌∙◌, subst}
+use Rattle.std.proofs.Common.{◌≡◌, ℕ, zero, suc, List, [], ◌∷◌, Bool, cond, map, length, refl, sym, ap, ◌∙◌, subst}
 use Rattle.std.proofs.lemmas.List.Elements.{All-head, All-tail}
 use Rattle.std.proofs.lemmas.List.Sorted.{IsPermutation-map, sum_by-IsPermutation}
 use Rattle.std.specs.List.{range_with_len}
@@ -8,7 +8,7 @@ use Rattle.std.specs.Prelude.{All, count_by}
 use Rattle.libtest_mimic.specs.declared.args.Arguments.{Arguments}
 use Rattle.libtest_mimic.specs.declared.outcome.Outcome.{Outcome}
 use Rattle.libtest_mimic.specs.declared.trial.Trial.{Trial}
-use Rattle.libtest_mimic.specs.Arrangement.{IsArrangement, IsOwn, IsOwnAt, OnlyOwn, Placed, outcome_at, places_of, rows_at}
+use Rattle.libtest_mimic.specs.Arrangement.{IsArrangement, IsOwnAt, OnlyOwn, Placed, outcome_at, places_of, rows_at}
 use Rattle.libtest_mimic.specs.Count.{counts_of, is_passed, is_failed, is_ignored_outcome, is_measured}
 use Rattle.libtest_mimic.specs.Row.{Label, outcomes_of}
 use Rattle.libtest_mimic.proofs.FailedRows.{range-shift}

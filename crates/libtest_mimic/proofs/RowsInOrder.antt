@@ -1,27 +1,28 @@
 -- Rows of trials that run one after another.
-use Rattle.std.proofs.Common.{◌≡◌, ℕ, zero, suc, ◌+◌, ◌-◌, ◌^◌, ◌<◌, ◌≤◌, List, [], ◌∷◌, ◌++◌, Option, Result, Some, Bool, not, filter, length, map, refl, sym, ap, ◌∙◌, subst, arith, add-one, append-nil, append_assoc, length-append, vec_len}
+use Rattle.std.proofs.Common.{◌≡◌, ℕ, ◌+◌, ◌-◌, ◌^◌, ◌<◌, ◌≤◌, List, [], ◌∷◌, ◌++◌, Option, Bool, true, false, inl, inr, not, filter, length, refl, rules, sym, ap, ◌∙◌, subst, arith, append-nil, length-append, vec_len}
 use Rattle.std.proofs.lemmas.List.{length-map}
 use Rattle.std.proofs.lemmas.List.Concat.{flat_map-append}
-use Rattle.std.proofs.lemmas.List.Elements.{All-nil, All-cons}
 use Rattle.std.proofs.lemmas.List.Sums.{count_by-le-length, length-filter}
-use Rattle.std.specs.List.{enumerate_from}
-use Rattle.std.specs.Prelude.{All, IsSomeAnd, slice_get}
+use Rattle.std.specs.Bool.{MatchBool}
+use Rattle.std.specs.Prelude.{◌↔◌, IsTrue}
 use Rattle.libtest_mimic.specs.declared.args.Arguments.{Arguments}
 use Rattle.libtest_mimic.specs.declared.outcome.Outcome.{Outcome}
+use Rattle.libtest_mimic.specs.declared.outcome.Outcome.TheVariants.{Ignored}
 use Rattle.libtest_mimic.specs.declared.printer.Printer.{Printer}
 use Rattle.libtest_mimic.specs.declared.run.tally.Tally.{Tally}
 use Rattle.libtest_mimic.specs.declared.runner.Runner.{Runner}
 use Rattle.libtest_mimic.specs.declared.sink.Sink.{Sink}
 use Rattle.libtest_mimic.specs.declared.trial.Trial.{Trial}
-use Rattle.libtest_mimic.specs.Arrangement.{IsOwn, IsOwnAt, Placed, label_at, rows_at}
-use Rattle.libtest_mimic.specs.Count.{is_failed, counts_of, HasRoom}
+use Rattle.libtest_mimic.specs.Arrangement.{IsOwn, label_at}
+use Rattle.libtest_mimic.specs.Count.{is_failed, HasRoom}
 use Rattle.libtest_mimic.specs.Promise.{PromisesOutcome}
 use Rattle.libtest_mimic.specs.Report.{announcement_text, outcome_text, row_text, rows_text}
-use Rattle.libtest_mimic.specs.Row.{Label, Row, label_of, outcomes_of}
+use Rattle.libtest_mimic.specs.Row.{Row, label_of, outcomes_of}
+use Rattle.libtest_mimic.specs.Selection.{IsIgnored}
 use Rattle.libtest_mimic.specs.Sink.{Put, Stopped}
-use Rattle.libtest_mimic.specs.Steps.{HasCounted, HasRoomFor, OwnRows, rows_from}
+use Rattle.libtest_mimic.specs.Steps.{HasCounted, HasRoomFor, OwnRows}
 use Rattle.libtest_mimic.specs.Trial.{info_of, runner_of, labels_of}
-use Rattle.libtest_mimic.proofs.Appending.{Put-trans, Put-Stopped, Stopped-more}
+use Rattle.libtest_mimic.proofs.Appending.{Put-trans, Put-Stopped}
 use Rattle.libtest_mimic.proofs.Counting.{HasRoom-counts}
 use Rattle.libtest_mimic.proofs.FailedRows.{length-rows_from}
 
@@ -77,10 +78,13 @@ module _ {X Y : Type 0} {F : X → Type 0} {G : Y → Type 0} {g : _} {h : _} wh
   label_at-next front rest all t n e k =
       sym (label_at-seam front rest t) ∙ ap (λ l. label_at (labels_of l) (length front)) e ∙ ap (label_at (labels_of all)) (sym k)
 
--- the outcome of what a trial's runner promises is its own
-pub IsOwn-from_runner : {X Y : Type 0} {F : X → Type 0} {G : Y → Type 0} {g : _} {h : _} (args : Arguments) (t : Trial X Y F G g h) (r : Runner X Y F G g h) (o : Outcome)
-    → r ≡ runner_of t → PromisesOutcome r (not args.bench) o → IsOwn args t o
-IsOwn-from_runner {X} {Y} {F} {G} {g} {h} args t r o e own = let P : Runner X Y F G g h → Type 0 = λ x. PromisesOutcome x (not args.bench) o in subst P e own
+-- `Ignored` where the trial is ignored, and else the outcome of what its runner promises, is its own
+pub IsOwn-from_runner : {X Y : Type 0} {F : X → Type 0} {G : Y → Type 0} {g : _} {h : _} (args : Arguments) (t : Trial X Y F G g h) (r : Runner X Y F G g h) (b : Bool) (o : Outcome)
+    → (IsTrue b ↔ IsIgnored args t) → r ≡ runner_of t → MatchBool b (o ≡ Ignored) (PromisesOutcome r (not args.bench) o) → IsOwn args t o
+IsOwn-from_runner args t r true o says e own = inl (says.0 (search rules), own)
+IsOwn-from_runner {X} {Y} {F} {G} {g} {h} args t r false o says e own =
+    let P : Runner X Y F G g h → Type 0 = λ x. PromisesOutcome x (not args.bench) o in
+    inr ((λ i. let k : IsTrue false = says.1 i in search rules), subst P e own)
 
 -- a list with one element more behind the front is longer
 pub longer : {A : Type 0} (front rest all : List A) (x : A) → front ++ (x ∷ rest) ≡ all → length front < length all

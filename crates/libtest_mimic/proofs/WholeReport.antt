@@ -1,28 +1,17 @@
 -- A whole report of trials that run one after another, put together from its parts.
-use Rattle.std.proofs.Common.{◌≡◌, ℕ, zero, suc, ◌+◌, ◌-◌, ◌<◌, ◌≤◌, List, [], ◌∷◌, ◌++◌, Option, None, Some, Result, length, map, take, get_or, refl, sym, ap, ◌∙◌, subst, arith, add-one, append-nil, append_assoc, length-append}
-use Rattle.std.proofs.lemmas.List.{length-map}
-use Rattle.std.proofs.lemmas.List.Elements.{All-nil, All-cons}
-use Rattle.std.proofs.lemmas.List.FromFn.{length-enumerate_from, length-range_with_len, get_or-range_with_len}
-use Rattle.std.proofs.lemmas.List.Sorted.{IsPermutation-refl}
-use Rattle.std.specs.List.{enumerate_from, range_with_len}
-use Rattle.std.specs.List.Sorted.{IsPermutation}
-use Rattle.std.specs.Prelude.{All, IsSomeAnd, slice_get, slice_index_or, unwrap_or}
+use Rattle.std.proofs.Common.{◌≡◌, ℕ, ◌-◌, List, [], Option, None, Some, length, sym, ap, ◌∙◌, subst, arith}
+use Rattle.std.specs.Prelude.{unwrap_or}
 use Rattle.libtest_mimic.specs.declared.args.Arguments.{Arguments}
-use Rattle.libtest_mimic.specs.declared.outcome.Outcome.{Outcome}
-use Rattle.libtest_mimic.specs.declared.outcome.conclusion.Conclusion.{Conclusion}
 use Rattle.libtest_mimic.specs.declared.printer.Printer.{Printer}
 use Rattle.libtest_mimic.specs.declared.sink.Sink.{Sink}
 use Rattle.libtest_mimic.specs.declared.stopwatch.Readings.{Readings}
 use Rattle.libtest_mimic.specs.declared.trial.Trial.{Trial}
-use Rattle.libtest_mimic.specs.Arrangement.{InOrder, IsArrangement, IsOwn, IsOwnAt, Placed, label_at, places_of, rows_at}
 use Rattle.libtest_mimic.specs.Count.{counts_of}
-use Rattle.libtest_mimic.specs.Report.{announcement_text, failures_text, report_text, rows_text, summary_text, title_text}
-use Rattle.libtest_mimic.specs.Row.{Label, Row, label_of, outcomes_of}
-use Rattle.libtest_mimic.specs.Run.{Reported, StartsReport}
+use Rattle.libtest_mimic.specs.Report.{failures_text, report_text, rows_text, summary_text, title_text}
+use Rattle.libtest_mimic.specs.Row.{Row, outcomes_of}
 use Rattle.libtest_mimic.specs.Sink.{Put, Stopped}
-use Rattle.libtest_mimic.specs.Steps.{OwnRows, RowsStopped, StoppedReport, WroteReport}
+use Rattle.libtest_mimic.specs.Steps.{OwnRows, RowsStopped, StoppedReport}
 use Rattle.libtest_mimic.specs.Stopwatch.{IsRunning, StopsAfter, elapsed_of}
-use Rattle.libtest_mimic.specs.Trial.{info_of, labels_of}
 use Rattle.libtest_mimic.proofs.Appending.{Put-Stopped, Stopped-more, put4, stop2, stop3, stop4}
 
 -- ---- the time

@@ -1,5 +1,5 @@
 -- What the arguments of a run ask for.
-use Rattle.std.specs.Prelude.{◌≡◌, Bool, true, false, if◌then◌else◌, List, [], Option, None, Some, unwrap_or, is_none, ◌&&◌}
+use Rattle.std.specs.Prelude.{◌≡◌, Bool, true, false, if◌then◌else◌, [], None, unwrap_or, is_none, ◌&&◌}
 use Rattle.libtest_mimic.specs.declared.args.Arguments.{Arguments}
 use Rattle.libtest_mimic.specs.declared.args.ColorSetting.{ColorSetting}
 use Rattle.libtest_mimic.specs.declared.args.ColorSetting.TheVariants.{Auto, Always, Never}

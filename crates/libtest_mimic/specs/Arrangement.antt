@@ -1,20 +1,22 @@
 -- In which order trials stand in a report, and which outcome is a trial's own.
-use Rattle.std.specs.Prelude.{◌≡◌, ℕ, List, [], ◌∷◌, map, length, not, All, IsSomeAnd, slice_get, slice_index_or}
+use Rattle.std.specs.Prelude.{◌≡◌, ◌⊎◌, ℕ, List, [], ◌∷◌, map, length, not, All, IsSomeAnd, slice_get, slice_index_or}
 use Rattle.std.specs.List.{range_with_len}
 use Rattle.std.specs.List.Sorted.{IsPermutation}
 use Rattle.libtest_mimic.specs.declared.args.Arguments.{Arguments}
 use Rattle.libtest_mimic.specs.declared.trial.Trial.{Trial}
 use Rattle.libtest_mimic.specs.declared.outcome.Outcome.{Outcome}
-use Rattle.libtest_mimic.specs.declared.outcome.Outcome.TheVariants.{Passed}
+use Rattle.libtest_mimic.specs.declared.outcome.Outcome.TheVariants.{Passed, Ignored}
 use Rattle.libtest_mimic.specs.Promise.{PromisesOutcome}
 use Rattle.libtest_mimic.specs.Row.{Label, Row}
-use Rattle.libtest_mimic.specs.Trial.{runner_of, labels_of}
+use Rattle.libtest_mimic.specs.Selection.{IsIgnored}
+use Rattle.libtest_mimic.specs.Trial.{runner_of}
 
 -- In the signatures below X, Y, F, G, g and h stand for what the runners' boxed closures promise.
 
--- a trial's own outcome: that of an answer which its runner promises in the mode of this run
+-- a trial's own outcome: `Ignored` where it is ignored, else that of an answer which its runner promises in the mode of
+-- the run
 abbrev pub IsOwn : {X Y : Type 0} {F : X → Type 0} {G : Y → Type 0} {g : _} {h : _} → Arguments → Trial X Y F G g h → Outcome → Type 0
-IsOwn args trial o = PromisesOutcome (runner_of trial) (not args.bench) o
+IsOwn args trial o = (IsIgnored args trial × (o ≡ Ignored)) ⊎ (¬ IsIgnored args trial × PromisesOutcome (runner_of trial) (not args.bench) o)
 
 -- a place among the trials, counted from 0, and the outcome of the trial there
 abbrev pub Placed : Type 0

@@ -38,6 +38,10 @@ counts_of outcomes filtered_out = record {
   num_measured = count_by is_measured outcomes;
 }
 
+-- all five counts together
+abbrev pub total_of : Conclusion → ℕ
+total_of c = c.num_filtered_out + (c.num_passed + (c.num_failed + (c.num_ignored + c.num_measured)))
+
 -- the counts with one more outcome
 abbrev pub counted : Conclusion → Outcome → Conclusion
 counted c Passed = record c { num_passed = c.num_passed + 1 }

@@ -8,6 +8,7 @@ pub mod Arguments
 pub mod Row
 pub mod Widths
 pub mod Trial
+pub mod Selection
 pub mod Arrangement
 pub mod Report
 pub mod List

@@ -1,5 +1,5 @@
 -- The list of trials, which tools ask for. It is the same in every format and has no colour. Texts are the Rust crate's.
-use Rattle.std.specs.Prelude.{ℕ, Bool, if◌then◌else◌, List, [], ◌∷◌, codes, filter, map, string_bytes}
+use Rattle.std.specs.Prelude.{ℕ, Bool, if◌then◌else◌, List, [], ◌∷◌, codes, filter, string_bytes}
 use Rattle.std.specs.List.{concat, flat_map}
 use Rattle.libtest_mimic.specs.declared.trial.TestInfo.{TestInfo}
 use Rattle.libtest_mimic.specs.declared.trial.Trial.{Trial}

@@ -6,7 +6,7 @@ use Rattle.libtest_mimic.specs.declared.runner.Runner.{Runner}
 use Rattle.libtest_mimic.specs.declared.runner.Runner.TheVariants.{Test, Bench}
 use Rattle.libtest_mimic.specs.declared.outcome.measurement.Measurement.{Measurement}
 use Rattle.libtest_mimic.specs.declared.outcome.Outcome.{Outcome}
-use Rattle.libtest_mimic.specs.declared.outcome.Outcome.TheVariants.{Passed, Failed, Ignored, Measured}
+use Rattle.libtest_mimic.specs.declared.outcome.Outcome.TheVariants.{Passed, Failed, Measured}
 use Rattle.libtest_mimic.specs.Failed.{not_measured_text}
 
 -- In the signatures below X, F and g (for benchmarks Y, G and h) stand for the boxed closures: their types, and

@@ -1,5 +1,5 @@
 -- The texts of a report, part by part. Where no other source is named, a text is the Rust crate's.
-use Rattle.std.specs.Prelude.{ℕ, ◌/◌, ◌%◌, ◌==◌, nat_lt, Bool, true, false, if◌then◌else◌, List, [], ◌∷◌, ◌++◌, map, length, codes, decimal, Option, None, Some}
+use Rattle.std.specs.Prelude.{ℕ, ◌/◌, ◌%◌, ◌==◌, nat_lt, if◌then◌else◌, List, [], ◌∷◌, ◌++◌, length, codes, decimal, Option, None, Some}
 use Rattle.std.specs.List.{concat, flat_map, list_any}
 use Rattle.libtest_mimic.specs.declared.args.FormatSetting.{FormatSetting}
 use Rattle.libtest_mimic.specs.declared.args.FormatSetting.TheVariants.{Pretty, Terse}

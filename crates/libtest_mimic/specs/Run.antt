@@ -1,19 +1,23 @@
 -- What a run answers, and what it leaves in the sink and on the watch.
-use Rattle.std.specs.Prelude.{◌≡◌, ℕ, ◌<◌, ◌≤◌, List, ◌++◌, length, take, Option, Some, Result, MatchResult, Bool, slice_index_or, All}
+use Rattle.std.specs.Prelude.{◌≡◌, ◌≢◌, ℕ, ◌-◌, ◌<◌, ◌≤◌, List, [], ◌++◌, length, take, Option, Some, Result, MatchResult, Bool, IfOk, false, slice_index_or, All}
+use Rattle.std.specs.Bool.{MatchBool}
 use Rattle.std.specs.List.{range_with_len}
 use Rattle.libtest_mimic.specs.declared.args.Arguments.{Arguments}
 use Rattle.libtest_mimic.specs.declared.trial.Trial.{Trial}
 use Rattle.libtest_mimic.specs.declared.printer.Printer.{Printer}
+use Rattle.libtest_mimic.specs.declared.outcome.Outcome.{Outcome}
 use Rattle.libtest_mimic.specs.declared.outcome.conclusion.Conclusion.{Conclusion}
 use Rattle.libtest_mimic.specs.declared.sink.Sink.{Sink}
 use Rattle.libtest_mimic.specs.declared.stopwatch.Readings.{Readings}
 use Rattle.libtest_mimic.specs.declared.run.RunError.{RunError}
 use Rattle.libtest_mimic.specs.declared.run.RunError.TheVariants.{OutOfMemory, Write}
 use Rattle.libtest_mimic.specs.Arguments.{format_of, colours_of}
-use Rattle.libtest_mimic.specs.Arrangement.{Placed, places_of, IsOwnAt, IsArrangement, InOrder, label_at, rows_at}
+use Rattle.libtest_mimic.specs.Arrangement.{Placed, places_of, IsOwnAt, IsArrangement, InOrder, label_at, rows_at, OnlyOwn}
 use Rattle.libtest_mimic.specs.Count.{counts_of}
+use Rattle.libtest_mimic.specs.List.{list_text}
 use Rattle.libtest_mimic.specs.Report.{title_text, announcement_text, rows_text, report_text}
 use Rattle.libtest_mimic.specs.Row.{Label, outcomes_of}
+use Rattle.libtest_mimic.specs.Selection.{IsSelection}
 use Rattle.libtest_mimic.specs.Sink.{Put, Stopped}
 use Rattle.libtest_mimic.specs.Stopwatch.{elapsed_of, IsRunning}
 use Rattle.libtest_mimic.specs.Trial.{labels_of}
@@ -54,9 +58,10 @@ module _ {X Y : Type 0} {F : X → Type 0} {G : Y → Type 0} {g : _} {h : _} {W
     pub elapsed : (m : ℕ) → elapsed_of watch ≡ Some m → nanos ≡ m
     pub whole : length placed ≡ length trials → Stopped contents old new (report_text p (rows_at (labels_of trials) placed) filtered_out nanos)
 
-  -- what stands after a refusal of a run in order: nothing was written and the watch runs, or a start of a report stands
+  -- what stands after a refusal of a run in order: memory was wanted for some trial, nothing was written and the watch
+  -- runs; or a start of a report stands
   abbrev pub RefusedInOrder : Arguments → List (Trial X Y F G g h) → Printer → ℕ → Sink W → Sink W → Readings → RunError → Type 0
-  RefusedInOrder args trials p filtered_out old new watch OutOfMemory = (new ≡ old) × IsRunning watch
+  RefusedInOrder args trials p filtered_out old new watch OutOfMemory = (trials ≢ []) × (new ≡ old) × IsRunning watch
   RefusedInOrder args trials p filtered_out old new watch (Write fault) =
       StartsReport args trials p filtered_out (range_with_len 0 (length trials)) old new watch
 
@@ -65,3 +70,28 @@ module _ {X Y : Type 0} {F : X → Type 0} {G : Y → Type 0} {g : _} {h : _} {W
   RanInOrder args trials p filtered_out old new watch result = MatchResult result
       (λ c. (placed : List Placed) × InOrder placed × Reported args trials p filtered_out placed old new watch c)
       (λ e. RefusedInOrder args trials p filtered_out old new watch e)
+
+  -- what stands after a refusal of a list: a beginning of it. No memory is wanted for a list
+  abbrev pub RefusedList : List (Trial X Y F G g h) → Sink W → Sink W → RunError → Type 0
+  RefusedList trials old new OutOfMemory = ⊥
+  RefusedList trials old new (Write fault) = Stopped contents old new (list_text trials)
+
+  -- what stands after a list was asked: the whole list and the answer of five zeros, or what a refusal leaves
+  abbrev pub WritesList : List (Trial X Y F G g h) → Sink W → Sink W → Result Conclusion RunError → Type 0
+  WritesList trials old new result = MatchResult result (λ c. Put contents old new (list_text trials) × (c ≡ counts_of [] 0)) (λ e. RefusedList trials old new e)
+
+  -- what stands after a run in the calling thread: the list of the selected trials where a list is asked, and the
+  -- watch runs; else a run of them in order, beside the others, which were filtered out
+  pub record RanHere (args : Arguments) (auto_colours : Bool) (trials : List (Trial X Y F G g h)) (old new : Sink W) (watch : Readings) (result : Result Conclusion RunError) : Type 0 where
+    pub selected : List (Trial X Y F G g h)
+    pub selection : IsSelection args trials selected
+    pub ran : MatchBool args.list
+        (IsRunning watch × WritesList selected old new result)
+        (RanInOrder args selected (printer_for args auto_colours (labels_of selected)) (length trials - length selected) old new watch result)
+
+-- where each selected trial has exactly one own outcome, the answer of a run is the counts of those outcomes, whatever the
+-- order in which they come; all others were filtered out
+abbrev pub HasAnswer : {X Y : Type 0} {F : X → Type 0} {G : Y → Type 0} {g : _} {h : _} → Arguments → List (Trial X Y F G g h) → Result Conclusion RunError → Type 0
+HasAnswer {X} {Y} {F} {G} {g} {h} args trials result =
+    (selected : List (Trial X Y F G g h)) (os : List Outcome) → args.list ≡ false → IsSelection args trials selected → OnlyOwn args selected os
+    → IfOk result (λ c. c ≡ counts_of os (length trials - length selected))

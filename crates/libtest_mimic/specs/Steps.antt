@@ -1,6 +1,6 @@
 -- What the private functions of the printer and of a run promise one another. No public clause names these words.
-use Rattle.std.specs.Prelude.{◌≡◌, ℕ, Bool, not, ◌||◌, if◌then◌else◌, ◌+◌, ◌<◌, ◌≤◌, List, [], ◌∷◌, ◌++◌, map, filter, length, decimal, Option, Some, Result, MatchResult, vec_capacity}
-use Rattle.std.specs.List.{flat_map, range_with_len}
+use Rattle.std.specs.Prelude.{◌≡◌, ℕ, Bool, not, ◌||◌, if◌then◌else◌, ◌<◌, ◌≤◌, List, [], ◌∷◌, ◌++◌, filter, length, decimal, Option, Some, Result, MatchResult, vec_capacity}
+use Rattle.std.specs.List.{flat_map}
 use Rattle.libtest_mimic.specs.declared.args.Arguments.{Arguments}
 use Rattle.libtest_mimic.specs.declared.outcome.Outcome.{Outcome}
 use Rattle.libtest_mimic.specs.declared.outcome.conclusion.Conclusion.{Conclusion}

@@ -6,6 +6,7 @@ pub mod outcome;
 pub mod printer;
 mod run;
 mod runner;
+pub mod select;
 mod sink;
 mod stopwatch;
 pub mod text;

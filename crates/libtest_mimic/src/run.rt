@@ -1,11 +1,10 @@
 //! Runs trials and writes their report.
-ghost use Rattle.std.specs.Prelude.{◌≡◌, ◌≢◌, ◌-◌, ◌^◌, ◌<◌, [], List, false, None, IfOk};
-ghost use Rattle.libtest_mimic.specs.declared.outcome.Outcome.{Outcome};
-ghost use Rattle.libtest_mimic.specs.Arrangement.{OnlyOwn};
-ghost use Rattle.libtest_mimic.specs.Count.{counts_of};
-ghost use Rattle.libtest_mimic.specs.Run.{RanInOrder, printer_for};
+ghost use Rattle.std.specs.Prelude.{◌≡◌, ◌-◌, ◌^◌, ◌<◌, false, IfOk, IsFalse, ◌↔◌, length, vec_len};
+ghost use Rattle.libtest_mimic.specs.Count.{total_of};
+ghost use Rattle.libtest_mimic.specs.Run.{HasAnswer, RanHere, RanInOrder, WritesList, printer_for};
+ghost use Rattle.libtest_mimic.specs.Selection.{IsDropped, IsSelection};
 ghost use Rattle.libtest_mimic.specs.Sink.{faults_of};
-ghost use Rattle.libtest_mimic.specs.Stopwatch.{IsFresh};
+ghost use Rattle.libtest_mimic.specs.Stopwatch.{IsFresh, IsRunning};
 ghost use Rattle.libtest_mimic.specs.Trial.{labels_of};
 
 mod in_order;
@@ -14,6 +13,7 @@ pub(crate) mod tally;
 use crate::args::Arguments;
 use crate::outcome::Conclusion;
 use crate::printer::{Printer, widths_of_trials};
+use crate::select::is_filtered_out;
 use crate::sink::{Sink, WriteFault};
 use crate::stopwatch::{Clock, Stopwatch};
 use crate::trial::Trial;
@@ -34,13 +34,14 @@ pub enum RunError {
     Write(#[source] WriteFault),
 }
 
-/// Runs the trials in their order, each once, in the calling thread, and writes their report.
+/// Runs the selected trials in their order, each once, in the calling thread, and writes their report;
+/// or writes the list of them, where a list is asked.
 ///
+/// The answer has the counts of the report, and five zeros after a list. `test_threads` has no effect.
 /// The watch is started before anything else and stopped directly before the summary is written; after
-/// a refusal that came before that it is running. `auto_colours` says whether the report has colours
-/// where the arguments leave it open. After a write fault no further trial is run.
-///
-/// Not yet: the arguments may not filter, skip, list, or ask for tests or benchmarks alone.
+/// a list, or a refusal that came before the summary, it is running. `auto_colours` says whether the
+/// report has colours where the arguments leave it open. An ignored trial's runner is not called, and
+/// after a write fault no further one is.
 pub fn run_here<W: Write, C: Clock>(
     alloc: Global,
     args: &Arguments,
@@ -51,23 +52,75 @@ pub fn run_here<W: Write, C: Clock>(
 ) -> Result<Conclusion, RunError>
     requires room { faults_of sink.old < 2 ^ 64 - 1 }
     requires fresh { IsFresh watch.old }
-    requires unfiltered { args.now.filter ≡ None }
-    requires unskipped { args.now.skip.items ≡ [] }
-    requires unignored { args.now.ignored ≡ false }
-    requires unlisted { args.now.list ≡ false }
-    requires tests { args.now.test ≡ false }
-    requires benches { args.now.bench ≡ false }
-    ensures ran { RanInOrder W.contents args.now tests.items
-        (printer_for args.now auto_colours (labels_of tests.items)) 0 sink.old sink.new watch.new result }
-    ensures empty { tests.items ≡ [] → result ≢ Err RunError.OutOfMemory }
-    ensures answer { (os : List Outcome) → OnlyOwn args.now tests.items os → IfOk result (λ c. c ≡ counts_of os 0) }
+    ensures ran { RanHere W.contents args.now auto_colours tests.items sink.old sink.new watch.new result }
+
+    // The answer is fixed where each trial has just one own outcome.
+    ensures answer { HasAnswer args.now tests.items result }
+    ensures adds_up { args.now.list ≡ false → IfOk result (λ c. total_of c ≡ vec_len tests) }
 {
     watch.start();
-    let Ok(tally) = Tally::with_capacity(alloc, tests.len(), 0) else {
+    let mut selected = tests;
+    let filtered_out = select(args, &mut selected);
+    if args.list {
+        write_list(selected.as_slice(), sink)
+    } else {
+        run_selected(
+            alloc,
+            args,
+            selected,
+            filtered_out,
+            sink,
+            watch,
+            auto_colours,
+        )
+    }
+}
+
+// Keeps the selected trials alone, and answers how many were dropped.
+fn select(args: &Arguments, trials: &mut Vec<Trial>) -> u64
+    ensures selection { IsSelection args.now trials.old.items trials.new.items }
+    ensures dropped { result ≡ length trials.old.items - length trials.new.items }
+{
+    let count = trials.len();
+    trials.retain(
+        |trial| -> bool
+            ensures { IsFalse result ↔ IsDropped args.entry.now trial.now }
+        { !is_filtered_out(args, trial) },
+    );
+    (count - trials.len()) as u64
+}
+
+// Writes the list of the trials. Its answer counts nothing.
+fn write_list<W: Write>(trials: &[Trial], sink: &mut Sink<W>) -> Result<Conclusion, RunError>
+    requires { faults_of sink.old < 2 ^ 64 - 1 }
+    ensures { WritesList W.contents trials.now sink.old sink.new result }
+{
+    Printer::write_list(trials, false, sink)?;
+    sink.flush()?;
+    Ok(Conclusion::empty(0))
+}
+
+// Runs the trials in their order and writes their report, beside so many that were filtered out.
+fn run_selected<W: Write, C: Clock>(
+    alloc: Global,
+    args: &Arguments,
+    selected: Vec<Trial>,
+    filtered_out: u64,
+    sink: &mut Sink<W>,
+    watch: &mut Stopwatch<C>,
+    auto_colours: bool,
+) -> Result<Conclusion, RunError>
+    requires room { faults_of sink.old < 2 ^ 64 - 1 }
+    requires running { IsRunning watch.old }
+    ensures { RanInOrder W.contents args.now selected.items
+        (printer_for args.now auto_colours (labels_of selected.items)) filtered_out
+        sink.old sink.new watch.new result }
+{
+    let Ok(tally) = Tally::with_capacity(alloc, selected.len(), filtered_out) else {
         return Err(RunError::OutOfMemory);
     };
-    let printer = printer_for(args, tests.as_slice(), auto_colours);
-    match write_report(&printer, args, tests, tally, sink, watch) {
+    let printer = printer_for(args, selected.as_slice(), auto_colours);
+    match write_report(&printer, args, selected, tally, sink, watch) {
         Ok(conclusion) => Ok(conclusion),
         Err(fault) => Err(RunError::Write(fault)),
     }
@@ -95,5 +148,15 @@ impl From<AllocError> for RunError {
 impl<T: Drop> From<AllocFailed<T>> for RunError {
     fn from(failed: AllocFailed<T>) -> RunError {
         AllocError::from(failed).into()
+    }
+}
+
+impl From<WriteFault> for RunError {
+    ghost use Rattle.libtest_mimic.specs.declared.run.RunError.TheVariants.{Write};
+
+    ghost from_gives = { λ fault error. error ≡ Write fault };
+
+    fn from(fault: WriteFault) -> RunError {
+        RunError::Write(fault)
     }
 }

@@ -3,6 +3,8 @@
 mod calls;
 mod faults;
 mod reports;
+mod runs;
+mod selection;
 mod texts;
 mod writers;
 
@@ -15,3 +17,16 @@ macro_rules! test_trial {
 }
 
 use test_trial;
+
+// A benchmark of this name over the closure.
+macro_rules! bench_trial {
+    ($alloc:expr, $name:expr, $runner:expr) => {{
+        let runner: Box<dyn FnOnce(bool) -> Result<Option<Measurement>, Failed> + Send> = Box::new(
+            $alloc,
+            $runner,
+        )?;
+        Trial::bench(String::from_str($alloc, $name)?, runner)
+    }};
+}
+
+use bench_trial;

@@ -1,13 +1,17 @@
 //! Runs trials in the calling thread, one after another.
 ghost use Rattle.std.specs.Prelude.{◌≡◌, ◌-◌, ◌^◌, ◌<◌, [], vec_len};
+ghost use Rattle.std.specs.Bool.{MatchBool};
+ghost use Rattle.libtest_mimic.specs.Promise.{PromisesOutcome};
 ghost use Rattle.libtest_mimic.specs.Sink.{faults_of};
 ghost use Rattle.libtest_mimic.specs.Steps.{HasCounted, HasRoomFor, RowsRun, WritesReport};
 ghost use Rattle.libtest_mimic.specs.Stopwatch.{IsRunning};
 
 use crate::args::Arguments;
-use crate::outcome::{Conclusion, run_single};
+use crate::outcome::{Conclusion, Outcome, run_single};
 use crate::printer::Printer;
 use crate::run::tally::Tally;
+use crate::runner::Runner;
+use crate::select::is_ignored;
 use crate::sink::{Sink, WriteFault};
 use crate::stopwatch::{Clock, Stopwatch};
 use crate::trial::Trial;
@@ -56,11 +60,23 @@ fn run_rows<W: Write>(
         sink.old sink.new tally.new result }
 {
     for trial in trials {
+        let ignored = is_ignored(args, &trial);
         let (info, runner) = trial.into_parts();
         printer.print_test(sink, &info)?;
-        let outcome = run_single(runner, !args.bench);
+        let outcome = run_unless(ignored, runner, !args.bench);
         printer.print_single_outcome(sink, &info, &outcome)?;
         tally.record(info, outcome);
     }
     Ok(())
+}
+
+// The outcome of a call of the runner, or `Ignored` without a call.
+fn run_unless(ignored: bool, runner: Runner, test_mode: bool) -> Outcome
+    ensures { MatchBool ignored (result ≡ Outcome.Ignored) (PromisesOutcome runner test_mode result) }
+{
+    if ignored {
+        Outcome::Ignored
+    } else {
+        run_single(runner, test_mode)
+    }
 }

@@ -1,6 +1,6 @@
 //! Whole reports over memory.
 use super::test_trial;
-use super::writers::{Times, ample, stopped_clock};
+use super::writers::{Times, ample, run_ample};
 use crate::{
     Arguments, ColorSetting, Conclusion, Failed, FormatSetting, Sink, Stopwatch, Trial, run_here,
 };
@@ -65,9 +65,7 @@ fn reports_two_tests(rt: HostRuntime) -> Result<(), Fail> {
                 move || Err(Failed::with_message(woops))
             ),
         ]?;
-        let mut sink = Sink::new(ample(Vec::new(alloc)));
-        let mut watch = Stopwatch::new(stopped_clock());
-        let conclusion = run_here(alloc, &args, tests, &mut sink, &mut watch, false)?;
+        let (conclusion, writer) = run_ample(alloc, &args, tests)?;
         assert_eq!(rt;
             conclusion,
             Conclusion {
@@ -79,8 +77,6 @@ fn reports_two_tests(rt: HostRuntime) -> Result<(), Fail> {
             }
         );
         assert!(rt; conclusion.has_failed());
-        assert_eq!(rt; sink.faults(), 0);
-        let writer = sink.into_inner();
         assert!(rt; writer.bytes.as_slice() == look.report);
         assert_eq!(rt; writer.flushes, look.flushes);
     }
@@ -90,18 +86,9 @@ fn reports_two_tests(rt: HostRuntime) -> Result<(), Fail> {
 #[test]
 fn reports_no_tests(rt: HostRuntime) -> Result<(), Fail> {
     let alloc = rt.alloc();
-    let mut sink = Sink::new(ample(Vec::new(alloc)));
-    let mut watch = Stopwatch::new(stopped_clock());
-    let conclusion = run_here(
-        alloc,
-        &Arguments::new(alloc),
-        Vec::new(alloc),
-        &mut sink,
-        &mut watch,
-        false,
-    )?;
+    let (conclusion, writer) = run_ample(alloc, &Arguments::new(alloc), Vec::new(alloc))?;
     assert!(rt; !conclusion.has_failed());
-    assert!(rt; sink.into_inner().bytes.as_slice() == NO_TESTS);
+    assert!(rt; writer.bytes.as_slice() == NO_TESTS);
     Ok(())
 }
 
@@ -132,33 +119,6 @@ fn tells_the_time(rt: HostRuntime) -> Result<(), Fail> {
     Ok(())
 }
 
-// Widths are characters: `é` has two bytes. A name may be wider than any other, and hold a line end.
-#[test]
-fn pads_by_characters(rt: HostRuntime) -> Result<(), Fail> {
-    let alloc = rt.alloc();
-    let tests = vec![in alloc;
-        test_trial!(alloc, "\u{e9}", || Ok(())),
-        test_trial!(alloc, "ab\ncd", || Ok(())),
-    ]?;
-    let mut sink = Sink::new(ample(Vec::new(alloc)));
-    let mut watch = Stopwatch::new(stopped_clock());
-    run_here(
-        alloc,
-        &Arguments::new(alloc),
-        tests,
-        &mut sink,
-        &mut watch,
-        false,
-    )?;
-    let bytes = sink.into_inner().bytes;
-    assert!(rt;
-        bytes.starts_with(
-            b"\nrunning 2 tests\ntest \xc3\xa9     ... ok\ntest ab\ncd ... ok\n\ntest result: ok. 2 passed;"
-        )
-    );
-    Ok(())
-}
-
 // Messages: none, an empty one, and one of two lines.
 #[test]
 fn shows_messages(rt: HostRuntime) -> Result<(), Fail> {
@@ -170,22 +130,13 @@ fn shows_messages(rt: HostRuntime) -> Result<(), Fail> {
         test_trial!(alloc, "b", move || Err(Failed::with_message(empty))),
         test_trial!(alloc, "c", move || Err(Failed::with_message(lines))),
     ]?;
-    let mut sink = Sink::new(ample(Vec::new(alloc)));
-    let mut watch = Stopwatch::new(stopped_clock());
-    let conclusion = run_here(
-        alloc,
-        &Arguments::new(alloc),
-        tests,
-        &mut sink,
-        &mut watch,
-        false,
-    )?;
+    let (conclusion, writer) = run_ample(alloc, &Arguments::new(alloc), tests)?;
     assert_eq!(rt; conclusion.num_failed, 3);
-    let bytes = sink.into_inner().bytes;
     let failures: &[u8] =
         b"\nfailures:\n\n---- a ----\n\n---- b ----\n\n\n---- c ----\none\ntwo\n\n\nfailures:\n    a\n    b\n    c\n\ntest result: FAILED. ";
     assert!(rt;
-        bytes
+        writer
+            .bytes
             .as_slice()
             .windows(failures.len())
             .any(|part| part == failures)

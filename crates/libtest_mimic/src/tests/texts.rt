@@ -1,7 +1,8 @@
 //! Numbers as texts, and texts of values.
 use super::test_trial;
-use crate::text::{hundredths, thousands};
+use crate::text::{fmt_with_thousand_sep, hundredths, thousands};
 use crate::{Failed, RunError, Trial, WriteFault};
+use std::fmt;
 use std::test::Fail;
 
 #[test]
@@ -20,7 +21,7 @@ fn rounds_to_hundredths(rt: HostRuntime) {
 }
 
 #[test]
-fn groups_thousands(rt: HostRuntime) {
+fn groups_thousands(rt: HostRuntime) -> Result<(), Fail> {
     let vectors = [
         (0, "0"),
         (999, "999"),
@@ -30,7 +31,9 @@ fn groups_thousands(rt: HostRuntime) {
     ];
     for (number, want) in vectors {
         assert_eq!(rt; thousands(number, &mut [0; 26]), want);
+        assert_eq!(rt; fmt_with_thousand_sep(rt.alloc(), number)?.as_str(), want);
     }
+    Ok(())
 }
 
 #[test]
@@ -62,5 +65,22 @@ fn shows_values(rt: HostRuntime) -> Result<(), Fail> {
     assert_eq!(rt; failed.message(), Some("x"));
     assert!(rt; failed != Failed::without_message());
     assert!(rt; Failed::without_message() == Failed::without_message());
+    Ok(())
+}
+
+// Displays nothing, and fails.
+struct Mute;
+
+impl fmt::Display for Mute {
+    fn fmt<W: fmt::Write>(&self, _f: &mut fmt::Formatter<W>) -> fmt::Result {
+        Err(fmt::Error)
+    }
+}
+
+#[test]
+fn keeps_what_is_displayed(rt: HostRuntime) -> Result<(), Fail> {
+    assert_eq!(rt; Failed::from_display(rt.alloc(), &7)?.message(), Some("7"));
+    assert_eq!(rt; Failed::from_display(rt.alloc(), &"")?.message(), Some(""));
+    assert!(rt; Failed::from_display(rt.alloc(), &Mute).is_err());
     Ok(())
 }

@@ -1,7 +1,8 @@
 //! Writers and clocks over memory.
 ghost use Rattle.std.specs.Prelude.{Some};
 
-use crate::Clock;
+use crate::{Arguments, Clock, Conclusion, RunError, Sink, Stopwatch, Trial, run_here};
+use std::alloc::Global;
 use std::io;
 use std::io::Write;
 
@@ -77,4 +78,19 @@ pub(super) fn stopped_clock() -> Times {
         first: 0,
         second: 0,
     }
+}
+
+// Runs the tests with a clock that stands still, and answers the counts and the writer.
+pub(super) fn run_ample(
+    alloc: Global,
+    args: &Arguments,
+    tests: Vec<Trial>,
+) -> Result<(Conclusion, Limited), RunError> {
+    let mut sink = Sink::new(ample(Vec::new(alloc)));
+    let mut watch = Stopwatch::new(Times {
+        first: 0,
+        second: 0,
+    });
+    let conclusion = run_here(alloc, args, tests, &mut sink, &mut watch, false)?;
+    Ok((conclusion, sink.into_inner()))
 }

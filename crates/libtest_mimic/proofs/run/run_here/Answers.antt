@@ -1,31 +1,28 @@
-use Rattle.std.proofs.Common.{◌≡◌, ◌∙◌, ap, List, ℕ, subst}
-use Rattle.libtest_mimic.specs.declared.printer.Printer.{Printer}
-use Rattle.libtest_mimic.specs.Run.{printer_for}
-use Rattle.libtest_mimic.specs.Steps.{StoppedReport, WroteReport}
-use Rattle.libtest_mimic.specs.Trial.{labels_of}
-use Rattle.libtest_mimic.proofs.InOrder.{reported, started}
-use Rattle.libtest_mimic.proofs.OnlyOutcomes.{only_counts}
+use Rattle.std.proofs.Common.{◌≡◌, ◌+◌, arith, length, vec_len}
+use Rattle.libtest_mimic.specs.Selection.{IsDropped}
+use Rattle.libtest_mimic.proofs.Answered.{only_answer, total_answer}
+use Rattle.libtest_mimic.proofs.Selecting.{LeavesOut-unique, length-LeavesOut-le}
 use Rattle.libtest_mimic.proofs.run.run_here.Goals as goal
 
-pub returns-in-Ok-write_report-clause-ran : goal.returns-in-Ok-write_report-clause-ran
-returns-in-Ok-write_report-clause-ran g c =
-    let printer = c.printer_for-printer.ensures ∙ ap (λ ts. printer_for c.args.args.now c.args.auto_colours (labels_of ts)) c.as_slice.ensures.value in
-    let none = ap (λ x. x.num_filtered_out) c.in-Ok.ensures.counted.counts in
-    let P : Printer → Type 0 = λ p. WroteReport g.W.Write.contents c.args.args.now c.args.tests.items p 0 c.args.sink.now c.write_report.new.sink c.write_report.new.watch c.in-Ok-write_report.conclusion in
-    let Q : ℕ → Type 0 = λ n. WroteReport g.W.Write.contents c.args.args.now c.args.tests.items c.printer_for-printer.result n c.args.sink.now c.write_report.new.sink c.write_report.new.watch c.in-Ok-write_report.conclusion in
-    reported _ _ _ _ 0 _ _ _ _ (subst P printer (subst Q none c.in-Ok-write_report.ensures))
+pub returns-then-args-clause-ran : goal.returns-then-args-clause-ran
+returns-then-args-clause-ran g c = record {
+  selected = c.select-filtered_out.new.trials.items;
+  selection = c.select-filtered_out.ensures.selection;
+  ran = rw c.if-args.true (c.start.ensures, rw (← c.as_slice.ensures.value) c.write_list.ensures);
+}
 
-pub returns-in-Ok-write_report-clause-answer : goal.returns-in-Ok-write_report-clause-answer
-returns-in-Ok-write_report-clause-answer g c os only =
-    let none = ap (λ x. x.num_filtered_out) c.in-Ok.ensures.counted.counts in
-    let Q : ℕ → Type 0 = λ n. WroteReport g.W.Write.contents c.args.args.now c.args.tests.items c.printer_for-printer.result n c.args.sink.now c.write_report.new.sink c.write_report.new.watch c.in-Ok-write_report.conclusion in
-    let report = reported c.args.args.now g.W.Write.contents c.args.tests.items c.printer_for-printer.result 0 _ _ _ _ (subst Q none c.in-Ok-write_report.ensures) in
-    report.2.counts ∙ only_counts c.args.args.now c.args.tests.items os _ report.0 0 only report.2.arranged
+pub returns-else-args-clause-answer : goal.returns-else-args-clause-answer
+returns-else-args-clause-answer g c selected os unlisted selection only =
+    let args = c.args.args.now in
+    let mine = c.select-filtered_out.new.trials.items in
+    let same = LeavesOut-unique (λ t. IsDropped args t) c.args.tests.items selected mine selection c.select-filtered_out.ensures.selection in
+    let answer = only_answer g.W.Write.contents args mine _ _ _ _ _ _ os (rw same at only) c.run_selected.ensures in
+    rw same (rw c.select-filtered_out.ensures.dropped at answer)
 
-pub returns-in-Err-clause-ran : goal.returns-in-Err-clause-ran
-returns-in-Err-clause-ran g c =
-    let printer = c.printer_for-printer.ensures ∙ ap (λ ts. printer_for c.args.args.now c.args.auto_colours (labels_of ts)) c.as_slice.ensures.value in
-    let none = ap (λ x. x.num_filtered_out) c.in-Ok.ensures.counted.counts in
-    let P : Printer → Type 0 = λ p. StoppedReport g.W.Write.contents c.args.args.now c.args.tests.items p 0 c.args.sink.now c.write_report.new.sink c.write_report.new.watch in
-    let Q : ℕ → Type 0 = λ n. StoppedReport g.W.Write.contents c.args.args.now c.args.tests.items c.printer_for-printer.result n c.args.sink.now c.write_report.new.sink c.write_report.new.watch in
-    started _ _ _ _ 0 _ _ _ (subst P printer (subst Q none c.in-Err.ensures))
+pub returns-else-args-clause-adds_up : goal.returns-else-args-clause-adds_up
+returns-else-args-clause-adds_up g c unlisted =
+    let mine = c.select-filtered_out.new.trials.items in
+    let total = total_answer g.W.Write.contents c.args.args.now mine _ _ _ _ _ _ c.run_selected.ensures in
+    let fewer = length-LeavesOut-le (λ t. IsDropped c.args.args.now t) c.args.tests.items mine c.select-filtered_out.ensures.selection in
+    let all : c.select-filtered_out.result + length mine ≡ vec_len c.args.tests = omega (arith, c.select-filtered_out.ensures.dropped, fewer, c.args.tests.ok.0) in
+    rw all at total

@@ -1,4 +1,4 @@
-use Rattle.std.proofs.Common.{rules, arith, refl}
+use Rattle.std.proofs.Common.{refl}
 use Rattle.libtest_mimic.proofs.Grouping.{room_for}
 use Rattle.libtest_mimic.proofs.text.write_grouped.Goals as goal
 

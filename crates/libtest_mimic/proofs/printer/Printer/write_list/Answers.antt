@@ -1,4 +1,4 @@
-use Rattle.std.proofs.Common.{◌≡◌, ◌∙◌, ◌≤◌, ap, arith, length, subst, List, ℕ}
+use Rattle.std.proofs.Common.{◌∙◌, ap, subst, List, ℕ}
 use Rattle.std.proofs.lemmas.List.{take_all}
 use Rattle.std.specs.List.{flat_map}
 use Rattle.libtest_mimic.specs.Sink.{Put, Stopped}

@@ -1,4 +1,4 @@
-use Rattle.std.proofs.Common.{◌≡◌, ◌<◌, ◌+◌, ◌∙◌, ap, arith, length, rules, subst, sym}
+use Rattle.std.proofs.Common.{◌<◌, ◌+◌, ◌∙◌, ap, arith, length, rules, subst, sym}
 use Rattle.std.specs.Prelude.{string_bytes}
 use Rattle.std.specs.Str.{chars, IsUtf8}
 use Rattle.libtest_mimic.proofs.Characters.{kind_part_chars-some, kind_part_chars-empty, length-chars-le, text_small}

@@ -1,4 +1,4 @@
-use Rattle.std.proofs.Common.{◌≡◌, ◌∙◌, ◌-◌, ap, length, subst, List, ℕ}
+use Rattle.std.proofs.Common.{◌∙◌, ◌-◌, ap, length, subst, List, ℕ}
 use Rattle.libtest_mimic.specs.Sink.{Put, Puts, Stopped}
 use Rattle.libtest_mimic.specs.Text.{spaces}
 use Rattle.libtest_mimic.proofs.Appending.{Puts-stopped, Stopped-more, Puts_then}

@@ -1,4 +1,3 @@
-use Rattle.std.proofs.Common.{rules}
 use Rattle.libtest_mimic.specs.Steps.{piece_text}
 use Rattle.libtest_mimic.proofs.Appending.{Puts-stopped, Stopped-next}
 use Rattle.libtest_mimic.proofs.printer.piece.put_pieces.Goals as goal

@@ -1,4 +1,4 @@
-use Rattle.std.proofs.Common.{◌≡◌, ◌≤◌, ◌-◌, arith, subst, List, ℕ}
+use Rattle.std.proofs.Common.{arith, subst, List, ℕ}
 use Rattle.libtest_mimic.specs.Sink.{Put, Stopped}
 use Rattle.libtest_mimic.proofs.Appending.{Puts-stopped, Put-spaces, Stopped-spaces, take-blanks}
 use Rattle.libtest_mimic.proofs.printer.piece.put_spaces.Goals as goal

@@ -1,11 +1,10 @@
-use Rattle.std.proofs.Common.{◌≡◌, ◌∙◌, ◌+◌, ◌++◌, ◌∷◌, ◌<◌, ◌≤◌, [], ℕ, ap, append_assoc, arith, length, length-append, subst, sym, vec_len}
+use Rattle.std.proofs.Common.{◌≡◌, ◌∙◌, ◌+◌, ◌++◌, ◌∷◌, ◌<◌, [], ap, append_assoc, arith, length, length-append, subst, sym, vec_len}
 use Rattle.std.proofs.lemmas.Result.{MatchResult-from_err}
 use Rattle.std.specs.Vec.Iter.{into_iter_items}
 use Rattle.libtest_mimic.specs.Report.{announcement_text}
 use Rattle.libtest_mimic.specs.Row.{Label, label_of, row_of}
 use Rattle.libtest_mimic.specs.Sink.{Stopped}
 use Rattle.libtest_mimic.specs.Steps.{RowsStopped, RowsWritten}
-use Rattle.libtest_mimic.specs.Trial.{info_of}
 use Rattle.libtest_mimic.proofs.Appending.{Put-Stopped, Stopped-more}
 use Rattle.libtest_mimic.proofs.RowsInOrder.{HasRoom-tally, HasRoomFor-tally, IsOwn-from_runner, label_at-next, longer, OwnRows-push, OwnRows-seen, Put-row, Stopped-row}
 use Rattle.libtest_mimic.proofs.run.in_order.run_rows.Goals as goal
@@ -14,10 +13,10 @@ pub loop-trial-preserved : goal.loop-trial-preserved
 loop-trial-preserved g c =
     let so_far = c.loop-trial.invariant.so_far in
     let trial = c.in-Some.trial in
-    let o = c.run_single-outcome.result in
+    let o = c.run_unless-outcome.result in
     let row = row_of c.into_parts-info.result.0 o in
     let split = ap (λ l. c.loop-trial.yielded ++ l) (sym c.in-Some.ensures.steps.0) ∙ c.loop-trial.invariant.seen in
-    let own = IsOwn-from_runner c.args.args.now trial c.into_parts-info.result.1 o c.into_parts-info.ensures.runner c.run_single-outcome.ensures in
+    let own = IsOwn-from_runner c.args.args.now trial c.into_parts-info.result.1 c.is_ignored-ignored.result o c.is_ignored-ignored.ensures c.into_parts-info.ensures.runner c.run_unless-outcome.ensures in
     record {
       seen = append_assoc c.loop-trial.yielded (trial ∷ []) _ ∙ split;
       room = c.record.ensures.room _ c.loop-trial.invariant.room;
@@ -54,11 +53,11 @@ pub returns-in_err-print_single_outcome : goal.returns-in_err-print_single_outco
 returns-in_err-print_single_outcome g c =
     let so_far = c.loop-trial.invariant.so_far in
     let trial = c.in-Some.trial in
-    let o = c.run_single-outcome.result in
+    let o = c.run_unless-outcome.result in
     let row = row_of c.into_parts-info.result.0 o in
     let split = ap (λ l. c.loop-trial.yielded ++ l) (sym c.in-Some.ensures.steps.0) ∙ c.loop-trial.invariant.seen in
     let short : length so_far.rows < length c.args.trials.items = omega (arith, so_far.count, longer c.loop-trial.yielded _ c.args.trials.items trial split) in
-    let own = IsOwn-from_runner c.args.args.now trial c.into_parts-info.result.1 o c.into_parts-info.ensures.runner c.run_single-outcome.ensures in
+    let own = IsOwn-from_runner c.args.args.now trial c.into_parts-info.result.1 c.is_ignored-ignored.result o c.is_ignored-ignored.ensures c.into_parts-info.ensures.runner c.run_unless-outcome.ensures in
     let stopped = Stopped-row g.W.Write.contents c.args.printer.now so_far.rows row _ _ _ _ so_far.text c.in_ok-print_test.ensures c.in_err-print_single_outcome.ensures in
     MatchResult-from_err c.from_residual-in_err-print_single_outcome.result
     (λ _. RowsWritten g.W.Write.contents c.args.args.now c.args.trials.items c.args.printer.now c.args.tally.now.conclusion.num_filtered_out c.args.sink.now c.print_single_outcome.new.sink c.loop-trial.tally)

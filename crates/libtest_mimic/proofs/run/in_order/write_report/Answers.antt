@@ -1,4 +1,4 @@
-use Rattle.std.proofs.Common.{◌≡◌, ◌∙◌, ◌-◌, ◌<◌, ◌^◌, ap, arith, length, subst, sym, ℕ}
+use Rattle.std.proofs.Common.{◌∙◌, arith, subst, sym, ℕ}
 use Rattle.std.proofs.lemmas.Result.{MatchResult-from_err}
 use Rattle.libtest_mimic.specs.declared.outcome.conclusion.Conclusion.{Conclusion}
 use Rattle.libtest_mimic.specs.Report.{summary_text, title_text}

@@ -1,5 +1,4 @@
-use Rattle.std.proofs.Common.{rules, refl, subst, arith, length, [], ap, ◌∙◌, sym}
-use Rattle.libtest_mimic.proofs.Appending.{Gone-write, Stopped-from_Gone, Put-from_Gone, Keeps-from_nil}
+use Rattle.libtest_mimic.proofs.Appending.{Gone-write}
 use Rattle.libtest_mimic.proofs.sink.Sink.put.Goals as goal
 
 pub loop-rest-preserved : goal.loop-rest-preserved

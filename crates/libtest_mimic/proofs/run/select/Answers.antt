@@ -1,0 +1,13 @@
+use Rattle.std.proofs.Common.{◌≡◌, false, rules}
+use Rattle.std.specs.Prelude.{◌↔◌, IsFalse}
+use Rattle.libtest_mimic.specs.Selection.{IsDropped}
+use Rattle.libtest_mimic.proofs.Selecting.{LeavesOut-from_retain}
+use Rattle.libtest_mimic.proofs.run.select.Goals as goal
+
+pub returns-clause-selection : goal.returns-clause-selection
+returns-clause-selection g c = LeavesOut-from_retain _ (λ t. IsDropped c.args.args.now t) _
+    (λ x b q k.
+    let fact : IsFalse b ↔ IsDropped c.args.args.now k.shown.now = search rules in
+    let here : IsFalse b ↔ IsDropped c.args.args.now x = rw k.shows at fact in
+    ((λ e d. let f : b ≡ false = here.1 d in cc), (λ e. here.0 e), search rules))
+    _ _ c.retain.ensures.filtered

@@ -1,0 +1,79 @@
+//! Searches full names part by part: the kind part, which is `[kind] ` and nothing for an empty kind,
+//! and then the name. All texts are bytes here, since a pattern may be cut between any two.
+ghost use Rattle.std.specs.Prelude.{◌≡◌, ◌↔◌, ◌+◌, ◌<◌, ◌≤◌, IsTrue, length, slice_index};
+ghost use Rattle.libtest_mimic.specs.Selection.{full_name, OccursBefore, StandsAt};
+ghost use Rattle.libtest_mimic.specs.Text.{kind_part};
+
+// Whether the pattern is the full name.
+pub(super) fn is_full_name(pattern: &[u8], kind: &[u8], name: &[u8]) -> bool
+    ensures { IsTrue result ↔ (pattern.now ≡ full_name kind.now name.now) }
+{
+    let front = kind_part_len(kind);
+    if pattern.len() < front {
+        return false;
+    }
+    let (head, tail) = pattern.split_at(front);
+    stands_in_kind_part(head, kind, 0) && tail == name
+}
+
+// Whether the pattern stands in the full name from some place before the name on.
+pub(super) fn begins_in_kind_part(pattern: &[u8], kind: &[u8], name: &[u8]) -> bool
+    ensures { IsTrue result ↔ OccursBefore pattern.now (kind_part kind.now) name.now }
+{
+    for start in 0..kind_part_len(kind) {
+        if stands_at(pattern, kind, name, start) {
+            return true;
+        }
+    }
+    false
+}
+
+// Whether the pattern stands in the full name from this place on.
+fn stands_at(pattern: &[u8], kind: &[u8], name: &[u8], start: usize) -> bool
+    requires { start < length (kind_part kind.now) }
+    ensures { IsTrue result ↔ StandsAt pattern.now (full_name kind.now name.now) start }
+{
+    let front = kind_part_len(kind) - start;
+    if pattern.len() <= front {
+        stands_in_kind_part(pattern, kind, start)
+    } else {
+        let (head, tail) = pattern.split_at(front);
+        stands_in_kind_part(head, kind, start) && name.starts_with(tail)
+    }
+}
+
+// Whether the piece stands in the kind part from this place on.
+fn stands_in_kind_part(piece: &[u8], kind: &[u8], start: usize) -> bool
+    requires { start + length piece.now ≤ length (kind_part kind.now) }
+    ensures { IsTrue result ↔ StandsAt piece.now (kind_part kind.now) start }
+{
+    for (i, byte) in piece.iter().enumerate() {
+        if *byte != kind_part_byte(kind, start + i) {
+            return false;
+        }
+    }
+    true
+}
+
+// How many bytes the kind part has.
+fn kind_part_len(kind: &[u8]) -> usize
+    ensures { result ≡ length (kind_part kind.now) }
+{
+    if kind.is_empty() { 0 } else { kind.len() + 3 }
+}
+
+// The byte of the kind part at this place.
+fn kind_part_byte(kind: &[u8], place: usize) -> u8
+    requires { place < length (kind_part kind.now) }
+    ensures { result ≡ slice_index (kind_part kind.now) place }
+{
+    if place == 0 {
+        b'['
+    } else if place <= kind.len() {
+        kind[place - 1]
+    } else if place == kind.len() + 1 {
+        b']'
+    } else {
+        b' '
+    }
+}

@@ -1,0 +1,311 @@
+//! Runs of selected trials and of benchmarks, and lists.
+use super::writers::{Full, Limited, run_ample, stopped_clock};
+use super::{bench_trial, test_trial};
+use crate::{
+    Arguments, ColorSetting, Conclusion, Failed, FormatSetting, Measurement, RunError, Sink,
+    Stopwatch, Trial, WriteFault, run_here,
+};
+use std::sync::Arc;
+use std::sync::atomic::{AtomicBool, Ordering};
+use std::test::Fail;
+
+// What is asked of a run of `cat` and of the ignored `fly` of kind `banana`: the flags, and what comes out.
+#[derive(Drop)]
+struct Asked {
+    include_ignored: bool,
+    ignored: bool,
+    list: bool,
+    conclusion: Conclusion,
+    text: &'static [u8],
+}
+
+fn counts(filtered_out: u64, passed: u64, ignored: u64) -> Conclusion {
+    Conclusion {
+        num_filtered_out: filtered_out,
+        num_passed: passed,
+        num_failed: 0,
+        num_ignored: ignored,
+        num_measured: 0,
+    }
+}
+
+#[test]
+fn runs_ignored_trials_as_asked(rt: HostRuntime) -> Result<(), Fail> {
+    let alloc = rt.alloc();
+    let rows = [
+        Asked {
+            include_ignored: false,
+            ignored: false,
+            list: false,
+            conclusion: counts(0, 1, 1),
+            text: b"\nrunning 2 tests\ntest          cat ... ok\ntest [banana] fly ... ignored\n\ntest result: ok. 1 passed; 0 failed; 1 ignored; 0 measured; 0 filtered out; finished in 0.00s\n\n",
+        },
+        Asked {
+            include_ignored: true,
+            ignored: false,
+            list: false,
+            conclusion: counts(0, 2, 0),
+            text: b"\nrunning 2 tests\ntest          cat ... ok\ntest [banana] fly ... ok\n\ntest result: ok. 2 passed; 0 failed; 0 ignored; 0 measured; 0 filtered out; finished in 0.00s\n\n",
+        },
+        Asked {
+            include_ignored: false,
+            ignored: true,
+            list: false,
+            conclusion: counts(1, 1, 0),
+            text: b"\nrunning 1 test\ntest [banana] fly ... ok\n\ntest result: ok. 1 passed; 0 failed; 0 ignored; 0 measured; 1 filtered out; finished in 0.00s\n\n",
+        },
+        Asked {
+            include_ignored: true,
+            ignored: true,
+            list: false,
+            conclusion: counts(1, 1, 0),
+            text: b"\nrunning 1 test\ntest [banana] fly ... ok\n\ntest result: ok. 1 passed; 0 failed; 0 ignored; 0 measured; 1 filtered out; finished in 0.00s\n\n",
+        },
+        Asked {
+            include_ignored: false,
+            ignored: false,
+            list: true,
+            conclusion: counts(0, 0, 0),
+            text: b"cat: test\n[banana] fly: test\n",
+        },
+        Asked {
+            include_ignored: false,
+            ignored: true,
+            list: true,
+            conclusion: counts(0, 0, 0),
+            text: b"[banana] fly: test\n",
+        },
+    ];
+    for row in &rows {
+        let ran = Arc::new(alloc, AtomicBool::new(false))?;
+        let mark = ran.clone()?;
+        let fly = test_trial!(alloc, "fly", move || {
+            mark.store(true, Ordering::SeqCst);
+            Ok(())
+        });
+        let tests = vec![in alloc;
+            test_trial!(alloc, "cat", || Ok(())),
+            fly.with_kind(String::from_str(alloc, "banana")?)
+                .with_ignored_flag(true),
+        ]?;
+        let mut args = Arguments::new(alloc);
+        args.include_ignored = row.include_ignored;
+        args.ignored = row.ignored;
+        args.list = row.list;
+        let (conclusion, writer) = run_ample(alloc, &args, tests)?;
+        assert_eq!(rt; conclusion, row.conclusion.clone()?);
+        assert!(rt; writer.bytes.as_slice() == row.text);
+        let asks_ignored = row.include_ignored || row.ignored;
+        assert_eq!(rt; ran.load(Ordering::SeqCst), asks_ignored && !row.list);
+        assert!(rt; writer.flushes > 0);
+    }
+    Ok(())
+}
+
+// A filter, a skip pattern, whether they are exact, and how many of `foo`, `bar` and `barro` they select and
+// drop.
+#[test]
+fn selects_by_patterns(rt: HostRuntime) -> Result<(), Fail> {
+    let alloc = rt.alloc();
+    let rows = [
+        (Some("foo"), None, false, 1, 2),
+        (Some("bar"), None, false, 2, 1),
+        (Some("bar"), None, true, 1, 2),
+        (Some("bar"), Some("barro"), false, 1, 2),
+        (None, Some("peter"), false, 3, 0),
+        (None, Some("bar"), false, 1, 2),
+        (None, Some("bar"), true, 2, 1),
+        (Some(""), None, false, 3, 0),
+        (None, Some(""), false, 0, 3),
+        (Some(""), None, true, 0, 3),
+        (None, Some(""), true, 3, 0),
+    ];
+    for (filter, skip, exact, selected, dropped) in rows {
+        let tests = vec![in alloc;
+            test_trial!(alloc, "foo", || Ok(())),
+            test_trial!(alloc, "bar", || Ok(())),
+            test_trial!(alloc, "barro", || Ok(())),
+        ]?;
+        let mut args = Arguments::new(alloc);
+        args.exact = exact;
+        if let Some(filter) = filter {
+            args.filter = Some(String::from_str(alloc, filter)?);
+        }
+        if let Some(skip) = skip {
+            args.skip.push(String::from_str(alloc, skip)?)?;
+        }
+        let (conclusion, writer) = run_ample(alloc, &args, tests)?;
+        assert_eq!(rt;
+            conclusion,
+            counts(dropped, selected, 0),
+            "{filter:?} {skip:?} {exact}"
+        );
+        if selected == 0 {
+            assert!(rt;
+                writer.bytes.as_slice()
+                    == b"\nrunning 0 tests\n\ntest result: ok. 0 passed; 0 failed; 0 ignored; 0 measured; 3 filtered out; finished in 0.00s\n\n".as_slice()
+            );
+        }
+    }
+    Ok(())
+}
+
+// A list into a writer that fails after each number of bytes.
+#[test]
+fn stops_a_list_at_each_byte(rt: HostRuntime) -> Result<(), Fail> {
+    let alloc = rt.alloc();
+    let list = b"[a] b: test\nc: bench\n";
+    for room in 0..=list.len() {
+        let tests = vec![in alloc;
+            test_trial!(alloc, "b", || Ok(())).with_kind(String::from_str(alloc, "a")?),
+            bench_trial!(alloc, "c", |_mode: bool| Ok(None)),
+        ]?;
+        let mut args = Arguments::new(alloc);
+        args.list = true;
+        let mut sink = Sink::new(Limited {
+            bytes: Vec::new(alloc),
+            room,
+            most: 3,
+            full: Full::TakesNone,
+            flushes: 0,
+            failing_flush: 0,
+        });
+        let mut watch = Stopwatch::new(stopped_clock());
+        match run_here(alloc, &args, tests, &mut sink, &mut watch, false) {
+            Ok(_) => assert!(rt; room == list.len()),
+            Err(RunError::Write(WriteFault::Zero)) => assert!(rt; room < list.len()),
+            Err(_) => assert!(rt; false),
+        }
+        assert_eq!(rt; sink.faults(), u64::from(room < list.len()));
+        assert!(rt; sink.into_inner().bytes.as_slice() == &list[..room]);
+    }
+    Ok(())
+}
+
+// A benchmark that measures, or answers nothing, by the arguments; with both flags nothing is run.
+#[test]
+fn runs_benchmarks_as_asked(rt: HostRuntime) -> Result<(), Fail> {
+    let alloc = rt.alloc();
+    let rows: [(bool, bool, bool, &[u8]); 6] = [
+        (
+            false,
+            false,
+            true,
+            b"test t ... ok\ntest b ... ok\n\ntest result: ok.",
+        ),
+        (
+            false,
+            false,
+            false,
+            b"test t ... ok\ntest b ... ok\n\ntest result: ok.",
+        ),
+        (
+            true,
+            false,
+            true,
+            b"test t ... ok\ntest b ... ignored\n\ntest result: ok.",
+        ),
+        (
+            false,
+            true,
+            true,
+            b"test t ... ignored\ntest b ... bench:   1,234,567 ns/iter (+/- 89)\n\ntest result: ok.",
+        ),
+        (
+            false,
+            true,
+            false,
+            b"test t ... ignored\ntest b ... FAILED\n\nfailures:\n\n---- b ----\nbench runner returned `Ok(None)` in bench mode\n\n",
+        ),
+        (
+            true,
+            true,
+            true,
+            b"test t ... ignored\ntest b ... ignored\n\ntest result: ok.",
+        ),
+    ];
+    for (test, bench, measures, want) in rows {
+        let ran = Arc::new(alloc, AtomicBool::new(false))?;
+        let mark = ran.clone()?;
+        let tests = vec![in alloc;
+            test_trial!(alloc, "t", || Ok(())),
+            bench_trial!(alloc, "b", move |test_mode: bool| {
+                mark.store(true, Ordering::SeqCst);
+                if test_mode == bench {
+                    return Err(Failed::without_message());
+                }
+                Ok(measures.then_some(Measurement {
+                    avg: 1_234_567,
+                    variance: 89,
+                }))
+            }),
+        ]?;
+        let mut args = Arguments::new(alloc);
+        args.test = test;
+        args.bench = bench;
+        let (_, writer) = run_ample(alloc, &args, tests)?;
+        assert!(rt; writer.bytes.starts_with(b"\nrunning 2 tests\n"));
+        assert!(rt;
+            writer.bytes.as_slice()[17..].starts_with(want),
+            "{test} {bench} {measures}"
+        );
+        assert_eq!(rt; ran.load(Ordering::SeqCst), !test);
+    }
+    Ok(())
+}
+
+// Terse has the whole line of a measurement. One passing test in terse and coloured.
+#[test]
+fn reports_in_terse(rt: HostRuntime) -> Result<(), Fail> {
+    let alloc = rt.alloc();
+    let tests = vec![in alloc;
+        test_trial!(alloc, "t", || Ok(())),
+        bench_trial!(
+            alloc,
+            "b",
+            |_mode: bool| Ok(Some(Measurement {
+                avg: 32,
+                variance: 3,
+            }))
+        ),
+    ]?;
+    let mut args = Arguments::new(alloc);
+    args.quiet = true;
+    args.bench = true;
+    let (_, writer) = run_ample(alloc, &args, tests)?;
+    assert!(rt;
+        writer.bytes.as_slice()
+            == b"\nrunning 2 tests\nibench:          32 ns/iter (+/- 3)\n\ntest result: ok. 0 passed; 0 failed; 1 ignored; 1 measured; 0 filtered out; finished in 0.00s\n\n".as_slice()
+    );
+    let tests = vec![in alloc; test_trial!(alloc, "t", || Ok(()))]?;
+    let mut args = Arguments::new(alloc);
+    args.format = Some(FormatSetting::Terse);
+    args.color = Some(ColorSetting::Always);
+    let (_, writer) = run_ample(alloc, &args, tests)?;
+    assert!(rt;
+        writer.bytes.as_slice()
+            == b"\nrunning 1 test\n\x1b[32m.\x1b[0m\ntest result: \x1b[32mok\x1b[0m. 1 passed; 0 failed; 0 ignored; 0 measured; 0 filtered out; finished in 0.00s\n\n".as_slice()
+    );
+    assert_eq!(rt; writer.flushes, 1);
+    Ok(())
+}
+
+// Names of two kinds of characters, of which one has a kind.
+#[test]
+fn pads_kinds_by_characters(rt: HostRuntime) -> Result<(), Fail> {
+    let alloc = rt.alloc();
+    let tests = vec![in alloc;
+        test_trial!(alloc, "\u{e9}", || Ok(())),
+        test_trial!(alloc, "ab", || Ok(())).with_kind(String::from_str(alloc, "k")?),
+        test_trial!(alloc, "skipped for its length", || Ok(())),
+    ]?;
+    let mut args = Arguments::new(alloc);
+    args.skip.push(String::from_str(alloc, "skipped")?)?;
+    let (_, writer) = run_ample(alloc, &args, tests)?;
+    assert!(rt;
+        writer.bytes.starts_with(
+            b"\nrunning 2 tests\ntest     \xc3\xa9  ... ok\ntest [k] ab ... ok\n"
+        )
+    );
+    Ok(())
+}

@@ -1,0 +1,111 @@
+//! Which patterns match, and which trials are dropped and ignored.
+use super::test_trial;
+use crate::select::{is_filtered_out, is_ignored, matches};
+use crate::{Arguments, Failed, Trial};
+use std::test::Fail;
+
+// A pattern, whether it has to be the whole name, a kind, a name, and whether the pattern matches.
+#[test]
+fn matches_names(rt: HostRuntime) {
+    let vectors = [
+        ("] ", false, "k", "n", true),
+        ("] ", false, "", "n", false),
+        ("[k] n", false, "[k", "n", true),
+        ("[k] n", true, "", "[k] n", true),
+        ("[] n", true, "", "n", false),
+        ("", true, "", "", true),
+        ("", true, "k", "n", false),
+        ("", false, "k", "n", true),
+        ("n", true, "k", "n", true),
+        ("[k] n", true, "k", "n", true),
+        ("k", true, "k", "n", false),
+        ("[k] nn", true, "k", "n", false),
+        ("k] n", false, "k", "n", true),
+        ("[k] n", false, "", "n", false),
+        ("N", false, "", "n", false),
+        ("é] ü", false, "é", "ü", true),
+        // False starts: in the name, in the kind, and in the kind with an end in the name.
+        ("aab", false, "", "aaab", true),
+        ("] aab", false, "]] a", "aab", true),
+        ("] aab", false, "]] a", "aaab", false),
+        ("a] a] n", false, "a] a] a", "n", true),
+        ("a] a] n", false, "a] a] a", "m", false),
+    ];
+    for (pattern, exact, kind, name, want) in vectors {
+        assert_eq!(rt;
+            matches(pattern, exact, kind, name),
+            want,
+            "{pattern:?} of {kind:?} {name:?}"
+        );
+    }
+}
+
+// This ends in time only where the search doesn't begin again at each place of the name.
+#[test]
+fn searches_long_names(rt: HostRuntime) -> Result<(), Fail> {
+    let alloc = rt.alloc();
+    let name = "a".repeat(alloc, 1_000_000)?;
+    let mut pattern = "a".repeat(alloc, 500_000)?;
+    pattern.push_str("b")?;
+    for kind in ["", "a"] {
+        for exact in [false, true] {
+            assert!(rt; !matches(pattern.as_str(), exact, kind, name.as_str()));
+        }
+    }
+    Ok(())
+}
+
+// The filter, two skip patterns (none where they are empty), `exact`, `ignored`, and whether the trial
+// `ab` is dropped.
+#[test]
+fn drops_trials(rt: HostRuntime) -> Result<(), Fail> {
+    let alloc = rt.alloc();
+    let trial = test_trial!(alloc, "ab", || Ok(()));
+    let rows = [
+        (None, "", "", false, false, false),
+        (Some("b"), "", "", false, false, false),
+        (Some("c"), "", "", false, false, true),
+        (Some("b"), "", "", true, false, true),
+        (Some("ab"), "", "", true, false, false),
+        (None, "c", "a", false, false, true),
+        (None, "c", "a", true, false, false),
+        (None, "c", "ab", true, false, true),
+        (Some("ab"), "b", "", false, false, true),
+        (Some("ab"), "c", "", false, true, true),
+    ];
+    for (filter, first, second, exact, ignored, want) in rows {
+        let mut args = Arguments::new(alloc);
+        if let Some(filter) = filter {
+            args.filter = Some(String::from_str(alloc, filter)?);
+        }
+        for pattern in [first, second] {
+            if !pattern.is_empty() {
+                args.skip.push(String::from_str(alloc, pattern)?)?;
+            }
+        }
+        args.exact = exact;
+        args.ignored = ignored;
+        assert_eq!(rt; is_filtered_out(&args, &trial), want);
+    }
+    Ok(())
+}
+
+// `test`, `bench`, and whether a test without the ignored flag is ignored.
+#[test]
+fn ignores_trials(rt: HostRuntime) -> Result<(), Fail> {
+    let alloc = rt.alloc();
+    let trial = test_trial!(alloc, "a", || Ok(()));
+    let rows = [
+        (false, false, false),
+        (true, false, false),
+        (false, true, true),
+        (true, true, true),
+    ];
+    for (test, bench, want) in rows {
+        let mut args = Arguments::new(alloc);
+        args.test = test;
+        args.bench = bench;
+        assert_eq!(rt; is_ignored(&args, &trial), want);
+    }
+    Ok(())
+}
