@@ -42,7 +42,7 @@ pub fn run_single(runner: Runner, test_mode: bool) -> Outcome
             Ok(_) if test_mode => Outcome::Passed,
             Ok(Some(measured)) => Outcome::Measured(measured),
             Ok(None) => Outcome::Failed(Failed::not_measured()),
-            Err(failed) => Outcome::Failed(failed),
+            Err(reason) => Outcome::Failed(reason),
         },
     }
 }

@@ -128,7 +128,7 @@ impl Trial {
     pub fn is_test(&self) -> bool
         ensures { result ≡ not (info_of self.now).is_bench }
     {
-        !self.info.is_bench
+        !self.is_bench()
     }
 
     /// Whether the trial is a benchmark.
