@@ -2,6 +2,7 @@ pub mod Answered
 pub mod Appending
 pub mod Characters
 pub mod Counting
+pub mod Excluding
 pub mod FailedRows
 pub mod FullName
 pub mod Grouping
@@ -11,4 +12,5 @@ pub mod Measured
 pub mod OnlyOutcomes
 pub mod RowsInOrder
 pub mod Selecting
+pub mod SimpleLine
 pub mod WholeReport

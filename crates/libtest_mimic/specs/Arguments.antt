@@ -1,5 +1,5 @@
 -- What the arguments of a run ask for.
-use Rattle.std.specs.Prelude.{◌≡◌, Bool, true, false, if◌then◌else◌, [], None, unwrap_or, is_none, ◌&&◌}
+use Rattle.std.specs.Prelude.{◌≡◌, Bool, true, false, if◌then◌else◌, [], None, unwrap_or, is_none, ◌&&◌, map, option_map, string_bytes}
 use Rattle.libtest_mimic.specs.declared.args.Arguments.{Arguments}
 use Rattle.libtest_mimic.specs.declared.args.ColorSetting.{ColorSetting}
 use Rattle.libtest_mimic.specs.declared.args.ColorSetting.TheVariants.{Auto, Always, Never}
@@ -39,3 +39,22 @@ pub record AsksNothing (args : Arguments) : Type 0 where
   pub color : args.color ≡ None
   pub format : args.format ≡ None
   pub filter : args.filter ≡ None
+
+-- the fields are the same, texts by their bytes
+pub record HasSameFields (old new : Arguments) : Type 0 where
+  pub include_ignored : new.include_ignored ≡ old.include_ignored
+  pub ignored : new.ignored ≡ old.ignored
+  pub test : new.test ≡ old.test
+  pub bench : new.bench ≡ old.bench
+  pub list : new.list ≡ old.list
+  pub nocapture : new.nocapture ≡ old.nocapture
+  pub show_output : new.show_output ≡ old.show_output
+  pub unstable_flags : new.unstable_flags ≡ old.unstable_flags
+  pub exact : new.exact ≡ old.exact
+  pub quiet : new.quiet ≡ old.quiet
+  pub test_threads : new.test_threads ≡ old.test_threads
+  pub logfile : option_map string_bytes new.logfile ≡ option_map string_bytes old.logfile
+  pub skip : map string_bytes new.skip.items ≡ map string_bytes old.skip.items
+  pub color : new.color ≡ old.color
+  pub format : new.format ≡ old.format
+  pub filter : option_map string_bytes new.filter ≡ option_map string_bytes old.filter

@@ -5,6 +5,8 @@ pub mod Count
 pub mod Sink
 pub mod Stopwatch
 pub mod Arguments
+pub mod Matched
+pub mod CommandLine
 pub mod Row
 pub mod Widths
 pub mod Trial

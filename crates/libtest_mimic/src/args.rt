@@ -1,7 +1,13 @@
 //! What is asked of a run.
-ghost use Rattle.std.specs.Prelude.{◌≡◌, false, None, []};
+ghost use Rattle.std.specs.Prelude.{◌≡◌, IfOk, map, option_map, string_bytes};
 
-use std::alloc::Global;
+mod command_line;
+mod declared;
+mod error;
+mod matched;
+
+pub use error::ArgumentsError;
+use std::alloc::{AllocError, Global};
 
 /// When a report has colours.
 #[derive(Clone, Copy, Debug, Default, PartialEq, Eq)]
@@ -70,7 +76,7 @@ pub struct Arguments {
 }
 
 impl Arguments {
-    ghost use Rattle.libtest_mimic.specs.Arguments.{format_of, colours_of, AsksNothing};
+    ghost use Rattle.libtest_mimic.specs.Arguments.{format_of, colours_of, AsksNothing, HasSameFields};
 
     /// Asks for nothing: each flag is false, each option `None`, and no pattern is skipped.
     pub fn new(alloc: Global) -> Self
@@ -96,6 +102,30 @@ impl Arguments {
         }
     }
 
+    /// Arguments with the same fields.
+    pub fn try_clone(&self, alloc: Global) -> Result<Self, AllocError>
+        ensures { IfOk result (λ a. HasSameFields self.now a) }
+    {
+        Ok(Arguments {
+            include_ignored: self.include_ignored,
+            ignored: self.ignored,
+            test: self.test,
+            bench: self.bench,
+            list: self.list,
+            nocapture: self.nocapture,
+            show_output: self.show_output,
+            unstable_flags: self.unstable_flags,
+            exact: self.exact,
+            quiet: self.quiet,
+            test_threads: self.test_threads,
+            logfile: copied(alloc, &self.logfile)?,
+            skip: all_copied(alloc, &self.skip)?,
+            color: self.color,
+            format: self.format,
+            filter: copied(alloc, &self.filter)?,
+        })
+    }
+
     /// The format of the report: terse with `quiet`, else `format`, else pretty.
     pub fn format_used(&self) -> FormatSetting
         ensures { result ≡ format_of self.now }
@@ -118,4 +148,23 @@ impl Arguments {
             ColorSetting::Never => false,
         }
     }
+}
+
+fn copied(alloc: Global, text: &Option<String>) -> Result<Option<String>, AllocError>
+    ensures { IfOk result (λ t. option_map string_bytes t ≡ option_map string_bytes text.now) }
+{
+    match text {
+        Some(text) => Ok(Some(String::from_str(alloc, text.as_str())?)),
+        None => Ok(None),
+    }
+}
+
+fn all_copied(alloc: Global, texts: &Vec<String>) -> Result<Vec<String>, AllocError>
+    ensures { IfOk result (λ all. map string_bytes all.items ≡ map string_bytes texts.now.items) }
+{
+    let mut all = Vec::new(alloc);
+    for text in texts {
+        all.push(String::from_str(alloc, text.as_str())?)?;
+    }
+    Ok(all)
 }

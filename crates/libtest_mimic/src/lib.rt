@@ -12,7 +12,7 @@ mod stopwatch;
 pub mod text;
 mod trial;
 
-pub use args::{Arguments, ColorSetting, FormatSetting, UnstableFlags};
+pub use args::{Arguments, ArgumentsError, ColorSetting, FormatSetting, UnstableFlags};
 pub use outcome::{Conclusion, Failed, Measurement, Outcome, count_rows, run_single};
 pub use run::{RunError, run_here};
 pub use runner::{BenchRunner, Runner, TestRunner};

@@ -1,0 +1,23 @@
+//! Why a command line gives no arguments.
+use std::alloc::AllocError;
+use thiserror::Error;
+
+/// Why a command line gives no arguments. Its text is what a user is to see.
+#[derive(Debug, Drop, Error)]
+pub enum ArgumentsError {
+    /// A growth was refused.
+    #[error("out of memory")]
+    OutOfMemory,
+    /// Help was asked for: its text.
+    #[error("{0}")]
+    Help(String),
+    /// The line was refused: what is wrong with it, and how the program is used.
+    #[error("{0}")]
+    Refused(String),
+}
+
+impl From<AllocError> for ArgumentsError {
+    fn from(_error: AllocError) -> ArgumentsError {
+        ArgumentsError::OutOfMemory
+    }
+}
