@@ -6,7 +6,8 @@ use Rattle.std.specs.Prelude.{count_by}
 use Rattle.libtest_mimic.specs.declared.outcome.Outcome.{Outcome}
 use Rattle.libtest_mimic.specs.declared.outcome.Outcome.TheVariants.{Passed, Failed, Ignored, Measured}
 use Rattle.libtest_mimic.specs.Row.{Row, outcomes_of}
-use Rattle.libtest_mimic.specs.Count.{counts_of, counted, HasRoom, is_passed, is_failed, is_ignored_outcome, is_measured}
+use Rattle.libtest_mimic.specs.Count.{counts_of, is_passed, is_failed, is_ignored_outcome, is_measured}
+use Rattle.libtest_mimic.specs.Steps.{counted, HasRoom}
 
 -- fewer outcomes than the greatest number leave room for one more
 pub HasRoom-counts : (os : List Outcome) (filtered_out : ℕ) → length os < 2 ^ 64 - 1 → HasRoom (counts_of os filtered_out)

@@ -1,5 +1,5 @@
 -- What declaring an exclusion does to an argument, as a parse reads it.
-use Rattle.std.proofs.Common.{◌≡◌, ◌∙◌, ◌+◌, ◌++◌, ◌∷◌, ◌&&◌, [], ap, arith, Bool, false, length, length-append, List, not, refl, true, ℕ}
+use Rattle.std.proofs.Common.{◌≡◌, ◌∙◌, ◌++◌, ◌∷◌, ◌&&◌, [], ap, arith, Bool, false, length, length-append, List, not, refl, true, ℕ}
 use Rattle.std.proofs.lemmas.Bool.{ne_eqb}
 use Rattle.std.specs.Borrow.{Bor}
 use Rattle.clap.specs.Adds.{AddsConflicts}

@@ -14,8 +14,9 @@ use Rattle.libtest_mimic.specs.declared.runner.Runner.{Runner}
 use Rattle.libtest_mimic.specs.declared.sink.Sink.{Sink}
 use Rattle.libtest_mimic.specs.declared.trial.Trial.{Trial}
 use Rattle.libtest_mimic.specs.Arrangement.{IsOwn, label_at}
-use Rattle.libtest_mimic.specs.Count.{is_failed, HasRoom}
-use Rattle.libtest_mimic.specs.Promise.{PromisesOutcome}
+use Rattle.libtest_mimic.specs.Count.{is_failed}
+use Rattle.libtest_mimic.specs.Steps.{HasRoom}
+use Rattle.libtest_mimic.specs.Promise.{FitsNumbers, PromisesOutcome}
 use Rattle.libtest_mimic.specs.Report.{announcement_text, outcome_text, row_text, rows_text}
 use Rattle.libtest_mimic.specs.Row.{Row, label_of, outcomes_of}
 use Rattle.libtest_mimic.specs.Selection.{IsIgnored}
@@ -80,11 +81,11 @@ module _ {X Y : Type 0} {F : X → Type 0} {G : Y → Type 0} {g : _} {h : _} wh
 
 -- `Ignored` where the trial is ignored, and else the outcome of what its runner promises, is its own
 pub IsOwn-from_runner : {X Y : Type 0} {F : X → Type 0} {G : Y → Type 0} {g : _} {h : _} (args : Arguments) (t : Trial X Y F G g h) (r : Runner X Y F G g h) (b : Bool) (o : Outcome)
-    → (IsTrue b ↔ IsIgnored args t) → r ≡ runner_of t → MatchBool b (o ≡ Ignored) (PromisesOutcome r (not args.bench) o) → IsOwn args t o
+    → (IsTrue b ↔ IsIgnored args t) → r ≡ runner_of t → MatchBool b (o ≡ Ignored) (PromisesOutcome r (not args.bench) o × FitsNumbers o) → IsOwn args t o
 IsOwn-from_runner args t r true o says e own = inl (says.0 (search rules), own)
 IsOwn-from_runner {X} {Y} {F} {G} {g} {h} args t r false o says e own =
     let P : Runner X Y F G g h → Type 0 = λ x. PromisesOutcome x (not args.bench) o in
-    inr ((λ i. let k : IsTrue false = says.1 i in search rules), subst P e own)
+    inr ((λ i. let k : IsTrue false = says.1 i in search rules), subst P e own.0, own.1)
 
 -- a list with one element more behind the front is longer
 pub longer : {A : Type 0} (front rest all : List A) (x : A) → front ++ (x ∷ rest) ≡ all → length front < length all

@@ -6,7 +6,7 @@ use Rattle.libtest_mimic.specs.declared.args.Arguments.{Arguments}
 use Rattle.libtest_mimic.specs.declared.trial.Trial.{Trial}
 use Rattle.libtest_mimic.specs.declared.outcome.Outcome.{Outcome}
 use Rattle.libtest_mimic.specs.declared.outcome.Outcome.TheVariants.{Passed, Ignored}
-use Rattle.libtest_mimic.specs.Promise.{PromisesOutcome}
+use Rattle.libtest_mimic.specs.Promise.{FitsNumbers, PromisesOutcome}
 use Rattle.libtest_mimic.specs.Row.{Label, Row}
 use Rattle.libtest_mimic.specs.Selection.{IsIgnored}
 use Rattle.libtest_mimic.specs.Trial.{runner_of}
@@ -14,9 +14,9 @@ use Rattle.libtest_mimic.specs.Trial.{runner_of}
 -- In the signatures below X, Y, F, G, g and h stand for what the runners' boxed closures promise.
 
 -- a trial's own outcome: `Ignored` where it is ignored, else that of an answer which its runner promises in the mode of
--- the run
+-- the run, with numbers that fit
 abbrev pub IsOwn : {X Y : Type 0} {F : X → Type 0} {G : Y → Type 0} {g : _} {h : _} → Arguments → Trial X Y F G g h → Outcome → Type 0
-IsOwn args trial o = (IsIgnored args trial × (o ≡ Ignored)) ⊎ (¬ IsIgnored args trial × PromisesOutcome (runner_of trial) (not args.bench) o)
+IsOwn args trial o = (IsIgnored args trial × (o ≡ Ignored)) ⊎ (¬ IsIgnored args trial × PromisesOutcome (runner_of trial) (not args.bench) o × FitsNumbers o)
 
 -- a place among the trials, counted from 0, and the outcome of the trial there
 abbrev pub Placed : Type 0
@@ -47,7 +47,7 @@ label_at labels place = slice_index_or labels place (record { kind = []; name = 
 abbrev pub rows_at : List Label → List Placed → List Row
 rows_at labels placed = map (λ p. record { label = label_at labels p.0; outcome = p.1 }) placed
 
--- each trial has exactly one own outcome, and these are they
+-- each trial has no own outcome but this one (that it has one is what a run shows)
 abbrev pub OnlyOwn : {X Y : Type 0} {F : X → Type 0} {G : Y → Type 0} {g : _} {h : _} → Arguments → List (Trial X Y F G g h) → List Outcome → Type 0
 OnlyOwn args [] [] = Unit {0}
 OnlyOwn args [] (o ∷ os) = ⊥

@@ -1,5 +1,5 @@
 -- The command line of a harness, as `clap` reads it: the options with their spellings, and what a line means.
-use Rattle.std.specs.Prelude.{◌≡◌, ℕ, false, List, [], ◌∷◌, Some, None, codes}
+use Rattle.std.specs.Prelude.{false, List, Some, codes}
 use Rattle.clap.specs.Walk.{Rule, Text}
 use Rattle.clap.specs.Simple.{App, matches_of, new_app, new_rule, with_rule}
 use Rattle.clap.specs.declared.builder.action.ArgAction.TheVariants.{SetTrue, Append}
@@ -19,6 +19,14 @@ option_rule name = record (new_rule name) { long = Some name; value_names = 1 }
 -- `-Z VALUE`
 abbrev pub unstable_rule : Rule
 unstable_rule = record (new_rule (codes "unstable")) { short = Some 90; value_names = 1 }
+
+-- `--test-threads N`, a whole number below 2^64
+abbrev pub threads_rule : Rule
+threads_rule = record (option_rule (codes "test-threads")) { parser = Some (vp.Unsigned 0 18446744073709551615) }
+
+-- `--skip FILTER`, which may come many times
+abbrev pub skip_rule : Rule
+skip_rule = record (option_rule (codes "skip")) { action = Some Append }
 
 -- the one word that is no option
 abbrev pub filter_rule : Rule
@@ -44,9 +52,9 @@ flags_app = plus (plus (plus (plus (plus (plus (plus (plus (plus (new_app (codes
 abbrev pub harness_app : ValueParser → ValueParser → ValueParser → App
 harness_app unstable color format =
     plus (plus (plus (plus (plus (plus (plus flags_app (record unstable_rule { parser = Some unstable }))
-    (record (option_rule (codes "test-threads")) { parser = Some (vp.Unsigned 0 18446744073709551615) }))
+    threads_rule)
     (option_rule (codes "logfile")))
-    (record (option_rule (codes "skip")) { action = Some Append }))
+    skip_rule)
     (record (option_rule (codes "color")) { parser = Some color }))
     (record (option_rule (codes "format")) { parser = Some format }))
     filter_rule

@@ -1,5 +1,5 @@
 -- How many outcomes of each sort there are.
-use Rattle.std.specs.Prelude.{ℕ, ◌+◌, ◌-◌, ◌^◌, ◌<◌, Bool, true, false, List, count_by}
+use Rattle.std.specs.Prelude.{ℕ, ◌+◌, Bool, true, false, List, count_by}
 use Rattle.libtest_mimic.specs.declared.outcome.Outcome.{Outcome}
 use Rattle.libtest_mimic.specs.declared.outcome.Outcome.TheVariants.{Passed, Failed, Ignored, Measured}
 use Rattle.libtest_mimic.specs.declared.outcome.conclusion.Conclusion.{Conclusion}
@@ -41,17 +41,3 @@ counts_of outcomes filtered_out = record {
 -- all five counts together
 abbrev pub total_of : Conclusion → ℕ
 total_of c = c.num_filtered_out + (c.num_passed + (c.num_failed + (c.num_ignored + c.num_measured)))
-
--- the counts with one more outcome
-abbrev pub counted : Conclusion → Outcome → Conclusion
-counted c Passed = record c { num_passed = c.num_passed + 1 }
-counted c (Failed f) = record c { num_failed = c.num_failed + 1 }
-counted c Ignored = record c { num_ignored = c.num_ignored + 1 }
-counted c (Measured m) = record c { num_measured = c.num_measured + 1 }
-
--- one more outcome of any sort can be counted
-pub record HasRoom (c : Conclusion) : Type 0 where
-  pub passed : c.num_passed < 2 ^ 64 - 1
-  pub failed : c.num_failed < 2 ^ 64 - 1
-  pub ignored : c.num_ignored < 2 ^ 64 - 1
-  pub measured : c.num_measured < 2 ^ 64 - 1

@@ -1,6 +1,6 @@
 -- What each field of the arguments is, by what a parsed line holds under the id of its option. An entry is an id with the
 -- texts of its uses, as `clap` answers them.
-use Rattle.std.specs.Prelude.{◌≡◌, is_some, ◌<◌, ◌^◌, ℕ, Bool, true, false, List, [], ◌∷◌, Option, Some, None, codes, map, option_map, option_and_then, unwrap_or, if◌then◌else◌}
+use Rattle.std.specs.Prelude.{◌≡◌, is_some, ◌<◌, ◌^◌, ℕ, Bool, true, false, List, [], Option, Some, None, codes, map, option_map, option_and_then, unwrap_or, if◌then◌else◌}
 use Rattle.std.specs.Str.{bytes_eq}
 use Rattle.std.specs.Str.Parse.{IsNumeral, digits_value, without_leading_plus}
 use Rattle.std.specs.String.{string_bytes}

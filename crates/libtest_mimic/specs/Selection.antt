@@ -1,5 +1,5 @@
 -- Which trials are selected: when a pattern matches, and which trials are dropped and which ignored.
-use Rattle.std.specs.Prelude.{◌≡◌, ◌<◌, ◌⊎◌, ◌++◌, ℕ, Bool, true, false, List, [], ◌∷◌, length, drop, string_bytes, IsSomeAnd, Any}
+use Rattle.std.specs.Prelude.{◌≡◌, ◌⊎◌, ◌++◌, ℕ, Bool, true, false, List, [], ◌∷◌, string_bytes, IsSomeAnd, Any}
 use Rattle.libtest_mimic.specs.declared.args.Arguments.{Arguments}
 use Rattle.libtest_mimic.specs.declared.trial.Trial.{Trial}
 use Rattle.libtest_mimic.specs.Text.{kind_part}
@@ -53,13 +53,3 @@ LeavesOut {A} Out (x ∷ xs) kept = (Out x × LeavesOut Out xs kept) ⊎ (¬ Out
 -- these are the selected trials: those that are not dropped, in their order (the Rust crate's)
 abbrev pub IsSelection : {X Y : Type 0} {F : X → Type 0} {G : Y → Type 0} {g : _} {h : _} → Arguments → List (Trial X Y F G g h) → List (Trial X Y F G g h) → Type 0
 IsSelection args trials selected = LeavesOut (λ t. IsDropped args t) trials selected
-
--- ---- what the private functions of the search promise; no public clause names these words
-
--- the pattern stands in the text from this place on
-abbrev pub StandsAt : List ℕ → List ℕ → ℕ → Type 0
-StandsAt pattern text at = (rest : List ℕ) × (drop at text ≡ pattern ++ rest)
-
--- the pattern stands in the two texts, one after the other, from a place in the first on
-abbrev pub OccursBefore : List ℕ → List ℕ → List ℕ → Type 0
-OccursBefore pattern first second = (at : ℕ) × (at < length first) × StandsAt pattern (first ++ second) at

@@ -1,8 +1,9 @@
 -- What the private functions of the printer and of a run promise one another. No public clause names these words.
-use Rattle.std.specs.Prelude.{◌≡◌, ℕ, Bool, not, ◌||◌, if◌then◌else◌, ◌<◌, ◌≤◌, List, [], ◌∷◌, ◌++◌, filter, length, decimal, Option, Some, Result, MatchResult, vec_capacity}
+use Rattle.std.specs.Prelude.{◌≡◌, ℕ, Bool, not, ◌||◌, if◌then◌else◌, ◌+◌, ◌-◌, ◌^◌, ◌<◌, ◌≤◌, List, [], ◌∷◌, ◌++◌, filter, length, decimal, Option, Some, Result, MatchResult, vec_capacity, drop}
 use Rattle.std.specs.List.{flat_map}
 use Rattle.libtest_mimic.specs.declared.args.Arguments.{Arguments}
 use Rattle.libtest_mimic.specs.declared.outcome.Outcome.{Outcome}
+use Rattle.libtest_mimic.specs.declared.outcome.Outcome.TheVariants.{Passed, Failed, Ignored, Measured}
 use Rattle.libtest_mimic.specs.declared.outcome.conclusion.Conclusion.{Conclusion}
 use Rattle.libtest_mimic.specs.declared.printer.Printer.{Printer}
 use Rattle.libtest_mimic.specs.declared.printer.piece.Piece.{Piece}
@@ -34,6 +35,32 @@ piece_text (Grouped n width) = right_aligned width (grouped (decimal n))
 
 abbrev pub pieces_text : List Piece → List ℕ
 pieces_text pieces = flat_map piece_text pieces
+
+-- ---- a search in a full name
+
+-- the pattern stands in the text from this place on
+abbrev pub StandsAt : List ℕ → List ℕ → ℕ → Type 0
+StandsAt pattern text at = (rest : List ℕ) × (drop at text ≡ pattern ++ rest)
+
+-- the pattern stands in the two texts, one after the other, from a place in the first on
+abbrev pub OccursBefore : List ℕ → List ℕ → List ℕ → Type 0
+OccursBefore pattern first second = (at : ℕ) × (at < length first) × StandsAt pattern (first ++ second) at
+
+-- ---- counts
+
+-- the counts with one more outcome
+abbrev pub counted : Conclusion → Outcome → Conclusion
+counted c Passed = record c { num_passed = c.num_passed + 1 }
+counted c (Failed f) = record c { num_failed = c.num_failed + 1 }
+counted c Ignored = record c { num_ignored = c.num_ignored + 1 }
+counted c (Measured m) = record c { num_measured = c.num_measured + 1 }
+
+-- one more outcome of any sort can be counted
+pub record HasRoom (c : Conclusion) : Type 0 where
+  pub passed : c.num_passed < 2 ^ 64 - 1
+  pub failed : c.num_failed < 2 ^ 64 - 1
+  pub ignored : c.num_ignored < 2 ^ 64 - 1
+  pub measured : c.num_measured < 2 ^ 64 - 1
 
 -- ---- failures by place
 

@@ -57,11 +57,11 @@ pub struct Arguments {
     pub show_output: bool,
     /// Has no effect.
     pub unstable_flags: Option<UnstableFlags>,
-    /// The filter and the skip patterns match whole names alone.
+    /// The filter and the skip patterns match where they are the name or the full name, and not its parts.
     pub exact: bool,
     /// Ask for the terse format, whatever `format` says.
     pub quiet: bool,
-    /// How many threads run trials.
+    /// How many threads are to run trials. It has no effect yet.
     pub test_threads: Option<usize>,
     /// The path of the file that gets the report. The caller of a run opens it.
     pub logfile: Option<String>,

@@ -1,7 +1,7 @@
 //! What becomes of trials: failures, measurements, outcomes and their counts.
 ghost use Rattle.std.specs.Prelude.{◌≡◌, ◌<◌, ◌^◌, ◌-◌};
 ghost use Rattle.libtest_mimic.specs.Count.{counts_of};
-ghost use Rattle.libtest_mimic.specs.Promise.{PromisesOutcome};
+ghost use Rattle.libtest_mimic.specs.Promise.{FitsNumbers, PromisesOutcome};
 
 pub(crate) mod conclusion;
 pub(crate) mod failed;
@@ -31,7 +31,8 @@ pub enum Outcome {
 /// benchmark's `Ok` is `Passed` and a measurement is dropped. In bench mode a measurement is
 /// `Measured`, and a benchmark that measured nothing failed.
 pub fn run_single(runner: Runner, test_mode: bool) -> Outcome
-    ensures { PromisesOutcome runner test_mode result }
+    ensures own { PromisesOutcome runner test_mode result }
+    ensures fits { FitsNumbers result }
 {
     match runner {
         Runner::Test(test) => match test.call() {

@@ -29,7 +29,7 @@ pub enum RunError {
     /// A growth was refused. All growths come before the title: nothing was written.
     #[error("out of memory")]
     OutOfMemory,
-    /// A write or a flush failed. A start of the report was written.
+    /// A write or a flush failed. A start of the report, or a beginning of the list, was written.
     #[error("cannot write the report")]
     Write(#[source] WriteFault),
 }
@@ -140,12 +140,20 @@ fn printer_for(args: &Arguments, trials: &[Trial], auto_colours: bool) -> Printe
 }
 
 impl From<AllocError> for RunError {
+    ghost use Rattle.libtest_mimic.specs.declared.run.RunError.TheVariants.{OutOfMemory};
+
+    ghost from_gives = { λ _ error. error ≡ OutOfMemory };
+
     fn from(_error: AllocError) -> RunError {
         RunError::OutOfMemory
     }
 }
 
 impl<T: Drop> From<AllocFailed<T>> for RunError {
+    ghost use Rattle.libtest_mimic.specs.declared.run.RunError.TheVariants.{OutOfMemory};
+
+    ghost from_gives = { λ _ error. error ≡ OutOfMemory };
+
     fn from(failed: AllocFailed<T>) -> RunError {
         AllocError::from(failed).into()
     }

@@ -1,5 +1,5 @@
 //! A writer that counts its faults.
-ghost use Rattle.std.specs.Prelude.{◌≡◌, ◌-◌, ◌^◌, ◌<◌, []};
+ghost use Rattle.std.specs.Prelude.{◌≡◌, ◌-◌, ◌^◌, ◌<◌, [], IsOk};
 
 use std::io;
 use std::io::Write;
@@ -57,7 +57,8 @@ impl<W: Write> Sink<W> {
     /// With a fault a beginning of the piece was appended, and one more fault is counted.
     pub fn put(&mut self, piece: &[u8]) -> Result<(), WriteFault>
         requires { faults_of self.old < 2 ^ 64 - 1 }
-        ensures { Puts W.contents self.old self.new piece.now result }
+        ensures appends { Puts W.contents self.old self.new piece.now result }
+        ensures empty { piece.now ≡ [] → IsOk result }
     {
         let mut rest = piece;
         while !rest.is_empty() {

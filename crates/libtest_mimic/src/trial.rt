@@ -9,7 +9,7 @@ use std::fmt;
 /// What is known of a trial before it runs.
 #[derive(Debug, Drop)]
 pub struct TestInfo {
-    /// The name, which filters and skip patterns look at and which rows show.
+    /// The name, which rows show. Filters and skip patterns look at it with the kind before it.
     pub name: String,
     /// The kind, shown in brackets before the name. Most trials have none: it is empty.
     pub kind: String,

@@ -5,23 +5,19 @@ ghost use Rattle.clap.specs.declared.builder.value_parser.ValueParser.{ValuePars
 ghost use Rattle.libtest_mimic.specs.CommandLine.{IsMeaningOf, harness_app};
 ghost use Rattle.libtest_mimic.specs.Matched.{HasPassed, IsFreeOfConflicts, IsReadFrom, entries_of};
 
-use crate::args::declared::{filter, number, one_of, option, unstable, with, with_flags};
+use crate::args::declared::{
+    color, filter, format, logfile, skip, test_threads, unstable, with, with_flags,
+};
 use crate::args::matched::{
     color_of, format_of, is_set, text_of, text_under, texts_of, threads_of, unstable_of,
 };
 use crate::args::{Arguments, ArgumentsError};
 use clap::error::ErrorKind;
-use clap::{ArgAction, ArgMatches, Command};
+use clap::{ArgMatches, Command};
 use std::alloc::{AllocError, Global};
 use std::convert::AsStr;
 use std::env;
 use std::rt::Env;
-
-static COLORS: [&str; 3] = ["auto", "always", "never"];
-
-static FORMATS: [&str; 2] = ["pretty", "terse"];
-
-static UNSTABLE: [&str; 1] = ["unstable-options"];
 
 impl Arguments {
     /// The options of a harness, declared to `clap`. A line may not use `--test` with `--bench`, nor
@@ -30,45 +26,14 @@ impl Arguments {
         ensures { IfOk result (λ r. (u : ValueParser) × (c : ValueParser) × (f : ValueParser)
             × (app_of r ≡ harness_app u c f)) }
     {
-        let unstable = one_of(unstable(alloc), UNSTABLE.as_slice());
-        let threads = option(
-            alloc,
-            "test-threads",
-            "THREADS",
-            "Run trials on so many threads",
-        );
-        let threads = number(threads);
-        let logfile = option(alloc, "logfile", "PATH", "Write the report to this file");
-        let skip = option(
-            alloc,
-            "skip",
-            "FILTER",
-            "Leave out what has FILTER in its full name; may come many times",
-        );
-        let skip = skip.action(ArgAction::Append);
-        let color = option(
-            alloc,
-            "color",
-            "WHEN",
-            "Colour the report: auto, always or never",
-        );
-        let color = one_of(color, COLORS.as_slice());
-        let format = option(
-            alloc,
-            "format",
-            "FORMAT",
-            "Report in this format: pretty or terse",
-        );
-        let format = one_of(format, FORMATS.as_slice());
-        let filter = filter(alloc);
         let c = with_flags(alloc)?;
-        let c = with(c, unstable)?;
-        let c = with(c, threads)?;
-        let c = with(c, logfile)?;
-        let c = with(c, skip)?;
-        let c = with(c, color)?;
-        let c = with(c, format)?;
-        let c = with(c, filter)?;
+        let c = with(c, unstable(alloc))?;
+        let c = with(c, test_threads(alloc))?;
+        let c = with(c, logfile(alloc))?;
+        let c = with(c, skip(alloc))?;
+        let c = with(c, color(alloc))?;
+        let c = with(c, format(alloc))?;
+        let c = with(c, filter(alloc))?;
         Ok(c)
     }
 

@@ -1,12 +1,17 @@
 //! The options of a harness, as they are declared to `clap`.
-ghost use Rattle.std.specs.Prelude.{◌≡◌, false, Some, IfOk};
+ghost use Rattle.std.specs.Prelude.{◌≡◌, false, Some, IfOk, codes};
 ghost use Rattle.clap.specs.Words.{app_of, rule_of};
 ghost use Rattle.clap.specs.declared.builder.value_parser.ValueParser.{ValueParser};
-ghost use Rattle.clap.specs.declared.builder.value_parser.ValueParser.TheVariants as vp;
-ghost use Rattle.libtest_mimic.specs.CommandLine.{excluding, filter_rule, flag_rule, flags_app, option_rule, plus, unstable_rule};
+ghost use Rattle.libtest_mimic.specs.CommandLine.{excluding, filter_rule, flag_rule, flags_app, option_rule, plus, skip_rule, threads_rule, unstable_rule};
 
 use clap::{Arg, ArgAction, Command, value_parser};
 use std::alloc::{AllocError, Global};
+
+static COLORS: [&str; 3] = ["auto", "always", "never"];
+
+static FORMATS: [&str; 2] = ["pretty", "terse"];
+
+static UNSTABLE: [&str; 1] = ["unstable-options"];
 
 // A command with the flags alone.
 pub(super) fn with_flags<'a>(alloc: Global) -> Result<Command<'a>, AllocError>
@@ -74,7 +79,7 @@ fn flag<'a>(alloc: Global, name: &'a str, help: &'a str) -> Arg<'a>
         .action(ArgAction::SetTrue)
 }
 
-pub(super) fn option<'a>(alloc: Global, name: &'a str, value: &'a str, help: &'a str) -> Arg<'a>
+fn option<'a>(alloc: Global, name: &'a str, value: &'a str, help: &'a str) -> Arg<'a>
     ensures rule { rule_of result ≡ option_rule name.entry.now }
     ensures local { result.global ≡ false }
 {
@@ -85,13 +90,68 @@ pub(super) fn option<'a>(alloc: Global, name: &'a str, value: &'a str, help: &'a
 }
 
 pub(super) fn unstable<'a>(alloc: Global) -> Arg<'a>
-    ensures rule { rule_of result ≡ unstable_rule }
+    ensures rule { (p : ValueParser) × (rule_of result ≡ record unstable_rule { parser = Some p }) }
     ensures local { result.global ≡ false }
 {
-    Arg::new(alloc, "unstable")
-        .short('Z')
-        .value_name("FLAG")
-        .help("Has no effect")
+    let arg = Arg::new(alloc, "unstable").short('Z');
+    one_of(
+        arg.value_name("FLAG").help("Has no effect"),
+        UNSTABLE.as_slice(),
+    )
+}
+
+pub(super) fn test_threads<'a>(alloc: Global) -> Arg<'a>
+    ensures rule { rule_of result ≡ threads_rule }
+    ensures local { result.global ≡ false }
+{
+    let arg = option(
+        alloc,
+        "test-threads",
+        "THREADS",
+        "Run trials on so many threads",
+    );
+    arg.value_parser(value_parser!(usize))
+}
+
+pub(super) fn logfile<'a>(alloc: Global) -> Arg<'a>
+    ensures rule { rule_of result ≡ option_rule (codes "logfile") }
+    ensures local { result.global ≡ false }
+{
+    option(alloc, "logfile", "PATH", "Write the report to this file")
+}
+
+pub(super) fn skip<'a>(alloc: Global) -> Arg<'a>
+    ensures rule { rule_of result ≡ skip_rule }
+    ensures local { result.global ≡ false }
+{
+    let help = "Leave out what has FILTER in its full name; may come many times";
+    option(alloc, "skip", "FILTER", help).action(ArgAction::Append)
+}
+
+pub(super) fn color<'a>(alloc: Global) -> Arg<'a>
+    ensures rule { (p : ValueParser) × (rule_of result ≡ record (option_rule (codes "color")) { parser = Some p }) }
+    ensures local { result.global ≡ false }
+{
+    let arg = option(
+        alloc,
+        "color",
+        "WHEN",
+        "Colour the report: auto, always or never",
+    );
+    one_of(arg, COLORS.as_slice())
+}
+
+pub(super) fn format<'a>(alloc: Global) -> Arg<'a>
+    ensures rule { (p : ValueParser) × (rule_of result ≡ record (option_rule (codes "format")) { parser = Some p }) }
+    ensures local { result.global ≡ false }
+{
+    let arg = option(
+        alloc,
+        "format",
+        "FORMAT",
+        "Report in this format: pretty or terse",
+    );
+    one_of(arg, FORMATS.as_slice())
 }
 
 pub(super) fn filter<'a>(alloc: Global) -> Arg<'a>
@@ -104,17 +164,9 @@ pub(super) fn filter<'a>(alloc: Global) -> Arg<'a>
 }
 
 // The argument, whose value is to be one of the names.
-pub(super) fn one_of<'a>(arg: Arg<'a>, names: &'a [&'a str]) -> Arg<'a>
+fn one_of<'a>(arg: Arg<'a>, names: &'a [&'a str]) -> Arg<'a>
     ensures rule { (p : ValueParser) × (rule_of result ≡ record (rule_of arg.entry) { parser = Some p }) }
     ensures local { result.global ≡ arg.entry.global }
 {
     arg.value_parser(names)
-}
-
-// The argument, whose value is to be a whole number.
-pub(super) fn number<'a>(arg: Arg<'a>) -> Arg<'a>
-    ensures rule { rule_of result ≡ record (rule_of arg.entry) { parser = Some (vp.Unsigned 0 18446744073709551615) } }
-    ensures local { result.global ≡ arg.entry.global }
-{
-    arg.value_parser(value_parser!(usize))
 }

@@ -43,7 +43,8 @@ impl Conclusion {
 
 impl Conclusion {
     ghost use Rattle.std.specs.Prelude.{ℕ, ◌^◌, ◌-◌, []};
-    ghost use Rattle.libtest_mimic.specs.Count.{counts_of, counted, HasRoom};
+    ghost use Rattle.libtest_mimic.specs.Count.{counts_of};
+    ghost use Rattle.libtest_mimic.specs.Steps.{counted, HasRoom};
 
     // Nothing is counted yet, beside the trials that were filtered out.
     pub(crate) fn empty(filtered_out: u64) -> Self

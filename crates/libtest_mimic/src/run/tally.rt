@@ -24,7 +24,7 @@ pub(crate) struct Tally {
 }
 
 impl Tally {
-    ghost use Rattle.libtest_mimic.specs.Count.{HasRoom};
+    ghost use Rattle.libtest_mimic.specs.Steps.{HasRoom};
     ghost use Rattle.libtest_mimic.specs.Row.{Row, row_of};
     ghost use Rattle.libtest_mimic.specs.Steps.{HasCounted, HasRoomFor};
 

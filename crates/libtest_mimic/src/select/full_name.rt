@@ -1,7 +1,8 @@
 //! Searches full names part by part: the kind part, which is `[kind] ` and nothing for an empty kind,
 //! and then the name. All texts are bytes here, since a pattern may be cut between any two.
 ghost use Rattle.std.specs.Prelude.{◌≡◌, ◌↔◌, ◌+◌, ◌<◌, ◌≤◌, IsTrue, length, slice_index};
-ghost use Rattle.libtest_mimic.specs.Selection.{full_name, OccursBefore, StandsAt};
+ghost use Rattle.libtest_mimic.specs.Selection.{full_name};
+ghost use Rattle.libtest_mimic.specs.Steps.{OccursBefore, StandsAt};
 ghost use Rattle.libtest_mimic.specs.Text.{kind_part};
 
 // Whether the pattern is the full name.

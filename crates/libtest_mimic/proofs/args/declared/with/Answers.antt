@@ -1,4 +1,3 @@
-use Rattle.std.proofs.Common.{rules}
 use Rattle.std.proofs.lemmas.Result.{IfOk-weaker}
 use Rattle.libtest_mimic.specs.CommandLine.{plus}
 use Rattle.libtest_mimic.proofs.args.declared.with.Goals as goal

@@ -16,4 +16,4 @@ returns g c =
     let text = c.as_bytes.ensures.value ∙ c.thousands-text.ensures.text in
     let P : ℕ → Type 0 = λ n. Put g.W.Write.contents c.args.sink.now c.put_spaces.new.sink (spaces n) in
     let Q : List ℕ → Type 0 = λ t. Puts g.W.Write.contents c.put_spaces.new.sink c.put.new.self t c.put.result in
-    Puts_then _ _ _ _ _ _ _ (subst P count c.in_ok-put_spaces.ensures) (subst Q text c.put.ensures)
+    Puts_then _ _ _ _ _ _ _ (subst P count c.in_ok-put_spaces.ensures) (subst Q text c.put.ensures.appends)

@@ -8,7 +8,7 @@ returns-in_err-put g c =
     let blanks = take-blanks c.min-now.result (omega (arith, c.min-now.ensures)) in
     let P : List ℕ → Type 0 = λ l. Stopped g.W.Write.contents c.loop-left.sink c.put.new.self l in
     Puts-stopped _ _ _ c.from_residual.ensures.0
-    (Stopped-spaces _ _ _ _ (omega (arith, c.min-now.ensures)) c.loop-left.invariant.text (subst P blanks c.in_err-put.ensures))
+    (Stopped-spaces _ _ _ _ (omega (arith, c.min-now.ensures)) c.loop-left.invariant.text (subst P blanks c.in_err-put.ensures.appends))
 
 pub loop-left-preserved : goal.loop-left-preserved
 loop-left-preserved g c =
@@ -16,5 +16,5 @@ loop-left-preserved g c =
     let P : List ℕ → Type 0 = λ l. Put g.W.Write.contents c.loop-left.sink c.put.new.self l in
     record {
       within = omega arith;
-      text = Put-spaces _ _ _ _ (omega (arith, c.min-now.ensures)) c.loop-left.invariant.text (subst P blanks c.in_ok-put.ensures);
+      text = Put-spaces _ _ _ _ (omega (arith, c.min-now.ensures)) c.loop-left.invariant.text (subst P blanks c.in_ok-put.ensures.appends);
     }

@@ -1,7 +1,8 @@
 use Rattle.std.proofs.Common.{◌≡◌, ◌∙◌, ◌+◌, ◌++◌, ◌∷◌, [], ℕ, ap, ap₂, arith, length, sym, zero-add, vec_len}
 use Rattle.std.proofs.lemmas.List.FromFn.{length-range_with_len}
 use Rattle.std.specs.List.{range_with_len}
-use Rattle.libtest_mimic.specs.Count.{counted, is_failed}
+use Rattle.libtest_mimic.specs.Count.{is_failed}
+use Rattle.libtest_mimic.specs.Steps.{counted}
 use Rattle.libtest_mimic.specs.Row.{row_of}
 use Rattle.libtest_mimic.specs.Steps.{rows_from}
 use Rattle.libtest_mimic.proofs.Counting.{counts-row}
