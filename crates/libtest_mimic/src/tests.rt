@@ -1,5 +1,5 @@
-//! What no clause says: whole reports as texts, flushes, which runners were called, and each public call
-//! once. Expected texts are worked by hand from the format's rules, and those of the Rust crate.
+//! What no clause says: whole reports as texts, flushes, which runners were called, and calls one by one.
+//! Expected texts are worked by hand from the format's rules, and those of the Rust crate.
 mod calls;
 mod command_lines;
 mod faults;

@@ -1,4 +1,4 @@
-//! Each public call once that no run makes.
+//! Calls one by one, with what no run shows of them.
 use super::test_trial;
 use super::writers::ample;
 use crate::outcome::{count_rows, run_single};
@@ -17,6 +17,8 @@ fn gives_properties(rt: HostRuntime) -> Result<(), Fail> {
     assert_eq!(rt; trial.name(), "a");
     assert_eq!(rt; trial.kind(), "");
     assert!(rt; !trial.has_ignored_flag());
+    assert!(rt; trial.is_test());
+    assert!(rt; !trial.is_bench());
     Ok(())
 }
 
@@ -160,6 +162,19 @@ fn prints_parts(rt: HostRuntime) -> Result<(), Fail> {
     Ok(())
 }
 
+#[test]
+fn lists_ignored_trials(rt: HostRuntime) -> Result<(), Fail> {
+    let alloc = rt.alloc();
+    let tests = vec![in alloc;
+        test_trial!(alloc, "a", || Ok(())),
+        test_trial!(alloc, "b", || Ok(())).with_ignored_flag(true),
+    ]?;
+    let mut sink = Sink::new(ample(Vec::new(alloc)));
+    assert!(rt; Printer::write_list(&tests, true, &mut sink).is_ok());
+    assert!(rt; sink.into_inner().bytes.as_slice() == b"b: test\n".as_slice());
+    Ok(())
+}
+
 // An outcome in a format, with or without colour, and its text.
 #[test]
 fn prints_outcomes(rt: HostRuntime) -> Result<(), Fail> {
@@ -168,7 +183,27 @@ fn prints_outcomes(rt: HostRuntime) -> Result<(), Fail> {
         avg: 1_234_567,
         variance: 89,
     });
-    let rows: [(FormatSetting, bool, &Outcome, &[u8]); 6] = [
+    let wide = Outcome::Measured(Measurement {
+        avg: 100_000_000,
+        variance: 0,
+    });
+    let wider = Outcome::Measured(Measurement {
+        avg: 12_345_678_901,
+        variance: 1000,
+    });
+    let rows: [(FormatSetting, bool, &Outcome, &[u8]); 8] = [
+        (
+            FormatSetting::Pretty,
+            false,
+            &wide,
+            b"bench: 100,000,000 ns/iter (+/- 0)\n",
+        ),
+        (
+            FormatSetting::Pretty,
+            false,
+            &wider,
+            b"bench: 12,345,678,901 ns/iter (+/- 1,000)\n",
+        ),
         (
             FormatSetting::Pretty,
             false,

@@ -1,13 +1,11 @@
 //! Writers that fail: what they hold then, what is answered, and which runners were called.
+use super::reports::TWO_TESTS;
 use super::test_trial;
 use super::writers::{Full, Limited, stopped_clock};
 use crate::{Arguments, Failed, RunError, Sink, Stopwatch, Trial, WriteFault, run_here};
 use std::sync::Arc;
 use std::sync::atomic::{AtomicBool, Ordering};
 use std::test::Fail;
-
-const REPORT: &[u8; 247] =
-    b"\nrunning 2 tests\ntest succeeding_test ... ok\ntest failing_test    ... FAILED\n\nfailures:\n\n---- failing_test ----\nWoops\n\n\nfailures:\n    failing_test\n\ntest result: FAILED. 1 passed; 1 failed; 0 ignored; 0 measured; 0 filtered out; finished in 0.00s\n\n";
 
 // Where the announcement of each test has ended, and its runner is called.
 const FIRST_RUNS_AT: usize = 42;
@@ -62,7 +60,7 @@ fn run_two(rt: &HostRuntime, writer: Limited) -> Result<Left, Fail> {
 fn stops_at_each_byte(rt: HostRuntime) -> Result<(), Fail> {
     for most in [1, usize::MAX] {
         for full in [Full::Fails, Full::TakesNone] {
-            for room in 0..=REPORT.len() {
+            for room in 0..=TWO_TESTS.len() {
                 let left = run_two(
                     &rt,
                     Limited {
@@ -75,14 +73,18 @@ fn stops_at_each_byte(rt: HostRuntime) -> Result<(), Fail> {
                     },
                 )?;
                 assert!(rt;
-                    left.writer.bytes.as_slice() == &REPORT[..room],
+                    left.writer.bytes.as_slice() == &TWO_TESTS[..room],
                     "room {room}"
                 );
-                assert_eq!(rt; left.faults, u64::from(room < REPORT.len()), "room {room}");
+                assert_eq!(rt;
+                    left.faults,
+                    u64::from(room < TWO_TESTS.len()),
+                    "room {room}"
+                );
                 assert_eq!(rt; left.first_ran, room >= FIRST_RUNS_AT, "room {room}");
                 assert_eq!(rt; left.second_ran, room >= SECOND_RUNS_AT, "room {room}");
                 match left.fault {
-                    None => assert!(rt; room == REPORT.len()),
+                    None => assert!(rt; room == TWO_TESTS.len()),
                     Some(WriteFault::Error(_)) => assert!(rt; full == Full::Fails),
                     Some(WriteFault::Zero) => assert!(rt; full == Full::TakesNone),
                 }
@@ -95,7 +97,11 @@ fn stops_at_each_byte(rt: HostRuntime) -> Result<(), Fail> {
 // Pretty flushes after each announcement and once at the end.
 #[test]
 fn stops_at_each_flush(rt: HostRuntime) -> Result<(), Fail> {
-    for (failing_flush, len) in [(1, FIRST_RUNS_AT), (2, SECOND_RUNS_AT), (3, REPORT.len())] {
+    for (failing_flush, len) in [
+        (1, FIRST_RUNS_AT),
+        (2, SECOND_RUNS_AT),
+        (3, TWO_TESTS.len()),
+    ] {
         let left = run_two(
             &rt,
             Limited {
@@ -109,7 +115,7 @@ fn stops_at_each_flush(rt: HostRuntime) -> Result<(), Fail> {
         )?;
         assert!(rt; matches!(left.fault, Some(WriteFault::Error(_))));
         assert_eq!(rt; left.faults, 1);
-        assert!(rt; left.writer.bytes.as_slice() == &REPORT[..len]);
+        assert!(rt; left.writer.bytes.as_slice() == &TWO_TESTS[..len]);
         assert_eq!(rt; left.first_ran, failing_flush > 1);
         assert_eq!(rt; left.second_ran, failing_flush > 2);
     }

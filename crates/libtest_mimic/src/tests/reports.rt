@@ -6,7 +6,7 @@ use crate::{
 };
 use std::test::Fail;
 
-const TWO_TESTS: &[u8] =
+pub(super) const TWO_TESTS: &[u8] =
     b"\nrunning 2 tests\ntest succeeding_test ... ok\ntest failing_test    ... FAILED\n\nfailures:\n\n---- failing_test ----\nWoops\n\n\nfailures:\n    failing_test\n\ntest result: FAILED. 1 passed; 1 failed; 0 ignored; 0 measured; 0 filtered out; finished in 0.00s\n\n";
 
 const TWO_TESTS_TERSE: &[u8] =
@@ -119,21 +119,23 @@ fn tells_the_time(rt: HostRuntime) -> Result<(), Fail> {
     Ok(())
 }
 
-// Messages: none, an empty one, and one of two lines.
+// Messages: none, an empty one, one of two lines, and a number that was displayed.
 #[test]
 fn shows_messages(rt: HostRuntime) -> Result<(), Fail> {
     let alloc = rt.alloc();
     let empty = String::new(alloc);
     let lines = String::from_str(alloc, "one\ntwo")?;
+    let seven = Failed::from_display(alloc, &7)?;
     let tests = vec![in alloc;
         test_trial!(alloc, "a", || Err(Failed::without_message())),
         test_trial!(alloc, "b", move || Err(Failed::with_message(empty))),
         test_trial!(alloc, "c", move || Err(Failed::with_message(lines))),
+        test_trial!(alloc, "f", move || Err(seven)),
     ]?;
     let (conclusion, writer) = run_ample(alloc, &Arguments::new(alloc), tests)?;
-    assert_eq!(rt; conclusion.num_failed, 3);
+    assert_eq!(rt; conclusion.num_failed, 4);
     let failures: &[u8] =
-        b"\nfailures:\n\n---- a ----\n\n---- b ----\n\n\n---- c ----\none\ntwo\n\n\nfailures:\n    a\n    b\n    c\n\ntest result: FAILED. ";
+        b"\nfailures:\n\n---- a ----\n\n---- b ----\n\n\n---- c ----\none\ntwo\n\n---- f ----\n7\n\n\nfailures:\n    a\n    b\n    c\n    f\n\ntest result: FAILED. ";
     assert!(rt;
         writer
             .bytes

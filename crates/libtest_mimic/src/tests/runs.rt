@@ -176,6 +176,7 @@ fn stops_a_list_at_each_byte(rt: HostRuntime) -> Result<(), Fail> {
             Err(RunError::Write(WriteFault::Zero)) => assert!(rt; room < list.len()),
             Err(_) => assert!(rt; false),
         }
+        assert!(rt; watch.is_running());
         assert_eq!(rt; sink.faults(), u64::from(room < list.len()));
         assert!(rt; sink.into_inner().bytes.as_slice() == &list[..room]);
     }
@@ -227,8 +228,13 @@ fn runs_benchmarks_as_asked(rt: HostRuntime) -> Result<(), Fail> {
     for (test, bench, measures, want) in rows {
         let ran = Arc::new(alloc, AtomicBool::new(false))?;
         let mark = ran.clone()?;
+        let tested = Arc::new(alloc, AtomicBool::new(false))?;
+        let mark_tested = tested.clone()?;
         let tests = vec![in alloc;
-            test_trial!(alloc, "t", || Ok(())),
+            test_trial!(alloc, "t", move || {
+                mark_tested.store(true, Ordering::SeqCst);
+                Ok(())
+            }),
             bench_trial!(alloc, "b", move |test_mode: bool| {
                 mark.store(true, Ordering::SeqCst);
                 if test_mode == bench {
@@ -249,6 +255,7 @@ fn runs_benchmarks_as_asked(rt: HostRuntime) -> Result<(), Fail> {
             writer.bytes.as_slice()[17..].starts_with(want),
             "{test} {bench} {measures}"
         );
+        assert_eq!(rt; tested.load(Ordering::SeqCst), !bench);
         assert_eq!(rt; ran.load(Ordering::SeqCst), !test);
     }
     Ok(())
@@ -290,7 +297,8 @@ fn reports_in_terse(rt: HostRuntime) -> Result<(), Fail> {
     Ok(())
 }
 
-// Names of two kinds of characters, of which one has a kind.
+// A name of one character in two bytes beside one of two, which has a kind: widths count characters, and not
+// those of a trial that is skipped.
 #[test]
 fn pads_kinds_by_characters(rt: HostRuntime) -> Result<(), Fail> {
     let alloc = rt.alloc();

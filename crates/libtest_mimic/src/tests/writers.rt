@@ -13,7 +13,8 @@ pub(super) enum Full {
     TakesNone,
 }
 
-// Takes at most `most` bytes a call and `room` bytes in all. The flush counted down to 0 fails.
+// Takes at most `most` bytes a call and `room` bytes in all. The flush of this number,
+// from 1, fails; with 0 none does.
 #[derive(Drop)]
 pub(super) struct Limited {
     pub(super) bytes: Vec<u8>,
@@ -87,10 +88,7 @@ pub(super) fn run_ample(
     tests: Vec<Trial>,
 ) -> Result<(Conclusion, Limited), RunError> {
     let mut sink = Sink::new(ample(Vec::new(alloc)));
-    let mut watch = Stopwatch::new(Times {
-        first: 0,
-        second: 0,
-    });
+    let mut watch = Stopwatch::new(stopped_clock());
     let conclusion = run_here(alloc, args, tests, &mut sink, &mut watch, false)?;
     Ok((conclusion, sink.into_inner()))
 }
