@@ -32,6 +32,7 @@ fn run_tests(rt: &HostRuntime) -> Result<Conclusion, RunError> {
         Trial::test(String::from_str(alloc, "succeeding_test")?, succeeds),
         Trial::test(String::from_str(alloc, "failing_test")?, fails),
     ]?;
+    // Making a buffer fails only for want of memory, which its error doesn't say by its type.
     let Ok(out) = BufWriter::new(alloc, io::writer(rt)) else {
         return Err(RunError::OutOfMemory);
     };

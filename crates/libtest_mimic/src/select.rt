@@ -14,8 +14,8 @@ use full_name::{begins_in_kind_part, is_full_name};
 /// has to be the name or the full name. Without it, the pattern has to occur in the full name, at any
 /// place. Capital and small letters differ.
 ///
-/// Nothing is allocated: the full name is compared in parts. For one kind the time grows no faster than
-/// the pattern and the name.
+/// Nothing is allocated: the full name is compared in parts. The time grows no faster than the pattern and
+/// the name; only a long kind beside a long pattern takes the product of the two.
 pub fn matches(pattern: &str, exact: bool, kind: &str, name: &str) -> bool
     ensures { IsTrue result ↔ IsMatch pattern.now exact kind.now name.now }
 {

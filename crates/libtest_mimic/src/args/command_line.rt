@@ -16,8 +16,8 @@ use clap::error::ErrorKind;
 use clap::{ArgMatches, Command};
 use std::alloc::{AllocError, Global};
 use std::convert::AsStr;
-use std::env;
 use std::rt::Env;
+use std::{env, io};
 
 impl Arguments {
     /// The options of a harness, declared to `clap`. A line may not use `--test` with `--bench`, nor
@@ -82,19 +82,23 @@ impl Arguments {
 
     /// The arguments of the program, by the words that the runtime hands in.
     ///
-    /// `Refused` is answered too where the words can't be read, or there is none.
+    /// `Refused` is answered too where a word is not UTF-8, or there is none.
     pub fn from_args<R: Env + AllocGlobal>(
         rt: &R,
         alloc: Global,
     ) -> Result<Arguments, ArgumentsError>
         ensures { IfOk result (λ a. (f : List Row) × IsReadFrom f a × HasPassed f a × IsFreeOfConflicts f a) }
     {
-        let Ok(args) = env::args(rt) else {
-            return Err(refused(alloc, "cannot read the arguments")?);
+        let args = match env::args(rt) {
+            Ok(args) => args,
+            Err(error) if error.kind() == io::ErrorKind::OutOfMemory => {
+                return Err(ArgumentsError::OutOfMemory);
+            }
+            Err(_) => return Err(refused(alloc, "an argument is not UTF-8")?),
         };
         let words: Vec<String> = args.collect(alloc)?;
         if words.is_empty() {
-            return Err(refused(alloc, "cannot read the arguments")?);
+            return Err(refused(alloc, "there is no program name")?);
         }
         Arguments::from_iter(alloc, words.as_slice())
     }
