@@ -1,49 +1,42 @@
-//! A harness of two tests: one that succeeds, and one that fails with a message.
+//! A harness of 17 trials, with all options.
 #![tactic(auto)]
 
 mod clock;
+mod mixed_bag;
+mod output;
+mod program;
+#[cfg(test)]
+mod tests;
 
 use clock::MonotonicClock;
-use libtest_mimic::{Arguments, Conclusion, Failed, RunError, Sink, Stopwatch, Trial, run_here};
-use std::io;
-use std::io::BufWriter;
+use libtest_mimic::{Arguments, Failed, Measurement, RunError, Trial};
+use mixed_bag::{Answer, MIXED_BAG, benchmark_answer, mixed_bag_trials, test_answer};
+use program::{CANNOT_RUN, harness_run};
 use std::process::ExitCode;
 
 fn main(rt: HostRuntime) -> ExitCode {
-    match run_tests(&rt) {
-        Ok(conclusion) => conclusion.exit_code(),
+    match run_mixed_bag(&rt) {
+        Ok(status) => ExitCode::from(status),
         Err(error) => {
-            // Where the fault's text can't be written either, the status still tells it.
+            // Where this can't be written either, the status still tells it.
             let _ = eprintln!(rt; "harness: {error}");
-            ExitCode::FAILURE
+            ExitCode::from(CANNOT_RUN)
         }
     }
 }
 
-fn run_tests(rt: &HostRuntime) -> Result<Conclusion, RunError> {
+fn run_mixed_bag(rt: &HostRuntime) -> Result<u8, RunError> {
     let alloc = rt.alloc();
-    let message = String::from_str(alloc, "Woops")?;
-    let succeeds: Box<dyn FnOnce() -> Result<(), Failed> + Send> = Box::new(alloc, || Ok(()))?;
-    let fails: Box<dyn FnOnce() -> Result<(), Failed> + Send> = Box::new(
+    let trials = mixed_bag_trials!(alloc);
+    let line = Arguments::from_args(rt, alloc);
+    let clock = MonotonicClock::new(rt);
+    Ok(harness_run(
+        rt,
         alloc,
-        move || Err(Failed::with_message(message)),
-    )?;
-    let tests = vec![in alloc;
-        Trial::test(String::from_str(alloc, "succeeding_test")?, succeeds),
-        Trial::test(String::from_str(alloc, "failing_test")?, fails),
-    ]?;
-    // Making a buffer fails only for want of memory, which its error doesn't say by its type.
-    let Ok(out) = BufWriter::new(alloc, io::writer(rt)) else {
-        return Err(RunError::OutOfMemory);
-    };
-    let mut sink = Sink::new(out);
-    let mut watch = Stopwatch::new(MonotonicClock::new(rt));
-    run_here(
-        alloc,
-        &Arguments::new(alloc),
-        tests,
-        &mut sink,
-        &mut watch,
-        false,
-    )
+        line,
+        trials,
+        &mut rt.stdout(),
+        &mut rt.stderr(),
+        clock,
+    ))
 }

@@ -1,0 +1,342 @@
+//! The program over memory: statuses, reports, lists and texts by the words of its command line.
+use crate::mixed_bag::{Answer, MIXED_BAG, benchmark_answer, mixed_bag_trials, test_answer};
+use crate::program::harness_run;
+use libtest_mimic::{Arguments, Clock, Failed, Measurement, Sink, Stopwatch, Trial, run_here};
+use std::io::Write;
+use std::test::Fail;
+use std::{fs, io};
+
+// A clock that stands still.
+#[derive(Drop)]
+struct Still;
+
+impl Clock for Still {
+    fn now(&mut self) -> u64 {
+        0
+    }
+}
+
+const TWO_TESTS: &[u8] =
+    b"\nrunning 2 tests\ntest succeeding_test ... ok\ntest failing_test    ... FAILED\n\nfailures:\n\n---- failing_test ----\nWoops\n\n\nfailures:\n    failing_test\n\ntest result: FAILED. 1 passed; 1 failed; 0 ignored; 0 measured; 0 filtered out; finished in 0.00s\n\n";
+
+// A harness of one's own, which the README shows.
+#[test]
+fn runs_two_tests(rt: HostRuntime) -> Result<(), Fail> {
+    let alloc = rt.alloc();
+    let message = String::from_str(alloc, "Woops")?;
+    let succeeds: Box<dyn FnOnce() -> Result<(), Failed> + Send> = Box::new(alloc, || Ok(()))?;
+    let fails: Box<dyn FnOnce() -> Result<(), Failed> + Send> = Box::new(
+        alloc,
+        move || Err(Failed::with_message(message)),
+    )?;
+    let tests = vec![in alloc;
+        Trial::test(String::from_str(alloc, "succeeding_test")?, succeeds),
+        Trial::test(String::from_str(alloc, "failing_test")?, fails),
+    ]?;
+    let args = Arguments::new(alloc);
+    let mut sink = Sink::new(Vec::new(alloc));
+    let mut watch = Stopwatch::new(Still);
+    let conclusion = run_here(alloc, &args, tests, &mut sink, &mut watch, false)?;
+    assert!(rt; conclusion.has_failed());
+    assert!(rt; sink.into_inner().as_slice() == TWO_TESTS);
+    Ok(())
+}
+
+// What a run of the 17 trials leaves.
+#[derive(Drop)]
+struct Left {
+    status: u8,
+    out: String,
+    err: String,
+}
+
+// Runs the trials in one thread, with these words on the command line.
+fn run_words(rt: &HostRuntime, asked: &[&str]) -> Result<Left, Fail> {
+    let alloc = rt.alloc();
+    let mut words = vec![in alloc; "harness", "--test-threads", "1"]?;
+    words.extend_from_slice(asked)?;
+    let trials = mixed_bag_trials!(alloc);
+    let mut out: Vec<u8> = Vec::new(alloc);
+    let mut err: Vec<u8> = Vec::new(alloc);
+    let line = Arguments::from_iter(alloc, words.as_slice());
+    let status = harness_run(rt, alloc, line, trials, &mut out, &mut err, Still);
+    Ok(Left {
+        status,
+        out: String::from_utf8(out)?,
+        err: String::from_utf8(err)?,
+    })
+}
+
+// Words, and the line of counts of their report: those of the Rust crate's example of the same trials.
+#[test]
+fn counts_as_asked(rt: HostRuntime) -> Result<(), Fail> {
+    let rows: [(&[&str], &str); 10] = [
+        (
+            &[],
+            "4 passed; 5 failed; 8 ignored; 0 measured; 0 filtered out",
+        ),
+        (
+            &["--test"],
+            "2 passed; 3 failed; 12 ignored; 0 measured; 0 filtered out",
+        ),
+        (
+            &["--bench"],
+            "0 passed; 2 failed; 13 ignored; 2 measured; 0 filtered out",
+        ),
+        (
+            &["--include-ignored"],
+            "8 passed; 9 failed; 0 ignored; 0 measured; 0 filtered out",
+        ),
+        (
+            &["--ignored"],
+            "4 passed; 4 failed; 0 ignored; 0 measured; 9 filtered out",
+        ),
+        (
+            &["c"],
+            "1 passed; 0 failed; 1 ignored; 0 measured; 15 filtered out",
+        ),
+        (
+            &["--test", "o"],
+            "1 passed; 1 failed; 4 ignored; 0 measured; 11 filtered out",
+        ),
+        (
+            &["--test", "--include-ignored", "o"],
+            "2 passed; 2 failed; 2 ignored; 0 measured; 11 filtered out",
+        ),
+        (
+            &["--test", "--ignored", "o"],
+            "1 passed; 1 failed; 1 ignored; 0 measured; 14 filtered out",
+        ),
+        (
+            &["--include-ignored", "--skip", "g", "--test", "o"],
+            "1 passed; 1 failed; 1 ignored; 0 measured; 14 filtered out",
+        ),
+    ];
+    for (asked, counts) in rows {
+        let left = run_words(&rt, asked)?;
+        assert!(rt; left.out.as_str().contains(counts), "{asked:?}");
+        let has_failed = !counts.contains("0 failed");
+        assert_eq!(rt; left.status, if has_failed { 101 } else { 0 });
+        assert!(rt; left.err.is_empty());
+    }
+    Ok(())
+}
+
+#[test]
+fn shows_rows(rt: HostRuntime) -> Result<(), Fail> {
+    let left = run_words(&rt, &["--test", "--ignored", "o"])?;
+    assert!(rt;
+        left.out.as_str().starts_with(
+            "\nrunning 3 tests\ntest          frog   ... ok\ntest          owl    ... FAILED\ntest [banana] orange ... ignored\n"
+        )
+    );
+    let left = run_words(&rt, &["-q"])?;
+    assert!(rt;
+        left.out
+            .as_str()
+            .starts_with("\nrunning 17 tests\n.FF.Fiiii.F.Fiiii\n")
+    );
+    Ok(())
+}
+
+const LISTED: &str =
+    "cat: test\n[apple] fox: test\n[apple] bunny: test\n[banana] fly: test\n[banana] bear: test\ncyan: bench\n[banana] orange: bench\n[banana] pink: bench\n";
+
+// Words, and what they are answered.
+#[derive(Drop)]
+struct Answered {
+    asked: &'static [&'static str],
+    status: u8,
+    out: &'static str,
+}
+
+// What the Rust crate's program of the same trials answered to a fixed choice of words, with times of nothing.
+#[test]
+fn answers_as_the_rust_crate(rt: HostRuntime) -> Result<(), Fail> {
+    let answers = [
+        Answered {
+            asked: &["--bench", "-q", "--color", "always", "--skip", "e"],
+            status: 0,
+            out: "\nrunning 8 tests\n\u{1b}[33mi\u{1b}[0m\u{1b}[33mi\u{1b}[0m\u{1b}[33mi\u{1b}[0m\u{1b}[33mi\u{1b}[0m\u{1b}[33mi\u{1b}[0m\u{1b}[33mi\u{1b}[0m\u{1b}[33mi\u{1b}[0m\u{1b}[33mi\u{1b}[0m\ntest result: \u{1b}[32mok\u{1b}[0m. 0 passed; 0 failed; 8 ignored; 0 measured; 9 filtered out; finished in 0.00s\n\n",
+        },
+        Answered {
+            asked: &["--ignored", "--format=terse", "bear"],
+            status: 101,
+            out: "\nrunning 1 test\nF\nfailures:\n\n---- bear ----\nno honey\n\n\nfailures:\n    bear\n\ntest result: FAILED. 0 passed; 1 failed; 0 ignored; 0 measured; 16 filtered out; finished in 0.00s\n\n",
+        },
+        Answered {
+            asked: &["--exact", "--color=always", "cat"],
+            status: 0,
+            out: "\nrunning 1 test\ntest cat ... \u{1b}[32mok\u{1b}[0m\n\ntest result: \u{1b}[32mok\u{1b}[0m. 1 passed; 0 failed; 0 ignored; 0 measured; 16 filtered out; finished in 0.00s\n\n",
+        },
+        Answered {
+            asked: &["--include-ignored", "--bench", "[banana] o"],
+            status: 0,
+            out: "\nrunning 1 test\ntest [banana] orange ... bench:          17 ns/iter (+/- 6)\n\ntest result: ok. 0 passed; 0 failed; 0 ignored; 1 measured; 16 filtered out; finished in 0.00s\n\n",
+        },
+        Answered {
+            asked: &["--test", "--exact", "[apple] bunny"],
+            status: 101,
+            out: "\nrunning 1 test\ntest [apple] bunny ... FAILED\n\nfailures:\n\n---- bunny ----\njumped too high\n\n\nfailures:\n    bunny\n\ntest result: FAILED. 0 passed; 1 failed; 0 ignored; 0 measured; 16 filtered out; finished in 0.00s\n\n",
+        },
+        Answered {
+            asked: &["--list", "--color=always", "--quiet", "re"],
+            status: 0,
+            out: "red: bench\n[kiwi] green: bench\n",
+        },
+        Answered {
+            asked: &["--skip=", "-q"],
+            status: 0,
+            out: "\nrunning 0 tests\n\ntest result: ok. 0 passed; 0 failed; 0 ignored; 0 measured; 17 filtered out; finished in 0.00s\n\n",
+        },
+        Answered {
+            asked: &["] f", "-q"],
+            status: 0,
+            out: "\nrunning 2 tests\n.i\ntest result: ok. 1 passed; 0 failed; 1 ignored; 0 measured; 15 filtered out; finished in 0.00s\n\n",
+        },
+        Answered {
+            asked: &["--bench", "--exact", "--ignored", "purple"],
+            status: 0,
+            out: "\nrunning 1 test\ntest purple ... bench:         100 ns/iter (+/- 5)\n\ntest result: ok. 0 passed; 0 failed; 0 ignored; 1 measured; 16 filtered out; finished in 0.00s\n\n",
+        },
+        Answered {
+            asked: &[
+                "--nocapture",
+                "--show-output",
+                "-Zunstable-options",
+                "--exact",
+                "owl",
+            ],
+            status: 0,
+            out: "\nrunning 1 test\ntest owl ... ignored\n\ntest result: ok. 0 passed; 0 failed; 1 ignored; 0 measured; 16 filtered out; finished in 0.00s\n\n",
+        },
+    ];
+    for want in &answers {
+        let left = run_words(&rt, want.asked)?;
+        assert_eq!(rt; left.out.as_str(), want.out);
+        assert_eq!(rt; left.status, want.status);
+    }
+    Ok(())
+}
+
+// Words, and the list that they give.
+#[test]
+fn lists_as_asked(rt: HostRuntime) -> Result<(), Fail> {
+    let rows: [(&[&str], &str); 5] = [
+        (&["--list", "a"], LISTED),
+        (
+            &["--list", "--ignored"],
+            "frog: test\nowl: test\n[banana] fly: test\n[banana] bear: test\npurple: bench\ncyan: bench\n[banana] orange: bench\n[banana] pink: bench\n",
+        ),
+        (&["--list", "--exact", "[apple] fox"], "[apple] fox: test\n"),
+        (&["--list", "--exact", "fly"], "[banana] fly: test\n"),
+        (
+            &[
+                "--list",
+                "--exact",
+                "--skip",
+                "[apple] fox",
+                "--skip",
+                "fly",
+            ],
+            "cat: test\n\"ups\": test\ndog: test\n[apple] bunny: test\nfrog: test\nowl: test\n[banana] bear: test\nred: bench\nblue: bench\n[kiwi] yellow: bench\n[kiwi] green: bench\npurple: bench\ncyan: bench\n[banana] orange: bench\n[banana] pink: bench\n",
+        ),
+    ];
+    for (words, list) in rows {
+        let left = run_words(&rt, words)?;
+        assert_eq!(rt; left.out.as_str(), list);
+        assert_eq!(rt; left.status, 0);
+    }
+    Ok(())
+}
+
+#[test]
+fn refuses_lines(rt: HostRuntime) -> Result<(), Fail> {
+    let rows: [&[&str]; 3] = [
+        &["--test", "--bench"],
+        &["--quiet", "--format", "terse"],
+        &["--nope"],
+    ];
+    for words in rows {
+        let left = run_words(&rt, words)?;
+        assert_eq!(rt; left.status, 2);
+        assert!(rt; left.out.is_empty());
+        assert!(rt; left.err.as_str().starts_with("error: "));
+        assert!(rt; left.err.as_str().ends_with("\n"));
+    }
+    let left = run_words(&rt, &["--help"])?;
+    assert_eq!(rt; left.status, 0);
+    assert!(rt; left.out.as_str().ends_with("\n"));
+    assert!(rt; left.err.is_empty());
+    Ok(())
+}
+
+#[test]
+fn writes_a_logfile(rt: HostRuntime) -> Result<(), Fail> {
+    let alloc = rt.alloc();
+    let path = "/tmp/libtest_mimic_harness_logfile";
+    fs::write(
+        &rt,
+        path,
+        "what stood there before, and is longer than the list that comes",
+    )?;
+    let option = format!(in alloc; "--logfile={path}")?;
+    let left = run_words(&rt, &["--list", "a", option.as_str()])?;
+    let written = fs::read(&rt, path)?;
+    fs::remove_file(&rt, path)?;
+    assert_eq!(rt; left.status, 0);
+    assert!(rt; left.out.is_empty());
+    assert!(rt; written.as_slice() == LISTED.as_bytes());
+    let left = run_words(&rt, &["--logfile", "/nowhere/to/be/found"])?;
+    assert_eq!(rt; left.status, 1);
+    assert!(rt; left.out.is_empty());
+    assert_eq!(rt; left.err.as_str(), "harness: cannot create the logfile\n");
+    Ok(())
+}
+
+// Takes so many bytes, and then fails.
+#[derive(Drop)]
+struct Narrow {
+    room: usize,
+}
+
+impl Write for Narrow {
+    fn write(&mut self, buf: &[u8]) -> io::Result<usize> {
+        let count = buf.len().min(self.room);
+        if count == 0 {
+            return Err(io::Error::from(io::ErrorKind::BrokenPipe));
+        }
+        self.room -= count;
+        Ok(count)
+    }
+
+    fn flush(&mut self) -> io::Result<()> {
+        Ok(())
+    }
+}
+
+// A report and a list fail where there is no room for them, help does not.
+#[test]
+fn tells_of_a_full_output(rt: HostRuntime) -> Result<(), Fail> {
+    let alloc = rt.alloc();
+    for (words, room, status) in [
+        (["harness", "--list", "a"], LISTED.len(), 0),
+        (["harness", "--list", "a"], LISTED.len() - 1, 1),
+        (["harness", "--exact", "cat"], 20, 1),
+        (["harness", "--list", "--help"], 0, 0),
+    ] {
+        let trials = mixed_bag_trials!(alloc);
+        let mut out = Narrow { room };
+        let mut err: Vec<u8> = Vec::new(alloc);
+        let line = Arguments::from_iter(alloc, &words);
+        let answered = harness_run(&rt, alloc, line, trials, &mut out, &mut err, Still);
+        assert_eq!(rt; answered, status);
+        let text: &[u8] = if status == 1 {
+            b"harness: cannot write the report\n"
+        } else {
+            b""
+        };
+        assert!(rt; err.as_slice() == text);
+    }
+    Ok(())
+}
