@@ -51,7 +51,8 @@ pub(crate) fn harness_run<F: Files, O: Write, E: Write, C: Clock + Drop>(
             return SUCCESS;
         }
         Err(ArgumentsError::Refused(text)) => {
-            let _ = err.write_all(text.as_bytes());
+            // The texts of `clap` end with a line end, and others do not.
+            let _ = writeln!(err, "{}", text.as_str().trim_end());
             return REFUSED_LINE;
         }
     };

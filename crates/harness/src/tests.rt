@@ -1,7 +1,9 @@
 //! The program over memory: statuses, reports, lists and texts by the words of its command line.
 use crate::mixed_bag::{Answer, MIXED_BAG, benchmark_answer, mixed_bag_trials, test_answer};
 use crate::program::harness_run;
-use libtest_mimic::{Arguments, Clock, Failed, Measurement, Sink, Stopwatch, Trial, run_here};
+use libtest_mimic::{
+    Arguments, ArgumentsError, Clock, Failed, Measurement, Sink, Stopwatch, Trial, run_here,
+};
 use std::io::Write;
 use std::test::Fail;
 use std::{fs, io};
@@ -264,6 +266,13 @@ fn refuses_lines(rt: HostRuntime) -> Result<(), Fail> {
         assert!(rt; left.err.as_str().starts_with("error: "));
         assert!(rt; left.err.as_str().ends_with("\n"));
     }
+    let alloc = rt.alloc();
+    let line = Err(ArgumentsError::Refused(String::from_str(alloc, "no")?));
+    let mut out: Vec<u8> = Vec::new(alloc);
+    let mut err: Vec<u8> = Vec::new(alloc);
+    let status = harness_run(&rt, alloc, line, Vec::new(alloc), &mut out, &mut err, Still);
+    assert_eq!(rt; status, 2);
+    assert!(rt; err.as_slice() == b"no\n".as_slice());
     let left = run_words(&rt, &["--help"])?;
     assert_eq!(rt; left.status, 0);
     assert!(rt; left.out.as_str().ends_with("\n"));
