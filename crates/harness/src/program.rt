@@ -88,7 +88,7 @@ fn run_line<F: Files, O: Write, C: Clock + Drop>(
 
 // Runs, and hands on what the buffer holds at the end. Making the buffer fails only for want of memory, which its
 // error doesn't say by its type.
-fn run_into<W: Write + Drop, C: Clock + Drop>(
+pub(crate) fn run_into<W: Write + Drop, C: Clock + Drop>(
     alloc: Global,
     args: &Arguments,
     tests: Vec<Trial>,

@@ -1,6 +1,7 @@
 //! The program over memory: statuses, reports, lists and texts by the words of its command line.
 use crate::mixed_bag::{Answer, MIXED_BAG, benchmark_answer, mixed_bag_trials, test_answer};
-use crate::program::harness_run;
+use crate::output::Passing;
+use crate::program::{harness_run, run_into};
 use libtest_mimic::{
     Arguments, ArgumentsError, Clock, Failed, Measurement, Sink, Stopwatch, Trial, run_here,
 };
@@ -346,6 +347,22 @@ fn tells_of_a_full_output(rt: HostRuntime) -> Result<(), Fail> {
             b""
         };
         assert!(rt; err.as_slice() == text);
+    }
+    Ok(())
+}
+
+// A logfile gets its blocks at the end at the latest, and is told to be full then.
+#[test]
+fn tells_of_a_full_logfile(rt: HostRuntime) -> Result<(), Fail> {
+    let alloc = rt.alloc();
+    for (room, fits) in [(LISTED.len(), true), (LISTED.len() - 1, false)] {
+        let trials = mixed_bag_trials!(alloc);
+        let mut args = Arguments::new(alloc);
+        args.list = true;
+        args.filter = Some(String::from_str(alloc, "a")?);
+        let mut file = Narrow { room };
+        let ran = run_into(alloc, &args, trials, Passing::Blocks, &mut file, Still);
+        assert_eq!(rt; ran.is_ok(), fits);
     }
     Ok(())
 }
