@@ -1,4 +1,4 @@
-//! A harness of 17 trials, with all options.
+//! A harness of 17 trials, which reads a command line.
 #![tactic(auto)]
 
 mod clock;
