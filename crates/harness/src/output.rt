@@ -12,7 +12,7 @@ pub(crate) enum Passing {
     Blocks,
 }
 
-/// A buffered writer. What it holds is lost where it isn't finished.
+/// A buffered writer. Where it is dropped and not finished, what it holds is handed on, and no fault is told.
 #[derive(Drop)]
 pub(crate) struct Output<W: Write + Drop> {
     buffered: BufWriter<W>,
