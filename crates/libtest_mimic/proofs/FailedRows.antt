@@ -4,13 +4,15 @@ use Rattle.std.proofs.lemmas.List.{get_or-map, get_or_default}
 use Rattle.std.proofs.lemmas.List.Elements.{filter-append}
 use Rattle.std.proofs.lemmas.List.FromFn.{length-range_with_len, get_or-range_with_len}
 use Rattle.std.specs.List.{flat_map, list_any, range_with_len}
+use Rattle.libtest_mimic.specs.declared.args.FormatSetting.{FormatSetting}
+use Rattle.libtest_mimic.specs.declared.args.FormatSetting.TheVariants.{Pretty, Terse, Json}
 use Rattle.libtest_mimic.specs.declared.outcome.Outcome.{Outcome}
 use Rattle.libtest_mimic.specs.declared.outcome.Outcome.TheVariants.{Passed, Failed, Ignored, Measured}
 use Rattle.libtest_mimic.specs.declared.printer.Printer.{Printer}
 use Rattle.libtest_mimic.specs.declared.trial.TestInfo.{TestInfo}
 use Rattle.libtest_mimic.specs.Arrangement.{label_at, outcome_at, placed_at, rows_at}
 use Rattle.libtest_mimic.specs.Count.{is_failed}
-use Rattle.libtest_mimic.specs.Report.{failure_text, failed_name, row_failure, row_failed_name, failures_of, failures_text}
+use Rattle.libtest_mimic.specs.Report.{failure_text, failed_name, row_failure, row_failed_name, failures_of, failures_if_any, failures_in, failures_text}
 use Rattle.libtest_mimic.specs.Row.{Label, Row, label_of, row_of, outcomes_of}
 use Rattle.libtest_mimic.specs.Steps.{rows_from}
 
@@ -40,15 +42,15 @@ pub each_at : (f : Label → Outcome → List ℕ) (labels : List Label) (os : L
 each_at f labels os [] = refl
 each_at f labels os (p ∷ ps) = ap (λ l. f (label_at labels p) (outcome_at os p) ++ l) (each_at f labels os ps)
 
-pub failures_text-some : (p : Printer) (labels : List Label) (os : List Outcome) (order : List ℕ) → list_any (λ k. is_failed (outcome_at os k)) order ≡ true
-    → failures_text p (rows_at labels (placed_at order os)) ≡ failures_of (rows_at labels (placed_at order os))
-unfolding failures_text
-failures_text-some p labels os order h = let any = any_at labels os order ∙ h in rw any
+pub failures-some : (labels : List Label) (os : List Outcome) (order : List ℕ) → list_any (λ k. is_failed (outcome_at os k)) order ≡ true
+    → failures_if_any (rows_at labels (placed_at order os)) ≡ failures_of (rows_at labels (placed_at order os))
+unfolding failures_if_any
+failures-some labels os order h = let any = any_at labels os order ∙ h in rw any
 
-pub failures_text-none : (p : Printer) (labels : List Label) (os : List Outcome) (order : List ℕ) → list_any (λ k. is_failed (outcome_at os k)) order ≡ false
-    → failures_text p (rows_at labels (placed_at order os)) ≡ []
-unfolding failures_text
-failures_text-none p labels os order h = let any = any_at labels os order ∙ h in rw any
+pub failures-none : (labels : List Label) (os : List Outcome) (order : List ℕ) → list_any (λ k. is_failed (outcome_at os k)) order ≡ false
+    → failures_if_any (rows_at labels (placed_at order os)) ≡ []
+unfolding failures_if_any
+failures-none labels os order h = let any = any_at labels os order ∙ h in rw any
 
 -- ---- of the rows that failed alone
 
@@ -84,14 +86,22 @@ text-failed : (f : Row → List ℕ) → ((row : Row) → is_failed_row row ≡ 
 text-failed f none [] = refl
 text-failed f none (row ∷ rows) = text_step f none row (filter is_failed_row rows) (is_failed_row row) refl ∙ ap (λ t. f row ++ t) (text-failed f none rows)
 
--- the failures of all rows are those of the rows that failed
-pub failures_text-failed : (p : Printer) (rows : List Row) → failures_text p (filter is_failed_row rows) ≡ failures_text p rows
-unfolding failures_text
-failures_text-failed p rows =
+failures-failed : (rows : List Row) → failures_if_any (filter is_failed_row rows) ≡ failures_if_any rows
+unfolding failures_if_any
+failures-failed rows =
     let any = any-failed rows in
     let messages = text-failed row_failure (λ row. failure_text-none row.label row.outcome) rows in
     let names = text-failed row_failed_name (λ row. failed_name-none row.label row.outcome) rows in
     rw (any, messages, names)
+
+failures_in-failed : (f : FormatSetting) (rows : List Row) → failures_in f (filter is_failed_row rows) ≡ failures_in f rows
+failures_in-failed Pretty rows = failures-failed rows
+failures_in-failed Terse rows = failures-failed rows
+failures_in-failed Json rows = refl
+
+-- the failures of all rows are those of the rows that failed
+pub failures_text-failed : (p : Printer) (rows : List Row) → failures_text p (filter is_failed_row rows) ≡ failures_text p rows
+failures_text-failed p rows = failures_in-failed p.format rows
 
 -- ---- the rows that a tally kept
 

@@ -16,7 +16,7 @@ use Rattle.libtest_mimic.specs.declared.trial.Trial.{Trial}
 use Rattle.libtest_mimic.specs.Arrangement.{IsOwn, label_at}
 use Rattle.libtest_mimic.specs.Count.{is_failed}
 use Rattle.libtest_mimic.specs.Steps.{HasRoom}
-use Rattle.libtest_mimic.specs.Promise.{FitsNumbers, PromisesOutcome}
+use Rattle.libtest_mimic.specs.Promise.{FitsTypes, PromisesOutcome}
 use Rattle.libtest_mimic.specs.Report.{announcement_text, outcome_text, row_text, rows_text}
 use Rattle.libtest_mimic.specs.Row.{Row, label_of, outcomes_of}
 use Rattle.libtest_mimic.specs.Selection.{IsIgnored}
@@ -81,7 +81,7 @@ module _ {X Y : Type 0} {F : X → Type 0} {G : Y → Type 0} {g : _} {h : _} wh
 
 -- `Ignored` where the trial is ignored, and else the outcome of what its runner promises, is its own
 pub IsOwn-from_runner : {X Y : Type 0} {F : X → Type 0} {G : Y → Type 0} {g : _} {h : _} (args : Arguments) (t : Trial X Y F G g h) (r : Runner X Y F G g h) (b : Bool) (o : Outcome)
-    → (IsTrue b ↔ IsIgnored args t) → r ≡ runner_of t → MatchBool b (o ≡ Ignored) (PromisesOutcome r (not args.bench) o × FitsNumbers o) → IsOwn args t o
+    → (IsTrue b ↔ IsIgnored args t) → r ≡ runner_of t → MatchBool b (o ≡ Ignored) (PromisesOutcome r (not args.bench) o × FitsTypes o) → IsOwn args t o
 IsOwn-from_runner args t r true o says e own = inl (says.0 (search rules), own)
 IsOwn-from_runner {X} {Y} {F} {G} {g} {h} args t r false o says e own =
     let P : Runner X Y F G g h → Type 0 = λ x. PromisesOutcome x (not args.bench) o in

@@ -6,7 +6,7 @@ use Rattle.libtest_mimic.specs.declared.args.Arguments.{Arguments}
 use Rattle.libtest_mimic.specs.declared.trial.Trial.{Trial}
 use Rattle.libtest_mimic.specs.declared.outcome.Outcome.{Outcome}
 use Rattle.libtest_mimic.specs.declared.outcome.Outcome.TheVariants.{Passed, Ignored}
-use Rattle.libtest_mimic.specs.Promise.{FitsNumbers, PromisesOutcome}
+use Rattle.libtest_mimic.specs.Promise.{FitsTypes, PromisesOutcome}
 use Rattle.libtest_mimic.specs.Row.{Label, Row}
 use Rattle.libtest_mimic.specs.Selection.{IsIgnored}
 use Rattle.libtest_mimic.specs.Trial.{runner_of}
@@ -16,7 +16,7 @@ use Rattle.libtest_mimic.specs.Trial.{runner_of}
 -- a trial's own outcome: `Ignored` where it is ignored, else that of an answer which its runner promises in the mode of
 -- the run, with numbers that fit
 abbrev pub IsOwn : {X Y : Type 0} {F : X → Type 0} {G : Y → Type 0} {g : _} {h : _} → Arguments → Trial X Y F G g h → Outcome → Type 0
-IsOwn args trial o = (IsIgnored args trial × (o ≡ Ignored)) ⊎ (¬ IsIgnored args trial × PromisesOutcome (runner_of trial) (not args.bench) o × FitsNumbers o)
+IsOwn args trial o = (IsIgnored args trial × (o ≡ Ignored)) ⊎ (¬ IsIgnored args trial × PromisesOutcome (runner_of trial) (not args.bench) o × FitsTypes o)
 
 -- a place among the trials, counted from 0, and the outcome of the trial there
 abbrev pub Placed : Type 0

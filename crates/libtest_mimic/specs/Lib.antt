@@ -1,4 +1,6 @@
 pub mod Text
+pub mod Escape
+pub mod Seconds
 pub mod Failed
 pub mod Promise
 pub mod Count
@@ -12,6 +14,7 @@ pub mod Widths
 pub mod Trial
 pub mod Selection
 pub mod Arrangement
+pub mod Json
 pub mod Report
 pub mod List
 pub mod Run

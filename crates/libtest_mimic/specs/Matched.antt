@@ -11,7 +11,7 @@ use Rattle.libtest_mimic.specs.declared.args.Arguments.{Arguments}
 use Rattle.libtest_mimic.specs.declared.args.ColorSetting.{ColorSetting}
 use Rattle.libtest_mimic.specs.declared.args.ColorSetting.TheVariants.{Auto, Always, Never}
 use Rattle.libtest_mimic.specs.declared.args.FormatSetting.{FormatSetting}
-use Rattle.libtest_mimic.specs.declared.args.FormatSetting.TheVariants.{Pretty, Terse}
+use Rattle.libtest_mimic.specs.declared.args.FormatSetting.TheVariants.{Pretty, Terse, Json}
 use Rattle.libtest_mimic.specs.declared.args.UnstableFlags.{UnstableFlags}
 use Rattle.libtest_mimic.specs.declared.args.UnstableFlags.TheVariants.{UnstableOptions}
 
@@ -37,10 +37,11 @@ color_named t = if bytes_eq t (codes "auto") then Some Auto
     else (if bytes_eq t (codes "always") then Some Always
     else (if bytes_eq t (codes "never") then Some Never else None))
 
--- the format of this name (the Rust crate's, as far as formats are there)
+-- the format of this name (the Rust crate's)
 abbrev pub format_named : List ℕ → Option FormatSetting
 format_named t = if bytes_eq t (codes "pretty") then Some Pretty
-    else (if bytes_eq t (codes "terse") then Some Terse else None)
+    else (if bytes_eq t (codes "terse") then Some Terse
+    else (if bytes_eq t (codes "json") then Some Json else None))
 
 -- the one thing that `-Z` may ask for (the Rust crate's)
 abbrev pub unstable_named : List ℕ → Option UnstableFlags

@@ -1,5 +1,5 @@
 -- What runners promise to answer, and the outcome that an answer has.
-use Rattle.std.specs.Prelude.{◌≡◌, ◌<◌, ◌^◌, ℕ, List, Option, None, Some, Result, Ok, Err, Bool, true, false}
+use Rattle.std.specs.Prelude.{◌≡◌, ◌<◌, ◌^◌, ℕ, List, Option, None, Some, Result, Ok, Err, Bool, true, false, IfSome, IsUtf8}
 use Rattle.libtest_mimic.specs.declared.runner.TestRunner.{TestRunner}
 use Rattle.libtest_mimic.specs.declared.runner.BenchRunner.{BenchRunner}
 use Rattle.libtest_mimic.specs.declared.runner.Runner.{Runner}
@@ -33,12 +33,12 @@ outcome_of_bench false (Ok (Some m)) = Measured m
 outcome_of_bench false (Ok None) = Failed (Some not_measured_text)
 outcome_of_bench false (Err f) = Failed f
 
--- both numbers of a measurement are below 2^64 (our own: they are `u64`)
-abbrev pub FitsNumbers : Outcome → Type 0
-FitsNumbers Passed = Unit {0}
-FitsNumbers (Failed f) = Unit {0}
-FitsNumbers Ignored = Unit {0}
-FitsNumbers (Measured m) = (m.avg < 2 ^ 64) × (m.variance < 2 ^ 64)
+-- what the types of an outcome hold: both numbers of a measurement are below 2^64, and a message is text (our own)
+abbrev pub FitsTypes : Outcome → Type 0
+FitsTypes Passed = Unit {0}
+FitsTypes (Failed f) = IfSome f IsUtf8
+FitsTypes Ignored = Unit {0}
+FitsTypes (Measured m) = (m.avg < 2 ^ 64) × (m.variance < 2 ^ 64)
 
 -- the outcome is that of an answer which the runner promises in this mode
 abbrev pub PromisesOutcome : {X Y : Type 0} {F : X → Type 0} {G : Y → Type 0} {g : _} {h : _} → Runner X Y F G g h → Bool → Outcome → Type 0

@@ -2,12 +2,13 @@
 use Rattle.std.specs.Prelude.{ℕ, ◌/◌, ◌%◌, ◌==◌, nat_lt, if◌then◌else◌, List, [], ◌∷◌, ◌++◌, length, codes, decimal, Option, None, Some}
 use Rattle.std.specs.List.{concat, flat_map, list_any}
 use Rattle.libtest_mimic.specs.declared.args.FormatSetting.{FormatSetting}
-use Rattle.libtest_mimic.specs.declared.args.FormatSetting.TheVariants.{Pretty, Terse}
+use Rattle.libtest_mimic.specs.declared.args.FormatSetting.TheVariants.{Pretty, Terse, Json}
 use Rattle.libtest_mimic.specs.declared.printer.Printer.{Printer}
 use Rattle.libtest_mimic.specs.declared.outcome.Outcome.{Outcome}
 use Rattle.libtest_mimic.specs.declared.outcome.Outcome.TheVariants.{Passed, Failed, Ignored, Measured}
 use Rattle.libtest_mimic.specs.declared.outcome.conclusion.Conclusion.{Conclusion}
 use Rattle.libtest_mimic.specs.Text.{padded, right_aligned, kind_part, grouped, nearest_hundredths, two_digits}
+use Rattle.libtest_mimic.specs.Json.{json_announcement, json_outcome, json_summary, json_title}
 use Rattle.libtest_mimic.specs.Row.{Label, Row, outcomes_of}
 use Rattle.libtest_mimic.specs.Count.{is_failed, counts_of}
 
@@ -33,8 +34,16 @@ colour_end p = if p.colour then 27 ∷ codes "[0m" else []
 abbrev pub noun_text : ℕ → List ℕ
 noun_text n = if n == 1 then codes " test\n" else codes " tests\n"
 
-unfoldable pub title_text : Printer → ℕ → List ℕ
-title_text p n = concat (codes "\nrunning " ∷ decimal n ∷ noun_text n ∷ [])
+unfoldable pub running_title : ℕ → List ℕ
+running_title n = concat (codes "\nrunning " ∷ decimal n ∷ noun_text n ∷ [])
+
+abbrev pub title_in : FormatSetting → ℕ → List ℕ
+title_in Pretty n = running_title n
+title_in Terse n = running_title n
+title_in Json n = json_title n
+
+abbrev pub title_text : Printer → ℕ → List ℕ
+title_text p n = title_in p.format n
 
 -- ---- announcement of a trial
 
@@ -44,6 +53,7 @@ pretty_announcement p l = concat (codes "test " ∷ padded p.kind_width (kind_pa
 abbrev pub announcement_in : FormatSetting → Printer → Label → List ℕ
 announcement_in Pretty p l = pretty_announcement p l
 announcement_in Terse p l = []
+announcement_in Json p l = json_announcement l.name
 
 abbrev pub announcement_text : Printer → Label → List ℕ
 announcement_text p l = announcement_in p.format p l
@@ -78,12 +88,13 @@ terse_outcome p (Failed f) = outcome_mark p (Failed f) (codes "F")
 terse_outcome p Ignored = outcome_mark p Ignored (codes "i")
 terse_outcome p (Measured m) = outcome_line p (Measured m)
 
-abbrev pub outcome_in : FormatSetting → Printer → Outcome → List ℕ
-outcome_in Pretty p o = outcome_line p o
-outcome_in Terse p o = terse_outcome p o
+abbrev pub outcome_in : FormatSetting → Printer → Label → Outcome → List ℕ
+outcome_in Pretty p l o = outcome_line p o
+outcome_in Terse p l o = terse_outcome p o
+outcome_in Json p l o = json_outcome l.name o
 
 abbrev pub outcome_text : Printer → Label → Outcome → List ℕ
-outcome_text p l o = outcome_in p.format p o
+outcome_text p l o = outcome_in p.format p l o
 
 -- ---- rows
 
@@ -123,8 +134,17 @@ abbrev pub failures_of : List Row → List ℕ
 failures_of rows = concat (codes "\nfailures:\n\n" ∷ flat_map row_failure rows ∷ codes "\nfailures:\n" ∷ flat_map row_failed_name rows ∷ [])
 
 -- the messages and then the names of the rows that failed, and nothing where none did
-unfoldable pub failures_text : Printer → List Row → List ℕ
-failures_text p rows = if list_any is_failed (outcomes_of rows) then failures_of rows else []
+unfoldable pub failures_if_any : List Row → List ℕ
+failures_if_any rows = if list_any is_failed (outcomes_of rows) then failures_of rows else []
+
+-- JSON has the messages in the lines of the outcomes
+abbrev pub failures_in : FormatSetting → List Row → List ℕ
+failures_in Pretty rows = failures_if_any rows
+failures_in Terse rows = failures_if_any rows
+failures_in Json rows = []
+
+abbrev pub failures_text : Printer → List Row → List ℕ
+failures_text p rows = failures_in p.format rows
 
 -- ---- summary
 
@@ -132,13 +152,21 @@ failures_text p rows = if list_any is_failed (outcomes_of rows) then failures_of
 abbrev pub verdict_of : ℕ → Outcome
 verdict_of failed = if nat_lt 0 failed then Failed None else Passed
 
-unfoldable pub summary_text : Printer → Conclusion → ℕ → List ℕ
-summary_text p c nanos = concat (
+unfoldable pub result_summary : Printer → Conclusion → ℕ → List ℕ
+result_summary p c nanos = concat (
     codes "\ntest result: " ∷ colour_start p (verdict_of c.num_failed) ∷ outcome_word (verdict_of c.num_failed) ∷ colour_end p ∷ codes ". "
     ∷ decimal c.num_passed ∷ codes " passed; " ∷ decimal c.num_failed ∷ codes " failed; "
     ∷ decimal c.num_ignored ∷ codes " ignored; " ∷ decimal c.num_measured ∷ codes " measured; "
     ∷ decimal c.num_filtered_out ∷ codes " filtered out; finished in "
     ∷ decimal (nearest_hundredths nanos / 100) ∷ codes "." ∷ two_digits (nearest_hundredths nanos % 100) ∷ codes "s\n\n" ∷ [])
+
+abbrev pub summary_in : FormatSetting → Printer → Conclusion → ℕ → List ℕ
+summary_in Pretty p c nanos = result_summary p c nanos
+summary_in Terse p c nanos = result_summary p c nanos
+summary_in Json p c nanos = json_summary c nanos
+
+abbrev pub summary_text : Printer → Conclusion → ℕ → List ℕ
+summary_text p c nanos = summary_in p.format p c nanos
 
 -- ---- the whole
 

@@ -7,7 +7,7 @@ use Rattle.libtest_mimic.specs.declared.outcome.Outcome.TheVariants.{Passed, Fai
 use Rattle.libtest_mimic.specs.declared.outcome.conclusion.Conclusion.{Conclusion}
 use Rattle.libtest_mimic.specs.declared.printer.Printer.{Printer}
 use Rattle.libtest_mimic.specs.declared.printer.piece.Piece.{Piece}
-use Rattle.libtest_mimic.specs.declared.printer.piece.Piece.TheVariants.{Text, Number, TwoDigits, Spaces, Grouped}
+use Rattle.libtest_mimic.specs.declared.printer.piece.Piece.TheVariants.{Text, Number, TwoDigits, Spaces, Grouped, Escaped, Seconds}
 use Rattle.libtest_mimic.specs.declared.run.tally.Tally.{Tally}
 use Rattle.libtest_mimic.specs.declared.sink.Sink.{Sink}
 use Rattle.libtest_mimic.specs.declared.stopwatch.Readings.{Readings}
@@ -15,9 +15,11 @@ use Rattle.libtest_mimic.specs.declared.trial.TestInfo.{TestInfo}
 use Rattle.libtest_mimic.specs.declared.trial.Trial.{Trial}
 use Rattle.libtest_mimic.specs.Arrangement.{IsOwn, label_at, outcome_at}
 use Rattle.libtest_mimic.specs.Count.{is_failed, counts_of}
+use Rattle.libtest_mimic.specs.Escape.{escaped}
 use Rattle.libtest_mimic.specs.List.{list_line}
 use Rattle.libtest_mimic.specs.Report.{title_text, announcement_text, rows_text, report_text, failure_text, failed_name}
 use Rattle.libtest_mimic.specs.Row.{Label, Row, label_of, row_of, outcomes_of}
+use Rattle.libtest_mimic.specs.Seconds.{exact_seconds}
 use Rattle.libtest_mimic.specs.Sink.{Put, Stopped}
 use Rattle.libtest_mimic.specs.Stopwatch.{elapsed_of}
 use Rattle.libtest_mimic.specs.Text.{spaces, two_digits, right_aligned, grouped}
@@ -32,6 +34,8 @@ piece_text (Number n) = decimal n
 piece_text (TwoDigits n) = two_digits n
 piece_text (Spaces n) = spaces n
 piece_text (Grouped n width) = right_aligned width (grouped (decimal n))
+piece_text (Escaped t) = escaped t.now
+piece_text (Seconds n) = exact_seconds n
 
 abbrev pub pieces_text : List Piece → List ℕ
 pieces_text pieces = flat_map piece_text pieces

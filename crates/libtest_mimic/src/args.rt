@@ -29,6 +29,8 @@ pub enum FormatSetting {
     Pretty,
     /// One character for each trial, and one line for each measurement.
     Terse,
+    /// One object on each line, which tools read: two for each trial, and two more.
+    Json,
 }
 
 /// What `-Z` may ask for. It has no effect.

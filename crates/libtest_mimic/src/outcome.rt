@@ -1,7 +1,7 @@
 //! What becomes of trials: failures, measurements, outcomes and their counts.
 ghost use Rattle.std.specs.Prelude.{◌≡◌, ◌<◌, ◌^◌, ◌-◌};
 ghost use Rattle.libtest_mimic.specs.Count.{counts_of};
-ghost use Rattle.libtest_mimic.specs.Promise.{FitsNumbers, PromisesOutcome};
+ghost use Rattle.libtest_mimic.specs.Promise.{FitsTypes, PromisesOutcome};
 
 pub(crate) mod conclusion;
 pub(crate) mod failed;
@@ -32,7 +32,7 @@ pub enum Outcome {
 /// `Measured`, and a benchmark that measured nothing failed.
 pub fn run_single(runner: Runner, test_mode: bool) -> Outcome
     ensures own { PromisesOutcome runner test_mode result }
-    ensures fits { FitsNumbers result }
+    ensures fits { FitsTypes result }
 {
     match runner {
         Runner::Test(test) => match test.call() {

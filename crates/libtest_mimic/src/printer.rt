@@ -3,11 +3,12 @@ ghost use Rattle.std.specs.Prelude.{◌≡◌, ◌-◌, ◌^◌, ◌<◌, map, l
 ghost use Rattle.libtest_mimic.specs.Sink.{Puts, faults_of};
 ghost use Rattle.libtest_mimic.specs.Arrangement.{rows_at, placed_at};
 ghost use Rattle.libtest_mimic.specs.Row.{label_of};
-ghost use Rattle.libtest_mimic.specs.Report.{title_text, announcement_text, pretty_announcement, outcome_text, outcome_line, outcome_mark, terse_outcome, outcome_word, failures_text, verdict_of, noun_text, summary_text, colour_start, colour_end};
+ghost use Rattle.libtest_mimic.specs.Report.{title_text, announcement_text, pretty_announcement, outcome_text, outcome_line, outcome_mark, terse_outcome, outcome_word, failures_text, verdict_of, noun_text, running_title, result_summary, summary_text, colour_start, colour_end};
 ghost use Rattle.libtest_mimic.specs.List.{list_text, listed};
 
 mod columns;
 mod failures;
+mod json;
 mod list;
 pub(crate) mod piece;
 
@@ -54,7 +55,6 @@ impl Printer {
     }
 
     /// Writes the title: how many trials are run.
-    #[tactic(auto, unfolding(crate::specs::Report::title_text))]
     pub fn print_title<W: Write>(
         &self,
         sink: &mut Sink<W>,
@@ -63,16 +63,14 @@ impl Printer {
         requires { faults_of sink.old < 2 ^ 64 - 1 }
         ensures { Puts W.contents sink.old sink.new (title_text self.now num_tests) result }
     {
-        let pieces = [
-            Piece::Text("\nrunning "),
-            Piece::Number(num_tests),
-            Piece::Text(noun(num_tests)),
-        ];
-        put_pieces(sink, &pieces)
+        match self.format {
+            FormatSetting::Pretty | FormatSetting::Terse => put_running(sink, num_tests),
+            FormatSetting::Json => json::put_title(sink, num_tests),
+        }
     }
 
     /// Writes the announcement of a trial: in pretty its kind and its name, padded, with a flush, so
-    /// that it is seen before the trial runs. Terse has none.
+    /// that it is seen before the trial runs; in JSON a line with its name. Terse has none.
     pub fn print_test<W: Write>(
         &self,
         sink: &mut Sink<W>,
@@ -87,6 +85,7 @@ impl Printer {
                 sink.flush()
             }
             FormatSetting::Terse => Ok(()),
+            FormatSetting::Json => json::put_announcement(sink, info.name.as_str()),
         }
     }
 
@@ -110,7 +109,8 @@ impl Printer {
     }
 
     /// Writes the outcome of a trial: in pretty its word, what was measured and a line end, in terse
-    /// one character, or for a measurement the whole line as in pretty.
+    /// one character, or for a measurement the whole line as in pretty, and in JSON a line with its name,
+    /// its outcome, and the message or the measurement.
     pub fn print_single_outcome<W: Write>(
         &self,
         sink: &mut Sink<W>,
@@ -123,6 +123,7 @@ impl Printer {
         match self.format {
             FormatSetting::Pretty => self.print_outcome_line(sink, outcome),
             FormatSetting::Terse => self.print_outcome_terse(sink, outcome),
+            FormatSetting::Json => json::put_outcome(sink, info.name.as_str(), outcome),
         }
     }
 
@@ -197,7 +198,7 @@ impl Printer {
     }
 
     /// Writes the failures at the places of `order`, in that order: their messages, and then their
-    /// names. Writes nothing where no trial failed there.
+    /// names. Writes nothing where no trial failed there, and nothing in JSON.
     ///
     /// `outcomes` and `infos` are by place, counted from 0.
     pub fn print_failures<W: Write>(
@@ -213,15 +214,15 @@ impl Printer {
         ensures { Puts W.contents sink.old sink.new
             (failures_text self.now (rows_at (map label_of infos.now) (placed_at order.now outcomes.now))) result }
     {
-        if failures::any_failed(order, outcomes) {
-            failures::put_failures(sink, infos, order, outcomes)
-        } else {
-            Ok(())
+        match self.format {
+            FormatSetting::Pretty | FormatSetting::Terse => {
+                failures::put_if_any(sink, infos, order, outcomes)
+            }
+            FormatSetting::Json => Ok(()),
         }
     }
 
     /// Writes the summary: whether the run passed, its counts, and the time that it took.
-    #[tactic(auto, unfolding(crate::specs::Report::summary_text))]
     pub fn print_summary<W: Write>(
         &self,
         sink: &mut Sink<W>,
@@ -230,6 +231,24 @@ impl Printer {
     ) -> Result<(), WriteFault>
         requires { faults_of sink.old < 2 ^ 64 - 1 }
         ensures { Puts W.contents sink.old sink.new (summary_text self.now conclusion.now nanos) result }
+    {
+        match self.format {
+            FormatSetting::Pretty | FormatSetting::Terse => {
+                self.print_result(sink, conclusion, nanos)
+            }
+            FormatSetting::Json => json::put_summary(sink, conclusion, nanos),
+        }
+    }
+
+    #[tactic(auto, unfolding(crate::specs::Report::result_summary))]
+    fn print_result<W: Write>(
+        &self,
+        sink: &mut Sink<W>,
+        conclusion: &Conclusion,
+        nanos: u64,
+    ) -> Result<(), WriteFault>
+        requires { faults_of sink.old < 2 ^ 64 - 1 }
+        ensures { Puts W.contents sink.old sink.new (result_summary self.now conclusion.now nanos) result }
     {
         let verdict = verdict(conclusion.num_failed);
         let (seconds, rest) = hundredths(nanos);
@@ -293,6 +312,20 @@ impl Printer {
     {
         if self.colour { "\u{1b}[0m" } else { "" }
     }
+}
+
+// Writes the title in pretty and terse.
+#[tactic(auto, unfolding(crate::specs::Report::running_title))]
+fn put_running<W: Write>(sink: &mut Sink<W>, num_tests: u64) -> Result<(), WriteFault>
+    requires { faults_of sink.old < 2 ^ 64 - 1 }
+    ensures { Puts W.contents sink.old sink.new (running_title num_tests) result }
+{
+    let pieces = [
+        Piece::Text("\nrunning "),
+        Piece::Number(num_tests),
+        Piece::Text(noun(num_tests)),
+    ];
+    put_pieces(sink, &pieces)
 }
 
 fn noun(count: u64) -> &'static str

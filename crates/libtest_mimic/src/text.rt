@@ -1,19 +1,15 @@
-//! The small texts of reports: seconds and grouped numbers.
-ghost use Rattle.std.specs.Prelude.{◌≡◌, ◌/◌, ◌%◌, ◌≤◌, IfOk, length, take, decimal, string_bytes};
-ghost use Rattle.libtest_mimic.specs.Text.{grouped, without_commas, nearest_hundredths};
+//! The small texts of reports: grouped numbers, seconds, and texts in JSON.
+ghost use Rattle.std.specs.Prelude.{◌≡◌, ◌≤◌, IfOk, length, take, decimal, string_bytes};
+ghost use Rattle.libtest_mimic.specs.Text.{grouped, without_commas};
 
+pub(crate) mod escape;
+mod seconds;
+
+pub use escape::{Escaped, escape_char};
 use itoa::Buffer;
+pub use seconds::{exact_seconds, hundredths};
 use std::alloc::{AllocError, Global};
 use std::str;
-
-/// The nanoseconds as whole seconds and hundredths below 100, to the nearest hundredth, ties up.
-pub fn hundredths(nanos: u64) -> (u64, u8)
-    ensures seconds { result.0 ≡ nearest_hundredths nanos / 100 }
-    ensures rest { result.1 ≡ nearest_hundredths nanos % 100 }
-{
-    let all = (u128::from(nanos) + 5_000_000) / 10_000_000;
-    ((all / 100) as u64, (all % 100) as u8)
-}
 
 /// The number in decimal with a comma between groups of three digits, in the caller's buffer.
 ///

@@ -9,7 +9,7 @@ use std::alloc::{AllocError, Global};
 
 static COLORS: [&str; 3] = ["auto", "always", "never"];
 
-static FORMATS: [&str; 2] = ["pretty", "terse"];
+static FORMATS: [&str; 3] = ["pretty", "terse", "json"];
 
 static UNSTABLE: [&str; 1] = ["unstable-options"];
 
@@ -149,7 +149,7 @@ pub(super) fn format<'a>(alloc: Global) -> Arg<'a>
         alloc,
         "format",
         "FORMAT",
-        "Report in this format: pretty or terse",
+        "Report in this format: pretty, terse or json",
     );
     one_of(arg, FORMATS.as_slice())
 }

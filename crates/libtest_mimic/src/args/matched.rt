@@ -86,6 +86,7 @@ pub(super) fn format_of(matches: &ArgMatches<'_>) -> Option<FormatSetting>
     match text_under(matches, "format")? {
         "pretty" => Some(FormatSetting::Pretty),
         "terse" => Some(FormatSetting::Terse),
+        "json" => Some(FormatSetting::Json),
         _ => None,
     }
 }

@@ -3,7 +3,7 @@ ghost use Rattle.std.specs.Prelude.{◌≡◌, ◌-◌, ◌^◌, ◌<◌, map, l
 ghost use Rattle.std.specs.List.{flat_map, list_any};
 ghost use Rattle.libtest_mimic.specs.Arrangement.{rows_at, placed_at, outcome_at};
 ghost use Rattle.libtest_mimic.specs.Count.{is_failed};
-ghost use Rattle.libtest_mimic.specs.Report.{failure_text, failed_name, failures_of};
+ghost use Rattle.libtest_mimic.specs.Report.{failure_text, failed_name, failures_if_any, failures_of};
 ghost use Rattle.libtest_mimic.specs.Row.{label_of};
 ghost use Rattle.libtest_mimic.specs.Sink.{Puts, faults_of};
 ghost use Rattle.libtest_mimic.specs.Steps.{failure_at, failed_name_at};
@@ -14,8 +14,28 @@ use crate::sink::{Sink, WriteFault};
 use crate::trial::TestInfo;
 use std::io::Write;
 
+// Writes the failures at the places, and nothing where no trial failed there.
+pub(super) fn put_if_any<W: Write>(
+    sink: &mut Sink<W>,
+    infos: &[TestInfo],
+    order: &[usize],
+    outcomes: &[Outcome],
+) -> Result<(), WriteFault>
+    requires room { faults_of sink.old < 2 ^ 64 - 1 }
+    requires lengths { length infos.now ≡ length outcomes.now }
+    requires places { All (λ p. p < length infos.now) order.now }
+    ensures { Puts W.contents sink.old sink.new
+        (failures_if_any (rows_at (map label_of infos.now) (placed_at order.now outcomes.now))) result }
+{
+    if any_failed(order, outcomes) {
+        put_failures(sink, infos, order, outcomes)
+    } else {
+        Ok(())
+    }
+}
+
 // Whether a trial failed at one of the places.
-pub(super) fn any_failed(order: &[usize], outcomes: &[Outcome]) -> bool
+fn any_failed(order: &[usize], outcomes: &[Outcome]) -> bool
     requires { All (λ p. p < length outcomes.now) order.now }
     ensures { result ≡ list_any (λ p. is_failed (outcome_at outcomes.now p)) order.now }
 {
@@ -28,7 +48,7 @@ pub(super) fn any_failed(order: &[usize], outcomes: &[Outcome]) -> bool
 }
 
 // Writes the failures at the places, of which one at least is there.
-pub(super) fn put_failures<W: Write>(
+fn put_failures<W: Write>(
     sink: &mut Sink<W>,
     infos: &[TestInfo],
     order: &[usize],

@@ -1,11 +1,14 @@
 //! Texts that are written piece by piece, with no memory.
-ghost use Rattle.std.specs.Prelude.{◌≡◌, ◌-◌, ◌^◌, ◌<◌, ◌++◌, decimal};
+ghost use Rattle.std.specs.Prelude.{◌≡◌, ◌-◌, ◌^◌, ◌<◌, ◌++◌, decimal, length, slice_index, take};
+ghost use Rattle.std.specs.Option.{MatchOption};
 ghost use Rattle.libtest_mimic.specs.Sink.{Puts, faults_of};
+ghost use Rattle.libtest_mimic.specs.Escape.{escaped};
 ghost use Rattle.libtest_mimic.specs.Text.{spaces, right_aligned, grouped, kind_part};
 ghost use Rattle.libtest_mimic.specs.Steps.{pieces_text};
 
 use crate::sink::{Sink, WriteFault};
-use crate::text::thousands;
+use crate::text::escape::escape_byte;
+use crate::text::{exact_seconds, thousands};
 use itoa::Buffer;
 use std::io::Write;
 
@@ -22,6 +25,10 @@ pub(crate) enum Piece<'a> {
     Spaces(usize),
     /// The number with commas between groups of three digits, and spaces before it up to the width.
     Grouped { number: u64, width: usize },
+    /// The text as it stands between the quotes of a JSON string.
+    Escaped(&'a str),
+    /// Nanoseconds, as seconds in exact decimal.
+    Seconds(u64),
 }
 
 /// Writes the pieces one after another.
@@ -51,6 +58,8 @@ impl Piece<'_> {
             Piece::TwoDigits(number) => sink.put(&[b'0' + number / 10, b'0' + number % 10]),
             Piece::Spaces(count) => put_spaces(sink, count),
             Piece::Grouped { number, width } => put_grouped(sink, number, width),
+            Piece::Escaped(text) => put_escaped(sink, text.as_bytes()),
+            Piece::Seconds(nanos) => sink.put(exact_seconds(nanos, &mut [0; 32]).as_bytes()),
         }
     }
 }
@@ -79,6 +88,33 @@ fn put_grouped<W: Write>(sink: &mut Sink<W>, number: u64, width: usize) -> Resul
     let text = thousands(number, &mut buf);
     put_spaces(sink, width.saturating_sub(text.len()))?;
     sink.put(text.as_bytes())
+}
+
+// Writes the text with its escapes, and what lies between them at once.
+fn put_escaped<W: Write>(sink: &mut Sink<W>, text: &[u8]) -> Result<(), WriteFault>
+    requires { faults_of sink.old < 2 ^ 64 - 1 }
+    ensures { Puts W.contents sink.old sink.new (escaped text.now) result }
+{
+    let mut rest = text;
+    while let Some(at) = next_escape(rest) {
+        sink.put(&rest[..at])?;
+        sink.put(escape_byte(rest[at]).as_str().as_bytes())?;
+        rest = &rest[at + 1..];
+    }
+    sink.put(rest)
+}
+
+// Where the first byte stands that isn't written as it is.
+fn next_escape(text: &[u8]) -> Option<usize>
+    ensures { MatchOption result (escaped text.now ≡ text.now)
+        (λ at. (at < length text.now) × (slice_index text.now at < 128) × (escaped (take at text.now) ≡ take at text.now)) }
+{
+    for (at, byte) in text.iter().enumerate() {
+        if *byte < b' ' || *byte == b'"' || *byte == b'\\' {
+            return Some(at);
+        }
+    }
+    None
 }
 
 // What stands before and after a kind: brackets, and nothing for an empty kind.

@@ -1,7 +1,7 @@
 //! Runs trials in the calling thread, one after another.
 ghost use Rattle.std.specs.Prelude.{◌≡◌, ◌-◌, ◌^◌, ◌<◌, [], vec_len};
 ghost use Rattle.std.specs.Bool.{MatchBool};
-ghost use Rattle.libtest_mimic.specs.Promise.{FitsNumbers, PromisesOutcome};
+ghost use Rattle.libtest_mimic.specs.Promise.{FitsTypes, PromisesOutcome};
 ghost use Rattle.libtest_mimic.specs.Sink.{faults_of};
 ghost use Rattle.libtest_mimic.specs.Steps.{HasCounted, HasRoomFor, RowsRun, WritesReport};
 ghost use Rattle.libtest_mimic.specs.Stopwatch.{IsRunning};
@@ -72,7 +72,7 @@ fn run_rows<W: Write>(
 
 // The outcome of a call of the runner, or `Ignored` without a call.
 fn run_unless(ignored: bool, runner: Runner, test_mode: bool) -> Outcome
-    ensures { MatchBool ignored (result ≡ Outcome.Ignored) (PromisesOutcome runner test_mode result × FitsNumbers result) }
+    ensures { MatchBool ignored (result ≡ Outcome.Ignored) (PromisesOutcome runner test_mode result × FitsTypes result) }
 {
     if ignored {
         Outcome::Ignored

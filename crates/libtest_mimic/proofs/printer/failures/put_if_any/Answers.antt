@@ -2,17 +2,17 @@ use Rattle.std.proofs.Common.{sym, ◌∙◌, subst, map, List, ℕ}
 use Rattle.libtest_mimic.specs.Row.{label_of}
 use Rattle.libtest_mimic.specs.Sink.{Put, Puts}
 use Rattle.libtest_mimic.proofs.Appending.{Put-refl}
-use Rattle.libtest_mimic.proofs.FailedRows.{failures_text-some, failures_text-none}
-use Rattle.libtest_mimic.proofs.printer.Printer.print_failures.Goals as goal
+use Rattle.libtest_mimic.proofs.FailedRows.{failures-some, failures-none}
+use Rattle.libtest_mimic.proofs.printer.failures.put_if_any.Goals as goal
 
 pub returns-then-any_failed : goal.returns-then-any_failed
 returns-then-any_failed g c =
     let any = sym c.any_failed.ensures ∙ c.if-any_failed.true in
     let P : List ℕ → Type 0 = λ l. Puts g.W.Write.contents c.args.sink.now c.put_failures.new.sink l c.put_failures.result in
-    subst P (sym (failures_text-some c.args.self.now (map label_of c.args.infos.now) c.args.outcomes.now c.args.order.now any)) c.put_failures.ensures
+    subst P (sym (failures-some (map label_of c.args.infos.now) c.args.outcomes.now c.args.order.now any)) c.put_failures.ensures
 
 pub returns-else-any_failed : goal.returns-else-any_failed
 returns-else-any_failed g c =
     let none = sym c.any_failed.ensures ∙ c.if-any_failed.false in
     let P : List ℕ → Type 0 = λ l. Put g.W.Write.contents c.args.sink.now c.args.sink.now l in
-    subst P (sym (failures_text-none c.args.self.now (map label_of c.args.infos.now) c.args.outcomes.now c.args.order.now none)) (Put-refl g.W.Write.contents c.args.sink.now)
+    subst P (sym (failures-none (map label_of c.args.infos.now) c.args.outcomes.now c.args.order.now none)) (Put-refl g.W.Write.contents c.args.sink.now)

@@ -1,0 +1,108 @@
+//! How texts stand between the quotes of a JSON string.
+ghost use Rattle.std.specs.Prelude.{◌≡◌, ◌<◌, ◌≤◌, ◌/◌, ◌%◌, ◌∷◌, [], length};
+ghost use Rattle.std.specs.Char.{digit_char};
+ghost use Rattle.libtest_mimic.specs.Escape.{escape, escape_char, EscapesCharacters};
+
+use std::marker::Model;
+use std::str;
+
+/// A character as it stands there: at most six bytes.
+#[derive(Drop)]
+pub struct Escaped {
+    bytes: [u8; 6],
+    len: usize,
+}
+
+impl Model for Escaped {
+    ghost use Rattle.std.specs.Prelude.{◌≡◌, ◌≤◌, ℕ, List, take, true};
+    ghost use Rattle.std.specs.Str.{is_utf8};
+
+    ghost Value = { List ℕ };
+
+    ghost view = { λ e. take e.len e.bytes };
+
+    ghost invariant = { λ e. (e.len ≤ 6) × (is_utf8 (take e.len e.bytes) ≡ true) };
+}
+
+impl Escaped {
+    /// The text.
+    pub fn as_str(&self) -> &str
+        ensures { result.now ≡ self.now }
+    {
+        str::from_utf8(&self.bytes[..self.len]).unwrap()
+    }
+
+    fn of(text: &str) -> Escaped
+        requires { length text.now ≤ 6 }
+        ensures { result ≡ text.now }
+    {
+        let mut bytes = [0; 6];
+        bytes[..text.len()].copy_from_slice(text.as_bytes());
+        Escaped {
+            bytes,
+            len: text.len(),
+        }
+    }
+
+    fn control(byte: u8) -> Escaped
+        requires { byte < 32 }
+        ensures { result ≡ 92 ∷ 117 ∷ 48 ∷ 48 ∷ digit_char (byte / 16) ∷ digit_char (byte % 16) ∷ [] }
+    {
+        Escaped {
+            bytes: [
+                b'\\',
+                b'u',
+                b'0',
+                b'0',
+                hex_digit(byte / 16),
+                hex_digit(byte % 16),
+            ],
+            len: 6,
+        }
+    }
+}
+
+/// How a character is written between the quotes of a JSON string, in one spelling: a backslash and one
+/// character more where RFC 8259 has such a spelling and a slash is no such character, `\u00` and two
+/// small hexadecimal digits for other characters below U+0020, and else the character itself.
+pub fn escape_char(c: char) -> Escaped
+    ensures spelled { result ≡ escape_char c }
+
+    // To write a text character by character is to write it byte by byte.
+    ensures law { EscapesCharacters }
+{
+    if c.is_ascii() {
+        escape_byte(c as u8)
+    } else {
+        Escaped::of(c.encode_utf8(&mut [0; 4]))
+    }
+}
+
+// How a byte of a text is written, if it is a character by itself.
+pub(crate) fn escape_byte(byte: u8) -> Escaped
+    requires { byte < 128 }
+    ensures { result ≡ escape byte }
+{
+    match byte {
+        b'"' => Escaped::of("\\\""),
+        b'\\' => Escaped::of("\\\\"),
+        8 => Escaped::of("\\b"),
+        b'\t' => Escaped::of("\\t"),
+        b'\n' => Escaped::of("\\n"),
+        12 => Escaped::of("\\f"),
+        b'\r' => Escaped::of("\\r"),
+        _ if byte < b' ' => Escaped::control(byte),
+        _ => Escaped::of(char::from(byte).encode_utf8(&mut [0; 4])),
+    }
+}
+
+fn hex_digit(value: u8) -> u8
+    requires { value < 16 }
+    ensures { result ≡ digit_char value }
+{
+    if value < 10 {
+        b'0' + value
+    } else {
+        b'a' + (value - 10)
+    }
+}
