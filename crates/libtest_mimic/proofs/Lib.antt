@@ -2,6 +2,9 @@ pub mod Answered
 pub mod Appending
 pub mod Characters
 pub mod Counting
+pub mod Escapes
+pub mod Escaping
+pub mod ExactSeconds
 pub mod Excluding
 pub mod FailedRows
 pub mod FullName

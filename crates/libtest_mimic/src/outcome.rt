@@ -37,13 +37,13 @@ pub fn run_single(runner: Runner, test_mode: bool) -> Outcome
     match runner {
         Runner::Test(test) => match test.call() {
             Ok(()) => Outcome::Passed,
-            Err(failed) => Outcome::Failed(failed),
+            Err(failed) => failed.into_outcome(),
         },
         Runner::Bench(bench) => match bench.call(test_mode) {
             Ok(_) if test_mode => Outcome::Passed,
             Ok(Some(measured)) => Outcome::Measured(measured),
             Ok(None) => Outcome::Failed(Failed::not_measured()),
-            Err(reason) => Outcome::Failed(reason),
+            Err(reason) => reason.into_outcome(),
         },
     }
 }

@@ -1,10 +1,11 @@
 //! Why a trial failed.
-ghost use Rattle.std.specs.Prelude.{◌≡◌, Some, None, IsSome, IfSome, IfOk, string_bytes};
+ghost use Rattle.std.specs.Prelude.{◌≡◌, Some, None, IsSome, IfSome, IfOk, IsUtf8, string_bytes};
 ghost use Rattle.std.specs.Option.{option_copied};
 ghost use Rattle.std.specs.Cmp.Rules.{comparing};
 ghost use Rattle.std.proofs.Common.{rules};
 ghost use Rattle.libtest_mimic.specs.Failed.{not_measured_text, same_text};
 
+use crate::outcome::Outcome;
 use std::alloc::{AllocError, Global};
 use std::fmt::Display;
 use std::marker::Model;
@@ -25,12 +26,14 @@ enum Message {
 const NOT_MEASURED: &str = "bench runner returned `Ok(None)` in bench mode";
 
 impl Model for Failed {
-    ghost use Rattle.std.specs.Prelude.{ℕ, List, Option, option_map};
+    ghost use Rattle.std.specs.Prelude.{ℕ, List, Option, option_map, IfSome, IsUtf8};
     ghost use Rattle.libtest_mimic.specs.Failed.{message_text};
 
     ghost Value = { Option (List ℕ) };
 
     ghost view = { λ f. option_map message_text f.message };
+
+    ghost invariant = { λ f. IfSome (option_map message_text f.message) IsUtf8 };
 }
 
 impl Failed {
@@ -67,6 +70,15 @@ impl Failed {
         Failed {
             message: Some(Message::NotMeasured),
         }
+    }
+
+    // The outcome of a trial that failed so. That its message is text is known here, where the fields are.
+    pub(crate) fn into_outcome(self) -> Outcome
+        ensures outcome { result ≡ Outcome.Failed self }
+        ensures text { IfSome self IsUtf8 }
+    {
+        let _message = &self.message;
+        Outcome::Failed(self)
     }
 
     /// The message, if there is one.

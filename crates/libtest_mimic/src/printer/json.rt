@@ -37,10 +37,10 @@ pub(super) fn put_announcement<W: Write>(sink: &mut Sink<W>, name: &str) -> Resu
 }
 
 // Writes the line of an outcome.
-pub(super) fn put_outcome<W: Write>(
+pub(super) fn put_outcome<'a, W: Write>(
     sink: &mut Sink<W>,
-    name: &str,
-    outcome: &Outcome,
+    name: &'a str,
+    outcome: &'a Outcome,
 ) -> Result<(), WriteFault>
     requires { faults_of sink.old < 2 ^ 64 - 1 }
     ensures { Puts W.contents sink.old sink.new (json_outcome name.now outcome.now) result }
@@ -57,7 +57,11 @@ pub(super) fn put_outcome<W: Write>(
 }
 
 #[tactic(auto, unfolding(crate::specs::Json::json_event))]
-fn put_event<W: Write>(sink: &mut Sink<W>, name: &str, event: &str) -> Result<(), WriteFault>
+fn put_event<'a, W: Write>(
+    sink: &mut Sink<W>,
+    name: &'a str,
+    event: &'a str,
+) -> Result<(), WriteFault>
     requires { faults_of sink.old < 2 ^ 64 - 1 }
     ensures { Puts W.contents sink.old sink.new (json_event name.now event.now) result }
 {
@@ -72,7 +76,11 @@ fn put_event<W: Write>(sink: &mut Sink<W>, name: &str, event: &str) -> Result<()
 }
 
 #[tactic(auto, unfolding(crate::specs::Json::json_failure))]
-fn put_failure<W: Write>(sink: &mut Sink<W>, name: &str, message: &str) -> Result<(), WriteFault>
+fn put_failure<'a, W: Write>(
+    sink: &mut Sink<W>,
+    name: &'a str,
+    message: &'a str,
+) -> Result<(), WriteFault>
     requires { faults_of sink.old < 2 ^ 64 - 1 }
     ensures { Puts W.contents sink.old sink.new (json_failure name.now message.now) result }
 {

@@ -56,12 +56,13 @@ fn write_fraction(rest: u64, buf: &mut [u8; 32], start: usize) -> usize
     ensures written { take result buf.new ≡ take start buf.old ++ fraction_digits 9 rest }
 {
     let mut left = rest;
-    let mut unit = NANOS_PER_SECOND / 10;
+    let mut places = 9;
     let mut at = start;
     while left > 0 {
+        places -= 1;
+        let unit = 10_u64.pow(places);
         buf[at] = b'0' + (left / unit) as u8;
         left %= unit;
-        unit /= 10;
         at += 1;
     }
     at
