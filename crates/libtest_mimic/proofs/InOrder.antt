@@ -99,6 +99,7 @@ module _ {X Y : Type 0} {F : X → Type 0} {G : Y → Type 0} {g : _} {h : _} (a
             };
             nanos = s.nanos;
             elapsed = s.elapsed;
+            fits = s.fits;
             appended = subst Q (sym rows) s.appended;
             counts = s.counts ∙ ap (λ l. counts_of (outcomes_of l) filtered_out) (sym rows);
           },

@@ -10,6 +10,9 @@ pub mod FailedRows
 pub mod FullName
 pub mod Grouping
 pub mod InOrder
+pub mod JsonLines
+pub mod JsonReports
+pub mod JsonRuns
 pub mod Listing
 pub mod Measured
 pub mod OnlyOutcomes

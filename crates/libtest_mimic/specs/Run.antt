@@ -1,8 +1,10 @@
 -- What a run answers, and what it leaves in the sink and on the watch.
-use Rattle.std.specs.Prelude.{◌≡◌, ◌≢◌, ℕ, ◌-◌, ◌<◌, ◌≤◌, List, [], ◌++◌, length, take, Option, Some, Result, MatchResult, Bool, IfOk, false, slice_index_or, All}
+use Rattle.std.specs.Prelude.{◌≡◌, ◌≢◌, ℕ, ◌+◌, ◌*◌, ◌-◌, ◌^◌, ◌<◌, ◌≤◌, List, [], ◌++◌, length, take, Option, Some, Result, MatchResult, Bool, IfOk, false, slice_index_or, All}
 use Rattle.std.specs.Bool.{MatchBool}
+use Rattle.std.specs.Io.KnownBytes.{Appends}
 use Rattle.std.specs.List.{range_with_len}
 use Rattle.libtest_mimic.specs.declared.args.Arguments.{Arguments}
+use Rattle.libtest_mimic.specs.declared.args.FormatSetting.TheVariants.{Json}
 use Rattle.libtest_mimic.specs.declared.trial.Trial.{Trial}
 use Rattle.libtest_mimic.specs.declared.printer.Printer.{Printer}
 use Rattle.libtest_mimic.specs.declared.outcome.Outcome.{Outcome}
@@ -14,11 +16,12 @@ use Rattle.libtest_mimic.specs.declared.run.RunError.TheVariants.{OutOfMemory, W
 use Rattle.libtest_mimic.specs.Arguments.{format_of, colours_of}
 use Rattle.libtest_mimic.specs.Arrangement.{Placed, places_of, IsOwnAt, IsArrangement, InOrder, label_at, rows_at, OnlyOwn}
 use Rattle.libtest_mimic.specs.Count.{counts_of}
+use Rattle.libtest_mimic.specs.Json.{line_ends}
 use Rattle.libtest_mimic.specs.List.{list_text}
 use Rattle.libtest_mimic.specs.Report.{title_text, announcement_text, rows_text, report_text}
 use Rattle.libtest_mimic.specs.Row.{Label, outcomes_of}
 use Rattle.libtest_mimic.specs.Selection.{IsSelection}
-use Rattle.libtest_mimic.specs.Sink.{Put, Stopped}
+use Rattle.libtest_mimic.specs.Sink.{Put, Stopped, writer_of}
 use Rattle.libtest_mimic.specs.Stopwatch.{elapsed_of, IsRunning}
 use Rattle.libtest_mimic.specs.Trial.{labels_of}
 use Rattle.libtest_mimic.specs.Widths.{name_width_of, kind_width_of}
@@ -40,6 +43,7 @@ module _ {X Y : Type 0} {F : X → Type 0} {G : Y → Type 0} {g : _} {h : _} {W
     pub arranged : IsArrangement args trials placed
     pub nanos : ℕ
     pub elapsed : elapsed_of watch ≡ Some nanos
+    pub fits : nanos < 2 ^ 64
     pub appended : Put contents old new (report_text p (rows_at (labels_of trials) placed) filtered_out nanos)
     pub counts : c ≡ counts_of (outcomes_of (rows_at (labels_of trials) placed)) filtered_out
 
@@ -95,3 +99,13 @@ abbrev pub HasAnswer : {X Y : Type 0} {F : X → Type 0} {G : Y → Type 0} {g :
 HasAnswer {X} {Y} {F} {G} {g} {h} args trials result =
     (selected : List (Trial X Y F G g h)) (os : List Outcome) → args.list ≡ false → IsSelection args trials selected → OnlyOwn args selected os
     → IfOk result (λ c. c ≡ counts_of os (length trials - length selected))
+
+-- a text was appended in which so many lines end
+abbrev pub AppendsLines : Option (List ℕ) → Option (List ℕ) → ℕ → Type 0
+AppendsLines before after count = (text : List ℕ) × Appends before after text × (line_ends text ≡ count)
+
+-- a report in JSON has two lines for each selected trial, and two more
+abbrev pub HasLines : {X Y : Type 0} {F : X → Type 0} {G : Y → Type 0} {g : _} {h : _} {W : Type 0} → (W → Option (List ℕ)) → Arguments → List (Trial X Y F G g h) → Sink W → Sink W → Result Conclusion RunError → Type 0
+HasLines {X} {Y} {F} {G} {g} {h} contents args trials old new result =
+    (selected : List (Trial X Y F G g h)) → args.list ≡ false → format_of args ≡ Json → IsSelection args trials selected
+    → IfOk result (λ c. AppendsLines (contents (writer_of old)) (contents (writer_of new)) (2 * length selected + 2))

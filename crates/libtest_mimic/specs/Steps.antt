@@ -138,6 +138,7 @@ module _ {X Y : Type 0} {F : X → Type 0} {G : Y → Type 0} {g : _} {h : _} {W
     pub all : length rows ≡ length trials
     pub nanos : ℕ
     pub elapsed : elapsed_of watch ≡ Some nanos
+    pub fits : nanos < 2 ^ 64
     pub appended : Put contents old new (report_text p rows filtered_out nanos)
     pub counts : c ≡ counts_of (outcomes_of rows) filtered_out
 

@@ -1,7 +1,7 @@
 //! Runs trials and writes their report.
 ghost use Rattle.std.specs.Prelude.{◌≡◌, ◌-◌, ◌^◌, ◌<◌, false, IfOk, IsFalse, ◌↔◌, length, vec_len};
 ghost use Rattle.libtest_mimic.specs.Count.{total_of};
-ghost use Rattle.libtest_mimic.specs.Run.{HasAnswer, RanHere, RanInOrder, WritesList, printer_for};
+ghost use Rattle.libtest_mimic.specs.Run.{HasAnswer, HasLines, RanHere, RanInOrder, WritesList, printer_for};
 ghost use Rattle.libtest_mimic.specs.Selection.{IsDropped, IsSelection};
 ghost use Rattle.libtest_mimic.specs.Sink.{faults_of};
 ghost use Rattle.libtest_mimic.specs.Stopwatch.{IsFresh, IsRunning};
@@ -57,6 +57,7 @@ pub fn run_here<W: Write, C: Clock>(
     // The answer is fixed where each trial has just one own outcome.
     ensures answer { HasAnswer args.now tests.items result }
     ensures adds_up { args.now.list ≡ false → IfOk result (λ c. total_of c ≡ vec_len tests) }
+    ensures lines { HasLines W.contents args.now tests.items sink.old sink.new result }
 {
     watch.start();
     let mut selected = tests;

@@ -109,6 +109,7 @@ returns g c =
       all = written.all;
       nanos = c.unwrap_or-nanos.result;
       elapsed = time;
+      fits = c.unwrap_or-nanos.type_inv;
       appended = Put_after _ _ report c.in_ok-flush.ensures;
       counts = c.into_conclusion.ensures ∙ written.tally.counts;
     }
