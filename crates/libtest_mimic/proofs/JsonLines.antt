@@ -63,9 +63,9 @@ one_plain b h = let other : eqb b 10 ≡ false = ne_eqb b 10 (λ e. omega (arith
 
 escape_ends : (b : ℕ) → line_ends (escape b) ≡ 0
 escape_ends b = elim (cases_lt b 93) [
-    | inl lt ↦ eqb-true _ _ (one_below (λ c. eqb (line_ends (escape c)) 0) 93 b low_escapes lt)
-    | inr le ↦ rw (escape-high b le) (one_plain b le)
-  ]
+  | inl lt ↦ eqb-true _ _ (one_below (λ c. eqb (line_ends (escape c)) 0) 93 b low_escapes lt)
+  | inr le ↦ rw (escape-high b le) (one_plain b le)
+]
 
 escaped_ends : (text : List ℕ) → line_ends (escaped text) ≡ 0
 unfolding escaped
@@ -118,13 +118,13 @@ event_ends name event h = ends-concat (codes "{ \"type\": \"test\", \"name\": \"
 failure_ends : (name message : List ℕ) → line_ends (json_failure name message) ≡ 1
 unfolding json_failure
 failure_ends name message = ends-concat (codes "{ \"type\": \"test\", \"name\": \"" ∷ escaped name
-        ∷ codes "\", \"event\": \"failed\", \"stdout\": \"Error: \\\"" ∷ escaped message ∷ codes "\\\"\\n\" }\n" ∷ [])
+    ∷ codes "\", \"event\": \"failed\", \"stdout\": \"Error: \\\"" ∷ escaped message ∷ codes "\\\"\\n\" }\n" ∷ [])
     ∙ rw (escaped_ends name, escaped_ends message) refl
 
 measurement_ends : (name : List ℕ) (avg variance : ℕ) → avg < 2 ^ 64 → variance < 2 ^ 64 → line_ends (json_measurement name avg variance) ≡ 1
 unfolding json_measurement
 measurement_ends name avg variance h k = ends-concat (codes "{ \"type\": \"bench\", \"name\": \"" ∷ escaped name
-        ∷ codes "\", \"median\": " ∷ decimal avg ∷ codes ", \"deviation\": " ∷ decimal variance ∷ codes " }\n" ∷ [])
+    ∷ codes "\", \"median\": " ∷ decimal avg ∷ codes ", \"deviation\": " ∷ decimal variance ∷ codes " }\n" ∷ [])
     ∙ rw (escaped_ends name, decimal_ends avg h, decimal_ends variance k) refl
 
 outcome_ends : (name : List ℕ) (o : Outcome) → FitsTypes o → line_ends (json_outcome name o) ≡ 1
@@ -155,11 +155,18 @@ summary_ends : (c : Conclusion) (nanos : ℕ) → SmallCounts c → nanos < 2 ^ 
 unfolding json_summary
 summary_ends c nanos h k =
     ends-concat (codes "{ \"type\": \"suite\", \"event\": \"" ∷ json_verdict c.num_failed
-        ∷ codes "\", \"passed\": " ∷ decimal c.num_passed ∷ codes ", \"failed\": " ∷ decimal c.num_failed
-        ∷ codes ", \"ignored\": " ∷ decimal c.num_ignored ∷ codes ", \"measured\": " ∷ decimal c.num_measured
-        ∷ codes ", \"filtered_out\": " ∷ decimal c.num_filtered_out ∷ codes ", \"exec_time\": " ∷ exact_seconds nanos ∷ codes " }\n" ∷ [])
-    ∙ rw (verdict_ends c.num_failed, decimal_ends c.num_passed h.passed, decimal_ends c.num_failed h.failed, decimal_ends c.num_ignored h.ignored,
-    decimal_ends c.num_measured h.measured, decimal_ends c.num_filtered_out h.filtered_out, seconds_ends nanos k) refl
+    ∷ codes "\", \"passed\": " ∷ decimal c.num_passed ∷ codes ", \"failed\": " ∷ decimal c.num_failed
+    ∷ codes ", \"ignored\": " ∷ decimal c.num_ignored ∷ codes ", \"measured\": " ∷ decimal c.num_measured
+    ∷ codes ", \"filtered_out\": " ∷ decimal c.num_filtered_out ∷ codes ", \"exec_time\": " ∷ exact_seconds nanos ∷ codes " }\n" ∷ [])
+    ∙ rw (
+      verdict_ends c.num_failed,
+      decimal_ends c.num_passed h.passed,
+      decimal_ends c.num_failed h.failed,
+      decimal_ends c.num_ignored h.ignored,
+      decimal_ends c.num_measured h.measured,
+      decimal_ends c.num_filtered_out h.filtered_out,
+      seconds_ends nanos k,
+    ) refl
 
 -- ---- the whole
 
@@ -176,5 +183,8 @@ unfolding json_report
 report_ends c fits few filtered nanos =
     let count : length (map (λ (entry : Entry). entry.outcome) c.entries) < 2 ^ 64 = omega (arith, length-map c.entries (λ (entry : Entry). entry.outcome), few) in
     ends-concat (json_title (length c.entries) ∷ flat_map entry_lines c.entries ∷ json_summary (conclusion_of c) c.nanos ∷ [])
-    ∙ rw (title_ends (length c.entries) few, entries_end c.entries fits,
-    summary_ends (conclusion_of c) c.nanos (small_counts (map (λ (entry : Entry). entry.outcome) c.entries) c.filtered_out count filtered) nanos) (omega arith)
+    ∙ rw (
+      title_ends (length c.entries) few,
+      entries_end c.entries fits,
+      summary_ends (conclusion_of c) c.nanos (small_counts (map (λ (entry : Entry). entry.outcome) c.entries) c.filtered_out count filtered) nanos,
+    ) (omega arith)

@@ -94,8 +94,8 @@ fn refuses_lines(rt: HostRuntime) -> Result<(), Fail> {
         ["harness", "--list", "-V"],
         ["harness", "--list=true", "a"],
         ["harness", "--nope", "a"],
-        ["harness", "--format=json", "a"],
-        ["harness", "--quiet", "--format=pretty"],
+        ["harness", "--format=xml", "a"],
+        ["harness", "--quiet", "--format=json"],
         ["harness", "--lis", "a"],
     ];
     for line in &lines {

@@ -1,16 +1,43 @@
 //! Writers that fail: what they hold then, what is answered, and which runners were called.
-use super::reports::TWO_TESTS;
+use super::reports::{TWO_TESTS, TWO_TESTS_JSON, TWO_TESTS_TERSE};
 use super::test_trial;
 use super::writers::{Full, Limited, stopped_clock};
-use crate::{Arguments, Failed, RunError, Sink, Stopwatch, Trial, WriteFault, run_here};
+use crate::{
+    Arguments, Failed, FormatSetting, RunError, Sink, Stopwatch, Trial, WriteFault, run_here,
+};
 use std::sync::Arc;
 use std::sync::atomic::{AtomicBool, Ordering};
 use std::test::Fail;
 
-// Where the announcement of each test has ended, and its runner is called.
-const FIRST_RUNS_AT: usize = 42;
+// A report of the two tests, and after how many bytes of it each test runs: where its announcement has ended.
+#[derive(Clone, Copy)]
+struct Written {
+    format: FormatSetting,
+    report: &'static [u8],
+    first_runs_at: usize,
+    second_runs_at: usize,
+}
 
-const SECOND_RUNS_AT: usize = 70;
+const PRETTY: Written = Written {
+    format: FormatSetting::Pretty,
+    report: TWO_TESTS,
+    first_runs_at: 42,
+    second_runs_at: 70,
+};
+
+const TERSE: Written = Written {
+    format: FormatSetting::Terse,
+    report: TWO_TESTS_TERSE,
+    first_runs_at: 17,
+    second_runs_at: 18,
+};
+
+const JSON: Written = Written {
+    format: FormatSetting::Json,
+    report: TWO_TESTS_JSON,
+    first_runs_at: 123,
+    second_runs_at: 247,
+};
 
 // What a run of the two tests leaves.
 #[derive(Drop)]
@@ -22,7 +49,7 @@ struct Left {
     second_ran: bool,
 }
 
-fn run_two(rt: &HostRuntime, writer: Limited) -> Result<Left, Fail> {
+fn run_two(rt: &HostRuntime, format: FormatSetting, writer: Limited) -> Result<Left, Fail> {
     let alloc = rt.alloc();
     let woops = String::from_str(alloc, "Woops")?;
     let first = Arc::new(alloc, AtomicBool::new(false))?;
@@ -41,7 +68,8 @@ fn run_two(rt: &HostRuntime, writer: Limited) -> Result<Left, Fail> {
     ]?;
     let mut sink = Sink::new(writer);
     let mut watch = Stopwatch::new(stopped_clock());
-    let args = Arguments::new(alloc);
+    let mut args = Arguments::new(alloc);
+    args.format = Some(format);
     let fault = match run_here(alloc, &args, tests, &mut sink, &mut watch, false) {
         Ok(_) => None,
         Err(RunError::Write(fault)) => Some(fault),
@@ -58,52 +86,68 @@ fn run_two(rt: &HostRuntime, writer: Limited) -> Result<Left, Fail> {
 
 #[test]
 fn stops_at_each_byte(rt: HostRuntime) -> Result<(), Fail> {
-    for most in [1, usize::MAX] {
-        for full in [Full::Fails, Full::TakesNone] {
-            for room in 0..=TWO_TESTS.len() {
-                let left = run_two(
-                    &rt,
-                    Limited {
-                        bytes: Vec::new(rt.alloc()),
-                        room,
-                        most,
-                        full,
-                        flushes: 0,
-                        failing_flush: 0,
-                    },
-                )?;
-                assert!(rt;
-                    left.writer.bytes.as_slice() == &TWO_TESTS[..room],
-                    "room {room}"
-                );
-                assert_eq!(rt;
-                    left.faults,
-                    u64::from(room < TWO_TESTS.len()),
-                    "room {room}"
-                );
-                assert_eq!(rt; left.first_ran, room >= FIRST_RUNS_AT, "room {room}");
-                assert_eq!(rt; left.second_ran, room >= SECOND_RUNS_AT, "room {room}");
-                match left.fault {
-                    None => assert!(rt; room == TWO_TESTS.len()),
-                    Some(WriteFault::Error(_)) => assert!(rt; full == Full::Fails),
-                    Some(WriteFault::Zero) => assert!(rt; full == Full::TakesNone),
-                }
+    let ways = [
+        (PRETTY, 1, Full::Fails),
+        (PRETTY, 1, Full::TakesNone),
+        (PRETTY, usize::MAX, Full::Fails),
+        (PRETTY, usize::MAX, Full::TakesNone),
+        (TERSE, 1, Full::Fails),
+        (JSON, 1, Full::Fails),
+        (JSON, usize::MAX, Full::TakesNone),
+    ];
+    for (written, most, full) in ways {
+        for room in 0..=written.report.len() {
+            let left = run_two(
+                &rt,
+                written.format,
+                Limited {
+                    bytes: Vec::new(rt.alloc()),
+                    room,
+                    most,
+                    full,
+                    flushes: 0,
+                    failing_flush: 0,
+                },
+            )?;
+            let whole = room == written.report.len();
+            assert!(rt;
+                left.writer.bytes.as_slice() == &written.report[..room],
+                "room {room}"
+            );
+            assert_eq!(rt; left.faults, u64::from(!whole), "room {room}");
+            assert_eq!(rt;
+                left.first_ran,
+                room >= written.first_runs_at,
+                "room {room}"
+            );
+            assert_eq!(rt;
+                left.second_ran,
+                room >= written.second_runs_at,
+                "room {room}"
+            );
+            match left.fault {
+                None => assert!(rt; whole),
+                Some(WriteFault::Error(_)) => assert!(rt; full == Full::Fails),
+                Some(WriteFault::Zero) => assert!(rt; full == Full::TakesNone),
             }
         }
     }
     Ok(())
 }
 
-// Pretty flushes after each announcement and once at the end.
+// Pretty flushes after each announcement and once at the end, the others once at the end.
 #[test]
 fn stops_at_each_flush(rt: HostRuntime) -> Result<(), Fail> {
-    for (failing_flush, len) in [
-        (1, FIRST_RUNS_AT),
-        (2, SECOND_RUNS_AT),
-        (3, TWO_TESTS.len()),
+    for (written, failing_flush, len) in [
+        (PRETTY, 1, PRETTY.first_runs_at),
+        (PRETTY, 2, PRETTY.second_runs_at),
+        (PRETTY, 3, PRETTY.report.len()),
+        (TERSE, 1, TERSE.report.len()),
+        (JSON, 1, JSON.report.len()),
     ] {
         let left = run_two(
             &rt,
+            written.format,
             Limited {
                 bytes: Vec::new(rt.alloc()),
                 room: usize::MAX,
@@ -115,9 +159,9 @@ fn stops_at_each_flush(rt: HostRuntime) -> Result<(), Fail> {
         )?;
         assert!(rt; matches!(left.fault, Some(WriteFault::Error(_))));
         assert_eq!(rt; left.faults, 1);
-        assert!(rt; left.writer.bytes.as_slice() == &TWO_TESTS[..len]);
-        assert_eq!(rt; left.first_ran, failing_flush > 1);
-        assert_eq!(rt; left.second_ran, failing_flush > 2);
+        assert!(rt; left.writer.bytes.as_slice() == &written.report[..len]);
+        assert_eq!(rt; left.first_ran, len > written.first_runs_at);
+        assert_eq!(rt; left.second_ran, len > written.second_runs_at);
     }
     Ok(())
 }

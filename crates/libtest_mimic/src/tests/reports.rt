@@ -9,11 +9,20 @@ use std::test::Fail;
 pub(super) const TWO_TESTS: &[u8] =
     b"\nrunning 2 tests\ntest succeeding_test ... ok\ntest failing_test    ... FAILED\n\nfailures:\n\n---- failing_test ----\nWoops\n\n\nfailures:\n    failing_test\n\ntest result: FAILED. 1 passed; 1 failed; 0 ignored; 0 measured; 0 filtered out; finished in 0.00s\n\n";
 
-const TWO_TESTS_TERSE: &[u8] =
+pub(super) const TWO_TESTS_TERSE: &[u8] =
     b"\nrunning 2 tests\n.F\nfailures:\n\n---- failing_test ----\nWoops\n\n\nfailures:\n    failing_test\n\ntest result: FAILED. 1 passed; 1 failed; 0 ignored; 0 measured; 0 filtered out; finished in 0.00s\n\n";
 
 const TWO_TESTS_COLOURED: &[u8] =
     b"\nrunning 2 tests\ntest succeeding_test ... \x1b[32mok\x1b[0m\ntest failing_test    ... \x1b[31mFAILED\x1b[0m\n\nfailures:\n\n---- failing_test ----\nWoops\n\n\nfailures:\n    failing_test\n\ntest result: \x1b[31mFAILED\x1b[0m. 1 passed; 1 failed; 0 ignored; 0 measured; 0 filtered out; finished in 0.00s\n\n";
+
+pub(super) const TWO_TESTS_JSON: &[u8] =
+    br#"{ "type": "suite", "event": "started", "test_count": 2 }
+{ "type": "test", "event": "started", "name": "succeeding_test" }
+{ "type": "test", "name": "succeeding_test", "event": "ok" }
+{ "type": "test", "event": "started", "name": "failing_test" }
+{ "type": "test", "name": "failing_test", "event": "failed", "stdout": "Error: \"Woops\"\n" }
+{ "type": "suite", "event": "failed", "passed": 1, "failed": 1, "ignored": 0, "measured": 0, "filtered_out": 0, "exec_time": 0 }
+"#;
 
 const NO_TESTS: &[u8] =
     b"\nrunning 0 tests\n\ntest result: ok. 0 passed; 0 failed; 0 ignored; 0 measured; 0 filtered out; finished in 0.00s\n\n";
@@ -48,6 +57,12 @@ fn reports_two_tests(rt: HostRuntime) -> Result<(), Fail> {
             color: Some(ColorSetting::Always),
             report: TWO_TESTS_COLOURED,
             flushes: 3,
+        },
+        Look {
+            format: Some(FormatSetting::Json),
+            color: Some(ColorSetting::Always),
+            report: TWO_TESTS_JSON,
+            flushes: 1,
         },
     ];
     assert_eq!(rt; TWO_TESTS.len(), 247);
@@ -92,29 +107,34 @@ fn reports_no_tests(rt: HostRuntime) -> Result<(), Fail> {
     Ok(())
 }
 
-// The clock's readings, and the end of the report.
+// The clock's readings, and the end of the report in pretty and in JSON.
 #[test]
 fn tells_the_time(rt: HostRuntime) -> Result<(), Fail> {
     let alloc = rt.alloc();
-    let readings: [(u64, u64, &[u8]); 3] = [
-        (700, 1_500_000_700, b"finished in 1.50s\n\n"),
-        (9, 4, b"finished in 0.00s\n\n"),
-        (0, u64::MAX, b"finished in 18446744073.71s\n\n"),
+    let readings: [(u64, u64, &[u8], &[u8]); 6] = [
+        (700, 1_500_000_700, b"finished in 1.50s\n\n", b": 1.5 }\n"),
+        (9, 4, b"finished in 0.00s\n\n", b": 0 }\n"),
+        (0, 4_999_999, b" 0.00s\n\n", b": 0.004999999 }\n"),
+        (0, 5_000_000, b" 0.01s\n\n", b": 0.005 }\n"),
+        (0, 995_000_000, b" 1.00s\n\n", b": 0.995 }\n"),
+        (
+            0,
+            u64::MAX,
+            b"finished in 18446744073.71s\n\n",
+            b": 18446744073.709551615 }\n",
+        ),
     ];
-    for (first, second, end) in readings {
-        let mut sink = Sink::new(ample(Vec::new(alloc)));
-        let mut watch = Stopwatch::new(Times { first, second });
-        assert!(rt; watch.is_fresh());
-        run_here(
-            alloc,
-            &Arguments::new(alloc),
-            Vec::new(alloc),
-            &mut sink,
-            &mut watch,
-            false,
-        )?;
-        assert_eq!(rt; watch.elapsed(), Some(second.saturating_sub(first)));
-        assert!(rt; sink.into_inner().bytes.ends_with(end));
+    for (first, second, pretty, json) in readings {
+        for (format, end) in [(FormatSetting::Pretty, pretty), (FormatSetting::Json, json)] {
+            let mut args = Arguments::new(alloc);
+            args.format = Some(format);
+            let mut sink = Sink::new(ample(Vec::new(alloc)));
+            let mut watch = Stopwatch::new(Times { first, second });
+            assert!(rt; watch.is_fresh());
+            run_here(alloc, &args, Vec::new(alloc), &mut sink, &mut watch, false)?;
+            assert_eq!(rt; watch.elapsed(), Some(second.saturating_sub(first)));
+            assert!(rt; sink.into_inner().bytes.ends_with(end));
+        }
     }
     Ok(())
 }
@@ -143,5 +163,35 @@ fn shows_messages(rt: HostRuntime) -> Result<(), Fail> {
             .windows(failures.len())
             .any(|part| part == failures)
     );
+    Ok(())
+}
+
+// Names and messages in JSON: no message, an empty one, and characters that are escaped and that are not.
+#[test]
+fn escapes_names_and_messages(rt: HostRuntime) -> Result<(), Fail> {
+    let alloc = rt.alloc();
+    let empty = String::new(alloc);
+    let odd = String::from_str(alloc, "\u{0}\u{8}\u{b}\u{1f}/\u{e9}\t\r\u{c}")?;
+    let tests = vec![in alloc;
+        test_trial!(alloc, "a", || Err(Failed::without_message())),
+        test_trial!(alloc, "b", move || Err(Failed::with_message(empty))),
+        test_trial!(
+            alloc,
+            "a\"b\\\n\u{1}\u{7f}",
+            move || Err(Failed::with_message(odd))
+        ),
+    ]?;
+    let mut args = Arguments::new(alloc);
+    args.format = Some(FormatSetting::Json);
+    let (_, writer) = run_ample(alloc, &args, tests)?;
+    let text = String::from_utf8(writer.bytes)?;
+    for line in [
+        "{ \"type\": \"test\", \"name\": \"a\", \"event\": \"failed\" }\n",
+        "{ \"type\": \"test\", \"name\": \"b\", \"event\": \"failed\", \"stdout\": \"Error: \\\"\\\"\\n\" }\n",
+        "\"started\", \"name\": \"a\\\"b\\\\\\n\\u0001\u{7f}\" }\n",
+        "\"name\": \"a\\\"b\\\\\\n\\u0001\u{7f}\", \"event\": \"failed\", \"stdout\": \"Error: \\\"\\u0000\\b\\u000b\\u001f/\u{e9}\\t\\r\\f\\\"\\n\" }\n",
+    ] {
+        assert!(rt; text.as_str().contains(line), "{line}");
+    }
     Ok(())
 }

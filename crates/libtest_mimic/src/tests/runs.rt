@@ -317,3 +317,61 @@ fn pads_kinds_by_characters(rt: HostRuntime) -> Result<(), Fail> {
     );
     Ok(())
 }
+
+// A benchmark in JSON: its announcement, what was measured, and the same ignored. The kind is not shown.
+#[test]
+fn reports_benchmarks_in_json(rt: HostRuntime) -> Result<(), Fail> {
+    let alloc = rt.alloc();
+    for (test, line) in [
+        (
+            false,
+            "{ \"type\": \"bench\", \"name\": \"b\", \"median\": 1234567, \"deviation\": 89 }\n",
+        ),
+        (
+            true,
+            "{ \"type\": \"test\", \"name\": \"b\", \"event\": \"ignored\" }\n",
+        ),
+    ] {
+        let runner = |_mode: bool| {
+            Ok(Some(Measurement {
+                avg: 1_234_567,
+                variance: 89,
+            }))
+        };
+        let tests = vec![in alloc;
+            bench_trial!(alloc, "b", runner).with_kind(String::from_str(alloc, "kind")?),
+        ]?;
+        let mut args = Arguments::new(alloc);
+        args.test = test;
+        args.bench = !test;
+        args.format = Some(FormatSetting::Json);
+        let (_, writer) = run_ample(alloc, &args, tests)?;
+        let text = String::from_utf8(writer.bytes)?;
+        let rest = text.as_str().strip_prefix(
+            "{ \"type\": \"suite\", \"event\": \"started\", \"test_count\": 1 }\n{ \"type\": \"test\", \"event\": \"started\", \"name\": \"b\" }\n",
+        );
+        assert!(rt; rest.is_some_and(|rest| rest.starts_with(line)));
+        assert!(rt; !text.as_str().contains("kind"));
+    }
+    Ok(())
+}
+
+// A list is the same in every format, and has no colour.
+#[test]
+fn lists_in_each_format(rt: HostRuntime) -> Result<(), Fail> {
+    let alloc = rt.alloc();
+    for format in [
+        FormatSetting::Pretty,
+        FormatSetting::Terse,
+        FormatSetting::Json,
+    ] {
+        let tests = vec![in alloc; test_trial!(alloc, "a\"b", || Ok(()))]?;
+        let mut args = Arguments::new(alloc);
+        args.list = true;
+        args.format = Some(format);
+        args.color = Some(ColorSetting::Always);
+        let (_, writer) = run_ample(alloc, &args, tests)?;
+        assert!(rt; writer.bytes.as_slice() == b"a\"b: test\n".as_slice());
+    }
+    Ok(())
+}

@@ -1,6 +1,6 @@
 //! Numbers as texts, and texts of values.
 use super::test_trial;
-use crate::text::{fmt_with_thousand_sep, hundredths, thousands};
+use crate::text::{escape_char, exact_seconds, fmt_with_thousand_sep, hundredths, thousands};
 use crate::{Failed, RunError, Trial, WriteFault};
 use std::fmt;
 use std::test::Fail;
@@ -34,6 +34,46 @@ fn groups_thousands(rt: HostRuntime) -> Result<(), Fail> {
         assert_eq!(rt; fmt_with_thousand_sep(rt.alloc(), number)?.as_str(), want);
     }
     Ok(())
+}
+
+#[test]
+fn escapes_characters(rt: HostRuntime) {
+    let vectors = [
+        ('"', "\\\""),
+        ('\\', "\\\\"),
+        ('\u{8}', "\\b"),
+        ('\t', "\\t"),
+        ('\n', "\\n"),
+        ('\u{c}', "\\f"),
+        ('\r', "\\r"),
+        ('\u{0}', "\\u0000"),
+        ('\u{b}', "\\u000b"),
+        ('\u{1f}', "\\u001f"),
+        (' ', " "),
+        ('/', "/"),
+        ('\u{7f}', "\u{7f}"),
+        ('\u{e9}', "\u{e9}"),
+        ('\u{1f600}', "\u{1f600}"),
+    ];
+    for (character, want) in vectors {
+        assert_eq!(rt; escape_char(character).as_str(), want);
+    }
+}
+
+#[test]
+fn tells_exact_seconds(rt: HostRuntime) {
+    let vectors = [
+        (0, "0"),
+        (1, "0.000000001"),
+        (4_999_999, "0.004999999"),
+        (1_000_000_000, "1"),
+        (1_500_000_000, "1.5"),
+        (10_000_000_000, "10"),
+        (u64::MAX, "18446744073.709551615"),
+    ];
+    for (nanos, want) in vectors {
+        assert_eq!(rt; exact_seconds(nanos, &mut [b'x'; 32]), want);
+    }
 }
 
 #[test]

@@ -62,9 +62,11 @@ impl Escaped {
     }
 }
 
-/// How a character is written between the quotes of a JSON string, in one spelling: a backslash and one
-/// character more where RFC 8259 has such a spelling and a slash is no such character, `\u00` and two
-/// small hexadecimal digits for other characters below U+0020, and else the character itself.
+/// How a character is written between the quotes of a JSON string (RFC 8259, section 7), in one spelling.
+///
+/// `\"`, `\\`, `\b`, `\t`, `\n`, `\f` and `\r` stand for the characters that they have always stood for,
+/// `\u00` and two hexadecimal digits in small letters for every other character below U+0020, and every
+/// other character for itself, also `/` and U+007F.
 pub fn escape_char(c: char) -> Escaped
     ensures spelled { result ≡ escape_char c }
 
