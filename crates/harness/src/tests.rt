@@ -1,6 +1,6 @@
 //! The program over memory: statuses, reports, lists and texts by the words of its command line.
 use crate::mixed_bag::{Answer, MIXED_BAG, benchmark_answer, mixed_bag_trials, test_answer};
-use crate::output::Passing;
+use crate::output::{Output, Passing};
 use crate::program::{harness_run, run_into};
 use libtest_mimic::{
     Arguments, ArgumentsError, Clock, Failed, Measurement, Sink, Stopwatch, Trial, run_here,
@@ -63,10 +63,10 @@ fn run_words(rt: &HostRuntime, asked: &[&str]) -> Result<Left, Fail> {
     let mut words = vec![in alloc; "harness", "--test-threads", "1"]?;
     words.extend_from_slice(asked)?;
     let trials = mixed_bag_trials!(alloc);
-    let mut out: Vec<u8> = Vec::new(alloc);
+    let out = Output::new(alloc, Passing::Lines, Vec::new(alloc))?;
     let mut err: Vec<u8> = Vec::new(alloc);
     let line = Arguments::from_iter(alloc, words.as_slice());
-    let status = harness_run(rt, alloc, line, trials, &mut out, &mut err, Still);
+    let (out, status) = harness_run(rt, alloc, line, trials, out, &mut err, Still);
     Ok(Left {
         status,
         out: String::from_utf8(out)?,
@@ -273,9 +273,9 @@ fn refuses_lines(rt: HostRuntime) -> Result<(), Fail> {
     }
     let alloc = rt.alloc();
     let line = Err(ArgumentsError::Refused(String::from_str(alloc, "no")?));
-    let mut out: Vec<u8> = Vec::new(alloc);
+    let out = Output::new(alloc, Passing::Lines, Vec::new(alloc))?;
     let mut err: Vec<u8> = Vec::new(alloc);
-    let status = harness_run(&rt, alloc, line, Vec::new(alloc), &mut out, &mut err, Still);
+    let (_, status) = harness_run(&rt, alloc, line, Vec::new(alloc), out, &mut err, Still);
     assert_eq!(rt; status, 2);
     assert!(rt; err.as_slice() == b"no\n".as_slice());
     let left = run_words(&rt, &["--help"])?;
@@ -361,10 +361,10 @@ fn refuses_words_that_are_no_text(rt: HostRuntime) -> Result<(), Fail> {
     ];
     for (words, status, on_out, on_err) in rows {
         let trials = mixed_bag_trials!(alloc);
-        let mut out: Vec<u8> = Vec::new(alloc);
+        let out = Output::new(alloc, Passing::Lines, Vec::new(alloc))?;
         let mut err: Vec<u8> = Vec::new(alloc);
         let line = Arguments::from_args(&(RawLine { words }, alloc), alloc);
-        let answered = harness_run(&rt, alloc, line, trials, &mut out, &mut err, Still);
+        let (out, answered) = harness_run(&rt, alloc, line, trials, out, &mut err, Still);
         assert_eq!(rt; answered, status);
         assert!(rt; out.as_slice() == on_out.as_bytes());
         assert!(rt; err.as_slice() == on_err.as_bytes());
@@ -404,10 +404,10 @@ fn tells_of_a_full_output(rt: HostRuntime) -> Result<(), Fail> {
         (["harness", "--list", "--help"], 0, 0),
     ] {
         let trials = mixed_bag_trials!(alloc);
-        let mut out = Narrow { room };
+        let out = Output::new(alloc, Passing::Lines, Narrow { room })?;
         let mut err: Vec<u8> = Vec::new(alloc);
         let line = Arguments::from_iter(alloc, &words);
-        let answered = harness_run(&rt, alloc, line, trials, &mut out, &mut err, Still);
+        let (_, answered) = harness_run(&rt, alloc, line, trials, out, &mut err, Still);
         assert_eq!(rt; answered, status);
         let text: &[u8] = if status == 1 {
             b"harness: cannot write the report\n"
@@ -455,10 +455,10 @@ fn stops_at_a_closed_output(rt: HostRuntime) -> Result<(), Fail> {
             Trial::test(String::from_str(alloc, "first")?, run_first),
             Trial::test(String::from_str(alloc, "second")?, run_second),
         ]?;
-        let mut out = Narrow { room };
+        let out = Output::new(alloc, Passing::Lines, Narrow { room })?;
         let mut err: Vec<u8> = Vec::new(alloc);
         let line = Ok(Arguments::new(alloc));
-        let answered = harness_run(&rt, alloc, line, trials, &mut out, &mut err, Still);
+        let (_, answered) = harness_run(&rt, alloc, line, trials, out, &mut err, Still);
         assert_eq!(rt; answered, 1);
         assert!(rt; err.as_slice() == b"harness: cannot write the report\n".as_slice());
         assert_eq!(rt; first.load(Ordering::SeqCst), first_runs);
@@ -476,8 +476,8 @@ fn tells_of_a_full_logfile(rt: HostRuntime) -> Result<(), Fail> {
         let mut args = Arguments::new(alloc);
         args.list = true;
         args.filter = Some(String::from_str(alloc, "a")?);
-        let mut file = Narrow { room };
-        let ran = run_into(alloc, &args, trials, Passing::Blocks, &mut file, Still);
+        let file = Output::new(alloc, Passing::Blocks, Narrow { room })?;
+        let (_, ran) = run_into(alloc, &args, trials, file, Still);
         assert_eq!(rt; ran.is_ok(), fits);
     }
     Ok(())
