@@ -11,7 +11,8 @@ mod tests;
 use clock::MonotonicClock;
 use libtest_mimic::{Arguments, Failed, Measurement, RunError, Trial};
 use mixed_bag::{Answer, MIXED_BAG, benchmark_answer, mixed_bag_trials, test_answer};
-use program::{CANNOT_RUN, harness_run};
+use output::Passing;
+use program::{CANNOT_RUN, buffered, harness_run};
 use std::process::ExitCode;
 
 fn main(rt: HostRuntime) -> ExitCode {
@@ -29,14 +30,8 @@ fn run_mixed_bag(rt: &HostRuntime) -> Result<u8, RunError> {
     let alloc = rt.alloc();
     let trials = mixed_bag_trials!(alloc);
     let line = Arguments::from_args(rt, alloc);
+    let out = buffered(alloc, Passing::Lines, rt.stdout())?;
     let clock = MonotonicClock::new(rt);
-    Ok(harness_run(
-        rt,
-        alloc,
-        line,
-        trials,
-        &mut rt.stdout(),
-        &mut rt.stderr(),
-        clock,
-    ))
+    let (_, status) = harness_run(rt, alloc, line, trials, out, &mut rt.stderr(), clock);
+    Ok(status)
 }

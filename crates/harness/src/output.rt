@@ -1,4 +1,8 @@
 //! The buffer between a report and the system.
+ghost use Rattle.std.specs.Prelude.{OnOk, IfOk, ◌≡◌};
+ghost use Rattle.std.specs.Io.KnownBytes.{Keeps};
+ghost use Rattle.harness.specs.Output.{told_of, HandsOn};
+
 use std::alloc::Global;
 use std::io;
 use std::io::{BufWriter, Write};
@@ -13,37 +17,70 @@ pub(crate) enum Passing {
 }
 
 /// A buffered writer. Where it is dropped and not finished, what it holds is handed on, and no fault is told.
+///
+/// Where a line can't be handed on, the write that ended it has taken it all the same, and the next call tells the fault.
 #[derive(Drop)]
 pub(crate) struct Output<W: Write + Drop> {
     buffered: BufWriter<W>,
     passing: Passing,
+    fault: Option<io::Error>,
 }
 
 impl<W: Write + Drop> Output<W> {
     /// An empty buffer. An `Err` is answered where a growth was refused.
-    pub(crate) fn new(alloc: Global, passing: Passing, inner: W) -> io::Result<Self> {
+    pub(crate) fn new(alloc: Global, passing: Passing, inner: W) -> io::Result<Self>
+        ensures { IfOk result (λ output. Keeps (W.contents inner) (told_of W.contents output)) }
+    {
         Ok(Output {
             buffered: BufWriter::new(alloc, inner)?,
             passing,
+            fault: None,
         })
     }
 
-    /// Hands on what is left.
-    pub(crate) fn finish(mut self) -> io::Result<()> {
-        self.buffered.flush()
+    /// Hands on what is left, and gives the writer back. With a fault it has got a beginning of all bytes.
+    pub(crate) fn finish(mut self) -> (W, io::Result<()>)
+        ensures whole { OnOk result.1 (Keeps (told_of W.contents self) (W.contents result.0)) }
+        ensures beginning { HandsOn (told_of W.contents self) (W.contents result.0) }
+    {
+        let finished = match self.fault.take() {
+            Some(error) => Err(error),
+            None => self.buffered.flush(),
+        };
+        let Output {
+            buffered,
+            passing: _,
+            fault: _,
+        } = self;
+        let (writer, _) = buffered.into_parts();
+        (writer, finished)
+    }
+
+    // Tells the fault of a line that could not be handed on.
+    fn tell_fault(&mut self) -> io::Result<()>
+        ensures { Keeps (told_of W.contents self.old) (told_of W.contents self.new) }
+    {
+        match self.fault.take() {
+            Some(error) => Err(error),
+            None => Ok(()),
+        }
     }
 }
 
 impl<W: Write + Drop> Write for Output<W> {
+    ghost contents = { told_of W.contents };
+
     fn write(&mut self, buf: &[u8]) -> io::Result<usize> {
+        self.tell_fault()?;
         let count = self.buffered.write(buf)?;
         if self.passing == Passing::Lines && buf[..count].ends_with(b"\n") {
-            self.buffered.flush()?;
+            self.fault = self.buffered.flush().err();
         }
         Ok(count)
     }
 
     fn flush(&mut self) -> io::Result<()> {
+        self.tell_fault()?;
         match self.passing {
             Passing::Lines => self.buffered.flush(),
             Passing::Blocks => Ok(()),

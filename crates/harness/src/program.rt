@@ -1,13 +1,21 @@
 //! The program, but for reading its command line and making its trials.
+ghost use Rattle.std.specs.Prelude.{◌≡◌, false, IfOk, IsNone, IsOk, OnErr, vec_len};
+ghost use Rattle.std.specs.Io.KnownBytes.{Keeps};
+ghost use Rattle.libtest_mimic.specs.Count.{total_of};
+ghost use Rattle.libtest_mimic.specs.Run.{HasAnswer};
+ghost use Rattle.harness.specs.Output.{told_of};
+ghost use Rattle.harness.specs.Ended.{Ended, status_of, status_without};
+ghost use Rattle.harness.specs.Run.{GotBeginning, Ran};
+
 use crate::output::{Output, Passing};
 use libtest_mimic::{
     Arguments, ArgumentsError, Clock, Conclusion, RunError, Sink, Stopwatch, Trial, WriteFault,
     run_here,
 };
 use std::alloc::Global;
-use std::fs;
 use std::fs::Files;
 use std::io::Write;
+use std::{fs, io};
 use thiserror::Error;
 
 // The exit statuses.
@@ -28,34 +36,40 @@ enum Fault {
     Run(#[from] RunError),
 }
 
-/// Runs or lists the trials as the line asks, and answers the exit status: 0 where no trial failed or help was
-/// asked for, 101 where one failed, 1 where the logfile, memory or a write was refused, 2 where the line was.
+/// Runs or lists the trials as the line asks, and answers the writer of `out` and the exit status: 0 where no trial
+/// failed or help was asked for, 101 where one failed, 1 where the logfile, memory or a write was refused, 2 where the
+/// line was.
 ///
 /// The report or list goes into the logfile, which is made or emptied first, in whole blocks; without one it goes
-/// to `out`, each line as it ends and each announcement before its trial runs. Help goes to `out`, and what is
-/// refused to `err`; a fault in writing either changes no status.
-pub(crate) fn harness_run<F: Files, O: Write, E: Write, C: Clock + Drop>(
+/// to `out`. Help goes to `out`, and what is refused to `err`; a fault in writing either changes no status.
+pub(crate) fn harness_run<F: Files, O: Write + Drop, E: Write, C: Clock + Drop>(
     files: &F,
     alloc: Global,
     line: Result<Arguments, ArgumentsError>,
     tests: Vec<Trial>,
-    out: &mut O,
+    out: Output<O>,
     err: &mut E,
     clock: C,
-) -> u8 {
-    let ran = match line {
-        Ok(args) => run_line(files, alloc, &args, tests, out, clock),
-        Err(ArgumentsError::OutOfMemory) => Err(Fault::Run(RunError::OutOfMemory)),
-        Err(ArgumentsError::Help(text)) => {
-            let _ = out.write_all(text.as_bytes());
-            return SUCCESS;
+) -> (O, u8)
+    ensures { Ended line tests.items (told_of O.contents out) (O.contents result.0) result.1 }
+{
+    match line {
+        Ok(args) => {
+            let (writer, ran) = run_line(files, alloc, &args, tests, out, clock);
+            (writer, status_of(ran, err))
         }
-        Err(ArgumentsError::Refused(text)) => {
-            // The texts of `clap` end with a line end, and others do not.
-            let _ = writeln!(err, "{}", text.as_str().trim_end());
-            return REFUSED_LINE;
+        Err(error) => {
+            let mut out = out;
+            let status = tell(error, &mut out, err);
+            (out.finish().0, status)
         }
-    };
+    }
+}
+
+// The exit status of a run, of which a fault is told.
+fn status_of<E: Write>(ran: Result<Conclusion, Fault>, err: &mut E) -> u8
+    ensures { result ≡ status_of ran }
+{
     match ran {
         Ok(conclusion) if conclusion.has_failed() => TRIALS_FAILED,
         Ok(_) => SUCCESS,
@@ -66,43 +80,111 @@ pub(crate) fn harness_run<F: Files, O: Write, E: Write, C: Clock + Drop>(
     }
 }
 
-// Runs into the logfile where there is one, else to `out`.
-fn run_line<F: Files, O: Write, C: Clock + Drop>(
+// Tells why a line gave no arguments, and answers the exit status.
+fn tell<O: Write, E: Write>(error: ArgumentsError, out: &mut O, err: &mut E) -> u8
+    ensures { result ≡ status_without error }
+{
+    match error {
+        ArgumentsError::OutOfMemory => status_of(Err(Fault::Run(RunError::OutOfMemory)), err),
+        ArgumentsError::Help(text) => {
+            let _ = out.write_all(text.as_bytes());
+            SUCCESS
+        }
+        ArgumentsError::Refused(text) => {
+            // The texts of `clap` end with a line end, and others do not.
+            let _ = writeln!(err, "{}", text.as_str().trim_end());
+            REFUSED_LINE
+        }
+    }
+}
+
+// Runs into the logfile where there is one, else to `out`, whose writer is given back.
+fn run_line<F: Files, O: Write + Drop, C: Clock + Drop>(
     files: &F,
     alloc: Global,
     args: &Arguments,
     tests: Vec<Trial>,
-    out: &mut O,
+    out: Output<O>,
     clock: C,
-) -> Result<Conclusion, Fault> {
+) -> (O, Result<Conclusion, Fault>)
+    ensures ran { IsNone args.now.logfile → IfOk result.1 (λ c. Ran args.now tests.items (told_of O.contents out) (O.contents result.0) 0 (Ok c)) }
+    ensures answer { IfOk result.1 (λ c. HasAnswer args.now tests.items (Ok c)) }
+    ensures adds_up { args.now.list ≡ false → IfOk result.1 (λ c. total_of c ≡ vec_len tests) }
+{
     match &args.logfile {
         Some(path) => {
-            let Ok(file) = fs::create(files, path.as_str()) else {
-                return Err(Fault::Logfile);
-            };
-            Ok(run_into(alloc, args, tests, Passing::Blocks, file, clock)?)
+            let ran = run_into_logfile(files, alloc, args, tests, path.as_str(), clock);
+            (out.finish().0, ran)
         }
-        None => Ok(run_into(alloc, args, tests, Passing::Lines, out, clock)?),
+        None => {
+            let (writer, ran) = run_into(alloc, args, tests, out, clock);
+            (writer, ran.map_err(Fault::Run))
+        }
     }
 }
 
-// Runs, and hands on what the buffer holds at the end. Making the buffer fails only for want of memory, which its
-// error doesn't say by its type.
+// Runs into the logfile, which is made or emptied first.
+fn run_into_logfile<F: Files, C: Clock + Drop>(
+    files: &F,
+    alloc: Global,
+    args: &Arguments,
+    tests: Vec<Trial>,
+    path: &str,
+    clock: C,
+) -> Result<Conclusion, Fault>
+    ensures answer { IfOk result (λ c. HasAnswer args.now tests.items (Ok c)) }
+    ensures adds_up { args.now.list ≡ false → IfOk result (λ c. total_of c ≡ vec_len tests) }
+{
+    let Ok(file) = fs::create(files, path) else {
+        return Err(Fault::Logfile);
+    };
+    let output = buffered(alloc, Passing::Blocks, file)?;
+    let conclusion = run_into(alloc, args, tests, output, clock).1?;
+    Ok(conclusion)
+}
+
+// A buffer over the writer. Making it fails only for want of memory, which its error doesn't say by its type.
+pub(crate) fn buffered<W: Write + Drop>(
+    alloc: Global,
+    passing: Passing,
+    writer: W,
+) -> Result<Output<W>, RunError>
+    ensures { IfOk result (λ output. Keeps (W.contents writer) (told_of W.contents output)) }
+{
+    match Output::new(alloc, passing, writer) {
+        Ok(output) => Ok(output),
+        Err(_) => Err(RunError::OutOfMemory),
+    }
+}
+
+// Runs, hands on what the buffer holds at the end, and gives the writer back.
 pub(crate) fn run_into<W: Write + Drop, C: Clock + Drop>(
     alloc: Global,
     args: &Arguments,
     tests: Vec<Trial>,
-    passing: Passing,
-    writer: W,
+    output: Output<W>,
     clock: C,
-) -> Result<Conclusion, RunError> {
-    let Ok(output) = Output::new(alloc, passing, writer) else {
-        return Err(RunError::OutOfMemory);
-    };
+) -> (W, Result<Conclusion, RunError>)
+    ensures ran { IfOk result.1 (λ c. Ran args.now tests.items (told_of W.contents output) (W.contents result.0) 0 (Ok c)) }
+    ensures beginning { OnErr result.1 (GotBeginning args.now tests.items (told_of W.contents output) (W.contents result.0)) }
+    ensures answer { IfOk result.1 (λ c. HasAnswer args.now tests.items (Ok c)) }
+    ensures adds_up { args.now.list ≡ false → IfOk result.1 (λ c. total_of c ≡ vec_len tests) }
+{
     let mut sink = Sink::new(output);
     let mut watch = Stopwatch::new(clock);
     let ran = run_here(alloc, args, tests, &mut sink, &mut watch, false);
-    let finished = sink.into_inner().finish();
+    let (writer, finished) = sink.into_inner().finish();
+    (writer, settled(ran, finished))
+}
+
+// The answer of a run, where what was left could be handed on.
+fn settled(
+    ran: Result<Conclusion, RunError>,
+    finished: io::Result<()>,
+) -> Result<Conclusion, RunError>
+    ensures answered { IfOk result (λ c. ran ≡ Ok c) }
+    ensures finished { IsOk result → IsOk finished }
+{
     let conclusion = ran?;
     match finished {
         Ok(()) => Ok(conclusion),

@@ -1,11 +1,15 @@
 //! The program over memory: statuses, reports, lists and texts by the words of its command line.
 use crate::mixed_bag::{Answer, MIXED_BAG, benchmark_answer, mixed_bag_trials, test_answer};
-use crate::output::Passing;
+use crate::output::{Output, Passing};
 use crate::program::{harness_run, run_into};
 use libtest_mimic::{
     Arguments, ArgumentsError, Clock, Failed, Measurement, Sink, Stopwatch, Trial, run_here,
 };
+use std::env::FillError;
 use std::io::Write;
+use std::rt::Env;
+use std::sync::Arc;
+use std::sync::atomic::{AtomicBool, Ordering};
 use std::test::Fail;
 use std::{fs, io};
 
@@ -59,10 +63,10 @@ fn run_words(rt: &HostRuntime, asked: &[&str]) -> Result<Left, Fail> {
     let mut words = vec![in alloc; "harness", "--test-threads", "1"]?;
     words.extend_from_slice(asked)?;
     let trials = mixed_bag_trials!(alloc);
-    let mut out: Vec<u8> = Vec::new(alloc);
+    let out = Output::new(alloc, Passing::Lines, Vec::new(alloc))?;
     let mut err: Vec<u8> = Vec::new(alloc);
     let line = Arguments::from_iter(alloc, words.as_slice());
-    let status = harness_run(rt, alloc, line, trials, &mut out, &mut err, Still);
+    let (out, status) = harness_run(rt, alloc, line, trials, out, &mut err, Still);
     Ok(Left {
         status,
         out: String::from_utf8(out)?,
@@ -269,9 +273,9 @@ fn refuses_lines(rt: HostRuntime) -> Result<(), Fail> {
     }
     let alloc = rt.alloc();
     let line = Err(ArgumentsError::Refused(String::from_str(alloc, "no")?));
-    let mut out: Vec<u8> = Vec::new(alloc);
+    let out = Output::new(alloc, Passing::Lines, Vec::new(alloc))?;
     let mut err: Vec<u8> = Vec::new(alloc);
-    let status = harness_run(&rt, alloc, line, Vec::new(alloc), &mut out, &mut err, Still);
+    let (_, status) = harness_run(&rt, alloc, line, Vec::new(alloc), out, &mut err, Still);
     assert_eq!(rt; status, 2);
     assert!(rt; err.as_slice() == b"no\n".as_slice());
     let left = run_words(&rt, &["--help"])?;
@@ -301,6 +305,70 @@ fn writes_a_logfile(rt: HostRuntime) -> Result<(), Fail> {
     assert_eq!(rt; left.status, 1);
     assert!(rt; left.out.is_empty());
     assert_eq!(rt; left.err.as_str(), "harness: cannot create the logfile\n");
+    Ok(())
+}
+
+// A command line, whose words need not be text.
+#[derive(Drop)]
+struct RawLine {
+    words: &'static [&'static [u8]],
+}
+
+impl Env for RawLine {
+    fn arg(&self, i: usize, buf: &mut [u8]) -> Result<usize, FillError> {
+        let Some(word) = self.words.get(i) else {
+            return Err(FillError::NotPresent);
+        };
+        if word.len() > buf.len() {
+            return Err(FillError::TooLong);
+        }
+        buf[..word.len()].copy_from_slice(word);
+        Ok(word.len())
+    }
+
+    fn var(&self, _name: &str, _buf: &mut [u8]) -> Result<usize, FillError> {
+        Err(FillError::NotPresent)
+    }
+
+    fn var_at(&self, _i: usize, _buf: &mut [u8]) -> Result<usize, FillError> {
+        Err(FillError::NotPresent)
+    }
+}
+
+// A word that is not UTF-8 refuses the whole line, also after a word that asks for help. A line of text is read as ever.
+#[test]
+fn refuses_words_that_are_no_text(rt: HostRuntime) -> Result<(), Fail> {
+    let alloc = rt.alloc();
+    let rows: [(&'static [&'static [u8]], u8, &str, &str); 3] = [
+        (
+            &[b"harness", b"--list", b"caf\xe9"],
+            2,
+            "",
+            "an argument is not UTF-8\n",
+        ),
+        (
+            &[b"harness", b"--help", b"\xff"],
+            2,
+            "",
+            "an argument is not UTF-8\n",
+        ),
+        (
+            &[b"harness", b"--list", b"fox"],
+            0,
+            "[apple] fox: test\n",
+            "",
+        ),
+    ];
+    for (words, status, on_out, on_err) in rows {
+        let trials = mixed_bag_trials!(alloc);
+        let out = Output::new(alloc, Passing::Lines, Vec::new(alloc))?;
+        let mut err: Vec<u8> = Vec::new(alloc);
+        let line = Arguments::from_args(&(RawLine { words }, alloc), alloc);
+        let (out, answered) = harness_run(&rt, alloc, line, trials, out, &mut err, Still);
+        assert_eq!(rt; answered, status);
+        assert!(rt; out.as_slice() == on_out.as_bytes());
+        assert!(rt; err.as_slice() == on_err.as_bytes());
+    }
     Ok(())
 }
 
@@ -336,10 +404,10 @@ fn tells_of_a_full_output(rt: HostRuntime) -> Result<(), Fail> {
         (["harness", "--list", "--help"], 0, 0),
     ] {
         let trials = mixed_bag_trials!(alloc);
-        let mut out = Narrow { room };
+        let out = Output::new(alloc, Passing::Lines, Narrow { room })?;
         let mut err: Vec<u8> = Vec::new(alloc);
         let line = Arguments::from_iter(alloc, &words);
-        let answered = harness_run(&rt, alloc, line, trials, &mut out, &mut err, Still);
+        let (_, answered) = harness_run(&rt, alloc, line, trials, out, &mut err, Still);
         assert_eq!(rt; answered, status);
         let text: &[u8] = if status == 1 {
             b"harness: cannot write the report\n"
@@ -347,6 +415,54 @@ fn tells_of_a_full_output(rt: HostRuntime) -> Result<(), Fail> {
             b""
         };
         assert!(rt; err.as_slice() == text);
+    }
+    Ok(())
+}
+
+// Standard output that is closed at some byte, as `head` does: the run ends there and is told to have failed, and no
+// runner is called after.
+#[test]
+fn stops_at_a_closed_output(rt: HostRuntime) -> Result<(), Fail> {
+    let alloc = rt.alloc();
+    for (room, first_runs, second_runs) in [
+        (0, false, false),
+        ("\nrunning 2 tests\n".len(), false, false),
+        ("\nrunning 2 tests\ntest first  ...".len(), false, false),
+        ("\nrunning 2 tests\ntest first  ... ".len(), true, false),
+        ("\nrunning 2 tests\ntest first  ... ok\n".len(), true, false),
+        (
+            "\nrunning 2 tests\ntest first  ... ok\ntest second ... ".len(),
+            true,
+            true,
+        ),
+    ] {
+        let first = Arc::new(alloc, AtomicBool::new(false))?;
+        let second = Arc::new(alloc, AtomicBool::new(false))?;
+        let mark_first = first.clone()?;
+        let mark_second = second.clone()?;
+        let run_first: Box<dyn FnOnce() -> Result<(), Failed> + Send> = Box::new(alloc, move || {
+            mark_first.store(true, Ordering::SeqCst);
+            Ok(())
+        })?;
+        let run_second: Box<dyn FnOnce() -> Result<(), Failed> + Send> = Box::new(
+            alloc,
+            move || {
+                mark_second.store(true, Ordering::SeqCst);
+                Ok(())
+            },
+        )?;
+        let trials = vec![in alloc;
+            Trial::test(String::from_str(alloc, "first")?, run_first),
+            Trial::test(String::from_str(alloc, "second")?, run_second),
+        ]?;
+        let out = Output::new(alloc, Passing::Lines, Narrow { room })?;
+        let mut err: Vec<u8> = Vec::new(alloc);
+        let line = Ok(Arguments::new(alloc));
+        let (_, answered) = harness_run(&rt, alloc, line, trials, out, &mut err, Still);
+        assert_eq!(rt; answered, 1);
+        assert!(rt; err.as_slice() == b"harness: cannot write the report\n".as_slice());
+        assert_eq!(rt; first.load(Ordering::SeqCst), first_runs);
+        assert_eq!(rt; second.load(Ordering::SeqCst), second_runs);
     }
     Ok(())
 }
@@ -360,8 +476,8 @@ fn tells_of_a_full_logfile(rt: HostRuntime) -> Result<(), Fail> {
         let mut args = Arguments::new(alloc);
         args.list = true;
         args.filter = Some(String::from_str(alloc, "a")?);
-        let mut file = Narrow { room };
-        let ran = run_into(alloc, &args, trials, Passing::Blocks, &mut file, Still);
+        let file = Output::new(alloc, Passing::Blocks, Narrow { room })?;
+        let (_, ran) = run_into(alloc, &args, trials, file, Still);
         assert_eq!(rt; ran.is_ok(), fits);
     }
     Ok(())
