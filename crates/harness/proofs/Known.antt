@@ -36,6 +36,7 @@ module _ {W : Type 0} (contents : W → Option (List ℕ)) (old new : Sink W) wh
       arranged = r.arranged;
       nanos = r.nanos;
       elapsed = r.elapsed;
+      fits = r.fits;
       appended = Put-known _ r.appended;
       counts = r.counts;
     }
@@ -91,6 +92,7 @@ module _ {W : Type 0} (contents : W → Option (List ℕ)) (old new : Sink W) (g
         arranged = w.2.arranged;
         nanos = w.2.nanos;
         elapsed = w.2.elapsed;
+        fits = w.2.fits;
         appended = Put-got _ k w.2.appended;
         counts = w.2.counts;
       },

@@ -226,6 +226,20 @@ fn answers_as_the_rust_crate(rt: HostRuntime) -> Result<(), Fail> {
     Ok(())
 }
 
+// Two lines for each of the 17 trials, and two more, each of which ends with a line end.
+#[test]
+fn reports_in_json(rt: HostRuntime) -> Result<(), Fail> {
+    let left = run_words(&rt, &["--format", "json", "--color", "always"])?;
+    assert_eq!(rt; left.status, 101);
+    let out = left.out.as_str();
+    assert!(rt; out.ends_with("}\n"));
+    assert_eq!(rt; out.lines().count(), 36);
+    for line in out.lines() {
+        assert!(rt; line.starts_with("{ \"type\": \"") && line.ends_with(" }"), "{line}");
+    }
+    Ok(())
+}
+
 // Words, and the list that they give.
 #[test]
 fn lists_as_asked(rt: HostRuntime) -> Result<(), Fail> {
@@ -261,7 +275,7 @@ fn lists_as_asked(rt: HostRuntime) -> Result<(), Fail> {
 fn refuses_lines(rt: HostRuntime) -> Result<(), Fail> {
     let rows: [&[&str]; 3] = [
         &["--test", "--bench"],
-        &["--quiet", "--format", "terse"],
+        &["--quiet", "--format", "json"],
         &["--nope"],
     ];
     for words in rows {
