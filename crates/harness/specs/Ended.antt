@@ -1,5 +1,5 @@
 -- How the program ends: its exit status, and what its output has got then.
-use Rattle.std.specs.Prelude.{◌≡◌, ℕ, List, length, Option, IsNone, false, if◌then◌else◌, Result, Ok, Err, IfOk, nat_lt}
+use Rattle.std.specs.Prelude.{◌≡◌, ℕ, List, length, Option, IsNone, false, if◌then◌else◌, Result, Ok, Err, IfOk, OnErr, nat_lt}
 use Rattle.libtest_mimic.specs.declared.args.Arguments.{Arguments}
 use Rattle.libtest_mimic.specs.declared.args.error.ArgumentsError.{ArgumentsError}
 use Rattle.libtest_mimic.specs.declared.args.error.ArgumentsError.TheVariants.{OutOfMemory, Help, Refused}
@@ -8,7 +8,7 @@ use Rattle.libtest_mimic.specs.declared.outcome.conclusion.Conclusion.{Conclusio
 use Rattle.libtest_mimic.specs.Count.{total_of}
 use Rattle.libtest_mimic.specs.Run.{HasAnswer}
 use Rattle.harness.specs.declared.program.Fault.{Fault}
-use Rattle.harness.specs.Run.{Ran}
+use Rattle.harness.specs.Run.{Ran, GotBeginning}
 
 -- 101 where a trial failed, 0 where none did, 1 where the run was refused: the statuses of `rustc --test`, and 1 our own choice
 abbrev pub status_of : Result Conclusion Fault → ℕ
@@ -23,11 +23,13 @@ status_without (Refused text) = 2
 
 -- In the signatures below X, Y, F, G, g and h stand for what the runners' boxed closures promise.
 module _ {X Y : Type 0} {F : X → Type 0} {G : Y → Type 0} {g : _} {h : _} where
-  -- the status is that of some answer of a run of the trials; without a logfile the output got all of that run's bytes
+  -- the status is that of some answer of a run of the trials; without a logfile the output got all of that run's bytes,
+  -- or where the answer is a fault a beginning of some run's
   pub record RanLine (args : Arguments) (trials : List (Trial X Y F G g h)) (old got : Option (List ℕ)) (status : ℕ) : Type 0 where
     pub answer : Result Conclusion Fault
     pub ended : status ≡ status_of answer
     pub ran : IsNone args.logfile → IfOk answer (λ c. Ran args trials old got 0 (Ok c))
+    pub beginning : IsNone args.logfile → OnErr answer (GotBeginning args trials old got)
     pub counts : IfOk answer (λ c. HasAnswer args trials (Ok c))
     pub adds_up : args.list ≡ false → IfOk answer (λ c. total_of c ≡ length trials)
 

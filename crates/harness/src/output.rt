@@ -1,5 +1,5 @@
 //! The buffer between a report and the system.
-ghost use Rattle.std.specs.Prelude.{OnOk, IfOk, ◌≡◌};
+ghost use Rattle.std.specs.Prelude.{OnOk, IfOk};
 ghost use Rattle.std.specs.Io.KnownBytes.{Keeps};
 ghost use Rattle.harness.specs.Output.{told_of, HandsOn};
 

@@ -107,7 +107,10 @@ fn run_line<F: Files, O: Write + Drop, C: Clock + Drop>(
     out: Output<O>,
     clock: C,
 ) -> (O, Result<Conclusion, Fault>)
-    ensures ran { IsNone args.now.logfile → IfOk result.1 (λ c. Ran args.now tests.items (told_of O.contents out) (O.contents result.0) 0 (Ok c)) }
+    ensures ran { IsNone args.now.logfile → IfOk result.1 (λ c. Ran args.now tests.items
+        (told_of O.contents out) (O.contents result.0) 0 (Ok c)) }
+    ensures beginning { IsNone args.now.logfile → OnErr result.1 (GotBeginning args.now tests.items
+        (told_of O.contents out) (O.contents result.0)) }
     ensures answer { IfOk result.1 (λ c. HasAnswer args.now tests.items (Ok c)) }
     ensures adds_up { args.now.list ≡ false → IfOk result.1 (λ c. total_of c ≡ vec_len tests) }
 {
@@ -165,8 +168,10 @@ pub(crate) fn run_into<W: Write + Drop, C: Clock + Drop>(
     output: Output<W>,
     clock: C,
 ) -> (W, Result<Conclusion, RunError>)
-    ensures ran { IfOk result.1 (λ c. Ran args.now tests.items (told_of W.contents output) (W.contents result.0) 0 (Ok c)) }
-    ensures beginning { OnErr result.1 (GotBeginning args.now tests.items (told_of W.contents output) (W.contents result.0)) }
+    ensures ran { IfOk result.1 (λ c. Ran args.now tests.items
+        (told_of W.contents output) (W.contents result.0) 0 (Ok c)) }
+    ensures beginning { OnErr result.1 (GotBeginning args.now tests.items
+        (told_of W.contents output) (W.contents result.0)) }
     ensures answer { IfOk result.1 (λ c. HasAnswer args.now tests.items (Ok c)) }
     ensures adds_up { args.now.list ≡ false → IfOk result.1 (λ c. total_of c ≡ vec_len tests) }
 {
