@@ -1,0 +1,151 @@
+-- The lines of outcomes.
+use Rattle.std.proofs.Common.{◌≡◌, ◌≢◌, ℕ, List, [], ◌∷◌, ◌++◌, Bool, true, false, Option, Some, None, codes, option_map, decimal, refl, sym, ap, subst, ◌∙◌, append_assoc, get_or, arith, ◌<◌, ◌^◌}
+use Rattle.std.proofs.lemmas.Bool.{eqb-false}
+use Rattle.std.proofs.lemmas.List.{append_cancel_left}
+use Rattle.mimic_events.proofs.NamedLines.{close}
+use Rattle.libtest_mimic.specs.declared.outcome.Outcome.{Outcome}
+use Rattle.libtest_mimic.specs.declared.outcome.Outcome.TheVariants.{Passed, Failed, Ignored, Measured}
+use Rattle.libtest_mimic.specs.Escape.{escaped}
+use Rattle.libtest_mimic.specs.Json.{json_outcome, json_event, json_failure, json_measurement}
+use Rattle.mimic_events.specs.Parts.{ReadsNamed, ReadsNumber, failure_tail, IsFailure, IsTail, is_bench, tail}
+use Rattle.mimic_events.specs.Reading.{Decodes, IsOutcome}
+
+abbrev pub front : Bool → List ℕ
+front true = codes "{ \"type\": \"bench\", \"name\": \""
+front false = codes "{ \"type\": \"test\", \"name\": \""
+
+pub outcome_is : (name : List ℕ) (o : Outcome) → json_outcome name o ≡ front (is_bench o) ++ (escaped name ++ 34 ∷ tail o)
+unfolding json_event json_failure json_measurement failure_tail
+outcome_is name Passed = refl
+outcome_is name (Failed None) = refl
+outcome_is name (Failed (Some message)) = refl
+outcome_is name Ignored = refl
+outcome_is name (Measured m) = refl
+
+abbrev pub measured : ℕ → ℕ → Outcome
+measured avg variance = Measured (record { avg = avg; variance = variance })
+
+apart : (b c : Bool) (x y : List ℕ) → front b ++ x ≡ front c ++ y → b ≡ c
+apart true true x y e = refl
+apart false false x y e = refl
+apart true false x y e = absurd (eqb-false 98 116 refl (ap (λ (z : List ℕ). get_or z 11 0) e))
+apart false true x y e = absurd (eqb-false 116 98 refl (ap (λ (z : List ℕ). get_or z 11 0) e))
+
+-- a line of an outcome is read apart so
+given : (b : Bool) (line name found rest : List ℕ) (v : Outcome) → ReadsNamed (front b) line (Some (found, rest)) → IsOutcome name v line → (is_bench v ≡ b) × (name ≡ found) × (tail v ≡ rest)
+given b line name found rest v h f =
+    let e : line ≡ front (is_bench v) ++ (escaped name ++ 34 ∷ tail v) = f.1 ∙ outcome_is name v in
+    let same : is_bench v ≡ b = apart (is_bench v) b (escaped name ++ 34 ∷ tail v) (escaped found ++ 34 ∷ rest) (sym e ∙ h.0) in
+    let r = h.1 name (tail v) (subst (λ (c : Bool). line ≡ front c ++ (escaped name ++ 34 ∷ tail v)) same e) in
+    (same, r.0, r.1)
+
+pub ended_some : (b : Bool) (line name found rest : List ℕ) (o : Option Outcome) → ReadsNamed (front b) line (Some (found, rest)) → found ≡ name → Decodes (IsTail b) rest o → Decodes (IsOutcome name) line o
+ended_some b line name found rest None h same d = λ v f. let g = given b line name found rest v h f in d v (g.0, f.0, sym g.2)
+ended_some b line name found rest (Some e) h same d =
+    ((d.0.1, h.0 ∙ rw (same, d.0.2, ← d.0.0) refl ∙ sym (outcome_is name e)), λ v f. let g = given b line name found rest v h f in d.1 v (g.0, f.0, sym g.2))
+
+pub ended_other : (b : Bool) (line name found rest : List ℕ) (v : Outcome) → ReadsNamed (front b) line (Some (found, rest)) → found ≢ name → IsOutcome name v line → ⊥
+ended_other b line name found rest v h ne f = ne (sym (given b line name found rest v h f).1)
+
+pub ended_none : (line name : List ℕ) (v : Outcome) → ReadsNamed (front true) line None → ReadsNamed (front false) line None → IsOutcome name v line → ⊥
+ended_none line name v bench test f = at (is_bench v) (f.1 ∙ outcome_is name v)
+  where
+  at : (b : Bool) → line ≡ front b ++ (escaped name ++ 34 ∷ tail v) → ⊥
+  at true e = bench name (tail v) e
+  at false e = test name (tail v) e
+
+-- the endings of a trial that isn't measured
+pub tail_some : (rest : List ℕ) (o : Option (List ℕ)) → rest ≢ tail Passed → rest ≢ tail Ignored → rest ≢ tail (Failed None) → Decodes IsFailure rest o → Decodes (IsTail false) rest (option_map (λ m. Failed (Some m)) o)
+tail_some rest None a b c d = none rest a b c d
+  where
+  none : (rest : List ℕ) → rest ≢ tail Passed → rest ≢ tail Ignored → rest ≢ tail (Failed None) → ((v : List ℕ) → IsFailure v rest → ⊥) → (v : Outcome) → IsTail false v rest → ⊥
+  none rest a b c d Passed h = a h.2
+  none rest a b c d Ignored h = b h.2
+  none rest a b c d (Failed None) h = c h.2
+  none rest a b c d (Failed (Some m)) h = d m (h.1, h.2)
+  none rest a b c d (Measured measurement) h = absurd cc
+tail_some rest (Some m) a b c d = ((refl, d.0.0, d.0.1), only rest m a b c d.1)
+  where
+  only : (rest m : List ℕ) → rest ≢ tail Passed → rest ≢ tail Ignored → rest ≢ tail (Failed None) → ((v : List ℕ) → IsFailure v rest → v ≡ m) → (v : Outcome) → IsTail false v rest → v ≡ Failed (Some m)
+  only rest m a b c d Passed h = absurd (a h.2)
+  only rest m a b c d Ignored h = absurd (b h.2)
+  only rest m a b c d (Failed None) h = absurd (c h.2)
+  only rest m a b c d (Failed (Some n)) h = ap (λ (x : List ℕ). Failed (Some x)) (d n (h.1, h.2))
+  only rest m a b c d (Measured measurement) h = absurd cc
+
+letter : (k : ℕ) (x y : List ℕ) → x ≡ y → get_or x k 0 ≡ get_or y k 0
+letter k x y e = ap (λ (z : List ℕ). get_or z k 0) e
+
+tail_passed : (v : Outcome) → IsTail false v (tail Passed) → v ≡ Passed
+unfolding failure_tail
+tail_passed Passed h = refl
+tail_passed Ignored h = absurd (eqb-false 111 105 refl (ap (λ (z : List ℕ). get_or z 12 0) h.2))
+tail_passed (Failed None) h = absurd (eqb-false 111 102 refl (ap (λ (z : List ℕ). get_or z 12 0) h.2))
+tail_passed (Failed (Some m)) h = absurd (eqb-false 111 102 refl (ap (λ (z : List ℕ). get_or z 12 0) h.2))
+tail_passed (Measured m) h = absurd cc
+
+tail_ignored : (v : Outcome) → IsTail false v (tail Ignored) → v ≡ Ignored
+unfolding failure_tail
+tail_ignored Passed h = absurd (eqb-false 105 111 refl (ap (λ (z : List ℕ). get_or z 12 0) h.2))
+tail_ignored Ignored h = refl
+tail_ignored (Failed None) h = absurd (eqb-false 105 102 refl (ap (λ (z : List ℕ). get_or z 12 0) h.2))
+tail_ignored (Failed (Some m)) h = absurd (eqb-false 105 102 refl (ap (λ (z : List ℕ). get_or z 12 0) h.2))
+tail_ignored (Measured m) h = absurd cc
+
+tail_failed : (v : Outcome) → IsTail false v (tail (Failed None)) → v ≡ Failed None
+unfolding failure_tail
+tail_failed Passed h = absurd (eqb-false 102 111 refl (ap (λ (z : List ℕ). get_or z 12 0) h.2))
+tail_failed Ignored h = absurd (eqb-false 102 105 refl (ap (λ (z : List ℕ). get_or z 12 0) h.2))
+tail_failed (Failed None) h = refl
+tail_failed (Failed (Some m)) h = absurd (eqb-false 32 44 refl (ap (λ (z : List ℕ). get_or z 19 0) h.2))
+tail_failed (Measured m) h = absurd cc
+
+pub is_passed : (rest : List ℕ) → rest ≡ tail Passed → Decodes (IsTail false) rest (Some Passed)
+is_passed rest e = ((refl, tt, e), λ v h. tail_passed v (subst (IsTail false v) e h))
+
+pub is_ignored : (rest : List ℕ) → rest ≡ tail Ignored → Decodes (IsTail false) rest (Some Ignored)
+is_ignored rest e = ((refl, tt, e), λ v h. tail_ignored v (subst (IsTail false v) e h))
+
+pub is_failed : (rest : List ℕ) → rest ≡ tail (Failed None) → Decodes (IsTail false) rest (Some (Failed None))
+is_failed rest e = ((refl, tt, e), λ v h. tail_failed v (subst (IsTail false v) e h))
+
+-- ---- a measurement
+
+abbrev pub median : List ℕ
+median = codes ", \"median\": "
+
+abbrev pub deviation : List ℕ
+deviation = codes ", \"deviation\": "
+
+pub measured_first : (rest first : List ℕ) (v : Outcome) → IsTail true v rest → rest ≡ median ++ first → (x : ℕ) × (y : ℕ) × (v ≡ measured x y) × (x < 2 ^ 64) × (y < 2 ^ 64) × (first ≡ decimal x ++ (deviation ++ (decimal y ++ close)))
+measured_first rest first Passed h e = absurd cc
+measured_first rest first Ignored h e = absurd cc
+measured_first rest first (Failed m) h e = absurd cc
+measured_first rest first (Measured m) h e = (m.avg, m.variance, refl, h.1.0, h.1.1, append_cancel_left median first _ (sym e ∙ h.2))
+
+pub no_median : (rest : List ℕ) (v : Outcome) → ((more : List ℕ) → rest ≢ median ++ more) → IsTail true v rest → ⊥
+no_median rest Passed none h = absurd cc
+no_median rest Ignored none h = absurd cc
+no_median rest (Failed m) none h = absurd cc
+no_median rest (Measured m) none h = none (decimal m.avg ++ (deviation ++ (decimal m.variance ++ close))) h.2
+
+pub measured_second : (rest first second : List ℕ) (n : ℕ) (v : Outcome) → IsTail true v rest → rest ≡ median ++ first → ReadsNumber first (Some (n, second))
+    → (y : ℕ) × (v ≡ measured n y) × (y < 2 ^ 64) × (second ≡ deviation ++ (decimal y ++ close))
+measured_second rest first second n v h e read =
+    let m = measured_first rest first v h e in
+    let r = read.3 m.0 (deviation ++ (decimal m.1 ++ close)) m.3 (λ a b. omega arith) m.5 in
+    (m.1, m.2 ∙ ap (λ (x : ℕ). measured x m.1) r.0, m.4, sym r.1)
+
+pub measured_third : (rest first second third end : List ℕ) (n k : ℕ) (v : Outcome) → IsTail true v rest → rest ≡ median ++ first → ReadsNumber first (Some (n, second)) → second ≡ deviation ++ third → ReadsNumber third (Some (k, end))
+    → (v ≡ measured n k) × (close ≡ end)
+measured_third rest first second third end n k v h e read f again =
+    let m = measured_second rest first second n v h e read in
+    let third-is : third ≡ decimal m.0 ++ close = append_cancel_left deviation third (decimal m.0 ++ close) (sym f ∙ m.3) in
+    let r = again.3 m.0 close m.2 (λ a b. omega arith) third-is in
+    (m.1 ∙ ap (λ (y : ℕ). measured n y) r.0, r.1)
+
+pub measured_all : (rest first second third end : List ℕ) (n k : ℕ) → rest ≡ median ++ first → ReadsNumber first (Some (n, second)) → second ≡ deviation ++ third → ReadsNumber third (Some (k, end)) → end ≡ close
+    → Decodes (IsTail true) rest (Some (measured n k))
+measured_all rest first second third end n k e read f again last =
+    ((refl, (read.0, again.0), e ∙ ap (λ (x : List ℕ). median ++ x) (read.1 ∙ ap (λ (x : List ℕ). decimal n ++ x) (f ∙ ap (λ (x : List ℕ). deviation ++ x) (again.1 ∙ ap (λ (x : List ℕ). decimal k ++ x) last)))),
+     λ v h. (measured_third rest first second third end n k v h e read f again).0)

@@ -1,0 +1,61 @@
+-- No spelling of a byte begins the spelling of another.
+use Rattle.std.proofs.Common.{◌≡◌, ℕ, zero, suc, ◌+◌, ◌<◌, ◌≤◌, Bool, true, false, eqb, ltb, ◌&&◌, List, [], ◌∷◌, ◌++◌, refl, sym, ap, subst, ◌∙◌, arith, inl, inr, rules}
+use Rattle.std.proofs.lemmas.Bool.{cases_lt, eqb-true, lt-ltb}
+use Rattle.std.proofs.lemmas.Bool.Decides.{nat_tests}
+use Rattle.std.proofs.lemmas.List.{append_cancel_left}
+use Rattle.libtest_mimic.specs.Escape.{escape, escape_char}
+use Rattle.libtest_mimic.proofs.Escapes.{escape-high}
+use Rattle.mimic_events.specs.Parts.{candidate_of, after_backslash, after_u}
+
+-- p holds of each number below n
+abbrev pub all_below : (ℕ → Bool) → ℕ → Bool
+all_below p zero = true
+all_below p (suc n) = p n && all_below p n
+
+and_left : (a b : Bool) → (a && b) ≡ true → a ≡ true
+and_left true b h = refl
+and_left false b h = absurd cc
+
+and_right : (a b : Bool) → (a && b) ≡ true → b ≡ true
+and_right true b h = h
+and_right false b h = absurd cc
+
+pub one_below : (p : ℕ → Bool) (n k : ℕ) → all_below p n ≡ true → k < n → p k ≡ true
+one_below p zero k h lt = absurd (omega arith)
+one_below p (suc n) k h lt =
+    elim (cases_lt k n) [
+      | inl below ↦ one_below p n k (and_right (p n) (all_below p n) h) below
+      | inr above ↦ let e : n ≡ k = omega arith in subst (λ m. p m ≡ true) e (and_left (p n) (all_below p n) h)
+    ]
+
+not_backslash : (b : ℕ) → 93 ≤ b → eqb b 92 ≡ false
+not_backslash b h = grind (arith, nat_tests)
+
+candidate_plain : (b : ℕ) (rest : List ℕ) → 93 ≤ b → candidate_of (b ∷ rest) ≡ b
+unfolding candidate_of
+candidate_plain b rest h = rw (not_backslash b h) refl
+
+low_again : (rest : List ℕ) → all_below (λ b. eqb (candidate_of (escape b ++ rest)) b) 93 ≡ true
+unfolding candidate_of after_backslash after_u
+low_again rest = refl
+
+pub again : (b : ℕ) (rest : List ℕ) → candidate_of (escape b ++ rest) ≡ b
+again b rest =
+    elim (cases_lt b 93) [
+      | inl low ↦ eqb-true _ _ (one_below (λ c. eqb (candidate_of (escape c ++ rest)) c) 93 b (low_again rest) low)
+      | inr high ↦ rw (escape-high b high) (candidate_plain b rest high)
+    ]
+
+-- two readings of one text are one
+pub one_split : (text : List ℕ) (b : ℕ) (rest : List ℕ) → text ≡ escape b ++ rest → (v : ℕ) (others : List ℕ) → text ≡ escape v ++ others → (v ≡ b) × (others ≡ rest)
+one_split text b rest e v others f =
+    let same : v ≡ b = sym (again v others) ∙ ap candidate_of (sym f ∙ e) ∙ again b rest in
+    (same, append_cancel_left (escape b) others rest (subst (λ (x : ℕ). escape x ++ others ≡ escape b ++ rest) same (sym f ∙ e)))
+
+-- a text that a spelling begins is told by its candidate
+pub candidate_at : (text : List ℕ) (v : ℕ) (rest : List ℕ) → text ≡ escape v ++ rest → candidate_of text ≡ v
+candidate_at text v rest e = ap candidate_of e ∙ again v rest
+
+-- a character of one byte is escaped as its byte is
+pub escape_char-ascii : (b : ℕ) → b < 128 → escape_char b ≡ escape b
+escape_char-ascii b h = rw (lt-ltb b 128 h) refl

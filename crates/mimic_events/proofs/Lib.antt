@@ -1,0 +1,11 @@
+pub mod Digits
+pub mod EndedLines
+pub mod Escapes
+pub mod Fronts
+pub mod NamedLines
+pub mod QuotedTexts
+pub mod Readings
+pub mod Runs
+pub mod Steps
+pub mod Summaries
+pub mod WholeLines

@@ -1,0 +1,14 @@
+use Rattle.std.proofs.Common.{◌≡◌, None, rules, option_map}
+use Rattle.libtest_mimic.specs.declared.outcome.Outcome.TheVariants.{Passed, Failed, Ignored}
+use Rattle.mimic_events.specs.Parts.{tail}
+use Rattle.mimic_events.proofs.EndedLines.{is_passed, is_ignored, is_failed, tail_some}
+use Rattle.mimic_events.proofs.lines.tested.Goals as goal
+
+pub returns-then-eq : goal.returns-then-eq
+returns-then-eq c = let e : c.args.rest.now ≡ tail Passed = search rules in is_passed c.args.rest.now e
+
+pub returns-then-eq-2 : goal.returns-then-eq-2
+returns-then-eq-2 c = let e : c.args.rest.now ≡ tail Ignored = search rules in is_ignored c.args.rest.now e
+
+pub returns-then-eq-3 : goal.returns-then-eq-3
+returns-then-eq-3 c = let e : c.args.rest.now ≡ tail (Failed None) = search rules in rw c.without_message.ensures (is_failed c.args.rest.now e)

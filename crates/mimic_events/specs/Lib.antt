@@ -1,0 +1,4 @@
+pub mod Contents
+pub mod Parts
+pub mod Reading
+pub mod Steps

@@ -1,0 +1,125 @@
+-- What the private readers of parts of a line promise one another. No public clause names these words.
+use Rattle.std.specs.Prelude.{◌≡◌, ◌≢◌, ℕ, ◌+◌, ◌-◌, ◌<◌, ◌≤◌, ◌^◌, ◌==◌, nat_lt, if◌then◌else◌, Bool, true, false, List, [], ◌∷◌, ◌++◌, codes, decimal, Option, Some, None, IsUtf8}
+use Rattle.std.specs.Borrow.{Bor}
+use Rattle.std.specs.List.{concat}
+use Rattle.std.specs.Str.Parse.{AllDigits}
+use Rattle.libtest_mimic.specs.declared.outcome.Outcome.{Outcome}
+use Rattle.libtest_mimic.specs.declared.outcome.Outcome.TheVariants.{Passed, Failed, Ignored, Measured}
+use Rattle.libtest_mimic.specs.declared.outcome.conclusion.Conclusion.{Conclusion}
+use Rattle.libtest_mimic.specs.Escape.{escaped}
+use Rattle.libtest_mimic.specs.Json.{json_verdict}
+use Rattle.libtest_mimic.specs.Promise.{FitsTypes}
+
+-- ---- fronts
+
+-- the text is the front and then what was found; where nothing was found, the text doesn't begin with the front
+abbrev pub Follows : List ℕ → List ℕ → Option (Bor (List ℕ)) → Type 0
+Follows front text None = (rest : List ℕ) → text ≢ front ++ rest
+Follows front text (Some rest) = text ≡ front ++ rest.now
+
+-- ---- texts in quotes
+
+-- the byte that a backslash and a letter stand for
+abbrev pub named_of : ℕ → ℕ
+named_of letter =
+    if letter == 98 then 8
+    else (if letter == 116 then 9
+    else (if letter == 110 then 10
+    else (if letter == 102 then 12
+    else (if letter == 114 then 13
+    else letter))))
+
+-- the byte of two hexadecimal digits, the first of them 0 or 1
+abbrev pub control_of : ℕ → ℕ → ℕ
+control_of high low = (if high == 49 then 16 else 0) + (if nat_lt low 58 then low - 48 else low - 87)
+
+-- the byte of what follows a backslash and a u
+unfoldable pub after_u : List ℕ → ℕ
+after_u (c ∷ d ∷ high ∷ low ∷ rest) = control_of high low
+after_u text = 117
+
+-- the byte of what follows a backslash
+unfoldable pub after_backslash : List ℕ → ℕ
+after_backslash [] = 92
+after_backslash (letter ∷ rest) = if letter == 117 then after_u rest else named_of letter
+
+-- the byte that the spelling at the front would be of, whether or not it is the right spelling
+unfoldable pub candidate_of : List ℕ → ℕ
+candidate_of [] = 0
+candidate_of (b ∷ rest) = if b == 92 then after_backslash rest else b
+
+-- what was found is spelled at the front, and the rest follows, and nothing else is; where nothing was found, nothing is spelled there
+abbrev pub Splits : {V : Type 0} → (V → List ℕ) → List ℕ → Option (V × List ℕ) → Type 0
+Splits {V} spelling text None = (v : V) (rest : List ℕ) → text ≡ spelling v ++ rest → ⊥
+Splits {V} spelling text (Some found) = (text ≡ spelling found.0 ++ found.1)
+    × ((v : V) (rest : List ℕ) → text ≡ spelling v ++ rest → (v ≡ found.0) × (rest ≡ found.1))
+
+-- the bytes begin with the spelling of the text, and the rest follows; no other text ends there at a quote
+pub record ReadsEscaped (bytes text rest : List ℕ) : Type 0 where
+  pub front : bytes ≡ escaped text ++ rest
+  pub only : (other after : List ℕ) → bytes ≡ escaped other ++ 34 ∷ after → (other ≡ text) × (34 ∷ after ≡ rest)
+
+-- what was found is the text up to a closing quote, and what follows the quote; else no text ends at a quote
+abbrev pub ReadsQuoted : List ℕ → Option (List ℕ × List ℕ) → Type 0
+ReadsQuoted bytes None = (text rest : List ℕ) → bytes ≡ escaped text ++ 34 ∷ rest → ⊥
+ReadsQuoted bytes (Some found) = (bytes ≡ escaped found.0 ++ 34 ∷ found.1)
+    × ((text rest : List ℕ) → bytes ≡ escaped text ++ 34 ∷ rest → (text ≡ found.0) × (rest ≡ found.1))
+
+-- the same behind a front
+abbrev pub ReadsNamed : List ℕ → List ℕ → Option (List ℕ × List ℕ) → Type 0
+ReadsNamed front bytes None = (text rest : List ℕ) → bytes ≡ front ++ (escaped text ++ 34 ∷ rest) → ⊥
+ReadsNamed front bytes (Some found) = (bytes ≡ front ++ (escaped found.0 ++ 34 ∷ found.1))
+    × ((text rest : List ℕ) → bytes ≡ front ++ (escaped text ++ 34 ∷ rest) → (text ≡ found.0) × (rest ≡ found.1))
+
+-- ---- numbers
+
+-- no digit stands first
+abbrev pub EndsNumber : List ℕ → Type 0
+EndsNumber [] = Unit {0}
+EndsNumber (b ∷ bytes) = 48 ≤ b → b ≤ 57 → ⊥
+
+-- the digits at the front, all of them, and the rest
+pub record SplitsDigits (bytes front rest : List ℕ) : Type 0 where
+  pub parts : bytes ≡ front ++ rest
+  pub digits : AllDigits 10 front
+  pub stop : EndsNumber rest
+
+-- what was found is the number at the front, before the rest, and no other number ends there; else none does
+abbrev pub ReadsNumber : List ℕ → Option (ℕ × List ℕ) → Type 0
+ReadsNumber bytes None = (n : ℕ) (rest : List ℕ) → n < 2 ^ 64 → EndsNumber rest → bytes ≡ decimal n ++ rest → ⊥
+ReadsNumber bytes (Some found) = (found.0 < 2 ^ 64) × (bytes ≡ decimal found.0 ++ found.1) × EndsNumber found.1
+    × ((n : ℕ) (rest : List ℕ) → n < 2 ^ 64 → EndsNumber rest → bytes ≡ decimal n ++ rest → (n ≡ found.0) × (rest ≡ found.1))
+
+-- ---- lines
+
+-- the lines of measurements have a front of their own
+abbrev pub is_bench : Outcome → Bool
+is_bench Passed = false
+is_bench (Failed f) = false
+is_bench Ignored = false
+is_bench (Measured m) = true
+
+-- what follows the name in the line of a failure with a message
+unfoldable pub failure_tail : List ℕ → List ℕ
+failure_tail message = codes ", \"event\": \"failed\", \"stdout\": \"Error: \\\"" ++ (escaped message ++ codes "\\\"\\n\" }\n")
+
+abbrev pub IsFailure : List ℕ → List ℕ → Type 0
+IsFailure message text = IsUtf8 message × (text ≡ failure_tail message)
+
+-- what follows the name and its closing quote in the line of an outcome
+abbrev pub tail : Outcome → List ℕ
+tail Passed = codes ", \"event\": \"ok\" }\n"
+tail (Failed None) = codes ", \"event\": \"failed\" }\n"
+tail (Failed (Some message)) = failure_tail message
+tail Ignored = codes ", \"event\": \"ignored\" }\n"
+tail (Measured m) = codes ", \"median\": " ++ (decimal m.avg ++ (codes ", \"deviation\": " ++ (decimal m.variance ++ codes " }\n")))
+
+abbrev pub IsTail : Bool → Outcome → List ℕ → Type 0
+IsTail bench outcome text = (is_bench outcome ≡ bench) × FitsTypes outcome × (text ≡ tail outcome)
+
+-- a summary line of these counts, up to the number of trials that were filtered out
+unfoldable pub summary_front : Conclusion → List ℕ
+summary_front c = codes "{ \"type\": \"suite\", \"event\": \"" ++ (json_verdict c.num_failed
+    ++ ((codes "\", \"passed\": " ++ decimal c.num_passed) ++ ((codes ", \"failed\": " ++ decimal c.num_failed)
+    ++ ((codes ", \"ignored\": " ++ decimal c.num_ignored) ++ ((codes ", \"measured\": " ++ decimal c.num_measured)
+    ++ codes ", \"filtered_out\": ")))))

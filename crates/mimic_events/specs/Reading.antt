@@ -1,0 +1,37 @@
+-- What readers answer, and what they read.
+use Rattle.std.specs.Prelude.{◌≡◌, ℕ, ◌<◌, ◌^◌, List, map, decimal, Option, Some, None, IsUtf8}
+use Rattle.libtest_mimic.specs.declared.outcome.Outcome.{Outcome}
+use Rattle.libtest_mimic.specs.Count.{counts_of}
+use Rattle.libtest_mimic.specs.Json.{Entry, json_title, json_announcement, json_outcome, json_summary}
+use Rattle.libtest_mimic.specs.Promise.{FitsTypes}
+use Rattle.libtest_mimic.specs.Seconds.{exact_seconds}
+
+-- what was found is the one value that the text spells; where nothing was found, the text spells none
+abbrev pub Decodes : {V : Type 0} → (V → List ℕ → Type 0) → List ℕ → Option V → Type 0
+Decodes {V} spells text None = (v : V) → spells v text → ⊥
+Decodes {V} spells text (Some found) = spells found text × ((v : V) → spells v text → v ≡ found)
+
+-- the text is a number below 2^64 in plain decimal
+abbrev pub IsNumber : ℕ → List ℕ → Type 0
+IsNumber n text = (n < 2 ^ 64) × (text ≡ decimal n)
+
+-- the text is nanoseconds below 2^64 in seconds
+abbrev pub IsSeconds : ℕ → List ℕ → Type 0
+IsSeconds nanos text = (nanos < 2 ^ 64) × (text ≡ exact_seconds nanos)
+
+-- the line begins a report of so many rows
+abbrev pub IsTitle : ℕ → List ℕ → Type 0
+IsTitle count line = (count < 2 ^ 64) × (line ≡ json_title count)
+
+-- the line announces the trial of this name
+abbrev pub IsAnnouncement : List ℕ → List ℕ → Type 0
+IsAnnouncement name line = IsUtf8 name × (line ≡ json_announcement name)
+
+-- the line says this outcome of the trial of this name
+abbrev pub IsOutcome : List ℕ → Outcome → List ℕ → Type 0
+IsOutcome name outcome line = FitsTypes outcome × (line ≡ json_outcome name outcome)
+
+-- the line ends a report of these rows, with so many trials filtered out and so many nanoseconds
+abbrev pub IsSummary : List Entry → ℕ × ℕ → List ℕ → Type 0
+IsSummary entries numbers line = (numbers.0 < 2 ^ 64) × (numbers.1 < 2 ^ 64)
+    × (line ≡ json_summary (counts_of (map (λ entry. entry.outcome) entries) numbers.0) numbers.1)

@@ -1,0 +1,99 @@
+//! Numbers and seconds, as a report spells them.
+ghost use Rattle.std.specs.Prelude.{◌≡◌, ◌<◌, ◌≤◌, ◌+◌, ◌*◌, ◌^◌, length, option_map, SomeIff};
+ghost use Rattle.std.specs.Str.Parse.{IsNumeral, digits_value};
+ghost use Rattle.libtest_mimic.specs.Seconds.{IsFraction, IsRest};
+ghost use Rattle.mimic_events.specs.Reading.{Decodes, IsNumber, IsSeconds};
+ghost use Rattle.mimic_events.specs.Parts.{SplitsDigits, ReadsNumber};
+
+use itoa::Buffer;
+use std::str;
+
+const NANOS_PER_SECOND: u64 = 1_000_000_000;
+
+// The number at the front, and what follows its digits.
+pub fn number_at(bytes: &[u8]) -> Option<(u64, &[u8])>
+    ensures { ReadsNumber bytes.now (option_map (λ found. (found.0, found.1.now)) result) }
+{
+    let (digits, rest) = digits_at(bytes);
+    let number = number(digits)?;
+    Some((number, rest))
+}
+
+// The nanoseconds of a text that is seconds in exact decimal.
+pub fn seconds(text: &[u8]) -> Option<u64>
+    ensures { Decodes IsSeconds text.now result }
+{
+    let (whole, rest) = number_at(text)?;
+    let fraction = rest_of_second(rest)?;
+    nanos_of(whole, fraction)
+}
+
+// The digits at the front, all of them, and what follows.
+fn digits_at(bytes: &[u8]) -> (&[u8], &[u8])
+    ensures { SplitsDigits bytes.now result.0.now result.1.now }
+{
+    let mut len = 0;
+    while len < bytes.len() && bytes[len].is_ascii_digit() {
+        len += 1;
+    }
+    bytes.split_at(len)
+}
+
+// The number in plain decimal. `parse` also takes a sign and leading zeros, so the number is written again.
+fn number(text: &[u8]) -> Option<u64>
+    ensures { Decodes IsNumber text.now result }
+{
+    let Ok(text) = str::from_utf8(text) else {
+        return None;
+    };
+    match text.parse::<u64>() {
+        Ok(number) if Buffer::new().format(number) == text => Some(number),
+        _ => None,
+    }
+}
+
+// The nanoseconds of what follows the whole seconds.
+fn rest_of_second(text: &[u8]) -> Option<u64>
+    ensures { Decodes IsRest text.now result }
+{
+    match text {
+        [] => Some(0),
+        [b'.', digits @ ..] => fraction(digits),
+        _ => None,
+    }
+}
+
+// The nanoseconds of the digits behind the point.
+fn fraction(digits: &[u8]) -> Option<u64>
+    ensures { Decodes IsFraction digits.now result }
+{
+    if digits.len() > 9 {
+        return None;
+    }
+    let value = numeral(digits)?;
+    if digits[digits.len() - 1] == b'0' {
+        return None;
+    }
+    Some(value * 10_u64.pow(9 - digits.len() as u32))
+}
+
+// The number that at most nine digits write, with leading zeros or without.
+fn numeral(digits: &[u8]) -> Option<u64>
+    requires { length digits.now ≤ 9 }
+    ensures { SomeIff result (IsNumeral 10 digits.now) (digits_value 10 digits.now) }
+{
+    if digits.is_empty() || digits[0] == b'+' {
+        return None;
+    }
+    match str::from_utf8(digits) {
+        Ok(text) => text.parse().ok(),
+        Err(_) => None,
+    }
+}
+
+// Whole seconds and a fraction, in nanoseconds.
+fn nanos_of(seconds: u64, fraction: u64) -> Option<u64>
+    ensures { SomeIff result (seconds * 10 ^ 9 + fraction < 2 ^ 64) (seconds * 10 ^ 9 + fraction) }
+{
+    seconds.checked_mul(NANOS_PER_SECOND)?.checked_add(fraction)
+}

@@ -1,0 +1,101 @@
+//! Texts between the quotes of a JSON string.
+ghost use Rattle.std.specs.Prelude.{◌≡◌, IfOk, option_map};
+ghost use Rattle.libtest_mimic.specs.Escape.{escape};
+ghost use Rattle.mimic_events.specs.Parts.{named_of, control_of, candidate_of, Splits, ReadsEscaped, ReadsQuoted, ReadsNamed};
+
+use crate::strip::after;
+use libtest_mimic::text::escape_char;
+use std::alloc::{AllocError, Global};
+
+// The text in quotes behind this front, which ends with the opening quote, and what follows the closing one.
+pub fn quoted_after<'a>(
+    alloc: Global,
+    line: &'a [u8],
+    front: &[u8],
+) -> Result<Option<(Vec<u8>, &'a [u8])>, AllocError>
+    ensures { IfOk result (λ found. ReadsNamed front.now line.now (option_map (λ x. (x.0.items, x.1.now)) found)) }
+{
+    let Some(rest) = after(line, front) else {
+        return Ok(None);
+    };
+    let found = quoted_at(alloc, rest)?;
+    Ok(found)
+}
+
+// The text up to the closing quote, and what follows that.
+fn quoted_at(alloc: Global, bytes: &[u8]) -> Result<Option<(Vec<u8>, &[u8])>, AllocError>
+    ensures { IfOk result (λ found. ReadsQuoted bytes.now (option_map (λ x. (x.0.items, x.1.now)) found)) }
+{
+    let (text, rest) = escaped_at(alloc, bytes)?;
+    match rest {
+        [b'"', rest @ ..] => Ok(Some((text, rest))),
+        _ => Ok(None),
+    }
+}
+
+// The text whose spelling the bytes begin with, as far as spellings go, and what follows.
+fn escaped_at(alloc: Global, bytes: &[u8]) -> Result<(Vec<u8>, &[u8]), AllocError>
+    ensures { IfOk result (λ found. ReadsEscaped bytes.now found.0.items found.1.now) }
+{
+    let mut text = Vec::new(alloc);
+    let mut rest = bytes;
+    while let Some((byte, after)) = unescape(rest) {
+        text.push(byte)?;
+        rest = after;
+    }
+    Ok((text, rest))
+}
+
+// The byte whose spelling the text begins with, and what follows.
+fn unescape(text: &[u8]) -> Option<(u8, &[u8])>
+    ensures { Splits escape text.now (option_map (λ found. (found.0, found.1.now)) result) }
+{
+    let byte = candidate(text);
+    if byte.is_ascii() {
+        let rest = after(text, escape_char(char::from(byte)).as_str().as_bytes())?;
+        Some((byte, rest))
+    } else {
+        let rest = after(text, &[byte])?;
+        Some((byte, rest))
+    }
+}
+
+// The byte that the spelling at the front would be of, whether or not it is spelled so.
+#[tactic(auto, unfolding(crate::specs::Parts::candidate_of, crate::specs::Parts::after_backslash, crate::specs::Parts::after_u))]
+fn candidate(text: &[u8]) -> u8
+    ensures { result ≡ candidate_of text.now }
+{
+    match text {
+        [b'\\', b'u', _, _, high, low, ..] => control(*high, *low),
+        [b'\\', letter, ..] => named(*letter),
+        [byte, ..] => *byte,
+        [] => 0,
+    }
+}
+
+// The byte that a backslash and this letter stand for.
+fn named(letter: u8) -> u8
+    ensures { result ≡ named_of letter }
+{
+    match letter {
+        b'b' => 8,
+        b't' => b'\t',
+        b'n' => b'\n',
+        b'f' => 12,
+        b'r' => b'\r',
+        other => other,
+    }
+}
+
+// The control character of two hexadecimal digits.
+fn control(high: u8, low: u8) -> u8
+    ensures { result ≡ control_of high low }
+{
+    let front = if high == b'1' { 16 } else { 0 };
+    let back = if low <= b'9' {
+        low.saturating_sub(b'0')
+    } else {
+        low.saturating_sub(b'a' - 10)
+    };
+    front + back
+}

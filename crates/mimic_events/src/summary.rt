@@ -1,0 +1,52 @@
+//! The line that ends a report.
+ghost use Rattle.std.specs.Prelude.{◌≡◌, ◌++◌, List, ℕ, decimal, map};
+ghost use Rattle.libtest_mimic.specs.Json.{json_verdict};
+ghost use Rattle.mimic_events.specs.Contents.{entry_of};
+ghost use Rattle.mimic_events.specs.Parts.{Follows, summary_front};
+ghost use Rattle.mimic_events.specs.Reading.{Decodes, IsSummary};
+
+use crate::counts::counts_of_rows;
+use crate::numbers::{number_at, seconds};
+use crate::report::Row;
+use crate::strip::{after, before};
+use itoa::Buffer;
+use libtest_mimic::Conclusion;
+
+// The number of trials that were filtered out and the nanoseconds, of a summary line of these rows.
+pub fn summed(rows: &[Row], line: &[u8]) -> Option<(u64, u64)>
+    ensures { Decodes (IsSummary (map entry_of rows.now)) line.now result }
+{
+    let rest = after_counts(line, &counts_of_rows(rows, 0))?;
+    let (filtered_out, rest) = number_at(rest)?;
+    let rest = after(rest, b", \"exec_time\": ")?;
+    let nanos = seconds(before(rest, b" }\n")?)?;
+    Some((filtered_out, nanos))
+}
+
+// What follows a summary line up to the four counts of outcomes, where the text begins with that.
+fn after_counts<'a>(line: &'a [u8], counts: &Conclusion) -> Option<&'a [u8]>
+    ensures { Follows (summary_front counts.now) line.now result }
+{
+    let rest = after(line, b"{ \"type\": \"suite\", \"event\": \"")?;
+    let rest = after(rest, verdict(counts).as_bytes())?;
+    let rest = after_count(rest, b"\", \"passed\": ", counts.num_passed)?;
+    let rest = after_count(rest, b", \"failed\": ", counts.num_failed)?;
+    let rest = after_count(rest, b", \"ignored\": ", counts.num_ignored)?;
+    let rest = after_count(rest, b", \"measured\": ", counts.num_measured)?;
+    after(rest, b", \"filtered_out\": ")
+}
+
+// What follows a label and this number, where the text begins with them.
+fn after_count<'a>(text: &'a [u8], label: &[u8], count: u64) -> Option<&'a [u8]>
+    ensures { Follows (label.now ++ decimal count) text.now result }
+{
+    let rest = after(text, label)?;
+    after(rest, Buffer::new().format(count).as_bytes())
+}
+
+// Whether the whole run failed, in a word.
+fn verdict(counts: &Conclusion) -> &'static str
+    ensures { result.now ≡ json_verdict counts.now.num_failed }
+{
+    if counts.has_failed() { "failed" } else { "ok" }
+}
