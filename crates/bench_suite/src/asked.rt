@@ -61,7 +61,7 @@ fn format_named(word: Option<String>) -> Result<FormatSetting, Fault> {
     match word.as_str() {
         "pretty" => Ok(FormatSetting::Pretty),
         "terse" => Ok(FormatSetting::Terse),
-        "json" => Err(Fault::Json),
+        "json" => Ok(FormatSetting::Json),
         _ => Err(Fault::Usage),
     }
 }
@@ -71,5 +71,6 @@ pub(crate) fn format_name(format: FormatSetting) -> &'static str {
     match format {
         FormatSetting::Pretty => "pretty",
         FormatSetting::Terse => "terse",
+        FormatSetting::Json => "json",
     }
 }

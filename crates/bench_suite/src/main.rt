@@ -32,10 +32,8 @@ const MESSAGE: &str = "the left side is not equal to the right!";
 // Why nothing, or not all, was measured.
 #[derive(Debug, Drop, Error)]
 pub(crate) enum Fault {
-    #[error("usage: bench_suite N pretty|terse THREADS [fail_every K] [logfile PATH]")]
+    #[error("usage: bench_suite N pretty|terse|json THREADS [fail_every K] [logfile PATH]")]
     Usage,
-    #[error("the format json is not there yet")]
-    Json,
     #[error("cannot create the logfile")]
     Logfile,
     #[error("{0}")]
@@ -50,7 +48,7 @@ fn main(rt: HostRuntime) -> ExitCode {
         Err(fault) => {
             let _ = eprintln!(rt; "bench_suite: {fault}");
             ExitCode::from(match fault {
-                Fault::Usage | Fault::Json => REFUSED_LINE,
+                Fault::Usage => REFUSED_LINE,
                 _ => FAULT,
             })
         }

@@ -1,10 +1,10 @@
 //! Runs the tests, and writes their report.
 use crate::Fault;
 use crate::asked::Asked;
-use libtest_mimic::{Arguments, Clock, Conclusion, RunError, Sink, Stopwatch, Trial, run_here};
+use libtest_mimic::{Arguments, Clock, Conclusion, Trial};
+use mimic_output::{Passing, buffered, run_into};
 use std::alloc::Global;
-use std::io::{BufWriter, Write};
-use std::{fs, io};
+use std::fs;
 
 // A clock that stands still.
 #[derive(Drop)]
@@ -16,21 +16,7 @@ impl Clock for Still {
     }
 }
 
-// A buffer that hands on whole blocks alone, whatever is flushed: nobody looks on at a logfile.
-#[derive(Drop)]
-struct Blocks<W: Write + Drop>(BufWriter<W>);
-
-impl<W: Write + Drop> Write for Blocks<W> {
-    fn write(&mut self, buf: &[u8]) -> io::Result<usize> {
-        self.0.write(buf)
-    }
-
-    fn flush(&mut self) -> io::Result<()> {
-        Ok(())
-    }
-}
-
-/// Runs the tests into the logfile, or to standard output, where each announcement is handed on before its test runs.
+/// Runs the tests into the logfile, or to standard output, as a harness does.
 pub(crate) fn report(
     rt: &HostRuntime,
     alloc: Global,
@@ -40,32 +26,18 @@ pub(crate) fn report(
     let mut args = Arguments::new(alloc);
     args.format = Some(asked.format);
     args.test_threads = Some(asked.threads);
-    match &asked.logfile {
+    let ran = match &asked.logfile {
         Some(path) => {
             let Ok(file) = fs::create(rt, path.as_str()) else {
                 return Err(Fault::Logfile);
             };
-            let mut blocks = Blocks(BufWriter::new(alloc, file)?);
-            let conclusion = run_tests(alloc, &args, tests, &mut blocks)?;
-            blocks.0.flush()?;
-            Ok(conclusion)
+            let output = buffered(alloc, Passing::Blocks, file)?;
+            run_into(alloc, &args, tests, output, Still).1
         }
         None => {
-            let mut buffered = BufWriter::new(alloc, rt.stdout())?;
-            let conclusion = run_tests(alloc, &args, tests, &mut buffered)?;
-            buffered.flush()?;
-            Ok(conclusion)
+            let output = buffered(alloc, Passing::of_format(asked.format), rt.stdout())?;
+            run_into(alloc, &args, tests, output, Still).1
         }
-    }
-}
-
-fn run_tests<W: Write>(
-    alloc: Global,
-    args: &Arguments,
-    tests: Vec<Trial>,
-    writer: &mut W,
-) -> Result<Conclusion, RunError> {
-    let mut sink = Sink::new(writer);
-    let mut watch = Stopwatch::new(Still);
-    run_here(alloc, args, tests, &mut sink, &mut watch, false)
+    };
+    Ok(ran?)
 }

@@ -8,7 +8,7 @@ use Rattle.libtest_mimic.specs.declared.outcome.conclusion.Conclusion.{Conclusio
 use Rattle.libtest_mimic.specs.Count.{total_of}
 use Rattle.libtest_mimic.specs.Run.{HasAnswer}
 use Rattle.harness.specs.declared.program.Fault.{Fault}
-use Rattle.harness.specs.Run.{Ran, GotBeginning}
+use Rattle.mimic_output.specs.Run.{Ran, GotBeginning}
 
 -- 101 where a trial failed, 0 where none did, 1 where the run was refused: the statuses of `rustc --test`, and 1 our own choice
 abbrev pub status_of : Result Conclusion Fault → ℕ

@@ -3,16 +3,15 @@
 
 mod clock;
 mod mixed_bag;
-mod output;
 mod program;
 #[cfg(test)]
 mod tests;
 
 use clock::MonotonicClock;
 use libtest_mimic::{Arguments, Failed, Measurement, RunError, Trial};
+use mimic_output::{Passing, buffered};
 use mixed_bag::{Answer, MIXED_BAG, benchmark_answer, mixed_bag_trials, test_answer};
-use output::Passing;
-use program::{CANNOT_RUN, buffered, harness_run};
+use program::{CANNOT_RUN, harness_run};
 use std::process::ExitCode;
 
 fn main(rt: HostRuntime) -> ExitCode {
@@ -30,7 +29,11 @@ fn run_mixed_bag(rt: &HostRuntime) -> Result<u8, RunError> {
     let alloc = rt.alloc();
     let trials = mixed_bag_trials!(alloc);
     let line = Arguments::from_args(rt, alloc);
-    let out = buffered(alloc, Passing::Lines, rt.stdout())?;
+    let passing = match &line {
+        Ok(args) => Passing::of_format(args.format_used()),
+        Err(_) => Passing::Lines,
+    };
+    let out = buffered(alloc, passing, rt.stdout())?;
     let clock = MonotonicClock::new(rt);
     let (_, status) = harness_run(rt, alloc, line, trials, out, &mut rt.stderr(), clock);
     Ok(status)

@@ -1,21 +1,17 @@
 //! The program, but for reading its command line and making its trials.
-ghost use Rattle.std.specs.Prelude.{◌≡◌, false, IfOk, IsNone, IsOk, OnErr, vec_len};
-ghost use Rattle.std.specs.Io.KnownBytes.{Keeps};
+ghost use Rattle.std.specs.Prelude.{◌≡◌, false, IfOk, IsNone, OnErr, vec_len};
 ghost use Rattle.libtest_mimic.specs.Count.{total_of};
 ghost use Rattle.libtest_mimic.specs.Run.{HasAnswer};
-ghost use Rattle.harness.specs.Output.{told_of};
+ghost use Rattle.mimic_output.specs.Output.{told_of};
 ghost use Rattle.harness.specs.Ended.{Ended, status_of, status_without};
-ghost use Rattle.harness.specs.Run.{GotBeginning, Ran};
+ghost use Rattle.mimic_output.specs.Run.{GotBeginning, Ran};
 
-use crate::output::{Output, Passing};
-use libtest_mimic::{
-    Arguments, ArgumentsError, Clock, Conclusion, RunError, Sink, Stopwatch, Trial, WriteFault,
-    run_here,
-};
+use libtest_mimic::{Arguments, ArgumentsError, Clock, Conclusion, RunError, Trial};
+use mimic_output::{Output, Passing, buffered, run_into};
 use std::alloc::Global;
+use std::fs;
 use std::fs::Files;
 use std::io::Write;
-use std::{fs, io};
 use thiserror::Error;
 
 // The exit statuses.
@@ -144,55 +140,4 @@ fn run_into_logfile<F: Files, C: Clock + Drop>(
     let output = buffered(alloc, Passing::Blocks, file)?;
     let conclusion = run_into(alloc, args, tests, output, clock).1?;
     Ok(conclusion)
-}
-
-// A buffer over the writer. Making it fails only for want of memory, which its error doesn't say by its type.
-pub(crate) fn buffered<W: Write + Drop>(
-    alloc: Global,
-    passing: Passing,
-    writer: W,
-) -> Result<Output<W>, RunError>
-    ensures { IfOk result (λ output. Keeps (W.contents writer) (told_of W.contents output)) }
-{
-    match Output::new(alloc, passing, writer) {
-        Ok(output) => Ok(output),
-        Err(_) => Err(RunError::OutOfMemory),
-    }
-}
-
-// Runs, hands on what the buffer holds at the end, and gives the writer back.
-pub(crate) fn run_into<W: Write + Drop, C: Clock + Drop>(
-    alloc: Global,
-    args: &Arguments,
-    tests: Vec<Trial>,
-    output: Output<W>,
-    clock: C,
-) -> (W, Result<Conclusion, RunError>)
-    ensures ran { IfOk result.1 (λ c. Ran args.now tests.items
-        (told_of W.contents output) (W.contents result.0) 0 (Ok c)) }
-    ensures beginning { OnErr result.1 (GotBeginning args.now tests.items
-        (told_of W.contents output) (W.contents result.0)) }
-    ensures answer { IfOk result.1 (λ c. HasAnswer args.now tests.items (Ok c)) }
-    ensures adds_up { args.now.list ≡ false → IfOk result.1 (λ c. total_of c ≡ vec_len tests) }
-{
-    let mut sink = Sink::new(output);
-    let mut watch = Stopwatch::new(clock);
-    let ran = run_here(alloc, args, tests, &mut sink, &mut watch, false);
-    let (writer, finished) = sink.into_inner().finish();
-    (writer, settled(ran, finished))
-}
-
-// The answer of a run, where what was left could be handed on.
-fn settled(
-    ran: Result<Conclusion, RunError>,
-    finished: io::Result<()>,
-) -> Result<Conclusion, RunError>
-    ensures answered { IfOk result (λ c. ran ≡ Ok c) }
-    ensures finished { IsOk result → IsOk finished }
-{
-    let conclusion = ran?;
-    match finished {
-        Ok(()) => Ok(conclusion),
-        Err(error) => Err(RunError::Write(WriteFault::Error(error))),
-    }
 }

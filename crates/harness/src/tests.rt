@@ -1,10 +1,10 @@
 //! The program over memory: statuses, reports, lists and texts by the words of its command line.
 use crate::mixed_bag::{Answer, MIXED_BAG, benchmark_answer, mixed_bag_trials, test_answer};
-use crate::output::{Output, Passing};
-use crate::program::{harness_run, run_into};
+use crate::program::harness_run;
 use libtest_mimic::{
     Arguments, ArgumentsError, Clock, Failed, Measurement, Sink, Stopwatch, Trial, run_here,
 };
+use mimic_output::{Output, Passing, run_into};
 use std::env::FillError;
 use std::io::Write;
 use std::rt::Env;
@@ -235,7 +235,10 @@ fn reports_in_json(rt: HostRuntime) -> Result<(), Fail> {
     assert!(rt; out.ends_with("}\n"));
     assert_eq!(rt; out.lines().count(), 36);
     for line in out.lines() {
-        assert!(rt; line.starts_with("{ \"type\": \"") && line.ends_with(" }"), "{line}");
+        assert!(rt;
+            line.starts_with("{ \"type\": \"") && line.ends_with(" }"),
+            "{line}"
+        );
     }
     Ok(())
 }
@@ -358,13 +361,13 @@ fn refuses_words_that_are_no_text(rt: HostRuntime) -> Result<(), Fail> {
             &[b"harness", b"--list", b"caf\xe9"],
             2,
             "",
-            "an argument is not UTF-8\n",
+            "cannot read the arguments\n",
         ),
         (
             &[b"harness", b"--help", b"\xff"],
             2,
             "",
-            "an argument is not UTF-8\n",
+            "cannot read the arguments\n",
         ),
         (
             &[b"harness", b"--list", b"fox"],

@@ -82,7 +82,8 @@ impl Arguments {
 
     /// The arguments of the program, by the words that the runtime hands in.
     ///
-    /// `Refused` is answered too where a word is not UTF-8, or there is none.
+    /// `Refused` with the text `cannot read the arguments` is answered too where a word is not UTF-8, or there is
+    /// none.
     pub fn from_args<R: Env + AllocGlobal>(
         rt: &R,
         alloc: Global,
@@ -94,11 +95,11 @@ impl Arguments {
             Err(error) if error.kind() == io::ErrorKind::OutOfMemory => {
                 return Err(ArgumentsError::OutOfMemory);
             }
-            Err(_) => return Err(refused(alloc, "an argument is not UTF-8")?),
+            Err(_) => return Err(refused(alloc, "cannot read the arguments")?),
         };
         let words: Vec<String> = args.collect(alloc)?;
         if words.is_empty() {
-            return Err(refused(alloc, "there is no program name")?);
+            return Err(refused(alloc, "cannot read the arguments")?);
         }
         Arguments::from_iter(alloc, words.as_slice())
     }

@@ -1,6 +1,6 @@
 use Rattle.std.proofs.Common.{Ok}
 use Rattle.libtest_mimic.specs.Run.{HasAnswer}
-use Rattle.harness.proofs.Known.{IfOk-map_err, OnErr-map_err}
+use Rattle.harness.proofs.Mapped.{IfOk-map_err, OnErr-map_err}
 use Rattle.harness.proofs.program.run_line.Goals as goal
 
 pub returns-in-None-clause-answer : goal.returns-in-None-clause-answer

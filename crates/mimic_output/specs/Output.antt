@@ -2,7 +2,11 @@
 use Rattle.std.specs.Prelude.{ℕ, List, Option}
 use Rattle.std.specs.Io.Buffered.{writer_contents}
 use Rattle.std.specs.Io.KnownBytes.{Keeps, append_known}
-use Rattle.harness.specs.declared.output.Output.{Output}
+use Rattle.libtest_mimic.specs.declared.args.FormatSetting.{FormatSetting}
+use Rattle.libtest_mimic.specs.declared.args.FormatSetting.TheVariants.{Pretty, Terse, Json}
+use Rattle.mimic_output.specs.declared.buffer.Output.{Output}
+use Rattle.mimic_output.specs.declared.buffer.Passing.{Passing}
+use Rattle.mimic_output.specs.declared.buffer.Passing.TheVariants.{Flushes, Lines}
 
 -- the bytes of the writer behind and then those that wait in the buffer, where they are known
 abbrev pub told_of : {W : Type 0} → (W → Option (List ℕ)) → Output W → Option (List ℕ)
@@ -11,3 +15,9 @@ told_of contents output = writer_contents contents output.buffered
 -- known bytes are those that the writer got, and then some rest
 abbrev pub HandsOn : Option (List ℕ) → Option (List ℕ) → Type 0
 HandsOn told got = (rest : List ℕ) × Keeps told (append_known got rest)
+
+-- pretty reports are flushed before each trial, the others are not (our own)
+abbrev pub passing_of : FormatSetting → Passing
+passing_of Pretty = Flushes
+passing_of Terse = Lines
+passing_of Json = Lines

@@ -7,7 +7,7 @@ use Rattle.libtest_mimic.specs.declared.sink.Sink.{Sink}
 use Rattle.libtest_mimic.specs.declared.stopwatch.Readings.{Readings}
 use Rattle.libtest_mimic.specs.declared.run.RunError.{RunError}
 use Rattle.libtest_mimic.specs.Run.{RanHere}
-use Rattle.harness.specs.Output.{HandsOn}
+use Rattle.mimic_output.specs.Output.{HandsOn}
 
 -- a sink over known bytes in place of a writer, with so many faults
 abbrev pub sink_over : Option (List ℕ) → ℕ → Sink (Option (List ℕ))

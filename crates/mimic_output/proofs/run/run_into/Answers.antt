@@ -1,6 +1,6 @@
-use Rattle.harness.proofs.Known.{Ran-settled, GotBeginning-from, HasAnswer-settled, OnErr-from}
-use Rattle.harness.specs.Output.{told_of}
-use Rattle.harness.proofs.program.run_into.Goals as goal
+use Rattle.mimic_output.proofs.Known.{Ran-settled, GotBeginning-from, HasAnswer-settled, OnErr-from}
+use Rattle.mimic_output.specs.Output.{told_of}
+use Rattle.mimic_output.proofs.run.run_into.Goals as goal
 
 pub returns-clause-ran : goal.returns-clause-ran
 returns-clause-ran g c =

@@ -15,8 +15,8 @@ use Rattle.libtest_mimic.specs.declared.run.RunError.TheVariants.{OutOfMemory, W
 use Rattle.libtest_mimic.specs.Run.{HasAnswer, RanHere, RanInOrder, WritesList, Reported, StartsReport}
 use Rattle.libtest_mimic.specs.Sink.{Put, Stopped, writer_of, faults_of}
 use Rattle.libtest_mimic.specs.Stopwatch.{IsRunning}
-use Rattle.harness.specs.Output.{HandsOn}
-use Rattle.harness.specs.Run.{sink_over, Ran, GotBeginning}
+use Rattle.mimic_output.specs.Output.{HandsOn}
+use Rattle.mimic_output.specs.Run.{sink_over, Ran, GotBeginning}
 
 -- a sink over the bytes that the writer holds
 abbrev pub known_sink : {W : Type 0} → (W → Option (List ℕ)) → Sink W → Sink (Option (List ℕ))
@@ -154,15 +154,3 @@ HasAnswer-settled args trials ran (Err x) e p = tt
 pub OnErr-from : {T E : Type 0} (r : Result T E) (P : Type 0) → P → OnErr r P
 OnErr-from (Ok x) P p = tt
 OnErr-from (Err e) P p = p
-
--- what holds of an Ok value still holds where the error is mapped
-pub IfOk-map_err : {A E D : Type 0} (P : A → Type 0) (Q : E → Type 0) (r : Result A E) (m : Result A D) → IfOk r P → MatchResult r (λ x. m ≡ Ok x) Q → is_ok m ≡ is_ok r → IfOk m P
-IfOk-map_err {A} {E} {D} P Q (Ok x) m p c v = let R : Result A D → Type 0 = λ y. IfOk y P in subst R (sym c) p
-IfOk-map_err P Q (Err e) (Ok y) p c v = absurd (false≢true (sym v))
-IfOk-map_err P Q (Err e) (Err d) p c v = tt
-
--- what holds where there is an error still holds where it is mapped
-pub OnErr-map_err : {A E D : Type 0} (P : Type 0) (r : Result A E) (m : Result A D) → OnErr r P → is_ok m ≡ is_ok r → OnErr m P
-OnErr-map_err P r (Ok y) p v = tt
-OnErr-map_err P (Ok x) (Err d) p v = absurd (false≢true v)
-OnErr-map_err P (Err e) (Err d) p v = p

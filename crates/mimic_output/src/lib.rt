@@ -1,0 +1,8 @@
+//! A buffer between a report and the system, for programs that run a harness.
+#![tactic(auto)]
+
+mod buffer;
+mod run;
+
+pub use buffer::{Output, Passing};
+pub use run::{buffered, run_into};

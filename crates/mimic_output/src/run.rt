@@ -1,0 +1,69 @@
+//! A run into a buffered writer.
+ghost use Rattle.std.specs.Prelude.{◌≡◌, false, IfOk, IsOk, OnErr, vec_len};
+ghost use Rattle.std.specs.Io.KnownBytes.{Keeps};
+ghost use Rattle.libtest_mimic.specs.Count.{total_of};
+ghost use Rattle.libtest_mimic.specs.Run.{HasAnswer};
+ghost use Rattle.mimic_output.specs.Output.{told_of};
+ghost use Rattle.mimic_output.specs.Run.{GotBeginning, Ran};
+
+use crate::buffer::{Output, Passing};
+use libtest_mimic::{
+    Arguments, Clock, Conclusion, RunError, Sink, Stopwatch, Trial, WriteFault, run_here,
+};
+use std::alloc::Global;
+use std::io;
+use std::io::Write;
+
+/// A buffer over the writer. An `Err` is `OutOfMemory`, where a growth was refused.
+pub fn buffered<W: Write + Drop>(
+    alloc: Global,
+    passing: Passing,
+    writer: W,
+) -> Result<Output<W>, RunError>
+    ensures { IfOk result (λ output. Keeps (W.contents writer) (told_of W.contents output)) }
+{
+    match Output::new(alloc, passing, writer) {
+        Ok(output) => Ok(output),
+        // Nothing else can fail here, which the error doesn't say by its type.
+        Err(_) => Err(RunError::OutOfMemory),
+    }
+}
+
+/// Runs or lists the trials as the arguments ask, hands on what the buffer holds at the end, and gives the writer back.
+///
+/// A fault in handing on the last bytes is a fault of the run.
+pub fn run_into<W: Write + Drop, C: Clock + Drop>(
+    alloc: Global,
+    args: &Arguments,
+    tests: Vec<Trial>,
+    output: Output<W>,
+    clock: C,
+) -> (W, Result<Conclusion, RunError>)
+    ensures ran { IfOk result.1 (λ c. Ran args.now tests.items
+        (told_of W.contents output) (W.contents result.0) 0 (Ok c)) }
+    ensures beginning { OnErr result.1 (GotBeginning args.now tests.items
+        (told_of W.contents output) (W.contents result.0)) }
+    ensures answer { IfOk result.1 (λ c. HasAnswer args.now tests.items (Ok c)) }
+    ensures adds_up { args.now.list ≡ false → IfOk result.1 (λ c. total_of c ≡ vec_len tests) }
+{
+    let mut sink = Sink::new(output);
+    let mut watch = Stopwatch::new(clock);
+    let ran = run_here(alloc, args, tests, &mut sink, &mut watch, false);
+    let (writer, finished) = sink.into_inner().finish();
+    (writer, settled(ran, finished))
+}
+
+// The answer of a run, where what was left could be handed on.
+fn settled(
+    ran: Result<Conclusion, RunError>,
+    finished: io::Result<()>,
+) -> Result<Conclusion, RunError>
+    ensures answered { IfOk result (λ c. ran ≡ Ok c) }
+    ensures finished { IsOk result → IsOk finished }
+{
+    let conclusion = ran?;
+    match finished {
+        Ok(()) => Ok(conclusion),
+        Err(error) => Err(RunError::Write(WriteFault::Error(error))),
+    }
+}
