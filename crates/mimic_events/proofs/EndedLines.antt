@@ -1,5 +1,5 @@
 -- The lines of outcomes.
-use Rattle.std.proofs.Common.{◌≡◌, ◌≢◌, ℕ, List, [], ◌∷◌, ◌++◌, Bool, true, false, Option, Some, None, codes, option_map, decimal, refl, sym, ap, subst, ◌∙◌, append_assoc, get_or, arith, ◌<◌, ◌^◌}
+use Rattle.std.proofs.Common.{◌≡◌, ◌≢◌, ℕ, List, ◌∷◌, ◌++◌, Bool, true, false, Option, Some, None, codes, option_map, decimal, refl, sym, ap, subst, ◌∙◌, get_or, arith, ◌<◌, ◌^◌}
 use Rattle.std.proofs.lemmas.Bool.{eqb-false}
 use Rattle.std.proofs.lemmas.List.{append_cancel_left}
 use Rattle.mimic_events.proofs.NamedLines.{close}
@@ -50,28 +50,28 @@ ended_other b line name found rest v h ne f = ne (sym (given b line name found r
 pub ended_none : (line name : List ℕ) (v : Outcome) → ReadsNamed (front true) line None → ReadsNamed (front false) line None → IsOutcome name v line → ⊥
 ended_none line name v bench test f = at (is_bench v) (f.1 ∙ outcome_is name v)
   where
-  at : (b : Bool) → line ≡ front b ++ (escaped name ++ 34 ∷ tail v) → ⊥
-  at true e = bench name (tail v) e
-  at false e = test name (tail v) e
+    at : (b : Bool) → line ≡ front b ++ (escaped name ++ 34 ∷ tail v) → ⊥
+    at true e = bench name (tail v) e
+    at false e = test name (tail v) e
 
 -- the endings of a trial that isn't measured
 pub tail_some : (rest : List ℕ) (o : Option (List ℕ)) → rest ≢ tail Passed → rest ≢ tail Ignored → rest ≢ tail (Failed None) → Decodes IsFailure rest o → Decodes (IsTail false) rest (option_map (λ m. Failed (Some m)) o)
 tail_some rest None a b c d = none rest a b c d
   where
-  none : (rest : List ℕ) → rest ≢ tail Passed → rest ≢ tail Ignored → rest ≢ tail (Failed None) → ((v : List ℕ) → IsFailure v rest → ⊥) → (v : Outcome) → IsTail false v rest → ⊥
-  none rest a b c d Passed h = a h.2
-  none rest a b c d Ignored h = b h.2
-  none rest a b c d (Failed None) h = c h.2
-  none rest a b c d (Failed (Some m)) h = d m (h.1, h.2)
-  none rest a b c d (Measured measurement) h = absurd cc
+    none : (rest : List ℕ) → rest ≢ tail Passed → rest ≢ tail Ignored → rest ≢ tail (Failed None) → ((v : List ℕ) → IsFailure v rest → ⊥) → (v : Outcome) → IsTail false v rest → ⊥
+    none rest a b c d Passed h = a h.2
+    none rest a b c d Ignored h = b h.2
+    none rest a b c d (Failed None) h = c h.2
+    none rest a b c d (Failed (Some m)) h = d m (h.1, h.2)
+    none rest a b c d (Measured measurement) h = absurd cc
 tail_some rest (Some m) a b c d = ((refl, d.0.0, d.0.1), only rest m a b c d.1)
   where
-  only : (rest m : List ℕ) → rest ≢ tail Passed → rest ≢ tail Ignored → rest ≢ tail (Failed None) → ((v : List ℕ) → IsFailure v rest → v ≡ m) → (v : Outcome) → IsTail false v rest → v ≡ Failed (Some m)
-  only rest m a b c d Passed h = absurd (a h.2)
-  only rest m a b c d Ignored h = absurd (b h.2)
-  only rest m a b c d (Failed None) h = absurd (c h.2)
-  only rest m a b c d (Failed (Some n)) h = ap (λ (x : List ℕ). Failed (Some x)) (d n (h.1, h.2))
-  only rest m a b c d (Measured measurement) h = absurd cc
+    only : (rest m : List ℕ) → rest ≢ tail Passed → rest ≢ tail Ignored → rest ≢ tail (Failed None) → ((v : List ℕ) → IsFailure v rest → v ≡ m) → (v : Outcome) → IsTail false v rest → v ≡ Failed (Some m)
+    only rest m a b c d Passed h = absurd (a h.2)
+    only rest m a b c d Ignored h = absurd (b h.2)
+    only rest m a b c d (Failed None) h = absurd (c h.2)
+    only rest m a b c d (Failed (Some n)) h = ap (λ (x : List ℕ). Failed (Some x)) (d n (h.1, h.2))
+    only rest m a b c d (Measured measurement) h = absurd cc
 
 letter : (k : ℕ) (x y : List ℕ) → x ≡ y → get_or x k 0 ≡ get_or y k 0
 letter k x y e = ap (λ (z : List ℕ). get_or z k 0) e
@@ -146,6 +146,7 @@ measured_third rest first second third end n k v h e read f again =
 
 pub measured_all : (rest first second third end : List ℕ) (n k : ℕ) → rest ≡ median ++ first → ReadsNumber first (Some (n, second)) → second ≡ deviation ++ third → ReadsNumber third (Some (k, end)) → end ≡ close
     → Decodes (IsTail true) rest (Some (measured n k))
-measured_all rest first second third end n k e read f again last =
-    ((refl, (read.0, again.0), e ∙ ap (λ (x : List ℕ). median ++ x) (read.1 ∙ ap (λ (x : List ℕ). decimal n ++ x) (f ∙ ap (λ (x : List ℕ). deviation ++ x) (again.1 ∙ ap (λ (x : List ℕ). decimal k ++ x) last)))),
-     λ v h. (measured_third rest first second third end n k v h e read f again).0)
+measured_all rest first second third end n k e read f again last = (
+  (refl, (read.0, again.0), e ∙ ap (λ (x : List ℕ). median ++ x) (read.1 ∙ ap (λ (x : List ℕ). decimal n ++ x) (f ∙ ap (λ (x : List ℕ). deviation ++ x) (again.1 ∙ ap (λ (x : List ℕ). decimal k ++ x) last)))),
+  λ v h. (measured_third rest first second third end n k v h e read f again).0,
+)

@@ -1,9 +1,9 @@
 -- Reading an escaped text, byte by byte.
 use Rattle.std.proofs.Common.{◌≡◌, ◌≢◌, ℕ, List, [], ◌∷◌, ◌++◌, refl, sym, ap, subst, ◌∙◌, append_assoc}
 use Rattle.std.proofs.lemmas.List.{append-nil}
-use Rattle.std.proofs.lemmas.List.Concat.{flat_map-append, flat_map-cons}
+use Rattle.std.proofs.lemmas.List.Concat.{flat_map-append}
 use Rattle.libtest_mimic.specs.Escape.{escape, escaped}
-use Rattle.mimic_events.specs.Parts.{candidate_of, Splits, ReadsEscaped}
+use Rattle.mimic_events.specs.Parts.{candidate_of, ReadsEscaped}
 use Rattle.mimic_events.proofs.Escapes.{again, one_split}
 
 -- the text so far, and what each text that is spelled there goes on with
