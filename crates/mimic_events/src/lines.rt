@@ -4,7 +4,7 @@ ghost use Rattle.mimic_events.specs.Parts.{IsFailure, IsTail};
 ghost use Rattle.mimic_events.specs.Reading.{Decodes, IsTitle, IsAnnouncement, IsOutcome};
 
 use crate::numbers::number_at;
-use crate::quoted::quoted_after;
+use crate::quoted::{after_quoted, quoted_after};
 use crate::strip::{after, before};
 use libtest_mimic::{Failed, Measurement, Outcome};
 use std::alloc::{AllocError, Global};
@@ -38,21 +38,16 @@ pub fn announced(alloc: Global, line: &[u8]) -> Result<Option<String>, AllocErro
 pub fn ended(alloc: Global, name: &str, line: &[u8]) -> Result<Option<Outcome>, AllocError>
     ensures { IfOk result (λ outcome. Decodes (IsOutcome name.now) line.now outcome) }
 {
-    if let Some((found, rest)) = quoted_after(alloc, line, br#"{ "type": "bench", "name": ""#)? {
-        if found.as_slice() != name.as_bytes() {
-            return Ok(None);
+    if let Some(rest) = after_quoted(line, br#"{ "type": "bench", "name": ""#, name) {
+        return Ok(measured(rest));
+    }
+    match after_quoted(line, br#"{ "type": "test", "name": ""#, name) {
+        Some(rest) => {
+            let outcome = tested(alloc, rest)?;
+            Ok(outcome)
         }
-        let outcome = measured(rest);
-        return Ok(outcome);
+        None => Ok(None),
     }
-    let Some((found, rest)) = quoted_after(alloc, line, br#"{ "type": "test", "name": ""#)? else {
-        return Ok(None);
-    };
-    if found.as_slice() != name.as_bytes() {
-        return Ok(None);
-    }
-    let outcome = tested(alloc, rest)?;
-    Ok(outcome)
 }
 
 // The outcome of a measured trial, from what follows the name.
