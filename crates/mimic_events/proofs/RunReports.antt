@@ -60,11 +60,11 @@ report_json p rows x t h =
     let c : Conclusion = counts_of (outcomes_of rows) x in
     let count : length (map entry_of rows) ≡ length rows = simp length-map in
     joined (title_text p (length rows)) (rows_text p rows) (failures_text p rows) (summary_text p c t)
-        (json_title (length (map entry_of rows))) (flat_map entry_lines (map entry_of rows)) (json_summary (conclusion_of (contents_at rows x t)) t)
-        (ap (λ (f : FormatSetting). title_in f (length rows)) h ∙ ap json_title (sym count))
-        (rows_json p rows h)
-        (ap (λ (f : FormatSetting). failures_in f rows) h)
-        (ap (λ (f : FormatSetting). summary_in f p c t) h ∙ ap (λ (os : List Outcome). json_summary (counts_of os x) t) (outcomes_same rows))
+    (json_title (length (map entry_of rows))) (flat_map entry_lines (map entry_of rows)) (json_summary (conclusion_of (contents_at rows x t)) t)
+    (ap (λ (f : FormatSetting). title_in f (length rows)) h ∙ ap json_title (sym count))
+    (rows_json p rows h)
+    (ap (λ (f : FormatSetting). failures_in f rows) h)
+    (ap (λ (f : FormatSetting). summary_in f p c t) h ∙ ap (λ (os : List Outcome). json_summary (counts_of os x) t) (outcomes_same rows))
 
 -- ---- names and outcomes fit
 

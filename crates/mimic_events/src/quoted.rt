@@ -46,9 +46,10 @@ fn after_escaped<'a>(line: &'a [u8], text: &[u8]) -> Option<&'a [u8]>
 fn after_spelling<'a>(text: &'a [u8], byte: u8) -> Option<&'a [u8]>
     ensures { Follows (escape byte) text.now result }
 {
-    if byte.is_ascii() {
+    if byte < b' ' || byte == b'"' || byte == b'\\' {
         after(text, escape_char(char::from(byte)).as_str().as_bytes())
     } else {
+        // It stands for itself.
         after(text, &[byte])
     }
 }

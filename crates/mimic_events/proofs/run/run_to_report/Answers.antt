@@ -8,7 +8,7 @@ unwrap-report-requires g c =
     let empty : c.new-sink.result.writer.items ≡ [] = rw c.new-sink.ensures.writer c.new.ensures.items in
     let full : c.run_here.new.sink.writer.items ≡ c.as_slice.result.now = sym (c.as_slice.ensures.value ∙ ap (λ v. v.items) c.into_inner-bytes.ensures) in
     let told = run_told (λ v. Some v.items) c.args.args.now c.args.tests.items c.new-sink.result c.run_here.new.sink c.run_here.new.watch c.in_ok-conclusion.conclusion c.as_slice.result.now
-        c.requires.json c.requires.runs (omega arith) (ap (λ (x : List ℕ). Some x) empty) (ap (λ (x : List ℕ). Some x) full) c.in_ok-conclusion.ensures.ran in
+    c.requires.json c.requires.runs (omega arith) (ap (λ (x : List ℕ). Some x) empty) (ap (λ (x : List ℕ). Some x) full) c.in_ok-conclusion.ensures.ran in
     told_some c.args.args.now c.args.tests.items c.run_here.new.watch c.in_ok-conclusion.conclusion c.as_slice.result.now c.in_ok-read_report.field-0 told c.in_ok-read_report.ensures
 
 pub returns : goal.returns
@@ -16,5 +16,5 @@ returns g c =
     let empty : c.new-sink.result.writer.items ≡ [] = rw c.new-sink.ensures.writer c.new.ensures.items in
     let full : c.run_here.new.sink.writer.items ≡ c.as_slice.result.now = sym (c.as_slice.ensures.value ∙ ap (λ v. v.items) c.into_inner-bytes.ensures) in
     let told = run_told (λ v. Some v.items) c.args.args.now c.args.tests.items c.new-sink.result c.run_here.new.sink c.run_here.new.watch c.in_ok-conclusion.conclusion c.as_slice.result.now
-        c.requires.json c.requires.runs (omega arith) (ap (λ (x : List ℕ). Some x) empty) (ap (λ (x : List ℕ). Some x) full) c.in_ok-conclusion.ensures.ran in
+    c.requires.json c.requires.runs (omega arith) (ap (λ (x : List ℕ). Some x) empty) (ap (λ (x : List ℕ). Some x) full) c.in_ok-conclusion.ensures.ran in
     told_same c.args.args.now c.args.tests.items c.run_here.new.watch c.in_ok-conclusion.conclusion c.as_slice.result.now c.in_ok-read_report.field-0 c.unwrap-report.result c.unwrap-report.ensures told c.in_ok-read_report.ensures
