@@ -1,14 +1,14 @@
 -- Numbers and seconds: where the digits at the front of a text end, and what they are worth.
-use Rattle.std.proofs.Common.{◌≡◌, ◌≢◌, ℕ, zero, suc, inl, inr, ◌<◌, ◌≤◌, ◌^◌, ◌+◌, ◌-◌, ◌*◌, List, [], ◌∷◌, ◌++◌, Option, Some, None, length, take, drop, get_or, refl, sym, ap, subst, ◌∙◌, arith, decimal, rules}
+use Rattle.std.proofs.Common.{◌≡◌, ◌≢◌, ℕ, zero, suc, inl, inr, ◌<◌, ◌≤◌, ◌^◌, ◌+◌, ◌-◌, ◌*◌, List, [], ◌∷◌, ◌++◌, Option, Some, None, length, take, get_or, refl, sym, ap, subst, ◌∙◌, arith, decimal}
 use Rattle.std.specs.Int.{IsInRange}
 use Rattle.std.specs.Prelude.{Result, Ok, Err, SomeIff, IsUtf8}
 use Rattle.std.specs.Result.{result_ok}
 use Rattle.std.proofs.lemmas.Str.{IsUtf8-from_ascii}
 use Rattle.std.specs.Str.Parse.{AllDigits, IsNumeral, digits_value, ParsesUnsigned}
-use Rattle.std.proofs.lemmas.Str.Parse.{digit_from_value, digit_at, numerals_by_value, tells_by_index, tells_digits, parse_plain, digits_value_short}
+use Rattle.std.proofs.lemmas.Str.Parse.{digit_from_value, numerals_by_value, tells_by_index, tells_digits, parse_plain, digits_value_short}
 use Rattle.std.proofs.lemmas.Fmt.{digits_decimal, decimal_injective, IsAscii-from_digits}
-use Rattle.std.proofs.lemmas.List.{take-append-drop, get_or-take, length-take}
-use Rattle.libtest_mimic.specs.Seconds.{IsRest, IsExactSeconds, exact_seconds}
+use Rattle.std.proofs.lemmas.List.{get_or-take, length-take}
+use Rattle.libtest_mimic.specs.Seconds.{IsRest, IsExactSeconds}
 use Rattle.libtest_mimic.proofs.ExactSeconds.{seconds_exact, seconds_only}
 use Rattle.mimic_events.specs.Parts.{EndsNumber, SplitsDigits, ReadsNumber}
 use Rattle.mimic_events.specs.Reading.{Decodes, IsNumber, IsSeconds}
@@ -29,7 +29,7 @@ decimal_digits n h = digits_decimal (numerals_by_value (AllDigits 10) tells_digi
 pub front_digits : (bytes : List ℕ) (len : ℕ) → len ≤ length bytes → ((i : ℕ) → i < len → IsInRange 48 57 (get_or bytes i 0)) → AllDigits 10 (take len bytes)
 front_digits bytes len le h =
     (numerals_by_value (λ ds. (i : ℕ) → i < length ds → IsInRange 48 57 (get_or ds i 0)) tells_by_index).to (take len bytes) (λ i lt.
-        let below : i < len = omega (arith, length-take len bytes) in rw (get_or-take len bytes i 0 below) (h i below))
+    let below : i < len = omega (arith, length-take len bytes) in rw (get_or-take len bytes i 0 below) (h i below))
 
 pub ends_at : (rest : List ℕ) → ((48 ≤ get_or rest 0 0) → (get_or rest 0 0 ≤ 57) → ⊥) → EndsNumber rest
 ends_at [] h = tt
@@ -38,10 +38,14 @@ ends_at (b ∷ rest) h = h
 -- the number of all digits at the front is the number there
 pub number_found : (bytes digits rest : List ℕ) (n : ℕ) → SplitsDigits bytes digits rest → Decodes IsNumber digits (Some n) → ReadsNumber bytes (Some (n, rest))
 number_found bytes digits rest n s d =
-    let whole : bytes ≡ decimal n ++ rest = s.parts ∙ ap (λ (x : List ℕ). x ++ rest) d.0.1 in
-    (d.0.0, whole, s.stop, λ m other fits ends e.
-        let same = one_end (decimal m) (decimal n) other rest (decimal_digits m fits) (decimal_digits n d.0.0) ends s.stop (sym e ∙ whole) in
-        (decimal_injective m n fits d.0.0 same.0, same.1))
+    let whole : bytes ≡ decimal n ++ rest = s.parts ∙ ap (λ (x : List ℕ). x ++ rest) d.0.1 in (
+      d.0.0,
+      whole,
+      s.stop,
+      λ m other fits ends e.
+          let same = one_end (decimal m) (decimal n) other rest (decimal_digits m fits) (decimal_digits n d.0.0) ends s.stop (sym e ∙ whole) in
+          (decimal_injective m n fits d.0.0 same.0, same.1),
+    )
 
 pub number_none : (bytes digits rest : List ℕ) → SplitsDigits bytes digits rest → Decodes IsNumber digits None → ReadsNumber bytes None
 number_none bytes digits rest s d m other fits ends e =
@@ -112,6 +116,7 @@ seconds_found text whole fraction rest None read d h = λ nanos s.
     let p = seconds_parts text whole rest nanos read s in
     let same = d.1 p.0 p.1 in
     h (omega (arith, p.2, same, s.0))
-seconds_found text whole fraction rest (Some n) read d h =
-    ((omega (arith, h.0, h.1), seconds_only n text (record { whole = whole; fraction = fraction; rest = rest; parts = read.1; spelled = d.0; value = h.1 })),
-     λ nanos s. let p = seconds_parts text whole rest nanos read s in let same = d.1 p.0 p.1 in omega (arith, p.2, same, h.1))
+seconds_found text whole fraction rest (Some n) read d h = (
+  (omega (arith, h.0, h.1), seconds_only n text (record { whole = whole; fraction = fraction; rest = rest; parts = read.1; spelled = d.0; value = h.1 })),
+  λ nanos s. let p = seconds_parts text whole rest nanos read s in let same = d.1 p.0 p.1 in omega (arith, p.2, same, h.1),
+)

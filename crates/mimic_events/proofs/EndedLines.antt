@@ -1,5 +1,5 @@
 -- The lines of outcomes.
-use Rattle.std.proofs.Common.{◌≡◌, ◌≢◌, ℕ, List, [], ◌∷◌, ◌++◌, Bool, true, false, Option, Some, None, codes, option_map, decimal, refl, sym, ap, subst, ◌∙◌, append_assoc, get_or, arith, ◌<◌, ◌^◌}
+use Rattle.std.proofs.Common.{◌≡◌, ◌≢◌, ℕ, List, ◌∷◌, ◌++◌, Bool, true, false, Option, Some, None, codes, option_map, decimal, refl, sym, ap, subst, ◌∙◌, append_assoc, [], get_or, arith, ◌<◌, ◌^◌}
 use Rattle.std.proofs.lemmas.Bool.{eqb-false}
 use Rattle.std.proofs.lemmas.List.{append_cancel_left}
 use Rattle.mimic_events.proofs.NamedLines.{close}
@@ -7,7 +7,7 @@ use Rattle.libtest_mimic.specs.declared.outcome.Outcome.{Outcome}
 use Rattle.libtest_mimic.specs.declared.outcome.Outcome.TheVariants.{Passed, Failed, Ignored, Measured}
 use Rattle.libtest_mimic.specs.Escape.{escaped}
 use Rattle.libtest_mimic.specs.Json.{json_outcome, json_event, json_failure, json_measurement}
-use Rattle.mimic_events.specs.Parts.{ReadsNamed, ReadsNumber, failure_tail, IsFailure, IsTail, is_bench, tail}
+use Rattle.mimic_events.specs.Parts.{ReadsNumber, failure_tail, IsFailure, IsTail, is_bench, tail}
 use Rattle.mimic_events.specs.Reading.{Decodes, IsOutcome}
 
 abbrev pub front : Bool → List ℕ
@@ -31,47 +31,50 @@ apart false false x y e = refl
 apart true false x y e = absurd (eqb-false 98 116 refl (ap (λ (z : List ℕ). get_or z 11 0) e))
 apart false true x y e = absurd (eqb-false 116 98 refl (ap (λ (z : List ℕ). get_or z 11 0) e))
 
+-- the front of the line of an outcome, with the name and its closing quote
+abbrev pub named : Bool → List ℕ → List ℕ
+named b name = front b ++ (escaped name ++ 34 ∷ [])
+
+regrouped : (b : Bool) (name rest : List ℕ) → named b name ++ rest ≡ front b ++ (escaped name ++ 34 ∷ rest)
+regrouped b name rest = append_assoc (front b) (escaped name ++ 34 ∷ []) rest ∙ ap (λ (x : List ℕ). front b ++ x) (append_assoc (escaped name) (34 ∷ []) rest)
+
 -- a line of an outcome is read apart so
-given : (b : Bool) (line name found rest : List ℕ) (v : Outcome) → ReadsNamed (front b) line (Some (found, rest)) → IsOutcome name v line → (is_bench v ≡ b) × (name ≡ found) × (tail v ≡ rest)
-given b line name found rest v h f =
-    let e : line ≡ front (is_bench v) ++ (escaped name ++ 34 ∷ tail v) = f.1 ∙ outcome_is name v in
-    let same : is_bench v ≡ b = apart (is_bench v) b (escaped name ++ 34 ∷ tail v) (escaped found ++ 34 ∷ rest) (sym e ∙ h.0) in
-    let r = h.1 name (tail v) (subst (λ (c : Bool). line ≡ front c ++ (escaped name ++ 34 ∷ tail v)) same e) in
-    (same, r.0, r.1)
+given : (b : Bool) (line name rest : List ℕ) (v : Outcome) → line ≡ named b name ++ rest → IsOutcome name v line → (is_bench v ≡ b) × (tail v ≡ rest)
+given b line name rest v h f =
+    let e : line ≡ named (is_bench v) name ++ tail v = f.1 ∙ outcome_is name v ∙ sym (regrouped (is_bench v) name (tail v)) in
+    let same : is_bench v ≡ b = apart (is_bench v) b (escaped name ++ 34 ∷ tail v) (escaped name ++ 34 ∷ rest) (sym (regrouped (is_bench v) name (tail v)) ∙ sym e ∙ h ∙ regrouped b name rest) in
+    (same, append_cancel_left (named b name) (tail v) rest (sym (subst (λ (c : Bool). line ≡ named c name ++ tail v) same e) ∙ h))
 
-pub ended_some : (b : Bool) (line name found rest : List ℕ) (o : Option Outcome) → ReadsNamed (front b) line (Some (found, rest)) → found ≡ name → Decodes (IsTail b) rest o → Decodes (IsOutcome name) line o
-ended_some b line name found rest None h same d = λ v f. let g = given b line name found rest v h f in d v (g.0, f.0, sym g.2)
-ended_some b line name found rest (Some e) h same d =
-    ((d.0.1, h.0 ∙ rw (same, d.0.2, ← d.0.0) refl ∙ sym (outcome_is name e)), λ v f. let g = given b line name found rest v h f in d.1 v (g.0, f.0, sym g.2))
+pub ended_some : (b : Bool) (line name rest : List ℕ) (o : Option Outcome) → line ≡ named b name ++ rest → Decodes (IsTail b) rest o → Decodes (IsOutcome name) line o
+ended_some b line name rest None h d = λ v f. let g = given b line name rest v h f in d v (g.0, f.0, sym g.1)
+ended_some b line name rest (Some e) h d =
+    ((d.0.1, h ∙ regrouped b name rest ∙ rw (d.0.2, ← d.0.0) refl ∙ sym (outcome_is name e)), λ v f. let g = given b line name rest v h f in d.1 v (g.0, f.0, sym g.1))
 
-pub ended_other : (b : Bool) (line name found rest : List ℕ) (v : Outcome) → ReadsNamed (front b) line (Some (found, rest)) → found ≢ name → IsOutcome name v line → ⊥
-ended_other b line name found rest v h ne f = ne (sym (given b line name found rest v h f).1)
-
-pub ended_none : (line name : List ℕ) (v : Outcome) → ReadsNamed (front true) line None → ReadsNamed (front false) line None → IsOutcome name v line → ⊥
-ended_none line name v bench test f = at (is_bench v) (f.1 ∙ outcome_is name v)
+pub ended_none : (line name : List ℕ) (v : Outcome) → ((rest : List ℕ) → line ≢ named true name ++ rest) → ((rest : List ℕ) → line ≢ named false name ++ rest) → IsOutcome name v line → ⊥
+ended_none line name v bench test f = at (is_bench v) (f.1 ∙ outcome_is name v ∙ sym (regrouped (is_bench v) name (tail v)))
   where
-  at : (b : Bool) → line ≡ front b ++ (escaped name ++ 34 ∷ tail v) → ⊥
-  at true e = bench name (tail v) e
-  at false e = test name (tail v) e
+    at : (b : Bool) → line ≡ named b name ++ tail v → ⊥
+    at true e = bench (tail v) e
+    at false e = test (tail v) e
 
 -- the endings of a trial that isn't measured
 pub tail_some : (rest : List ℕ) (o : Option (List ℕ)) → rest ≢ tail Passed → rest ≢ tail Ignored → rest ≢ tail (Failed None) → Decodes IsFailure rest o → Decodes (IsTail false) rest (option_map (λ m. Failed (Some m)) o)
 tail_some rest None a b c d = none rest a b c d
   where
-  none : (rest : List ℕ) → rest ≢ tail Passed → rest ≢ tail Ignored → rest ≢ tail (Failed None) → ((v : List ℕ) → IsFailure v rest → ⊥) → (v : Outcome) → IsTail false v rest → ⊥
-  none rest a b c d Passed h = a h.2
-  none rest a b c d Ignored h = b h.2
-  none rest a b c d (Failed None) h = c h.2
-  none rest a b c d (Failed (Some m)) h = d m (h.1, h.2)
-  none rest a b c d (Measured measurement) h = absurd cc
+    none : (rest : List ℕ) → rest ≢ tail Passed → rest ≢ tail Ignored → rest ≢ tail (Failed None) → ((v : List ℕ) → IsFailure v rest → ⊥) → (v : Outcome) → IsTail false v rest → ⊥
+    none rest a b c d Passed h = a h.2
+    none rest a b c d Ignored h = b h.2
+    none rest a b c d (Failed None) h = c h.2
+    none rest a b c d (Failed (Some m)) h = d m (h.1, h.2)
+    none rest a b c d (Measured measurement) h = absurd cc
 tail_some rest (Some m) a b c d = ((refl, d.0.0, d.0.1), only rest m a b c d.1)
   where
-  only : (rest m : List ℕ) → rest ≢ tail Passed → rest ≢ tail Ignored → rest ≢ tail (Failed None) → ((v : List ℕ) → IsFailure v rest → v ≡ m) → (v : Outcome) → IsTail false v rest → v ≡ Failed (Some m)
-  only rest m a b c d Passed h = absurd (a h.2)
-  only rest m a b c d Ignored h = absurd (b h.2)
-  only rest m a b c d (Failed None) h = absurd (c h.2)
-  only rest m a b c d (Failed (Some n)) h = ap (λ (x : List ℕ). Failed (Some x)) (d n (h.1, h.2))
-  only rest m a b c d (Measured measurement) h = absurd cc
+    only : (rest m : List ℕ) → rest ≢ tail Passed → rest ≢ tail Ignored → rest ≢ tail (Failed None) → ((v : List ℕ) → IsFailure v rest → v ≡ m) → (v : Outcome) → IsTail false v rest → v ≡ Failed (Some m)
+    only rest m a b c d Passed h = absurd (a h.2)
+    only rest m a b c d Ignored h = absurd (b h.2)
+    only rest m a b c d (Failed None) h = absurd (c h.2)
+    only rest m a b c d (Failed (Some n)) h = ap (λ (x : List ℕ). Failed (Some x)) (d n (h.1, h.2))
+    only rest m a b c d (Measured measurement) h = absurd cc
 
 letter : (k : ℕ) (x y : List ℕ) → x ≡ y → get_or x k 0 ≡ get_or y k 0
 letter k x y e = ap (λ (z : List ℕ). get_or z k 0) e
@@ -146,6 +149,7 @@ measured_third rest first second third end n k v h e read f again =
 
 pub measured_all : (rest first second third end : List ℕ) (n k : ℕ) → rest ≡ median ++ first → ReadsNumber first (Some (n, second)) → second ≡ deviation ++ third → ReadsNumber third (Some (k, end)) → end ≡ close
     → Decodes (IsTail true) rest (Some (measured n k))
-measured_all rest first second third end n k e read f again last =
-    ((refl, (read.0, again.0), e ∙ ap (λ (x : List ℕ). median ++ x) (read.1 ∙ ap (λ (x : List ℕ). decimal n ++ x) (f ∙ ap (λ (x : List ℕ). deviation ++ x) (again.1 ∙ ap (λ (x : List ℕ). decimal k ++ x) last)))),
-     λ v h. (measured_third rest first second third end n k v h e read f again).0)
+measured_all rest first second third end n k e read f again last = (
+  (refl, (read.0, again.0), e ∙ ap (λ (x : List ℕ). median ++ x) (read.1 ∙ ap (λ (x : List ℕ). decimal n ++ x) (f ∙ ap (λ (x : List ℕ). deviation ++ x) (again.1 ∙ ap (λ (x : List ℕ). decimal k ++ x) last)))),
+  λ v h. (measured_third rest first second third end n k v h e read f again).0,
+)

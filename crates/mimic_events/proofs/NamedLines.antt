@@ -1,5 +1,5 @@
 -- Lines with a name in quotes, the title, and the message of a failure.
-use Rattle.std.proofs.Common.{◌≡◌, ◌≢◌, ℕ, List, [], ◌∷◌, ◌++◌, Option, Some, None, Result, Ok, Err, IsOk, IfOk, MatchOption, Vec, String, string_bytes, option_map, IsUtf8, codes, decimal, ◌≤◌, arith, refl, sym, ap, subst, ◌∙◌, append_assoc}
+use Rattle.std.proofs.Common.{◌≡◌, ◌≢◌, ℕ, List, [], ◌∷◌, ◌++◌, Option, Some, None, Result, Ok, Err, IsOk, IfOk, MatchOption, Vec, String, string_bytes, option_map, IsUtf8, codes, decimal, arith, refl, sym, ap, subst, ◌∙◌, append_assoc}
 use Rattle.std.specs.Result.{result_ok}
 use Rattle.std.specs.String.{string_vec}
 use Rattle.std.proofs.lemmas.Str.{IsUtf8-string_bytes}
@@ -66,9 +66,10 @@ pub title_rest : (line rest : List ℕ) (n : ℕ) → line ≡ title_front ++ re
 title_rest line rest n e f = append_cancel_left title_front rest (decimal n ++ close) (sym e ∙ f ∙ title_is n)
 
 pub title_some : (line rest end : List ℕ) (n : ℕ) → line ≡ title_front ++ rest → ReadsNumber rest (Some (n, end)) → end ≡ close → IsTitle n line × ((v : ℕ) → IsTitle v line → v ≡ n)
-title_some line rest end n e h last =
-    ((h.0, e ∙ ap (λ (x : List ℕ). title_front ++ x) (h.1 ∙ ap (λ (x : List ℕ). decimal n ++ x) last) ∙ sym (title_is n)),
-     λ v f. (h.3 v close f.0 (λ a b. omega arith) (title_rest line rest v e f.1)).0)
+title_some line rest end n e h last = (
+  (h.0, e ∙ ap (λ (x : List ℕ). title_front ++ x) (h.1 ∙ ap (λ (x : List ℕ). decimal n ++ x) last) ∙ sym (title_is n)),
+  λ v f. (h.3 v close f.0 (λ a b. omega arith) (title_rest line rest v e f.1)).0,
+)
 
 pub title_other : (line rest end : List ℕ) (n v : ℕ) → line ≡ title_front ++ rest → ReadsNumber rest (Some (n, end)) → end ≢ close → IsTitle v line → ⊥
 title_other line rest end n v e h ne f = ne (sym (h.3 v close f.0 (λ a b. omega arith) (title_rest line rest v e f.1)).1)
@@ -101,9 +102,10 @@ pub failure_some : (text said_text : List ℕ) (o : Option (List ℕ)) (message 
     → MatchOption o (IsUtf8 message → ⊥) (λ t. (t ≡ message) × IsUtf8 message) → Decodes IsFailure text o
 failure_some text st None message h e t = λ v f.
     let same = (h.1 (said v) close (f.1 ∙ failure_is v)).0 ∙ e in t (subst IsUtf8 (said_one v message same) f.0)
-failure_some text st (Some m) message h e t =
-    ((subst IsUtf8 (sym t.0) t.1, h.0 ∙ ap (λ (x : List ℕ). failure_front ++ (escaped x ++ 34 ∷ close)) (e ∙ ap said (sym t.0)) ∙ sym (failure_is m)),
-     λ v f. said_one v message ((h.1 (said v) close (f.1 ∙ failure_is v)).0 ∙ e) ∙ sym t.0)
+failure_some text st (Some m) message h e t = (
+  (subst IsUtf8 (sym t.0) t.1, h.0 ∙ ap (λ (x : List ℕ). failure_front ++ (escaped x ++ 34 ∷ close)) (e ∙ ap said (sym t.0)) ∙ sym (failure_is m)),
+  λ v f. said_one v message ((h.1 (said v) close (f.1 ∙ failure_is v)).0 ∙ e) ∙ sym t.0,
+)
 
 pub failure_none : (text v : List ℕ) → ReadsNamed failure_front text None → IsFailure v text → ⊥
 failure_none text v h f = h (said v) close (f.1 ∙ failure_is v)

@@ -1,10 +1,13 @@
 -- Reading an escaped text, byte by byte.
-use Rattle.std.proofs.Common.{◌≡◌, ◌≢◌, ℕ, List, [], ◌∷◌, ◌++◌, refl, sym, ap, subst, ◌∙◌, append_assoc}
-use Rattle.std.proofs.lemmas.List.{append-nil}
-use Rattle.std.proofs.lemmas.List.Concat.{flat_map-append, flat_map-cons}
+use Rattle.std.proofs.Common.{◌≡◌, ◌≢◌, ℕ, ◌+◌, ◌<◌, ◌≤◌, List, [], ◌∷◌, ◌++◌, Option, Some, None, Bor, length, drop, drop-cons, get_or, add-one, refl, sym, ap, subst, ◌∙◌, append_assoc}
+use Rattle.std.specs.List.{flat_map}
+use Rattle.std.proofs.lemmas.List.{append-nil, drop_all}
+use Rattle.std.proofs.lemmas.List.Concat.{flat_map-append}
 use Rattle.libtest_mimic.specs.Escape.{escape, escaped}
-use Rattle.mimic_events.specs.Parts.{candidate_of, Splits, ReadsEscaped}
+use Rattle.mimic_events.specs.Parts.{candidate_of, ReadsEscaped}
+use Rattle.mimic_events.specs.Parts.{Follows}
 use Rattle.mimic_events.proofs.Escapes.{again, one_split}
+use Rattle.mimic_events.proofs.Fronts.{Follows-then, Follows-stop}
 
 -- the text so far, and what each text that is spelled there goes on with
 pub record Reaches (bytes text rest : List ℕ) : Type 0 where
@@ -48,3 +51,21 @@ is_done bytes text rest h none = record {
   front = h.front;
   only = λ other stop f. let t = h.only other stop f in last bytes text rest other stop none t.0 t.1 t.2;
 }
+
+-- ---- a text that is known, byte by byte
+
+escaped-from : (text : List ℕ) (i : ℕ) → i < length text → escaped (drop i text) ≡ escape (get_or text i 0) ++ escaped (drop (i + 1) text)
+unfolding escaped
+escaped-from text i h = rw add-one (ap (λ (x : List ℕ). flat_map escape x) (drop-cons text i 0 h))
+
+pub escaped-then : (text : List ℕ) (i : ℕ) (line rest : List ℕ) (o : Option (Bor (List ℕ))) → i < length text → line ≡ escape (get_or text i 0) ++ rest → Follows (escaped (drop (i + 1) text)) rest o → Follows (escaped (drop i text)) line o
+escaped-then text i line rest o h e f =
+    subst (λ (front : List ℕ). Follows front line o) (sym (escaped-from text i h)) (Follows-then (escape (get_or text i 0)) (escaped (drop (i + 1) text)) line rest o e f)
+
+pub escaped-stop : (text : List ℕ) (i : ℕ) (line : List ℕ) → i < length text → ((rest : List ℕ) → line ≢ escape (get_or text i 0) ++ rest) → Follows (escaped (drop i text)) line None
+escaped-stop text i line h f =
+    subst (λ (front : List ℕ). Follows front line None) (sym (escaped-from text i h)) (Follows-stop (escape (get_or text i 0)) (escaped (drop (i + 1) text)) line f)
+
+pub escaped-end : (text : List ℕ) (i : ℕ) (rest : Bor (List ℕ)) → length text ≤ i → Follows (escaped (drop i text)) rest.now (Some rest)
+unfolding escaped
+escaped-end text i rest h = rw (drop_all i text h) refl

@@ -1,5 +1,5 @@
 -- What is known of a reading, and the one report of its bytes.
-use Rattle.std.proofs.Common.{◌≡◌, ◌≢◌, ℕ, ◌+◌, ◌≤◌, ◌<◌, ◌^◌, List, [], ◌∷◌, ◌++◌, length, map, Option, Some, None, refl, sym, ap, subst, ◌∙◌, append_assoc, append-nil, ◌⊎◌, inl, inr, arith}
+use Rattle.std.proofs.Common.{◌≡◌, ◌≢◌, ℕ, ◌+◌, ◌≤◌, ◌<◌, ◌^◌, List, [], ◌∷◌, ◌++◌, length, Option, Some, None, refl, sym, ap, subst, ◌∙◌, append_assoc, append-nil, ◌⊎◌, inl, inr, arith}
 use Rattle.std.specs.List.{flat_map, concat, AllByRecursion}
 use Rattle.std.proofs.lemmas.List.{length-append, length-map}
 use Rattle.libtest_mimic.specs.Count.{counts_of}
@@ -9,7 +9,7 @@ use Rattle.mimic_events.specs.Reading.{Decodes}
 use Rattle.mimic_events.specs.Steps.{State, Next, Step, Goes, HasNoEnd, IsLine, IsReadOut, title_next, row_next, outcome_next, nothing_next}
 use Rattle.mimic_events.proofs.WholeLines.{one_line, no_line, line_some, title_line, announcement_line, outcome_line, summary_line}
 use Rattle.mimic_events.proofs.Runs.{Runs, Reached, runs_append, runs_split, reached_none, reached_step}
-use Rattle.mimic_events.proofs.Steps.{AreFit, title_and, state_text, step_text, step_fits}
+use Rattle.mimic_events.proofs.Steps.{AreFit, state_text, step_text, step_fits}
 use Rattle.mimic_events.proofs.Summaries.{outcomes}
 
 -- ---- what is known between two lines
@@ -52,14 +52,16 @@ each_append (l ∷ p) q a b = (a.0, each_append p q a.1 b)
 pub taken : (s t : State) (line rest after bytes : List ℕ) → Known s → IsLine line → Step s line t → ((u : State) → Step s line u → u ≡ t) → rest ≡ line ++ after → bytes ≡ state_text s ++ rest
     → (bytes ≡ state_text t ++ after) × Known t
 taken s t line rest after bytes known is step only parts text =
-    let more : state_text t ≡ state_text s ++ line = step_text s line t known.fits step in
-    (text ∙ ap (λ (x : List ℕ). state_text s ++ x) parts ∙ sym (append_assoc (state_text s) line after) ∙ ap (λ (x : List ℕ). x ++ after) (sym more), record {
-      lines = known.lines ++ line ∷ [];
-      reached = reached_step start known.lines s line t known.reached step only;
-      text = more ∙ ap (λ (x : List ℕ). x ++ line) known.text ∙ ap (λ (x : List ℕ). concat known.lines ++ x) (sym (append-nil line)) ∙ sym (concat-append known.lines (line ∷ []));
-      each = each_append known.lines (line ∷ []) known.each (is, tt);
-      fits = step_fits s line t known.fits step;
-    })
+    let more : state_text t ≡ state_text s ++ line = step_text s line t known.fits step in (
+      text ∙ ap (λ (x : List ℕ). state_text s ++ x) parts ∙ sym (append_assoc (state_text s) line after) ∙ ap (λ (x : List ℕ). x ++ after) (sym more),
+      record {
+        lines = known.lines ++ line ∷ [];
+        reached = reached_step start known.lines s line t known.reached step only;
+        text = more ∙ ap (λ (x : List ℕ). x ++ line) known.text ∙ ap (λ (x : List ℕ). concat known.lines ++ x) (sym (append-nil line)) ∙ sym (concat-append known.lines (line ∷ []));
+        each = each_append known.lines (line ∷ []) known.each (is, tt);
+        fits = step_fits s line t known.fits step;
+      },
+    )
 
 -- ---- the reading has gone over all lines that lead somewhere
 
@@ -100,7 +102,7 @@ from_aligned s rest known unread p more t each run (shorter [] a b) =
     ([], same ∙ sym (append-nil p), known.reached.only p [] t (same ∙ sym (append-nil p)) run, sym b)
 from_aligned s rest known unread p more t each run (shorter (l ∷ r) a b) =
     absurd (cannot_go_on s rest known.lines l r more t known.reached unread
-        (each_last known.lines l r (subst (AllByRecursion IsLine) a each)) (subst (λ (k : List (List ℕ)). Runs start k t) a run) b)
+    (each_last known.lines l r (subst (AllByRecursion IsLine) a each)) (subst (λ (k : List (List ℕ)). Runs start k t) a run) b)
 from_aligned s rest known unread p more t each run (longer l r a b) = (l ∷ r, a, known.reached.only p (l ∷ r) t a run, b)
 
 -- lines at the front of the bytes that lead somewhere were read, and the reading went on from there
@@ -124,8 +126,8 @@ rows_text (e ∷ es) =
     let o : List ℕ = json_outcome e.name e.outcome in
     ap (λ (x : List ℕ). a ++ (o ++ x)) (rows_text es) ∙ regroup a o (flat_map entry_lines es)
   where
-  regroup : (a o x : List ℕ) → a ++ (o ++ x) ≡ (a ++ (o ++ [])) ++ x
-  regroup a o x = simp (append_assoc, append-nil)
+    regroup : (a o x : List ℕ) → a ++ (o ++ x) ≡ (a ++ (o ++ [])) ++ x
+    regroup a o x = simp (append_assoc, append-nil)
 
 rows_each : (es : List Entry) → AllByRecursion FitsEntry es → AllByRecursion IsLine (flat_map row_lines es)
 rows_each [] h = tt
@@ -152,9 +154,11 @@ rows_run : (n : ℕ) (old es : List Entry) → length old + length es ≤ n → 
 rows_run n old [] le fits = rw append-nil refl
 rows_run n old (e ∷ es) le fits =
     let rest = rows_run n (old ++ e ∷ []) es (omega (arith, length-append old (e ∷ []))) fits.1 in
-    let moved : Runs (record { next = row_next n; entries = old ++ e ∷ [] }) (flat_map row_lines es) (record { next = row_next n; entries = old ++ e ∷ es }) = rw append_assoc at rest in
-    (record { next = outcome_next n e.name; entries = old }, (refl, refl, omega arith, (fits.0.name, refl)),
-        (record { next = row_next n; entries = old ++ e ∷ [] }, (refl, e.outcome, refl, (fits.0.outcome, refl)), moved))
+    let moved : Runs (record { next = row_next n; entries = old ++ e ∷ [] }) (flat_map row_lines es) (record { next = row_next n; entries = old ++ e ∷ es }) = rw append_assoc at rest in (
+      record { next = outcome_next n e.name; entries = old },
+      (refl, refl, omega arith, (fits.0.name, refl)),
+      (record { next = row_next n; entries = old ++ e ∷ [] }, (refl, e.outcome, refl, (fits.0.outcome, refl)), moved),
+    )
 
 front_run : (n : ℕ) (es : List Entry) → n < 2 ^ 64 → length es ≤ n → AllByRecursion FitsEntry es → Runs start (front_lines n es) (record { next = row_next n; entries = es })
 front_run n es small le fits = (record { next = row_next n; entries = [] }, (refl, (small, refl)), rows_run n [] es (omega arith) fits)
@@ -183,10 +187,10 @@ report_read s rest c known unread few h =
     let last : List ℕ = json_summary (counts_of (outcomes c.entries) c.filtered_out) c.nanos in
     let p : List (List ℕ) = front_lines n c.entries ++ last ∷ [] in
     let text : concat p ++ [] ≡ json_report c =
-        append-nil (concat p) ∙ ap (λ (x : List ℕ). json_title n ++ x) (concat-append (flat_map row_lines c.entries) (last ∷ []) ∙ ap (λ (x : List ℕ). x ++ (last ++ [])) (rows_text c.entries)) in
+    append-nil (concat p) ∙ ap (λ (x : List ℕ). json_title n ++ x) (concat-append (flat_map row_lines c.entries) (last ∷ []) ∙ ap (λ (x : List ℕ). x ++ (last ++ [])) (rows_text c.entries)) in
     let front = front_run n c.entries few (omega arith) h.entries in
     let run : Runs start p (over c) = runs_append (front_lines n c.entries) (last ∷ []) start (record { next = row_next n; entries = c.entries }) (over c) front
-        (over c, (refl, omega arith, (h.filtered_out, h.nanos, refl)), refl) in
+    (over c, (refl, omega arith, (h.filtered_out, h.nanos, refl)), refl) in
     let short : length (outcomes c.entries) < 2 ^ 64 = simp length-map few in
     let each = each_append (front_lines n c.entries) (last ∷ []) (title_line n few, rows_each c.entries h.entries) (summary_line (outcomes c.entries) c.filtered_out c.nanos short h.filtered_out h.nanos, tt) in
     let r = was_read s rest known unread p [] (over c) each run (h.text ∙ sym text) in
@@ -211,7 +215,7 @@ unfolding json_report
 found_at next entries x t known end =
     let last = subst (λ (n : Next). Known (record { next = n; entries = entries })) end known in
     let text : state_text (record { next = nothing_next x t; entries = entries }) ≡ json_report (record { entries = entries; filtered_out = x; nanos = t }) =
-        regroup (json_title (length entries)) (flat_map entry_lines entries) (json_summary (counts_of (outcomes entries) x) t) in
+    regroup (json_title (length entries)) (flat_map entry_lines entries) (json_summary (counts_of (outcomes entries) x) t) in
     record {
       text = subst (λ (n : Next). state_text (record { next = n; entries = entries }) ≡ json_report (record { entries = entries; filtered_out = x; nanos = t })) (sym end) text;
       entries = last.fits.1;
@@ -219,8 +223,8 @@ found_at next entries x t known end =
       nanos = last.fits.3;
     }
   where
-  regroup : (a b c : List ℕ) → (a ++ b) ++ c ≡ a ++ (b ++ (c ++ []))
-  regroup a b c = simp (append_assoc, append-nil)
+    regroup : (a b c : List ℕ) → (a ++ b) ++ c ≡ a ++ (b ++ (c ++ []))
+    regroup a b c = simp (append_assoc, append-nil)
 
 -- where nothing is left, it is what the lines said
 pub the_one_report : (s : State) (rest bytes : List ℕ) (o : Option Contents) → Known s → IsReadOut s o → rest ≡ [] → bytes ≡ state_text s ++ rest → length bytes < 2 ^ 64 → Decodes Spells bytes o
@@ -228,14 +232,16 @@ the_one_report s rest bytes None known out none e small = λ v h. out v.filtered
 the_one_report s rest bytes (Some c) known out none e small =
     let whole : bytes ≡ state_text s = e ∙ ap (λ (y : List ℕ). state_text s ++ y) none ∙ append-nil (state_text s) in
     let same : c.entries ≡ s.entries = sym (ap (λ (u : State). u.entries) out) in
-    let found = found_at s.next s.entries c.filtered_out c.nanos known (ap (λ (u : State). u.next) out) in
-    (subst (λ (y : List ℕ). IsJsonReport y c) (sym whole) (subst (λ (es : List Entry). IsJsonReport (state_text s) (record { entries = es; filtered_out = c.filtered_out; nanos = c.nanos })) (sym same) found), λ v h.
-    let read = sym (the_report s rest bytes v known (inl (rw none tt)) e small h).0 ∙ out in
-    let next : nothing_next v.filtered_out v.nanos ≡ nothing_next c.filtered_out c.nanos = ap (λ (u : State). u.next) read in
-    let x : v.filtered_out ≡ c.filtered_out = cc in
-    let t : v.nanos ≡ c.nanos = cc in
-    let es : v.entries ≡ c.entries = ap (λ (u : State). u.entries) read in
-    rw (← x, ← t, ← es) refl)
+    let found = found_at s.next s.entries c.filtered_out c.nanos known (ap (λ (u : State). u.next) out) in (
+      subst (λ (y : List ℕ). IsJsonReport y c) (sym whole) (subst (λ (es : List Entry). IsJsonReport (state_text s) (record { entries = es; filtered_out = c.filtered_out; nanos = c.nanos })) (sym same) found),
+      λ v h.
+          let read = sym (the_report s rest bytes v known (inl (rw none tt)) e small h).0 ∙ out in
+          let next : nothing_next v.filtered_out v.nanos ≡ nothing_next c.filtered_out c.nanos = ap (λ (u : State). u.next) read in
+          let x : v.filtered_out ≡ c.filtered_out = cc in
+          let t : v.nanos ≡ c.nanos = cc in
+          let es : v.entries ≡ c.entries = ap (λ (u : State). u.entries) read in
+          rw (← x, ← t, ← es) refl,
+    )
 
 -- where something is left that begins with no line, there is none
 pub none_left : (s : State) (rest bytes : List ℕ) → Known s → HasNoEnd rest → rest ≢ [] → bytes ≡ state_text s ++ rest → length bytes < 2 ^ 64 → (c : Contents) → IsJsonReport bytes c → ⊥

@@ -23,10 +23,10 @@ runs_split (l ∷ p) q s u h = let r = runs_split p q h.0 u h.2 in (r.0, (h.0, h
 pub reached_none : (s : State) → Reached s [] s
 reached_none s = record { run = refl; only = λ p q t e r. none p q t e r }
   where
-  none : (p q : List (List ℕ)) (t : State) → [] ≡ p ++ q → Runs s p t → Runs t q s
-  none [] [] t e r = sym r
-  none [] (l ∷ q) t e r = absurd cc
-  none (l ∷ p) q t e r = absurd cc
+    none : (p q : List (List ℕ)) (t : State) → [] ≡ p ++ q → Runs s p t → Runs t q s
+    none [] [] t e r = sym r
+    none [] (l ∷ q) t e r = absurd cc
+    none (l ∷ p) q t e r = absurd cc
 
 -- what a list with one more at its end splits into
 pub data Splits (lines : List (List ℕ)) (last : List ℕ) (p q : List (List ℕ)) : Type 0 where

@@ -1,5 +1,5 @@
 -- The line that ends a report.
-use Rattle.std.proofs.Common.{◌≡◌, ◌≢◌, ℕ, ◌<◌, ◌≤◌, ◌^◌, List, [], ◌∷◌, ◌++◌, Option, Some, None, map, codes, decimal, refl, sym, ap, subst, ◌∙◌, append_assoc, append-nil, arith}
+use Rattle.std.proofs.Common.{◌≡◌, ℕ, List, [], ◌∷◌, ◌++◌, Some, None, map, codes, decimal, refl, sym, ap, ◌∙◌, append_assoc, arith}
 use Rattle.std.proofs.lemmas.List.{append_cancel_left, append_cancel_right}
 use Rattle.libtest_mimic.specs.declared.outcome.Outcome.{Outcome}
 use Rattle.libtest_mimic.specs.declared.outcome.conclusion.Conclusion.{Conclusion}
@@ -30,7 +30,7 @@ unfolding json_summary summary_front
 summary_is os x t =
     let c : Conclusion = counts_of os 0 in
     sym (regroup (codes "{ \"type\": \"suite\", \"event\": \"") (json_verdict c.num_failed) (codes "\", \"passed\": ") (decimal c.num_passed) (codes ", \"failed\": ") (decimal c.num_failed)
-        (codes ", \"ignored\": ") (decimal c.num_ignored) (codes ", \"measured\": ") (decimal c.num_measured) (codes ", \"filtered_out\": ") (rest_of x t))
+    (codes ", \"ignored\": ") (decimal c.num_ignored) (codes ", \"measured\": ") (decimal c.num_measured) (codes ", \"filtered_out\": ") (rest_of x t))
 
 -- ---- what a summary line is, part by part
 
@@ -64,11 +64,13 @@ pub summary_found : (entries : List Entry) (line first second third time : List 
 summary_found entries line first second third time x t e read f g d =
     let front : List ℕ = summary_front (counts_of (outcomes entries) 0) in
     let whole : line ≡ front ++ rest_of x t =
-        e ∙ ap (λ (y : List ℕ). front ++ y) (read.1 ∙ ap (λ (y : List ℕ). decimal x ++ y) (f ∙ ap (λ (y : List ℕ). exec_time ++ y) (g ∙ ap (λ (y : List ℕ). y ++ close) d.0.1))) in
-    ((read.0, d.0.0, whole ∙ sym (summary_is (outcomes entries) x t)), λ v h.
-        let a = (summary_second entries line first second x v h e read).0 in
-        let b = d.1 v.1 (summary_time entries line first second third time x v h e read f g) in
-        rw (← a, ← b) refl)
+    e ∙ ap (λ (y : List ℕ). front ++ y) (read.1 ∙ ap (λ (y : List ℕ). decimal x ++ y) (f ∙ ap (λ (y : List ℕ). exec_time ++ y) (g ∙ ap (λ (y : List ℕ). y ++ close) d.0.1))) in (
+      (read.0, d.0.0, whole ∙ sym (summary_is (outcomes entries) x t)),
+      λ v h.
+          let a = (summary_second entries line first second x v h e read).0 in
+          let b = d.1 v.1 (summary_time entries line first second third time x v h e read f g) in
+          rw (← a, ← b) refl,
+    )
 
 -- the outcomes of entries are those of their rows
 pub outcomes-rows : (rows : List Row) → outcomes (map entry_of rows) ≡ map (λ (row : Row). row.outcome) rows

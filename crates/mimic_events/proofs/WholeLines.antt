@@ -1,5 +1,5 @@
 -- The lines of a text, and that each line of a report is one.
-use Rattle.std.proofs.Common.{◌≡◌, ◌≢◌, ℕ, zero, suc, cond, length, ◌+◌, ◌/◌, ◌%◌, ◌≤◌, ◌<◌, ◌^◌, Bool, true, false, eqb, ltb, not, ◌&&◌, List, [], ◌∷◌, ◌++◌, Option, Some, None, codes, decimal, refl, sym, ap, subst, ◌∙◌, append_assoc, arith, inl, inr}
+use Rattle.std.proofs.Common.{◌≡◌, ℕ, zero, suc, cond, length, ◌+◌, ◌/◌, ◌%◌, ◌<◌, ◌^◌, Bool, true, false, eqb, ltb, not, ◌&&◌, List, [], ◌∷◌, ◌++◌, Some, None, codes, decimal, refl, sym, ap, subst, ◌∙◌, append_assoc, arith, inl, inr}
 use Rattle.std.specs.List.{flat_map}
 use Rattle.std.specs.Str.Parse.{AllDigits}
 use Rattle.std.proofs.lemmas.Bool.{cases_lt}
@@ -84,9 +84,9 @@ low = refl
 
 escape_no_end : (b : ℕ) → HasNoEnd (escape b)
 escape_no_end b = elim (cases_lt b 93) [
-    | inl lt ↦ by_test (escape b) (one_below (λ c. ends_no_line (escape c)) 93 b low lt)
-    | inr le ↦ subst HasNoEnd (sym (escape-high b le)) ((λ e. omega (arith, le, e)), tt)
-  ]
+  | inl lt ↦ by_test (escape b) (one_below (λ c. ends_no_line (escape c)) 93 b low lt)
+  | inr le ↦ subst HasNoEnd (sym (escape-high b le)) ((λ e. omega (arith, le, e)), tt)
+]
 
 escaped_no_end : (text : List ℕ) → HasNoEnd (escaped text)
 unfolding escaped
@@ -107,19 +107,21 @@ fraction_no_end : (k rest : ℕ) → HasNoEnd (fraction_digits k rest)
 unfolding fraction_digits
 fraction_no_end zero rest = tt
 fraction_no_end (suc k) rest = elim (eqb rest 0) as (λ b. HasNoEnd (cond b [] ((48 + rest / 10 ^ k) ∷ fraction_digits k (rest % 10 ^ k)))) [
-    | true ↦ tt
-    | false ↦ ((λ e. omega (arith, e)), fraction_no_end k (rest % 10 ^ k))
-  ]
+  | true ↦ tt
+  | false ↦ ((λ e. omega (arith, e)), fraction_no_end k (rest % 10 ^ k))
+]
 
 sec : (nanos : ℕ) → nanos < 2 ^ 64 → Part (exact_seconds nanos)
 unfolding exact_seconds
 sec nanos h =
     let whole : nanos / 10 ^ 9 < 2 ^ 64 = omega arith in
-    record { clean = no_end-append (decimal (nanos / 10 ^ 9)) (cond (eqb (nanos % 10 ^ 9) 0) [] (46 ∷ fraction_digits 9 (nanos % 10 ^ 9))) (num (nanos / 10 ^ 9) whole).clean
-        (elim (eqb (nanos % 10 ^ 9) 0) as (λ b. HasNoEnd (cond b [] (46 ∷ fraction_digits 9 (nanos % 10 ^ 9)))) [
-          | true ↦ tt
-          | false ↦ ((λ e. omega (arith, e)), fraction_no_end 9 (nanos % 10 ^ 9))
-        ]) }
+    record {
+      clean = no_end-append (decimal (nanos / 10 ^ 9)) (cond (eqb (nanos % 10 ^ 9) 0) [] (46 ∷ fraction_digits 9 (nanos % 10 ^ 9))) (num (nanos / 10 ^ 9) whole).clean
+          (elim (eqb (nanos % 10 ^ 9) 0) as (λ b. HasNoEnd (cond b [] (46 ∷ fraction_digits 9 (nanos % 10 ^ 9)))) [
+            | true ↦ tt
+            | false ↦ ((λ e. omega (arith, e)), fraction_no_end 9 (nanos % 10 ^ 9))
+          ]);
+    }
 
 -- what stands at the end of every line
 close : IsLine (codes " }\n")

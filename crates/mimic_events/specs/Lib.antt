@@ -1,4 +1,5 @@
 pub mod Contents
 pub mod Parts
 pub mod Reading
+pub mod Run
 pub mod Steps

@@ -1,7 +1,6 @@
 -- What the private readers of parts of a line promise one another. No public clause names these words.
 use Rattle.std.specs.Prelude.{◌≡◌, ◌≢◌, ℕ, ◌+◌, ◌-◌, ◌<◌, ◌≤◌, ◌^◌, ◌==◌, nat_lt, if◌then◌else◌, Bool, true, false, List, [], ◌∷◌, ◌++◌, codes, decimal, Option, Some, None, IsUtf8}
 use Rattle.std.specs.Borrow.{Bor}
-use Rattle.std.specs.List.{concat}
 use Rattle.std.specs.Str.Parse.{AllDigits}
 use Rattle.libtest_mimic.specs.declared.outcome.Outcome.{Outcome}
 use Rattle.libtest_mimic.specs.declared.outcome.Outcome.TheVariants.{Passed, Failed, Ignored, Measured}

@@ -4,7 +4,7 @@ ghost use Rattle.mimic_events.specs.Parts.{IsFailure, IsTail};
 ghost use Rattle.mimic_events.specs.Reading.{Decodes, IsTitle, IsAnnouncement, IsOutcome};
 
 use crate::numbers::number_at;
-use crate::quoted::quoted_after;
+use crate::quoted::{after_quoted, quoted_after};
 use crate::strip::{after, before};
 use libtest_mimic::{Failed, Measurement, Outcome};
 use std::alloc::{AllocError, Global};
@@ -13,7 +13,10 @@ use std::alloc::{AllocError, Global};
 pub fn titled(line: &[u8]) -> Option<u64>
     ensures { Decodes IsTitle line.now result }
 {
-    let rest = after(line, b"{ \"type\": \"suite\", \"event\": \"started\", \"test_count\": ")?;
+    let rest = after(
+        line,
+        br#"{ "type": "suite", "event": "started", "test_count": "#,
+    )?;
     match number_at(rest)? {
         (count, end) if end == b" }\n".as_slice() => Some(count),
         _ => None,
@@ -24,7 +27,7 @@ pub fn titled(line: &[u8]) -> Option<u64>
 pub fn announced(alloc: Global, line: &[u8]) -> Result<Option<String>, AllocError>
     ensures { IfOk result (λ name. Decodes IsAnnouncement line.now (option_map string_bytes name)) }
 {
-    let front = b"{ \"type\": \"test\", \"event\": \"started\", \"name\": \"";
+    let front = br#"{ "type": "test", "event": "started", "name": ""#;
     match quoted_after(alloc, line, front)? {
         Some((name, end)) if end == b" }\n".as_slice() => Ok(text_of(name)),
         _ => Ok(None),
@@ -35,29 +38,24 @@ pub fn announced(alloc: Global, line: &[u8]) -> Result<Option<String>, AllocErro
 pub fn ended(alloc: Global, name: &str, line: &[u8]) -> Result<Option<Outcome>, AllocError>
     ensures { IfOk result (λ outcome. Decodes (IsOutcome name.now) line.now outcome) }
 {
-    if let Some((found, rest)) = quoted_after(alloc, line, b"{ \"type\": \"bench\", \"name\": \"")? {
-        if found.as_slice() != name.as_bytes() {
-            return Ok(None);
+    if let Some(rest) = after_quoted(line, br#"{ "type": "bench", "name": ""#, name) {
+        return Ok(measured(rest));
+    }
+    match after_quoted(line, br#"{ "type": "test", "name": ""#, name) {
+        Some(rest) => {
+            let outcome = tested(alloc, rest)?;
+            Ok(outcome)
         }
-        let outcome = measured(rest);
-        return Ok(outcome);
+        None => Ok(None),
     }
-    let Some((found, rest)) = quoted_after(alloc, line, b"{ \"type\": \"test\", \"name\": \"")? else {
-        return Ok(None);
-    };
-    if found.as_slice() != name.as_bytes() {
-        return Ok(None);
-    }
-    let outcome = tested(alloc, rest)?;
-    Ok(outcome)
 }
 
 // The outcome of a measured trial, from what follows the name.
 fn measured(rest: &[u8]) -> Option<Outcome>
     ensures { Decodes (IsTail true) rest.now result }
 {
-    let (avg, rest) = number_at(after(rest, b", \"median\": ")?)?;
-    let (variance, end) = number_at(after(rest, b", \"deviation\": ")?)?;
+    let (avg, rest) = number_at(after(rest, br#", "median": "#)?)?;
+    let (variance, end) = number_at(after(rest, br#", "deviation": "#)?)?;
     if end == b" }\n".as_slice() {
         Some(Outcome::Measured(Measurement { avg, variance }))
     } else {
@@ -88,7 +86,7 @@ fn tested(alloc: Global, rest: &[u8]) -> Result<Option<Outcome>, AllocError>
 fn failure(alloc: Global, rest: &[u8]) -> Result<Option<String>, AllocError>
     ensures { IfOk result (λ message. Decodes IsFailure rest.now (option_map string_bytes message)) }
 {
-    let front = b", \"event\": \"failed\", \"stdout\": \"Error: \\\"";
+    let front = br#", "event": "failed", "stdout": "Error: \""#;
     let Some((text, end)) = quoted_after(alloc, rest, front)? else {
         return Ok(None);
     };

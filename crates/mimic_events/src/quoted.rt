@@ -1,7 +1,7 @@
 //! Texts between the quotes of a JSON string.
-ghost use Rattle.std.specs.Prelude.{◌≡◌, IfOk, option_map};
-ghost use Rattle.libtest_mimic.specs.Escape.{escape};
-ghost use Rattle.mimic_events.specs.Parts.{named_of, control_of, candidate_of, Splits, ReadsEscaped, ReadsQuoted, ReadsNamed};
+ghost use Rattle.std.specs.Prelude.{◌≡◌, ◌++◌, ◌∷◌, [], IfOk, option_map};
+ghost use Rattle.libtest_mimic.specs.Escape.{escape, escaped};
+ghost use Rattle.mimic_events.specs.Parts.{Follows, named_of, control_of, candidate_of, Splits, ReadsEscaped, ReadsQuoted, ReadsNamed};
 
 use crate::strip::after;
 use libtest_mimic::text::escape_char;
@@ -20,6 +20,38 @@ pub fn quoted_after<'a>(
     };
     let found = quoted_at(alloc, rest)?;
     Ok(found)
+}
+
+// What follows this text in quotes behind this front, which ends with the opening quote, and the closing quote.
+pub fn after_quoted<'a>(line: &'a [u8], front: &[u8], text: &str) -> Option<&'a [u8]>
+    ensures { Follows (front.now ++ (escaped text.now ++ 34 ∷ [])) line.now result }
+{
+    let rest = after(line, front)?;
+    let rest = after_escaped(rest, text.as_bytes())?;
+    after(rest, b"\"")
+}
+
+// What follows the spelling of this text.
+fn after_escaped<'a>(line: &'a [u8], text: &[u8]) -> Option<&'a [u8]>
+    ensures { Follows (escaped text.now) line.now result }
+{
+    let mut rest = line;
+    for byte in text {
+        rest = after_spelling(rest, *byte)?;
+    }
+    Some(rest)
+}
+
+// What follows the spelling of this byte.
+fn after_spelling<'a>(text: &'a [u8], byte: u8) -> Option<&'a [u8]>
+    ensures { Follows (escape byte) text.now result }
+{
+    if byte < b' ' || byte == b'"' || byte == b'\\' {
+        after(text, escape_char(char::from(byte)).as_str().as_bytes())
+    } else {
+        // It stands for itself.
+        after(text, &[byte])
+    }
 }
 
 // The text up to the closing quote, and what follows that.
@@ -51,13 +83,8 @@ fn unescape(text: &[u8]) -> Option<(u8, &[u8])>
     ensures { Splits escape text.now (option_map (λ found. (found.0, found.1.now)) result) }
 {
     let byte = candidate(text);
-    if byte.is_ascii() {
-        let rest = after(text, escape_char(char::from(byte)).as_str().as_bytes())?;
-        Some((byte, rest))
-    } else {
-        let rest = after(text, &[byte])?;
-        Some((byte, rest))
-    }
+    let rest = after_spelling(text, byte)?;
+    Some((byte, rest))
 }
 
 // The byte that the spelling at the front would be of, whether or not it is spelled so.

@@ -18,7 +18,7 @@ pub fn summed(rows: &[Row], line: &[u8]) -> Option<(u64, u64)>
 {
     let rest = after_counts(line, &counts_of_rows(rows, 0))?;
     let (filtered_out, rest) = number_at(rest)?;
-    let rest = after(rest, b", \"exec_time\": ")?;
+    let rest = after(rest, br#", "exec_time": "#)?;
     let nanos = seconds(before(rest, b" }\n")?)?;
     Some((filtered_out, nanos))
 }
@@ -27,13 +27,13 @@ pub fn summed(rows: &[Row], line: &[u8]) -> Option<(u64, u64)>
 fn after_counts<'a>(line: &'a [u8], counts: &Conclusion) -> Option<&'a [u8]>
     ensures { Follows (summary_front counts.now) line.now result }
 {
-    let rest = after(line, b"{ \"type\": \"suite\", \"event\": \"")?;
+    let rest = after(line, br#"{ "type": "suite", "event": ""#)?;
     let rest = after(rest, verdict(counts).as_bytes())?;
-    let rest = after_count(rest, b"\", \"passed\": ", counts.num_passed)?;
-    let rest = after_count(rest, b", \"failed\": ", counts.num_failed)?;
-    let rest = after_count(rest, b", \"ignored\": ", counts.num_ignored)?;
-    let rest = after_count(rest, b", \"measured\": ", counts.num_measured)?;
-    after(rest, b", \"filtered_out\": ")
+    let rest = after_count(rest, br#"", "passed": "#, counts.num_passed)?;
+    let rest = after_count(rest, br#", "failed": "#, counts.num_failed)?;
+    let rest = after_count(rest, br#", "ignored": "#, counts.num_ignored)?;
+    let rest = after_count(rest, br#", "measured": "#, counts.num_measured)?;
+    after(rest, br#", "filtered_out": "#)
 }
 
 // What follows a label and this number, where the text begins with them.

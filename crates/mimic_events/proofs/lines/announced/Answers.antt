@@ -10,8 +10,8 @@ returns-in-Some c =
 
 pub returns-in_default : goal.returns-in_default
 returns-in_default c = λ v h. elim c.in_default.branch [
-      | in_default-via-in-Some+else-eq w ↦
-        let end : w.in-Some.end.now ≢ 32 ∷ 125 ∷ 10 ∷ [] = search rules in
-        announced_other c.args.line.now w.in-Some.name.items w.in-Some.end.now v (rw w.in-Some.is at c.in_ok-name.ensures) end h
-      | in_default-via-in_default w ↦ announced_none c.args.line.now v (rw w.in_default.is at c.in_ok-name.ensures) h
-    ]
+  | in_default-via-in-Some+else-eq w ↦
+      let end : w.in-Some.end.now ≢ 32 ∷ 125 ∷ 10 ∷ [] = search rules in
+      announced_other c.args.line.now w.in-Some.name.items w.in-Some.end.now v (rw w.in-Some.is at c.in_ok-name.ensures) end h
+  | in_default-via-in_default w ↦ announced_none c.args.line.now v (rw w.in_default.is at c.in_ok-name.ensures) h
+]

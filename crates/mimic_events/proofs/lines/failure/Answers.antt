@@ -1,6 +1,5 @@
-use Rattle.std.proofs.Common.{rules, ◌≡◌, ◌≢◌, ◌∙◌, ap, sym, subst, option_map, string_bytes, List, ℕ}
-use Rattle.mimic_events.specs.Parts.{ReadsNamed}
-use Rattle.mimic_events.proofs.NamedLines.{close, said, failure_front, failure_some, failure_none, failure_other, failure_unsaid, mapped}
+use Rattle.std.proofs.Common.{rules, ◌≡◌, ◌≢◌, string_bytes}
+use Rattle.mimic_events.proofs.NamedLines.{close, failure_some, failure_none, failure_other, failure_unsaid, mapped}
 use Rattle.mimic_events.proofs.lines.failure.Goals as goal
 
 pub returns-in_default : goal.returns-in_default
@@ -20,4 +19,4 @@ returns-in-Some-before_quote c =
     let end : c.in-Some.end.now ≡ close = search rules in
     let found = rw c.in-Some.is at c.in_ok-text.ensures in
     failure_some c.args.rest.now c.in-Some.text.items _ c.in-Some-before_quote.message.items (rw end at found) c.in-Some-before_quote.ensures
-        (mapped c.text_of.result string_bytes c.in-Some-before_quote.message.items c.text_of.ensures)
+    (mapped c.text_of.result string_bytes c.in-Some-before_quote.message.items c.text_of.ensures)

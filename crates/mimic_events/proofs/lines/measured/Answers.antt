@@ -1,4 +1,4 @@
-use Rattle.std.proofs.Common.{◌≡◌, ◌≢◌, ◌++◌, ◌∙◌, decimal, rules}
+use Rattle.std.proofs.Common.{◌≡◌, ◌++◌, decimal, rules}
 use Rattle.mimic_events.proofs.NamedLines.{close}
 use Rattle.mimic_events.proofs.EndedLines.{no_median, measured_second, measured_all}
 use Rattle.mimic_events.proofs.lines.measured.Goals as goal
@@ -15,4 +15,4 @@ pub returns-then-eq : goal.returns-then-eq
 returns-then-eq c =
     let last : c.in_ok-variance.end.now ≡ close = search rules in
     measured_all c.args.rest.now c.in_ok-after.field-0.now c.in_ok-avg.rest.now c.in_ok-after-2.field-0.now c.in_ok-variance.end.now c.in_ok-avg.avg c.in_ok-variance.variance
-        c.in_ok-after.ensures c.in_ok-avg.ensures c.in_ok-after-2.ensures c.in_ok-variance.ensures last
+    c.in_ok-after.ensures c.in_ok-avg.ensures c.in_ok-after-2.ensures c.in_ok-variance.ensures last

@@ -1,7 +1,7 @@
-use Rattle.std.proofs.Common.{◌≡◌, None, rules, option_map}
+use Rattle.std.proofs.Common.{◌≡◌, None, rules}
 use Rattle.libtest_mimic.specs.declared.outcome.Outcome.TheVariants.{Passed, Failed, Ignored}
 use Rattle.mimic_events.specs.Parts.{tail}
-use Rattle.mimic_events.proofs.EndedLines.{is_passed, is_ignored, is_failed, tail_some}
+use Rattle.mimic_events.proofs.EndedLines.{is_passed, is_ignored, is_failed}
 use Rattle.mimic_events.proofs.lines.tested.Goals as goal
 
 pub returns-then-eq : goal.returns-then-eq

@@ -1,4 +1,4 @@
-use Rattle.std.proofs.Common.{rules, ◌≡◌, ◌<◌, ◌^◌, ◌*◌, ◌-◌, length, arith}
+use Rattle.std.proofs.Common.{arith}
 use Rattle.mimic_events.proofs.Digits.{fraction_fits}
 use Rattle.mimic_events.proofs.numbers.fraction.Goals as goal
 

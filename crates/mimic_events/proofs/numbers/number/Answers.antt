@@ -1,4 +1,4 @@
-use Rattle.std.proofs.Common.{◌≡◌, ◌<◌, ◌^◌, ℕ, IsUtf8, decimal, rules, arith, sym, subst, ◌∙◌}
+use Rattle.std.proofs.Common.{◌≡◌, ◌<◌, ◌^◌, IsUtf8, decimal, rules, arith, sym, subst, ◌∙◌}
 use Rattle.std.proofs.lemmas.Fmt.{parse-decimal, decimal_injective, IsAscii-decimal}
 use Rattle.std.proofs.lemmas.Str.{IsUtf8-from_ascii}
 use Rattle.mimic_events.proofs.numbers.number.Goals as goal

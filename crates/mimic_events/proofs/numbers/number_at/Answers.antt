@@ -1,5 +1,3 @@
-use Rattle.std.proofs.Common.{option_map, ◌<◌, ◌^◌, arith}
-use Rattle.mimic_events.specs.Parts.{ReadsNumber}
 use Rattle.mimic_events.proofs.Digits.{number_found, number_none}
 use Rattle.mimic_events.proofs.numbers.number_at.Goals as goal
 

@@ -1,4 +1,4 @@
-use Rattle.std.proofs.Common.{rules, ◌≡◌, ◌≢◌, get_or, arith}
+use Rattle.std.proofs.Common.{rules, ◌≢◌, get_or}
 use Rattle.mimic_events.proofs.Digits.{numeral_ok, numeral_utf8}
 use Rattle.mimic_events.proofs.numbers.numeral.Goals as goal
 

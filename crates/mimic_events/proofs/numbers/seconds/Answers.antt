@@ -1,4 +1,3 @@
-use Rattle.std.proofs.Common.{rules}
 use Rattle.mimic_events.proofs.Digits.{seconds_parts, seconds_none, seconds_found}
 use Rattle.mimic_events.proofs.numbers.seconds.Goals as goal
 

@@ -1,4 +1,4 @@
-use Rattle.std.proofs.Common.{rules, ◌≡◌, ◌≤◌, length, map, refl, arith}
+use Rattle.std.proofs.Common.{◌≤◌, length, map, refl, arith}
 use Rattle.std.proofs.lemmas.List.{length-map}
 use Rattle.mimic_events.specs.Contents.{entry_of}
 use Rattle.mimic_events.proofs.Steps.{summed_none, summed_some}

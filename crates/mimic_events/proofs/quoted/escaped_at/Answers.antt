@@ -1,5 +1,4 @@
-use Rattle.std.proofs.Common.{rules, ◌≡◌, ◌∷◌, ◌++◌, []}
-use Rattle.mimic_events.proofs.QuotedTexts.{Reaches, starts, goes_on, is_done}
+use Rattle.mimic_events.proofs.QuotedTexts.{starts, goes_on, is_done}
 use Rattle.mimic_events.proofs.quoted.escaped_at.Goals as goal
 
 pub loop-byte-init : goal.loop-byte-init

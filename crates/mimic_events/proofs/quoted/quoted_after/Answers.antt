@@ -1,4 +1,3 @@
-use Rattle.std.proofs.Common.{rules, option_map}
 use Rattle.mimic_events.proofs.NamedLines.{named_some}
 use Rattle.mimic_events.proofs.quoted.quoted_after.Goals as goal
 

@@ -1,4 +1,4 @@
-use Rattle.std.proofs.Common.{◌≡◌, ◌++◌, List, ℕ, Option, Some, map, decimal, sym, ap, ◌∙◌}
+use Rattle.std.proofs.Common.{◌≡◌, ◌++◌, List, ℕ, map, sym, ap, ◌∙◌}
 use Rattle.libtest_mimic.specs.declared.outcome.Outcome.{Outcome}
 use Rattle.libtest_mimic.specs.declared.outcome.conclusion.Conclusion.{Conclusion}
 use Rattle.libtest_mimic.specs.Count.{counts_of}
@@ -7,7 +7,7 @@ use Rattle.mimic_events.specs.declared.report.Row.{Row}
 use Rattle.mimic_events.specs.Contents.{entry_of}
 use Rattle.mimic_events.specs.Parts.{summary_front}
 use Rattle.mimic_events.proofs.NamedLines.{close}
-use Rattle.mimic_events.proofs.Summaries.{exec_time, rest_of, outcomes, outcomes-rows, summary_first, summary_no_number, summary_second, summary_third, summary_time, summary_found}
+use Rattle.mimic_events.proofs.Summaries.{rest_of, outcomes, outcomes-rows, summary_first, summary_no_number, summary_second, summary_third, summary_time, summary_found}
 use Rattle.mimic_events.proofs.summary.summed.Goals as goal
 
 -- the counts of the rows are those of their entries
@@ -22,7 +22,7 @@ pub returns-in_err-rest : goal.returns-in_err-rest
 returns-in_err-rest c =
     let same = counted c.args.rows.now c.counts_of_rows.result c.counts_of_rows.ensures in
     rw c.from_residual.ensures (λ v h.
-      c.in_err-rest.ensures (rest_of v.0 v.1) (summary_first (map entry_of c.args.rows.now) c.args.line.now v h ∙ ap (λ (x : Conclusion). summary_front x ++ rest_of v.0 v.1) (sym same)))
+    c.in_err-rest.ensures (rest_of v.0 v.1) (summary_first (map entry_of c.args.rows.now) c.args.line.now v h ∙ ap (λ (x : Conclusion). summary_front x ++ rest_of v.0 v.1) (sym same)))
 
 pub returns-in_err-filtered_out : goal.returns-in_err-filtered_out
 returns-in_err-filtered_out c =
@@ -33,25 +33,25 @@ pub returns-in_err-rest-2 : goal.returns-in_err-rest-2
 returns-in_err-rest-2 c =
     let first = behind c.args.rows.now c.counts_of_rows.result c.args.line.now c.in_ok-rest.rest.now c.counts_of_rows.ensures c.in_ok-rest.ensures in
     rw c.from_residual-in_err-rest-2.ensures (λ v h.
-      let second = summary_second (map entry_of c.args.rows.now) c.args.line.now c.in_ok-rest.rest.now c.in_ok-filtered_out.rest.now c.in_ok-filtered_out.filtered_out v h first c.in_ok-filtered_out.ensures in
-      c.in_err-rest-2.ensures (exact_seconds v.1 ++ close) second.1)
+    let second = summary_second (map entry_of c.args.rows.now) c.args.line.now c.in_ok-rest.rest.now c.in_ok-filtered_out.rest.now c.in_ok-filtered_out.filtered_out v h first c.in_ok-filtered_out.ensures in
+    c.in_err-rest-2.ensures (exact_seconds v.1 ++ close) second.1)
 
 pub returns-in_err-before : goal.returns-in_err-before
 returns-in_err-before c =
     let first = behind c.args.rows.now c.counts_of_rows.result c.args.line.now c.in_ok-rest.rest.now c.counts_of_rows.ensures c.in_ok-rest.ensures in
     rw c.from_residual-in_err-before.ensures (λ v h.
-      c.in_err-before.ensures (exact_seconds v.1) (summary_third (map entry_of c.args.rows.now) c.args.line.now c.in_ok-rest.rest.now c.in_ok-filtered_out.rest.now c.in_ok-rest-2.rest.now
-        c.in_ok-filtered_out.filtered_out v h first c.in_ok-filtered_out.ensures c.in_ok-rest-2.ensures))
+    c.in_err-before.ensures (exact_seconds v.1) (summary_third (map entry_of c.args.rows.now) c.args.line.now c.in_ok-rest.rest.now c.in_ok-filtered_out.rest.now c.in_ok-rest-2.rest.now
+    c.in_ok-filtered_out.filtered_out v h first c.in_ok-filtered_out.ensures c.in_ok-rest-2.ensures))
 
 pub returns-in_err-nanos : goal.returns-in_err-nanos
 returns-in_err-nanos c =
     let first = behind c.args.rows.now c.counts_of_rows.result c.args.line.now c.in_ok-rest.rest.now c.counts_of_rows.ensures c.in_ok-rest.ensures in
     rw c.from_residual-in_err-nanos.ensures (λ v h.
-      c.in_err-nanos.ensures v.1 (summary_time (map entry_of c.args.rows.now) c.args.line.now c.in_ok-rest.rest.now c.in_ok-filtered_out.rest.now c.in_ok-rest-2.rest.now c.in_ok-before.field-0.now
-        c.in_ok-filtered_out.filtered_out v h first c.in_ok-filtered_out.ensures c.in_ok-rest-2.ensures c.in_ok-before.ensures))
+    c.in_err-nanos.ensures v.1 (summary_time (map entry_of c.args.rows.now) c.args.line.now c.in_ok-rest.rest.now c.in_ok-filtered_out.rest.now c.in_ok-rest-2.rest.now c.in_ok-before.field-0.now
+    c.in_ok-filtered_out.filtered_out v h first c.in_ok-filtered_out.ensures c.in_ok-rest-2.ensures c.in_ok-before.ensures))
 
 pub returns : goal.returns
 returns c =
     let first = behind c.args.rows.now c.counts_of_rows.result c.args.line.now c.in_ok-rest.rest.now c.counts_of_rows.ensures c.in_ok-rest.ensures in
     summary_found (map entry_of c.args.rows.now) c.args.line.now c.in_ok-rest.rest.now c.in_ok-filtered_out.rest.now c.in_ok-rest-2.rest.now c.in_ok-before.field-0.now
-      c.in_ok-filtered_out.filtered_out c.in_ok-nanos.nanos first c.in_ok-filtered_out.ensures c.in_ok-rest-2.ensures c.in_ok-before.ensures c.in_ok-nanos.ensures
+    c.in_ok-filtered_out.filtered_out c.in_ok-nanos.nanos first c.in_ok-filtered_out.ensures c.in_ok-rest-2.ensures c.in_ok-before.ensures c.in_ok-nanos.ensures

@@ -1,0 +1,20 @@
+use Rattle.std.proofs.Common.{◌≡◌, ◌<◌, ◌^◌, List, ℕ, Some, [], length, refl, sym, ap, ◌∙◌, arith, rules}
+use Rattle.libtest_mimic.specs.Sink.{writer_of}
+use Rattle.mimic_events.proofs.RunReports.{run_told, told_some, told_same}
+use Rattle.mimic_events.proofs.run.run_to_report.Goals as goal
+
+pub unwrap-report-requires : goal.unwrap-report-requires
+unwrap-report-requires g c =
+    let empty : c.new-sink.result.writer.items ≡ [] = rw c.new-sink.ensures.writer c.new.ensures.items in
+    let full : c.run_here.new.sink.writer.items ≡ c.as_slice.result.now = sym (c.as_slice.ensures.value ∙ ap (λ v. v.items) c.into_inner-bytes.ensures) in
+    let told = run_told (λ v. Some v.items) c.args.args.now c.args.tests.items c.new-sink.result c.run_here.new.sink c.run_here.new.watch c.in_ok-conclusion.conclusion c.as_slice.result.now
+    c.requires.json c.requires.runs (omega arith) (ap (λ (x : List ℕ). Some x) empty) (ap (λ (x : List ℕ). Some x) full) c.in_ok-conclusion.ensures.ran in
+    told_some c.args.args.now c.args.tests.items c.run_here.new.watch c.in_ok-conclusion.conclusion c.as_slice.result.now c.in_ok-read_report.field-0 told c.in_ok-read_report.ensures
+
+pub returns : goal.returns
+returns g c =
+    let empty : c.new-sink.result.writer.items ≡ [] = rw c.new-sink.ensures.writer c.new.ensures.items in
+    let full : c.run_here.new.sink.writer.items ≡ c.as_slice.result.now = sym (c.as_slice.ensures.value ∙ ap (λ v. v.items) c.into_inner-bytes.ensures) in
+    let told = run_told (λ v. Some v.items) c.args.args.now c.args.tests.items c.new-sink.result c.run_here.new.sink c.run_here.new.watch c.in_ok-conclusion.conclusion c.as_slice.result.now
+    c.requires.json c.requires.runs (omega arith) (ap (λ (x : List ℕ). Some x) empty) (ap (λ (x : List ℕ). Some x) full) c.in_ok-conclusion.ensures.ran in
+    told_same c.args.args.now c.args.tests.items c.run_here.new.watch c.in_ok-conclusion.conclusion c.as_slice.result.now c.in_ok-read_report.field-0 c.unwrap-report.result c.unwrap-report.ensures told c.in_ok-read_report.ensures

@@ -1,0 +1,32 @@
+//! Runs whose reports are wanted as values.
+ghost use Rattle.std.specs.Prelude.{◌≡◌, false, IfOk};
+ghost use Rattle.libtest_mimic.specs.declared.args.FormatSetting.TheVariants.{Json};
+ghost use Rattle.libtest_mimic.specs.Arguments.{format_of};
+ghost use Rattle.libtest_mimic.specs.Stopwatch.{IsFresh};
+ghost use Rattle.mimic_events.specs.Contents.{contents_of};
+ghost use Rattle.mimic_events.specs.Run.{TellsRun};
+
+use crate::report::{Report, read_report};
+use libtest_mimic::{Arguments, Clock, Conclusion, RunError, Sink, Stopwatch, Trial, run_here};
+use std::alloc::Global;
+
+/// Runs the selected trials as `run_here` does, and answers its conclusion and its report, as it is read back.
+///
+/// The arguments ask for JSON and for no list. The report is written to memory.
+pub fn run_to_report<C: Clock>(
+    alloc: Global,
+    args: &Arguments,
+    tests: Vec<Trial>,
+    watch: &mut Stopwatch<C>,
+) -> Result<(Conclusion, Report), RunError>
+    requires json { format_of args.now ≡ Json }
+    requires runs { args.now.list ≡ false }
+    requires fresh { IsFresh watch.old }
+    ensures { IfOk result (λ told. TellsRun args.now tests.items watch.new told.0 (contents_of told.1)) }
+{
+    let mut sink = Sink::new(Vec::new(alloc));
+    let conclusion = run_here(alloc, args, tests, &mut sink, watch, false)?;
+    let bytes = sink.into_inner();
+    let report = read_report(alloc, bytes.as_slice())?.unwrap();
+    Ok((conclusion, report))
+}

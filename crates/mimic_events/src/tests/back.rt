@@ -1,0 +1,134 @@
+//! What a run writes in JSON, read back.
+use crate::read_report;
+use libtest_mimic::{
+    Arguments, Clock, Failed, FormatSetting, Measurement, Outcome, Sink, Stopwatch, Trial, run_here,
+};
+use std::alloc::{AllocError, Global};
+use std::test::Fail;
+
+// A clock that stands still at first, and reads so many nanoseconds from then on.
+#[derive(Drop)]
+struct Steps {
+    next: u64,
+}
+
+impl Clock for Steps {
+    fn now(&mut self) -> u64 {
+        std::mem::replace(&mut self.next, 1_500_000_000)
+    }
+}
+
+// What a runner answers: a message where it fails, else nothing or a measurement.
+#[derive(Clone, Copy)]
+enum Answer {
+    Test(Option<&'static str>),
+    Benchmark(Result<(u64, u64), &'static str>),
+}
+
+use Answer::{Benchmark, Test};
+
+// Names, whether they are ignored, and answers.
+static TRIALS: [(&str, bool, Answer); 17] = [
+    ("cat", false, Test(None)),
+    ("\"ups\"", false, Test(Some("failed to parse \"abc\""))),
+    ("dog", false, Test(Some("was not a good boy"))),
+    ("fox", false, Test(None)),
+    ("bunny", false, Test(Some("jumped too high"))),
+    ("frog", true, Test(None)),
+    ("owl", true, Test(Some("broke neck"))),
+    ("fly", true, Test(None)),
+    ("bear", true, Test(Some("no honey"))),
+    ("red", false, Benchmark(Ok((32, 3)))),
+    ("blue", false, Benchmark(Err("sky fell down"))),
+    ("yellow", false, Benchmark(Ok((64, 4)))),
+    ("green", false, Benchmark(Err("was poisoned"))),
+    ("purple", true, Benchmark(Ok((100, 5)))),
+    ("cyan", true, Benchmark(Err("not creative enough"))),
+    ("orange", true, Benchmark(Ok((17, 6)))),
+    ("pink", true, Benchmark(Err("bad"))),
+];
+
+fn test_answer(
+    alloc: Global,
+    message: Option<&'static str>,
+) -> Result<Result<(), Failed>, AllocError> {
+    Ok(match message {
+        None => Ok(()),
+        Some(message) => Err(Failed::with_message(String::from_str(alloc, message)?)),
+    })
+}
+
+fn benchmark_answer(
+    alloc: Global,
+    answer: Result<(u64, u64), &'static str>,
+) -> Result<Result<Option<Measurement>, Failed>, AllocError> {
+    Ok(match answer {
+        Ok((avg, variance)) => Ok(Some(Measurement { avg, variance })),
+        Err(message) => Err(Failed::with_message(String::from_str(alloc, message)?)),
+    })
+}
+
+// The outcome of an answer, where benchmarks measure only in bench mode and all trials run.
+fn outcome_of(alloc: Global, answer: Answer, bench: bool) -> Result<Outcome, AllocError> {
+    Ok(match answer {
+        Test(_) if bench => Outcome::Ignored,
+        Test(None) => Outcome::Passed,
+        Test(Some(message)) | Benchmark(Err(message)) => {
+            Outcome::Failed(Failed::with_message(String::from_str(alloc, message)?))
+        }
+        Benchmark(Ok((avg, variance))) if bench => Outcome::Measured(Measurement { avg, variance }),
+        Benchmark(Ok(_)) => Outcome::Passed,
+    })
+}
+
+#[test]
+fn reads_back_what_a_run_wrote(rt: HostRuntime) -> Result<(), Fail> {
+    let alloc = rt.alloc();
+    for bench in [false, true] {
+        let mut trials = Vec::new(alloc);
+        for (name, is_ignored, answer) in &TRIALS {
+            let name = String::from_str(alloc, name)?;
+            let trial = match answer {
+                Test(message) => {
+                    let answer = test_answer(alloc, *message)?;
+                    let runner: Box<dyn FnOnce() -> Result<(), Failed> + Send> = Box::new(
+                        alloc,
+                        move || answer,
+                    )?;
+                    Trial::test(name, runner)
+                }
+                Benchmark(answer) => {
+                    let answer = benchmark_answer(alloc, *answer)?;
+                    let runner: Box<
+                        dyn FnOnce(bool) -> Result<Option<Measurement>, Failed> + Send,
+                    > = Box::new(alloc, move |_test_mode: bool| answer)?;
+                    Trial::bench(name, runner)
+                }
+            };
+            trials.push(trial.with_ignored_flag(*is_ignored))?;
+        }
+        let mut args = Arguments::new(alloc);
+        args.format = Some(FormatSetting::Json);
+        args.bench = bench;
+        let mut sink = Sink::new(Vec::new(alloc));
+        let mut watch = Stopwatch::new(Steps { next: 0 });
+        let conclusion = run_here(alloc, &args, trials, &mut sink, &mut watch, false)?;
+        let bytes = sink.into_inner();
+        assert_eq!(rt; bytes.iter().filter(|byte| **byte == b'\n').count(), 36);
+        let report = read_report(alloc, bytes.as_slice())?.ok_or("no report")?;
+        assert!(rt; report.counts() == conclusion);
+        assert_eq!(rt; report.filtered_out, 0);
+        assert_eq!(rt; report.nanos, 1_500_000_000);
+        assert_eq!(rt; report.rows.len(), TRIALS.len());
+        for (row, (name, is_ignored, answer)) in report.rows.iter().zip(&TRIALS) {
+            let outcome = if *is_ignored {
+                Outcome::Ignored
+            } else {
+                outcome_of(alloc, *answer, bench)?
+            };
+            assert_eq!(rt; row.name.as_str(), *name);
+            assert!(rt; row.outcome == outcome, "{name}");
+        }
+    }
+    Ok(())
+}

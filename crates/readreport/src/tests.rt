@@ -1,0 +1,182 @@
+//! The program over memory: its line, its statuses, and what it tells of faults.
+use crate::program::readreport_run;
+use std::alloc::Global;
+use std::io;
+use std::io::{ErrorKind, Read, Write};
+use std::test::Fail;
+
+const TWO_ROWS: &str = r#"{ "type": "suite", "event": "started", "test_count": 2 }
+{ "type": "test", "event": "started", "name": "succeeding_test" }
+{ "type": "test", "name": "succeeding_test", "event": "ok" }
+{ "type": "test", "event": "started", "name": "failing_test" }
+{ "type": "test", "name": "failing_test", "event": "failed", "stdout": "Error: \"Woops\"\n" }
+{ "type": "suite", "event": "failed", "passed": 1, "failed": 1, "ignored": 0, "measured": 0, "filtered_out": 0, "exec_time": 0 }
+"#;
+
+const ONE_ROW: &str = r#"{ "type": "suite", "event": "started", "test_count": 1 }
+{ "type": "test", "event": "started", "name": "b" }
+{ "type": "bench", "name": "b", "median": 32, "deviation": 3 }
+{ "type": "suite", "event": "ok", "passed": 0, "failed": 0, "ignored": 0, "measured": 1, "filtered_out": 16, "exec_time": 1.000000005 }
+"#;
+
+const NO_ROWS: &str = r#"{ "type": "suite", "event": "started", "test_count": 0 }
+{ "type": "suite", "event": "ok", "passed": 0, "failed": 0, "ignored": 0, "measured": 0, "filtered_out": 0, "exec_time": 0 }
+"#;
+
+// Bytes that come a few at a time; at their end, or after them, a fault.
+#[derive(Drop)]
+struct Input<'a> {
+    left: &'a [u8],
+    fault: Option<ErrorKind>,
+}
+
+impl Read for Input<'_> {
+    fn read(&mut self, buf: &mut [u8]) -> io::Result<usize> {
+        let count = buf.len().min(self.left.len()).min(7);
+        if count == 0 && !buf.is_empty() {
+            return match self.fault {
+                Some(kind) => Err(io::Error::from(kind)),
+                None => Ok(0),
+            };
+        }
+        buf[..count].copy_from_slice(&self.left[..count]);
+        self.left = &self.left[count..];
+        Ok(count)
+    }
+}
+
+// A writer that takes so many bytes, and then fails.
+#[derive(Drop)]
+struct Narrow {
+    taken: Vec<u8>,
+    room: usize,
+    flush_fails: bool,
+}
+
+impl Write for Narrow {
+    fn write(&mut self, buf: &[u8]) -> io::Result<usize> {
+        let count = buf.len().min(self.room);
+        if count == 0 {
+            return Err(io::Error::from(ErrorKind::BrokenPipe));
+        }
+        self.taken.extend_from_slice(&buf[..count])?;
+        self.room -= count;
+        Ok(count)
+    }
+
+    fn flush(&mut self) -> io::Result<()> {
+        if self.flush_fails {
+            return Err(io::Error::from(ErrorKind::BrokenPipe));
+        }
+        Ok(())
+    }
+}
+
+// What the program left on its two outputs.
+#[derive(Drop)]
+struct Left {
+    status: u8,
+    out: String,
+    err: String,
+}
+
+fn run_over(
+    alloc: Global,
+    bytes: &[u8],
+    fault: Option<ErrorKind>,
+    room: usize,
+    flush_fails: bool,
+) -> Result<Left, Fail> {
+    let mut input = Input { left: bytes, fault };
+    let mut out = Narrow {
+        taken: Vec::new(alloc),
+        room,
+        flush_fails,
+    };
+    let mut err: Vec<u8> = Vec::new(alloc);
+    let status = readreport_run(alloc, &mut input, &mut out, &mut err);
+    Ok(Left {
+        status,
+        out: String::from_utf8(out.taken)?,
+        err: String::from_utf8(err)?,
+    })
+}
+
+#[test]
+fn tells_reports(rt: HostRuntime) -> Result<(), Fail> {
+    for (report, line) in [
+        (
+            TWO_ROWS,
+            "2 trials: 1 passed; 1 failed; 0 ignored; 0 measured; 0 filtered out; 0 ns\n",
+        ),
+        (
+            ONE_ROW,
+            "1 trials: 0 passed; 0 failed; 0 ignored; 1 measured; 16 filtered out; 1000000005 ns\n",
+        ),
+        (
+            NO_ROWS,
+            "0 trials: 0 passed; 0 failed; 0 ignored; 0 measured; 0 filtered out; 0 ns\n",
+        ),
+    ] {
+        let left = run_over(rt.alloc(), report.as_bytes(), None, usize::MAX, false)?;
+        assert_eq!(rt; left.status, 0);
+        assert_eq!(rt; left.out.as_str(), line);
+        assert_eq!(rt; left.err.as_str(), "");
+    }
+    Ok(())
+}
+
+#[test]
+fn refuses_other_input(rt: HostRuntime) -> Result<(), Fail> {
+    for bytes in [
+        b"".as_slice(),
+        b"\n",
+        b"\xff",
+        &TWO_ROWS.as_bytes()[1..],
+        &TWO_ROWS.as_bytes()[..TWO_ROWS.len() - 1],
+    ] {
+        let left = run_over(rt.alloc(), bytes, None, usize::MAX, false)?;
+        assert_eq!(rt; left.status, 1);
+        assert_eq!(rt; left.out.as_str(), "");
+        assert_eq!(rt; left.err.as_str(), "not a report\n");
+    }
+    Ok(())
+}
+
+// A read that fails in the middle, or when all has come, is told as such, whatever came before it.
+#[test]
+fn tells_of_faulty_input(rt: HostRuntime) -> Result<(), Fail> {
+    for (count, kind, text) in [
+        (0, ErrorKind::BrokenPipe, "cannot read\n"),
+        (100, ErrorKind::BrokenPipe, "cannot read\n"),
+        (TWO_ROWS.len(), ErrorKind::BrokenPipe, "cannot read\n"),
+        (TWO_ROWS.len(), ErrorKind::OutOfMemory, "out of memory\n"),
+    ] {
+        let bytes = &TWO_ROWS.as_bytes()[..count];
+        let left = run_over(rt.alloc(), bytes, Some(kind), usize::MAX, false)?;
+        assert_eq!(rt; left.status, 1);
+        assert_eq!(rt; left.out.as_str(), "");
+        assert_eq!(rt; left.err.as_str(), text);
+    }
+    Ok(())
+}
+
+// A beginning of the line may have been written where a write or the flush fails.
+#[test]
+fn tells_of_a_full_output(rt: HostRuntime) -> Result<(), Fail> {
+    for (room, flush_fails, out) in [
+        (0, false, ""),
+        (8, false, "2 trials"),
+        (
+            usize::MAX,
+            true,
+            "2 trials: 1 passed; 1 failed; 0 ignored; 0 measured; 0 filtered out; 0 ns\n",
+        ),
+    ] {
+        let left = run_over(rt.alloc(), TWO_ROWS.as_bytes(), None, room, flush_fails)?;
+        assert_eq!(rt; left.status, 1);
+        assert_eq!(rt; left.out.as_str(), out);
+        assert_eq!(rt; left.err.as_str(), "cannot write\n");
+    }
+    Ok(())
+}
