@@ -91,7 +91,9 @@ impl<W: Write + Drop> Write for Output<W> {
     ghost contents = { told_of W.contents };
 
     fn write(&mut self, buf: &[u8]) -> io::Result<usize> {
-        self.tell_fault()?;
+        if self.fault.is_some() {
+            self.tell_fault()?;
+        }
         let count = self.buffered.write(buf)?;
         if self.passing == Passing::Lines && buf[..count].ends_with(b"\n") {
             self.fault = self.buffered.flush().err();
@@ -100,7 +102,9 @@ impl<W: Write + Drop> Write for Output<W> {
     }
 
     fn flush(&mut self) -> io::Result<()> {
-        self.tell_fault()?;
+        if self.fault.is_some() {
+            self.tell_fault()?;
+        }
         match self.passing {
             Passing::Flushes | Passing::Lines => self.buffered.flush(),
             Passing::Blocks => Ok(()),

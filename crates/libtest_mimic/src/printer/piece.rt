@@ -40,13 +40,29 @@ pub(crate) fn put_pieces<W: Write>(
     ensures { Puts W.contents sink.old sink.new (pieces_text pieces.now) result }
 {
     for piece in pieces {
-        piece.put(sink)?;
+        // To put nothing takes its time too, and most reports have no colours and no kinds.
+        if !piece.is_empty() {
+            piece.put(sink)?;
+        }
     }
     Ok(())
 }
 
 impl Piece<'_> {
+    ghost use Rattle.std.specs.Prelude.{◌≡◌, ◌-◌, ◌^◌, ◌<◌, [], IsTrue};
+    ghost use Rattle.libtest_mimic.specs.Sink.{Puts, faults_of};
     ghost use Rattle.libtest_mimic.specs.Steps.{piece_text};
+
+    // Whether it is a text, or spaces, of no length.
+    fn is_empty(self) -> bool
+        ensures { IsTrue result → piece_text self.entry ≡ [] }
+    {
+        match self {
+            Piece::Text(text) => text.is_empty(),
+            Piece::Spaces(count) => count == 0,
+            _ => false,
+        }
+    }
 
     fn put<W: Write>(self, sink: &mut Sink<W>) -> Result<(), WriteFault>
         requires { faults_of sink.old < 2 ^ 64 - 1 }
