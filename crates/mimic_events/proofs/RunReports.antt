@@ -1,5 +1,5 @@
 -- The report of a run in JSON is the JSON report of its trials.
-use Rattle.std.proofs.Common.{◌≡◌, ℕ, zero, suc, ◌-◌, ◌<◌, ◌^◌, ◌⊎◌, inl, inr, List, [], ◌∷◌, ◌++◌, length, map, Bool, true, false, Result, Ok, Option, Some, None, IsSome, option_map, IsUtf8, IsSomeAnd, slice_get, All, refl, sym, ap, subst, ◌∙◌, append-nil, arith}
+use Rattle.std.proofs.Common.{◌≡◌, ℕ, zero, suc, ◌-◌, ◌<◌, ◌^◌, inl, inr, List, [], ◌∷◌, ◌++◌, length, map, Bool, true, false, Ok, Option, Some, None, IsSome, option_map, IsUtf8, IsSomeAnd, slice_get, All, refl, sym, ap, subst, ◌∙◌, append-nil, arith}
 use Rattle.std.specs.Bool.{MatchBool}
 use Rattle.std.specs.Io.KnownBytes.{Appends}
 use Rattle.std.specs.List.{AllByRecursion, concat, flat_map}
@@ -10,7 +10,6 @@ use Rattle.libtest_mimic.specs.declared.args.Arguments.{Arguments}
 use Rattle.libtest_mimic.specs.declared.args.FormatSetting.{FormatSetting}
 use Rattle.libtest_mimic.specs.declared.args.FormatSetting.TheVariants.{Json}
 use Rattle.libtest_mimic.specs.declared.outcome.Outcome.{Outcome}
-use Rattle.libtest_mimic.specs.declared.outcome.Outcome.TheVariants.{Ignored}
 use Rattle.libtest_mimic.specs.declared.outcome.conclusion.Conclusion.{Conclusion}
 use Rattle.libtest_mimic.specs.declared.printer.Printer.{Printer}
 use Rattle.libtest_mimic.specs.declared.sink.Sink.{Sink}

@@ -1,5 +1,5 @@
 -- What a report that is read back tells of the run that wrote it.
-use Rattle.std.specs.Prelude.{◌≡◌, ℕ, ◌-◌, List, length, map, Some}
+use Rattle.std.specs.Prelude.{◌≡◌, ◌-◌, List, length, map, Some}
 use Rattle.libtest_mimic.specs.declared.args.Arguments.{Arguments}
 use Rattle.libtest_mimic.specs.declared.trial.Trial.{Trial}
 use Rattle.libtest_mimic.specs.declared.outcome.conclusion.Conclusion.{Conclusion}

@@ -1,6 +1,6 @@
 //! How far the lines of a report were read.
 ghost use Rattle.std.specs.Prelude.{◌≡◌, ◌++◌, IfOk, MatchOption};
-ghost use Rattle.mimic_events.specs.Steps.{IsLine, HasNoEnd, Takes, state_of};
+ghost use Rattle.mimic_events.specs.Steps.{IsLine, HasNoEnd, Takes, state_of, next_of, row_next};
 
 use crate::lines::{announced, ended, titled};
 use crate::report::Row;
@@ -42,19 +42,8 @@ pub fn take_line(alloc: Global, progress: &mut Progress, line: &[u8]) -> Result<
         }
         Stage::Row(count) => {
             let count = *count;
-            if (progress.rows.len() as u64) < count {
-                let Some(name) = announced(alloc, line)? else {
-                    return Ok(false);
-                };
-                progress.stage = Stage::Outcome(count, name);
-                Ok(true)
-            } else {
-                let Some((filtered_out, nanos)) = summed(&progress.rows, line) else {
-                    return Ok(false);
-                };
-                progress.stage = Stage::Over(filtered_out, nanos);
-                Ok(true)
-            }
+            let taken = take_between_rows(alloc, progress, count, line)?;
+            Ok(taken)
         }
         Stage::Outcome(count, name) => {
             let count = *count;
@@ -69,6 +58,30 @@ pub fn take_line(alloc: Global, progress: &mut Progress, line: &[u8]) -> Result<
         }
         Stage::Over(_, _) => Ok(false),
     }
+}
+
+// Takes the next line where it announces a row, or ends a report of all its rows, which are this many.
+fn take_between_rows(
+    alloc: Global,
+    progress: &mut Progress,
+    count: u64,
+    line: &[u8],
+) -> Result<bool, AllocError>
+    requires { next_of progress.old.stage ≡ row_next count }
+    ensures { IfOk result (λ taken. Takes taken (state_of progress.old) line.now (state_of progress.new)) }
+{
+    if (progress.rows.len() as u64) < count {
+        let Some(name) = announced(alloc, line)? else {
+            return Ok(false);
+        };
+        progress.stage = Stage::Outcome(count, name);
+    } else {
+        let Some((filtered_out, nanos)) = summed(&progress.rows, line) else {
+            return Ok(false);
+        };
+        progress.stage = Stage::Over(filtered_out, nanos);
+    }
+    Ok(true)
 }
 
 // The first line, with its end, and what follows it.

@@ -1,4 +1,7 @@
 //! The program, but for the machine's input and output.
+ghost use Rattle.std.specs.Prelude.{◌≡◌, IfOk, IfSome, OnOk};
+ghost use Rattle.readreport.specs.Told.{IsReport, Tells};
+
 use mimic_events::{Report, read_report};
 use std::alloc::{AllocError, Global};
 use std::io;
@@ -30,7 +33,9 @@ pub(crate) fn readreport_run<I: Read, O: Write, E: Write>(
     input: &mut I,
     out: &mut O,
     err: &mut E,
-) -> u8 {
+) -> u8
+    ensures { Tells (I.remaining input.old) result }
+{
     match tell_report(alloc, input, out) {
         Ok(()) => SUCCESS,
         Err(fault) => {
@@ -40,16 +45,22 @@ pub(crate) fn readreport_run<I: Read, O: Write, E: Write>(
     }
 }
 
-fn tell_report<I: Read, O: Write>(alloc: Global, input: &mut I, out: &mut O) -> Result<(), Fault> {
+fn tell_report<I: Read, O: Write>(alloc: Global, input: &mut I, out: &mut O) -> Result<(), Fault>
+    ensures { OnOk result (IfSome (I.remaining input.old) IsReport) }
+{
     let bytes = read_all(alloc, input)?;
-    let report = read_report(alloc, bytes.as_slice())?.ok_or(Fault::NoReport)?;
-    let line = summary_of(alloc, &report)?;
+    let Some(report) = read_report(alloc, bytes.as_slice())? else {
+        return Err(Fault::NoReport);
+    };
+    let line = line_of(alloc, &report)?;
     out.write_all(line.as_str().as_bytes())
         .map_err(Fault::Write)?;
     out.flush().map_err(Fault::Write)
 }
 
-fn read_all<I: Read>(alloc: Global, input: &mut I) -> Result<Vec<u8>, Fault> {
+fn read_all<I: Read>(alloc: Global, input: &mut I) -> Result<Vec<u8>, Fault>
+    ensures { IfOk result (λ bytes. IfSome (I.remaining input.old) (λ all. bytes.items ≡ all)) }
+{
     let mut bytes = Vec::new(alloc);
     match input.read_to_end(&mut bytes) {
         Ok(_) => Ok(bytes),
@@ -59,7 +70,7 @@ fn read_all<I: Read>(alloc: Global, input: &mut I) -> Result<Vec<u8>, Fault> {
 }
 
 // The line that tells a report, with its line end, so that it is written at once.
-fn summary_of(alloc: Global, report: &Report) -> Result<String, AllocError> {
+fn line_of(alloc: Global, report: &Report) -> Result<String, AllocError> {
     let counts = report.counts();
     format!(in alloc;
         "{} trials: {} passed; {} failed; {} ignored; {} measured; {} filtered out; {} ns\n",

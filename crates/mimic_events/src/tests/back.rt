@@ -1,9 +1,10 @@
 //! What a run writes in JSON, read back.
-use crate::read_report;
+use crate::{Report, read_report, run_to_report};
 use libtest_mimic::{
     Arguments, Clock, Failed, FormatSetting, Measurement, Outcome, Sink, Stopwatch, Trial, run_here,
 };
 use std::alloc::{AllocError, Global};
+use std::process::Abort;
 use std::test::Fail;
 
 // A clock that stands still at first, and reads so many nanoseconds from then on.
@@ -81,54 +82,74 @@ fn outcome_of(alloc: Global, answer: Answer, bench: bool) -> Result<Outcome, All
     })
 }
 
-#[test]
-fn reads_back_what_a_run_wrote(rt: HostRuntime) -> Result<(), Fail> {
-    let alloc = rt.alloc();
-    for bench in [false, true] {
-        let mut trials = Vec::new(alloc);
+// The trials. This is a macro since boxed closures are to be made by the function that hands them in.
+macro_rules! trials {
+    ($alloc:expr) => {{
+        let mut trials = Vec::new($alloc);
         for (name, is_ignored, answer) in &TRIALS {
-            let name = String::from_str(alloc, name)?;
+            let name = String::from_str($alloc, name)?;
             let trial = match answer {
                 Test(message) => {
-                    let answer = test_answer(alloc, *message)?;
-                    let runner: Box<dyn FnOnce() -> Result<(), Failed> + Send> = Box::new(
-                        alloc,
-                        move || answer,
-                    )?;
+                    let answer = test_answer($alloc, *message)?;
+                    let runner: Box<dyn FnOnce() -> Result<(), Failed> + Send> = Box::new($alloc, move || answer)?;
                     Trial::test(name, runner)
                 }
                 Benchmark(answer) => {
-                    let answer = benchmark_answer(alloc, *answer)?;
-                    let runner: Box<
-                        dyn FnOnce(bool) -> Result<Option<Measurement>, Failed> + Send,
-                    > = Box::new(alloc, move |_test_mode: bool| answer)?;
+                    let answer = benchmark_answer($alloc, *answer)?;
+                    let runner: Box<dyn FnOnce(bool) -> Result<Option<Measurement>, Failed> + Send> =
+                        Box::new($alloc, move |_test_mode: bool| answer)?;
                     Trial::bench(name, runner)
                 }
             };
             trials.push(trial.with_ignored_flag(*is_ignored))?;
         }
+        trials
+    }};
+}
+
+// The report tells of the trials, one and a half seconds long.
+fn check_report(rt: &impl Abort, alloc: Global, report: &Report, bench: bool) -> Result<(), Fail> {
+    assert_eq!(rt; report.filtered_out, 0);
+    assert_eq!(rt; report.nanos, 1_500_000_000);
+    assert_eq!(rt; report.rows.len(), TRIALS.len());
+    for (row, (name, is_ignored, answer)) in report.rows.iter().zip(&TRIALS) {
+        let outcome = if *is_ignored {
+            Outcome::Ignored
+        } else {
+            outcome_of(alloc, *answer, bench)?
+        };
+        assert_eq!(rt; row.name.as_str(), *name);
+        assert!(rt; row.outcome == outcome, "{name}");
+    }
+    Ok(())
+}
+
+#[test]
+fn reads_back_what_a_run_wrote(rt: HostRuntime) -> Result<(), Fail> {
+    let alloc = rt.alloc();
+    for bench in [false, true] {
         let mut args = Arguments::new(alloc);
         args.format = Some(FormatSetting::Json);
         args.bench = bench;
         let mut sink = Sink::new(Vec::new(alloc));
         let mut watch = Stopwatch::new(Steps { next: 0 });
-        let conclusion = run_here(alloc, &args, trials, &mut sink, &mut watch, false)?;
+        let conclusion = run_here(alloc, &args, trials!(alloc), &mut sink, &mut watch, false)?;
         let bytes = sink.into_inner();
         assert_eq!(rt; bytes.iter().filter(|byte| **byte == b'\n').count(), 36);
         let report = read_report(alloc, bytes.as_slice())?.ok_or("no report")?;
         assert!(rt; report.counts() == conclusion);
-        assert_eq!(rt; report.filtered_out, 0);
-        assert_eq!(rt; report.nanos, 1_500_000_000);
-        assert_eq!(rt; report.rows.len(), TRIALS.len());
-        for (row, (name, is_ignored, answer)) in report.rows.iter().zip(&TRIALS) {
-            let outcome = if *is_ignored {
-                Outcome::Ignored
-            } else {
-                outcome_of(alloc, *answer, bench)?
-            };
-            assert_eq!(rt; row.name.as_str(), *name);
-            assert!(rt; row.outcome == outcome, "{name}");
-        }
+        check_report(&rt, alloc, &report, bench)?;
     }
     Ok(())
+}
+
+#[test]
+fn answers_the_report_of_a_run(rt: HostRuntime) -> Result<(), Fail> {
+    let alloc = rt.alloc();
+    let mut args = Arguments::new(alloc);
+    args.format = Some(FormatSetting::Json);
+    let mut watch = Stopwatch::new(Steps { next: 0 });
+    let (conclusion, report) = run_to_report(alloc, &args, trials!(alloc), &mut watch)?;
+    assert!(rt; report.counts() == conclusion);
+    check_report(&rt, alloc, &report, false)
 }

@@ -1,4 +1,4 @@
-use Rattle.std.proofs.Common.{◌<◌, ◌≤◌, length, Some, None, arith}
+use Rattle.std.proofs.Common.{Some, None, arith}
 use Rattle.mimic_events.proofs.QuotedTexts.{escaped-then, escaped-stop, escaped-end}
 use Rattle.mimic_events.proofs.quoted.after_escaped.Goals as goal
 

@@ -1,5 +1,4 @@
-use Rattle.std.proofs.Common.{◌≡◌, ◌<◌, ◌^◌, List, ℕ, Some, [], length, refl, sym, ap, ◌∙◌, arith, rules}
-use Rattle.libtest_mimic.specs.Sink.{writer_of}
+use Rattle.std.proofs.Common.{◌≡◌, List, ℕ, Some, [], sym, ap, ◌∙◌, arith}
 use Rattle.mimic_events.proofs.RunReports.{run_told, told_some, told_same}
 use Rattle.mimic_events.proofs.run.run_to_report.Goals as goal
 
