@@ -1,10 +1,9 @@
 -- Texts between the quotes of a JSON string: that they are text, and that they are spelled character by character.
-use Rattle.std.proofs.Common.{◌≡◌, ℕ, zero, suc, ◌+◌, ◌<◌, ◌≤◌, true, false, cond, ltb, List, [], ◌∷◌, ◌++◌, length, get_or, slice_index, take, encode_utf8, encode_utf8_all, refl, sym, ap, ◌∙◌, arith, inl, inr, lit<, append-nil}
+use Rattle.std.proofs.Common.{◌≡◌, ℕ, zero, suc, ◌<◌, ◌≤◌, true, List, [], ◌∷◌, length, get_or, slice_index, encode_utf8, encode_utf8_all, refl, sym, ◌∙◌, arith, inl, inr, lit<, append-nil}
 use Rattle.std.specs.List.{flat_map}
 use Rattle.std.specs.Str.{is_utf8}
 use Rattle.std.proofs.lemmas.Bool.{cases_lt, lt-ltb, le-ltb}
 use Rattle.std.proofs.lemmas.Bool.Decides.{nat_tests}
-use Rattle.std.proofs.lemmas.List.{take_more}
 use Rattle.std.proofs.lemmas.List.Concat.{flat_map-append}
 use Rattle.std.proofs.lemmas.Str.{encode_ascii, inside_one, is_utf8-from_IsUtf8, IsUtf8-from_ascii}
 use Rattle.libtest_mimic.specs.Escape.{escape, escaped, escape_char, EscapesCharacters}

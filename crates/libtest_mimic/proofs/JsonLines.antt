@@ -1,7 +1,7 @@
 -- How many lines end in a report in JSON.
-use Rattle.std.proofs.Common.{◌≡◌, ℕ, zero, suc, ◌+◌, ◌*◌, ◌<◌, ◌≤◌, ◌^◌, Bool, true, false, cond, eqb, ltb, ◌==◌, ◌&&◌, List, [], ◌∷◌, ◌++◌, Option, None, Some, length, map, refl, sym, ap, ap₂, subst, ◌∙◌, arith, inl, inr, decimal}
+use Rattle.std.proofs.Common.{◌≡◌, ℕ, zero, suc, ◌+◌, ◌*◌, ◌<◌, ◌≤◌, ◌^◌, Bool, true, false, cond, eqb, ltb, ◌&&◌, List, [], ◌∷◌, ◌++◌, None, Some, length, map, refl, ap, ap₂, subst, ◌∙◌, arith, inl, inr, decimal}
 use Rattle.std.specs.List.{concat, flat_map, AllByRecursion}
-use Rattle.std.specs.Prelude.{codes, count_by}
+use Rattle.std.specs.Prelude.{codes}
 use Rattle.std.specs.Str.Parse.{AllDigits}
 use Rattle.std.proofs.lemmas.Bool.{cases_lt, eqb-true, ne_eqb}
 use Rattle.std.proofs.lemmas.Fmt.{digits_decimal}

@@ -5,11 +5,10 @@ use Rattle.std.proofs.lemmas.List.{length-map}
 use Rattle.libtest_mimic.specs.declared.args.FormatSetting.{FormatSetting}
 use Rattle.libtest_mimic.specs.declared.args.FormatSetting.TheVariants.{Json}
 use Rattle.libtest_mimic.specs.declared.printer.Printer.{Printer}
-use Rattle.libtest_mimic.specs.declared.outcome.Outcome.{Outcome}
 use Rattle.libtest_mimic.specs.Count.{counts_of}
 use Rattle.libtest_mimic.specs.Json.{Contents, Entry, entry_lines, entry_of, json_report, json_summary, json_title}
 use Rattle.libtest_mimic.specs.Report.{announcement_in, failures_in, outcome_in, report_text, summary_in, title_in}
-use Rattle.libtest_mimic.specs.Row.{Label, Row, outcomes_of}
+use Rattle.libtest_mimic.specs.Row.{Row, outcomes_of}
 
 -- what a report of these rows tells
 abbrev pub contents_of : List Row → ℕ → ℕ → Contents

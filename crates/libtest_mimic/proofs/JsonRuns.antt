@@ -1,5 +1,5 @@
 -- How many lines a run in JSON appends.
-use Rattle.std.proofs.Common.{◌≡◌, ℕ, zero, suc, ◌+◌, ◌*◌, ◌<◌, ◌^◌, List, [], ◌∷◌, Option, None, Some, Result, Ok, Err, length, map, All, sym, ap, subst, ◌∙◌, arith, inl, inr}
+use Rattle.std.proofs.Common.{◌≡◌, ℕ, suc, ◌+◌, ◌*◌, ◌<◌, ◌^◌, List, [], ◌∷◌, Option, None, Some, Result, Ok, Err, length, map, All, sym, ap, subst, ◌∙◌, arith, inl, inr}
 use Rattle.std.specs.List.{AllByRecursion, range_with_len}
 use Rattle.std.specs.Prelude.{IfOk, IsSomeAnd}
 use Rattle.std.proofs.lemmas.List.{length-map}
@@ -15,10 +15,10 @@ use Rattle.libtest_mimic.specs.declared.sink.Sink.{Sink}
 use Rattle.libtest_mimic.specs.declared.stopwatch.Readings.{Readings}
 use Rattle.libtest_mimic.specs.declared.trial.Trial.{Trial}
 use Rattle.libtest_mimic.specs.Arrangement.{IsOwn, IsOwnAt, IsArrangement, Placed, places_of, rows_at}
-use Rattle.libtest_mimic.specs.Json.{Contents, Entry, entry_of, json_report, line_ends}
+use Rattle.libtest_mimic.specs.Json.{Contents, Entry, entry_of, line_ends}
 use Rattle.libtest_mimic.specs.Promise.{FitsTypes}
 use Rattle.libtest_mimic.specs.Report.{report_text}
-use Rattle.libtest_mimic.specs.Row.{Label, Row}
+use Rattle.libtest_mimic.specs.Row.{Label}
 use Rattle.libtest_mimic.specs.Run.{AppendsLines, RanInOrder}
 use Rattle.libtest_mimic.specs.Sink.{writer_of}
 use Rattle.libtest_mimic.specs.Trial.{labels_of}

@@ -1,6 +1,6 @@
 -- The report in JSON: one object on each line. Its lines, names and spaces are the Rust crate's; the spelling of texts and of
 -- seconds is our own, so that each report has one text.
-use Rattle.std.specs.Prelude.{◌≡◌, ℕ, ◌<◌, ◌^◌, nat_lt, if◌then◌else◌, List, [], ◌∷◌, length, map, codes, count_by, decimal, ◌==◌, Option, None, Some, IsUtf8}
+use Rattle.std.specs.Prelude.{◌≡◌, ℕ, ◌<◌, ◌^◌, nat_lt, if◌then◌else◌, List, [], ◌∷◌, length, map, codes, count_by, decimal, ◌==◌, None, Some, IsUtf8}
 use Rattle.std.specs.List.{AllByRecursion, concat, flat_map}
 use Rattle.libtest_mimic.specs.declared.outcome.Outcome.{Outcome}
 use Rattle.libtest_mimic.specs.declared.outcome.Outcome.TheVariants.{Passed, Failed, Ignored, Measured}

@@ -4,7 +4,8 @@ use Rattle.std.specs.Bool.{MatchBool}
 use Rattle.std.specs.Io.KnownBytes.{Appends}
 use Rattle.std.specs.List.{range_with_len}
 use Rattle.libtest_mimic.specs.declared.args.Arguments.{Arguments}
-use Rattle.libtest_mimic.specs.declared.args.FormatSetting.TheVariants.{Json}
+use Rattle.libtest_mimic.specs.declared.args.FormatSetting.{FormatSetting}
+use Rattle.libtest_mimic.specs.declared.args.FormatSetting.TheVariants.{Pretty, Terse, Json}
 use Rattle.libtest_mimic.specs.declared.trial.Trial.{Trial}
 use Rattle.libtest_mimic.specs.declared.printer.Printer.{Printer}
 use Rattle.libtest_mimic.specs.declared.outcome.Outcome.{Outcome}
@@ -28,13 +29,19 @@ use Rattle.libtest_mimic.specs.Widths.{name_width_of, kind_width_of}
 
 -- In the signatures below X, Y, F, G, g and h stand for what the runners' boxed closures promise.
 
--- the printer of a run: the format and the colours that the arguments ask for, and columns as wide as the trials need
+-- the columns of a report: as wide as the trials need in pretty, and none in other formats
+abbrev pub columns_in : FormatSetting → ℕ → ℕ
+columns_in Pretty width = width
+columns_in Terse width = 0
+columns_in Json width = 0
+
+-- the printer of a run: the format and the colours that the arguments ask for, and its columns
 abbrev pub printer_for : Arguments → Bool → List Label → Printer
 printer_for args auto_colours labels = record {
   format = format_of args;
   colour = colours_of args auto_colours;
-  name_width = name_width_of labels;
-  kind_width = kind_width_of labels;
+  name_width = columns_in (format_of args) (name_width_of labels);
+  kind_width = columns_in (format_of args) (kind_width_of labels);
 }
 
 module _ {X Y : Type 0} {F : X → Type 0} {G : Y → Type 0} {g : _} {h : _} {W : Type 0} (contents : W → Option (List ℕ)) where

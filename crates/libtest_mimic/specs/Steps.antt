@@ -1,6 +1,6 @@
 -- What the private functions of the printer and of a run promise one another. No public clause names these words.
-use Rattle.std.specs.Prelude.{◌≡◌, ℕ, Bool, not, ◌||◌, if◌then◌else◌, ◌+◌, ◌-◌, ◌^◌, ◌<◌, ◌≤◌, List, [], ◌∷◌, ◌++◌, filter, length, decimal, Option, Some, Result, MatchResult, vec_capacity, drop}
-use Rattle.std.specs.List.{flat_map}
+use Rattle.std.specs.Prelude.{◌≡◌, ℕ, Bool, not, ◌||◌, if◌then◌else◌, ◌+◌, ◌-◌, ◌^◌, ◌<◌, ◌≤◌, List, [], ◌∷◌, ◌++◌, filter, length, codes, decimal, Option, Some, Result, MatchResult, vec_capacity, drop}
+use Rattle.std.specs.List.{concat, flat_map}
 use Rattle.libtest_mimic.specs.declared.args.Arguments.{Arguments}
 use Rattle.libtest_mimic.specs.declared.outcome.Outcome.{Outcome}
 use Rattle.libtest_mimic.specs.declared.outcome.Outcome.TheVariants.{Passed, Failed, Ignored, Measured}
@@ -39,6 +39,10 @@ piece_text (Seconds n) = exact_seconds n
 
 abbrev pub pieces_text : List Piece → List ℕ
 pieces_text pieces = flat_map piece_text pieces
+
+-- the line in JSON of an outcome that is told in a word, by its name and by all that stands behind the name
+unfoldable pub event_line : List ℕ → List ℕ → List ℕ
+event_line name rest = concat (codes "{ \"type\": \"test\", \"name\": \"" ∷ escaped name ∷ rest ∷ [])
 
 -- ---- a search in a full name
 

@@ -1,16 +1,17 @@
 //! Runs trials and writes their report.
 ghost use Rattle.std.specs.Prelude.{◌≡◌, ◌-◌, ◌^◌, ◌<◌, false, IfOk, IsFalse, ◌↔◌, length, vec_len};
 ghost use Rattle.libtest_mimic.specs.Count.{total_of};
-ghost use Rattle.libtest_mimic.specs.Run.{HasAnswer, HasLines, RanHere, RanInOrder, WritesList, printer_for};
+ghost use Rattle.libtest_mimic.specs.Run.{HasAnswer, HasLines, RanHere, RanInOrder, WritesList, columns_in, printer_for};
 ghost use Rattle.libtest_mimic.specs.Selection.{IsDropped, IsSelection};
 ghost use Rattle.libtest_mimic.specs.Sink.{faults_of};
 ghost use Rattle.libtest_mimic.specs.Stopwatch.{IsFresh, IsRunning};
 ghost use Rattle.libtest_mimic.specs.Trial.{labels_of};
+ghost use Rattle.libtest_mimic.specs.Widths.{kind_width_of, name_width_of};
 
 mod in_order;
 pub(crate) mod tally;
 
-use crate::args::Arguments;
+use crate::args::{Arguments, FormatSetting};
 use crate::outcome::Conclusion;
 use crate::printer::{Printer, widths_of_trials};
 use crate::select::is_filtered_out;
@@ -127,17 +128,24 @@ fn run_selected<W: Write, C: Clock>(
     }
 }
 
-// The printer of a run: the format and the colours that are asked for, and columns for these trials.
+// The printer of a run: the format and the colours that are asked for, and in pretty columns for these trials.
 fn printer_for(args: &Arguments, trials: &[Trial], auto_colours: bool) -> Printer
     ensures { result ≡ printer_for args.now auto_colours (labels_of trials.now) }
 {
-    let (name_width, kind_width) = widths_of_trials(trials);
-    Printer::new(
-        args.format_used(),
-        args.colours(auto_colours),
-        name_width,
-        kind_width,
-    )
+    let format = args.format_used();
+    let (name_width, kind_width) = columns_for(format, trials);
+    Printer::new(format, args.colours(auto_colours), name_width, kind_width)
+}
+
+// How wide its columns are: only pretty has some.
+fn columns_for(format: FormatSetting, trials: &[Trial]) -> (usize, usize)
+    ensures names { result.0 ≡ columns_in format (name_width_of (labels_of trials.now)) }
+    ensures kinds { result.1 ≡ columns_in format (kind_width_of (labels_of trials.now)) }
+{
+    match format {
+        FormatSetting::Pretty => widths_of_trials(trials),
+        FormatSetting::Terse | FormatSetting::Json => (0, 0),
+    }
 }
 
 impl From<AllocError> for RunError {

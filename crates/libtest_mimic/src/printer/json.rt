@@ -1,7 +1,8 @@
 //! The lines of a report in JSON.
 ghost use Rattle.std.specs.Prelude.{◌≡◌, ◌-◌, ◌^◌, ◌<◌};
-ghost use Rattle.libtest_mimic.specs.Json.{json_announcement, json_event, json_failure, json_measurement, json_outcome, json_summary, json_title, json_verdict};
+ghost use Rattle.libtest_mimic.specs.Json.{json_announcement, json_failure, json_measurement, json_outcome, json_summary, json_title, json_verdict};
 ghost use Rattle.libtest_mimic.specs.Sink.{Puts, faults_of};
+ghost use Rattle.libtest_mimic.specs.Steps.{event_line};
 
 use crate::outcome::{Conclusion, Measurement, Outcome};
 use crate::printer::piece::{Piece, put_pieces};
@@ -46,31 +47,30 @@ pub(super) fn put_outcome<'a, W: Write>(
     ensures { Puts W.contents sink.old sink.new (json_outcome name.now outcome.now) result }
 {
     match outcome {
-        Outcome::Passed => put_event(sink, name, "ok"),
-        Outcome::Ignored => put_event(sink, name, "ignored"),
+        Outcome::Passed => put_event(sink, name, "\", \"event\": \"ok\" }\n"),
+        Outcome::Ignored => put_event(sink, name, "\", \"event\": \"ignored\" }\n"),
         Outcome::Measured(measurement) => put_measurement(sink, name, measurement),
         Outcome::Failed(failed) => match failed.message() {
-            None => put_event(sink, name, "failed"),
+            None => put_event(sink, name, "\", \"event\": \"failed\" }\n"),
             Some(message) => put_failure(sink, name, message),
         },
     }
 }
 
-#[tactic(auto, unfolding(crate::specs::Json::json_event))]
+// Writes the line of an outcome that is told in a word: all before the name, the name, and all behind it.
+#[tactic(auto, unfolding(crate::specs::Steps::event_line))]
 fn put_event<'a, W: Write>(
     sink: &mut Sink<W>,
     name: &'a str,
-    event: &'a str,
+    rest: &'a str,
 ) -> Result<(), WriteFault>
     requires { faults_of sink.old < 2 ^ 64 - 1 }
-    ensures { Puts W.contents sink.old sink.new (json_event name.now event.now) result }
+    ensures { Puts W.contents sink.old sink.new (event_line name.now rest.now) result }
 {
     let pieces = [
         Piece::Text("{ \"type\": \"test\", \"name\": \""),
         Piece::Escaped(name),
-        Piece::Text("\", \"event\": \""),
-        Piece::Text(event),
-        Piece::Text("\" }\n"),
+        Piece::Text(rest),
     ];
     put_pieces(sink, &pieces)
 }

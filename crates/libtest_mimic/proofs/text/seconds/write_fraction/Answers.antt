@@ -1,4 +1,4 @@
-use Rattle.std.proofs.Common.{◌≡◌, ◌+◌, ◌-◌, ◌/◌, ◌%◌, ◌++◌, ◌<◌, [], ◌∷◌, take, append_assoc, append-nil, arith, ap, sym, ◌∙◌, slice_set}
+use Rattle.std.proofs.Common.{◌≡◌, ◌+◌, ◌-◌, ◌/◌, ◌%◌, ◌++◌, ◌<◌, [], ◌∷◌, take, append_assoc, append-nil, arith, ap, sym, ◌∙◌}
 use Rattle.std.proofs.lemmas.List.{take_more_set}
 use Rattle.libtest_mimic.specs.Seconds.{fraction_digits}
 use Rattle.libtest_mimic.proofs.ExactSeconds.{digit_taken, fraction_digits-more, none_left, place_left, unit_fits}

@@ -1,6 +1,4 @@
-use Rattle.std.proofs.Common.{rules, ◌≡◌, ◌∙◌, ◌++◌, ◌/◌, ◌%◌, ◌^◌, ◌<◌, ◌+◌, ◌==◌, true, false, cond, eqb, [], ◌∷◌, ap, sym, append-nil, append_assoc, arith, take, length, length-append, decimal, slice_set}
-use Rattle.std.proofs.lemmas.Bool.{eqb-true, ne_eqb}
-use Rattle.std.proofs.lemmas.List.{take_more_set}
+use Rattle.std.proofs.Common.{rules, ◌≡◌, ◌∙◌, ◌++◌, ◌/◌, ◌%◌, ◌^◌, true, false, eqb, [], ◌∷◌, ap, append-nil, append_assoc, decimal}
 use Rattle.std.proofs.Math.Seq.{take-append_seam}
 use Rattle.libtest_mimic.specs.Seconds.{exact_seconds, fraction_digits}
 use Rattle.libtest_mimic.proofs.ExactSeconds.{point_behind}
