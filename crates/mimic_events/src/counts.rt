@@ -6,7 +6,7 @@ use crate::report::Row;
 use libtest_mimic::{Conclusion, Outcome};
 
 // The number of rows with each outcome, beside so many trials that were filtered out.
-pub fn counts_of_rows(rows: &[Row], filtered_out: u64) -> Conclusion
+pub(crate) fn counts_of_rows(rows: &[Row], filtered_out: u64) -> Conclusion
     ensures { result ≡ counts_of (map (λ row. row.outcome) rows.now) filtered_out }
 {
     let mut counts = Conclusion {

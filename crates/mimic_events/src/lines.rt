@@ -10,7 +10,7 @@ use libtest_mimic::{Failed, Measurement, Outcome};
 use std::alloc::{AllocError, Global};
 
 // The number of rows that a title line says.
-pub fn titled(line: &[u8]) -> Option<u64>
+pub(crate) fn titled(line: &[u8]) -> Option<u64>
     ensures { Decodes IsTitle line.now result }
 {
     let rest = after(
@@ -24,7 +24,7 @@ pub fn titled(line: &[u8]) -> Option<u64>
 }
 
 // The name that a line announces.
-pub fn announced(alloc: Global, line: &[u8]) -> Result<Option<String>, AllocError>
+pub(crate) fn announced(alloc: Global, line: &[u8]) -> Result<Option<String>, AllocError>
     ensures { IfOk result (λ name. Decodes IsAnnouncement line.now (option_map string_bytes name)) }
 {
     let front = br#"{ "type": "test", "event": "started", "name": ""#;
@@ -35,7 +35,7 @@ pub fn announced(alloc: Global, line: &[u8]) -> Result<Option<String>, AllocErro
 }
 
 // The outcome that a line says of this name.
-pub fn ended(alloc: Global, name: &str, line: &[u8]) -> Result<Option<Outcome>, AllocError>
+pub(crate) fn ended(alloc: Global, name: &str, line: &[u8]) -> Result<Option<Outcome>, AllocError>
     ensures { IfOk result (λ outcome. Decodes (IsOutcome name.now) line.now outcome) }
 {
     if let Some(rest) = after_quoted(line, br#"{ "type": "bench", "name": ""#, name) {

@@ -11,7 +11,7 @@ use std::str;
 const NANOS_PER_SECOND: u64 = 1_000_000_000;
 
 // The number at the front, and what follows its digits.
-pub fn number_at(bytes: &[u8]) -> Option<(u64, &[u8])>
+pub(crate) fn number_at(bytes: &[u8]) -> Option<(u64, &[u8])>
     ensures { ReadsNumber bytes.now (option_map (λ found. (found.0, found.1.now)) result) }
 {
     let (digits, rest) = digits_at(bytes);
@@ -20,7 +20,7 @@ pub fn number_at(bytes: &[u8]) -> Option<(u64, &[u8])>
 }
 
 // The nanoseconds of a text that is seconds in exact decimal.
-pub fn seconds(text: &[u8]) -> Option<u64>
+pub(crate) fn seconds(text: &[u8]) -> Option<u64>
     ensures { Decodes IsSeconds text.now result }
 {
     let (whole, rest) = number_at(text)?;

@@ -10,7 +10,7 @@ use std::mem;
 
 // Which line is next. A title's number of rows is kept until all rows have come.
 #[derive(Debug, Drop)]
-pub enum Stage {
+pub(crate) enum Stage {
     // The title.
     Title,
     // The announcement of a row, or the summary where all rows have come.
@@ -23,13 +23,17 @@ pub enum Stage {
 
 // What the lines so far said.
 #[derive(Debug, Drop)]
-pub struct Progress {
-    pub stage: Stage,
-    pub rows: Vec<Row>,
+pub(crate) struct Progress {
+    pub(crate) stage: Stage,
+    pub(crate) rows: Vec<Row>,
 }
 
 // Takes the next line, and says whether it belongs there. Where it doesn't, nothing changes.
-pub fn take_line(alloc: Global, progress: &mut Progress, line: &[u8]) -> Result<bool, AllocError>
+pub(crate) fn take_line(
+    alloc: Global,
+    progress: &mut Progress,
+    line: &[u8],
+) -> Result<bool, AllocError>
     ensures { IfOk result (λ taken. Takes taken (state_of progress.old) line.now (state_of progress.new)) }
 {
     match &progress.stage {
@@ -85,7 +89,7 @@ fn take_between_rows(
 }
 
 // The first line, with its end, and what follows it.
-pub fn first_line(bytes: &[u8]) -> Option<(&[u8], &[u8])>
+pub(crate) fn first_line(bytes: &[u8]) -> Option<(&[u8], &[u8])>
     ensures { MatchOption result (HasNoEnd bytes.now) (λ x. (bytes.now ≡ x.0.now ++ x.1.now) × IsLine x.0.now) }
 {
     for (at, byte) in bytes.iter().enumerate() {

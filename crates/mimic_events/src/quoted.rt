@@ -8,7 +8,7 @@ use libtest_mimic::text::escape_char;
 use std::alloc::{AllocError, Global};
 
 // The text in quotes behind this front, which ends with the opening quote, and what follows the closing one.
-pub fn quoted_after<'a>(
+pub(crate) fn quoted_after<'a>(
     alloc: Global,
     line: &'a [u8],
     front: &[u8],
@@ -23,7 +23,7 @@ pub fn quoted_after<'a>(
 }
 
 // What follows this text in quotes behind this front, which ends with the opening quote, and the closing quote.
-pub fn after_quoted<'a>(line: &'a [u8], front: &[u8], text: &str) -> Option<&'a [u8]>
+pub(crate) fn after_quoted<'a>(line: &'a [u8], front: &[u8], text: &str) -> Option<&'a [u8]>
     ensures { Follows (front.now ++ (escaped text.now ++ 34 ∷ [])) line.now result }
 {
     let rest = after(line, front)?;

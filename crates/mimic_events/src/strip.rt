@@ -2,14 +2,14 @@
 ghost use Rattle.std.specs.Prelude.{◌≡◌, ◌≢◌, ◌++◌, ℕ, List, MatchOption};
 
 // What follows the front, where the text begins with it.
-pub fn after<'a>(text: &'a [u8], front: &[u8]) -> Option<&'a [u8]>
+pub(crate) fn after<'a>(text: &'a [u8], front: &[u8]) -> Option<&'a [u8]>
     ensures { MatchOption result ((rest : List ℕ) → text.now ≢ front.now ++ rest) (λ rest. text.now ≡ front.now ++ rest.now) }
 {
     text.strip_prefix(front)
 }
 
 // What stands before the back, where the text ends with it.
-pub fn before<'a>(text: &'a [u8], back: &[u8]) -> Option<&'a [u8]>
+pub(crate) fn before<'a>(text: &'a [u8], back: &[u8]) -> Option<&'a [u8]>
     ensures { MatchOption result ((front : List ℕ) → text.now ≢ front ++ back.now) (λ front. text.now ≡ front.now ++ back.now) }
 {
     text.strip_suffix(back)

@@ -13,7 +13,7 @@ use itoa::Buffer;
 use libtest_mimic::Conclusion;
 
 // The number of trials that were filtered out and the nanoseconds, of a summary line of these rows.
-pub fn summed(rows: &[Row], line: &[u8]) -> Option<(u64, u64)>
+pub(crate) fn summed(rows: &[Row], line: &[u8]) -> Option<(u64, u64)>
     ensures { Decodes (IsSummary (map entry_of rows.now)) line.now result }
 {
     let rest = after_counts(line, &counts_of_rows(rows, 0))?;
