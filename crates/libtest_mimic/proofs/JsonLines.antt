@@ -1,5 +1,5 @@
 -- How many lines end in a report in JSON.
-use Rattle.std.proofs.Common.{◌≡◌, ℕ, zero, suc, ◌+◌, ◌*◌, ◌<◌, ◌≤◌, ◌^◌, Bool, true, false, cond, eqb, ltb, ◌&&◌, List, [], ◌∷◌, ◌++◌, None, Some, length, map, refl, ap, ap₂, subst, ◌∙◌, arith, inl, inr, decimal}
+use Rattle.std.proofs.Common.{◌≡◌, ℕ, ◌+◌, ◌*◌, ◌<◌, ◌≤◌, ◌^◌, Bool, true, false, cond, eqb, ltb, List, [], ◌∷◌, ◌++◌, None, Some, length, map, refl, ap, ap₂, ◌∙◌, arith, inl, inr, decimal}
 use Rattle.std.specs.List.{concat, flat_map, AllByRecursion}
 use Rattle.std.specs.Prelude.{codes}
 use Rattle.std.specs.Str.Parse.{AllDigits}
@@ -16,6 +16,7 @@ use Rattle.libtest_mimic.specs.Escape.{escape, escaped}
 use Rattle.libtest_mimic.specs.Json.{Contents, Entry, conclusion_of, entry_lines, json_announcement, json_event, json_failure, json_measurement, json_outcome, json_report, json_summary, json_title, json_verdict, line_ends}
 use Rattle.libtest_mimic.specs.Promise.{FitsTypes}
 use Rattle.libtest_mimic.specs.Seconds.{IsRest, exact_seconds}
+use Rattle.libtest_mimic.proofs.Bounded.{all_below, one_below}
 use Rattle.libtest_mimic.proofs.Escapes.{escape-high}
 use Rattle.libtest_mimic.proofs.ExactSeconds.{seconds_exact}
 
@@ -33,27 +34,6 @@ ends-concat [] = refl
 ends-concat (part ∷ parts) = ends-append part (concat parts) ∙ ap (λ n. line_ends part + n) (ends-concat parts)
 
 -- ---- texts in which no line ends
-
--- p holds of each number below n
-abbrev all_below : (ℕ → Bool) → ℕ → Bool
-all_below p zero = true
-all_below p (suc n) = p n && all_below p n
-
-and_left : (a b : Bool) → (a && b) ≡ true → a ≡ true
-and_left true b h = refl
-and_left false b h = absurd cc
-
-and_right : (a b : Bool) → (a && b) ≡ true → b ≡ true
-and_right true b h = h
-and_right false b h = absurd cc
-
-one_below : (p : ℕ → Bool) (n k : ℕ) → all_below p n ≡ true → k < n → p k ≡ true
-one_below p zero k h lt = absurd (omega arith)
-one_below p (suc n) k h lt =
-    elim (cases_lt k n) [
-      | inl below ↦ one_below p n k (and_right (p n) (all_below p n) h) below
-      | inr above ↦ let e : n ≡ k = omega arith in subst (λ m. p m ≡ true) e (and_left (p n) (all_below p n) h)
-    ]
 
 low_escapes : all_below (λ b. eqb (line_ends (escape b)) 0) 93 ≡ true
 low_escapes = refl

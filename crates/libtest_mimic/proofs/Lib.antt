@@ -1,5 +1,6 @@
 pub mod Answered
 pub mod Appending
+pub mod Bounded
 pub mod Characters
 pub mod Counting
 pub mod Escapes

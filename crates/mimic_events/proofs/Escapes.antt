@@ -1,32 +1,12 @@
 -- No spelling of a byte begins the spelling of another.
-use Rattle.std.proofs.Common.{◌≡◌, ℕ, zero, suc, ◌<◌, ◌≤◌, Bool, true, false, eqb, ◌&&◌, List, ◌∷◌, ◌++◌, refl, sym, ap, subst, ◌∙◌, arith, inl, inr}
+use Rattle.std.proofs.Common.{◌≡◌, ℕ, ◌<◌, ◌≤◌, true, false, eqb, List, ◌∷◌, ◌++◌, refl, sym, ap, subst, ◌∙◌, arith, inl, inr}
 use Rattle.std.proofs.lemmas.Bool.{cases_lt, eqb-true, lt-ltb}
 use Rattle.std.proofs.lemmas.Bool.Decides.{nat_tests}
 use Rattle.std.proofs.lemmas.List.{append_cancel_left}
 use Rattle.libtest_mimic.specs.Escape.{escape, escape_char}
+use Rattle.libtest_mimic.proofs.Bounded.{all_below, one_below}
 use Rattle.libtest_mimic.proofs.Escapes.{escape-high}
 use Rattle.mimic_events.specs.Parts.{candidate_of, after_backslash, after_u}
-
--- p holds of each number below n
-abbrev pub all_below : (ℕ → Bool) → ℕ → Bool
-all_below p zero = true
-all_below p (suc n) = p n && all_below p n
-
-and_left : (a b : Bool) → (a && b) ≡ true → a ≡ true
-and_left true b h = refl
-and_left false b h = absurd cc
-
-and_right : (a b : Bool) → (a && b) ≡ true → b ≡ true
-and_right true b h = h
-and_right false b h = absurd cc
-
-pub one_below : (p : ℕ → Bool) (n k : ℕ) → all_below p n ≡ true → k < n → p k ≡ true
-one_below p zero k h lt = absurd (omega arith)
-one_below p (suc n) k h lt =
-    elim (cases_lt k n) [
-      | inl below ↦ one_below p n k (and_right (p n) (all_below p n) h) below
-      | inr above ↦ let e : n ≡ k = omega arith in subst (λ m. p m ≡ true) e (and_left (p n) (all_below p n) h)
-    ]
 
 not_backslash : (b : ℕ) → 93 ≤ b → eqb b 92 ≡ false
 not_backslash b h = grind (arith, nat_tests)

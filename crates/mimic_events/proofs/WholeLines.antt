@@ -15,10 +15,10 @@ use Rattle.libtest_mimic.specs.Escape.{escape, escaped}
 use Rattle.libtest_mimic.specs.Json.{json_title, json_announcement, json_event, json_failure, json_measurement, json_outcome, json_verdict, json_summary}
 use Rattle.libtest_mimic.specs.Promise.{FitsTypes}
 use Rattle.libtest_mimic.specs.Seconds.{exact_seconds, fraction_digits}
+use Rattle.libtest_mimic.proofs.Bounded.{all_below, one_below}
 use Rattle.libtest_mimic.proofs.Escapes.{escape-high}
 use Rattle.mimic_events.specs.Steps.{HasNoEnd, IsLine}
 use Rattle.mimic_events.proofs.Digits.{decimal_digits}
-use Rattle.mimic_events.proofs.Escapes.{all_below, one_below}
 
 -- ---- two readings of a text's first line are one
 
