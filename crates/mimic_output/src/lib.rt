@@ -6,3 +6,6 @@ mod run;
 
 pub use buffer::{Output, Passing};
 pub use run::{buffered, run_into};
+
+#[cfg(test)]
+mod tests;
