@@ -8,16 +8,16 @@
 
 mod asked;
 mod measured;
-mod report;
 
 use asked::Asked;
-use libtest_mimic::{Failed, RunError, Trial};
+use libtest_mimic::{Clock, Failed, RunError, Trial};
 use measured::Measured;
-use report::report;
+use mimic_output::{Passing, buffered, run_into};
 use std::alloc::Global;
-use std::io;
+use std::io::Write;
 use std::process::ExitCode;
 use std::time::Instant;
+use std::{fs, io};
 use thiserror::Error;
 
 const FAULT: u8 = 1;
@@ -82,16 +82,35 @@ fn failure(alloc: Global) -> Failed {
 }
 
 fn bench(rt: &HostRuntime) -> Result<u8, Fault> {
-    let alloc = rt.alloc();
     let asked = Asked::from_words(rt)?;
+    match &asked.logfile {
+        Some(path) => match fs::create(rt, path.as_str()) {
+            Ok(file) => measure(rt, &asked, Passing::Blocks, file),
+            Err(_) => Err(Fault::Logfile),
+        },
+        None => measure(rt, &asked, Passing::of_format(asked.format), rt.stdout()),
+    }
+}
+
+// Makes the tests and runs them into the writer, tells what that took, and answers the exit status.
+fn measure<W: Write + Drop>(
+    rt: &HostRuntime,
+    asked: &Asked,
+    passing: Passing,
+    writer: W,
+) -> Result<u8, Fault> {
+    let alloc = rt.alloc();
+    // A harness has its buffer before its tests too. Where it lies behind them in memory, to free it makes the
+    // allocator go over all that the tests have given back.
+    let output = buffered(alloc, passing, writer)?;
     let start = Instant::now(rt)?;
     let tests = trivial_tests!(alloc, asked.count, asked.fail_every);
     let made = start.elapsed(rt)?;
     let start = Instant::now(rt)?;
-    let conclusion = report(rt, alloc, &asked, tests)?;
+    let conclusion = run_into(alloc, &asked.arguments(alloc), tests, output, Still).1?;
     let ran = start.elapsed(rt)?;
     let measured = Measured {
-        asked: &asked,
+        asked,
         made,
         ran,
         peak: measured::peak(rt)?,
@@ -102,4 +121,14 @@ fn bench(rt: &HostRuntime) -> Result<u8, Fault> {
     } else {
         0
     })
+}
+
+// A clock that stands still.
+#[derive(Drop)]
+struct Still;
+
+impl Clock for Still {
+    fn now(&mut self) -> u64 {
+        0
+    }
 }

@@ -189,6 +189,9 @@ impl Printer {
         requires { faults_of sink.old < 2 ^ 64 - 1 }
         ensures { Puts W.contents sink.old sink.new (outcome_mark self.now outcome.now mark.now) result }
     {
+        if !self.colour {
+            return sink.put(mark.as_bytes());
+        }
         let pieces = [
             Piece::Text(self.colour_start(outcome)),
             Piece::Text(mark),

@@ -83,6 +83,10 @@ fn select(args: &Arguments, trials: &mut Vec<Trial>) -> u64
     ensures selection { IsSelection args.now trials.old.items trials.new.items }
     ensures dropped { result ≡ length trials.old.items - length trials.new.items }
 {
+    // Without a selection the trials need not be gone through.
+    if args.filter.is_none() && args.skip.is_empty() && !args.ignored {
+        return 0;
+    }
     let count = trials.len();
     trials.retain(
         |trial| -> bool

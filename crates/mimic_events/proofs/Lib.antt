@@ -1,6 +1,7 @@
 pub mod Digits
 pub mod EndedLines
 pub mod Escapes
+pub mod FirstLines
 pub mod Fronts
 pub mod NamedLines
 pub mod QuotedTexts

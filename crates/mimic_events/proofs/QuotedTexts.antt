@@ -1,10 +1,10 @@
 -- Reading an escaped text, byte by byte.
-use Rattle.std.proofs.Common.{◌≡◌, ◌≢◌, ℕ, ◌+◌, ◌<◌, ◌≤◌, List, [], ◌∷◌, ◌++◌, Option, Some, None, Bor, length, drop, drop-cons, get_or, add-one, refl, sym, ap, subst, ◌∙◌, append_assoc}
+use Rattle.std.proofs.Common.{◌≡◌, ◌≢◌, ℕ, ◌<◌, ◌≤◌, List, [], ◌∷◌, ◌++◌, Option, Some, None, Bor, length, drop, drop-cons, length-drop, take, get_or, arith, ◌-◌, refl, sym, ap, subst, ◌∙◌, append_assoc}
 use Rattle.std.specs.List.{flat_map}
-use Rattle.std.proofs.lemmas.List.{append-nil, drop_all}
+use Rattle.std.proofs.lemmas.List.{append-nil, nil_from_length, take_all}
 use Rattle.std.proofs.lemmas.List.Concat.{flat_map-append}
 use Rattle.libtest_mimic.specs.Escape.{escape, escaped}
-use Rattle.mimic_events.specs.Parts.{candidate_of, ReadsEscaped}
+use Rattle.mimic_events.specs.Parts.{ArePlain, candidate_of, ReadsEscaped}
 use Rattle.mimic_events.specs.Parts.{Follows}
 use Rattle.mimic_events.proofs.Escapes.{again, one_split}
 use Rattle.mimic_events.proofs.Fronts.{Follows-then, Follows-stop}
@@ -52,20 +52,51 @@ is_done bytes text rest h none = record {
   only = λ other stop f. let t = h.only other stop f in last bytes text rest other stop none t.0 t.1 t.2;
 }
 
--- ---- a text that is known, byte by byte
+-- bytes that stand for themselves were read
+pub goes_on_plain : (bytes text : List ℕ) (plain after : List ℕ) → Reaches bytes text (plain ++ after) → ArePlain plain → Reaches bytes (text ++ plain) after
+goes_on_plain bytes text [] after h p = rw (append-nil text) h
+goes_on_plain bytes text (b ∷ plain) after h p =
+    let one : b ∷ (plain ++ after) ≡ escape b ++ (plain ++ after) = ap (λ (x : List ℕ). x ++ (plain ++ after)) (sym p.0) in
+    subst (λ (x : List ℕ). Reaches bytes x after) (append_assoc text (b ∷ []) plain)
+    (goes_on_plain bytes (text ++ b ∷ []) plain after (goes_on bytes text (b ∷ plain ++ after) b (plain ++ after) h one) p.1)
 
-escaped-from : (text : List ℕ) (i : ℕ) → i < length text → escaped (drop i text) ≡ escape (get_or text i 0) ++ escaped (drop (i + 1) text)
+-- ---- a text that is known, in parts
+
+pub escaped-plain : (plain : List ℕ) → ArePlain plain → escaped plain ≡ plain
 unfolding escaped
-escaped-from text i h = rw add-one (ap (λ (x : List ℕ). flat_map escape x) (drop-cons text i 0 h))
+escaped-plain [] p = refl
+escaped-plain (b ∷ plain) p = ap (λ (x : List ℕ). x ++ escaped plain) p.0 ∙ ap (λ (x : List ℕ). b ∷ x) (escaped-plain plain p.1)
 
-pub escaped-then : (text : List ℕ) (i : ℕ) (line rest : List ℕ) (o : Option (Bor (List ℕ))) → i < length text → line ≡ escape (get_or text i 0) ++ rest → Follows (escaped (drop (i + 1) text)) rest o → Follows (escaped (drop i text)) line o
-escaped-then text i line rest o h e f =
-    subst (λ (front : List ℕ). Follows front line o) (sym (escaped-from text i h)) (Follows-then (escape (get_or text i 0)) (escaped (drop (i + 1) text)) line rest o e f)
-
-pub escaped-stop : (text : List ℕ) (i : ℕ) (line : List ℕ) → i < length text → ((rest : List ℕ) → line ≢ escape (get_or text i 0) ++ rest) → Follows (escaped (drop i text)) line None
-escaped-stop text i line h f =
-    subst (λ (front : List ℕ). Follows front line None) (sym (escaped-from text i h)) (Follows-stop (escape (get_or text i 0)) (escaped (drop (i + 1) text)) line f)
-
-pub escaped-end : (text : List ℕ) (i : ℕ) (rest : Bor (List ℕ)) → length text ≤ i → Follows (escaped (drop i text)) rest.now (Some rest)
+escaped-parts : (text plain left : List ℕ) → text ≡ plain ++ left → ArePlain plain → escaped text ≡ plain ++ escaped left
 unfolding escaped
-escaped-end text i rest h = rw (drop_all i text h) refl
+escaped-parts text plain left e p = ap escaped e ∙ flat_map-append escape plain left ∙ ap (λ (x : List ℕ). x ++ escaped left) (escaped-plain plain p)
+
+-- behind what stands for itself
+pub plain-then : (text plain left line rest : List ℕ) (o : Option (Bor (List ℕ))) → text ≡ plain ++ left → ArePlain plain → line ≡ plain ++ rest → Follows (escaped left) rest o → Follows (escaped text) line o
+plain-then text plain left line rest o e p f h =
+    subst (λ (front : List ℕ). Follows front line o) (sym (escaped-parts text plain left e p)) (Follows-then plain (escaped left) line rest o f h)
+
+pub plain-stop : (text plain left line : List ℕ) → text ≡ plain ++ left → ArePlain plain → ((rest : List ℕ) → line ≢ plain ++ rest) → Follows (escaped text) line None
+plain-stop text plain left line e p h =
+    subst (λ (front : List ℕ). Follows front line None) (sym (escaped-parts text plain left e p)) (Follows-stop plain (escaped left) line h)
+
+-- behind the spelling of the first byte
+escaped-first : (text : List ℕ) → 1 ≤ length text → escaped text ≡ escape (get_or text 0 0) ++ escaped (drop 1 text)
+unfolding escaped
+escaped-first text h = ap (λ (x : List ℕ). flat_map escape x) (drop-cons text 0 0 h)
+
+pub first-then : (text line rest : List ℕ) (o : Option (Bor (List ℕ))) → 1 ≤ length text → line ≡ escape (get_or text 0 0) ++ rest → Follows (escaped (drop 1 text)) rest o → Follows (escaped text) line o
+first-then text line rest o h e f =
+    subst (λ (front : List ℕ). Follows front line o) (sym (escaped-first text h)) (Follows-then (escape (get_or text 0 0)) (escaped (drop 1 text)) line rest o e f)
+
+pub first-stop : (text line : List ℕ) → 1 ≤ length text → ((rest : List ℕ) → line ≢ escape (get_or text 0 0) ++ rest) → Follows (escaped text) line None
+first-stop text line h f =
+    subst (λ (front : List ℕ). Follows front line None) (sym (escaped-first text h)) (Follows-stop (escape (get_or text 0 0)) (escaped (drop 1 text)) line f)
+
+pub nothing-left : (text : List ℕ) (rest : Bor (List ℕ)) → length text < 1 → Follows (escaped text) rest.now (Some rest)
+unfolding escaped
+nothing-left text rest h = rw (nil_from_length text (omega arith)) refl
+
+-- the bytes behind the first
+pub behind-first : (text : List ℕ) → take (length text - 1) (drop 1 text) ≡ drop 1 text
+behind-first text = take_all (length text - 1) (drop 1 text) (omega (arith, length-drop 1 text))

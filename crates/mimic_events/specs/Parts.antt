@@ -1,11 +1,12 @@
 -- What the private readers of parts of a line promise one another. No public clause names these words.
 use Rattle.std.specs.Prelude.{◌≡◌, ◌≢◌, ℕ, ◌+◌, ◌-◌, ◌<◌, ◌≤◌, ◌^◌, ◌==◌, nat_lt, if◌then◌else◌, Bool, true, false, List, [], ◌∷◌, ◌++◌, codes, decimal, Option, Some, None, IsUtf8}
 use Rattle.std.specs.Borrow.{Bor}
+use Rattle.std.specs.List.{AllByRecursion}
 use Rattle.std.specs.Str.Parse.{AllDigits}
 use Rattle.libtest_mimic.specs.declared.outcome.Outcome.{Outcome}
 use Rattle.libtest_mimic.specs.declared.outcome.Outcome.TheVariants.{Passed, Failed, Ignored, Measured}
 use Rattle.libtest_mimic.specs.declared.outcome.conclusion.Conclusion.{Conclusion}
-use Rattle.libtest_mimic.specs.Escape.{escaped}
+use Rattle.libtest_mimic.specs.Escape.{escape, escaped}
 use Rattle.libtest_mimic.specs.Json.{json_verdict}
 use Rattle.libtest_mimic.specs.Promise.{FitsTypes}
 
@@ -17,6 +18,10 @@ Follows front text None = (rest : List ℕ) → text ≢ front ++ rest
 Follows front text (Some rest) = text ≡ front ++ rest.now
 
 -- ---- texts in quotes
+
+-- each byte is spelled as it is
+abbrev pub ArePlain : List ℕ → Type 0
+ArePlain bytes = AllByRecursion (λ b. escape b ≡ b ∷ []) bytes
 
 -- the byte that a backslash and a letter stand for
 abbrev pub named_of : ℕ → ℕ

@@ -5,6 +5,7 @@ ghost use Rattle.mimic_events.specs.Steps.{IsLine, HasNoEnd, Takes, state_of, ne
 use crate::lines::{announced, ended, titled};
 use crate::report::Row;
 use crate::summary::summed;
+use memchr::memchr;
 use std::alloc::{AllocError, Global};
 use std::mem;
 
@@ -92,10 +93,6 @@ fn take_between_rows(
 pub(crate) fn first_line(bytes: &[u8]) -> Option<(&[u8], &[u8])>
     ensures { MatchOption result (HasNoEnd bytes.now) (λ x. (bytes.now ≡ x.0.now ++ x.1.now) × IsLine x.0.now) }
 {
-    for (at, byte) in bytes.iter().enumerate() {
-        if *byte == b'\n' {
-            return Some(bytes.split_at(at + 1));
-        }
-    }
-    None
+    let at = memchr(b'\n', bytes)?;
+    Some(bytes.split_at(at + 1))
 }

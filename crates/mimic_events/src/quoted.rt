@@ -1,7 +1,8 @@
 //! Texts between the quotes of a JSON string.
-ghost use Rattle.std.specs.Prelude.{◌≡◌, ◌++◌, ◌∷◌, [], IfOk, option_map};
+ghost use Rattle.std.specs.Prelude.{◌≡◌, ◌++◌, ◌∷◌, ◌<◌, [], IfOk, option_map};
+ghost use Rattle.std.specs.Bool.{MatchBool};
 ghost use Rattle.libtest_mimic.specs.Escape.{escape, escaped};
-ghost use Rattle.mimic_events.specs.Parts.{Follows, named_of, control_of, candidate_of, Splits, ReadsEscaped, ReadsQuoted, ReadsNamed};
+ghost use Rattle.mimic_events.specs.Parts.{ArePlain, Follows, named_of, control_of, candidate_of, Splits, ReadsEscaped, ReadsQuoted, ReadsNamed};
 
 use crate::strip::after;
 use libtest_mimic::text::escape_char;
@@ -35,9 +36,13 @@ pub(crate) fn after_quoted<'a>(line: &'a [u8], front: &[u8], text: &str) -> Opti
 fn after_escaped<'a>(line: &'a [u8], text: &[u8]) -> Option<&'a [u8]>
     ensures { Follows (escaped text.now) line.now result }
 {
-    let mut rest = line;
-    for byte in text {
+    let (plain, mut left) = plain_at(text);
+    let mut rest = after(line, plain)?;
+    while let [byte, behind @ ..] = left {
         rest = after_spelling(rest, *byte)?;
+        let (plain, behind) = plain_at(behind);
+        rest = after(rest, plain)?;
+        left = behind;
     }
     Some(rest)
 }
@@ -46,12 +51,30 @@ fn after_escaped<'a>(line: &'a [u8], text: &[u8]) -> Option<&'a [u8]>
 fn after_spelling<'a>(text: &'a [u8], byte: u8) -> Option<&'a [u8]>
     ensures { Follows (escape byte) text.now result }
 {
-    if byte < b' ' || byte == b'"' || byte == b'\\' {
-        after(text, escape_char(char::from(byte)).as_str().as_bytes())
-    } else {
-        // It stands for itself.
+    if is_plain(byte) {
         after(text, &[byte])
+    } else {
+        after(text, escape_char(char::from(byte)).as_str().as_bytes())
     }
+}
+
+// The bytes at the front that stand for themselves, and what follows.
+fn plain_at(text: &[u8]) -> (&[u8], &[u8])
+    ensures parts { text.now ≡ result.0.now ++ result.1.now }
+    ensures plain { ArePlain result.0.now }
+{
+    let mut len = 0;
+    while len < text.len() && is_plain(text[len]) {
+        len += 1;
+    }
+    text.split_at(len)
+}
+
+// Whether a byte stands for itself.
+fn is_plain(byte: u8) -> bool
+    ensures { MatchBool result (escape byte ≡ byte ∷ []) (byte < 93) }
+{
+    byte >= b' ' && byte != b'"' && byte != b'\\'
 }
 
 // The text up to the closing quote, and what follows that.
@@ -69,10 +92,13 @@ fn quoted_at(alloc: Global, bytes: &[u8]) -> Result<Option<(Vec<u8>, &[u8])>, Al
 fn escaped_at(alloc: Global, bytes: &[u8]) -> Result<(Vec<u8>, &[u8]), AllocError>
     ensures { IfOk result (λ found. ReadsEscaped bytes.now found.0.items found.1.now) }
 {
+    let (plain, mut rest) = plain_at(bytes);
     let mut text = Vec::new(alloc);
-    let mut rest = bytes;
+    text.extend_from_slice(plain)?;
     while let Some((byte, after)) = unescape(rest) {
         text.push(byte)?;
+        let (plain, after) = plain_at(after);
+        text.extend_from_slice(plain)?;
         rest = after;
     }
     Ok((text, rest))
