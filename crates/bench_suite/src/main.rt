@@ -100,8 +100,8 @@ fn measure<W: Write + Drop>(
     writer: W,
 ) -> Result<u8, Fault> {
     let alloc = rt.alloc();
-    // A harness has its buffer before its tests too. Where it lies behind them in memory, to free it makes the
-    // allocator go over all that the tests have given back.
+    // Made before the tests: where it lies behind them in memory, to free it makes the allocator go over all that the
+    // tests have given back.
     let output = buffered(alloc, passing, writer)?;
     let start = Instant::now(rt)?;
     let tests = trivial_tests!(alloc, asked.count, asked.fail_every);

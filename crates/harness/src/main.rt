@@ -27,13 +27,13 @@ fn main(rt: HostRuntime) -> ExitCode {
 
 fn run_mixed_bag(rt: &HostRuntime) -> Result<u8, RunError> {
     let alloc = rt.alloc();
-    let trials = mixed_bag_trials!(alloc);
     let line = Arguments::from_args(rt, alloc);
     let passing = match &line {
         Ok(args) => Passing::of_format(args.format_used()),
         Err(_) => Passing::Lines,
     };
     let out = buffered(alloc, passing, rt.stdout())?;
+    let trials = mixed_bag_trials!(alloc);
     let clock = MonotonicClock::new(rt);
     let (_, status) = harness_run(rt, alloc, line, trials, out, &mut rt.stderr(), clock);
     Ok(status)

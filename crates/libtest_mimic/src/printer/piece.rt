@@ -1,5 +1,5 @@
 //! Texts that are written piece by piece, with no memory.
-ghost use Rattle.std.specs.Prelude.{◌≡◌, ◌-◌, ◌^◌, ◌<◌, ◌++◌, decimal, length, slice_index, take};
+ghost use Rattle.std.specs.Prelude.{◌≡◌, ◌-◌, ◌^◌, ◌<◌, ◌≤◌, ◌++◌, IfSome, decimal, length, slice_index, take};
 ghost use Rattle.std.specs.Option.{MatchOption};
 ghost use Rattle.libtest_mimic.specs.Sink.{Puts, faults_of};
 ghost use Rattle.libtest_mimic.specs.Escape.{escaped};
@@ -31,6 +31,9 @@ pub(crate) enum Piece<'a> {
     Seconds(u64),
 }
 
+// A text of at most so many bytes, as most rows are, is gathered first and put at once.
+const ROW: usize = 256;
+
 /// Writes the pieces one after another.
 pub(crate) fn put_pieces<W: Write>(
     sink: &mut Sink<W>,
@@ -39,28 +42,71 @@ pub(crate) fn put_pieces<W: Write>(
     requires { faults_of sink.old < 2 ^ 64 - 1 }
     ensures { Puts W.contents sink.old sink.new (pieces_text pieces.now) result }
 {
+    let mut row = [0; ROW];
+    match write_row(pieces, &mut row) {
+        Some(len) => sink.put(&row[..len]),
+        None => put_each(sink, pieces),
+    }
+}
+
+// Puts the pieces one after another.
+fn put_each<W: Write>(sink: &mut Sink<W>, pieces: &[Piece<'_>]) -> Result<(), WriteFault>
+    requires { faults_of sink.old < 2 ^ 64 - 1 }
+    ensures { Puts W.contents sink.old sink.new (pieces_text pieces.now) result }
+{
     for piece in pieces {
-        // To put nothing takes its time too, and most reports have no colours and no kinds.
-        if !piece.is_empty() {
-            piece.put(sink)?;
-        }
+        piece.put(sink)?;
     }
     Ok(())
 }
 
+// Gathers the pieces at the front of the row, and answers where they end. `None` where they don't fit, or some piece
+// is no plain text, number or short run of spaces: a row of such pieces is put piece by piece.
+fn write_row(pieces: &[Piece<'_>], row: &mut [u8; ROW]) -> Option<usize>
+    ensures { IfSome result (λ len. (len ≤ 256) × (take len row.new ≡ pieces_text pieces.now)) }
+{
+    let mut len = 0;
+    for piece in pieces {
+        len = piece.write(row, len)?;
+    }
+    Some(len)
+}
+
+// Writes the text behind the first `len` bytes of the row, and answers where it ends. `None` where it doesn't fit.
+fn append(row: &mut [u8; ROW], len: usize, text: &[u8]) -> Option<usize>
+    requires { len ≤ 256 }
+    ensures { IfSome result (λ end. (end ≤ 256) × (take end row.new ≡ take len row.old ++ text.now)) }
+{
+    // Most reports have no colours and no kinds.
+    if text.is_empty() {
+        return Some(len);
+    }
+    let end = len.checked_add(text.len())?;
+    if end > ROW {
+        return None;
+    }
+    row[len..end].copy_from_slice(text);
+    Some(end)
+}
+
 impl Piece<'_> {
-    ghost use Rattle.std.specs.Prelude.{◌≡◌, ◌-◌, ◌^◌, ◌<◌, [], IsTrue};
+    ghost use Rattle.std.specs.Prelude.{◌≡◌, ◌-◌, ◌^◌, ◌<◌, ◌≤◌, ◌++◌, IfSome, take};
     ghost use Rattle.libtest_mimic.specs.Sink.{Puts, faults_of};
     ghost use Rattle.libtest_mimic.specs.Steps.{piece_text};
 
-    // Whether it is a text, or spaces, of no length.
-    fn is_empty(self) -> bool
-        ensures { IsTrue result → piece_text self.entry ≡ [] }
+    // Writes the piece behind the first `len` bytes of the row, and answers where it ends. `None` as for a row.
+    fn write(self, row: &mut [u8; ROW], len: usize) -> Option<usize>
+        requires { len ≤ 256 }
+        ensures { IfSome result (λ end. (end ≤ 256) × (take end row.new ≡ take len row.old ++ piece_text self.entry)) }
     {
         match self {
-            Piece::Text(text) => text.is_empty(),
-            Piece::Spaces(count) => count == 0,
-            _ => false,
+            Piece::Text(text) => append(row, len, text.as_bytes()),
+            Piece::Number(number) => append(row, len, Buffer::new().format(number).as_bytes()),
+            Piece::Spaces(count) if count <= SPACES.len() => append(row, len, &SPACES[..count]),
+            Piece::Escaped(text) if next_escape(text.as_bytes()).is_none() => {
+                append(row, len, text.as_bytes())
+            }
+            _ => None,
         }
     }
 
