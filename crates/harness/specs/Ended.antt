@@ -1,10 +1,10 @@
 -- How the program ends: its exit status, and what its output has got then.
 use Rattle.std.specs.Prelude.{◌≡◌, ℕ, List, length, Option, IsNone, false, if◌then◌else◌, Result, Ok, Err, IfOk, OnErr, nat_lt}
-use Rattle.libtest_mimic.specs.declared.args.Arguments.{Arguments}
-use Rattle.libtest_mimic.specs.declared.args.error.ArgumentsError.{ArgumentsError}
-use Rattle.libtest_mimic.specs.declared.args.error.ArgumentsError.TheVariants.{OutOfMemory, Help, Refused}
-use Rattle.libtest_mimic.specs.declared.trial.Trial.{Trial}
-use Rattle.libtest_mimic.specs.declared.outcome.conclusion.Conclusion.{Conclusion}
+use Rattle.mimic_args.specs.declared.Arguments.{Arguments}
+use Rattle.mimic_args.specs.declared.error.ArgumentsError.{ArgumentsError}
+use Rattle.mimic_args.specs.declared.error.ArgumentsError.TheVariants.{OutOfMemory, Help, Refused}
+use Rattle.mimic_trial.specs.declared.trial.Trial.{Trial}
+use Rattle.mimic_trial.specs.declared.outcome.conclusion.Conclusion.{Conclusion}
 use Rattle.libtest_mimic.specs.Count.{total_of}
 use Rattle.libtest_mimic.specs.Run.{HasAnswer}
 use Rattle.harness.specs.declared.program.Fault.{Fault}

@@ -6,24 +6,25 @@ use Rattle.std.proofs.lemmas.List.Sorted.{length_permutation}
 use Rattle.std.proofs.lemmas.List.Sums.{sum_by-cons}
 use Rattle.std.specs.List.{range_with_len}
 use Rattle.std.specs.Prelude.{IfOk, IsErrAnd, count_by}
-use Rattle.libtest_mimic.specs.declared.args.Arguments.{Arguments}
-use Rattle.libtest_mimic.specs.declared.outcome.Outcome.{Outcome}
-use Rattle.libtest_mimic.specs.declared.outcome.Outcome.TheVariants.{Passed, Failed, Ignored, Measured}
-use Rattle.libtest_mimic.specs.declared.outcome.conclusion.Conclusion.{Conclusion}
-use Rattle.libtest_mimic.specs.declared.printer.Printer.{Printer}
+use Rattle.mimic_args.specs.declared.Arguments.{Arguments}
+use Rattle.mimic_trial.specs.declared.outcome.Outcome.{Outcome}
+use Rattle.mimic_trial.specs.declared.outcome.Outcome.TheVariants.{Passed, Failed, Ignored, Measured}
+use Rattle.mimic_trial.specs.declared.outcome.conclusion.Conclusion.{Conclusion}
+use Rattle.mimic_printer.specs.declared.Printer.{Printer}
 use Rattle.libtest_mimic.specs.declared.run.RunError.{RunError}
 use Rattle.libtest_mimic.specs.declared.run.RunError.TheVariants.{Write}
-use Rattle.libtest_mimic.specs.declared.sink.Sink.{Sink}
-use Rattle.libtest_mimic.specs.declared.sink.WriteFault.{WriteFault}
+use Rattle.mimic_printer.specs.declared.sink.Sink.{Sink}
+use Rattle.mimic_printer.specs.declared.sink.WriteFault.{WriteFault}
 use Rattle.libtest_mimic.specs.declared.stopwatch.Readings.{Readings}
-use Rattle.libtest_mimic.specs.declared.trial.Trial.{Trial}
-use Rattle.libtest_mimic.specs.Arrangement.{OnlyOwn, Placed, places_of, rows_at}
-use Rattle.libtest_mimic.specs.Count.{counts_of, total_of, is_passed, is_failed, is_ignored_outcome, is_measured}
-use Rattle.libtest_mimic.specs.List.{list_text}
-use Rattle.libtest_mimic.specs.Row.{Row, outcomes_of}
+use Rattle.mimic_trial.specs.declared.trial.Trial.{Trial}
+use Rattle.libtest_mimic.specs.Arrangement.{OnlyOwn}
+use Rattle.mimic_trial.specs.Places.{Placed, places_of, rows_at}
+use Rattle.mimic_trial.specs.Count.{counts_of, total_of, is_passed, is_failed, is_ignored_outcome, is_measured}
+use Rattle.mimic_printer.specs.List.{list_text}
+use Rattle.mimic_trial.specs.Row.{Row, outcomes_of}
 use Rattle.libtest_mimic.specs.Run.{RanInOrder, WritesList}
-use Rattle.libtest_mimic.specs.Sink.{Stopped}
-use Rattle.libtest_mimic.specs.Trial.{labels_of}
+use Rattle.mimic_printer.specs.Sink.{Stopped}
+use Rattle.mimic_trial.specs.Trial.{labels_of}
 use Rattle.libtest_mimic.proofs.OnlyOutcomes.{only_counts}
 
 -- each outcome is of one sort

@@ -7,22 +7,23 @@ use Rattle.std.proofs.lemmas.List.Sorted.{IsPermutation-refl}
 use Rattle.std.specs.List.{enumerate_from, range_with_len}
 use Rattle.std.specs.List.Sorted.{IsPermutation}
 use Rattle.std.specs.Prelude.{All, IsSomeAnd, slice_get, slice_index_or}
-use Rattle.libtest_mimic.specs.declared.args.Arguments.{Arguments}
-use Rattle.libtest_mimic.specs.declared.args.FormatSetting.{FormatSetting}
-use Rattle.libtest_mimic.specs.declared.outcome.Outcome.{Outcome}
-use Rattle.libtest_mimic.specs.declared.outcome.conclusion.Conclusion.{Conclusion}
-use Rattle.libtest_mimic.specs.declared.printer.Printer.{Printer}
-use Rattle.libtest_mimic.specs.declared.sink.Sink.{Sink}
+use Rattle.mimic_args.specs.declared.Arguments.{Arguments}
+use Rattle.mimic_args.specs.declared.FormatSetting.{FormatSetting}
+use Rattle.mimic_trial.specs.declared.outcome.Outcome.{Outcome}
+use Rattle.mimic_trial.specs.declared.outcome.conclusion.Conclusion.{Conclusion}
+use Rattle.mimic_printer.specs.declared.Printer.{Printer}
+use Rattle.mimic_printer.specs.declared.sink.Sink.{Sink}
 use Rattle.libtest_mimic.specs.declared.stopwatch.Readings.{Readings}
-use Rattle.libtest_mimic.specs.declared.trial.Trial.{Trial}
-use Rattle.libtest_mimic.specs.Arrangement.{InOrder, IsOwn, IsOwnAt, Placed, label_at, places_of, rows_at}
-use Rattle.libtest_mimic.specs.Count.{counts_of}
-use Rattle.libtest_mimic.specs.Report.{announcement_text, report_text, rows_text, title_text}
-use Rattle.libtest_mimic.specs.Row.{Label, Row, label_of, outcomes_of}
+use Rattle.mimic_trial.specs.declared.trial.Trial.{Trial}
+use Rattle.mimic_trial.specs.Places.{InOrder, Placed, label_at, places_of, rows_at}
+use Rattle.libtest_mimic.specs.Arrangement.{IsOwn, IsOwnAt}
+use Rattle.mimic_trial.specs.Count.{counts_of}
+use Rattle.mimic_printer.specs.Report.{announcement_text, report_text, rows_text, title_text}
+use Rattle.mimic_trial.specs.Row.{Label, Row, label_of, outcomes_of}
 use Rattle.libtest_mimic.specs.Run.{Reported, StartsReport}
-use Rattle.libtest_mimic.specs.Sink.{Put, Stopped}
+use Rattle.mimic_printer.specs.Sink.{Put, Stopped}
 use Rattle.libtest_mimic.specs.Steps.{OwnRows, StoppedReport, WroteReport}
-use Rattle.libtest_mimic.specs.Trial.{info_of, labels_of}
+use Rattle.mimic_trial.specs.Trial.{info_of, labels_of}
 
 -- a printer is its fields
 pub Printer-is : (p : Printer) (f : FormatSetting) (c : Bool) (n k : ℕ) → p.format ≡ f → p.colour ≡ c → p.name_width ≡ n → p.kind_width ≡ k

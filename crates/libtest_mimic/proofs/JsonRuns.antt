@@ -5,25 +5,26 @@ use Rattle.std.specs.Prelude.{IfOk, IsSomeAnd}
 use Rattle.std.proofs.lemmas.List.{length-map}
 use Rattle.std.proofs.lemmas.List.FromFn.{length-range_with_len}
 use Rattle.std.proofs.lemmas.List.Sorted.{length_permutation}
-use Rattle.libtest_mimic.specs.declared.args.Arguments.{Arguments}
-use Rattle.libtest_mimic.specs.declared.args.FormatSetting.TheVariants.{Json}
-use Rattle.libtest_mimic.specs.declared.outcome.Outcome.{Outcome}
-use Rattle.libtest_mimic.specs.declared.outcome.conclusion.Conclusion.{Conclusion}
-use Rattle.libtest_mimic.specs.declared.printer.Printer.{Printer}
+use Rattle.mimic_args.specs.declared.Arguments.{Arguments}
+use Rattle.mimic_args.specs.declared.FormatSetting.TheVariants.{Json}
+use Rattle.mimic_trial.specs.declared.outcome.Outcome.{Outcome}
+use Rattle.mimic_trial.specs.declared.outcome.conclusion.Conclusion.{Conclusion}
+use Rattle.mimic_printer.specs.declared.Printer.{Printer}
 use Rattle.libtest_mimic.specs.declared.run.RunError.{RunError}
-use Rattle.libtest_mimic.specs.declared.sink.Sink.{Sink}
+use Rattle.mimic_printer.specs.declared.sink.Sink.{Sink}
 use Rattle.libtest_mimic.specs.declared.stopwatch.Readings.{Readings}
-use Rattle.libtest_mimic.specs.declared.trial.Trial.{Trial}
-use Rattle.libtest_mimic.specs.Arrangement.{IsOwn, IsOwnAt, IsArrangement, Placed, places_of, rows_at}
-use Rattle.libtest_mimic.specs.Json.{Contents, Entry, entry_of, line_ends}
-use Rattle.libtest_mimic.specs.Promise.{FitsTypes}
-use Rattle.libtest_mimic.specs.Report.{report_text}
-use Rattle.libtest_mimic.specs.Row.{Label}
+use Rattle.mimic_trial.specs.declared.trial.Trial.{Trial}
+use Rattle.libtest_mimic.specs.Arrangement.{IsOwn, IsOwnAt, IsArrangement}
+use Rattle.mimic_trial.specs.Places.{Placed, places_of, rows_at}
+use Rattle.mimic_printer.specs.Json.{Contents, Entry, entry_of, line_ends}
+use Rattle.mimic_trial.specs.Promise.{FitsTypes}
+use Rattle.mimic_printer.specs.Report.{report_text}
+use Rattle.mimic_trial.specs.Row.{Label}
 use Rattle.libtest_mimic.specs.Run.{AppendsLines, RanInOrder}
-use Rattle.libtest_mimic.specs.Sink.{writer_of}
-use Rattle.libtest_mimic.specs.Trial.{labels_of}
-use Rattle.libtest_mimic.proofs.JsonLines.{report_ends}
-use Rattle.libtest_mimic.proofs.JsonReports.{contents_of, report_is_json}
+use Rattle.mimic_printer.specs.Sink.{writer_of}
+use Rattle.mimic_trial.specs.Trial.{labels_of}
+use Rattle.mimic_printer.proofs.JsonLines.{report_ends}
+use Rattle.mimic_printer.proofs.JsonReports.{contents_of, report_is_json}
 
 module _ {X Y : Type 0} {F : X → Type 0} {G : Y → Type 0} {g : _} {h : _} where
   -- an own outcome fits its types

@@ -5,13 +5,14 @@ use Rattle.std.proofs.lemmas.List.Sorted.{IsPermutation-map, sum_by-IsPermutatio
 use Rattle.std.specs.List.{range_with_len}
 use Rattle.std.specs.List.Sorted.{IsPermutation}
 use Rattle.std.specs.Prelude.{All, count_by}
-use Rattle.libtest_mimic.specs.declared.args.Arguments.{Arguments}
-use Rattle.libtest_mimic.specs.declared.outcome.Outcome.{Outcome}
-use Rattle.libtest_mimic.specs.declared.trial.Trial.{Trial}
-use Rattle.libtest_mimic.specs.Arrangement.{IsArrangement, IsOwnAt, OnlyOwn, Placed, outcome_at, places_of, rows_at}
-use Rattle.libtest_mimic.specs.Count.{counts_of, is_passed, is_failed, is_ignored_outcome, is_measured}
-use Rattle.libtest_mimic.specs.Row.{Label, outcomes_of}
-use Rattle.libtest_mimic.proofs.FailedRows.{range-shift}
+use Rattle.mimic_args.specs.declared.Arguments.{Arguments}
+use Rattle.mimic_trial.specs.declared.outcome.Outcome.{Outcome}
+use Rattle.mimic_trial.specs.declared.trial.Trial.{Trial}
+use Rattle.libtest_mimic.specs.Arrangement.{IsArrangement, IsOwnAt, OnlyOwn}
+use Rattle.mimic_trial.specs.Places.{Placed, outcome_at, places_of, rows_at}
+use Rattle.mimic_trial.specs.Count.{counts_of, is_passed, is_failed, is_ignored_outcome, is_measured}
+use Rattle.mimic_trial.specs.Row.{Label, outcomes_of}
+use Rattle.mimic_printer.proofs.FailedRows.{range-shift}
 
 count_by-IsPermutation : {A : Type 0} (p : A → Bool) (xs ys : List A) → IsPermutation xs ys → count_by p xs ≡ count_by p ys
 count_by-IsPermutation p xs ys h = sym (sum_by-IsPermutation (λ x. cond (p x) 1 0) xs ys h)

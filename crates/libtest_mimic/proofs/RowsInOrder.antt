@@ -5,27 +5,28 @@ use Rattle.std.proofs.lemmas.List.Concat.{flat_map-append}
 use Rattle.std.proofs.lemmas.List.Sums.{count_by-le-length, length-filter}
 use Rattle.std.specs.Bool.{MatchBool}
 use Rattle.std.specs.Prelude.{◌↔◌, IsTrue}
-use Rattle.libtest_mimic.specs.declared.args.Arguments.{Arguments}
-use Rattle.libtest_mimic.specs.declared.outcome.Outcome.{Outcome}
-use Rattle.libtest_mimic.specs.declared.outcome.Outcome.TheVariants.{Ignored}
-use Rattle.libtest_mimic.specs.declared.printer.Printer.{Printer}
+use Rattle.mimic_args.specs.declared.Arguments.{Arguments}
+use Rattle.mimic_trial.specs.declared.outcome.Outcome.{Outcome}
+use Rattle.mimic_trial.specs.declared.outcome.Outcome.TheVariants.{Ignored}
+use Rattle.mimic_printer.specs.declared.Printer.{Printer}
 use Rattle.libtest_mimic.specs.declared.run.tally.Tally.{Tally}
-use Rattle.libtest_mimic.specs.declared.runner.Runner.{Runner}
-use Rattle.libtest_mimic.specs.declared.sink.Sink.{Sink}
-use Rattle.libtest_mimic.specs.declared.trial.Trial.{Trial}
-use Rattle.libtest_mimic.specs.Arrangement.{IsOwn, label_at}
-use Rattle.libtest_mimic.specs.Count.{is_failed}
-use Rattle.libtest_mimic.specs.Steps.{HasRoom}
-use Rattle.libtest_mimic.specs.Promise.{FitsTypes, PromisesOutcome}
-use Rattle.libtest_mimic.specs.Report.{announcement_text, outcome_text, row_text, rows_text}
-use Rattle.libtest_mimic.specs.Row.{Row, label_of, outcomes_of}
+use Rattle.mimic_trial.specs.declared.runner.Runner.{Runner}
+use Rattle.mimic_printer.specs.declared.sink.Sink.{Sink}
+use Rattle.mimic_trial.specs.declared.trial.Trial.{Trial}
+use Rattle.libtest_mimic.specs.Arrangement.{IsOwn}
+use Rattle.mimic_trial.specs.Places.{label_at}
+use Rattle.mimic_trial.specs.Count.{is_failed}
+use Rattle.mimic_trial.specs.Count.{HasRoom}
+use Rattle.mimic_trial.specs.Promise.{FitsTypes, PromisesOutcome}
+use Rattle.mimic_printer.specs.Report.{announcement_text, outcome_text, row_text, rows_text}
+use Rattle.mimic_trial.specs.Row.{Row, label_of, outcomes_of}
 use Rattle.libtest_mimic.specs.Selection.{IsIgnored}
-use Rattle.libtest_mimic.specs.Sink.{Put, Stopped}
+use Rattle.mimic_printer.specs.Sink.{Put, Stopped}
 use Rattle.libtest_mimic.specs.Steps.{HasCounted, HasRoomFor, OwnRows}
-use Rattle.libtest_mimic.specs.Trial.{info_of, runner_of, labels_of}
-use Rattle.libtest_mimic.proofs.Appending.{Put-trans, Put-Stopped}
-use Rattle.libtest_mimic.proofs.Counting.{HasRoom-counts}
-use Rattle.libtest_mimic.proofs.FailedRows.{length-rows_from}
+use Rattle.mimic_trial.specs.Trial.{info_of, runner_of, labels_of}
+use Rattle.mimic_printer.proofs.Appending.{Put-trans, Put-Stopped}
+use Rattle.mimic_trial.proofs.Counting.{HasRoom-counts}
+use Rattle.mimic_printer.proofs.FailedRows.{length-rows_from}
 
 -- ---- texts
 

@@ -1,18 +1,18 @@
 -- A whole report of trials that run one after another, put together from its parts.
 use Rattle.std.proofs.Common.{◌≡◌, ℕ, ◌-◌, List, [], Option, None, Some, length, sym, ap, ◌∙◌, subst, arith}
 use Rattle.std.specs.Prelude.{unwrap_or}
-use Rattle.libtest_mimic.specs.declared.args.Arguments.{Arguments}
-use Rattle.libtest_mimic.specs.declared.printer.Printer.{Printer}
-use Rattle.libtest_mimic.specs.declared.sink.Sink.{Sink}
+use Rattle.mimic_args.specs.declared.Arguments.{Arguments}
+use Rattle.mimic_printer.specs.declared.Printer.{Printer}
+use Rattle.mimic_printer.specs.declared.sink.Sink.{Sink}
 use Rattle.libtest_mimic.specs.declared.stopwatch.Readings.{Readings}
-use Rattle.libtest_mimic.specs.declared.trial.Trial.{Trial}
-use Rattle.libtest_mimic.specs.Count.{counts_of}
-use Rattle.libtest_mimic.specs.Report.{failures_text, report_text, rows_text, summary_text, title_text}
-use Rattle.libtest_mimic.specs.Row.{Row, outcomes_of}
-use Rattle.libtest_mimic.specs.Sink.{Put, Stopped}
+use Rattle.mimic_trial.specs.declared.trial.Trial.{Trial}
+use Rattle.mimic_trial.specs.Count.{counts_of}
+use Rattle.mimic_printer.specs.Report.{failures_text, report_text, rows_text, summary_text, title_text}
+use Rattle.mimic_trial.specs.Row.{Row, outcomes_of}
+use Rattle.mimic_printer.specs.Sink.{Put, Stopped}
 use Rattle.libtest_mimic.specs.Steps.{OwnRows, RowsStopped, StoppedReport}
 use Rattle.libtest_mimic.specs.Stopwatch.{IsRunning, StopsAfter, elapsed_of}
-use Rattle.libtest_mimic.proofs.Appending.{Put-Stopped, Stopped-more, put4, stop2, stop3, stop4}
+use Rattle.mimic_printer.proofs.Appending.{Put-Stopped, Stopped-more, put4, stop2, stop3, stop4}
 
 -- ---- the time
 

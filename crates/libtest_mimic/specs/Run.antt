@@ -3,29 +3,30 @@ use Rattle.std.specs.Prelude.{◌≡◌, ◌≢◌, ℕ, ◌+◌, ◌*◌, ◌-�
 use Rattle.std.specs.Bool.{MatchBool}
 use Rattle.std.specs.Io.KnownBytes.{Appends}
 use Rattle.std.specs.List.{range_with_len}
-use Rattle.libtest_mimic.specs.declared.args.Arguments.{Arguments}
-use Rattle.libtest_mimic.specs.declared.args.FormatSetting.{FormatSetting}
-use Rattle.libtest_mimic.specs.declared.args.FormatSetting.TheVariants.{Pretty, Terse, Json}
-use Rattle.libtest_mimic.specs.declared.trial.Trial.{Trial}
-use Rattle.libtest_mimic.specs.declared.printer.Printer.{Printer}
-use Rattle.libtest_mimic.specs.declared.outcome.Outcome.{Outcome}
-use Rattle.libtest_mimic.specs.declared.outcome.conclusion.Conclusion.{Conclusion}
-use Rattle.libtest_mimic.specs.declared.sink.Sink.{Sink}
+use Rattle.mimic_args.specs.declared.Arguments.{Arguments}
+use Rattle.mimic_args.specs.declared.FormatSetting.{FormatSetting}
+use Rattle.mimic_args.specs.declared.FormatSetting.TheVariants.{Pretty, Terse, Json}
+use Rattle.mimic_trial.specs.declared.trial.Trial.{Trial}
+use Rattle.mimic_printer.specs.declared.Printer.{Printer}
+use Rattle.mimic_trial.specs.declared.outcome.Outcome.{Outcome}
+use Rattle.mimic_trial.specs.declared.outcome.conclusion.Conclusion.{Conclusion}
+use Rattle.mimic_printer.specs.declared.sink.Sink.{Sink}
 use Rattle.libtest_mimic.specs.declared.stopwatch.Readings.{Readings}
 use Rattle.libtest_mimic.specs.declared.run.RunError.{RunError}
 use Rattle.libtest_mimic.specs.declared.run.RunError.TheVariants.{OutOfMemory, Write}
-use Rattle.libtest_mimic.specs.Arguments.{format_of, colours_of}
-use Rattle.libtest_mimic.specs.Arrangement.{Placed, places_of, IsOwnAt, IsArrangement, InOrder, label_at, rows_at, OnlyOwn}
-use Rattle.libtest_mimic.specs.Count.{counts_of}
-use Rattle.libtest_mimic.specs.Json.{line_ends}
-use Rattle.libtest_mimic.specs.List.{list_text}
-use Rattle.libtest_mimic.specs.Report.{title_text, announcement_text, rows_text, report_text}
-use Rattle.libtest_mimic.specs.Row.{Label, outcomes_of}
+use Rattle.mimic_args.specs.Arguments.{format_of, colours_of}
+use Rattle.mimic_trial.specs.Places.{Placed, places_of, InOrder, label_at, rows_at}
+use Rattle.libtest_mimic.specs.Arrangement.{IsOwnAt, IsArrangement, OnlyOwn}
+use Rattle.mimic_trial.specs.Count.{counts_of}
+use Rattle.mimic_printer.specs.Json.{line_ends}
+use Rattle.mimic_printer.specs.List.{list_text}
+use Rattle.mimic_printer.specs.Report.{title_text, announcement_text, rows_text, report_text}
+use Rattle.mimic_trial.specs.Row.{Label, outcomes_of}
 use Rattle.libtest_mimic.specs.Selection.{IsSelection}
-use Rattle.libtest_mimic.specs.Sink.{Put, Stopped, writer_of}
+use Rattle.mimic_printer.specs.Sink.{Put, Stopped, writer_of}
 use Rattle.libtest_mimic.specs.Stopwatch.{elapsed_of, IsRunning}
-use Rattle.libtest_mimic.specs.Trial.{labels_of}
-use Rattle.libtest_mimic.specs.Widths.{name_width_of, kind_width_of}
+use Rattle.mimic_trial.specs.Trial.{labels_of}
+use Rattle.mimic_printer.specs.Widths.{name_width_of, kind_width_of}
 
 -- In the signatures below X, Y, F, G, g and h stand for what the runners' boxed closures promise.
 

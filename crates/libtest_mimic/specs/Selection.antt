@@ -1,9 +1,9 @@
 -- Which trials are selected: when a pattern matches, and which trials are dropped and which ignored.
 use Rattle.std.specs.Prelude.{◌≡◌, ◌⊎◌, ◌++◌, ℕ, Bool, true, false, List, [], ◌∷◌, string_bytes, IsSomeAnd, Any}
-use Rattle.libtest_mimic.specs.declared.args.Arguments.{Arguments}
-use Rattle.libtest_mimic.specs.declared.trial.Trial.{Trial}
-use Rattle.libtest_mimic.specs.Text.{kind_part}
-use Rattle.libtest_mimic.specs.Trial.{info_of}
+use Rattle.mimic_args.specs.declared.Arguments.{Arguments}
+use Rattle.mimic_trial.specs.declared.trial.Trial.{Trial}
+use Rattle.mimic_text.specs.Text.{kind_part}
+use Rattle.mimic_trial.specs.Trial.{info_of}
 
 -- the name with the kind in brackets and a space before it, and the name alone for an empty kind (the Rust crate's)
 abbrev pub full_name : List ℕ → List ℕ → List ℕ

@@ -1,24 +1,22 @@
 //! Runs trials and writes their report.
 ghost use Rattle.std.specs.Prelude.{◌≡◌, ◌-◌, ◌^◌, ◌<◌, false, IfOk, IsFalse, ◌↔◌, length, vec_len};
-ghost use Rattle.libtest_mimic.specs.Count.{total_of};
+ghost use Rattle.mimic_trial.specs.Count.{total_of};
 ghost use Rattle.libtest_mimic.specs.Run.{HasAnswer, HasLines, RanHere, RanInOrder, WritesList, columns_in, printer_for};
 ghost use Rattle.libtest_mimic.specs.Selection.{IsDropped, IsSelection};
-ghost use Rattle.libtest_mimic.specs.Sink.{faults_of};
+ghost use Rattle.mimic_printer.specs.Sink.{faults_of};
 ghost use Rattle.libtest_mimic.specs.Stopwatch.{IsFresh, IsRunning};
-ghost use Rattle.libtest_mimic.specs.Trial.{labels_of};
-ghost use Rattle.libtest_mimic.specs.Widths.{kind_width_of, name_width_of};
+ghost use Rattle.mimic_trial.specs.Trial.{labels_of};
+ghost use Rattle.mimic_printer.specs.Widths.{kind_width_of, name_width_of};
 
 mod in_order;
 pub(crate) mod tally;
 
-use crate::args::{Arguments, FormatSetting};
-use crate::outcome::Conclusion;
-use crate::printer::{Printer, widths_of_trials};
 use crate::select::is_filtered_out;
-use crate::sink::{Sink, WriteFault};
 use crate::stopwatch::{Clock, Stopwatch};
-use crate::trial::Trial;
 use in_order::write_report;
+use mimic_args::{Arguments, FormatSetting};
+use mimic_printer::{Printer, Sink, WriteFault, widths_of_trials};
+use mimic_trial::{Conclusion, Trial};
 use std::alloc::{AllocError, AllocFailed, Global};
 use std::io::Write;
 use tally::Tally;

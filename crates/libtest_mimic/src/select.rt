@@ -4,9 +4,9 @@ ghost use Rattle.libtest_mimic.specs.Selection.{IsMatch, MatchesTrial, IsMissed,
 
 mod full_name;
 
-use crate::args::Arguments;
-use crate::trial::Trial;
 use full_name::{begins_in_kind_part, is_full_name};
+use mimic_args::Arguments;
+use mimic_trial::Trial;
 
 /// Whether the pattern matches a trial of this kind and name.
 ///

@@ -1,7 +1,7 @@
 -- What stands at the front of a text, part by part, and the front of a summary line.
 use Rattle.std.proofs.Common.{◌≡◌, ◌≢◌, ℕ, List, ◌++◌, Option, Some, None, MatchOption, Bor, codes, decimal, sym, ap, ◌∙◌, append_assoc}
 use Rattle.std.proofs.lemmas.List.{append_cancel_left}
-use Rattle.libtest_mimic.specs.declared.outcome.conclusion.Conclusion.{Conclusion}
+use Rattle.mimic_trial.specs.declared.outcome.conclusion.Conclusion.{Conclusion}
 use Rattle.libtest_mimic.specs.Json.{json_verdict}
 use Rattle.mimic_events.specs.Parts.{Follows, summary_front}
 

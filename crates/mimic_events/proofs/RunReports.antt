@@ -6,17 +6,18 @@ use Rattle.std.specs.List.{AllByRecursion, concat, flat_map}
 use Rattle.std.proofs.lemmas.List.{length-map}
 use Rattle.std.proofs.lemmas.List.Elements.{recursion_from_All}
 use Rattle.std.proofs.lemmas.Str.{IsUtf8-nil, IsUtf8-string_bytes}
-use Rattle.libtest_mimic.specs.declared.args.Arguments.{Arguments}
-use Rattle.libtest_mimic.specs.declared.args.FormatSetting.{FormatSetting}
-use Rattle.libtest_mimic.specs.declared.args.FormatSetting.TheVariants.{Json}
-use Rattle.libtest_mimic.specs.declared.outcome.Outcome.{Outcome}
-use Rattle.libtest_mimic.specs.declared.outcome.conclusion.Conclusion.{Conclusion}
-use Rattle.libtest_mimic.specs.declared.printer.Printer.{Printer}
-use Rattle.libtest_mimic.specs.declared.sink.Sink.{Sink}
+use Rattle.mimic_args.specs.declared.Arguments.{Arguments}
+use Rattle.mimic_args.specs.declared.FormatSetting.{FormatSetting}
+use Rattle.mimic_args.specs.declared.FormatSetting.TheVariants.{Json}
+use Rattle.mimic_trial.specs.declared.outcome.Outcome.{Outcome}
+use Rattle.mimic_trial.specs.declared.outcome.conclusion.Conclusion.{Conclusion}
+use Rattle.mimic_printer.specs.declared.Printer.{Printer}
+use Rattle.mimic_printer.specs.declared.sink.Sink.{Sink}
 use Rattle.libtest_mimic.specs.declared.stopwatch.Readings.{Readings}
-use Rattle.libtest_mimic.specs.declared.trial.Trial.{Trial}
+use Rattle.mimic_trial.specs.declared.trial.Trial.{Trial}
 use Rattle.libtest_mimic.specs.Arguments.{format_of}
-use Rattle.libtest_mimic.specs.Arrangement.{Placed, IsOwn, IsOwnAt, label_at, rows_at}
+use Rattle.libtest_mimic.specs.Places.{Placed, label_at, rows_at}
+use Rattle.libtest_mimic.specs.Arrangement.{IsOwn, IsOwnAt}
 use Rattle.libtest_mimic.specs.Count.{counts_of}
 use Rattle.libtest_mimic.specs.Json.{Entry, Contents, FitsEntry, IsJsonReport, conclusion_of, entry_of, entry_lines, json_title, json_announcement, json_outcome, json_summary, json_report}
 use Rattle.libtest_mimic.specs.Promise.{FitsTypes}

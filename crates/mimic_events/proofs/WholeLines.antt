@@ -7,16 +7,16 @@ use Rattle.std.proofs.lemmas.Bool.Decides.{nat_tests}
 use Rattle.std.proofs.lemmas.List.{length-append}
 use Rattle.std.proofs.lemmas.List.Sums.{count_by-le-length}
 use Rattle.std.proofs.lemmas.Str.Parse.{digit_from_value}
-use Rattle.libtest_mimic.specs.declared.outcome.Outcome.{Outcome}
-use Rattle.libtest_mimic.specs.declared.outcome.Outcome.TheVariants.{Passed, Failed, Ignored, Measured}
-use Rattle.libtest_mimic.specs.declared.outcome.conclusion.Conclusion.{Conclusion}
+use Rattle.mimic_trial.specs.declared.outcome.Outcome.{Outcome}
+use Rattle.mimic_trial.specs.declared.outcome.Outcome.TheVariants.{Passed, Failed, Ignored, Measured}
+use Rattle.mimic_trial.specs.declared.outcome.conclusion.Conclusion.{Conclusion}
 use Rattle.libtest_mimic.specs.Count.{counts_of, is_passed, is_failed, is_ignored_outcome, is_measured}
 use Rattle.libtest_mimic.specs.Escape.{escape, escaped}
 use Rattle.libtest_mimic.specs.Json.{json_title, json_announcement, json_event, json_failure, json_measurement, json_outcome, json_verdict, json_summary}
 use Rattle.libtest_mimic.specs.Promise.{FitsTypes}
 use Rattle.libtest_mimic.specs.Seconds.{exact_seconds, fraction_digits}
-use Rattle.libtest_mimic.proofs.Bounded.{all_below, one_below}
-use Rattle.libtest_mimic.proofs.Escapes.{escape-high}
+use Rattle.mimic_text.proofs.Bounded.{all_below, one_below}
+use Rattle.mimic_text.proofs.Escapes.{escape-high}
 use Rattle.mimic_events.specs.Steps.{HasNoEnd, IsLine}
 use Rattle.mimic_events.proofs.Digits.{decimal_digits}
 

@@ -1,6 +1,6 @@
 -- What readers answer, and what they read.
 use Rattle.std.specs.Prelude.{◌≡◌, ℕ, ◌<◌, ◌^◌, List, map, decimal, Option, Some, None, IsUtf8}
-use Rattle.libtest_mimic.specs.declared.outcome.Outcome.{Outcome}
+use Rattle.mimic_trial.specs.declared.outcome.Outcome.{Outcome}
 use Rattle.libtest_mimic.specs.Count.{counts_of}
 use Rattle.libtest_mimic.specs.Json.{Entry, json_title, json_announcement, json_outcome, json_summary}
 use Rattle.libtest_mimic.specs.Promise.{FitsTypes}

@@ -1,10 +1,11 @@
 -- What a report that is read back tells of the run that wrote it.
 use Rattle.std.specs.Prelude.{◌≡◌, ◌-◌, List, length, map, Some}
-use Rattle.libtest_mimic.specs.declared.args.Arguments.{Arguments}
-use Rattle.libtest_mimic.specs.declared.trial.Trial.{Trial}
-use Rattle.libtest_mimic.specs.declared.outcome.conclusion.Conclusion.{Conclusion}
+use Rattle.mimic_args.specs.declared.Arguments.{Arguments}
+use Rattle.mimic_trial.specs.declared.trial.Trial.{Trial}
+use Rattle.mimic_trial.specs.declared.outcome.conclusion.Conclusion.{Conclusion}
 use Rattle.libtest_mimic.specs.declared.stopwatch.Readings.{Readings}
-use Rattle.libtest_mimic.specs.Arrangement.{Placed, InOrder, IsArrangement, rows_at}
+use Rattle.libtest_mimic.specs.Places.{Placed, InOrder, rows_at}
+use Rattle.libtest_mimic.specs.Arrangement.{IsArrangement}
 use Rattle.libtest_mimic.specs.Json.{Contents, conclusion_of, entry_of}
 use Rattle.libtest_mimic.specs.Selection.{IsSelection}
 use Rattle.libtest_mimic.specs.Stopwatch.{elapsed_of}

@@ -1,7 +1,7 @@
 -- Reading a report line by line. No public clause names these words.
 use Rattle.std.specs.Prelude.{◌≡◌, ◌≢◌, ℕ, ◌<◌, ◌≤◌, List, [], ◌∷◌, ◌++◌, length, map, string_bytes, Bool, true, false, Option, Some, None}
 use Rattle.std.specs.List.{AllByRecursion}
-use Rattle.libtest_mimic.specs.declared.outcome.Outcome.{Outcome}
+use Rattle.mimic_trial.specs.declared.outcome.Outcome.{Outcome}
 use Rattle.libtest_mimic.specs.Json.{Entry, Contents}
 use Rattle.mimic_events.specs.declared.progress.Stage.{Stage}
 use Rattle.mimic_events.specs.declared.progress.Stage.TheVariants as stage

@@ -1,6 +1,6 @@
 //! Runs whose reports are wanted as values.
 ghost use Rattle.std.specs.Prelude.{◌≡◌, false, IfOk};
-ghost use Rattle.libtest_mimic.specs.declared.args.FormatSetting.TheVariants.{Json};
+ghost use Rattle.mimic_args.specs.declared.FormatSetting.TheVariants.{Json};
 ghost use Rattle.libtest_mimic.specs.Arguments.{format_of};
 ghost use Rattle.libtest_mimic.specs.Stopwatch.{IsFresh};
 ghost use Rattle.mimic_events.specs.Contents.{contents_of};

@@ -2,8 +2,8 @@
 use Rattle.std.specs.Prelude.{ℕ, List, Option}
 use Rattle.std.specs.Io.Buffered.{writer_contents}
 use Rattle.std.specs.Io.KnownBytes.{Keeps, append_known}
-use Rattle.libtest_mimic.specs.declared.args.FormatSetting.{FormatSetting}
-use Rattle.libtest_mimic.specs.declared.args.FormatSetting.TheVariants.{Pretty, Terse, Json}
+use Rattle.mimic_args.specs.declared.FormatSetting.{FormatSetting}
+use Rattle.mimic_args.specs.declared.FormatSetting.TheVariants.{Pretty, Terse, Json}
 use Rattle.mimic_output.specs.declared.buffer.Output.{Output}
 use Rattle.mimic_output.specs.declared.buffer.Passing.{Passing}
 use Rattle.mimic_output.specs.declared.buffer.Passing.TheVariants.{Flushes, Lines}

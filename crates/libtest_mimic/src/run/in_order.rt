@@ -1,20 +1,17 @@
 //! Runs trials in the calling thread, one after another.
 ghost use Rattle.std.specs.Prelude.{◌≡◌, ◌-◌, ◌^◌, ◌<◌, [], vec_len};
 ghost use Rattle.std.specs.Bool.{MatchBool};
-ghost use Rattle.libtest_mimic.specs.Promise.{FitsTypes, PromisesOutcome};
-ghost use Rattle.libtest_mimic.specs.Sink.{faults_of};
+ghost use Rattle.mimic_trial.specs.Promise.{FitsTypes, PromisesOutcome};
+ghost use Rattle.mimic_printer.specs.Sink.{faults_of};
 ghost use Rattle.libtest_mimic.specs.Steps.{HasCounted, HasRoomFor, RowsRun, WritesReport};
 ghost use Rattle.libtest_mimic.specs.Stopwatch.{IsRunning};
 
-use crate::args::Arguments;
-use crate::outcome::{Conclusion, Outcome, run_single};
-use crate::printer::Printer;
 use crate::run::tally::Tally;
-use crate::runner::Runner;
 use crate::select::is_ignored;
-use crate::sink::{Sink, WriteFault};
 use crate::stopwatch::{Clock, Stopwatch};
-use crate::trial::Trial;
+use mimic_args::Arguments;
+use mimic_printer::{Printer, Sink, WriteFault};
+use mimic_trial::{Conclusion, Outcome, Runner, Trial, run_single};
 use std::io::Write;
 
 // Runs the trials in their order, and writes the whole report. The watch is stopped directly before

@@ -1,13 +1,11 @@
 //! What a run keeps of the trials that ran: their counts, and those that failed.
 ghost use Rattle.std.specs.Prelude.{ℕ, ◌≡◌, ◌+◌, ◌-◌, ◌^◌, ◌∷◌, ◌++◌, ◌<◌, [], IfOk, IsOk, List, vec_len};
 ghost use Rattle.std.specs.List.{range_with_len};
-ghost use Rattle.libtest_mimic.specs.Report.{failures_text};
-ghost use Rattle.libtest_mimic.specs.Sink.{Puts, faults_of};
+ghost use Rattle.mimic_printer.specs.Report.{failures_text};
+ghost use Rattle.mimic_printer.specs.Sink.{Puts, faults_of};
 
-use crate::outcome::{Conclusion, Outcome};
-use crate::printer::Printer;
-use crate::sink::{Sink, WriteFault};
-use crate::trial::TestInfo;
+use mimic_printer::{Printer, Sink, WriteFault};
+use mimic_trial::{Conclusion, Outcome, TestInfo};
 use std::alloc::{AllocError, Global};
 use std::io::Write;
 
@@ -24,8 +22,8 @@ pub(crate) struct Tally {
 }
 
 impl Tally {
-    ghost use Rattle.libtest_mimic.specs.Steps.{HasRoom};
-    ghost use Rattle.libtest_mimic.specs.Row.{Row, row_of};
+    ghost use Rattle.mimic_trial.specs.Count.{HasRoom};
+    ghost use Rattle.mimic_trial.specs.Row.{Row, row_of};
     ghost use Rattle.libtest_mimic.specs.Steps.{HasCounted, HasRoomFor};
 
     // Nothing is counted yet, and there is room for so many failures.

@@ -3,7 +3,7 @@
 ghost use Rattle.std.specs.Prelude.{◌≡◌, ◌↔◌, ◌+◌, ◌<◌, ◌≤◌, IsTrue, length, slice_index};
 ghost use Rattle.libtest_mimic.specs.Selection.{full_name};
 ghost use Rattle.libtest_mimic.specs.Steps.{OccursBefore, StandsAt};
-ghost use Rattle.libtest_mimic.specs.Text.{kind_part};
+ghost use Rattle.mimic_text.specs.Text.{kind_part};
 
 // Whether the pattern is the full name.
 pub(super) fn is_full_name(pattern: &[u8], kind: &[u8], name: &[u8]) -> bool

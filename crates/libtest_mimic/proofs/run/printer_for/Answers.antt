@@ -1,8 +1,8 @@
 use Rattle.std.proofs.Common.{◌∙◌, ap}
-use Rattle.libtest_mimic.specs.declared.args.FormatSetting.{FormatSetting}
+use Rattle.mimic_args.specs.declared.FormatSetting.{FormatSetting}
 use Rattle.libtest_mimic.specs.Run.{columns_in}
-use Rattle.libtest_mimic.specs.Trial.{labels_of}
-use Rattle.libtest_mimic.specs.Widths.{kind_width_of, name_width_of}
+use Rattle.mimic_trial.specs.Trial.{labels_of}
+use Rattle.mimic_printer.specs.Widths.{kind_width_of, name_width_of}
 use Rattle.libtest_mimic.proofs.InOrder.{Printer-is}
 use Rattle.libtest_mimic.proofs.run.printer_for.Goals as goal
 

@@ -1,8 +1,8 @@
 use Rattle.std.proofs.Common.{◌∙◌, ap, ℕ, subst}
-use Rattle.libtest_mimic.specs.declared.printer.Printer.{Printer}
+use Rattle.mimic_printer.specs.declared.Printer.{Printer}
 use Rattle.libtest_mimic.specs.Run.{printer_for}
 use Rattle.libtest_mimic.specs.Steps.{StoppedReport, WroteReport}
-use Rattle.libtest_mimic.specs.Trial.{labels_of}
+use Rattle.mimic_trial.specs.Trial.{labels_of}
 use Rattle.libtest_mimic.proofs.InOrder.{reported, started}
 use Rattle.libtest_mimic.proofs.run.run_selected.Goals as goal
 

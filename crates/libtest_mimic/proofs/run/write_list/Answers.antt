@@ -1,4 +1,4 @@
-use Rattle.libtest_mimic.proofs.Appending.{Stopped_after}
+use Rattle.mimic_printer.proofs.Appending.{Stopped_after}
 use Rattle.libtest_mimic.proofs.Answered.{WritesList-stopped}
 use Rattle.libtest_mimic.proofs.run.write_list.Goals as goal
 

@@ -1,5 +1,5 @@
 use Rattle.std.proofs.Common.{◌≡◌, None, rules}
-use Rattle.libtest_mimic.specs.declared.outcome.Outcome.TheVariants.{Passed, Failed, Ignored}
+use Rattle.mimic_trial.specs.declared.outcome.Outcome.TheVariants.{Passed, Failed, Ignored}
 use Rattle.mimic_events.specs.Parts.{tail}
 use Rattle.mimic_events.proofs.EndedLines.{is_passed, is_ignored, is_failed}
 use Rattle.mimic_events.proofs.lines.tested.Goals as goal

@@ -1,11 +1,11 @@
 use Rattle.std.proofs.Common.{◌≡◌, ◌∙◌, ◌+◌, ◌++◌, ◌∷◌, ◌<◌, [], ap, append_assoc, arith, length, length-append, subst, sym, vec_len}
 use Rattle.std.proofs.lemmas.Result.{MatchResult-from_err}
 use Rattle.std.specs.Vec.Iter.{into_iter_items}
-use Rattle.libtest_mimic.specs.Report.{announcement_text}
-use Rattle.libtest_mimic.specs.Row.{Label, label_of, row_of}
-use Rattle.libtest_mimic.specs.Sink.{Stopped}
+use Rattle.mimic_printer.specs.Report.{announcement_text}
+use Rattle.mimic_trial.specs.Row.{Label, label_of, row_of}
+use Rattle.mimic_printer.specs.Sink.{Stopped}
 use Rattle.libtest_mimic.specs.Steps.{RowsStopped, RowsWritten}
-use Rattle.libtest_mimic.proofs.Appending.{Put-Stopped, Stopped-more}
+use Rattle.mimic_printer.proofs.Appending.{Put-Stopped, Stopped-more}
 use Rattle.libtest_mimic.proofs.RowsInOrder.{HasRoom-tally, HasRoomFor-tally, IsOwn-from_runner, label_at-next, longer, OwnRows-push, OwnRows-seen, Put-row, Stopped-row}
 use Rattle.libtest_mimic.proofs.run.in_order.run_rows.Goals as goal
 

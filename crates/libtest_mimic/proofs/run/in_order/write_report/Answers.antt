@@ -1,10 +1,10 @@
 use Rattle.std.proofs.Common.{◌∙◌, arith, subst, sym, ℕ}
 use Rattle.std.proofs.lemmas.Result.{MatchResult-from_err}
-use Rattle.libtest_mimic.specs.declared.outcome.conclusion.Conclusion.{Conclusion}
-use Rattle.libtest_mimic.specs.Report.{summary_text, title_text}
-use Rattle.libtest_mimic.specs.Sink.{Put, Stopped}
+use Rattle.mimic_trial.specs.declared.outcome.conclusion.Conclusion.{Conclusion}
+use Rattle.mimic_printer.specs.Report.{summary_text, title_text}
+use Rattle.mimic_printer.specs.Sink.{Put, Stopped}
 use Rattle.libtest_mimic.specs.Steps.{StoppedReport, WroteReport}
-use Rattle.libtest_mimic.proofs.Appending.{Put_after, Stopped_after}
+use Rattle.mimic_printer.proofs.Appending.{Put_after, Stopped_after}
 use Rattle.libtest_mimic.proofs.WholeReport.{no_time, put_report, some_rows, some_title, some_told, some_whole, stopped_failures, stopped_summary, told}
 use Rattle.libtest_mimic.proofs.run.in_order.write_report.Goals as goal
 

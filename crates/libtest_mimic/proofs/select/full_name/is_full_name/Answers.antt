@@ -2,7 +2,7 @@ use Rattle.std.proofs.Common.{arith, rules, ◌≡◌, length}
 use Rattle.std.proofs.lemmas.Bool.Decides.{Decides-eqb}
 use Rattle.std.proofs.lemmas.Slice.Eq.{slice_eq-Decides}
 use Rattle.libtest_mimic.specs.Steps.{StandsAt}
-use Rattle.libtest_mimic.specs.Text.{kind_part}
+use Rattle.mimic_text.specs.Text.{kind_part}
 use Rattle.libtest_mimic.proofs.FullName.{parts_of, whole_parts, parts_whole}
 use Rattle.libtest_mimic.proofs.select.full_name.is_full_name.Goals as goal
 

@@ -2,7 +2,7 @@ use Rattle.std.proofs.Common.{arith, rules, ◌≡◌, ◌+◌, ◌≤◌, true,
 use Rattle.std.proofs.lemmas.Bool.Decides.{Decides-eqb}
 use Rattle.std.proofs.lemmas.Slice.Eq.{starts_is}
 use Rattle.libtest_mimic.specs.Steps.{StandsAt}
-use Rattle.libtest_mimic.specs.Text.{kind_part}
+use Rattle.mimic_text.specs.Text.{kind_part}
 use Rattle.libtest_mimic.proofs.FullName.{parts_of, stands_short, stands_past, past_stands}
 use Rattle.libtest_mimic.proofs.select.full_name.stands_at.Goals as goal
 

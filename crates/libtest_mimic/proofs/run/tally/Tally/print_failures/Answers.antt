@@ -1,8 +1,8 @@
 use Rattle.std.proofs.Common.{All, ◌≡◌, ◌∙◌, ◌<◌, ap, ap₂, length, List, ℕ, subst, sym, vec_len}
-use Rattle.libtest_mimic.specs.Report.{failures_text}
-use Rattle.libtest_mimic.specs.Sink.{Puts}
-use Rattle.libtest_mimic.specs.Steps.{rows_from}
-use Rattle.libtest_mimic.proofs.FailedRows.{failures_text-failed, kept_rows, within_range}
+use Rattle.mimic_printer.specs.Report.{failures_text}
+use Rattle.mimic_printer.specs.Sink.{Puts}
+use Rattle.mimic_trial.specs.Row.{rows_from}
+use Rattle.mimic_printer.proofs.FailedRows.{failures_text-failed, kept_rows, within_range}
 use Rattle.libtest_mimic.proofs.run.tally.Tally.print_failures.Goals as goal
 
 pub print_failures-requires-clause-places : goal.print_failures-requires-clause-places

@@ -1,12 +1,12 @@
 use Rattle.std.proofs.Common.{◌≡◌, ◌∙◌, ◌+◌, ◌++◌, ◌∷◌, [], ℕ, ap, ap₂, arith, length, sym, zero-add, vec_len}
 use Rattle.std.proofs.lemmas.List.FromFn.{length-range_with_len}
 use Rattle.std.specs.List.{range_with_len}
-use Rattle.libtest_mimic.specs.Count.{is_failed}
-use Rattle.libtest_mimic.specs.Steps.{counted}
-use Rattle.libtest_mimic.specs.Row.{row_of}
-use Rattle.libtest_mimic.specs.Steps.{rows_from}
-use Rattle.libtest_mimic.proofs.Counting.{counts-row}
-use Rattle.libtest_mimic.proofs.FailedRows.{range-push, rows_from-push, failed-push}
+use Rattle.mimic_trial.specs.Count.{is_failed}
+use Rattle.mimic_trial.specs.Count.{counted}
+use Rattle.mimic_trial.specs.Row.{row_of}
+use Rattle.mimic_trial.specs.Row.{rows_from}
+use Rattle.mimic_trial.proofs.Counting.{counts-row}
+use Rattle.mimic_printer.proofs.FailedRows.{range-push, rows_from-push, failed-push}
 use Rattle.libtest_mimic.proofs.run.tally.Tally.record.Goals as goal
 
 pub push_reserved-requires : goal.push_reserved-requires

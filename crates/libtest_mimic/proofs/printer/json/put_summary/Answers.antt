@@ -1,6 +1,0 @@
-use Rattle.libtest_mimic.specs.Json.{json_summary}
-use Rattle.libtest_mimic.proofs.printer.json.put_summary.Goals as goal
-
-pub returns : goal.returns
-unfolding json_summary
-returns g c = rw (← c.verdict.ensures) c.put_pieces.ensures

@@ -1,7 +1,0 @@
-use Rattle.std.proofs.Common.{take}
-use Rattle.libtest_mimic.specs.Sink.{Put}
-use Rattle.libtest_mimic.specs.Steps.{pieces_text}
-use Rattle.libtest_mimic.proofs.printer.piece.put_each.Given as goal
-
-abbrev pub invariant-loop-piece : goal.invariant-loop-piece
-invariant-loop-piece g l = Put g.W.Write.contents l.initial.sink l.sink (pieces_text (take l.piece-index l.pieces))

@@ -1,9 +1,0 @@
-use Rattle.std.proofs.Common.{length}
-use Rattle.libtest_mimic.proofs.Escaping.{EscapedSoFar}
-use Rattle.libtest_mimic.proofs.printer.piece.put_escaped.Given as goal
-
-abbrev pub invariant-loop-at : goal.invariant-loop-at
-invariant-loop-at g l = EscapedSoFar g.W.Write.contents l.initial.sink l.sink l.text l.rest
-
-abbrev pub decreases-loop-at : goal.decreases-loop-at
-decreases-loop-at g l = length l.rest

@@ -1,0 +1,89 @@
+-- What each field of the arguments is, by what a parsed line holds under the id of its option. An entry is an id with the
+-- texts of its uses, as `clap` answers them.
+use Rattle.std.specs.Prelude.{◌≡◌, is_some, ◌<◌, ◌^◌, ℕ, Bool, true, false, List, [], Option, Some, None, codes, map, option_map, option_and_then, unwrap_or, if◌then◌else◌}
+use Rattle.std.specs.Str.{bytes_eq}
+use Rattle.std.specs.Str.Parse.{IsNumeral, digits_value, without_leading_plus}
+use Rattle.std.specs.String.{string_bytes}
+use Rattle.std.specs.Option.{option_map_or}
+use Rattle.clap.specs.Words.{Row, all_of, first_of, found_of, rows_of}
+use Rattle.clap.specs.declared.parser.matches.ArgMatches.{ArgMatches}
+use Rattle.mimic_args.specs.declared.Arguments.{Arguments}
+use Rattle.mimic_args.specs.declared.ColorSetting.{ColorSetting}
+use Rattle.mimic_args.specs.declared.ColorSetting.TheVariants.{Auto, Always, Never}
+use Rattle.mimic_args.specs.declared.FormatSetting.{FormatSetting}
+use Rattle.mimic_args.specs.declared.FormatSetting.TheVariants.{Pretty, Terse, Json}
+use Rattle.mimic_args.specs.declared.UnstableFlags.{UnstableFlags}
+use Rattle.mimic_args.specs.declared.UnstableFlags.TheVariants.{UnstableOptions}
+
+-- the entries that a parsed line holds
+abbrev pub entries_of : ArgMatches → List Row
+entries_of m = rows_of (found_of m)
+
+-- the first text under an id, if there is one
+abbrev pub first_text : List Row → List ℕ → Option (List ℕ)
+first_text f id = first_of id f
+
+-- the texts under an id, of all its uses
+abbrev pub texts_of : List Row → List ℕ → List (List ℕ)
+texts_of f id = unwrap_or (all_of id f) []
+
+-- whether a flag is set
+abbrev pub is_set : List Row → List ℕ → Bool
+is_set f id = option_map_or (λ t. bytes_eq t (codes "true")) (first_text f id) false
+
+-- the setting of this name (the Rust crate's)
+abbrev pub color_named : List ℕ → Option ColorSetting
+color_named t = if bytes_eq t (codes "auto") then Some Auto
+    else (if bytes_eq t (codes "always") then Some Always
+    else (if bytes_eq t (codes "never") then Some Never else None))
+
+-- the format of this name (the Rust crate's)
+abbrev pub format_named : List ℕ → Option FormatSetting
+format_named t = if bytes_eq t (codes "pretty") then Some Pretty
+    else (if bytes_eq t (codes "terse") then Some Terse
+    else (if bytes_eq t (codes "json") then Some Json else None))
+
+-- the one thing that `-Z` may ask for (the Rust crate's)
+abbrev pub unstable_named : List ℕ → Option UnstableFlags
+unstable_named t = if bytes_eq t (codes "unstable-options") then Some UnstableOptions else None
+
+-- the text is a whole number below 2^64 in decimal; a plus may stand first (Rust's `usize::from_str`)
+abbrev pub IsNumber : List ℕ → Type 0
+IsNumber t = IsNumeral 10 (without_leading_plus t) × (digits_value 10 (without_leading_plus t) < 2 ^ 64)
+
+-- r is the number that the text is, and nothing where it is none
+abbrev pub IsNumberOf : Option (List ℕ) → Option ℕ → Type 0
+IsNumberOf None r = r ≡ None
+IsNumberOf (Some t) (Some n) = IsNumber t × (n ≡ digits_value 10 (without_leading_plus t))
+IsNumberOf (Some t) None = IsNumber t → ⊥
+
+-- each field is what the matches hold for its id
+pub record IsReadFrom (f : List Row) (a : Arguments) : Type 0 where
+  pub include_ignored : a.include_ignored ≡ is_set f (codes "include-ignored")
+  pub ignored : a.ignored ≡ is_set f (codes "ignored")
+  pub test : a.test ≡ is_set f (codes "test")
+  pub bench : a.bench ≡ is_set f (codes "bench")
+  pub list : a.list ≡ is_set f (codes "list")
+  pub nocapture : a.nocapture ≡ is_set f (codes "nocapture")
+  pub show_output : a.show_output ≡ is_set f (codes "show-output")
+  pub exact : a.exact ≡ is_set f (codes "exact")
+  pub quiet : a.quiet ≡ is_set f (codes "quiet")
+  pub unstable_flags : a.unstable_flags ≡ option_and_then unstable_named (first_text f (codes "unstable"))
+  pub test_threads : IsNumberOf (first_text f (codes "test-threads")) a.test_threads
+  pub logfile : option_map string_bytes a.logfile ≡ first_text f (codes "logfile")
+  pub skip : map string_bytes a.skip.items ≡ texts_of f (codes "skip")
+  pub color : a.color ≡ option_and_then color_named (first_text f (codes "color"))
+  pub format : a.format ≡ option_and_then format_named (first_text f (codes "format"))
+  pub filter : option_map string_bytes a.filter ≡ first_text f (codes "filter")
+
+-- each value that has a reader passed it: the field is absent only where no value was given
+pub record HasPassed (f : List Row) (a : Arguments) : Type 0 where
+  pub unstable : is_some (first_text f (codes "unstable")) ≡ is_some a.unstable_flags
+  pub color : is_some (first_text f (codes "color")) ≡ is_some a.color
+  pub format : is_some (first_text f (codes "format")) ≡ is_some a.format
+  pub test_threads : is_some (first_text f (codes "test-threads")) ≡ is_some a.test_threads
+
+-- tests and benchmarks are not both asked for, nor the terse format beside another
+pub record IsFreeOfConflicts (f : List Row) (a : Arguments) : Type 0 where
+  pub sort : a.test ≡ true → a.bench ≡ false
+  pub format : a.quiet ≡ true → first_text f (codes "format") ≡ None

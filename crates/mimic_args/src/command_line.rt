@@ -1,0 +1,133 @@
+//! Reads arguments from a command line.
+ghost use Rattle.std.specs.Prelude.{◌≡◌, ◌<◌, IfOk, IsTrue, List, length, map};
+ghost use Rattle.clap.specs.Words.{Row, app_of};
+ghost use Rattle.clap.specs.declared.builder.value_parser.ValueParser.{ValueParser};
+ghost use Rattle.mimic_args.specs.CommandLine.{IsMeaningOf, harness_app};
+ghost use Rattle.mimic_args.specs.Matched.{HasPassed, IsFreeOfConflicts, IsReadFrom, entries_of};
+
+use crate::declared::{
+    color, filter, format, logfile, skip, test_threads, unstable, with, with_flags,
+};
+use crate::matched::{
+    color_of, format_of, is_set, text_of, text_under, texts_of, threads_of, unstable_of,
+};
+use crate::{Arguments, ArgumentsError};
+use clap::error::ErrorKind;
+use clap::{ArgMatches, Command};
+use std::alloc::{AllocError, Global};
+use std::convert::AsStr;
+use std::rt::Env;
+use std::{env, io};
+
+impl Arguments {
+    /// The options of a harness, declared to `clap`. A line may not use `--test` with `--bench`, nor
+    /// `--quiet` with `--format`.
+    pub fn command<'a>(alloc: Global) -> Result<Command<'a>, AllocError>
+        ensures { IfOk result (λ r. (u : ValueParser) × (c : ValueParser) × (f : ValueParser)
+            × (app_of r ≡ harness_app u c f)) }
+    {
+        let c = with_flags(alloc)?;
+        let c = with(c, unstable(alloc))?;
+        let c = with(c, test_threads(alloc))?;
+        let c = with(c, logfile(alloc))?;
+        let c = with(c, skip(alloc))?;
+        let c = with(c, color(alloc))?;
+        let c = with(c, format(alloc))?;
+        let c = with(c, filter(alloc))?;
+        Ok(c)
+    }
+
+    /// What the matches hold, each field under the id of its option. A text that names nothing, or is no
+    /// number, gives `None`.
+    pub fn from_matches(alloc: Global, matches: &ArgMatches<'_>) -> Result<Arguments, AllocError>
+        ensures { IfOk result (λ a. IsReadFrom (entries_of matches.now) a) }
+    {
+        Ok(Arguments {
+            include_ignored: is_set(matches, "include-ignored"),
+            ignored: is_set(matches, "ignored"),
+            test: is_set(matches, "test"),
+            bench: is_set(matches, "bench"),
+            list: is_set(matches, "list"),
+            nocapture: is_set(matches, "nocapture"),
+            show_output: is_set(matches, "show-output"),
+            unstable_flags: unstable_of(matches),
+            exact: is_set(matches, "exact"),
+            quiet: is_set(matches, "quiet"),
+            test_threads: threads_of(matches),
+            logfile: text_of(alloc, matches, "logfile")?,
+            skip: texts_of(alloc, matches, "skip")?,
+            color: color_of(matches),
+            format: format_of(matches),
+            filter: text_of(alloc, matches, "filter")?,
+        })
+    }
+
+    /// The arguments that the words give, of which the first is the program's name.
+    ///
+    /// `Help` is answered where help is asked, and `Refused` where the line can't be read.
+    pub fn from_iter<S: AsStr>(alloc: Global, words: &[S]) -> Result<Arguments, ArgumentsError>
+        requires { 0 < length words.now }
+        ensures { IfOk result (λ a. IsMeaningOf (map S.text words.now) a) }
+    {
+        let matches = match Arguments::command(alloc)?.try_get_matches_from(words) {
+            Ok(matches) => matches,
+            Err(error) => return Err(refusal(alloc, &error)?),
+        };
+        let args = Arguments::from_matches(alloc, &matches)?;
+        if !have_passed(&matches, &args) {
+            return Err(refused(alloc, "the arguments exclude one another")?);
+        }
+        Ok(args)
+    }
+
+    /// The arguments of the program, by the words that the runtime hands in.
+    ///
+    /// `Refused` with the text `cannot read the arguments` is answered too where a word is not UTF-8, or there is
+    /// none.
+    pub fn from_args<R: Env + AllocGlobal>(
+        rt: &R,
+        alloc: Global,
+    ) -> Result<Arguments, ArgumentsError>
+        ensures { IfOk result (λ a. (f : List Row) × IsReadFrom f a × HasPassed f a × IsFreeOfConflicts f a) }
+    {
+        let args = match env::args(rt) {
+            Ok(args) => args,
+            Err(error) if error.kind() == io::ErrorKind::OutOfMemory => {
+                return Err(ArgumentsError::OutOfMemory);
+            }
+            Err(_) => return Err(refused(alloc, "cannot read the arguments")?),
+        };
+        let words: Vec<String> = args.collect(alloc)?;
+        if words.is_empty() {
+            return Err(refused(alloc, "cannot read the arguments")?);
+        }
+        Arguments::from_iter(alloc, words.as_slice())
+    }
+}
+
+// Whether what was declared to `clap` holds: each value passed its reader, and nothing excludes another.
+fn have_passed(matches: &ArgMatches<'_>, args: &Arguments) -> bool
+    ensures { IsTrue result → HasPassed (entries_of matches.now) args.now × IsFreeOfConflicts (entries_of matches.now) args.now }
+{
+    let is_format = text_under(matches, "format").is_some();
+    if args.test && args.bench || args.quiet && is_format {
+        return false;
+    }
+    let is_read = is_format == args.format.is_some();
+    let is_named = text_under(matches, "unstable").is_some() == args.unstable_flags.is_some();
+    let is_color = text_under(matches, "color").is_some() == args.color.is_some();
+    let is_number = text_under(matches, "test-threads").is_some() == args.test_threads.is_some();
+    is_read && is_named && is_color && is_number
+}
+
+fn refused(alloc: Global, text: &str) -> Result<ArgumentsError, AllocError> {
+    Ok(ArgumentsError::Refused(String::from_str(alloc, text)?))
+}
+
+fn refusal(alloc: Global, error: &clap::Error) -> Result<ArgumentsError, AllocError> {
+    match error.kind() {
+        ErrorKind::OutOfMemory => Ok(ArgumentsError::OutOfMemory),
+        ErrorKind::DisplayHelp => Ok(ArgumentsError::Help(error.to_string(alloc)?)),
+        _ => Ok(ArgumentsError::Refused(error.to_string(alloc)?)),
+    }
+}

@@ -1,0 +1,174 @@
+//! What is asked of a run.
+#![tactic(auto)]
+
+ghost use Rattle.std.specs.Prelude.{◌≡◌, IfOk, map, option_map, string_bytes};
+
+mod command_line;
+mod declared;
+mod error;
+mod matched;
+
+pub use error::ArgumentsError;
+use std::alloc::{AllocError, Global};
+
+/// When a report has colours.
+#[derive(Clone, Copy, Debug, Default, PartialEq, Eq)]
+pub enum ColorSetting {
+    /// Where the caller of a run says so and no logfile is set.
+    #[default]
+    Auto,
+    /// Always, but in formats that have no colour.
+    Always,
+    /// Never.
+    Never,
+}
+
+/// How a report is written.
+#[derive(Clone, Copy, Debug, Default, PartialEq, Eq)]
+pub enum FormatSetting {
+    /// One line for each trial.
+    #[default]
+    Pretty,
+    /// One character for each trial, and one line for each measurement.
+    Terse,
+    /// One object on each line, which tools read: two for each trial, and two more.
+    Json,
+}
+
+/// What `-Z` may ask for. It has no effect.
+#[derive(Clone, Copy, Debug, PartialEq, Eq)]
+pub enum UnstableFlags {
+    /// `unstable-options`.
+    UnstableOptions,
+}
+
+/// What is asked of a run.
+#[derive(Debug, Drop)]
+pub struct Arguments {
+    /// Run ignored trials too.
+    pub include_ignored: bool,
+    /// Run ignored trials alone.
+    pub ignored: bool,
+    /// Run tests and ignore benchmarks.
+    pub test: bool,
+    /// Run and measure benchmarks, and ignore tests.
+    pub bench: bool,
+    /// List the trials and run none.
+    pub list: bool,
+    /// Has no effect: output isn't captured.
+    pub nocapture: bool,
+    /// Has no effect: output isn't captured.
+    pub show_output: bool,
+    /// Has no effect.
+    pub unstable_flags: Option<UnstableFlags>,
+    /// The filter and the skip patterns match where they are the name or the full name, and not its parts.
+    pub exact: bool,
+    /// Ask for the terse format, whatever `format` says.
+    pub quiet: bool,
+    /// How many threads are to run trials. It has no effect yet.
+    pub test_threads: Option<usize>,
+    /// The path of the file that gets the report. The caller of a run opens it.
+    pub logfile: Option<String>,
+    /// Patterns of trials that are left out.
+    pub skip: Vec<String>,
+    /// When the report has colours.
+    pub color: Option<ColorSetting>,
+    /// How the report is written.
+    pub format: Option<FormatSetting>,
+    /// The pattern of the trials that are run.
+    pub filter: Option<String>,
+}
+
+impl Arguments {
+    ghost use Rattle.mimic_args.specs.Arguments.{format_of, colours_of, AsksNothing, HasSameFields};
+
+    /// Asks for nothing: each flag is false, each option `None`, and no pattern is skipped.
+    pub fn new(alloc: Global) -> Self
+        ensures { AsksNothing result }
+    {
+        Arguments {
+            include_ignored: false,
+            ignored: false,
+            test: false,
+            bench: false,
+            list: false,
+            nocapture: false,
+            show_output: false,
+            unstable_flags: None,
+            exact: false,
+            quiet: false,
+            test_threads: None,
+            logfile: None,
+            skip: Vec::new(alloc),
+            color: None,
+            format: None,
+            filter: None,
+        }
+    }
+
+    /// Arguments with the same fields.
+    pub fn try_clone(&self, alloc: Global) -> Result<Self, AllocError>
+        ensures { IfOk result (λ a. HasSameFields self.now a) }
+    {
+        Ok(Arguments {
+            include_ignored: self.include_ignored,
+            ignored: self.ignored,
+            test: self.test,
+            bench: self.bench,
+            list: self.list,
+            nocapture: self.nocapture,
+            show_output: self.show_output,
+            unstable_flags: self.unstable_flags,
+            exact: self.exact,
+            quiet: self.quiet,
+            test_threads: self.test_threads,
+            logfile: copied(alloc, &self.logfile)?,
+            skip: all_copied(alloc, &self.skip)?,
+            color: self.color,
+            format: self.format,
+            filter: copied(alloc, &self.filter)?,
+        })
+    }
+
+    /// The format of the report: terse with `quiet`, else `format`, else pretty.
+    pub fn format_used(&self) -> FormatSetting
+        ensures { result ≡ format_of self.now }
+    {
+        if self.quiet {
+            FormatSetting::Terse
+        } else {
+            self.format.unwrap_or_default()
+        }
+    }
+
+    /// Whether the report has colours. `auto` is what the caller says where the setting is `Auto` or
+    /// isn't there: whether the report goes to a terminal that shows colours.
+    pub fn colours(&self, auto: bool) -> bool
+        ensures { result ≡ colours_of self.now auto }
+    {
+        match self.color.unwrap_or_default() {
+            ColorSetting::Auto => auto && self.logfile.is_none(),
+            ColorSetting::Always => true,
+            ColorSetting::Never => false,
+        }
+    }
+}
+
+fn copied(alloc: Global, text: &Option<String>) -> Result<Option<String>, AllocError>
+    ensures { IfOk result (λ t. option_map string_bytes t ≡ option_map string_bytes text.now) }
+{
+    match text {
+        Some(text) => Ok(Some(String::from_str(alloc, text.as_str())?)),
+        None => Ok(None),
+    }
+}
+
+fn all_copied(alloc: Global, texts: &Vec<String>) -> Result<Vec<String>, AllocError>
+    ensures { IfOk result (λ all. map string_bytes all.items ≡ map string_bytes texts.now.items) }
+{
+    let mut all = Vec::new(alloc);
+    for text in texts {
+        all.push(String::from_str(alloc, text.as_str())?)?;
+    }
+    Ok(all)
+}

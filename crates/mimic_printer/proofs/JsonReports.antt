@@ -1,0 +1,45 @@
+-- A report in JSON, by its rows and by its entries.
+use Rattle.std.proofs.Common.{◌≡◌, ℕ, List, [], ◌∷◌, ◌++◌, length, map, refl, sym, ap, ap₂, ◌∙◌, append-nil}
+use Rattle.std.specs.List.{concat, flat_map}
+use Rattle.std.proofs.lemmas.List.{length-map}
+use Rattle.mimic_args.specs.declared.FormatSetting.{FormatSetting}
+use Rattle.mimic_args.specs.declared.FormatSetting.TheVariants.{Json}
+use Rattle.mimic_printer.specs.declared.Printer.{Printer}
+use Rattle.mimic_trial.specs.Count.{counts_of}
+use Rattle.mimic_printer.specs.Json.{Contents, Entry, entry_lines, entry_of, json_report, json_summary, json_title}
+use Rattle.mimic_printer.specs.Report.{announcement_in, failures_in, outcome_in, report_text, summary_in, title_in}
+use Rattle.mimic_trial.specs.Row.{Row, outcomes_of}
+
+-- what a report of these rows tells
+abbrev pub contents_of : List Row → ℕ → ℕ → Contents
+contents_of rows filtered_out nanos = record { entries = map entry_of rows; filtered_out = filtered_out; nanos = nanos }
+
+-- the text of a row in a format
+abbrev row_in : FormatSetting → Printer → Row → List ℕ
+row_in f p row = announcement_in f p row.label ++ outcome_in f p row.label row.outcome
+
+rows_as_entries : (p : Printer) (rows : List Row) → flat_map (row_in Json p) rows ≡ flat_map entry_lines (map entry_of rows)
+rows_as_entries p [] = refl
+rows_as_entries p (row ∷ rows) =
+    ap₂ (λ a b. a ++ b) (ap (λ l. announcement_in Json p row.label ++ l) (sym (append-nil (outcome_in Json p row.label row.outcome)))) (rows_as_entries p rows)
+
+same_outcomes : (rows : List Row) → outcomes_of rows ≡ map (λ (entry : Entry). entry.outcome) (map entry_of rows)
+same_outcomes [] = refl
+same_outcomes (row ∷ rows) = ap (λ l. row.outcome ∷ l) (same_outcomes rows)
+
+-- the parts of a report in a format
+abbrev parts_in : FormatSetting → Printer → List Row → ℕ → ℕ → List ℕ
+parts_in f p rows filtered_out nanos =
+    concat (title_in f (length rows) ∷ flat_map (row_in f p) rows ∷ failures_in f rows ∷ summary_in f p (counts_of (outcomes_of rows) filtered_out) nanos ∷ [])
+
+parts_in_json : (p : Printer) (rows : List Row) (filtered_out nanos : ℕ) → parts_in Json p rows filtered_out nanos ≡ json_report (contents_of rows filtered_out nanos)
+unfolding json_report
+parts_in_json p rows filtered_out nanos =
+    let count : length rows ≡ length (map entry_of rows) = sym (length-map rows entry_of) in
+    ap₂ (λ a b. a ++ b) (ap json_title count)
+    (ap₂ (λ a b. a ++ b) (rows_as_entries p rows) (ap (λ os. json_summary (counts_of os filtered_out) nanos ++ []) (same_outcomes rows)))
+
+-- a report in JSON is the one text of what it tells
+pub report_is_json : (p : Printer) (rows : List Row) (filtered_out nanos : ℕ) → p.format ≡ Json → report_text p rows filtered_out nanos ≡ json_report (contents_of rows filtered_out nanos)
+unfolding report_text
+report_is_json p rows filtered_out nanos h = ap (λ f. parts_in f p rows filtered_out nanos) h ∙ parts_in_json p rows filtered_out nanos

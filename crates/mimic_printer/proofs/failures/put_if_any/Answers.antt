@@ -1,0 +1,18 @@
+use Rattle.std.proofs.Common.{sym, ◌∙◌, subst, map, List, ℕ}
+use Rattle.mimic_trial.specs.Row.{label_of}
+use Rattle.mimic_printer.specs.Sink.{Put, Puts}
+use Rattle.mimic_printer.proofs.Appending.{Put-refl}
+use Rattle.mimic_printer.proofs.FailedRows.{failures-some, failures-none}
+use Rattle.mimic_printer.proofs.failures.put_if_any.Goals as goal
+
+pub returns-then-any_failed : goal.returns-then-any_failed
+returns-then-any_failed g c =
+    let any = sym c.any_failed.ensures ∙ c.if-any_failed.true in
+    let P : List ℕ → Type 0 = λ l. Puts g.W.Write.contents c.args.sink.now c.put_failures.new.sink l c.put_failures.result in
+    subst P (sym (failures-some (map label_of c.args.infos.now) c.args.outcomes.now c.args.order.now any)) c.put_failures.ensures
+
+pub returns-else-any_failed : goal.returns-else-any_failed
+returns-else-any_failed g c =
+    let none = sym c.any_failed.ensures ∙ c.if-any_failed.false in
+    let P : List ℕ → Type 0 = λ l. Put g.W.Write.contents c.args.sink.now c.args.sink.now l in
+    subst P (sym (failures-none (map label_of c.args.infos.now) c.args.outcomes.now c.args.order.now none)) (Put-refl g.W.Write.contents c.args.sink.now)

@@ -1,0 +1,6 @@
+pub mod Sink
+pub mod Widths
+pub mod Json
+pub mod Report
+pub mod List
+pub mod Steps

@@ -1,0 +1,177 @@
+-- The texts of a report, part by part. Where no other source is named, a text is the Rust crate's.
+use Rattle.std.specs.Prelude.{ℕ, ◌/◌, ◌%◌, ◌==◌, nat_lt, if◌then◌else◌, List, [], ◌∷◌, ◌++◌, length, codes, decimal, Option, None, Some}
+use Rattle.std.specs.List.{concat, flat_map, list_any}
+use Rattle.mimic_args.specs.declared.FormatSetting.{FormatSetting}
+use Rattle.mimic_args.specs.declared.FormatSetting.TheVariants.{Pretty, Terse, Json}
+use Rattle.mimic_printer.specs.declared.Printer.{Printer}
+use Rattle.mimic_trial.specs.declared.outcome.Outcome.{Outcome}
+use Rattle.mimic_trial.specs.declared.outcome.Outcome.TheVariants.{Passed, Failed, Ignored, Measured}
+use Rattle.mimic_trial.specs.declared.outcome.conclusion.Conclusion.{Conclusion}
+use Rattle.mimic_text.specs.Text.{padded, right_aligned, kind_part, grouped, nearest_hundredths, two_digits}
+use Rattle.mimic_printer.specs.Json.{json_announcement, json_outcome, json_summary, json_title}
+use Rattle.mimic_trial.specs.Row.{Label, Row, outcomes_of}
+use Rattle.mimic_trial.specs.Count.{is_failed, counts_of}
+
+-- ---- colours
+
+-- the escape sequence that begins an outcome's colour: green, red, yellow, cyan
+abbrev pub colour_sequence : Outcome → List ℕ
+colour_sequence Passed = 27 ∷ codes "[32m"
+colour_sequence (Failed f) = 27 ∷ codes "[31m"
+colour_sequence Ignored = 27 ∷ codes "[33m"
+colour_sequence (Measured m) = 27 ∷ codes "[36m"
+
+-- what stands directly before an outcome's word: the sequence of its colour, where the printer colours
+abbrev pub colour_start : Printer → Outcome → List ℕ
+colour_start p o = if p.colour then colour_sequence o else []
+
+-- what stands directly after it: the sequence that ends every colour
+abbrev pub colour_end : Printer → List ℕ
+colour_end p = if p.colour then 27 ∷ codes "[0m" else []
+
+-- ---- title
+
+abbrev pub noun_text : ℕ → List ℕ
+noun_text n = if n == 1 then codes " test\n" else codes " tests\n"
+
+unfoldable pub running_title : ℕ → List ℕ
+running_title n = concat (codes "\nrunning " ∷ decimal n ∷ noun_text n ∷ [])
+
+abbrev pub title_in : FormatSetting → ℕ → List ℕ
+title_in Pretty n = running_title n
+title_in Terse n = running_title n
+title_in Json n = json_title n
+
+abbrev pub title_text : Printer → ℕ → List ℕ
+title_text p n = title_in p.format n
+
+-- ---- announcement of a trial
+
+unfoldable pub pretty_announcement : Printer → Label → List ℕ
+pretty_announcement p l = concat (codes "test " ∷ padded p.kind_width (kind_part l.kind) ∷ padded p.name_width l.name ∷ codes " ... " ∷ [])
+
+abbrev pub announcement_in : FormatSetting → Printer → Label → List ℕ
+announcement_in Pretty p l = pretty_announcement p l
+announcement_in Terse p l = []
+announcement_in Json p l = json_announcement l.name
+
+abbrev pub announcement_text : Printer → Label → List ℕ
+announcement_text p l = announcement_in p.format p l
+
+-- ---- outcome of a trial
+
+abbrev pub outcome_word : Outcome → List ℕ
+outcome_word Passed = codes "ok"
+outcome_word (Failed f) = codes "FAILED"
+outcome_word Ignored = codes "ignored"
+outcome_word (Measured m) = codes "bench"
+
+-- what stands behind the word: nothing, or what was measured, the average in eleven places
+abbrev pub outcome_tail : Outcome → List ℕ
+outcome_tail Passed = []
+outcome_tail (Failed f) = []
+outcome_tail Ignored = []
+outcome_tail (Measured m) = concat (codes ": " ∷ right_aligned 11 (grouped (decimal m.avg)) ∷ codes " ns/iter (+/- " ∷ grouped (decimal m.variance) ∷ codes ")" ∷ [])
+
+-- the word between its colour's sequences, and what was measured
+unfoldable pub outcome_line : Printer → Outcome → List ℕ
+outcome_line p o = concat (colour_start p o ∷ outcome_word o ∷ colour_end p ∷ outcome_tail o ∷ codes "\n" ∷ [])
+
+-- the one character of an outcome in terse
+unfoldable pub outcome_mark : Printer → Outcome → List ℕ → List ℕ
+outcome_mark p o mark = concat (colour_start p o ∷ mark ∷ colour_end p ∷ [])
+
+-- terse has one character for each outcome but a measurement, which has its whole line
+abbrev pub terse_outcome : Printer → Outcome → List ℕ
+terse_outcome p Passed = outcome_mark p Passed (codes ".")
+terse_outcome p (Failed f) = outcome_mark p (Failed f) (codes "F")
+terse_outcome p Ignored = outcome_mark p Ignored (codes "i")
+terse_outcome p (Measured m) = outcome_line p (Measured m)
+
+abbrev pub outcome_in : FormatSetting → Printer → Label → Outcome → List ℕ
+outcome_in Pretty p l o = outcome_line p o
+outcome_in Terse p l o = terse_outcome p o
+outcome_in Json p l o = json_outcome l.name o
+
+abbrev pub outcome_text : Printer → Label → Outcome → List ℕ
+outcome_text p l o = outcome_in p.format p l o
+
+-- ---- rows
+
+abbrev pub row_text : Printer → Row → List ℕ
+row_text p row = announcement_text p row.label ++ outcome_text p row.label row.outcome
+
+abbrev pub rows_text : Printer → List Row → List ℕ
+rows_text p rows = flat_map (row_text p) rows
+
+-- ---- failures
+
+abbrev pub message_line : Option (List ℕ) → List ℕ
+message_line None = []
+message_line (Some message) = message ++ codes "\n"
+
+-- what is written of the failure of a row, and nothing where it did not fail
+abbrev pub failure_text : Label → Outcome → List ℕ
+failure_text l Passed = []
+failure_text l (Failed f) = concat (codes "---- " ∷ l.name ∷ codes " ----\n" ∷ message_line f ∷ codes "\n" ∷ [])
+failure_text l Ignored = []
+failure_text l (Measured m) = []
+
+-- the line that names a row that failed, and nothing where it did not fail
+abbrev pub failed_name : Label → Outcome → List ℕ
+failed_name l Passed = []
+failed_name l (Failed f) = concat (codes "    " ∷ l.name ∷ codes "\n" ∷ [])
+failed_name l Ignored = []
+failed_name l (Measured m) = []
+
+abbrev pub row_failure : Row → List ℕ
+row_failure row = failure_text row.label row.outcome
+
+abbrev pub row_failed_name : Row → List ℕ
+row_failed_name row = failed_name row.label row.outcome
+
+abbrev pub failures_of : List Row → List ℕ
+failures_of rows = concat (codes "\nfailures:\n\n" ∷ flat_map row_failure rows ∷ codes "\nfailures:\n" ∷ flat_map row_failed_name rows ∷ [])
+
+-- the messages and then the names of the rows that failed, and nothing where none did
+unfoldable pub failures_if_any : List Row → List ℕ
+failures_if_any rows = if list_any is_failed (outcomes_of rows) then failures_of rows else []
+
+-- JSON has the messages in the lines of the outcomes
+abbrev pub failures_in : FormatSetting → List Row → List ℕ
+failures_in Pretty rows = failures_if_any rows
+failures_in Terse rows = failures_if_any rows
+failures_in Json rows = []
+
+abbrev pub failures_text : Printer → List Row → List ℕ
+failures_text p rows = failures_in p.format rows
+
+-- ---- summary
+
+-- the whole run is shown as a failure where a trial failed, else as passed
+abbrev pub verdict_of : ℕ → Outcome
+verdict_of failed = if nat_lt 0 failed then Failed None else Passed
+
+unfoldable pub result_summary : Printer → Conclusion → ℕ → List ℕ
+result_summary p c nanos = concat (
+    codes "\ntest result: " ∷ colour_start p (verdict_of c.num_failed) ∷ outcome_word (verdict_of c.num_failed) ∷ colour_end p ∷ codes ". "
+    ∷ decimal c.num_passed ∷ codes " passed; " ∷ decimal c.num_failed ∷ codes " failed; "
+    ∷ decimal c.num_ignored ∷ codes " ignored; " ∷ decimal c.num_measured ∷ codes " measured; "
+    ∷ decimal c.num_filtered_out ∷ codes " filtered out; finished in "
+    ∷ decimal (nearest_hundredths nanos / 100) ∷ codes "." ∷ two_digits (nearest_hundredths nanos % 100) ∷ codes "s\n\n" ∷ [])
+
+abbrev pub summary_in : FormatSetting → Printer → Conclusion → ℕ → List ℕ
+summary_in Pretty p c nanos = result_summary p c nanos
+summary_in Terse p c nanos = result_summary p c nanos
+summary_in Json p c nanos = json_summary c nanos
+
+abbrev pub summary_text : Printer → Conclusion → ℕ → List ℕ
+summary_text p c nanos = summary_in p.format p c nanos
+
+-- ---- the whole
+
+-- a report of these rows, beside so many trials that were filtered out, of a run that took so many nanoseconds
+unfoldable pub report_text : Printer → List Row → ℕ → ℕ → List ℕ
+report_text p rows filtered_out nanos = concat (
+    title_text p (length rows) ∷ rows_text p rows ∷ failures_text p rows
+    ∷ summary_text p (counts_of (outcomes_of rows) filtered_out) nanos ∷ [])

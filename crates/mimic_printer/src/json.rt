@@ -1,0 +1,153 @@
+//! The lines of a report in JSON.
+ghost use Rattle.std.specs.Prelude.{◌≡◌, ◌-◌, ◌^◌, ◌<◌};
+ghost use Rattle.mimic_printer.specs.Json.{json_announcement, json_failure, json_measurement, json_outcome, json_summary, json_title, json_verdict};
+ghost use Rattle.mimic_printer.specs.Sink.{Puts, faults_of};
+ghost use Rattle.mimic_printer.specs.Steps.{event_line};
+
+use crate::piece::{Piece, put_pieces};
+use crate::sink::{Sink, WriteFault};
+use mimic_trial::{Conclusion, Measurement, Outcome};
+use std::io::Write;
+
+// Writes the line that begins a report.
+#[tactic(auto, unfolding(crate::specs::Json::json_title))]
+pub(super) fn put_title<W: Write>(sink: &mut Sink<W>, num_tests: u64) -> Result<(), WriteFault>
+    requires { faults_of sink.old < 2 ^ 64 - 1 }
+    ensures { Puts W.contents sink.old sink.new (json_title num_tests) result }
+{
+    let pieces = [
+        Piece::Text("{ \"type\": \"suite\", \"event\": \"started\", \"test_count\": "),
+        Piece::Number(num_tests),
+        Piece::Text(" }\n"),
+    ];
+    put_pieces(sink, &pieces)
+}
+
+// Writes the line that announces a trial.
+#[tactic(auto, unfolding(crate::specs::Json::json_announcement))]
+pub(super) fn put_announcement<W: Write>(sink: &mut Sink<W>, name: &str) -> Result<(), WriteFault>
+    requires { faults_of sink.old < 2 ^ 64 - 1 }
+    ensures { Puts W.contents sink.old sink.new (json_announcement name.now) result }
+{
+    let pieces = [
+        Piece::Text("{ \"type\": \"test\", \"event\": \"started\", \"name\": \""),
+        Piece::Escaped(name),
+        Piece::Text("\" }\n"),
+    ];
+    put_pieces(sink, &pieces)
+}
+
+// Writes the line of an outcome.
+pub(super) fn put_outcome<'a, W: Write>(
+    sink: &mut Sink<W>,
+    name: &'a str,
+    outcome: &'a Outcome,
+) -> Result<(), WriteFault>
+    requires { faults_of sink.old < 2 ^ 64 - 1 }
+    ensures { Puts W.contents sink.old sink.new (json_outcome name.now outcome.now) result }
+{
+    match outcome {
+        Outcome::Passed => put_event(sink, name, "\", \"event\": \"ok\" }\n"),
+        Outcome::Ignored => put_event(sink, name, "\", \"event\": \"ignored\" }\n"),
+        Outcome::Measured(measurement) => put_measurement(sink, name, measurement),
+        Outcome::Failed(failed) => match failed.message() {
+            None => put_event(sink, name, "\", \"event\": \"failed\" }\n"),
+            Some(message) => put_failure(sink, name, message),
+        },
+    }
+}
+
+// Writes the line of an outcome that is told in a word: all before the name, the name, and all behind it.
+#[tactic(auto, unfolding(crate::specs::Steps::event_line))]
+fn put_event<'a, W: Write>(
+    sink: &mut Sink<W>,
+    name: &'a str,
+    rest: &'a str,
+) -> Result<(), WriteFault>
+    requires { faults_of sink.old < 2 ^ 64 - 1 }
+    ensures { Puts W.contents sink.old sink.new (event_line name.now rest.now) result }
+{
+    let pieces = [
+        Piece::Text("{ \"type\": \"test\", \"name\": \""),
+        Piece::Escaped(name),
+        Piece::Text(rest),
+    ];
+    put_pieces(sink, &pieces)
+}
+
+#[tactic(auto, unfolding(crate::specs::Json::json_failure))]
+fn put_failure<'a, W: Write>(
+    sink: &mut Sink<W>,
+    name: &'a str,
+    message: &'a str,
+) -> Result<(), WriteFault>
+    requires { faults_of sink.old < 2 ^ 64 - 1 }
+    ensures { Puts W.contents sink.old sink.new (json_failure name.now message.now) result }
+{
+    let pieces = [
+        Piece::Text("{ \"type\": \"test\", \"name\": \""),
+        Piece::Escaped(name),
+        Piece::Text("\", \"event\": \"failed\", \"stdout\": \"Error: \\\""),
+        Piece::Escaped(message),
+        Piece::Text("\\\"\\n\" }\n"),
+    ];
+    put_pieces(sink, &pieces)
+}
+
+#[tactic(auto, unfolding(crate::specs::Json::json_measurement))]
+fn put_measurement<W: Write>(
+    sink: &mut Sink<W>,
+    name: &str,
+    measurement: &Measurement,
+) -> Result<(), WriteFault>
+    requires { faults_of sink.old < 2 ^ 64 - 1 }
+    ensures { Puts W.contents sink.old sink.new (json_measurement name.now measurement.now.avg measurement.now.variance) result }
+{
+    let pieces = [
+        Piece::Text("{ \"type\": \"bench\", \"name\": \""),
+        Piece::Escaped(name),
+        Piece::Text("\", \"median\": "),
+        Piece::Number(measurement.avg),
+        Piece::Text(", \"deviation\": "),
+        Piece::Number(measurement.variance),
+        Piece::Text(" }\n"),
+    ];
+    put_pieces(sink, &pieces)
+}
+
+// Writes the line that ends a report.
+#[tactic(auto, unfolding(crate::specs::Json::json_summary))]
+pub(super) fn put_summary<W: Write>(
+    sink: &mut Sink<W>,
+    conclusion: &Conclusion,
+    nanos: u64,
+) -> Result<(), WriteFault>
+    requires { faults_of sink.old < 2 ^ 64 - 1 }
+    ensures { Puts W.contents sink.old sink.new (json_summary conclusion.now nanos) result }
+{
+    let pieces = [
+        Piece::Text("{ \"type\": \"suite\", \"event\": \""),
+        Piece::Text(verdict(conclusion.num_failed)),
+        Piece::Text("\", \"passed\": "),
+        Piece::Number(conclusion.num_passed),
+        Piece::Text(", \"failed\": "),
+        Piece::Number(conclusion.num_failed),
+        Piece::Text(", \"ignored\": "),
+        Piece::Number(conclusion.num_ignored),
+        Piece::Text(", \"measured\": "),
+        Piece::Number(conclusion.num_measured),
+        Piece::Text(", \"filtered_out\": "),
+        Piece::Number(conclusion.num_filtered_out),
+        Piece::Text(", \"exec_time\": "),
+        Piece::Seconds(nanos),
+        Piece::Text(" }\n"),
+    ];
+    put_pieces(sink, &pieces)
+}
+
+// Whether the whole run failed.
+fn verdict(failed: u64) -> &'static str
+    ensures { result.now ≡ json_verdict failed }
+{
+    if failed > 0 { "failed" } else { "ok" }
+}

@@ -1,0 +1,190 @@
+//! Texts that are written piece by piece, with no memory.
+ghost use Rattle.std.specs.Prelude.{◌≡◌, ◌-◌, ◌^◌, ◌<◌, ◌≤◌, ◌++◌, IfSome, decimal, length, slice_index, take};
+ghost use Rattle.std.specs.Option.{MatchOption};
+ghost use Rattle.mimic_printer.specs.Sink.{Puts, faults_of};
+ghost use Rattle.mimic_text.specs.Escape.{escaped};
+ghost use Rattle.mimic_text.specs.Text.{spaces, right_aligned, grouped, kind_part};
+ghost use Rattle.mimic_printer.specs.Steps.{pieces_text};
+
+use crate::sink::{Sink, WriteFault};
+use itoa::Buffer;
+use mimic_text::{escape_byte, exact_seconds, thousands};
+use std::io::Write;
+
+/// A part of a text.
+#[derive(Clone, Copy)]
+pub(crate) enum Piece<'a> {
+    /// The text itself.
+    Text(&'a str),
+    /// The number in decimal.
+    Number(u64),
+    /// A number below 100 in two digits.
+    TwoDigits(u8),
+    /// So many spaces.
+    Spaces(usize),
+    /// The number with commas between groups of three digits, and spaces before it up to the width.
+    Grouped { number: u64, width: usize },
+    /// The text as it stands between the quotes of a JSON string.
+    Escaped(&'a str),
+    /// Nanoseconds, as seconds in exact decimal.
+    Seconds(u64),
+}
+
+// A text of at most so many bytes, as most rows are, is gathered first and put at once.
+const ROW: usize = 256;
+
+/// Writes the pieces one after another.
+pub(crate) fn put_pieces<W: Write>(
+    sink: &mut Sink<W>,
+    pieces: &[Piece<'_>],
+) -> Result<(), WriteFault>
+    requires { faults_of sink.old < 2 ^ 64 - 1 }
+    ensures { Puts W.contents sink.old sink.new (pieces_text pieces.now) result }
+{
+    let mut row = [0; ROW];
+    match write_row(pieces, &mut row) {
+        Some(len) => sink.put(&row[..len]),
+        None => put_each(sink, pieces),
+    }
+}
+
+// Puts the pieces one after another.
+fn put_each<W: Write>(sink: &mut Sink<W>, pieces: &[Piece<'_>]) -> Result<(), WriteFault>
+    requires { faults_of sink.old < 2 ^ 64 - 1 }
+    ensures { Puts W.contents sink.old sink.new (pieces_text pieces.now) result }
+{
+    for piece in pieces {
+        piece.put(sink)?;
+    }
+    Ok(())
+}
+
+// Gathers the pieces at the front of the row, and answers where they end. `None` where they don't fit, or some piece
+// is no plain text, number or short run of spaces: a row of such pieces is put piece by piece.
+fn write_row(pieces: &[Piece<'_>], row: &mut [u8; ROW]) -> Option<usize>
+    ensures { IfSome result (λ len. (len ≤ 256) × (take len row.new ≡ pieces_text pieces.now)) }
+{
+    let mut len = 0;
+    for piece in pieces {
+        len = piece.write(row, len)?;
+    }
+    Some(len)
+}
+
+// Writes the text behind the first `len` bytes of the row, and answers where it ends. `None` where it doesn't fit.
+fn append(row: &mut [u8; ROW], len: usize, text: &[u8]) -> Option<usize>
+    requires { len ≤ 256 }
+    ensures { IfSome result (λ end. (end ≤ 256) × (take end row.new ≡ take len row.old ++ text.now)) }
+{
+    // Most reports have no colours and no kinds.
+    if text.is_empty() {
+        return Some(len);
+    }
+    let end = len.checked_add(text.len())?;
+    if end > ROW {
+        return None;
+    }
+    row[len..end].copy_from_slice(text);
+    Some(end)
+}
+
+impl Piece<'_> {
+    ghost use Rattle.std.specs.Prelude.{◌≡◌, ◌-◌, ◌^◌, ◌<◌, ◌≤◌, ◌++◌, IfSome, take};
+    ghost use Rattle.mimic_printer.specs.Sink.{Puts, faults_of};
+    ghost use Rattle.mimic_printer.specs.Steps.{piece_text};
+
+    // Writes the piece behind the first `len` bytes of the row, and answers where it ends. `None` as for a row.
+    fn write(self, row: &mut [u8; ROW], len: usize) -> Option<usize>
+        requires { len ≤ 256 }
+        ensures { IfSome result (λ end. (end ≤ 256) × (take end row.new ≡ take len row.old ++ piece_text self.entry)) }
+    {
+        match self {
+            Piece::Text(text) => append(row, len, text.as_bytes()),
+            Piece::Number(number) => append(row, len, Buffer::new().format(number).as_bytes()),
+            Piece::Spaces(count) if count <= SPACES.len() => append(row, len, &SPACES[..count]),
+            Piece::Escaped(text) if next_escape(text.as_bytes()).is_none() => {
+                append(row, len, text.as_bytes())
+            }
+            _ => None,
+        }
+    }
+
+    fn put<W: Write>(self, sink: &mut Sink<W>) -> Result<(), WriteFault>
+        requires { faults_of sink.old < 2 ^ 64 - 1 }
+        ensures { Puts W.contents sink.old sink.new (piece_text self.entry) result }
+    {
+        match self {
+            Piece::Text(text) => sink.put(text.as_bytes()),
+            Piece::Number(number) => sink.put(Buffer::new().format(number).as_bytes()),
+            Piece::TwoDigits(number) => sink.put(&[b'0' + number / 10, b'0' + number % 10]),
+            Piece::Spaces(count) => put_spaces(sink, count),
+            Piece::Grouped { number, width } => put_grouped(sink, number, width),
+            Piece::Escaped(text) => put_escaped(sink, text.as_bytes()),
+            Piece::Seconds(nanos) => sink.put(exact_seconds(nanos, &mut [0; 32]).as_bytes()),
+        }
+    }
+}
+
+// So many spaces are written at once.
+const SPACES: [u8; 32] = [b' '; 32];
+
+fn put_spaces<W: Write>(sink: &mut Sink<W>, count: usize) -> Result<(), WriteFault>
+    requires { faults_of sink.old < 2 ^ 64 - 1 }
+    ensures { Puts W.contents sink.old sink.new (spaces count) result }
+{
+    let mut left = count;
+    while left > 0 {
+        let now = left.min(SPACES.len());
+        sink.put(&SPACES[..now])?;
+        left -= now;
+    }
+    Ok(())
+}
+
+fn put_grouped<W: Write>(sink: &mut Sink<W>, number: u64, width: usize) -> Result<(), WriteFault>
+    requires { faults_of sink.old < 2 ^ 64 - 1 }
+    ensures { Puts W.contents sink.old sink.new (right_aligned width (grouped (decimal number))) result }
+{
+    let mut buf = [0; 26];
+    let text = thousands(number, &mut buf);
+    put_spaces(sink, width.saturating_sub(text.len()))?;
+    sink.put(text.as_bytes())
+}
+
+// Writes the text with its escapes, and what lies between them at once.
+fn put_escaped<W: Write>(sink: &mut Sink<W>, text: &[u8]) -> Result<(), WriteFault>
+    requires { faults_of sink.old < 2 ^ 64 - 1 }
+    ensures { Puts W.contents sink.old sink.new (escaped text.now) result }
+{
+    let mut rest = text;
+    while let Some(at) = next_escape(rest) {
+        sink.put(&rest[..at])?;
+        sink.put(escape_byte(rest[at]).as_str().as_bytes())?;
+        rest = &rest[at + 1..];
+    }
+    sink.put(rest)
+}
+
+// Where the first byte stands that isn't written as it is.
+fn next_escape(text: &[u8]) -> Option<usize>
+    ensures { MatchOption result (escaped text.now ≡ text.now)
+        (λ at. (at < length text.now) × (slice_index text.now at < 128) × (escaped (take at text.now) ≡ take at text.now)) }
+{
+    for (at, byte) in text.iter().enumerate() {
+        if *byte < b' ' || *byte == b'"' || *byte == b'\\' {
+            return Some(at);
+        }
+    }
+    None
+}
+
+// What stands before and after a kind: brackets, and nothing for an empty kind.
+pub(super) fn brackets(kind: &str) -> (&'static str, &'static str)
+    ensures { result.0.now ++ (kind.now ++ result.1.now) ≡ kind_part kind.now }
+{
+    if kind.is_empty() {
+        ("", "")
+    } else {
+        ("[", "] ")
+    }
+}

@@ -1,0 +1,93 @@
+//! A writer that counts its faults.
+ghost use Rattle.std.specs.Prelude.{◌≡◌, ◌-◌, ◌^◌, ◌<◌, [], IsOk};
+
+use std::io;
+use std::io::Write;
+use thiserror::Error;
+
+/// Why a write failed.
+#[derive(Debug, Drop, Error)]
+pub enum WriteFault {
+    /// The writer answered an error of any kind, `Interrupted` too.
+    #[error("{0}")]
+    Error(io::Error),
+    /// The writer took none of a piece that isn't empty.
+    #[error("the writer took no byte")]
+    Zero,
+}
+
+/// A writer, and how many of its writes and flushes failed.
+///
+/// A fault is answered and not tried again. A run that answers `Ok` has counted none, and one that
+/// answers a write fault has counted exactly one.
+#[derive(Drop)]
+pub struct Sink<W: Write> {
+    writer: W,
+    faults: u64,
+}
+
+impl<W: Write> Sink<W> {
+    ghost use Rattle.mimic_printer.specs.Sink.{Puts, writer_of, faults_of};
+
+    /// A sink over the writer, with no fault yet.
+    pub fn new(writer: W) -> Self
+        ensures writer { writer_of result ≡ writer }
+        ensures faults { faults_of result ≡ 0 }
+    {
+        Sink { writer, faults: 0 }
+    }
+
+    /// How many writes and flushes failed so far.
+    pub fn faults(&self) -> u64
+        ensures { result ≡ faults_of self.now }
+    {
+        self.faults
+    }
+
+    /// Gives the writer back as it is.
+    pub fn into_inner(self) -> W
+        ensures { result ≡ writer_of self }
+    {
+        let Sink { writer, faults: _ } = self;
+        writer
+    }
+
+    /// Appends the whole piece, in as many writes as the writer wants. An empty piece writes nothing.
+    ///
+    /// With a fault a beginning of the piece was appended, and one more fault is counted.
+    pub fn put(&mut self, piece: &[u8]) -> Result<(), WriteFault>
+        requires { faults_of self.old < 2 ^ 64 - 1 }
+        ensures appends { Puts W.contents self.old self.new piece.now result }
+        ensures empty { piece.now ≡ [] → IsOk result }
+    {
+        let mut rest = piece;
+        while !rest.is_empty() {
+            match self.writer.write(rest) {
+                Ok(0) => {
+                    self.faults += 1;
+                    return Err(WriteFault::Zero);
+                }
+                Ok(count) => rest = &rest[count..],
+                Err(error) => {
+                    self.faults += 1;
+                    return Err(WriteFault::Error(error));
+                }
+            }
+        }
+        Ok(())
+    }
+
+    /// Flushes the writer, which appends nothing. With a fault one more fault is counted.
+    pub fn flush(&mut self) -> Result<(), WriteFault>
+        requires { faults_of self.old < 2 ^ 64 - 1 }
+        ensures { Puts W.contents self.old self.new [] result }
+    {
+        match self.writer.flush() {
+            Ok(()) => Ok(()),
+            Err(error) => {
+                self.faults += 1;
+                Err(WriteFault::Error(error))
+            }
+        }
+    }
+}

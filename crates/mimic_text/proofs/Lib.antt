@@ -1,0 +1,4 @@
+pub mod Bounded
+pub mod Escapes
+pub mod ExactSeconds
+pub mod Grouping

@@ -1,0 +1,54 @@
+//! The small texts of reports: grouped numbers, seconds, and texts in JSON.
+#![tactic(auto)]
+
+ghost use Rattle.std.specs.Prelude.{◌≡◌, ◌≤◌, IfOk, length, take, decimal, string_bytes};
+ghost use Rattle.mimic_text.specs.Text.{grouped, without_commas};
+
+mod escape;
+mod seconds;
+
+pub use escape::{Escaped, escape_byte, escape_char};
+use itoa::Buffer;
+pub use seconds::{exact_seconds, hundredths};
+use std::alloc::{AllocError, Global};
+use std::str;
+
+/// The number in decimal with a comma between groups of three digits, in the caller's buffer.
+///
+/// The greatest number takes all 26 bytes.
+pub fn thousands(v: u64, buf: &mut [u8; 26]) -> &str
+    ensures text { result.now ≡ grouped (decimal v) }
+    ensures digits { without_commas result.now ≡ decimal v }
+{
+    let mut digits = Buffer::new();
+    let len = write_grouped(digits.format(v).as_bytes(), buf);
+    let all = &buf[..];
+    str::from_utf8(&all[..len]).unwrap()
+}
+
+/// The number as `thousands` writes it, in memory of its own.
+pub fn fmt_with_thousand_sep(alloc: Global, v: u64) -> Result<String, AllocError>
+    ensures text { IfOk result (λ s. string_bytes s ≡ grouped (decimal v)) }
+    ensures digits { IfOk result (λ s. without_commas (string_bytes s) ≡ decimal v) }
+{
+    String::from_str(alloc, thousands(v, &mut [0; 26]))
+}
+
+// Writes the digits with their commas, and answers how many bytes that took.
+fn write_grouped(digits: &[u8], buf: &mut [u8; 26]) -> usize
+    requires { length digits.now ≤ 20 }
+    ensures within { result ≤ 26 }
+    ensures written { take result buf.new ≡ grouped digits.now }
+{
+    let mut at = 0;
+    for (i, digit) in digits.iter().enumerate() {
+        buf[at] = *digit;
+        at += 1;
+        let left = digits.len() - i - 1;
+        if left > 0 && left % 3 == 0 {
+            buf[at] = b',';
+            at += 1;
+        }
+    }
+    at
+}

@@ -1,0 +1,47 @@
+-- Lemmas on counts of outcomes.
+use Rattle.std.proofs.Common.{◌≡◌, ℕ, ◌+◌, ◌-◌, ◌^◌, ◌<◌, List, [], ◌∷◌, ◌++◌, Bool, true, false, cond, length, take, get_or, refl, sym, ap, ◌∙◌, arith, add-zero}
+use Rattle.std.proofs.lemmas.List.{take_more, length-take, map-append}
+use Rattle.std.proofs.lemmas.List.Sums.{count_by-le-length, sum_by_push}
+use Rattle.std.specs.Prelude.{count_by}
+use Rattle.mimic_trial.specs.declared.outcome.Outcome.{Outcome}
+use Rattle.mimic_trial.specs.declared.outcome.Outcome.TheVariants.{Passed, Failed, Ignored, Measured}
+use Rattle.mimic_trial.specs.Row.{Row, outcomes_of}
+use Rattle.mimic_trial.specs.Count.{counts_of, is_passed, is_failed, is_ignored_outcome, is_measured}
+use Rattle.mimic_trial.specs.Count.{counted, HasRoom}
+
+-- fewer outcomes than the greatest number leave room for one more
+pub HasRoom-counts : (os : List Outcome) (filtered_out : ℕ) → length os < 2 ^ 64 - 1 → HasRoom (counts_of os filtered_out)
+HasRoom-counts os filtered_out h = record {
+  passed = omega (arith, count_by-le-length is_passed os);
+  failed = omega (arith, count_by-le-length is_failed os);
+  ignored = omega (arith, count_by-le-length is_ignored_outcome os);
+  measured = omega (arith, count_by-le-length is_measured os);
+}
+
+-- one more that is counted, or isn't
+yes : {X : Type 0} (p : X → Bool) (xs : List X) (x : X) → p x ≡ true → count_by p (xs ++ x ∷ []) ≡ count_by p xs + 1
+yes p xs x h = sum_by_push (λ y. cond (p y) 1 0) xs x ∙ ap (λ b. count_by p xs + cond b 1 0) h
+
+no : {X : Type 0} (p : X → Bool) (xs : List X) (x : X) → p x ≡ false → count_by p (xs ++ x ∷ []) ≡ count_by p xs
+no p xs x h = sum_by_push (λ y. cond (p y) 1 0) xs x ∙ ap (λ b. count_by p xs + cond b 1 0) h ∙ add-zero (count_by p xs)
+
+-- the counts of one more outcome
+pub counts-push : (os : List Outcome) (o : Outcome) (filtered_out : ℕ) → counts_of (os ++ o ∷ []) filtered_out ≡ counted (counts_of os filtered_out) o
+counts-push os Passed n = rw (yes is_passed os Passed refl, no is_failed os Passed refl, no is_ignored_outcome os Passed refl, no is_measured os Passed refl)
+counts-push os (Failed f) n = rw (no is_passed os (Failed f) refl, yes is_failed os (Failed f) refl, no is_ignored_outcome os (Failed f) refl, no is_measured os (Failed f) refl)
+counts-push os Ignored n = rw (no is_passed os Ignored refl, no is_failed os Ignored refl, yes is_ignored_outcome os Ignored refl, no is_measured os Ignored refl)
+counts-push os (Measured m) n = rw (no is_passed os (Measured m) refl, no is_failed os (Measured m) refl, no is_ignored_outcome os (Measured m) refl, yes is_measured os (Measured m) refl)
+
+-- the counts of the outcomes up to one more place
+pub counts-more : (os : List Outcome) (i : ℕ) (o : Outcome) (filtered_out : ℕ) → i < length os → o ≡ get_or os i o
+    → counts_of (take (i + 1) os) filtered_out ≡ counted (counts_of (take i os) filtered_out) o
+counts-more os i o n h e =
+    ap (λ l. counts_of l n) (take_more os i o h ∙ ap (λ x. take i os ++ x ∷ []) (sym e)) ∙ counts-push (take i os) o n
+
+-- there is room for one more before the last
+pub HasRoom-take : (os : List Outcome) (i filtered_out : ℕ) → i < length os → length os < 2 ^ 64 → HasRoom (counts_of (take i os) filtered_out)
+HasRoom-take os i n h small = HasRoom-counts (take i os) n (omega (arith, length-take i os))
+
+-- the counts of one more row
+pub counts-row : (rows : List Row) (row : Row) (filtered_out : ℕ) → counts_of (outcomes_of (rows ++ row ∷ [])) filtered_out ≡ counted (counts_of (outcomes_of rows) filtered_out) row.outcome
+counts-row rows row n = ap (λ os. counts_of os n) (map-append (λ (r : Row). r.outcome) rows (row ∷ [])) ∙ counts-push (outcomes_of rows) row.outcome n

@@ -1,0 +1,57 @@
+-- How many outcomes of each sort there are.
+use Rattle.std.specs.Prelude.{◌<◌, ℕ, ◌+◌, ◌-◌, ◌^◌, Bool, true, false, List, count_by}
+use Rattle.mimic_trial.specs.declared.outcome.Outcome.{Outcome}
+use Rattle.mimic_trial.specs.declared.outcome.Outcome.TheVariants.{Passed, Failed, Ignored, Measured}
+use Rattle.mimic_trial.specs.declared.outcome.conclusion.Conclusion.{Conclusion}
+
+abbrev pub is_passed : Outcome → Bool
+is_passed Passed = true
+is_passed (Failed f) = false
+is_passed Ignored = false
+is_passed (Measured m) = false
+
+abbrev pub is_failed : Outcome → Bool
+is_failed Passed = false
+is_failed (Failed f) = true
+is_failed Ignored = false
+is_failed (Measured m) = false
+
+abbrev pub is_ignored_outcome : Outcome → Bool
+is_ignored_outcome Passed = false
+is_ignored_outcome (Failed f) = false
+is_ignored_outcome Ignored = true
+is_ignored_outcome (Measured m) = false
+
+abbrev pub is_measured : Outcome → Bool
+is_measured Passed = false
+is_measured (Failed f) = false
+is_measured Ignored = false
+is_measured (Measured m) = true
+
+-- the counts of these outcomes, beside so many trials that were filtered out (the Rust crate's `Conclusion`)
+abbrev pub counts_of : List Outcome → ℕ → Conclusion
+counts_of outcomes filtered_out = record {
+  num_filtered_out = filtered_out;
+  num_passed = count_by is_passed outcomes;
+  num_failed = count_by is_failed outcomes;
+  num_ignored = count_by is_ignored_outcome outcomes;
+  num_measured = count_by is_measured outcomes;
+}
+
+-- all five counts together
+abbrev pub total_of : Conclusion → ℕ
+total_of c = c.num_filtered_out + (c.num_passed + (c.num_failed + (c.num_ignored + c.num_measured)))
+
+-- the counts with one more outcome
+abbrev pub counted : Conclusion → Outcome → Conclusion
+counted c Passed = record c { num_passed = c.num_passed + 1 }
+counted c (Failed f) = record c { num_failed = c.num_failed + 1 }
+counted c Ignored = record c { num_ignored = c.num_ignored + 1 }
+counted c (Measured m) = record c { num_measured = c.num_measured + 1 }
+
+-- one more outcome of any sort can be counted
+pub record HasRoom (c : Conclusion) : Type 0 where
+  pub passed : c.num_passed < 2 ^ 64 - 1
+  pub failed : c.num_failed < 2 ^ 64 - 1
+  pub ignored : c.num_ignored < 2 ^ 64 - 1
+  pub measured : c.num_measured < 2 ^ 64 - 1

@@ -1,0 +1,60 @@
+//! What becomes of trials: failures, measurements, outcomes and their counts.
+ghost use Rattle.std.specs.Prelude.{◌≡◌, ◌<◌, ◌^◌, ◌-◌};
+ghost use Rattle.mimic_trial.specs.Count.{counts_of};
+ghost use Rattle.mimic_trial.specs.Promise.{FitsTypes, PromisesOutcome};
+
+pub(crate) mod conclusion;
+pub(crate) mod failed;
+pub(crate) mod measurement;
+
+use crate::runner::Runner;
+pub use conclusion::Conclusion;
+pub use failed::Failed;
+pub use measurement::Measurement;
+
+/// What became of a trial.
+#[derive(Debug, PartialEq, Eq, Drop)]
+pub enum Outcome {
+    /// The test passed, or the benchmark did in test mode.
+    Passed,
+    /// The test or benchmark failed.
+    Failed(Failed),
+    /// The test or benchmark was not run.
+    Ignored,
+    /// The benchmark was measured.
+    Measured(Measurement),
+}
+
+/// Calls the runner once, and answers the outcome of its answer.
+///
+/// A test's `Ok` has the outcome `Passed`, and every `Err` the outcome `Failed`. In test mode a
+/// benchmark's `Ok` is `Passed` and a measurement is dropped. In bench mode a measurement is
+/// `Measured`, and a benchmark that measured nothing failed.
+pub fn run_single(runner: Runner, test_mode: bool) -> Outcome
+    ensures own { PromisesOutcome runner test_mode result }
+    ensures fits { FitsTypes result }
+{
+    match runner {
+        Runner::Test(test) => match test.call() {
+            Ok(()) => Outcome::Passed,
+            Err(failed) => failed.into_outcome(),
+        },
+        Runner::Bench(bench) => match bench.call(test_mode) {
+            Ok(_) if test_mode => Outcome::Passed,
+            Ok(Some(measured)) => Outcome::Measured(measured),
+            Ok(None) => Outcome::Failed(Failed::not_measured()),
+            Err(reason) => reason.into_outcome(),
+        },
+    }
+}
+
+/// The number of outcomes of each sort, beside the number of trials that were filtered out.
+pub fn count_rows(outcomes: &[Outcome], filtered: u64) -> Conclusion
+    ensures { result ≡ counts_of outcomes.now filtered }
+{
+    let mut conclusion = Conclusion::empty(filtered);
+    for outcome in outcomes {
+        conclusion.count(outcome);
+    }
+    conclusion
+}

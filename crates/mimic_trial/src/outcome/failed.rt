@@ -1,0 +1,112 @@
+//! Why a trial failed.
+ghost use Rattle.std.specs.Prelude.{◌≡◌, Some, None, IsSome, IfSome, IfOk, IsUtf8, string_bytes};
+ghost use Rattle.std.specs.Option.{option_copied};
+ghost use Rattle.std.specs.Cmp.Rules.{comparing};
+ghost use Rattle.std.proofs.Common.{rules};
+ghost use Rattle.mimic_trial.specs.Failed.{not_measured_text, same_text};
+
+use crate::outcome::Outcome;
+use std::alloc::{AllocError, Global};
+use std::fmt::Display;
+use std::marker::Model;
+
+/// The failure of a trial, with a message or without one. Contracts see it as an optional text.
+#[derive(Debug, Drop)]
+pub struct Failed {
+    message: Option<Message>,
+}
+
+// A message, or the one message that is kept without memory.
+#[derive(Debug, Drop)]
+enum Message {
+    Owned(String),
+    NotMeasured,
+}
+
+const NOT_MEASURED: &str = "bench runner returned `Ok(None)` in bench mode";
+
+impl Model for Failed {
+    ghost use Rattle.std.specs.Prelude.{ℕ, List, Option, option_map, IfSome, IsUtf8};
+    ghost use Rattle.mimic_trial.specs.Failed.{message_text};
+
+    ghost Value = { Option (List ℕ) };
+
+    ghost view = { λ f. option_map message_text f.message };
+
+    ghost invariant = { λ f. IfSome (option_map message_text f.message) IsUtf8 };
+}
+
+impl Failed {
+    /// A failure without a message.
+    pub fn without_message() -> Self
+        ensures { result ≡ None }
+    {
+        Failed { message: None }
+    }
+
+    /// A failure with this message, which may be empty.
+    pub fn with_message(message: String) -> Self
+        ensures { result ≡ Some (string_bytes message) }
+    {
+        Failed {
+            message: Some(Message::Owned(message)),
+        }
+    }
+
+    /// A failure whose message is what the value displays.
+    ///
+    /// An `Err` is answered where a growth was refused, or where the value's own `Display` failed.
+    pub fn from_display<M: Display>(alloc: Global, message: &M) -> Result<Self, AllocError>
+        ensures some { IfOk result (λ f. IsSome f) }
+        ensures kept { IfOk result (λ f. IfSome (M.output message.now) (λ text. f ≡ Some text)) }
+    {
+        Ok(Failed::with_message(message.to_string(alloc)?))
+    }
+
+    // The failure of a benchmark that measured nothing in bench mode.
+    pub fn not_measured() -> Self
+        ensures { result ≡ Some not_measured_text }
+    {
+        Failed {
+            message: Some(Message::NotMeasured),
+        }
+    }
+
+    // The outcome of a trial that failed so. That its message is text is known here, where the fields are.
+    pub fn into_outcome(self) -> Outcome
+        ensures outcome { result ≡ Outcome.Failed self }
+        ensures text { IfSome self IsUtf8 }
+    {
+        let _message = &self.message;
+        Outcome::Failed(self)
+    }
+
+    /// The message, if there is one.
+    pub fn message(&self) -> Option<&str>
+        ensures { option_copied result ≡ self.now }
+    {
+        match &self.message {
+            Some(Message::Owned(message)) => Some(message.as_str()),
+            Some(Message::NotMeasured) => Some(NOT_MEASURED),
+            None => None,
+        }
+    }
+}
+
+impl PartialEq for Failed {
+    ghost eq = { same_text };
+
+    ghost laws = { Prim.search (comparing, rules) };
+
+    fn eq(&self, other: &Failed) -> bool {
+        match (self.message(), other.message()) {
+            (Some(mine), Some(theirs)) => mine == theirs,
+            (None, None) => true,
+            _ => false,
+        }
+    }
+}
+
+impl Eq for Failed {
+    ghost laws = { Prim.search (comparing, rules) };
+}

@@ -1,0 +1,174 @@
+//! Tests and benchmarks.
+ghost use Rattle.std.specs.Prelude.{◌≡◌, ◌↔◌, string_bytes, [], true, false, not};
+
+use crate::outcome::failed::Failed;
+use crate::outcome::measurement::Measurement;
+use crate::runner::{BenchRunner, Runner, TestRunner};
+use std::fmt;
+
+/// What is known of a trial before it runs.
+#[derive(Debug, Drop)]
+pub struct TestInfo {
+    /// The name, which rows show. Filters and skip patterns look at it with the kind before it.
+    pub name: String,
+    /// The kind, shown in brackets before the name. Most trials have none: it is empty.
+    pub kind: String,
+    /// Whether the trial is ignored where the arguments don't ask for ignored trials.
+    pub is_ignored: bool,
+    /// Whether the trial is a benchmark.
+    pub is_bench: bool,
+}
+
+/// A test or a benchmark: what is known of it, and how to run it.
+#[derive(Drop)]
+pub struct Trial {
+    info: TestInfo,
+    runner: Runner,
+}
+
+impl Trial {
+    ghost use Rattle.mimic_trial.specs.Promise.{PromisesOutcome, outcome_of_test, outcome_of_bench};
+    ghost use Rattle.mimic_trial.specs.Trial.{info_of, runner_of};
+
+    /// A test without a kind and without the ignored flag. It passes where the runner answers `Ok`.
+    pub fn test(name: String, runner: Box<dyn FnOnce() -> Result<(), Failed> + Send>) -> Self
+        requires { pre runner }
+        ensures name { string_bytes (info_of result).name ≡ string_bytes name }
+        ensures kind { string_bytes (info_of result).kind ≡ [] }
+        ensures flag { (info_of result).is_ignored ≡ false }
+        ensures sort { (info_of result).is_bench ≡ false }
+        ensures promise { (mode : _) (o : _) → PromisesOutcome (runner_of result) mode o
+            ↔ ((answer : _) × post runner answer × (o ≡ outcome_of_test answer)) }
+    {
+        let kind = String::new(*name.allocator());
+        Trial {
+            info: TestInfo {
+                name,
+                kind,
+                is_ignored: false,
+                is_bench: false,
+            },
+            runner: Runner::Test(TestRunner::new(runner)),
+        }
+    }
+
+    /// A benchmark without a kind and without the ignored flag.
+    ///
+    /// In test mode the runner is to run its code once and need not measure. In bench mode it is to
+    /// measure, and the benchmark fails where it answers `Ok(None)`.
+    pub fn bench(
+        name: String,
+        runner: Box<dyn FnOnce(bool) -> Result<Option<Measurement>, Failed> + Send>,
+    ) -> Self
+        requires { IsAlwaysCallable runner }
+        ensures name { string_bytes (info_of result).name ≡ string_bytes name }
+        ensures kind { string_bytes (info_of result).kind ≡ [] }
+        ensures flag { (info_of result).is_ignored ≡ false }
+        ensures sort { (info_of result).is_bench ≡ true }
+        ensures promise { (mode : _) (o : _) → PromisesOutcome (runner_of result) mode o
+            ↔ ((answer : _) × post runner mode answer × (o ≡ outcome_of_bench mode answer)) }
+    {
+        let kind = String::new(*name.allocator());
+        Trial {
+            info: TestInfo {
+                name,
+                kind,
+                is_ignored: false,
+                is_bench: true,
+            },
+            runner: Runner::Bench(BenchRunner::new(runner)),
+        }
+    }
+
+    /// The same trial with this kind, which rows show in brackets before the name.
+    pub fn with_kind(self, kind: String) -> Self
+        ensures info { info_of result ≡ record (info_of self) { kind = kind } }
+        ensures runner { runner_of result ≡ runner_of self }
+    {
+        let Trial { mut info, runner } = self;
+        info.kind = kind;
+        Trial { info, runner }
+    }
+
+    /// The same trial, marked as ignored or not.
+    ///
+    /// An ignored trial is not run where the arguments have neither `ignored` nor `include_ignored`.
+    /// With `ignored`, trials that are not marked are not even selected.
+    pub fn with_ignored_flag(self, is_ignored: bool) -> Self
+        ensures info { info_of result ≡ record (info_of self) { is_ignored = is_ignored } }
+        ensures runner { runner_of result ≡ runner_of self }
+    {
+        let Trial { mut info, runner } = self;
+        info.is_ignored = is_ignored;
+        Trial { info, runner }
+    }
+
+    /// The name.
+    pub fn name(&self) -> &str
+        ensures { result.now ≡ string_bytes (info_of self.now).name }
+    {
+        self.info.name.as_str()
+    }
+
+    /// The kind, empty where none was set.
+    pub fn kind(&self) -> &str
+        ensures { result.now ≡ string_bytes (info_of self.now).kind }
+    {
+        self.info.kind.as_str()
+    }
+
+    /// Whether the trial is marked as ignored.
+    pub fn has_ignored_flag(&self) -> bool
+        ensures { result ≡ (info_of self.now).is_ignored }
+    {
+        self.info.is_ignored
+    }
+
+    /// Whether the trial is a test.
+    pub fn is_test(&self) -> bool
+        ensures { result ≡ not (info_of self.now).is_bench }
+    {
+        !self.is_bench()
+    }
+
+    /// Whether the trial is a benchmark.
+    pub fn is_bench(&self) -> bool
+        ensures { result ≡ (info_of self.now).is_bench }
+    {
+        self.info.is_bench
+    }
+
+    // What is known of the trial.
+    pub fn info(&self) -> &TestInfo
+        ensures { result.now ≡ info_of self.now }
+    {
+        &self.info
+    }
+
+    // Takes the trial apart.
+    pub fn into_parts(self) -> (TestInfo, Runner)
+        ensures info { result.0 ≡ info_of self }
+        ensures runner { result.1 ≡ runner_of self }
+    {
+        let Trial { info, runner } = self;
+        (info, runner)
+    }
+}
+
+// Stands for a runner, of which there is nothing to show.
+struct OpaqueRunner;
+
+impl fmt::Debug for OpaqueRunner {
+    fn fmt<W: fmt::Write>(&self, f: &mut fmt::Formatter<W>) -> fmt::Result {
+        f.write_str("<runner>")
+    }
+}
+
+impl fmt::Debug for Trial {
+    fn fmt<W: fmt::Write>(&self, f: &mut fmt::Formatter<W>) -> fmt::Result {
+        f.debug_struct("Trial")
+            .field("info", &self.info)
+            .field("runner", &OpaqueRunner)
+            .finish()
+    }
+}
