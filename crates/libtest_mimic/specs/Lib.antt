@@ -3,7 +3,6 @@ pub mod Selection
 pub mod Arrangement
 pub mod Run
 pub mod Steps
-
 -- the words of the crates below, so that clauses above need not name those
 pub use Rattle.mimic_text.specs.Text
 pub use Rattle.mimic_text.specs.Escape

@@ -1,27 +1,19 @@
 -- What the private functions of a selection and of a run promise one another. No public clause names these words.
-use Rattle.std.specs.Prelude.{◌≡◌, ℕ, Bool, not, ◌||◌, if◌then◌else◌, ◌+◌, ◌-◌, ◌^◌, ◌<◌, ◌≤◌, List, [], ◌∷◌, ◌++◌, filter, length, codes, decimal, Option, Some, Result, MatchResult, vec_capacity, drop}
-use Rattle.std.specs.List.{concat, flat_map}
+use Rattle.std.specs.Prelude.{◌≡◌, ℕ, ◌^◌, ◌<◌, ◌≤◌, List, [], ◌∷◌, ◌++◌, filter, length, Option, Some, Result, MatchResult, vec_capacity, drop}
 use Rattle.mimic_args.specs.declared.Arguments.{Arguments}
-use Rattle.mimic_trial.specs.declared.outcome.Outcome.{Outcome}
-use Rattle.mimic_trial.specs.declared.outcome.Outcome.TheVariants.{Passed, Failed, Ignored, Measured}
 use Rattle.mimic_trial.specs.declared.outcome.conclusion.Conclusion.{Conclusion}
 use Rattle.mimic_printer.specs.declared.Printer.{Printer}
 use Rattle.libtest_mimic.specs.declared.run.tally.Tally.{Tally}
 use Rattle.mimic_printer.specs.declared.sink.Sink.{Sink}
 use Rattle.libtest_mimic.specs.declared.stopwatch.Readings.{Readings}
-use Rattle.mimic_trial.specs.declared.trial.TestInfo.{TestInfo}
 use Rattle.mimic_trial.specs.declared.trial.Trial.{Trial}
 use Rattle.libtest_mimic.specs.Arrangement.{IsOwn}
-use Rattle.mimic_trial.specs.Places.{label_at, outcome_at}
+use Rattle.mimic_trial.specs.Places.{label_at}
 use Rattle.mimic_trial.specs.Count.{is_failed, counts_of}
-use Rattle.mimic_text.specs.Escape.{escaped}
-use Rattle.mimic_printer.specs.List.{list_line}
-use Rattle.mimic_printer.specs.Report.{title_text, announcement_text, rows_text, report_text, failure_text, failed_name}
+use Rattle.mimic_printer.specs.Report.{title_text, announcement_text, rows_text, report_text}
 use Rattle.mimic_trial.specs.Row.{Row, label_of, outcomes_of, rows_from}
-use Rattle.mimic_text.specs.Seconds.{exact_seconds}
 use Rattle.mimic_printer.specs.Sink.{Put, Stopped}
 use Rattle.libtest_mimic.specs.Stopwatch.{elapsed_of}
-use Rattle.mimic_text.specs.Text.{spaces, two_digits, right_aligned, grouped}
 use Rattle.mimic_trial.specs.Trial.{info_of, labels_of}
 
 -- ---- a search in a full name

@@ -1,5 +1,5 @@
 -- What a run promises of a sink, said of the bytes that the sink's writer holds.
-use Rattle.std.proofs.Common.{◌≡◌, ℕ, List, Option, Result, Ok, Err, Bool, true, false, refl, ap, subst, IfOk, OnOk, OnErr, IsOk, is_ok, MatchResult, sym}
+use Rattle.std.proofs.Common.{◌≡◌, ℕ, List, Option, Result, Ok, Err, Bool, true, false, refl, ap, subst, IfOk, OnOk, OnErr, IsOk}
 use Rattle.std.specs.Bool.{MatchBool}
 use Rattle.std.proofs.lemmas.Bool.{false≢true}
 use Rattle.std.specs.Io.KnownBytes.{Keeps}

@@ -23,7 +23,7 @@ pub fn widths(infos: &[TestInfo]) -> (usize, usize)
     (name_width, kind_width)
 }
 
-// The same of trials, whose names and kinds stay where they are.
+/// The same of trials, whose names and kinds stay where they are.
 pub fn widths_of_trials(trials: &[Trial]) -> (usize, usize)
     ensures names { result.0 ≡ name_width_of (labels_of trials.now) }
     ensures kinds { result.1 ≡ kind_width_of (labels_of trials.now) }

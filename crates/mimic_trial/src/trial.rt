@@ -138,14 +138,14 @@ impl Trial {
         self.info.is_bench
     }
 
-    // What is known of the trial.
+    /// What is known of the trial before it runs.
     pub fn info(&self) -> &TestInfo
         ensures { result.now ≡ info_of self.now }
     {
         &self.info
     }
 
-    // Takes the trial apart.
+    /// Takes the trial apart: what is known of it, and its runner.
     pub fn into_parts(self) -> (TestInfo, Runner)
         ensures info { result.0 ≡ info_of self }
         ensures runner { result.1 ≡ runner_of self }

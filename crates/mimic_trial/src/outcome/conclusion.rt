@@ -43,10 +43,9 @@ impl Conclusion {
 
 impl Conclusion {
     ghost use Rattle.std.specs.Prelude.{ℕ, ◌^◌, ◌-◌, []};
-    ghost use Rattle.mimic_trial.specs.Count.{counts_of};
-    ghost use Rattle.mimic_trial.specs.Count.{counted, HasRoom};
+    ghost use Rattle.mimic_trial.specs.Count.{HasRoom, counted, counts_of};
 
-    // Nothing is counted yet, beside the trials that were filtered out.
+    /// Nothing is counted yet, beside the trials that were filtered out.
     pub fn empty(filtered_out: u64) -> Self
         ensures { result ≡ counts_of [] filtered_out }
     {
@@ -59,7 +58,7 @@ impl Conclusion {
         }
     }
 
-    // Counts one more outcome.
+    /// Counts one more outcome. Each count has to be below the greatest `u64`.
     pub fn count(&mut self, outcome: &Outcome)
         requires { HasRoom self.old }
         ensures { self.new ≡ counted self.old outcome.now }

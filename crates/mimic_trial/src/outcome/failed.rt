@@ -64,7 +64,7 @@ impl Failed {
     }
 
     // The failure of a benchmark that measured nothing in bench mode.
-    pub fn not_measured() -> Self
+    pub(crate) fn not_measured() -> Self
         ensures { result ≡ Some not_measured_text }
     {
         Failed {
@@ -73,7 +73,7 @@ impl Failed {
     }
 
     // The outcome of a trial that failed so. That its message is text is known here, where the fields are.
-    pub fn into_outcome(self) -> Outcome
+    pub(crate) fn into_outcome(self) -> Outcome
         ensures outcome { result ≡ Outcome.Failed self }
         ensures text { IfSome self IsUtf8 }
     {
