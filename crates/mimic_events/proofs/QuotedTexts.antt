@@ -3,8 +3,9 @@ use Rattle.std.proofs.Common.{◌≡◌, ◌≢◌, ℕ, ◌<◌, ◌≤◌, Lis
 use Rattle.std.specs.List.{flat_map}
 use Rattle.std.proofs.lemmas.List.{append-nil, nil_from_length, take_all}
 use Rattle.std.proofs.lemmas.List.Concat.{flat_map-append}
-use Rattle.libtest_mimic.specs.Escape.{escape, escaped}
-use Rattle.mimic_events.specs.Parts.{ArePlain, candidate_of, ReadsEscaped}
+use Rattle.libtest_mimic.specs.Escape.{ArePlain, escape, escaped}
+use Rattle.mimic_text.proofs.Escapes.{escaped-plain}
+use Rattle.mimic_events.specs.Parts.{candidate_of, ReadsEscaped}
 use Rattle.mimic_events.specs.Parts.{Follows}
 use Rattle.mimic_events.proofs.Escapes.{again, one_split}
 use Rattle.mimic_events.proofs.Fronts.{Follows-then, Follows-stop}
@@ -61,11 +62,6 @@ goes_on_plain bytes text (b ∷ plain) after h p =
     (goes_on_plain bytes (text ++ b ∷ []) plain after (goes_on bytes text (b ∷ plain ++ after) b (plain ++ after) h one) p.1)
 
 -- ---- a text that is known, in parts
-
-pub escaped-plain : (plain : List ℕ) → ArePlain plain → escaped plain ≡ plain
-unfolding escaped
-escaped-plain [] p = refl
-escaped-plain (b ∷ plain) p = ap (λ (x : List ℕ). x ++ escaped plain) p.0 ∙ ap (λ (x : List ℕ). b ∷ x) (escaped-plain plain p.1)
 
 escaped-parts : (text plain left : List ℕ) → text ≡ plain ++ left → ArePlain plain → escaped text ≡ plain ++ escaped left
 unfolding escaped

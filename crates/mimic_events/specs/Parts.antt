@@ -19,10 +19,6 @@ Follows front text (Some rest) = text ≡ front ++ rest.now
 
 -- ---- texts in quotes
 
--- each byte is spelled as it is
-abbrev pub ArePlain : List ℕ → Type 0
-ArePlain bytes = AllByRecursion (λ b. escape b ≡ b ∷ []) bytes
-
 -- the byte that a backslash and a letter stand for
 abbrev pub named_of : ℕ → ℕ
 named_of letter =

@@ -1,11 +1,10 @@
 //! Texts between the quotes of a JSON string.
 ghost use Rattle.std.specs.Prelude.{◌≡◌, ◌++◌, ◌∷◌, ◌<◌, [], IfOk, option_map};
-ghost use Rattle.std.specs.Bool.{MatchBool};
-ghost use Rattle.libtest_mimic.specs.Escape.{escape, escaped};
-ghost use Rattle.mimic_events.specs.Parts.{ArePlain, Follows, named_of, control_of, candidate_of, Splits, ReadsEscaped, ReadsQuoted, ReadsNamed};
+ghost use Rattle.libtest_mimic.specs.Escape.{ArePlain, escape, escaped};
+ghost use Rattle.mimic_events.specs.Parts.{Follows, named_of, control_of, candidate_of, Splits, ReadsEscaped, ReadsQuoted, ReadsNamed};
 
 use crate::strip::after;
-use libtest_mimic::text::escape_char;
+use mimic_text::{escape_byte, next_escape};
 use std::alloc::{AllocError, Global};
 
 // The text in quotes behind this front, which ends with the opening quote, and what follows the closing one.
@@ -51,10 +50,10 @@ fn after_escaped<'a>(line: &'a [u8], text: &[u8]) -> Option<&'a [u8]>
 fn after_spelling<'a>(text: &'a [u8], byte: u8) -> Option<&'a [u8]>
     ensures { Follows (escape byte) text.now result }
 {
-    if is_plain(byte) {
-        after(text, &[byte])
+    if byte.is_ascii() {
+        after(text, escape_byte(byte).as_str().as_bytes())
     } else {
-        after(text, escape_char(char::from(byte)).as_str().as_bytes())
+        after(text, &[byte])
     }
 }
 
@@ -63,18 +62,7 @@ fn plain_at(text: &[u8]) -> (&[u8], &[u8])
     ensures parts { text.now ≡ result.0.now ++ result.1.now }
     ensures plain { ArePlain result.0.now }
 {
-    let mut len = 0;
-    while len < text.len() && is_plain(text[len]) {
-        len += 1;
-    }
-    text.split_at(len)
-}
-
-// Whether a byte stands for itself.
-fn is_plain(byte: u8) -> bool
-    ensures { MatchBool result (escape byte ≡ byte ∷ []) (byte < 93) }
-{
-    byte >= b' ' && byte != b'"' && byte != b'\\'
+    text.split_at(next_escape(text).unwrap_or(text.len()))
 }
 
 // The text up to the closing quote, and what follows that.

@@ -1,10 +1,11 @@
 -- A text that is written with its escapes, and what lies between them at once.
-use Rattle.std.proofs.Common.{◌≡◌, ◌≢◌, ℕ, suc, ◌+◌, ◌-◌, ◌<◌, ◌≤◌, List, [], ◌∷◌, ◌++◌, Option, Result, Ok, Err, length, get_or, take, drop, drop-cons, take-append-drop, length-drop, refl, sym, ap, ◌∙◌, subst, arith, append_assoc, append-nil}
+use Rattle.std.proofs.Common.{false, None, Some, is_some, MatchOption, ◌≡◌, ◌≢◌, ℕ, suc, ◌+◌, ◌-◌, ◌<◌, ◌≤◌, List, [], ◌∷◌, ◌++◌, Option, Result, Ok, Err, length, get_or, take, drop, drop-cons, take-append-drop, length-drop, refl, sym, ap, ◌∙◌, subst, arith, append_assoc, append-nil}
 use Rattle.std.proofs.lemmas.Bool.Decides.{nat_tests}
 use Rattle.std.proofs.lemmas.List.{take_all, take_more}
 use Rattle.std.proofs.lemmas.List.Concat.{flat_map-append}
 use Rattle.mimic_printer.specs.declared.sink.Sink.{Sink}
-use Rattle.mimic_text.specs.Escape.{escape, escaped}
+use Rattle.mimic_text.specs.Escape.{ArePlain, escape, escaped}
+use Rattle.mimic_text.proofs.Escapes.{escaped-plain}
 use Rattle.mimic_printer.specs.Sink.{Put, Puts, Stopped}
 use Rattle.mimic_printer.proofs.Appending.{Put-refl, Put-trans, Put-Stopped, Stopped-more}
 
@@ -85,19 +86,7 @@ Puts-escaped contents a b c text rest (Ok x) h plain p = Put-escaped contents a 
 Puts-escaped contents a b c text rest (Err e) h plain p =
     Stopped-escaped contents a b c text rest rest [] h (plain ∙ sym (append-nil rest)) p
 
--- ---- bytes that are written as they are
-
-pub escaped-none : escaped [] ≡ []
-unfolding escaped
-escaped-none = refl
-
--- one more such byte
-pub escaped-plain : (text : List ℕ) (at : ℕ) → at < length text → escaped (take at text) ≡ take at text → escape (get_or text at 0) ≡ get_or text at 0 ∷ [] → escaped (take (at + 1) text) ≡ take (at + 1) text
-escaped-plain text at h plain one =
-    let more = take_more text at 0 h in
-    ap escaped more ∙ escaped-append (take at text) (get_or text at 0 ∷ []) ∙ ap (λ l. l ++ escaped (get_or text at 0 ∷ [])) plain
-    ∙ ap (λ l. take at text ++ l) (escaped-one (get_or text at 0) ∙ one) ∙ sym more
-
--- each byte from the space on stands for itself, but for two
-pub escape-plain : (b : ℕ) → 32 ≤ b → b ≢ 34 → b ≢ 92 → escape b ≡ b ∷ []
-escape-plain b h quote backslash = grind (arith, nat_tests)
+-- a text in which no byte needs an escape is spelled as it is
+pub spelled_as_is : (text : List ℕ) (P : ℕ → Type 0) (o : Option ℕ) → is_some o ≡ false → MatchOption o (ArePlain text) P → escaped text ≡ text
+spelled_as_is text P None h p = escaped-plain text p
+spelled_as_is text P (Some at) h p = absurd cc

@@ -8,7 +8,7 @@ ghost use Rattle.mimic_printer.specs.Steps.{pieces_text};
 
 use crate::sink::{Sink, WriteFault};
 use itoa::Buffer;
-use mimic_text::{escape_byte, exact_seconds, thousands};
+use mimic_text::{escape_byte, exact_seconds, next_escape, thousands};
 use std::io::Write;
 
 /// A part of a text.
@@ -94,6 +94,7 @@ impl Piece<'_> {
     ghost use Rattle.mimic_printer.specs.Steps.{piece_text};
 
     // Writes the piece behind the first `len` bytes of the row, and answers where it ends. `None` as for a row.
+    #[tactic(auto, using(crate::proofs::Escaping::spelled_as_is))]
     fn write(self, row: &mut [u8; ROW], len: usize) -> Option<usize>
         requires { len ≤ 256 }
         ensures { IfSome result (λ end. (end ≤ 256) × (take end row.new ≡ take len row.old ++ piece_text self.entry)) }
@@ -163,19 +164,6 @@ fn put_escaped<W: Write>(sink: &mut Sink<W>, text: &[u8]) -> Result<(), WriteFau
         rest = &rest[at + 1..];
     }
     sink.put(rest)
-}
-
-// Where the first byte stands that isn't written as it is.
-fn next_escape(text: &[u8]) -> Option<usize>
-    ensures { MatchOption result (escaped text.now ≡ text.now)
-        (λ at. (at < length text.now) × (slice_index text.now at < 128) × (escaped (take at text.now) ≡ take at text.now)) }
-{
-    for (at, byte) in text.iter().enumerate() {
-        if *byte < b' ' || *byte == b'"' || *byte == b'\\' {
-            return Some(at);
-        }
-    }
-    None
 }
 
 // What stands before and after a kind: brackets, and nothing for an empty kind.

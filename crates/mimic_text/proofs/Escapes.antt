@@ -1,12 +1,12 @@
 -- Texts between the quotes of a JSON string: that they are text, and that they are spelled character by character.
-use Rattle.std.proofs.Common.{◌≡◌, ℕ, zero, suc, ◌<◌, ◌≤◌, true, List, [], ◌∷◌, length, get_or, slice_index, encode_utf8, encode_utf8_all, refl, sym, ◌∙◌, arith, inl, inr, lit<, append-nil}
+use Rattle.std.proofs.Common.{◌≡◌, ℕ, zero, suc, ◌<◌, ◌≤◌, true, List, [], ◌∷◌, ◌++◌, length, get_or, slice_index, encode_utf8, encode_utf8_all, refl, sym, ap, ◌∙◌, arith, inl, inr, lit<, append-nil}
 use Rattle.std.specs.List.{flat_map}
 use Rattle.std.specs.Str.{is_utf8}
 use Rattle.std.proofs.lemmas.Bool.{cases_lt, lt-ltb, le-ltb}
 use Rattle.std.proofs.lemmas.Bool.Decides.{nat_tests}
 use Rattle.std.proofs.lemmas.List.Concat.{flat_map-append}
 use Rattle.std.proofs.lemmas.Str.{encode_ascii, inside_one, is_utf8-from_IsUtf8, IsUtf8-from_ascii}
-use Rattle.mimic_text.specs.Escape.{escape, escaped, escape_char, EscapesCharacters}
+use Rattle.mimic_text.specs.Escape.{ArePlain, EscapesCharacters, escape, escape_char, escaped}
 
 -- ---- the six bytes of a control character are text
 
@@ -26,6 +26,12 @@ control_utf8 a b ha hb = is_utf8-from_IsUtf8 _ (IsUtf8-from_ascii _ (λ i. contr
 
 pub escape-high : (b : ℕ) → 93 ≤ b → escape b ≡ b ∷ []
 escape-high b h = grind (arith, nat_tests)
+
+-- bytes that stand for themselves are spelled as they are
+pub escaped-plain : (plain : List ℕ) → ArePlain plain → escaped plain ≡ plain
+unfolding escaped
+escaped-plain [] p = refl
+escaped-plain (b ∷ plain) p = ap (λ (x : List ℕ). x ++ escaped plain) p.0 ∙ ap (λ (x : List ℕ). b ∷ x) (escaped-plain plain p.1)
 
 high_bytes : (bs : List ℕ) → ((k : ℕ) → k < length bs → 128 ≤ get_or bs k 0) → escaped bs ≡ bs
 unfolding escaped

@@ -1,7 +1,7 @@
 -- How texts stand between the quotes of a JSON string, in one spelling. A text is its bytes in UTF-8.
-use Rattle.std.specs.Prelude.{◌≡◌, ℕ, ◌/◌, ◌%◌, ◌==◌, nat_lt, if◌then◌else◌, List, [], ◌∷◌, encode_utf8, encode_utf8_all}
+use Rattle.std.specs.Prelude.{◌≡◌, ◌≢◌, ◌<◌, ℕ, ◌/◌, ◌%◌, ◌==◌, nat_lt, if◌then◌else◌, List, [], ◌∷◌, encode_utf8, encode_utf8_all}
 use Rattle.std.specs.Char.{digit_char}
-use Rattle.std.specs.List.{flat_map}
+use Rattle.std.specs.List.{AllByRecursion, flat_map}
 
 -- the spelling of a byte: a backslash and a letter or the character itself, where RFC 8259, section 7, has such a spelling;
 -- `\u00` and two digits for every other byte below 32; and else the byte itself. That these are the spellings, and hexadecimal
@@ -21,6 +21,14 @@ escape b =
 -- a text, each byte by its spelling
 unfoldable pub escaped : List ℕ → List ℕ
 escaped text = flat_map escape text
+
+-- each byte stands for itself
+abbrev pub ArePlain : List ℕ → Type 0
+ArePlain text = AllByRecursion (λ b. escape b ≡ b ∷ []) text
+
+-- the byte is a character by itself, and is spelled otherwise
+abbrev pub NeedsEscape : ℕ → Type 0
+NeedsEscape b = (b < 128) × (escape b ≢ b ∷ [])
 
 -- the spelling of a character: that of its byte, and past ASCII the character itself (RFC 8259, section 7)
 abbrev pub escape_char : ℕ → List ℕ

@@ -1,7 +1,7 @@
 //! How texts stand between the quotes of a JSON string.
-ghost use Rattle.std.specs.Prelude.{◌≡◌, ◌<◌, ◌≤◌, ◌/◌, ◌%◌, ◌∷◌, [], length};
+ghost use Rattle.std.specs.Prelude.{◌≡◌, ◌<◌, ◌≤◌, ◌/◌, ◌%◌, ◌∷◌, [], length, take, slice_index, MatchOption};
 ghost use Rattle.std.specs.Char.{digit_char};
-ghost use Rattle.mimic_text.specs.Escape.{escape, escape_char, EscapesCharacters};
+ghost use Rattle.mimic_text.specs.Escape.{ArePlain, EscapesCharacters, NeedsEscape, escape, escape_char};
 
 use std::marker::Model;
 use std::str;
@@ -96,6 +96,19 @@ pub fn escape_byte(byte: u8) -> Escaped
         _ if byte < b' ' => Escaped::control(byte),
         _ => Escaped::of(char::from(byte).encode_utf8(&mut [0; 4])),
     }
+}
+
+/// Where the first byte of a text stands, counted from 0, that isn't written as it is; `None` where all are.
+pub fn next_escape(text: &[u8]) -> Option<usize>
+    ensures { MatchOption result (ArePlain text.now)
+        (λ at. (at < length text.now) × NeedsEscape (slice_index text.now at) × ArePlain (take at text.now)) }
+{
+    for (at, byte) in text.iter().enumerate() {
+        if *byte < b' ' || *byte == b'"' || *byte == b'\\' {
+            return Some(at);
+        }
+    }
+    None
 }
 
 fn hex_digit(value: u8) -> u8

@@ -7,7 +7,7 @@ ghost use Rattle.mimic_text.specs.Text.{grouped, without_commas};
 mod escape;
 mod seconds;
 
-pub use escape::{Escaped, escape_byte, escape_char};
+pub use escape::{Escaped, escape_byte, escape_char, next_escape};
 use itoa::Buffer;
 pub use seconds::{exact_seconds, hundredths};
 use std::alloc::{AllocError, Global};
