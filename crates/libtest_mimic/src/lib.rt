@@ -1,4 +1,6 @@
 //! A test harness of one's own that looks and behaves as that of `rustc --test`.
+//!
+//! Its layers are crates of their own, whose public names stand here: texts, trials, arguments, reports.
 #![tactic(auto)]
 
 pub mod args;

@@ -1,4 +1,4 @@
-//! What is asked of a run.
+//! What is asked of a run: its arguments, and the command line that they are read from. A layer of `libtest_mimic`.
 #![tactic(auto)]
 
 ghost use Rattle.std.specs.Prelude.{◌≡◌, IfOk, map, option_map, string_bytes};

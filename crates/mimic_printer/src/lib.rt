@@ -1,4 +1,4 @@
-//! Writes the parts of a report, each to a sink that counts its faults.
+//! Writes the parts of a report, each to a sink that counts its faults. A layer of `libtest_mimic`.
 #![tactic(auto)]
 
 ghost use Rattle.std.specs.Prelude.{◌≡◌, ◌-◌, ◌^◌, ◌<◌, map, length, All};

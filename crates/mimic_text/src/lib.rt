@@ -1,4 +1,4 @@
-//! The small texts of reports: grouped numbers, seconds, and texts in JSON.
+//! The small texts of reports: grouped numbers, seconds, and texts in JSON. A layer of `libtest_mimic`.
 #![tactic(auto)]
 
 ghost use Rattle.std.specs.Prelude.{◌≡◌, ◌≤◌, IfOk, length, take, decimal, string_bytes};

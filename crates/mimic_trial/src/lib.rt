@@ -1,4 +1,4 @@
-//! Trials, their runners, and what becomes of them.
+//! Trials, their runners, and what becomes of them. A layer of `libtest_mimic`.
 #![tactic(auto)]
 
 pub mod outcome;
