@@ -122,10 +122,11 @@ impl Printer {
         ensures { Puts W.contents sink.old sink.new (outcome_text self.now (label_of info.now) outcome.now) result }
     {
         match self.format {
-            FormatSetting::Pretty => self.print_outcome_line(sink, outcome),
-            FormatSetting::Terse => self.print_outcome_terse(sink, outcome),
-            FormatSetting::Json => json::put_outcome(sink, info.name.as_str(), outcome),
+            FormatSetting::Pretty => self.print_outcome_line(sink, outcome)?,
+            FormatSetting::Terse => self.print_outcome_terse(sink, outcome)?,
+            FormatSetting::Json => json::put_outcome(sink, info.name.as_str(), outcome)?,
         }
+        Ok(())
     }
 
     #[tactic(auto, unfolding(crate::specs::Report::outcome_line))]
@@ -173,11 +174,12 @@ impl Printer {
         ensures { Puts W.contents sink.old sink.new (terse_outcome self.now outcome.now) result }
     {
         match outcome {
-            Outcome::Passed => self.print_mark(sink, outcome, "."),
-            Outcome::Failed(_) => self.print_mark(sink, outcome, "F"),
-            Outcome::Ignored => self.print_mark(sink, outcome, "i"),
-            Outcome::Measured(_) => self.print_outcome_line(sink, outcome),
+            Outcome::Passed => self.print_mark(sink, outcome, ".")?,
+            Outcome::Failed(_) => self.print_mark(sink, outcome, "F")?,
+            Outcome::Ignored => self.print_mark(sink, outcome, "i")?,
+            Outcome::Measured(_) => self.print_outcome_line(sink, outcome)?,
         }
+        Ok(())
     }
 
     #[tactic(auto, unfolding(crate::specs::Report::outcome_mark))]
@@ -190,15 +192,17 @@ impl Printer {
         requires { faults_of sink.old < 2 ^ 64 - 1 }
         ensures { Puts W.contents sink.old sink.new (outcome_mark self.now outcome.now mark.now) result }
     {
-        if !self.colour {
-            return sink.put(mark.as_bytes());
+        if self.colour {
+            let pieces = [
+                Piece::Text(self.colour_start(outcome)),
+                Piece::Text(mark),
+                Piece::Text(self.colour_end()),
+            ];
+            put_pieces(sink, &pieces)?;
+        } else {
+            sink.put(mark.as_bytes())?;
         }
-        let pieces = [
-            Piece::Text(self.colour_start(outcome)),
-            Piece::Text(mark),
-            Piece::Text(self.colour_end()),
-        ];
-        put_pieces(sink, &pieces)
+        Ok(())
     }
 
     /// Writes the failures at the places of `order`, in that order: their messages, and then their
