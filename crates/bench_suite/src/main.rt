@@ -1,22 +1,27 @@
 //! Measures a run of many trivial tests:
-//! `bench_suite N FORMAT THREADS [fail_every K] [logfile PATH]`
+//! `bench_suite N FORMAT THREADS [fail_every K] [captures 1] [boxes 0] [logfile PATH]`
 //!
-//! The tests are `test_000000` and so on; every K-th fails. The report goes to standard output or the logfile. Its own
-//! time is that of a clock that stands still, so that the same words always give the same report. What was measured
-//! goes to standard error: how long making the tests and running them took, and the peak of memory.
+//! The tests are `test_000000` and so on; every K-th fails. Each is a boxed closure: with `captures 1` one that holds
+//! its test's number, as a closure over a path would. With `boxes 0` each is a value of no size, and none may fail.
+//!
+//! The report goes to standard output or the logfile. Its own time is that of a clock that stands still, so that the
+//! same words always give the same report. What was measured goes to standard error: how long making the tests and
+//! running them took, and the peak of memory.
 #![tactic(auto)]
 
 mod asked;
 mod measured;
 
-use asked::Asked;
-use libtest_mimic::{Clock, Failed, RunError, Trial};
+ghost use Rattle.libtest_mimic.specs.Trial.{AllCanRun};
+
+use asked::{Asked, Runners};
+use libtest_mimic::{Clock, Failed, Outcome, RunError, Task, Trial};
 use measured::Measured;
-use mimic_output::{Passing, buffered, run_into};
+use mimic_output::{Output, Passing, buffered, run_into};
 use std::alloc::Global;
 use std::io::Write;
 use std::process::ExitCode;
-use std::time::Instant;
+use std::time::{Duration, Instant};
 use std::{fs, io};
 use thiserror::Error;
 
@@ -32,7 +37,7 @@ const MESSAGE: &str = "the left side is not equal to the right!";
 // Why nothing, or not all, was measured.
 #[derive(Debug, Drop, Error)]
 pub(crate) enum Fault {
-    #[error("usage: bench_suite N pretty|terse|json THREADS [fail_every K] [logfile PATH]")]
+    #[error("usage: bench_suite N pretty|terse|json THREADS [fail_every K] [captures 1] [boxes 0] [logfile PATH]")]
     Usage,
     #[error("cannot create the logfile")]
     Logfile,
@@ -55,23 +60,55 @@ fn main(rt: HostRuntime) -> ExitCode {
     }
 }
 
-// The tests. This is a macro since boxed closures are to be made by the function that hands them in.
-macro_rules! trivial_tests {
-    ($alloc:expr, $count:expr, $fail_every:expr) => {{
+// The tests as boxed closures. This is a macro since boxed closures are to be made by the function that hands them in.
+macro_rules! boxed_tests {
+    ($alloc:expr, $asked:expr) => {{
         let mut tests = Vec::new($alloc);
-        for i in 0..$count {
-            let name = format!(in $alloc; "test_{i:06}").map_err(RunError::from)?;
-            let fails = $fail_every != 0 && i % $fail_every == $fail_every - 1;
+        for i in 0..$asked.count {
+            let fails = $asked.fail_every != 0 && i % $asked.fail_every == $asked.fail_every - 1;
             let runner: Box<dyn FnOnce() -> Result<(), Failed> + Send> = if fails {
                 let alloc = $alloc;
                 Box::new($alloc, move || Err(failure(alloc))).map_err(RunError::from)?
+            } else if $asked.runners == Runners::Captures {
+                Box::new($alloc, move || passes(i)).map_err(RunError::from)?
             } else {
                 Box::new($alloc, || Ok(())).map_err(RunError::from)?
             };
-            tests.push(Trial::test(name, runner)).map_err(RunError::from)?;
+            tests.push(Trial::test(test_name($alloc, i)?, runner)).map_err(RunError::from)?;
         }
         tests
     }};
+}
+
+// What a test does with its number, of which there is none so great.
+fn passes(number: usize) -> Result<(), Failed> {
+    if number == usize::MAX {
+        Err(Failed::without_message())
+    } else {
+        Ok(())
+    }
+}
+
+// A test of no size, which passes.
+#[derive(Drop)]
+struct Unit;
+
+impl Task for Unit {
+    fn run(self, _test_mode: bool) -> Outcome {
+        Outcome::Passed
+    }
+}
+
+fn unit_tests(alloc: Global, count: usize) -> Result<Vec<Trial<Unit>>, RunError> {
+    let mut tests = Vec::new(alloc);
+    for i in 0..count {
+        tests.push(Trial::new(test_name(alloc, i)?, Unit))?;
+    }
+    Ok(tests)
+}
+
+fn test_name(alloc: Global, number: usize) -> Result<String, RunError> {
+    Ok(format!(in alloc; "test_{number:06}")?)
 }
 
 fn failure(alloc: Global) -> Failed {
@@ -104,8 +141,29 @@ fn measure<W: Write + Drop>(
     // tests have given back.
     let output = buffered(alloc, passing, writer)?;
     let start = Instant::now(rt)?;
-    let tests = trivial_tests!(alloc, asked.count, asked.fail_every);
-    let made = start.elapsed(rt)?;
+    match asked.runners {
+        Runners::Boxes | Runners::Captures => {
+            let tests = boxed_tests!(alloc, asked);
+            run_tests(rt, asked, start.elapsed(rt)?, tests, output)
+        }
+        Runners::Units => {
+            let tests = unit_tests(alloc, asked.count)?;
+            run_tests(rt, asked, start.elapsed(rt)?, tests, output)
+        }
+    }
+}
+
+// Runs the tests, which it took so long to make, and tells what that took.
+fn run_tests<R: Task, W: Write + Drop>(
+    rt: &HostRuntime,
+    asked: &Asked,
+    made: Duration,
+    tests: Vec<Trial<R>>,
+    output: Output<W>,
+) -> Result<u8, Fault>
+    requires { AllCanRun R.can_run tests.items }
+{
+    let alloc = rt.alloc();
     let start = Instant::now(rt)?;
     let conclusion = run_into(alloc, &asked.arguments(alloc), tests, output, Still).1?;
     let ran = start.elapsed(rt)?;

@@ -2,11 +2,12 @@
 ghost use Rattle.std.specs.Prelude.{◌≡◌, false, IfOk, IsNone, OnErr, vec_len};
 ghost use Rattle.libtest_mimic.specs.Count.{total_of};
 ghost use Rattle.libtest_mimic.specs.Run.{HasAnswer};
+ghost use Rattle.libtest_mimic.specs.Trial.{AllCanRun};
 ghost use Rattle.mimic_output.specs.Output.{told_of};
 ghost use Rattle.harness.specs.Ended.{Ended, status_of, status_without};
 ghost use Rattle.mimic_output.specs.Run.{GotBeginning, Ran};
 
-use libtest_mimic::{Arguments, ArgumentsError, Clock, Conclusion, RunError, Trial};
+use libtest_mimic::{Arguments, ArgumentsError, Clock, Conclusion, RunError, Task, Trial};
 use mimic_output::{Output, Passing, buffered, run_into};
 use std::alloc::Global;
 use std::fs;
@@ -38,16 +39,17 @@ enum Fault {
 ///
 /// The report or list goes into the logfile, which is made or emptied first, in whole blocks; without one it goes
 /// to `out`. Help goes to `out`, and what is refused to `err`; a fault in writing either changes no status.
-pub(crate) fn harness_run<F: Files, O: Write + Drop, E: Write, C: Clock + Drop>(
+pub(crate) fn harness_run<F: Files, R: Task, O: Write + Drop, E: Write, C: Clock + Drop>(
     files: &F,
     alloc: Global,
     line: Result<Arguments, ArgumentsError>,
-    tests: Vec<Trial>,
+    tests: Vec<Trial<R>>,
     out: Output<O>,
     err: &mut E,
     clock: C,
 ) -> (O, u8)
-    ensures { Ended line tests.items (told_of O.contents out) (O.contents result.0) result.1 }
+    requires { AllCanRun R.can_run tests.items }
+    ensures { Ended R.gives line tests.items (told_of O.contents out) (O.contents result.0) result.1 }
 {
     match line {
         Ok(args) => {
@@ -95,19 +97,20 @@ fn tell<O: Write, E: Write>(error: ArgumentsError, out: &mut O, err: &mut E) -> 
 }
 
 // Runs into the logfile where there is one, else to `out`, whose writer is given back.
-fn run_line<F: Files, O: Write + Drop, C: Clock + Drop>(
+fn run_line<F: Files, R: Task, O: Write + Drop, C: Clock + Drop>(
     files: &F,
     alloc: Global,
     args: &Arguments,
-    tests: Vec<Trial>,
+    tests: Vec<Trial<R>>,
     out: Output<O>,
     clock: C,
 ) -> (O, Result<Conclusion, Fault>)
-    ensures ran { IsNone args.now.logfile → IfOk result.1 (λ c. Ran args.now tests.items
+    requires { AllCanRun R.can_run tests.items }
+    ensures ran { IsNone args.now.logfile → IfOk result.1 (λ c. Ran R.gives args.now tests.items
         (told_of O.contents out) (O.contents result.0) 0 (Ok c)) }
-    ensures beginning { IsNone args.now.logfile → OnErr result.1 (GotBeginning args.now tests.items
+    ensures beginning { IsNone args.now.logfile → OnErr result.1 (GotBeginning R.gives args.now tests.items
         (told_of O.contents out) (O.contents result.0)) }
-    ensures answer { IfOk result.1 (λ c. HasAnswer args.now tests.items (Ok c)) }
+    ensures answer { IfOk result.1 (λ c. HasAnswer R.gives args.now tests.items (Ok c)) }
     ensures adds_up { args.now.list ≡ false → IfOk result.1 (λ c. total_of c ≡ vec_len tests) }
 {
     match &args.logfile {
@@ -123,15 +126,16 @@ fn run_line<F: Files, O: Write + Drop, C: Clock + Drop>(
 }
 
 // Runs into the logfile, which is made or emptied first.
-fn run_into_logfile<F: Files, C: Clock + Drop>(
+fn run_into_logfile<F: Files, R: Task, C: Clock + Drop>(
     files: &F,
     alloc: Global,
     args: &Arguments,
-    tests: Vec<Trial>,
+    tests: Vec<Trial<R>>,
     path: &str,
     clock: C,
 ) -> Result<Conclusion, Fault>
-    ensures answer { IfOk result (λ c. HasAnswer args.now tests.items (Ok c)) }
+    requires { AllCanRun R.can_run tests.items }
+    ensures answer { IfOk result (λ c. HasAnswer R.gives args.now tests.items (Ok c)) }
     ensures adds_up { args.now.list ≡ false → IfOk result (λ c. total_of c ≡ vec_len tests) }
 {
     let Ok(file) = fs::create(files, path) else {

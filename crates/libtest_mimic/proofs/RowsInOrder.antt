@@ -1,6 +1,7 @@
 -- Rows of trials that run one after another.
-use Rattle.std.proofs.Common.{◌≡◌, ℕ, ◌+◌, ◌-◌, ◌^◌, ◌<◌, ◌≤◌, List, [], ◌∷◌, ◌++◌, Option, Bool, true, false, inl, inr, not, filter, length, refl, rules, sym, ap, ◌∙◌, subst, arith, append-nil, length-append, vec_len}
+use Rattle.std.proofs.Common.{All, ◌≡◌, ℕ, ◌+◌, ◌-◌, ◌^◌, ◌<◌, ◌≤◌, List, [], ◌∷◌, ◌++◌, Option, Bool, true, false, inl, inr, not, filter, length, refl, rules, sym, ap, ◌∙◌, subst, arith, append-nil, length-append, vec_len}
 use Rattle.std.proofs.lemmas.List.{length-map}
+use Rattle.std.proofs.lemmas.List.Elements.{All-head, All-tail}
 use Rattle.std.proofs.lemmas.List.Concat.{flat_map-append}
 use Rattle.std.proofs.lemmas.List.Sums.{count_by-le-length, length-filter}
 use Rattle.std.specs.Bool.{MatchBool}
@@ -10,14 +11,14 @@ use Rattle.mimic_trial.specs.declared.outcome.Outcome.{Outcome}
 use Rattle.mimic_trial.specs.declared.outcome.Outcome.TheVariants.{Ignored}
 use Rattle.mimic_printer.specs.declared.Printer.{Printer}
 use Rattle.libtest_mimic.specs.declared.run.tally.Tally.{Tally}
-use Rattle.mimic_trial.specs.declared.runner.Runner.{Runner}
 use Rattle.mimic_printer.specs.declared.sink.Sink.{Sink}
+use Rattle.mimic_trial.specs.Promise.{Gives}
 use Rattle.mimic_trial.specs.declared.trial.Trial.{Trial}
 use Rattle.libtest_mimic.specs.Arrangement.{IsOwn}
 use Rattle.mimic_trial.specs.Places.{label_at}
 use Rattle.mimic_trial.specs.Count.{is_failed}
 use Rattle.mimic_trial.specs.Count.{HasRoom}
-use Rattle.mimic_trial.specs.Promise.{FitsTypes, PromisesOutcome}
+use Rattle.mimic_trial.specs.Promise.{FitsTypes}
 use Rattle.mimic_printer.specs.Report.{announcement_text, outcome_text, row_text, rows_text}
 use Rattle.mimic_trial.specs.Row.{Row, label_of, outcomes_of}
 use Rattle.libtest_mimic.specs.Selection.{IsIgnored}
@@ -53,44 +54,50 @@ module _ {W : Type 0} (contents : W → Option (List ℕ)) where
 
 -- ---- own rows
 
-module _ {X Y : Type 0} {F : X → Type 0} {G : Y → Type 0} {g : _} {h : _} where
+module _ {R : Type 0} (gives : Gives R) where
   -- one more trial and its row
-  pub OwnRows-push : (args : Arguments) (ts : List (Trial X Y F G g h)) (rows : List Row) (t : Trial X Y F G g h) (row : Row)
-      → length ts ≡ length rows → OwnRows args ts rows → row.label ≡ label_of (info_of t) → IsOwn args t row.outcome → OwnRows args (ts ++ t ∷ []) (rows ++ row ∷ [])
+  pub OwnRows-push : (args : Arguments) (ts : List (Trial R)) (rows : List Row) (t : Trial R) (row : Row)
+      → length ts ≡ length rows → OwnRows gives args ts rows → row.label ≡ label_of (info_of t) → IsOwn gives args t row.outcome → OwnRows gives args (ts ++ t ∷ []) (rows ++ row ∷ [])
   OwnRows-push args [] [] t row e own label here = (label, here, tt)
   OwnRows-push args [] (r ∷ rows) t row e own label here = absurd own
   OwnRows-push args (s ∷ ts) [] t row e own label here = absurd (omega arith)
   OwnRows-push args (s ∷ ts) (r ∷ rows) t row e own label here = (own.0, own.1, OwnRows-push args ts rows t row (omega arith) own.2 label here)
 
-  OwnRows-more : (args : Arguments) (ts more : List (Trial X Y F G g h)) (rows : List Row) → OwnRows args ts rows → OwnRows args (ts ++ more) rows
+  OwnRows-more : (args : Arguments) (ts more : List (Trial R)) (rows : List Row) → OwnRows gives args ts rows → OwnRows gives args (ts ++ more) rows
   OwnRows-more args ts more [] own = tt
   OwnRows-more args [] more (r ∷ rows) own = absurd own
   OwnRows-more args (t ∷ ts) more (r ∷ rows) own = (own.0, own.1, OwnRows-more args ts more rows own.2)
 
   -- the rows are the trials' own where the rest did not run
-  pub OwnRows-seen : (args : Arguments) (seen rest all : List (Trial X Y F G g h)) (rows : List Row) → seen ++ rest ≡ all → OwnRows args seen rows → OwnRows args all rows
-  OwnRows-seen args seen rest all rows e own = let P : List (Trial X Y F G g h) → Type 0 = λ l. OwnRows args l rows in subst P e (OwnRows-more args seen rest rows own)
+  pub OwnRows-seen : (args : Arguments) (seen rest all : List (Trial R)) (rows : List Row) → seen ++ rest ≡ all → OwnRows gives args seen rows → OwnRows gives args all rows
+  OwnRows-seen args seen rest all rows e own = let P : List (Trial R) → Type 0 = λ l. OwnRows gives args l rows in subst P e (OwnRows-more args seen rest rows own)
 
-  label_at-seam : (front rest : List (Trial X Y F G g h)) (t : Trial X Y F G g h) → label_at (labels_of (front ++ (t ∷ rest))) (length front) ≡ label_of (info_of t)
+module _ {R : Type 0} where
+  label_at-seam : (front rest : List (Trial R)) (t : Trial R) → label_at (labels_of (front ++ (t ∷ rest))) (length front) ≡ label_of (info_of t)
   label_at-seam [] rest t = refl
   label_at-seam (s ∷ front) rest t = label_at-seam front rest t
 
   -- what a report shows of the next trial
-  pub label_at-next : (front rest all : List (Trial X Y F G g h)) (t : Trial X Y F G g h) (n : ℕ) → front ++ (t ∷ rest) ≡ all → n ≡ length front → label_of (info_of t) ≡ label_at (labels_of all) n
+  pub label_at-next : (front rest all : List (Trial R)) (t : Trial R) (n : ℕ) → front ++ (t ∷ rest) ≡ all → n ≡ length front → label_of (info_of t) ≡ label_at (labels_of all) n
   label_at-next front rest all t n e k =
       sym (label_at-seam front rest t) ∙ ap (λ l. label_at (labels_of l) (length front)) e ∙ ap (label_at (labels_of all)) (sym k)
 
 -- `Ignored` where the trial is ignored, and else the outcome of what its runner promises, is its own
-pub IsOwn-from_runner : {X Y : Type 0} {F : X → Type 0} {G : Y → Type 0} {g : _} {h : _} (args : Arguments) (t : Trial X Y F G g h) (r : Runner X Y F G g h) (b : Bool) (o : Outcome)
-    → (IsTrue b ↔ IsIgnored args t) → r ≡ runner_of t → MatchBool b (o ≡ Ignored) (PromisesOutcome r (not args.bench) o × FitsTypes o) → IsOwn args t o
-IsOwn-from_runner args t r true o says e own = inl (says.0 (search rules), own)
-IsOwn-from_runner {X} {Y} {F} {G} {g} {h} args t r false o says e own =
-    let P : Runner X Y F G g h → Type 0 = λ x. PromisesOutcome x (not args.bench) o in
+pub IsOwn-from_runner : {R : Type 0} (gives : Gives R) (args : Arguments) (t : Trial R) (r : R) (b : Bool) (o : Outcome)
+    → (IsTrue b ↔ IsIgnored args t) → r ≡ runner_of t → MatchBool b (o ≡ Ignored) (gives r (not args.bench) o × FitsTypes o) → IsOwn gives args t o
+IsOwn-from_runner gives args t r true o says e own = inl (says.0 (search rules), own)
+IsOwn-from_runner {R} gives args t r false o says e own =
+    let P : R → Type 0 = λ x. gives x (not args.bench) o in
     inr ((λ i. let k : IsTrue false = says.1 i in search rules), subst P e own.0, own.1)
 
 -- a list with one element more behind the front is longer
 pub longer : {A : Type 0} (front rest all : List A) (x : A) → front ++ (x ∷ rest) ≡ all → length front < length all
 longer front rest all x e = omega (arith, length-append front (x ∷ rest), ap length e)
+
+-- what holds of each element holds of the one behind the front
+pub All-next : {A : Type 0} (P : A → Type 0) (front rest all : List A) (x : A) → front ++ (x ∷ rest) ≡ all → All P all → P x
+All-next P [] rest all x e holds = All-head P x rest (subst (All P) (sym e) holds)
+All-next P (y ∷ front) rest all x e holds = All-next P front rest (front ++ (x ∷ rest)) x refl (All-tail P y (front ++ (x ∷ rest)) (subst (All P) (sym e) holds))
 
 -- ---- what a tally has room for
 
@@ -123,11 +130,11 @@ HasRoomFor-tally t filtered_out rows n h room within = record {
 
 -- ---- the rows so far
 
-module _ {X Y : Type 0} {F : X → Type 0} {G : Y → Type 0} {g : _} {h : _} {W : Type 0} (contents : W → Option (List ℕ)) where
+module _ {R : Type 0} (gives : Gives R) {W : Type 0} (contents : W → Option (List ℕ)) where
   -- the rows of these trials were appended, and the tally has counted them
-  pub record RowsSoFar (args : Arguments) (trials : List (Trial X Y F G g h)) (p : Printer) (filtered_out : ℕ) (old new : Sink W) (t : Tally) : Type 0 where
+  pub record RowsSoFar (args : Arguments) (trials : List (Trial R)) (p : Printer) (filtered_out : ℕ) (old new : Sink W) (t : Tally) : Type 0 where
     pub rows : List Row
-    pub own : OwnRows args trials rows
+    pub own : OwnRows gives args trials rows
     pub count : length rows ≡ length trials
     pub text : Put contents old new (rows_text p rows)
     pub tally : HasCounted t filtered_out rows

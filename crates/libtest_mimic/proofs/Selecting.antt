@@ -1,5 +1,6 @@
 -- Lemmas on lists of which some elements are left out.
-use Rattle.std.proofs.Common.{◌≡◌, ◌∙◌, ◌≤◌, Bool, true, false, List, [], ◌∷◌, ap, arith, inl, inr, length, refl, subst, sym}
+use Rattle.std.proofs.Common.{All, ◌≡◌, ◌∙◌, ◌≤◌, Bool, true, false, List, [], ◌∷◌, ap, arith, inl, inr, length, refl, subst, sym}
+use Rattle.std.proofs.lemmas.List.Elements.{All-cons, All-head, All-tail}
 use Rattle.std.specs.List.{items_where_true}
 use Rattle.std.specs.List.Retain.{IsFiltered, ReturnsInTurn}
 use Rattle.libtest_mimic.specs.Selection.{LeavesOut}
@@ -41,3 +42,10 @@ LeavesOut-unique Out (x ∷ xs) ys zs (inl h) (inr k) = absurd (k.0 h.0)
 LeavesOut-unique Out (x ∷ xs) ys zs (inr h) (inl k) = absurd (h.0 k.0)
 LeavesOut-unique Out (x ∷ xs) ys zs (inr h) (inr k) =
     h.1.1 ∙ ap (λ l. x ∷ l) (LeavesOut-unique Out xs h.1.0 k.1.0 h.1.2 k.1.2) ∙ sym k.1.1
+
+-- what holds of all holds of those that are kept
+pub All-LeavesOut : {A : Type 0} (Out P : A → Type 0) (xs ys : List A) → LeavesOut Out xs ys → All P xs → All P ys
+All-LeavesOut Out P [] ys h all = subst (All P) (sym h) all
+All-LeavesOut Out P (x ∷ xs) ys (inl h) all = All-LeavesOut Out P xs ys h.1 (All-tail P x xs all)
+All-LeavesOut Out P (x ∷ xs) ys (inr h) all =
+    subst (All P) (sym h.1.1) (All-cons P x h.1.0 (All-head P x xs all) (All-LeavesOut Out P xs h.1.0 h.1.2 (All-tail P x xs all)))

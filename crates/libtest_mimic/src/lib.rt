@@ -14,8 +14,8 @@ pub mod text;
 pub use mimic_args::{Arguments, ArgumentsError, ColorSetting, FormatSetting, UnstableFlags};
 pub use mimic_printer::{Sink, WriteFault};
 pub use mimic_trial::{
-    BenchRunner, Conclusion, Failed, Measurement, Outcome, Runner, TestInfo, TestRunner, Trial,
-    count_rows, run_single,
+    BenchRunner, Conclusion, Failed, Measurement, Outcome, Runner, Task, TestInfo, TestRunner,
+    Trial, count_rows, run_single,
 };
 pub use run::{RunError, run_here};
 pub use stopwatch::{Clock, Stopwatch};

@@ -5,7 +5,7 @@ ghost use Rattle.libtest_mimic.specs.Run.{HasAnswer, HasLines, RanHere, RanInOrd
 ghost use Rattle.libtest_mimic.specs.Selection.{IsDropped, IsSelection};
 ghost use Rattle.mimic_printer.specs.Sink.{faults_of};
 ghost use Rattle.libtest_mimic.specs.Stopwatch.{IsFresh, IsRunning};
-ghost use Rattle.mimic_trial.specs.Trial.{labels_of};
+ghost use Rattle.mimic_trial.specs.Trial.{AllCanRun, labels_of};
 ghost use Rattle.mimic_printer.specs.Widths.{kind_width_of, name_width_of};
 
 mod in_order;
@@ -16,7 +16,7 @@ use crate::stopwatch::{Clock, Stopwatch};
 use in_order::write_report;
 use mimic_args::{Arguments, FormatSetting};
 use mimic_printer::{Printer, Sink, WriteFault, widths_of_trials};
-use mimic_trial::{Conclusion, Trial};
+use mimic_trial::{Conclusion, Task, Trial};
 use std::alloc::{AllocError, AllocFailed, Global};
 use std::io::Write;
 use tally::Tally;
@@ -41,20 +41,21 @@ pub enum RunError {
 /// a list, or a refusal that came before the summary, it is running. `auto_colours` says whether the
 /// report has colours where the arguments leave it open. An ignored trial's runner is not called, and
 /// after a write fault no further one is.
-pub fn run_here<W: Write, C: Clock>(
+pub fn run_here<R: Task, W: Write, C: Clock>(
     alloc: Global,
     args: &Arguments,
-    tests: Vec<Trial>,
+    tests: Vec<Trial<R>>,
     sink: &mut Sink<W>,
     watch: &mut Stopwatch<C>,
     auto_colours: bool,
 ) -> Result<Conclusion, RunError>
     requires room { faults_of sink.old < 2 ^ 64 - 1 }
     requires fresh { IsFresh watch.old }
-    ensures ran { RanHere W.contents args.now auto_colours tests.items sink.old sink.new watch.new result }
+    requires runnable { AllCanRun R.can_run tests.items }
+    ensures ran { RanHere R.gives W.contents args.now auto_colours tests.items sink.old sink.new watch.new result }
 
     // The answer is fixed where each trial has just one own outcome.
-    ensures answer { HasAnswer args.now tests.items result }
+    ensures answer { HasAnswer R.gives args.now tests.items result }
     ensures adds_up { args.now.list ≡ false → IfOk result (λ c. total_of c ≡ vec_len tests) }
     ensures lines { HasLines W.contents args.now tests.items sink.old sink.new result }
 {
@@ -77,7 +78,7 @@ pub fn run_here<W: Write, C: Clock>(
 }
 
 // Keeps the selected trials alone, and answers how many were dropped.
-fn select(args: &Arguments, trials: &mut Vec<Trial>) -> u64
+fn select<R: Drop>(args: &Arguments, trials: &mut Vec<Trial<R>>) -> u64
     ensures selection { IsSelection args.now trials.old.items trials.new.items }
     ensures dropped { result ≡ length trials.old.items - length trials.new.items }
 {
@@ -95,7 +96,7 @@ fn select(args: &Arguments, trials: &mut Vec<Trial>) -> u64
 }
 
 // Writes the list of the trials. Its answer counts nothing.
-fn write_list<W: Write>(trials: &[Trial], sink: &mut Sink<W>) -> Result<Conclusion, RunError>
+fn write_list<R, W: Write>(trials: &[Trial<R>], sink: &mut Sink<W>) -> Result<Conclusion, RunError>
     requires { faults_of sink.old < 2 ^ 64 - 1 }
     ensures { WritesList W.contents trials.now sink.old sink.new result }
 {
@@ -105,10 +106,10 @@ fn write_list<W: Write>(trials: &[Trial], sink: &mut Sink<W>) -> Result<Conclusi
 }
 
 // Runs the trials in their order and writes their report, beside so many that were filtered out.
-fn run_selected<W: Write, C: Clock>(
+fn run_selected<R: Task, W: Write, C: Clock>(
     alloc: Global,
     args: &Arguments,
-    selected: Vec<Trial>,
+    selected: Vec<Trial<R>>,
     filtered_out: u64,
     sink: &mut Sink<W>,
     watch: &mut Stopwatch<C>,
@@ -116,7 +117,8 @@ fn run_selected<W: Write, C: Clock>(
 ) -> Result<Conclusion, RunError>
     requires room { faults_of sink.old < 2 ^ 64 - 1 }
     requires running { IsRunning watch.old }
-    ensures { RanInOrder W.contents args.now selected.items
+    requires runnable { AllCanRun R.can_run selected.items }
+    ensures { RanInOrder R.gives W.contents args.now selected.items
         (printer_for args.now auto_colours (labels_of selected.items)) filtered_out
         sink.old sink.new watch.new result }
 {
@@ -131,7 +133,7 @@ fn run_selected<W: Write, C: Clock>(
 }
 
 // The printer of a run: the format and the colours that are asked for, and in pretty columns for these trials.
-fn printer_for(args: &Arguments, trials: &[Trial], auto_colours: bool) -> Printer
+fn printer_for<R>(args: &Arguments, trials: &[Trial<R>], auto_colours: bool) -> Printer
     ensures { result ≡ printer_for args.now auto_colours (labels_of trials.now) }
 {
     let format = args.format_used();
@@ -140,7 +142,7 @@ fn printer_for(args: &Arguments, trials: &[Trial], auto_colours: bool) -> Printe
 }
 
 // How wide its columns are: only pretty has some.
-fn columns_for(format: FormatSetting, trials: &[Trial]) -> (usize, usize)
+fn columns_for<R>(format: FormatSetting, trials: &[Trial<R>]) -> (usize, usize)
     ensures names { result.0 ≡ columns_in format (name_width_of (labels_of trials.now)) }
     ensures kinds { result.1 ≡ columns_in format (kind_width_of (labels_of trials.now)) }
 {

@@ -4,6 +4,7 @@ mod calls;
 mod command_lines;
 mod faults;
 mod reports;
+mod runners;
 mod runs;
 mod selection;
 mod texts;

@@ -3,12 +3,13 @@ ghost use Rattle.std.specs.Prelude.{◌≡◌, false, IfOk, IsOk, OnErr, vec_len
 ghost use Rattle.std.specs.Io.KnownBytes.{Keeps};
 ghost use Rattle.libtest_mimic.specs.Count.{total_of};
 ghost use Rattle.libtest_mimic.specs.Run.{HasAnswer};
+ghost use Rattle.libtest_mimic.specs.Trial.{AllCanRun};
 ghost use Rattle.mimic_output.specs.Output.{told_of};
 ghost use Rattle.mimic_output.specs.Run.{GotBeginning, Ran};
 
 use crate::buffer::{Output, Passing};
 use libtest_mimic::{
-    Arguments, Clock, Conclusion, RunError, Sink, Stopwatch, Trial, WriteFault, run_here,
+    Arguments, Clock, Conclusion, RunError, Sink, Stopwatch, Task, Trial, WriteFault, run_here,
 };
 use std::alloc::Global;
 use std::io;
@@ -32,18 +33,19 @@ pub fn buffered<W: Write + Drop>(
 /// Runs or lists the trials as the arguments ask, hands on what the buffer holds at the end, and gives the writer back.
 ///
 /// A fault in handing on the last bytes is a fault of the run.
-pub fn run_into<W: Write + Drop, C: Clock + Drop>(
+pub fn run_into<R: Task, W: Write + Drop, C: Clock + Drop>(
     alloc: Global,
     args: &Arguments,
-    tests: Vec<Trial>,
+    tests: Vec<Trial<R>>,
     output: Output<W>,
     clock: C,
 ) -> (W, Result<Conclusion, RunError>)
-    ensures ran { IfOk result.1 (λ c. Ran args.now tests.items
+    requires runnable { AllCanRun R.can_run tests.items }
+    ensures ran { IfOk result.1 (λ c. Ran R.gives args.now tests.items
         (told_of W.contents output) (W.contents result.0) 0 (Ok c)) }
-    ensures beginning { OnErr result.1 (GotBeginning args.now tests.items
+    ensures beginning { OnErr result.1 (GotBeginning R.gives args.now tests.items
         (told_of W.contents output) (W.contents result.0)) }
-    ensures answer { IfOk result.1 (λ c. HasAnswer args.now tests.items (Ok c)) }
+    ensures answer { IfOk result.1 (λ c. HasAnswer R.gives args.now tests.items (Ok c)) }
     ensures adds_up { args.now.list ≡ false → IfOk result.1 (λ c. total_of c ≡ vec_len tests) }
 {
     let mut sink = Sink::new(output);

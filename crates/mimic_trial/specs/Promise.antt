@@ -44,3 +44,7 @@ FitsTypes (Measured m) = (m.avg < 2 ^ 64) × (m.variance < 2 ^ 64)
 abbrev pub PromisesOutcome : {X Y : Type 0} {F : X → Type 0} {G : Y → Type 0} {g : _} {h : _} → Runner X Y F G g h → Bool → Outcome → Type 0
 PromisesOutcome (Test t) test_mode o = (answer : _) × TestAnswers t answer × (o ≡ outcome_of_test answer)
 PromisesOutcome (Bench b) test_mode o = (answer : _) × BenchAnswers b test_mode answer × (o ≡ outcome_of_bench test_mode answer)
+
+-- which outcomes a runner may give, by whether the mode is the test mode
+abbrev pub Gives : Type 0 → Type 1
+Gives R = R → Bool → Outcome → Type 0

@@ -1,19 +1,21 @@
 -- A trial: what is known of it before it runs, and its runner.
-use Rattle.std.specs.Prelude.{List, map}
-use Rattle.mimic_trial.specs.declared.runner.Runner.{Runner}
+use Rattle.std.specs.Prelude.{All, List, map}
 use Rattle.mimic_trial.specs.declared.trial.TestInfo.{TestInfo}
 use Rattle.mimic_trial.specs.declared.trial.Trial.{Trial}
 use Rattle.mimic_trial.specs.Row.{Label, label_of}
 
--- In the signatures below X, Y, F, G, g and h stand for what the runners' boxed closures promise.
-
 -- what is known of the trial before it runs
-abbrev pub info_of : {X Y : Type 0} {F : X → Type 0} {G : Y → Type 0} {g : _} {h : _} → Trial X Y F G g h → TestInfo
+abbrev pub info_of : {R : Type 0} → Trial R → TestInfo
 info_of trial = trial.info
 
-abbrev pub runner_of : {X Y : Type 0} {F : X → Type 0} {G : Y → Type 0} {g : _} {h : _} → Trial X Y F G g h → Runner X Y F G g h
+-- what runs it
+abbrev pub runner_of : {R : Type 0} → Trial R → R
 runner_of trial = trial.runner
 
+-- each trial's runner may be run
+abbrev pub AllCanRun : {R : Type 0} → (R → Type 0) → List (Trial R) → Type 0
+AllCanRun can_run trials = All (λ t. can_run (runner_of t)) trials
+
 -- what a report shows of the trials, in their order
-abbrev pub labels_of : {X Y : Type 0} {F : X → Type 0} {G : Y → Type 0} {g : _} {h : _} → List (Trial X Y F G g h) → List Label
+abbrev pub labels_of : {R : Type 0} → List (Trial R) → List Label
 labels_of trials = map (λ t. label_of (info_of t)) trials

@@ -21,9 +21,9 @@ pub struct TestInfo {
 
 /// A test or a benchmark: what is known of it, and how to run it.
 #[derive(Drop)]
-pub struct Trial {
+pub struct Trial<R = Runner> {
     info: TestInfo,
-    runner: Runner,
+    runner: R,
 }
 
 impl Trial {
@@ -40,16 +40,7 @@ impl Trial {
         ensures promise { (mode : _) (o : _) → PromisesOutcome (runner_of result) mode o
             ↔ ((answer : _) × post runner answer × (o ≡ outcome_of_test answer)) }
     {
-        let kind = String::new(*name.allocator());
-        Trial {
-            info: TestInfo {
-                name,
-                kind,
-                is_ignored: false,
-                is_bench: false,
-            },
-            runner: Runner::Test(TestRunner::new(runner)),
-        }
+        Trial::new(name, Runner::Test(TestRunner::new(runner)))
     }
 
     /// A benchmark without a kind and without the ignored flag.
@@ -68,39 +59,62 @@ impl Trial {
         ensures promise { (mode : _) (o : _) → PromisesOutcome (runner_of result) mode o
             ↔ ((answer : _) × post runner mode answer × (o ≡ outcome_of_bench mode answer)) }
     {
+        let mut trial = Trial::new(name, Runner::Bench(BenchRunner::new(runner)));
+        trial.info.is_bench = true;
+        trial
+    }
+}
+
+impl<R> Trial<R> {
+    ghost use Rattle.mimic_trial.specs.Trial.{info_of, runner_of};
+
+    /// A test without a kind and without the ignored flag, over any runner. It becomes what the runner gives.
+    pub fn new(name: String, runner: R) -> Self
+        ensures name { string_bytes (info_of result).name ≡ string_bytes name }
+        ensures kind { string_bytes (info_of result).kind ≡ [] }
+        ensures flag { (info_of result).is_ignored ≡ false }
+        ensures sort { (info_of result).is_bench ≡ false }
+        ensures runner { runner_of result ≡ runner }
+    {
         let kind = String::new(*name.allocator());
         Trial {
             info: TestInfo {
                 name,
                 kind,
                 is_ignored: false,
-                is_bench: true,
+                is_bench: false,
             },
-            runner: Runner::Bench(BenchRunner::new(runner)),
+            runner,
         }
     }
 
+    /// The trial of which this is known, over any runner: a benchmark too.
+    pub fn from_parts(info: TestInfo, runner: R) -> Self
+        ensures info { info_of result ≡ info }
+        ensures runner { runner_of result ≡ runner }
+    {
+        Trial { info, runner }
+    }
+
     /// The same trial with this kind, which rows show in brackets before the name.
-    pub fn with_kind(self, kind: String) -> Self
+    pub fn with_kind(mut self, kind: String) -> Self
         ensures info { info_of result ≡ record (info_of self) { kind = kind } }
         ensures runner { runner_of result ≡ runner_of self }
     {
-        let Trial { mut info, runner } = self;
-        info.kind = kind;
-        Trial { info, runner }
+        self.info.kind = kind;
+        self
     }
 
     /// The same trial, marked as ignored or not.
     ///
     /// An ignored trial is not run where the arguments have neither `ignored` nor `include_ignored`.
     /// With `ignored`, trials that are not marked are not even selected.
-    pub fn with_ignored_flag(self, is_ignored: bool) -> Self
+    pub fn with_ignored_flag(mut self, is_ignored: bool) -> Self
         ensures info { info_of result ≡ record (info_of self) { is_ignored = is_ignored } }
         ensures runner { runner_of result ≡ runner_of self }
     {
-        let Trial { mut info, runner } = self;
-        info.is_ignored = is_ignored;
-        Trial { info, runner }
+        self.info.is_ignored = is_ignored;
+        self
     }
 
     /// The name.
@@ -121,7 +135,7 @@ impl Trial {
     pub fn has_ignored_flag(&self) -> bool
         ensures { result ≡ (info_of self.now).is_ignored }
     {
-        self.info.is_ignored
+        self.info().is_ignored
     }
 
     /// Whether the trial is a test.
@@ -146,12 +160,11 @@ impl Trial {
     }
 
     /// Takes the trial apart: what is known of it, and its runner.
-    pub fn into_parts(self) -> (TestInfo, Runner)
+    pub fn into_parts(self) -> (TestInfo, R)
         ensures info { result.0 ≡ info_of self }
         ensures runner { result.1 ≡ runner_of self }
     {
-        let Trial { info, runner } = self;
-        (info, runner)
+        (self.info, self.runner)
     }
 }
 
@@ -164,7 +177,7 @@ impl fmt::Debug for OpaqueRunner {
     }
 }
 
-impl fmt::Debug for Trial {
+impl<R> fmt::Debug for Trial<R> {
     fn fmt<W: fmt::Write>(&self, f: &mut fmt::Formatter<W>) -> fmt::Result {
         f.debug_struct("Trial")
             .field("info", &self.info)

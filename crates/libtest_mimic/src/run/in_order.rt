@@ -1,7 +1,8 @@
 //! Runs trials in the calling thread, one after another.
 ghost use Rattle.std.specs.Prelude.{◌≡◌, ◌-◌, ◌^◌, ◌<◌, [], vec_len};
 ghost use Rattle.std.specs.Bool.{MatchBool};
-ghost use Rattle.mimic_trial.specs.Promise.{FitsTypes, PromisesOutcome};
+ghost use Rattle.mimic_trial.specs.Promise.{FitsTypes};
+ghost use Rattle.mimic_trial.specs.Trial.{AllCanRun};
 ghost use Rattle.mimic_printer.specs.Sink.{faults_of};
 ghost use Rattle.libtest_mimic.specs.Steps.{HasCounted, HasRoomFor, RowsRun, WritesReport};
 ghost use Rattle.libtest_mimic.specs.Stopwatch.{IsRunning};
@@ -11,15 +12,15 @@ use crate::select::is_ignored;
 use crate::stopwatch::{Clock, Stopwatch};
 use mimic_args::Arguments;
 use mimic_printer::{Printer, Sink, WriteFault};
-use mimic_trial::{Conclusion, Outcome, Runner, Trial, run_single};
+use mimic_trial::{Conclusion, Outcome, Task, Trial};
 use std::io::Write;
 
 // Runs the trials in their order, and writes the whole report. The watch is stopped directly before
 // the summary is written.
-pub(super) fn write_report<W: Write, C: Clock>(
+pub(super) fn write_report<R: Task, W: Write, C: Clock>(
     printer: &Printer,
     args: &Arguments,
-    trials: Vec<Trial>,
+    trials: Vec<Trial<R>>,
     tally: Tally,
     sink: &mut Sink<W>,
     watch: &mut Stopwatch<C>,
@@ -27,8 +28,9 @@ pub(super) fn write_report<W: Write, C: Clock>(
     requires room { faults_of sink.old < 2 ^ 64 - 1 }
     requires running { IsRunning watch.old }
     requires empty { HasCounted tally tally.conclusion.num_filtered_out [] }
+    requires runnable { AllCanRun R.can_run trials.items }
     requires capacity { HasRoomFor tally (vec_len trials) }
-    ensures { WritesReport W.contents args.now trials.items printer.now tally.conclusion.num_filtered_out
+    ensures { WritesReport R.gives W.contents args.now trials.items printer.now tally.conclusion.num_filtered_out
         sink.old sink.new watch.new result }
 {
     let mut tally = tally;
@@ -43,17 +45,18 @@ pub(super) fn write_report<W: Write, C: Clock>(
 }
 
 // Runs the trials in their order, and writes the row of each: its announcement before it runs.
-fn run_rows<W: Write>(
+fn run_rows<R: Task, W: Write>(
     printer: &Printer,
     args: &Arguments,
-    trials: Vec<Trial>,
+    trials: Vec<Trial<R>>,
     tally: &mut Tally,
     sink: &mut Sink<W>,
 ) -> Result<(), WriteFault>
     requires room { faults_of sink.old < 2 ^ 64 - 1 }
     requires empty { HasCounted tally.old tally.old.conclusion.num_filtered_out [] }
+    requires runnable { AllCanRun R.can_run trials.items }
     requires capacity { HasRoomFor tally.old (vec_len trials) }
-    ensures { RowsRun W.contents args.now trials.items printer.now tally.old.conclusion.num_filtered_out
+    ensures { RowsRun R.gives W.contents args.now trials.items printer.now tally.old.conclusion.num_filtered_out
         sink.old sink.new tally.new result }
 {
     for trial in trials {
@@ -68,12 +71,13 @@ fn run_rows<W: Write>(
 }
 
 // The outcome of a call of the runner, or `Ignored` without a call.
-fn run_unless(ignored: bool, runner: Runner, test_mode: bool) -> Outcome
-    ensures { MatchBool ignored (result ≡ Outcome.Ignored) (PromisesOutcome runner test_mode result × FitsTypes result) }
+fn run_unless<R: Task>(ignored: bool, runner: R, test_mode: bool) -> Outcome
+    requires { R.can_run runner }
+    ensures { MatchBool ignored (result ≡ Outcome.Ignored) (R.gives runner test_mode result × FitsTypes result) }
 {
     if ignored {
         Outcome::Ignored
     } else {
-        run_single(runner, test_mode)
+        runner.run(test_mode)
     }
 }

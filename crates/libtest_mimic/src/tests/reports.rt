@@ -101,7 +101,7 @@ fn reports_two_tests(rt: HostRuntime) -> Result<(), Fail> {
 #[test]
 fn reports_no_tests(rt: HostRuntime) -> Result<(), Fail> {
     let alloc = rt.alloc();
-    let (conclusion, writer) = run_ample(alloc, &Arguments::new(alloc), Vec::new(alloc))?;
+    let (conclusion, writer) = run_ample(alloc, &Arguments::new(alloc), Vec::<Trial>::new(alloc))?;
     assert!(rt; !conclusion.has_failed());
     assert!(rt; writer.bytes.as_slice() == NO_TESTS);
     Ok(())
@@ -131,7 +131,14 @@ fn tells_the_time(rt: HostRuntime) -> Result<(), Fail> {
             let mut sink = Sink::new(ample(Vec::new(alloc)));
             let mut watch = Stopwatch::new(Times { first, second });
             assert!(rt; watch.is_fresh());
-            run_here(alloc, &args, Vec::new(alloc), &mut sink, &mut watch, false)?;
+            run_here(
+                alloc,
+                &args,
+                Vec::<Trial>::new(alloc),
+                &mut sink,
+                &mut watch,
+                false,
+            )?;
             assert_eq!(rt; watch.elapsed(), Some(second.saturating_sub(first)));
             assert!(rt; sink.into_inner().bytes.ends_with(end));
         }

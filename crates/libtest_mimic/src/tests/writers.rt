@@ -1,7 +1,8 @@
 //! Writers and clocks over memory.
 ghost use Rattle.std.specs.Prelude.{Some};
+ghost use Rattle.mimic_trial.specs.Trial.{AllCanRun};
 
-use crate::{Arguments, Clock, Conclusion, RunError, Sink, Stopwatch, Trial, run_here};
+use crate::{Arguments, Clock, Conclusion, RunError, Sink, Stopwatch, Task, Trial, run_here};
 use std::alloc::Global;
 use std::io;
 use std::io::Write;
@@ -82,11 +83,13 @@ pub(super) fn stopped_clock() -> Times {
 }
 
 // Runs the tests with a clock that stands still, and answers the counts and the writer.
-pub(super) fn run_ample(
+pub(super) fn run_ample<R: Task>(
     alloc: Global,
     args: &Arguments,
-    tests: Vec<Trial>,
-) -> Result<(Conclusion, Limited), RunError> {
+    tests: Vec<Trial<R>>,
+) -> Result<(Conclusion, Limited), RunError>
+    requires { AllCanRun R.can_run tests.items }
+{
     let mut sink = Sink::new(ample(Vec::new(alloc)));
     let mut watch = Stopwatch::new(stopped_clock());
     let conclusion = run_here(alloc, args, tests, &mut sink, &mut watch, false)?;

@@ -1,0 +1,118 @@
+//! Trials over runners of one's own: plain data, closures that no box holds, and one function for all cases.
+ghost use Rattle.std.specs.Prelude.{◌≡◌, ◌+◌, ◌==◌, IfOk, None, if◌then◌else◌};
+ghost use Rattle.mimic_trial.specs.declared.outcome.Outcome.TheVariants.{Failed as HasFailed, Passed as HasPassed};
+
+use super::writers::run_ample;
+use crate::{Arguments, Conclusion, Failed, Measurement, Outcome, Task, TestInfo, Trial};
+use std::alloc::{AllocError, Global};
+use std::test::Fail;
+
+// A sum and what it is to be: plain data.
+#[derive(Drop)]
+struct Sum {
+    left: u32,
+    right: u32,
+    total: u64,
+}
+
+impl Task for Sum {
+    // It passes exactly where the sum is right.
+    ghost gives = { λ sum _ o. o ≡ (if sum.left + sum.right == sum.total then HasPassed else HasFailed None) };
+
+    fn run(self, _test_mode: bool) -> Outcome {
+        if u64::from(self.left) + u64::from(self.right) == self.total {
+            Outcome::Passed
+        } else {
+            Outcome::Failed(Failed::without_message())
+        }
+    }
+}
+
+// Trials that a function makes and returns, each named by its sum.
+fn sums(alloc: Global, cases: &[(u32, u32, u64)]) -> Result<Vec<Trial<Sum>>, Fail> {
+    let mut trials = Vec::new(alloc);
+    for (left, right, total) in cases {
+        let name = format!(in alloc; "{left} + {right}")?;
+        let sum = Sum {
+            left: *left,
+            right: *right,
+            total: *total,
+        };
+        trials.push(Trial::new(name, sum))?;
+    }
+    Ok(trials)
+}
+
+const SUMS: &[u8] =
+    b"\nrunning 3 tests\ntest 1 + 1          ... ok\ntest 2 + 2          ... FAILED\ntest 4294967295 + 1 ... ok\n\nfailures:\n\n---- 2 + 2 ----\n\n\nfailures:\n    2 + 2\n\ntest result: FAILED. 2 passed; 1 failed; 0 ignored; 0 measured; 0 filtered out; finished in 0.00s\n\n";
+
+#[test]
+fn runs_plain_data(rt: HostRuntime) -> Result<(), Fail> {
+    let alloc = rt.alloc();
+    let trials = sums(alloc, &[(1, 1, 2), (2, 2, 5), (u32::MAX, 1, 1 << 32)])?;
+    let (conclusion, writer) = run_ample(alloc, &Arguments::new(alloc), trials)?;
+    assert!(rt; conclusion.has_failed());
+    assert!(rt; writer.bytes.as_slice() == SUMS);
+    Ok(())
+}
+
+// One function for all cases.
+fn is_short(word: &str) -> Result<(), Failed> {
+    if word.len() < 6 {
+        Ok(())
+    } else {
+        Err(Failed::without_message())
+    }
+}
+
+#[test]
+fn runs_closures_without_boxes(rt: HostRuntime) -> Result<(), Fail> {
+    let alloc = rt.alloc();
+    let mut trials = Vec::new(alloc);
+    for word in ["apple", "banana", "fig"] {
+        let name = String::from_str(alloc, word)?;
+        trials.push(Trial::new(name, move || is_short(word)))?;
+    }
+    let (conclusion, _) = run_ample(alloc, &Arguments::new(alloc), trials)?;
+    assert_eq!(rt; (conclusion.num_passed, conclusion.num_failed), (2, 1));
+    Ok(())
+}
+
+// A benchmark over plain data, which shows in which mode it ran.
+#[derive(Drop)]
+struct Timed;
+
+impl Task for Timed {
+    fn run(self, test_mode: bool) -> Outcome {
+        if test_mode {
+            Outcome::Passed
+        } else {
+            Outcome::Measured(Measurement {
+                avg: 32,
+                variance: 3,
+            })
+        }
+    }
+}
+
+#[test]
+fn measures_plain_data(rt: HostRuntime) -> Result<(), Fail> {
+    let alloc = rt.alloc();
+    for (bench, passed, measured) in [(false, 1, 0), (true, 0, 1)] {
+        let mut args = Arguments::new(alloc);
+        args.bench = bench;
+        let info = TestInfo {
+            name: String::from_str(alloc, "b")?,
+            kind: String::new(alloc),
+            is_ignored: false,
+            is_bench: true,
+        };
+        let trials = vec![in alloc; Trial::from_parts(info, Timed)]?;
+        let (conclusion, _) = run_ample(alloc, &args, trials)?;
+        assert_eq!(rt;
+            (conclusion.num_passed, conclusion.num_measured),
+            (passed, measured)
+        );
+    }
+    Ok(())
+}

@@ -1,0 +1,50 @@
+//! What a trial runs.
+ghost use Rattle.std.specs.Prelude.{◌≡◌, Bool};
+ghost use Rattle.mimic_trial.specs.declared.outcome.Outcome.{Outcome as AnOutcome};
+
+use crate::outcome::failed::Failed;
+use crate::outcome::{Outcome, run_single};
+use crate::runner::Runner;
+
+/// What can be run once for an outcome: plain data with an `impl` of the caller's, a closure, or a boxed one.
+///
+/// An `impl` may say which outcomes it gives, and a report then shows one of these. Where it says nothing, any outcome
+/// may be shown.
+pub trait Task: Drop {
+    /// Whether it may be run. Where an `impl` says nothing, it always may.
+    ghost can_run: { Self → Type 0 } = { λ _. Unit {0} };
+
+    /// The outcomes that it may give, by whether the mode is the test mode. Where an `impl` says nothing, these are all.
+    ghost gives: { Self → Bool → AnOutcome → Type 0 } = { λ _ _ _. Unit {0} };
+
+    /// Runs it. In test mode a benchmark is to run its code once, and in bench mode it is to measure.
+    fn run(self, test_mode: bool) -> Outcome
+        requires { can_run self }
+        ensures { gives self test_mode result };
+}
+
+impl Task for Runner {
+    ghost use Rattle.mimic_trial.specs.Promise.{PromisesOutcome};
+
+    ghost gives = { λ runner mode o. PromisesOutcome runner mode o };
+
+    fn run(self, test_mode: bool) -> Outcome {
+        run_single(self, test_mode)
+    }
+}
+
+/// A closure that no box holds is a test: it passes where it answers `Ok`.
+impl<F: FnOnce() -> Result<(), Failed> + Drop> Task for F {
+    ghost use Rattle.mimic_trial.specs.Promise.{outcome_of_test};
+
+    ghost can_run = { λ test. F.pre test };
+
+    ghost gives = { λ test _ o. (answer : _) × F.post test answer × (o ≡ outcome_of_test answer) };
+
+    fn run(self, _test_mode: bool) -> Outcome {
+        match self() {
+            Ok(()) => Outcome::Passed,
+            Err(failed) => failed.into_outcome(),
+        }
+    }
+}
