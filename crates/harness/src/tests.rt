@@ -292,7 +292,15 @@ fn refuses_lines(rt: HostRuntime) -> Result<(), Fail> {
     let line = Err(ArgumentsError::Refused(String::from_str(alloc, "no")?));
     let out = Output::new(alloc, Passing::Lines, Vec::new(alloc))?;
     let mut err: Vec<u8> = Vec::new(alloc);
-    let (_, status) = harness_run(&rt, alloc, line, Vec::new(alloc), out, &mut err, Still);
+    let (_, status) = harness_run(
+        &rt,
+        alloc,
+        line,
+        Vec::<Trial>::new(alloc),
+        out,
+        &mut err,
+        Still,
+    );
     assert_eq!(rt; status, 2);
     assert!(rt; err.as_slice() == b"no\n".as_slice());
     let left = run_words(&rt, &["--help"])?;

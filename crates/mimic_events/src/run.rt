@@ -8,7 +8,9 @@ ghost use Rattle.mimic_events.specs.Contents.{contents_of};
 ghost use Rattle.mimic_events.specs.Run.{TellsRun};
 
 use crate::report::{Report, read_report};
-use libtest_mimic::{Arguments, Clock, Conclusion, RunError, Sink, Stopwatch, Task, Trial, run_here};
+use libtest_mimic::{
+    Arguments, Clock, Conclusion, RunError, Sink, Stopwatch, Task, Trial, run_here,
+};
 use std::alloc::Global;
 
 /// Runs the selected trials as `run_here` does, and answers its conclusion and its report, as it is read back.
