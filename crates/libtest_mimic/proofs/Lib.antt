@@ -1,6 +1,6 @@
 pub mod Answered
+pub mod Columns
 pub mod FullName
-pub mod InOrder
 pub mod JsonRuns
 pub mod OnlyOutcomes
 pub mod RowsInOrder

@@ -1,76 +1,48 @@
 -- Rows of trials that run one after another.
-use Rattle.std.proofs.Common.{All, ◌≡◌, ℕ, ◌+◌, ◌-◌, ◌^◌, ◌<◌, ◌≤◌, List, [], ◌∷◌, ◌++◌, Option, Bool, true, false, inl, inr, not, filter, length, refl, rules, sym, ap, ◌∙◌, subst, arith, append-nil, length-append, vec_len}
-use Rattle.std.proofs.lemmas.List.{length-map}
-use Rattle.std.proofs.lemmas.List.Elements.{All-head, All-tail}
+use Rattle.std.proofs.Common.{All, ◌≡◌, ℕ, zero, suc, ◌+◌, ◌-◌, ◌^◌, ◌<◌, ◌≤◌, List, [], ◌∷◌, ◌++◌, Option, Some, Bool, true, false, inl, inr, not, filter, length, refl, rules, sym, ap, ap₂, ◌∙◌, subst, arith, add-zero, zero-add, append-nil, length-append, vec_len}
+use Rattle.std.proofs.lemmas.List.{length-map, map-append}
 use Rattle.std.proofs.lemmas.List.Concat.{flat_map-append}
+use Rattle.std.proofs.lemmas.List.Elements.{All-append, All-cons, All-head, All-nil, All-tail}
 use Rattle.std.proofs.lemmas.List.Sums.{count_by-le-length, length-filter}
 use Rattle.std.specs.Bool.{MatchBool}
-use Rattle.std.specs.Prelude.{◌↔◌, IsTrue}
+use Rattle.std.specs.List.{range_with_len}
+use Rattle.std.specs.Prelude.{◌↔◌, IsSomeAnd, IsTrue, slice_get}
 use Rattle.mimic_args.specs.declared.Arguments.{Arguments}
 use Rattle.mimic_trial.specs.declared.outcome.Outcome.{Outcome}
 use Rattle.mimic_trial.specs.declared.outcome.Outcome.TheVariants.{Ignored}
-use Rattle.mimic_printer.specs.declared.Printer.{Printer}
-use Rattle.libtest_mimic.specs.declared.run.tally.Tally.{Tally}
-use Rattle.mimic_printer.specs.declared.sink.Sink.{Sink}
-use Rattle.mimic_trial.specs.Promise.{Gives}
+use Rattle.mimic_trial.specs.declared.trial.TestInfo.{TestInfo}
 use Rattle.mimic_trial.specs.declared.trial.Trial.{Trial}
-use Rattle.libtest_mimic.specs.Arrangement.{IsOwn}
-use Rattle.mimic_trial.specs.Places.{label_at}
-use Rattle.mimic_trial.specs.Count.{is_failed}
-use Rattle.mimic_trial.specs.Count.{HasRoom}
-use Rattle.mimic_trial.specs.Promise.{FitsTypes}
-use Rattle.mimic_printer.specs.Report.{announcement_text, outcome_text, row_text, rows_text}
-use Rattle.mimic_trial.specs.Row.{Row, label_of, outcomes_of}
-use Rattle.libtest_mimic.specs.Selection.{IsIgnored}
-use Rattle.mimic_printer.specs.Sink.{Put, Stopped}
-use Rattle.libtest_mimic.specs.Steps.{HasCounted, HasRoomFor, OwnRows}
+use Rattle.mimic_trial.specs.Count.{HasRoom, is_failed}
+use Rattle.mimic_trial.specs.Places.{InOrder, Placed, label_at, places_of, rows_at}
+use Rattle.mimic_trial.specs.Promise.{FitsTypes, Gives}
+use Rattle.mimic_trial.specs.Row.{Label, Row, label_of, outcomes_of, row_of}
 use Rattle.mimic_trial.specs.Trial.{info_of, runner_of, labels_of}
-use Rattle.mimic_printer.proofs.Appending.{Put-trans, Put-Stopped}
 use Rattle.mimic_trial.proofs.Counting.{HasRoom-counts}
-use Rattle.mimic_printer.proofs.FailedRows.{length-rows_from}
+use Rattle.mimic_printer.specs.declared.Printer.{Printer}
+use Rattle.mimic_printer.specs.Report.{announcement_text, outcome_text, row_text, rows_text}
+use Rattle.mimic_printer.specs.Sink.{Shown, Put, Stopped}
+use Rattle.mimic_printer.proofs.Appending.{Put-trans, Put-Stopped, Stopped-more}
+use Rattle.mimic_printer.proofs.FailedRows.{length-rows_from, range-push}
+use Rattle.libtest_mimic.specs.declared.run.tally.Tally.{Tally}
+use Rattle.libtest_mimic.specs.Arrangement.{IsOwn, IsOwnAt}
+use Rattle.libtest_mimic.specs.Selection.{IsIgnored}
+use Rattle.libtest_mimic.specs.Steps.{HasCounted, HasRoomFor, RowsStopped}
+use Rattle.libtest_mimic.specs.Suite.{Suite, in_order, rows_of}
 
--- ---- texts
+-- ---- the next element of a list
 
-rows_text-push : (p : Printer) (rows : List Row) (row : Row) → rows_text p (rows ++ row ∷ []) ≡ rows_text p rows ++ row_text p row
-rows_text-push p rows row =
-    flat_map-append (row_text p) rows (row ∷ []) ∙ ap (λ l. rows_text p rows ++ l) (append-nil (row_text p row))
+-- a list with one element more behind the front is longer
+pub longer : {A : Type 0} (front rest all : List A) (x : A) → front ++ (x ∷ rest) ≡ all → length all ≡ length front + suc (length rest)
+longer front rest all x e = omega (arith, length-append front (x ∷ rest), ap length e)
 
-module _ {W : Type 0} (contents : W → Option (List ℕ)) where
-  -- one more row
-  pub Put-row : (p : Printer) (rows : List Row) (row : Row) (a b c d : Sink W)
-      → Put contents a b (rows_text p rows) → Put contents b c (announcement_text p row.label) → Put contents c d (outcome_text p row.label row.outcome)
-      → Put contents a d (rows_text p (rows ++ row ∷ []))
-  Put-row p rows row a b c d u v w =
-      let P : List ℕ → Type 0 = λ t. Put contents a d t in
-      subst P (sym (rows_text-push p rows row)) (Put-trans contents _ _ u (Put-trans contents _ _ v w))
+-- what holds of each element holds of the one behind the front
+pub All-next : {A : Type 0} (P : A → Type 0) (front rest all : List A) (x : A) → front ++ (x ∷ rest) ≡ all → All P all → P x
+All-next P [] rest all x e holds = All-head P x rest (subst (All P) (sym e) holds)
+All-next P (y ∷ front) rest all x e holds = All-next P front rest (front ++ (x ∷ rest)) x refl (All-tail P y (front ++ (x ∷ rest)) (subst (All P) (sym e) holds))
 
-  -- a fault in one more row's outcome
-  pub Stopped-row : (p : Printer) (rows : List Row) (row : Row) (a b c d : Sink W)
-      → Put contents a b (rows_text p rows) → Put contents b c (announcement_text p row.label) → Stopped contents c d (outcome_text p row.label row.outcome)
-      → Stopped contents a d (rows_text p (rows ++ row ∷ []))
-  Stopped-row p rows row a b c d u v w =
-      let P : List ℕ → Type 0 = λ t. Stopped contents a d t in
-      subst P (sym (rows_text-push p rows row)) (Put-Stopped contents _ _ u (Put-Stopped contents _ _ v w))
-
--- ---- own rows
-
-module _ {R : Type 0} (gives : Gives R) where
-  -- one more trial and its row
-  pub OwnRows-push : (args : Arguments) (ts : List (Trial R)) (rows : List Row) (t : Trial R) (row : Row)
-      → length ts ≡ length rows → OwnRows gives args ts rows → row.label ≡ label_of (info_of t) → IsOwn gives args t row.outcome → OwnRows gives args (ts ++ t ∷ []) (rows ++ row ∷ [])
-  OwnRows-push args [] [] t row e own label here = (label, here, tt)
-  OwnRows-push args [] (r ∷ rows) t row e own label here = absurd own
-  OwnRows-push args (s ∷ ts) [] t row e own label here = absurd (omega arith)
-  OwnRows-push args (s ∷ ts) (r ∷ rows) t row e own label here = (own.0, own.1, OwnRows-push args ts rows t row (omega arith) own.2 label here)
-
-  OwnRows-more : (args : Arguments) (ts more : List (Trial R)) (rows : List Row) → OwnRows gives args ts rows → OwnRows gives args (ts ++ more) rows
-  OwnRows-more args ts more [] own = tt
-  OwnRows-more args [] more (r ∷ rows) own = absurd own
-  OwnRows-more args (t ∷ ts) more (r ∷ rows) own = (own.0, own.1, OwnRows-more args ts more rows own.2)
-
-  -- the rows are the trials' own where the rest did not run
-  pub OwnRows-seen : (args : Arguments) (seen rest all : List (Trial R)) (rows : List Row) → seen ++ rest ≡ all → OwnRows gives args seen rows → OwnRows gives args all rows
-  OwnRows-seen args seen rest all rows e own = let P : List (Trial R) → Type 0 = λ l. OwnRows gives args l rows in subst P e (OwnRows-more args seen rest rows own)
+slice_get-seam : {A : Type 0} (front rest : List A) (x : A) → slice_get (front ++ (x ∷ rest)) (length front) ≡ Some x
+slice_get-seam [] rest x = refl
+slice_get-seam (y ∷ front) rest x = slice_get-seam front rest x
 
 module _ {R : Type 0} where
   label_at-seam : (front rest : List (Trial R)) (t : Trial R) → label_at (labels_of (front ++ (t ∷ rest))) (length front) ≡ label_of (info_of t)
@@ -82,22 +54,68 @@ module _ {R : Type 0} where
   label_at-next front rest all t n e k =
       sym (label_at-seam front rest t) ∙ ap (λ l. label_at (labels_of l) (length front)) e ∙ ap (label_at (labels_of all)) (sym k)
 
--- `Ignored` where the trial is ignored, and else the outcome of what its runner promises, is its own
-pub IsOwn-from_runner : {R : Type 0} (gives : Gives R) (args : Arguments) (t : Trial R) (r : R) (b : Bool) (o : Outcome)
-    → (IsTrue b ↔ IsIgnored args t) → r ≡ runner_of t → MatchBool b (o ≡ Ignored) (gives r (not args.bench) o × FitsTypes o) → IsOwn gives args t o
-IsOwn-from_runner gives args t r true o says e own = inl (says.0 (search rules), own)
-IsOwn-from_runner {R} gives args t r false o says e own =
-    let P : R → Type 0 = λ x. gives x (not args.bench) o in
-    inr ((λ i. let k : IsTrue false = says.1 i in search rules), subst P e own.0, own.1)
+module _ {R : Type 0} (gives : Gives R) (args : Arguments) where
+  -- `Ignored` where the trial is ignored, and else an outcome that its runner gives, is its own
+  pub IsOwn-from_runner : (t : Trial R) (r : R) (b : Bool) (o : Outcome)
+      → (IsTrue b ↔ IsIgnored args t) → r ≡ runner_of t → MatchBool b (o ≡ Ignored) (gives r (not args.bench) o × FitsTypes o) → IsOwn gives args t o
+  IsOwn-from_runner t r true o says e own = inl (says.0 (search rules), own)
+  IsOwn-from_runner t r false o says e own =
+      let P : R → Type 0 = λ x. gives x (not args.bench) o in
+      inr ((λ i. let k : IsTrue false = says.1 i in search rules), subst P e own.0, own.1)
 
--- a list with one element more behind the front is longer
-pub longer : {A : Type 0} (front rest all : List A) (x : A) → front ++ (x ∷ rest) ≡ all → length front < length all
-longer front rest all x e = omega (arith, length-append front (x ∷ rest), ap length e)
+  -- what is own of the next trial is own at its place
+  pub IsOwnAt-next : (front rest all : List (Trial R)) (t : Trial R) (n : ℕ) (o : Outcome) → front ++ (t ∷ rest) ≡ all → n ≡ length front → IsOwn gives args t o → IsOwnAt gives args all (n, o)
+  IsOwnAt-next front rest all t n o e k own =
+      let here : slice_get all n ≡ Some t = ap₂ (λ (l : List (Trial R)) i. slice_get l i) (sym e) k ∙ slice_get-seam front rest t in
+      let P : Option (Trial R) → Type 0 = λ x. IsSomeAnd x (λ u. IsOwn gives args u o) in
+      subst P (sym here) own
 
--- what holds of each element holds of the one behind the front
-pub All-next : {A : Type 0} (P : A → Type 0) (front rest all : List A) (x : A) → front ++ (x ∷ rest) ≡ all → All P all → P x
-All-next P [] rest all x e holds = All-head P x rest (subst (All P) (sym e) holds)
-All-next P (y ∷ front) rest all x e holds = All-next P front rest (front ++ (x ∷ rest)) x refl (All-tail P y (front ++ (x ∷ rest)) (subst (All P) (sym e) holds))
+-- ---- places in order
+
+range-split : (a k m : ℕ) → range_with_len a (k + m) ≡ range_with_len a k ++ range_with_len (a + k) m
+range-split a zero m = ap₂ (λ x y. range_with_len x y) (sym (add-zero a)) (zero-add m)
+range-split a (suc k) m =
+    let more : suc k + m ≡ suc (k + m) = omega arith in
+    let next : (a + 1) + k ≡ a + suc k = omega arith in
+    ap (range_with_len a) more ∙ ap (λ l. a ∷ l) (range-split (a + 1) k m ∙ ap (λ n. range_with_len (a + 1) k ++ range_with_len n m) next)
+
+-- the places that are left behind the first ones
+places-left : (placed : List Placed) (n m : ℕ) → InOrder placed → n ≡ length placed + m → range_with_len 0 n ≡ places_of placed ++ range_with_len (length placed) m
+places-left placed n m ordered e =
+    ap (range_with_len 0) e ∙ range-split 0 (length placed) m ∙ ap₂ (λ l k. l ++ range_with_len k m) (sym ordered) (zero-add (length placed))
+
+InOrder-push : (placed : List Placed) (o : Outcome) → InOrder placed → InOrder (placed ++ (length placed, o) ∷ [])
+InOrder-push placed o ordered =
+    map-append (λ (p : Placed). p.0) placed ((length placed, o) ∷ [])
+    ∙ ap₂ (λ l k. l ++ k ∷ []) ordered (sym (zero-add (length placed)))
+    ∙ sym (range-push 0 (length placed)) ∙ ap (range_with_len 0) (sym (length-append placed ((length placed, o) ∷ [])))
+
+-- as many rows as places
+pub count_rows : (labels : List Label) (placed : List Placed) → length (rows_at labels placed) ≡ length placed
+count_rows labels placed = length-map placed _
+
+-- ---- one more row
+
+rows_text-push : (p : Printer) (rows : List Row) (row : Row) → rows_text p (rows ++ row ∷ []) ≡ rows_text p rows ++ row_text p row
+rows_text-push p rows row =
+    flat_map-append (row_text p) rows (row ∷ []) ∙ ap (λ l. rows_text p rows ++ l) (append-nil (row_text p row))
+
+rows_at-push : (labels : List Label) (placed : List Placed) (info : TestInfo) (o : Outcome) → label_of info ≡ label_at labels (length placed)
+    → rows_at labels placed ++ row_of info o ∷ [] ≡ rows_at labels (placed ++ (length placed, o) ∷ [])
+rows_at-push labels placed info o e =
+    ap (λ (l : Label). rows_at labels placed ++ record { label = l; outcome = o } ∷ []) e
+    ∙ sym (map-append (λ (p : Placed). record { label = label_at labels p.0; outcome = p.1 }) placed ((length placed, o) ∷ []))
+
+module _ (p : Printer) (rows : List Row) (info : TestInfo) (o : Outcome) (a b c d : Shown) where
+  Put-row : Put a b (rows_text p rows) → Put b c (announcement_text p (label_of info)) → Put c d (outcome_text p (label_of info) o) → Put a d (rows_text p (rows ++ row_of info o ∷ []))
+  Put-row u v w =
+      let P : List ℕ → Type 0 = λ t. Put a d t in
+      subst P (sym (rows_text-push p rows (row_of info o))) (Put-trans _ _ u (Put-trans _ _ v w))
+
+  Stopped-row : Put a b (rows_text p rows) → Put b c (announcement_text p (label_of info)) → Stopped c d (outcome_text p (label_of info) o) → Stopped a d (rows_text p (rows ++ row_of info o ∷ []))
+  Stopped-row u v w =
+      let P : List ℕ → Type 0 = λ t. Stopped a d t in
+      subst P (sym (rows_text-push p rows (row_of info o))) (Put-Stopped _ _ u (Put-Stopped _ _ v w))
 
 -- ---- what a tally has room for
 
@@ -130,11 +148,71 @@ HasRoomFor-tally t filtered_out rows n h room within = record {
 
 -- ---- the rows so far
 
-module _ {R : Type 0} (gives : Gives R) {W : Type 0} (contents : W → Option (List ℕ)) where
-  -- the rows of these trials were appended, and the tally has counted them
-  pub record RowsSoFar (args : Arguments) (trials : List (Trial R)) (p : Printer) (filtered_out : ℕ) (old new : Sink W) (t : Tally) : Type 0 where
-    pub rows : List Row
-    pub own : OwnRows gives args trials rows
-    pub count : length rows ≡ length trials
-    pub text : Put contents old new (rows_text p rows)
-    pub tally : HasCounted t filtered_out rows
+module _ {R : Type 0} (gives : Gives R) where
+  -- the rows of so many trials were appended, and the tally has counted them
+  pub record RowsSoFar (suite : Suite R) (count : ℕ) (old new : Shown) (t : Tally) : Type 0 where
+    pub placed : List Placed
+    pub ordered : InOrder placed
+    pub all : length placed ≡ count
+    pub own : All (IsOwnAt gives suite.args suite.trials) placed
+    pub text : Put old new (rows_text suite.printer (rows_of suite placed))
+    pub tally : HasCounted t suite.filtered_out (rows_of suite placed)
+
+  module _ (suite : Suite R) (count : ℕ) (a b c d : Shown) (t : Tally) (so_far : RowsSoFar suite count a b t) (info : TestInfo) (o : Outcome)
+      (label : label_of info ≡ label_at (labels_of suite.trials) count) (own : IsOwnAt gives suite.args suite.trials (count, o)) where
+    here : label_of info ≡ label_at (labels_of suite.trials) (length so_far.placed)
+    here = label ∙ ap (label_at (labels_of suite.trials)) (sym so_far.all)
+
+    all_own : All (IsOwnAt gives suite.args suite.trials) (so_far.placed ++ (length so_far.placed, o) ∷ [])
+    all_own =
+        let P : ℕ → Type 0 = λ n. IsOwnAt gives suite.args suite.trials (n, o) in
+        let Q : Placed → Type 0 = IsOwnAt gives suite.args suite.trials in
+        All-append Q so_far.placed ((length so_far.placed, o) ∷ []) so_far.own (All-cons Q (length so_far.placed, o) [] (subst P (sym so_far.all) own) (All-nil Q))
+
+    one_more : length (so_far.placed ++ (length so_far.placed, o) ∷ []) ≡ count + 1
+    one_more = length-append so_far.placed ((length so_far.placed, o) ∷ []) ∙ ap (λ n. n + 1) so_far.all
+
+    -- one more trial ran
+    pub RowsSoFar-push : (u : Tally) → Put b c (announcement_text suite.printer (label_of info)) → Put c d (outcome_text suite.printer (label_of info) o)
+        → ((filtered_out : ℕ) (rows : List Row) → HasCounted t filtered_out rows → HasCounted u filtered_out (rows ++ row_of info o ∷ [])) → RowsSoFar suite (count + 1) a d u
+    RowsSoFar-push u announced ended counted =
+        let rows = rows_of suite so_far.placed in
+        let P : List Row → Type 0 = λ l. Put a d (rows_text suite.printer l) in
+        let Q : List Row → Type 0 = λ l. HasCounted u suite.filtered_out l in
+        let push = rows_at-push (labels_of suite.trials) so_far.placed info o here in
+        record {
+          placed = so_far.placed ++ (length so_far.placed, o) ∷ [];
+          ordered = InOrder-push so_far.placed o so_far.ordered;
+          all = one_more;
+          own = all_own;
+          text = subst P push (Put-row suite.printer rows info o a b c d so_far.text announced ended);
+          tally = subst Q push (counted suite.filtered_out rows so_far.tally);
+        }
+
+    -- a fault in its outcome, where so many trials are left behind it
+    pub stopped_outcome : (m : ℕ) → length suite.trials ≡ count + suc m → Put b c (announcement_text suite.printer (label_of info)) → Stopped c d (outcome_text suite.printer (label_of info) o)
+        → RowsStopped gives suite a d
+    stopped_outcome m more announced ended =
+        let rows = rows_of suite so_far.placed in
+        let P : List Row → Type 0 = λ l. Stopped a d (rows_text suite.printer l) in
+        let placed : List Placed = so_far.placed ++ (length so_far.placed, o) ∷ [] in
+        record {
+          placed = placed;
+          left = range_with_len (length placed) m;
+          places = places-left placed (length suite.trials) m (InOrder-push so_far.placed o so_far.ordered) (omega (arith, more, one_more));
+          own = all_own;
+          text = Stopped-more _ _ (subst P (rows_at-push (labels_of suite.trials) so_far.placed info o here) (Stopped-row suite.printer rows info o a b c d so_far.text announced ended));
+        }
+
+  -- a fault in the announcement of the next trial
+  pub stopped_announcement : (suite : Suite R) (count : ℕ) (a b c : Shown) (t : Tally) (so_far : RowsSoFar suite count a b t) (info : TestInfo) (m : ℕ)
+      → label_of info ≡ label_at (labels_of suite.trials) count → length suite.trials ≡ count + suc m → Stopped b c (announcement_text suite.printer (label_of info)) → RowsStopped gives suite a c
+  stopped_announcement suite count a b c t so_far info m label more announced =
+      let P : Label → Type 0 = λ l. Stopped b c (announcement_text suite.printer l) in
+      record {
+        placed = so_far.placed;
+        left = range_with_len (length so_far.placed) (suc m);
+        places = places-left so_far.placed (length suite.trials) (suc m) so_far.ordered (omega (arith, more, so_far.all));
+        own = so_far.own;
+        text = Put-Stopped _ _ so_far.text (subst P (label ∙ ap (label_at (labels_of suite.trials)) (sym so_far.all)) announced);
+      }

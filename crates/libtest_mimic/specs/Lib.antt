@@ -1,6 +1,7 @@
 pub mod Stopwatch
 pub mod Selection
 pub mod Arrangement
+pub mod Suite
 pub mod Run
 pub mod Steps
 -- the words of the crates below, so that clauses above need not name those

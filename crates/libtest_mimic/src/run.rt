@@ -1,12 +1,16 @@
 //! Runs trials and writes their report.
-ghost use Rattle.std.specs.Prelude.{◌≡◌, ◌-◌, ◌^◌, ◌<◌, false, IfOk, IsFalse, ◌↔◌, length, vec_len};
-ghost use Rattle.mimic_trial.specs.Count.{total_of};
-ghost use Rattle.libtest_mimic.specs.Run.{HasAnswer, HasLines, RanHere, RanInOrder, WritesList, columns_in, printer_for};
-ghost use Rattle.libtest_mimic.specs.Selection.{IsDropped, IsSelection};
-ghost use Rattle.mimic_printer.specs.Sink.{faults_of};
-ghost use Rattle.libtest_mimic.specs.Stopwatch.{IsFresh, IsRunning};
-ghost use Rattle.mimic_trial.specs.Trial.{AllCanRun, labels_of};
+ghost use Rattle.std.specs.Prelude.{◌≡◌, ◌≢◌, ◌-◌, ◌^◌, ◌<◌, [], true, false, IfOk, IsFalse, ◌↔◌, length, vec_len};
+ghost use Rattle.mimic_args.specs.Arguments.{colours_of, format_of};
+ghost use Rattle.mimic_printer.specs.List.{list_text};
+ghost use Rattle.mimic_printer.specs.Sink.{Put, Stopped, Puts, faults_of, shown};
 ghost use Rattle.mimic_printer.specs.Widths.{kind_width_of, name_width_of};
+ghost use Rattle.mimic_trial.specs.Count.{counts_of, total_of};
+ghost use Rattle.mimic_trial.specs.Trial.{AllCanRun, labels_of};
+ghost use Rattle.libtest_mimic.specs.Run.{HasAnswer, HasLines, OnOutOfMemory, OnWriteFault, ReportedInOrder, StartsReport};
+ghost use Rattle.libtest_mimic.specs.Selection.{IsDropped, IsSelection};
+ghost use Rattle.libtest_mimic.specs.Steps.{PrintsAs};
+ghost use Rattle.libtest_mimic.specs.Stopwatch.{IsFresh, IsRunning};
+ghost use Rattle.libtest_mimic.specs.Suite.{OfSuite, in_order, printer_for, suite_of};
 
 mod in_order;
 pub(crate) mod tally;
@@ -52,12 +56,30 @@ pub fn run_here<R: Task, W: Write, C: Clock>(
     requires room { faults_of sink.old < 2 ^ 64 - 1 }
     requires fresh { IsFresh watch.old }
     requires runnable { AllCanRun R.can_run tests.items }
-    ensures ran { RanHere R.gives W.contents args.now auto_colours tests.items sink.old sink.new watch.new result }
+
+    // Where a list is asked, it has the selected trials, and the answer is five zeros.
+    ensures listed { args.now.list ≡ true → IfOk result (λ c. (c ≡ counts_of [] 0) × OfSuite args.now auto_colours tests.items
+        (λ suite. Put (shown W.contents sink.old) (shown W.contents sink.new) (list_text suite.trials))) }
+    ensures watched { args.now.list ≡ true → IsRunning watch.new }
+
+    // Else a report has them, in their order.
+    ensures reported { args.now.list ≡ false → IfOk result (λ c. OfSuite args.now auto_colours tests.items
+        (λ suite. ReportedInOrder R.gives suite (shown W.contents sink.old) (shown W.contents sink.new) watch.new c)) }
+
+    // After a write fault a beginning of either stands.
+    ensures list_stopped { args.now.list ≡ true → OnWriteFault result (OfSuite args.now auto_colours tests.items
+        (λ suite. Stopped (shown W.contents sink.old) (shown W.contents sink.new) (list_text suite.trials))) }
+    ensures report_stopped { args.now.list ≡ false → OnWriteFault result (OfSuite args.now auto_colours tests.items
+        (λ suite. StartsReport R.gives suite (in_order suite) (shown W.contents sink.old) (shown W.contents sink.new) watch.new)) }
+
+    // Only a report of some trial takes memory, and before anything is written.
+    ensures memory { OnOutOfMemory result ((args.now.list ≡ false) × (sink.new ≡ sink.old) × IsRunning watch.new
+        × OfSuite args.now auto_colours tests.items (λ suite. suite.trials ≢ [])) }
 
     // The answer is fixed where each trial has just one own outcome.
     ensures answer { HasAnswer R.gives args.now tests.items result }
     ensures adds_up { args.now.list ≡ false → IfOk result (λ c. total_of c ≡ vec_len tests) }
-    ensures lines { HasLines W.contents args.now tests.items sink.old sink.new result }
+    ensures lines { HasLines args.now tests.items (shown W.contents sink.old) (shown W.contents sink.new) result }
 {
     watch.start();
     let mut selected = tests;
@@ -98,7 +120,9 @@ fn select<R: Drop>(args: &Arguments, trials: &mut Vec<Trial<R>>) -> u64
 // Writes the list of the trials. Its answer counts nothing.
 fn write_list<R, W: Write>(trials: &[Trial<R>], sink: &mut Sink<W>) -> Result<Conclusion, RunError>
     requires { faults_of sink.old < 2 ^ 64 - 1 }
-    ensures { WritesList W.contents trials.now sink.old sink.new result }
+    ensures listed { IfOk result (λ c. (c ≡ counts_of [] 0) × Put (shown W.contents sink.old) (shown W.contents sink.new) (list_text trials.now)) }
+    ensures stopped { OnWriteFault result (Stopped (shown W.contents sink.old) (shown W.contents sink.new) (list_text trials.now)) }
+    ensures memory { OnOutOfMemory result ⊥ }
 {
     Printer::write_list(trials, false, sink)?;
     sink.flush()?;
@@ -118,9 +142,12 @@ fn run_selected<R: Task, W: Write, C: Clock>(
     requires room { faults_of sink.old < 2 ^ 64 - 1 }
     requires running { IsRunning watch.old }
     requires runnable { AllCanRun R.can_run selected.items }
-    ensures { RanInOrder R.gives W.contents args.now selected.items
-        (printer_for args.now auto_colours (labels_of selected.items)) filtered_out
-        sink.old sink.new watch.new result }
+    ensures reported { IfOk result (λ c. ReportedInOrder R.gives (suite_of args.now auto_colours selected.items filtered_out)
+        (shown W.contents sink.old) (shown W.contents sink.new) watch.new c) }
+    ensures stopped { OnWriteFault result (StartsReport R.gives (suite_of args.now auto_colours selected.items filtered_out)
+        (in_order (suite_of args.now auto_colours selected.items filtered_out))
+        (shown W.contents sink.old) (shown W.contents sink.new) watch.new) }
+    ensures memory { OnOutOfMemory result ((sink.new ≡ sink.old) × IsRunning watch.new × (selected.items ≢ [])) }
 {
     let Ok(tally) = Tally::with_capacity(alloc, selected.len(), filtered_out) else {
         return Err(RunError::OutOfMemory);
@@ -132,19 +159,19 @@ fn run_selected<R: Task, W: Write, C: Clock>(
     }
 }
 
-// The printer of a run: the format and the colours that are asked for, and in pretty columns for these trials.
+// A printer that prints as that of the run does: only in pretty it has columns for these trials.
 fn printer_for<R>(args: &Arguments, trials: &[Trial<R>], auto_colours: bool) -> Printer
-    ensures { result ≡ printer_for args.now auto_colours (labels_of trials.now) }
+    ensures { PrintsAs result (printer_for args.now auto_colours (labels_of trials.now)) }
 {
     let format = args.format_used();
     let (name_width, kind_width) = columns_for(format, trials);
     Printer::new(format, args.colours(auto_colours), name_width, kind_width)
 }
 
-// How wide its columns are: only pretty has some.
+// How wide its columns are: only pretty has some, so in other formats the trials are not gone over.
 fn columns_for<R>(format: FormatSetting, trials: &[Trial<R>]) -> (usize, usize)
-    ensures names { result.0 ≡ columns_in format (name_width_of (labels_of trials.now)) }
-    ensures kinds { result.1 ≡ columns_in format (kind_width_of (labels_of trials.now)) }
+    ensures names { format ≡ FormatSetting.Pretty → result.0 ≡ name_width_of (labels_of trials.now) }
+    ensures kinds { format ≡ FormatSetting.Pretty → result.1 ≡ kind_width_of (labels_of trials.now) }
 {
     match format {
         FormatSetting::Pretty => widths_of_trials(trials),

@@ -2,10 +2,9 @@
 use Rattle.std.proofs.Common.{false, None, Some, is_some, MatchOption, ◌≡◌, ℕ, suc, ◌+◌, ◌-◌, ◌<◌, List, [], ◌∷◌, ◌++◌, Option, Result, Ok, Err, length, get_or, take, drop, drop-cons, take-append-drop, length-drop, refl, sym, ap, ◌∙◌, subst, arith, append_assoc, append-nil}
 use Rattle.std.proofs.lemmas.List.{take_all}
 use Rattle.std.proofs.lemmas.List.Concat.{flat_map-append}
-use Rattle.mimic_printer.specs.declared.sink.Sink.{Sink}
+use Rattle.mimic_printer.specs.Sink.{Shown, Put, Stopped, Writes}
 use Rattle.mimic_text.specs.Escape.{ArePlain, escape, escaped}
 use Rattle.mimic_text.proofs.Escapes.{escaped-plain}
-use Rattle.mimic_printer.specs.Sink.{Put, Puts, Stopped}
 use Rattle.mimic_printer.proofs.Appending.{Put-refl, Put-trans, Put-Stopped, Stopped-more}
 
 escaped-append : (a b : List ℕ) → escaped (a ++ b) ≡ escaped a ++ escaped b
@@ -28,62 +27,61 @@ escaped-split rest at h plain =
     ∙ ap (λ l. l ++ escaped (b ∷ drop (suc at) rest)) plain
     ∙ ap (λ l. take at rest ++ l) (escaped-append (b ∷ []) (drop (suc at) rest) ∙ ap (λ l. l ++ escaped (drop (suc at) rest)) (escaped-one b))
 
-module _ {W : Type 0} (contents : W → Option (List ℕ)) where
-  -- a part of the text was written with its escapes, and the rest is to be
-  pub record EscapedSoFar (old new : Sink W) (text rest : List ℕ) : Type 0 where
-    pub done : List ℕ
-    pub parts : text ≡ done ++ rest
-    pub put : Put contents old new (escaped done)
+-- a part of the text was written with its escapes, and the rest is to be
+pub record EscapedSoFar (old new : Shown) (text rest : List ℕ) : Type 0 where
+  pub done : List ℕ
+  pub parts : text ≡ done ++ rest
+  pub put : Put old new (escaped done)
 
-  pub nothing_so_far : (s : Sink W) (text : List ℕ) → EscapedSoFar s s text text
-  unfolding escaped
-  nothing_so_far s text = record { done = []; parts = refl; put = Put-refl contents s }
+pub nothing_so_far : (s : Shown) (text : List ℕ) → EscapedSoFar s s text text
+unfolding escaped
+nothing_so_far s text = record { done = []; parts = refl; put = Put-refl s }
 
-  -- what is left is written by one more call
-  pub Put-escaped : (a b c : Sink W) (text rest : List ℕ) → EscapedSoFar a b text rest → escaped rest ≡ rest → Put contents b c rest → Put contents a c (escaped text)
-  Put-escaped a b c text rest h plain p =
-      let P : List ℕ → Type 0 = λ l. Put contents a c l in
-      subst P (ap (λ l. escaped h.done ++ l) (sym plain) ∙ sym (escaped-append h.done rest) ∙ ap escaped (sym h.parts)) (Put-trans contents (escaped h.done) rest h.put p)
+-- what is left is written by one more call
+pub Put-escaped : (a b c : Shown) (text rest : List ℕ) → EscapedSoFar a b text rest → escaped rest ≡ rest → Put b c rest → Put a c (escaped text)
+Put-escaped a b c text rest h plain p =
+    let P : List ℕ → Type 0 = λ l. Put a c l in
+    subst P (ap (λ l. escaped h.done ++ l) (sym plain) ∙ sym (escaped-append h.done rest) ∙ ap escaped (sym h.parts)) (Put-trans (escaped h.done) rest h.put p)
 
-  -- a fault in a beginning of what is left
-  pub Stopped-escaped : (a b c : Sink W) (text rest front more : List ℕ) → EscapedSoFar a b text rest → escaped rest ≡ front ++ more → Stopped contents b c front → Stopped contents a c (escaped text)
-  Stopped-escaped a b c text rest front more h split s =
-      let P : List ℕ → Type 0 = λ l. Stopped contents a c l in
-      subst P (ap (λ l. escaped h.done ++ l) (sym split) ∙ sym (escaped-append h.done rest) ∙ ap escaped (sym h.parts)) (Put-Stopped contents (escaped h.done) (front ++ more) h.put (Stopped-more contents front more s))
+-- a fault in a beginning of what is left
+pub Stopped-escaped : (a b c : Shown) (text rest front more : List ℕ) → EscapedSoFar a b text rest → escaped rest ≡ front ++ more → Stopped b c front → Stopped a c (escaped text)
+Stopped-escaped a b c text rest front more h split s =
+    let P : List ℕ → Type 0 = λ l. Stopped a c l in
+    subst P (ap (λ l. escaped h.done ++ l) (sym split) ∙ sym (escaped-append h.done rest) ∙ ap escaped (sym h.parts)) (Put-Stopped (escaped h.done) (front ++ more) h.put (Stopped-more front more s))
 
-  -- a fault in what lies before the next escape
-  pub Stopped-before : (a b c : Sink W) (text rest : List ℕ) (at : ℕ) → EscapedSoFar a b text rest → at < length rest → escaped (take at rest) ≡ take at rest → Stopped contents b c (take at rest) → Stopped contents a c (escaped text)
-  Stopped-before a b c text rest at h lt plain s = Stopped-escaped a b c text rest (take at rest) _ h (escaped-split rest at lt plain) s
+-- a fault in what lies before the next escape
+pub Stopped-before : (a b c : Shown) (text rest : List ℕ) (at : ℕ) → EscapedSoFar a b text rest → at < length rest → escaped (take at rest) ≡ take at rest → Stopped b c (take at rest) → Stopped a c (escaped text)
+Stopped-before a b c text rest at h lt plain s = Stopped-escaped a b c text rest (take at rest) _ h (escaped-split rest at lt plain) s
 
-  -- a fault in the next escape
-  pub Stopped-at : (a b c d : Sink W) (text rest : List ℕ) (at : ℕ) → EscapedSoFar a b text rest → at < length rest → escaped (take at rest) ≡ take at rest → Put contents b c (take at rest)
-      → Stopped contents c d (escape (get_or rest at 0)) → Stopped contents a d (escaped text)
-  Stopped-at a b c d text rest at h lt plain p s =
-      let split = escaped-split rest at lt plain ∙ sym (append_assoc (take at rest) (escape (get_or rest at 0)) (escaped (drop (suc at) rest))) in
-      Stopped-escaped a b d text rest (take at rest ++ escape (get_or rest at 0)) _ h split (Put-Stopped contents (take at rest) (escape (get_or rest at 0)) p s)
+-- a fault in the next escape
+pub Stopped-at : (a b c d : Shown) (text rest : List ℕ) (at : ℕ) → EscapedSoFar a b text rest → at < length rest → escaped (take at rest) ≡ take at rest → Put b c (take at rest)
+    → Stopped c d (escape (get_or rest at 0)) → Stopped a d (escaped text)
+Stopped-at a b c d text rest at h lt plain p s =
+    let split = escaped-split rest at lt plain ∙ sym (append_assoc (take at rest) (escape (get_or rest at 0)) (escaped (drop (suc at) rest))) in
+    Stopped-escaped a b d text rest (take at rest ++ escape (get_or rest at 0)) _ h split (Put-Stopped (take at rest) (escape (get_or rest at 0)) p s)
 
-  -- the next escape was written
-  pub more_escaped : (a b c d : Sink W) (text rest : List ℕ) (at : ℕ) → EscapedSoFar a b text rest → at < length rest → escaped (take at rest) ≡ take at rest → Put contents b c (take at rest)
-      → Put contents c d (escape (get_or rest at 0)) → EscapedSoFar a d text (take (length rest - (at + 1)) (drop (at + 1) rest))
-  more_escaped a b c d text rest at h lt plain p q =
-      let e = get_or rest at 0 in
-      let next : suc at ≡ at + 1 = omega arith in
-      let shown : take (length rest - (at + 1)) (drop (at + 1) rest) ≡ drop (at + 1) rest = take_all (length rest - (at + 1)) (drop (at + 1) rest) (omega (arith, length-drop (at + 1) rest)) in
-      let behind : (take at rest ++ e ∷ []) ++ drop (at + 1) rest ≡ rest = append_assoc (take at rest) (e ∷ []) (drop (at + 1) rest) ∙ ap (λ n. take at rest ++ e ∷ drop n rest) (sym next) ∙ sym (split_at_escape rest at lt) in
-      let P : List ℕ → Type 0 = λ l. Put contents a d l in
-      let spelled : escaped (take at rest ++ e ∷ []) ≡ take at rest ++ escape e = escaped-append (take at rest) (e ∷ []) ∙ ap (λ l. l ++ escaped (e ∷ [])) plain ∙ ap (λ l. take at rest ++ l) (escaped-one e) in
-      record {
-        done = h.done ++ (take at rest ++ e ∷ []);
-        parts = h.parts ∙ ap (λ l. h.done ++ l) (sym behind ∙ ap (λ l. (take at rest ++ e ∷ []) ++ l) (sym shown)) ∙ sym (append_assoc h.done (take at rest ++ e ∷ []) _);
-        put = subst P (ap (λ l. escaped h.done ++ l) (sym spelled) ∙ sym (escaped-append h.done (take at rest ++ e ∷ []))) (Put-trans contents (escaped h.done) (take at rest ++ escape e) h.put (Put-trans contents (take at rest) (escape e) p q));
-      }
+-- the next escape was written
+pub more_escaped : (a b c d : Shown) (text rest : List ℕ) (at : ℕ) → EscapedSoFar a b text rest → at < length rest → escaped (take at rest) ≡ take at rest → Put b c (take at rest)
+    → Put c d (escape (get_or rest at 0)) → EscapedSoFar a d text (take (length rest - (at + 1)) (drop (at + 1) rest))
+more_escaped a b c d text rest at h lt plain p q =
+    let e = get_or rest at 0 in
+    let next : suc at ≡ at + 1 = omega arith in
+    let shown : take (length rest - (at + 1)) (drop (at + 1) rest) ≡ drop (at + 1) rest = take_all (length rest - (at + 1)) (drop (at + 1) rest) (omega (arith, length-drop (at + 1) rest)) in
+    let behind : (take at rest ++ e ∷ []) ++ drop (at + 1) rest ≡ rest = append_assoc (take at rest) (e ∷ []) (drop (at + 1) rest) ∙ ap (λ n. take at rest ++ e ∷ drop n rest) (sym next) ∙ sym (split_at_escape rest at lt) in
+    let P : List ℕ → Type 0 = λ l. Put a d l in
+    let spelled : escaped (take at rest ++ e ∷ []) ≡ take at rest ++ escape e = escaped-append (take at rest) (e ∷ []) ∙ ap (λ l. l ++ escaped (e ∷ [])) plain ∙ ap (λ l. take at rest ++ l) (escaped-one e) in
+    record {
+      done = h.done ++ (take at rest ++ e ∷ []);
+      parts = h.parts ∙ ap (λ l. h.done ++ l) (sym behind ∙ ap (λ l. (take at rest ++ e ∷ []) ++ l) (sym shown)) ∙ sym (append_assoc h.done (take at rest ++ e ∷ []) _);
+      put = subst P (ap (λ l. escaped h.done ++ l) (sym spelled) ∙ sym (escaped-append h.done (take at rest ++ e ∷ []))) (Put-trans (escaped h.done) (take at rest ++ escape e) h.put (Put-trans (take at rest) (escape e) p q));
+    }
 
 -- what is left has no escape, and is written by one more call
-pub Puts-escaped : {W E T : Type 0} (contents : W → Option (List ℕ)) (a b c : Sink W) (text rest : List ℕ) (r : Result T E) → EscapedSoFar contents a b text rest → escaped rest ≡ rest
-    → Puts contents b c rest r → Puts contents a c (escaped text) r
-Puts-escaped contents a b c text rest (Ok x) h plain p = Put-escaped contents a b c text rest h plain p
-Puts-escaped contents a b c text rest (Err e) h plain p =
-    Stopped-escaped contents a b c text rest rest [] h (plain ∙ sym (append-nil rest)) p
+pub Puts-escaped : {E T : Type 0} (a b c : Shown) (text rest : List ℕ) (r : Result T E) → EscapedSoFar a b text rest → escaped rest ≡ rest
+    → Writes b c rest r → Writes a c (escaped text) r
+Puts-escaped a b c text rest (Ok x) h plain p = Put-escaped a b c text rest h plain p
+Puts-escaped a b c text rest (Err e) h plain p =
+    Stopped-escaped a b c text rest rest [] h (plain ∙ sym (append-nil rest)) p
 
 -- a text in which no byte needs an escape is spelled as it is
 pub spelled_as_is : (text : List ℕ) (P : ℕ → Type 0) (o : Option ℕ) → is_some o ≡ false → MatchOption o (ArePlain text) P → escaped text ≡ text

@@ -11,21 +11,33 @@ writer_of s = s.writer
 abbrev pub faults_of : {W : Type 0} → Sink W → ℕ
 faults_of s = s.faults
 
--- Below, `contents` tells the bytes that a writer holds. Where it tells nothing, as at a file, nothing is claimed of them.
-module _ {W : Type 0} (contents : W → Option (List ℕ)) where
-  -- the text was appended, and no fault was counted
-  pub record Put (old new : Sink W) (text : List ℕ) : Type 0 where
-    pub appended : Appends (contents (writer_of old)) (contents (writer_of new)) text
-    pub faults : faults_of new ≡ faults_of old
+-- what a sink shows: the bytes of its writer, where these are known, and how many faults it has counted
+pub record Shown : Type 0 where
+  pub bytes : Option (List ℕ)
+  pub faults : ℕ
 
-  -- a beginning of the text was appended, and one fault was counted
-  pub record Stopped (old new : Sink W) (text : List ℕ) : Type 0 where
-    pub front : List ℕ
-    pub rest : List ℕ
-    pub beginning : text ≡ front ++ rest
-    pub appended : Appends (contents (writer_of old)) (contents (writer_of new)) front
-    pub faults : faults_of new ≡ faults_of old + 1
+-- what a sink shows, where `contents` tells the bytes that a writer holds. Where it tells nothing, as of a file, nothing
+-- is claimed of them
+abbrev pub shown : {W : Type 0} → (W → Option (List ℕ)) → Sink W → Shown
+shown contents s = record { bytes = contents (writer_of s); faults = faults_of s }
 
-  -- with Ok the text was appended, and with a fault a beginning of it
-  abbrev pub Puts : {E T : Type 0} → Sink W → Sink W → List ℕ → Result T E → Type 0
-  Puts old new text result = MatchResult result (λ _. Put old new text) (λ _. Stopped old new text)
+-- the text was appended, and no fault was counted
+pub record Put (old new : Shown) (text : List ℕ) : Type 0 where
+  pub appended : Appends old.bytes new.bytes text
+  pub faults : new.faults ≡ old.faults
+
+-- a beginning of the text was appended, and one fault was counted
+pub record Stopped (old new : Shown) (text : List ℕ) : Type 0 where
+  pub front : List ℕ
+  pub rest : List ℕ
+  pub beginning : text ≡ front ++ rest
+  pub appended : Appends old.bytes new.bytes front
+  pub faults : new.faults ≡ old.faults + 1
+
+-- with Ok the text was appended, and with a fault a beginning of it
+abbrev pub Writes : {E T : Type 0} → Shown → Shown → List ℕ → Result T E → Type 0
+Writes old new text result = MatchResult result (λ _. Put old new text) (λ _. Stopped old new text)
+
+-- the same of a sink
+abbrev pub Puts : {W E T : Type 0} → (W → Option (List ℕ)) → Sink W → Sink W → List ℕ → Result T E → Type 0
+Puts contents old new text result = Writes (shown contents old) (shown contents new) text result

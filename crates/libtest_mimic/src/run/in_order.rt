@@ -3,7 +3,7 @@ ghost use Rattle.std.specs.Prelude.{◌≡◌, ◌-◌, ◌^◌, ◌<◌, [], ve
 ghost use Rattle.std.specs.Bool.{MatchBool};
 ghost use Rattle.mimic_trial.specs.Promise.{FitsTypes};
 ghost use Rattle.mimic_trial.specs.Trial.{AllCanRun};
-ghost use Rattle.mimic_printer.specs.Sink.{faults_of};
+ghost use Rattle.mimic_printer.specs.Sink.{faults_of, shown};
 ghost use Rattle.libtest_mimic.specs.Steps.{HasCounted, HasRoomFor, RowsRun, WritesReport};
 ghost use Rattle.libtest_mimic.specs.Stopwatch.{IsRunning};
 
@@ -30,8 +30,9 @@ pub(super) fn write_report<R: Task, W: Write, C: Clock>(
     requires empty { HasCounted tally tally.conclusion.num_filtered_out [] }
     requires runnable { AllCanRun R.can_run trials.items }
     requires capacity { HasRoomFor tally (vec_len trials) }
-    ensures { WritesReport R.gives W.contents args.now trials.items printer.now tally.conclusion.num_filtered_out
-        sink.old sink.new watch.new result }
+    ensures { WritesReport R.gives (record { args = args.now; trials = trials.items; printer = printer.now;
+            filtered_out = tally.conclusion.num_filtered_out })
+        (shown W.contents sink.old) (shown W.contents sink.new) watch.new result }
 {
     let mut tally = tally;
     printer.print_title(sink, trials.len() as u64)?;
@@ -56,8 +57,9 @@ fn run_rows<R: Task, W: Write>(
     requires empty { HasCounted tally.old tally.old.conclusion.num_filtered_out [] }
     requires runnable { AllCanRun R.can_run trials.items }
     requires capacity { HasRoomFor tally.old (vec_len trials) }
-    ensures { RowsRun R.gives W.contents args.now trials.items printer.now tally.old.conclusion.num_filtered_out
-        sink.old sink.new tally.new result }
+    ensures { RowsRun R.gives (record { args = args.now; trials = trials.items; printer = printer.now;
+            filtered_out = tally.old.conclusion.num_filtered_out })
+        (shown W.contents sink.old) (shown W.contents sink.new) tally.new result }
 {
     for trial in trials {
         let ignored = is_ignored(args, &trial);

@@ -1,6 +1,6 @@
 use Rattle.std.proofs.Common.{sym, ◌∙◌, subst, map, List, ℕ}
 use Rattle.mimic_trial.specs.Row.{label_of}
-use Rattle.mimic_printer.specs.Sink.{Put, Puts}
+use Rattle.mimic_printer.specs.Sink.{Put, Puts, shown}
 use Rattle.mimic_printer.proofs.Appending.{Put-refl}
 use Rattle.mimic_printer.proofs.FailedRows.{failures-some, failures-none}
 use Rattle.mimic_printer.proofs.failures.put_if_any.Goals as goal
@@ -14,5 +14,5 @@ returns-then-any_failed g c =
 pub returns-else-any_failed : goal.returns-else-any_failed
 returns-else-any_failed g c =
     let none = sym c.any_failed.ensures ∙ c.if-any_failed.false in
-    let P : List ℕ → Type 0 = λ l. Put g.W.Write.contents c.args.sink.now c.args.sink.now l in
-    subst P (sym (failures-none (map label_of c.args.infos.now) c.args.outcomes.now c.args.order.now none)) (Put-refl g.W.Write.contents c.args.sink.now)
+    let P : List ℕ → Type 0 = λ l. Put (shown g.W.Write.contents c.args.sink.now) (shown g.W.Write.contents c.args.sink.now) l in
+    subst P (sym (failures-none (map label_of c.args.infos.now) c.args.outcomes.now c.args.order.now none)) (Put-refl (shown g.W.Write.contents c.args.sink.now))

@@ -1,0 +1,139 @@
+-- Printers that differ in columns alone print the same where their format has none.
+use Rattle.std.proofs.Common.{◌≡◌, ◌∙◌, ℕ, Bool, List, [], ◌∷◌, ◌++◌, Option, None, Some, length, refl, sym, ap, ap₂, subst}
+use Rattle.std.specs.List.{concat}
+use Rattle.std.specs.Prelude.{MatchOption}
+use Rattle.mimic_args.specs.declared.FormatSetting.{FormatSetting}
+use Rattle.mimic_args.specs.declared.FormatSetting.TheVariants.{Pretty, Terse, Json}
+use Rattle.mimic_trial.specs.declared.outcome.Outcome.{Outcome}
+use Rattle.mimic_trial.specs.declared.outcome.Outcome.TheVariants.{Passed, Failed, Ignored, Measured}
+use Rattle.mimic_trial.specs.declared.outcome.conclusion.Conclusion.{Conclusion}
+use Rattle.mimic_trial.specs.Count.{counts_of}
+use Rattle.mimic_trial.specs.Places.{Placed}
+use Rattle.mimic_trial.specs.Promise.{Gives}
+use Rattle.mimic_trial.specs.Row.{Label, Row, outcomes_of}
+use Rattle.mimic_printer.specs.declared.Printer.{Printer}
+use Rattle.mimic_printer.specs.Report.{announcement_in, announcement_text, failures_in, failures_text, outcome_in, outcome_line, outcome_mark, outcome_text, report_text, result_summary, row_text, rows_text, summary_in, summary_text, terse_outcome, title_in, title_text}
+use Rattle.mimic_printer.specs.Sink.{Shown, Put, Stopped}
+use Rattle.libtest_mimic.specs.declared.stopwatch.Readings.{Readings}
+use Rattle.libtest_mimic.specs.Run.{Reported, ReportedInOrder, StartsReport, next_text, start_text}
+use Rattle.libtest_mimic.specs.Steps.{PrintsAs}
+use Rattle.libtest_mimic.specs.Stopwatch.{IsRunning, elapsed_of}
+use Rattle.libtest_mimic.specs.Suite.{Suite, rows_of}
+
+-- a printer is its fields
+pub Printer-is : (p : Printer) (f : FormatSetting) (c : Bool) (n k : ℕ) → p.format ≡ f → p.colour ≡ c → p.name_width ≡ n → p.kind_width ≡ k
+    → p ≡ record { format = f; colour = c; name_width = n; kind_width = k }
+Printer-is p f c n k ef ec en ek =
+    ap₂ (λ x y. record { format = x; colour = y; name_width = p.name_width; kind_width = p.kind_width }) ef ec
+    ∙ ap₂ (λ x y. record { format = f; colour = c; name_width = x; kind_width = y }) en ek
+
+-- ---- texts in one format
+
+announced : (p q : Printer) (f : FormatSetting) (l : Label) → (f ≡ Pretty → p ≡ q) → announcement_in f p l ≡ announcement_in f q l
+announced p q Pretty l same = ap (λ (x : Printer). announcement_in Pretty x l) (same refl)
+announced p q Terse l same = refl
+announced p q Json l same = refl
+
+marked : (p q : Printer) (o : Outcome) (mark : List ℕ) → p.colour ≡ q.colour → outcome_mark p o mark ≡ outcome_mark q o mark
+unfolding outcome_mark
+marked p q o mark c = rw c refl
+
+lined : (p q : Printer) (o : Outcome) → p.colour ≡ q.colour → outcome_line p o ≡ outcome_line q o
+unfolding outcome_line
+lined p q o c = rw c refl
+
+in_terse : (p q : Printer) (o : Outcome) → p.colour ≡ q.colour → terse_outcome p o ≡ terse_outcome q o
+in_terse p q Passed c = marked p q Passed _ c
+in_terse p q (Failed f) c = marked p q (Failed f) _ c
+in_terse p q Ignored c = marked p q Ignored _ c
+in_terse p q (Measured m) c = lined p q (Measured m) c
+
+ended : (p q : Printer) (f : FormatSetting) (l : Label) (o : Outcome) → p.colour ≡ q.colour → (f ≡ Pretty → p ≡ q) → outcome_in f p l o ≡ outcome_in f q l o
+ended p q Pretty l o c same = ap (λ (x : Printer). outcome_in Pretty x l o) (same refl)
+ended p q Terse l o c same = in_terse p q o c
+ended p q Json l o c same = refl
+
+concluded : (p q : Printer) (c : Conclusion) (nanos : ℕ) → p.colour ≡ q.colour → result_summary p c nanos ≡ result_summary q c nanos
+unfolding result_summary
+concluded p q c nanos e = rw e refl
+
+summed : (p q : Printer) (f : FormatSetting) (c : Conclusion) (nanos : ℕ) → p.colour ≡ q.colour → summary_in f p c nanos ≡ summary_in f q c nanos
+summed p q Pretty c nanos e = concluded p q c nanos e
+summed p q Terse c nanos e = concluded p q c nanos e
+summed p q Json c nanos e = refl
+
+joined : (a b c d e f g h : List ℕ) → a ≡ e → b ≡ f → c ≡ g → d ≡ h → concat (a ∷ b ∷ c ∷ d ∷ []) ≡ concat (e ∷ f ∷ g ∷ h ∷ [])
+joined a b c d e f g h i j k l = rw (i, j, k, l) refl
+
+-- ---- texts of two printers
+
+module _ (p q : Printer) (same : PrintsAs p q) where
+  title_same : (n : ℕ) → title_text p n ≡ title_text q n
+  title_same n = ap (λ f. title_in f n) same.format
+
+  announcement_same : (l : Label) → announcement_text p l ≡ announcement_text q l
+  announcement_same l = announced p q p.format l same.columns ∙ ap (λ f. announcement_in f q l) same.format
+
+  row_same : (row : Row) → row_text p row ≡ row_text q row
+  row_same row =
+      ap₂ (λ x y. x ++ y) (announcement_same row.label)
+      (ended p q p.format row.label row.outcome same.colour same.columns ∙ ap (λ f. outcome_in f q row.label row.outcome) same.format)
+
+  rows_same : (rows : List Row) → rows_text p rows ≡ rows_text q rows
+  rows_same [] = refl
+  rows_same (row ∷ rows) = ap₂ (λ x y. x ++ y) (row_same row) (rows_same rows)
+
+  failures_same : (rows : List Row) → failures_text p rows ≡ failures_text q rows
+  failures_same rows = ap (λ f. failures_in f rows) same.format
+
+  report_same : (rows : List Row) (filtered_out nanos : ℕ) → report_text p rows filtered_out nanos ≡ report_text q rows filtered_out nanos
+  unfolding report_text
+  report_same rows filtered_out nanos =
+      let c : Conclusion = counts_of (outcomes_of rows) filtered_out in
+      joined _ _ _ _ _ _ _ _ (title_same (length rows)) (rows_same rows) (failures_same rows)
+      (summed p q p.format c nanos same.colour ∙ ap (λ f. summary_in f q c nanos) same.format)
+
+-- ---- suites of two printers
+
+MatchOption-weaker : {A : Type 0} (o : Option A) (P P' : Type 0) (Q Q' : A → Type 0) → (P → P') → ((x : A) → Q x → Q' x) → MatchOption o P Q → MatchOption o P' Q'
+MatchOption-weaker None P P' Q Q' none some h = none h
+MatchOption-weaker (Some x) P P' Q Q' none some h = some x h
+
+module _ {R : Type 0} (gives : Gives R) (suite : Suite R) (q : Printer) (same : PrintsAs suite.printer q) where
+  next_same : (placed : List Placed) (left : List ℕ) → next_text suite placed left ≡ next_text (record suite { printer = q }) placed left
+  next_same placed [] = failures_same suite.printer q same (rows_of suite placed)
+  next_same placed (place ∷ left) = announcement_same suite.printer q same _
+
+  start_same : (placed : List Placed) (left : List ℕ) → start_text suite placed left ≡ start_text (record suite { printer = q }) placed left
+  start_same placed left =
+      ap₂ (λ x y. x ++ y) (title_same suite.printer q same (length suite.trials))
+      (ap₂ (λ x y. x ++ y) (rows_same suite.printer q same (rows_of suite placed)) (next_same placed left))
+
+  -- a whole report
+  pub reported_same : (old new : Shown) (watch : Readings) (c : Conclusion) → ReportedInOrder gives suite old new watch c → ReportedInOrder gives (record suite { printer = q }) old new watch c
+  reported_same old new watch c (placed, ordered, r) = (
+    placed,
+    ordered,
+    record {
+      arranged = r.arranged;
+      nanos = r.nanos;
+      elapsed = r.elapsed;
+      fits = r.fits;
+      appended = let P : List ℕ → Type 0 = λ t. Put old new t in subst P (report_same suite.printer q same _ suite.filtered_out r.nanos) r.appended;
+      counts = r.counts;
+    },
+  )
+
+  -- a start of a report
+  pub starts_same : (order : List ℕ) (old new : Shown) (watch : Readings) → StartsReport gives suite order old new watch → StartsReport gives (record suite { printer = q }) order old new watch
+  starts_same order old new watch s =
+      let P : List ℕ → Type 0 = λ t. Stopped old new t in
+      record {
+        placed = s.placed;
+        left = s.left;
+        places = s.places;
+        own = s.own;
+        begun = MatchOption-weaker (elapsed_of watch) _ _ _ _
+            (λ h. (h.0, subst P (start_same s.placed s.left) h.1))
+            (λ nanos h. (h.0, subst P (report_same suite.printer q same _ suite.filtered_out nanos) h.1)) s.begun;
+      }

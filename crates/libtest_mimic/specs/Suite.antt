@@ -1,0 +1,51 @@
+-- The suite that a run goes through: the trials that are selected of those handed in, and how their report is printed.
+use Rattle.std.specs.Prelude.{ℕ, ◌-◌, Bool, List, length}
+use Rattle.std.specs.List.{range_with_len}
+use Rattle.mimic_args.specs.declared.Arguments.{Arguments}
+use Rattle.mimic_args.specs.Arguments.{colours_of, format_of}
+use Rattle.mimic_printer.specs.declared.Printer.{Printer}
+use Rattle.mimic_printer.specs.Widths.{kind_width_of, name_width_of}
+use Rattle.mimic_trial.specs.declared.trial.Trial.{Trial}
+use Rattle.mimic_trial.specs.Places.{Placed, rows_at}
+use Rattle.mimic_trial.specs.Row.{Label, Row}
+use Rattle.mimic_trial.specs.Trial.{labels_of}
+use Rattle.libtest_mimic.specs.Selection.{IsSelection}
+
+-- the printer of a run: the format and the colours that the arguments ask for, and columns as wide as the trials need
+-- (the Rust crate's)
+abbrev pub printer_for : Arguments → Bool → List Label → Printer
+printer_for args auto_colours labels = record {
+  format = format_of args;
+  colour = colours_of args auto_colours;
+  name_width = name_width_of labels;
+  kind_width = kind_width_of labels;
+}
+
+-- a suite: what is asked, the selected trials, the printer of their report, and how many trials were filtered out
+pub record Suite (R : Type 0) : Type 0 where
+  pub args : Arguments
+  pub trials : List (Trial R)
+  pub printer : Printer
+  pub filtered_out : ℕ
+
+-- the suite of selected trials, where the caller says whether there are colours if the arguments leave it open
+abbrev pub suite_of : {R : Type 0} → Arguments → Bool → List (Trial R) → ℕ → Suite R
+suite_of args auto_colours selected filtered_out = record {
+  args = args;
+  trials = selected;
+  printer = printer_for args auto_colours (labels_of selected);
+  filtered_out = filtered_out;
+}
+
+-- P holds of the suite of the trials that the arguments select of those handed in; the others are filtered out
+abbrev pub OfSuite : {R : Type 0} → Arguments → Bool → List (Trial R) → (Suite R → Type 0) → Type 0
+OfSuite {R} args auto_colours trials P =
+    (selected : List (Trial R)) × IsSelection args trials selected × P (suite_of args auto_colours selected (length trials - length selected))
+
+-- the places of the suite's trials in their order: 0, 1, ..
+abbrev pub in_order : {R : Type 0} → Suite R → List ℕ
+in_order suite = range_with_len 0 (length suite.trials)
+
+-- the rows of outcomes that stand at places of the suite
+abbrev pub rows_of : {R : Type 0} → Suite R → List Placed → List Row
+rows_of suite placed = rows_at (labels_of suite.trials) placed
