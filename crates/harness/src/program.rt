@@ -107,7 +107,7 @@ fn run_line<F: Files, R: Task, O: Write + Drop, C: Clock + Drop>(
 ) -> (O, Result<Conclusion, Fault>)
     requires { AllCanRun R.can_run tests.items }
     ensures ran { IsNone args.now.logfile → IfOk result.1 (λ c. Ran R.gives args.now tests.items
-        (told_of O.contents out) (O.contents result.0) 0 (Ok c)) }
+        (told_of O.contents out) (O.contents result.0) c) }
     ensures beginning { IsNone args.now.logfile → OnErr result.1 (GotBeginning R.gives args.now tests.items
         (told_of O.contents out) (O.contents result.0)) }
     ensures answer { IfOk result.1 (λ c. HasAnswer R.gives args.now tests.items (Ok c)) }

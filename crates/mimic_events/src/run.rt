@@ -23,7 +23,7 @@ pub fn run_to_report<R: Task, C: Clock>(
     watch: &mut Stopwatch<C>,
 ) -> Result<(Conclusion, Report), RunError>
     requires json { format_of args.now ≡ Json }
-    requires runs { args.now.list ≡ false }
+    requires unlisted { args.now.list ≡ false }
     requires runnable { AllCanRun R.can_run tests.items }
     requires fresh { IsFresh watch.old }
     ensures { IfOk result (λ told. TellsRun R.gives args.now tests.items watch.new told.0 (contents_of told.1)) }

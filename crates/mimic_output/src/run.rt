@@ -42,7 +42,7 @@ pub fn run_into<R: Task, W: Write + Drop, C: Clock + Drop>(
 ) -> (W, Result<Conclusion, RunError>)
     requires runnable { AllCanRun R.can_run tests.items }
     ensures ran { IfOk result.1 (λ c. Ran R.gives args.now tests.items
-        (told_of W.contents output) (W.contents result.0) 0 (Ok c)) }
+        (told_of W.contents output) (W.contents result.0) c) }
     ensures beginning { OnErr result.1 (GotBeginning R.gives args.now tests.items
         (told_of W.contents output) (W.contents result.0)) }
     ensures answer { IfOk result.1 (λ c. HasAnswer R.gives args.now tests.items (Ok c)) }

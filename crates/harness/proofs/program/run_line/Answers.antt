@@ -7,7 +7,7 @@ use Rattle.harness.proofs.program.run_line.Goals as goal
 
 pub returns-in-None-clause-ran : goal.returns-in-None-clause-ran
 returns-in-None-clause-ran g c = λ no_logfile.
-    IfOk-map_err (λ answer. Ran g.R.Task.gives c.args.args.now c.args.tests.items (told_of g.O.Write.contents c.args.out) (g.O.Write.contents c.run_into-writer.result.0) 0 (Ok answer))
+    IfOk-map_err (λ answer. Ran g.R.Task.gives c.args.args.now c.args.tests.items (told_of g.O.Write.contents c.args.out) (g.O.Write.contents c.run_into-writer.result.0) answer)
     _ c.run_into-writer.result.1 _ c.run_into-writer.ensures.ran c.map_err.ensures.cases c.map_err.ensures.variant
 
 pub returns-in-None-clause-answer : goal.returns-in-None-clause-answer
