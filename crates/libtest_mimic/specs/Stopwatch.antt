@@ -1,5 +1,5 @@
 -- What a watch tells of the readings that it kept.
-use Rattle.std.specs.Prelude.{◌≡◌, ℕ, ◌-◌, Option, None, Some, Bool, true, false}
+use Rattle.std.specs.Prelude.{◌≡◌, ℕ, ◌-◌, Option, None, Some}
 use Rattle.libtest_mimic.specs.declared.stopwatch.Readings.{Readings}
 use Rattle.libtest_mimic.specs.declared.stopwatch.Readings.TheVariants.{Fresh, Running, Stopped}
 
@@ -8,16 +8,6 @@ abbrev pub elapsed_of : Readings → Option ℕ
 elapsed_of Fresh = None
 elapsed_of (Running started) = None
 elapsed_of (Stopped started stopped) = Some (stopped - started)
-
-abbrev pub is_fresh : Readings → Bool
-is_fresh Fresh = true
-is_fresh (Running started) = false
-is_fresh (Stopped started stopped) = false
-
-abbrev pub is_running : Readings → Bool
-is_running Fresh = false
-is_running (Running started) = true
-is_running (Stopped started stopped) = false
 
 -- no reading was made
 abbrev pub IsFresh : Readings → Type 0

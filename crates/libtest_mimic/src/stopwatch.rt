@@ -1,6 +1,6 @@
 //! The time that a run takes.
-ghost use Rattle.std.specs.Prelude.{◌≡◌};
-ghost use Rattle.libtest_mimic.specs.Stopwatch.{elapsed_of, is_fresh, is_running, IsFresh, IsRunning, StopsAfter};
+ghost use Rattle.std.specs.Prelude.{◌≡◌, ◌↔◌, IsTrue};
+ghost use Rattle.libtest_mimic.specs.Stopwatch.{elapsed_of, IsFresh, IsRunning, StopsAfter};
 
 use std::marker::Model;
 
@@ -68,14 +68,14 @@ impl<C: Clock> Stopwatch<C> {
 
     /// Whether the watch was not started yet.
     pub fn is_fresh(&self) -> bool
-        ensures { result ≡ is_fresh self.now }
+        ensures { IsTrue result ↔ IsFresh self.now }
     {
         matches!(self.readings, Readings::Fresh)
     }
 
     /// Whether the watch was started and not stopped yet.
     pub fn is_running(&self) -> bool
-        ensures { result ≡ is_running self.now }
+        ensures { IsTrue result ↔ IsRunning self.now }
     {
         matches!(self.readings, Readings::Running { .. })
     }

@@ -1,5 +1,6 @@
 pub mod Failed
 pub mod Promise
+pub mod Same
 pub mod Count
 pub mod Row
 pub mod Trial

@@ -1,5 +1,5 @@
 //! What becomes of trials: failures, measurements, outcomes and their counts.
-ghost use Rattle.std.specs.Prelude.{◌≡◌, ◌<◌, ◌^◌, ◌-◌};
+ghost use Rattle.std.specs.Prelude.{◌≡◌, ◌↔◌, ◌<◌, ◌^◌, ◌-◌, IsTrue};
 ghost use Rattle.mimic_trial.specs.Count.{counts_of};
 ghost use Rattle.mimic_trial.specs.Promise.{FitsTypes, PromisesOutcome};
 
@@ -13,7 +13,7 @@ pub use failed::Failed;
 pub use measurement::Measurement;
 
 /// What became of a trial.
-#[derive(Debug, PartialEq, Eq, Drop)]
+#[derive(Debug, Drop)]
 pub enum Outcome {
     /// The test passed, or the benchmark did in test mode.
     Passed,
@@ -23,6 +23,35 @@ pub enum Outcome {
     Ignored,
     /// The benchmark was measured.
     Measured(Measurement),
+}
+
+impl PartialEq for Outcome {
+    ghost use Rattle.std.specs.Cmp.{decided, partial_equiv_from_equiv};
+    ghost use Rattle.mimic_trial.specs.Same.{outcome_decides, same_outcome};
+
+    ghost eq = { same_outcome };
+
+    ghost laws = { partial_equiv_from_equiv (decided same_outcome outcome_decides) };
+
+    /// Whether both are of the same sort, with the same failure or measurement.
+    fn eq(&self, other: &Outcome) -> bool
+        ensures computed { result ≡ same_outcome self.now other.now }
+        ensures same { IsTrue result ↔ (self.now ≡ other.now) }
+    {
+        match (self, other) {
+            (Outcome::Passed, Outcome::Passed) | (Outcome::Ignored, Outcome::Ignored) => true,
+            (Outcome::Failed(mine), Outcome::Failed(theirs)) => mine == theirs,
+            (Outcome::Measured(mine), Outcome::Measured(theirs)) => mine == theirs,
+            _ => false,
+        }
+    }
+}
+
+impl Eq for Outcome {
+    ghost use Rattle.std.specs.Cmp.{decided};
+    ghost use Rattle.mimic_trial.specs.Same.{outcome_decides, same_outcome};
+
+    ghost laws = { decided same_outcome outcome_decides };
 }
 
 /// Calls the runner once, and answers the outcome of its answer.

@@ -1,5 +1,5 @@
 //! Why a trial failed.
-ghost use Rattle.std.specs.Prelude.{◌≡◌, Some, None, IsSome, IfSome, IfOk, IsUtf8, string_bytes};
+ghost use Rattle.std.specs.Prelude.{◌≡◌, ◌↔◌, Some, None, IsSome, IsTrue, IfSome, IfOk, IsUtf8, string_bytes};
 ghost use Rattle.std.specs.Option.{option_copied};
 ghost use Rattle.std.specs.Cmp.Rules.{comparing};
 ghost use Rattle.std.proofs.Common.{rules};
@@ -98,7 +98,11 @@ impl PartialEq for Failed {
 
     ghost laws = { Prim.search (comparing, rules) };
 
-    fn eq(&self, other: &Failed) -> bool {
+    /// Whether both have the same text, or none.
+    fn eq(&self, other: &Failed) -> bool
+        ensures computed { result ≡ same_text self.now other.now }
+        ensures same { IsTrue result ↔ (self.now ≡ other.now) }
+    {
         match (self.message(), other.message()) {
             (Some(mine), Some(theirs)) => mine == theirs,
             (None, None) => true,
