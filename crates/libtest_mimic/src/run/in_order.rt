@@ -30,8 +30,12 @@ pub(super) fn write_report<R: Task, W: Write, C: Clock>(
     requires empty { HasCounted tally tally.conclusion.num_filtered_out [] }
     requires runnable { AllCanRun R.can_run trials.items }
     requires capacity { HasRoomFor tally (vec_len trials) }
-    ensures { WritesReport R.gives (record { args = args.now; trials = trials.items; printer = printer.now;
-            filtered_out = tally.conclusion.num_filtered_out })
+    ensures { WritesReport R.gives (record {
+      args = args.now;
+      trials = trials.items;
+      printer = printer.now;
+      filtered_out = tally.conclusion.num_filtered_out;
+    })
         (shown W.contents sink.old) (shown W.contents sink.new) watch.new result }
 {
     let mut tally = tally;
@@ -57,8 +61,12 @@ fn run_rows<R: Task, W: Write>(
     requires empty { HasCounted tally.old tally.old.conclusion.num_filtered_out [] }
     requires runnable { AllCanRun R.can_run trials.items }
     requires capacity { HasRoomFor tally.old (vec_len trials) }
-    ensures { RowsRun R.gives (record { args = args.now; trials = trials.items; printer = printer.now;
-            filtered_out = tally.old.conclusion.num_filtered_out })
+    ensures { RowsRun R.gives (record {
+      args = args.now;
+      trials = trials.items;
+      printer = printer.now;
+      filtered_out = tally.old.conclusion.num_filtered_out;
+    })
         (shown W.contents sink.old) (shown W.contents sink.new) tally.new result }
 {
     for trial in trials {
