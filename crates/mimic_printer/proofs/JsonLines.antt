@@ -13,7 +13,7 @@ use Rattle.mimic_trial.specs.declared.outcome.Outcome.TheVariants.{Passed, Faile
 use Rattle.mimic_trial.specs.declared.outcome.conclusion.Conclusion.{Conclusion}
 use Rattle.mimic_trial.specs.Count.{counts_of, is_passed, is_failed, is_ignored_outcome, is_measured}
 use Rattle.mimic_text.specs.Escape.{escape, escaped}
-use Rattle.mimic_printer.specs.Json.{Contents, Entry, conclusion_of, entry_lines, json_announcement, json_event, json_failure, json_measurement, json_outcome, json_report, json_summary, json_title, json_verdict, line_ends}
+use Rattle.mimic_printer.specs.Json.{Contents, Entry, FitsEntry, IsJsonReport, conclusion_of, entry_lines, json_announcement, json_event, json_failure, json_measurement, json_outcome, json_report, json_summary, json_title, json_verdict, line_ends}
 use Rattle.mimic_trial.specs.Promise.{FitsTypes}
 use Rattle.mimic_text.specs.Seconds.{IsRest, exact_seconds}
 use Rattle.mimic_text.proofs.Bounded.{all_below, one_below}
@@ -150,21 +150,21 @@ summary_ends c nanos h k =
 
 -- ---- the whole
 
-entries_end : (entries : List Entry) → AllByRecursion (λ (entry : Entry). FitsTypes entry.outcome) entries → line_ends (flat_map entry_lines entries) ≡ 2 * length entries
+entries_end : (entries : List Entry) → AllByRecursion FitsEntry entries → line_ends (flat_map entry_lines entries) ≡ 2 * length entries
 entries_end [] h = refl
 entries_end (entry ∷ entries) h =
-    let both : line_ends (entry_lines entry) ≡ 2 = ends-concat (json_announcement entry.name ∷ json_outcome entry.name entry.outcome ∷ []) ∙ rw (announcement_ends entry.name, outcome_ends entry.name entry.outcome h.0) refl in
+    let both : line_ends (entry_lines entry) ≡ 2 = ends-concat (json_announcement entry.name ∷ json_outcome entry.name entry.outcome ∷ []) ∙ rw (announcement_ends entry.name, outcome_ends entry.name entry.outcome h.0.outcome) refl in
     ends-append (entry_lines entry) (flat_map entry_lines entries) ∙ rw (both, entries_end entries h.1) (omega arith)
 
 -- a report in JSON has two lines for each entry, and two more
-pub report_ends : (c : Contents) → AllByRecursion (λ (entry : Entry). FitsTypes entry.outcome) c.entries → length c.entries < 2 ^ 64 → c.filtered_out < 2 ^ 64 → c.nanos < 2 ^ 64
-    → line_ends (json_report c) ≡ 2 * length c.entries + 2
+pub report_ends : (bytes : List ℕ) (c : Contents) → IsJsonReport bytes c → length c.entries < 2 ^ 64 → line_ends bytes ≡ 2 * length c.entries + 2
 unfolding json_report
-report_ends c fits few filtered nanos =
+report_ends bytes c report few =
     let count : length (map (λ (entry : Entry). entry.outcome) c.entries) < 2 ^ 64 = omega (arith, length-map c.entries (λ (entry : Entry). entry.outcome), few) in
-    ends-concat (json_title (length c.entries) ∷ flat_map entry_lines c.entries ∷ json_summary (conclusion_of c) c.nanos ∷ [])
+    ap line_ends report.text
+    ∙ ends-concat (json_title (length c.entries) ∷ flat_map entry_lines c.entries ∷ json_summary (conclusion_of c) c.nanos ∷ [])
     ∙ rw (
       title_ends (length c.entries) few,
-      entries_end c.entries fits,
-      summary_ends (conclusion_of c) c.nanos (small_counts (map (λ (entry : Entry). entry.outcome) c.entries) c.filtered_out count filtered) nanos,
+      entries_end c.entries report.entries,
+      summary_ends (conclusion_of c) c.nanos (small_counts (map (λ (entry : Entry). entry.outcome) c.entries) c.filtered_out count report.filtered_out) report.nanos,
     ) (omega arith)

@@ -23,7 +23,8 @@ rows_as_entries p [] = refl
 rows_as_entries p (row ∷ rows) =
     ap₂ (λ a b. a ++ b) (ap (λ l. announcement_in Json p row.label ++ l) (sym (append-nil (outcome_in Json p row.label row.outcome)))) (rows_as_entries p rows)
 
-same_outcomes : (rows : List Row) → outcomes_of rows ≡ map (λ (entry : Entry). entry.outcome) (map entry_of rows)
+-- the outcomes of rows are those of their entries
+pub same_outcomes : (rows : List Row) → outcomes_of rows ≡ map (λ (entry : Entry). entry.outcome) (map entry_of rows)
 same_outcomes [] = refl
 same_outcomes (row ∷ rows) = ap (λ l. row.outcome ∷ l) (same_outcomes rows)
 
