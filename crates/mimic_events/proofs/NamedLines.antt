@@ -7,7 +7,7 @@ use Rattle.std.proofs.lemmas.List.Concat.{flat_map-append}
 use Rattle.std.proofs.lemmas.List.{append_cancel_left, append_cancel_right}
 use Rattle.mimic_trial.specs.declared.outcome.Outcome.TheVariants.{Failed}
 use Rattle.libtest_mimic.specs.Escape.{escape, escaped}
-use Rattle.libtest_mimic.specs.Json.{announcement_front, event_field, json_announcement, json_end, json_title, stdout_key, title_key}
+use Rattle.libtest_mimic.specs.Json.{announcement_front, event_field, json_announcement, json_end, json_title, stdout_key, title_front}
 use Rattle.mimic_events.specs.Parts.{ReadsQuoted, ReadsNamed, ReadsNumber, IsFailure, tail}
 use Rattle.mimic_events.specs.Reading.{Decodes, IsAnnouncement, IsTitle}
 
@@ -49,23 +49,23 @@ text_from bytes (Err f) o e is succeeds = rw e (λ u. absurd (cc (succeeds u)))
 
 -- ---- the title
 
-pub title_is : (n : ℕ) → json_title n ≡ title_key ++ (decimal n ++ json_end)
+pub title_is : (n : ℕ) → json_title n ≡ title_front ++ (decimal n ++ json_end)
 unfolding json_title
 title_is n = refl
 
-pub title_rest : (line rest : List ℕ) (n : ℕ) → line ≡ title_key ++ rest → line ≡ json_title n → rest ≡ decimal n ++ json_end
-title_rest line rest n e f = append_cancel_left title_key rest (decimal n ++ json_end) (sym e ∙ f ∙ title_is n)
+pub title_rest : (line rest : List ℕ) (n : ℕ) → line ≡ title_front ++ rest → line ≡ json_title n → rest ≡ decimal n ++ json_end
+title_rest line rest n e f = append_cancel_left title_front rest (decimal n ++ json_end) (sym e ∙ f ∙ title_is n)
 
-pub title_some : (line rest end : List ℕ) (n : ℕ) → line ≡ title_key ++ rest → ReadsNumber rest (Some (n, end)) → end ≡ json_end → IsTitle n line × ((v : ℕ) → IsTitle v line → v ≡ n)
+pub title_some : (line rest end : List ℕ) (n : ℕ) → line ≡ title_front ++ rest → ReadsNumber rest (Some (n, end)) → end ≡ json_end → IsTitle n line × ((v : ℕ) → IsTitle v line → v ≡ n)
 title_some line rest end n e h last = (
-  (h.0, e ∙ ap (λ (x : List ℕ). title_key ++ x) (h.1 ∙ ap (λ (x : List ℕ). decimal n ++ x) last) ∙ sym (title_is n)),
+  (h.0, e ∙ ap (λ (x : List ℕ). title_front ++ x) (h.1 ∙ ap (λ (x : List ℕ). decimal n ++ x) last) ∙ sym (title_is n)),
   λ v f. (h.3 v json_end f.0 (λ a b. omega arith) (title_rest line rest v e f.1)).0,
 )
 
-pub title_other : (line rest end : List ℕ) (n v : ℕ) → line ≡ title_key ++ rest → ReadsNumber rest (Some (n, end)) → end ≢ json_end → IsTitle v line → ⊥
+pub title_other : (line rest end : List ℕ) (n v : ℕ) → line ≡ title_front ++ rest → ReadsNumber rest (Some (n, end)) → end ≢ json_end → IsTitle v line → ⊥
 title_other line rest end n v e h ne f = ne (sym (h.3 v json_end f.0 (λ a b. omega arith) (title_rest line rest v e f.1)).1)
 
-pub title_none : (line rest : List ℕ) (v : ℕ) → line ≡ title_key ++ rest → ReadsNumber rest None → IsTitle v line → ⊥
+pub title_none : (line rest : List ℕ) (v : ℕ) → line ≡ title_front ++ rest → ReadsNumber rest None → IsTitle v line → ⊥
 title_none line rest v e h f = h v json_end f.0 (λ a b. omega arith) (title_rest line rest v e f.1)
 
 -- ---- the message of a failure

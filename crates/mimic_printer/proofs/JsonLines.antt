@@ -6,7 +6,6 @@ use Rattle.std.proofs.lemmas.Bool.{cases_lt, ne_eqb}
 use Rattle.std.proofs.lemmas.Bool.Decides.{nat_tests}
 use Rattle.std.proofs.lemmas.Fmt.{digits_decimal}
 use Rattle.std.proofs.lemmas.List.{length-append, length-map}
-use Rattle.std.proofs.lemmas.List.Folds.{concat-append}
 use Rattle.std.proofs.lemmas.List.Sums.{count_by-le-length, sum_by-append, sum_by-cons}
 use Rattle.std.proofs.lemmas.Str.Parse.{digit_from_value, numerals_by_value, tells_digits}
 use Rattle.mimic_trial.specs.declared.outcome.Outcome.{Outcome}
@@ -19,7 +18,7 @@ use Rattle.mimic_text.specs.Seconds.{IsRest, exact_seconds}
 use Rattle.mimic_text.proofs.Bounded.{all_below, one_below}
 use Rattle.mimic_text.proofs.Escapes.{escape-high}
 use Rattle.mimic_text.proofs.ExactSeconds.{seconds_exact}
-use Rattle.mimic_printer.specs.Json.{Contents, Entry, FitsEntry, HasNoEnd, IsJsonReport, IsLine, announcement_front, conclusion_of, deviation_key, entry_lines, event_field, json_announcement, json_line, json_outcome, json_report, json_summary, json_title, json_trial, json_verdict, line_ends, median_key, number_field, outcome_fields, outcome_front, stdout_key, summary_front, time_key, title_key}
+use Rattle.mimic_printer.specs.Json.{Contents, Entry, FitsEntry, HasNoEnd, IsJsonReport, IsLine, announcement_front, conclusion_of, deviation_key, entry_lines, event_field, json_announcement, json_line, json_outcome, json_report, json_summary, json_title, json_trial, json_verdict, line_ends, report_lines, median_key, number_field, outcome_fields, outcome_front, stdout_key, summary_front, time_key, title_front}
 
 -- ---- texts in which no line ends
 
@@ -82,7 +81,7 @@ line_of (part ∷ parts) h =
 
 title_line : (n : ℕ) → n < 2 ^ 64 → IsLine (json_title n)
 unfolding json_title
-title_line n h = line_of (title_key ∷ decimal n ∷ []) (by_test title_key refl, (decimal_no_end n h, tt))
+title_line n h = line_of (title_front ∷ decimal n ∷ []) (by_test title_front refl, (decimal_no_end n h, tt))
 
 trial_line : (front name : List ℕ) (fields : List (List ℕ)) → HasNoEnd front → AllByRecursion HasNoEnd fields → IsLine (json_trial front name fields)
 trial_line front name fields clean all = line_of (front ∷ escaped name ∷ codes "\"" ∷ fields) (clean, (escaped_no_end name, (by_test (codes "\"") refl, all)))
@@ -132,37 +131,20 @@ summary_line os filtered_out nanos few h k =
 
 -- ---- the lines of a report
 
-abbrev pub row_lines : Entry → List (List ℕ)
-row_lines entry = json_announcement entry.name ∷ json_outcome entry.name entry.outcome ∷ []
-
-abbrev pub report_lines : Contents → List (List ℕ)
-report_lines c = json_title (length c.entries) ∷ (flat_map row_lines c.entries ++ json_summary (conclusion_of c) c.nanos ∷ [])
-
-rows_text : (es : List Entry) → concat (flat_map row_lines es) ≡ flat_map entry_lines es
-rows_text [] = refl
-rows_text (e ∷ es) = concat-append (row_lines e) (flat_map row_lines es) ∙ ap (λ (x : List ℕ). entry_lines e ++ x) (rows_text es)
-
--- a report is its lines one after another
-pub lines_text : (c : Contents) → concat (report_lines c) ≡ json_report c
-unfolding json_report
-lines_text c =
-    let last : List (List ℕ) = json_summary (conclusion_of c) c.nanos ∷ [] in
-    ap (λ (x : List ℕ). json_title (length c.entries) ++ x) (concat-append (flat_map row_lines c.entries) last ∙ ap (λ (x : List ℕ). x ++ concat last) (rows_text c.entries))
-
 pub each_append : (p q : List (List ℕ)) → AllByRecursion IsLine p → AllByRecursion IsLine q → AllByRecursion IsLine (p ++ q)
 each_append [] q a b = b
 each_append (l ∷ p) q a b = (a.0, each_append p q a.1 b)
 
-rows_each : (es : List Entry) → AllByRecursion FitsEntry es → AllByRecursion IsLine (flat_map row_lines es)
+rows_each : (es : List Entry) → AllByRecursion FitsEntry es → AllByRecursion IsLine (flat_map entry_lines es)
 rows_each [] h = tt
 rows_each (e ∷ es) h = (announcement_line e.name, (outcome_line e.name e.outcome h.0.outcome, rows_each es h.1))
 
--- each of them is one line
+-- each line of a report is one line
 pub lines_each : (bytes : List ℕ) (c : Contents) → IsJsonReport bytes c → length c.entries < 2 ^ 64 → AllByRecursion IsLine (report_lines c)
 lines_each bytes c report few =
     let os : List Outcome = map (λ (entry : Entry). entry.outcome) c.entries in
     let count : length os < 2 ^ 64 = omega (arith, length-map c.entries (λ (entry : Entry). entry.outcome), few) in
-    (title_line (length c.entries) few, each_append (flat_map row_lines c.entries) _ (rows_each c.entries report.entries) (summary_line os c.filtered_out c.nanos count report.filtered_out report.nanos, tt))
+    (title_line (length c.entries) few, each_append (flat_map entry_lines c.entries) _ (rows_each c.entries report.entries) (summary_line os c.filtered_out c.nanos count report.filtered_out report.nanos, tt))
 
 -- ---- how many there are
 
@@ -177,12 +159,13 @@ lines_end (l ∷ lines) h =
     let one : line_ends l ≡ 1 = ap line_ends h.0.parts ∙ sum_by-append _ h.0.front (10 ∷ []) ∙ ap (λ n. n + 1) (no_ends h.0.front h.0.whole) in
     sum_by-append _ l (concat lines) ∙ rw (one, lines_end lines h.1) (omega arith)
 
-rows_count : (es : List Entry) → length (flat_map row_lines es) ≡ 2 * length es
+rows_count : (es : List Entry) → length (flat_map entry_lines es) ≡ 2 * length es
 rows_count [] = refl
 rows_count (e ∷ es) = omega (arith, rows_count es)
 
 -- a report in JSON has two lines for each entry, and two more
 pub report_ends : (bytes : List ℕ) (c : Contents) → IsJsonReport bytes c → length c.entries < 2 ^ 64 → line_ends bytes ≡ 2 * length c.entries + 2
+unfolding json_report
 report_ends bytes c report few =
-    ap line_ends (report.text ∙ sym (lines_text c)) ∙ lines_end (report_lines c) (lines_each bytes c report few)
-    ∙ omega (arith, rows_count c.entries, length-append (flat_map row_lines c.entries) (json_summary (conclusion_of c) c.nanos ∷ []))
+    ap line_ends report.text ∙ lines_end (report_lines c) (lines_each bytes c report few)
+    ∙ omega (arith, rows_count c.entries, length-append (flat_map entry_lines c.entries) (json_summary (conclusion_of c) c.nanos ∷ []))

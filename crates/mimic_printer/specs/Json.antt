@@ -11,7 +11,7 @@ use Rattle.mimic_trial.specs.Promise.{FitsTypes}
 use Rattle.mimic_trial.specs.Row.{Row}
 use Rattle.mimic_text.specs.Seconds.{exact_seconds}
 
--- ---- lines of a text
+-- ---- lines of a text (our own words)
 
 -- no line end stands in the bytes
 abbrev pub HasNoEnd : List ℕ → Type 0
@@ -29,7 +29,7 @@ line_ends text = count_by (λ b. b == 10) text
 
 -- ---- parts of a line
 
--- what ends each line
+-- what ends the object and the line
 abbrev pub json_end : List ℕ
 json_end = codes " }\n"
 
@@ -41,16 +41,19 @@ json_line parts = concat (parts ++ json_end ∷ [])
 abbrev pub number_field : List ℕ → ℕ → List ℕ
 number_field key number = key ++ decimal number
 
--- the word that an outcome is told in
+-- the field that tells an outcome in a word
 abbrev pub event_field : List ℕ → List ℕ
 event_field word = concat (codes ", \"event\": \"" ∷ word ∷ codes "\"" ∷ [])
 
+-- what stands before a failure's message
 abbrev pub stdout_key : List ℕ
 stdout_key = codes ", \"stdout\": \"Error: \\\""
 
+-- what stands before the average of a measurement
 abbrev pub median_key : List ℕ
 median_key = codes ", \"median\": "
 
+-- what stands before its variance
 abbrev pub deviation_key : List ℕ
 deviation_key = codes ", \"deviation\": "
 
@@ -60,10 +63,11 @@ deviation_key = codes ", \"deviation\": "
 abbrev pub json_trial : List ℕ → List ℕ → List (List ℕ) → List ℕ
 json_trial front name fields = json_line (front ∷ escaped name ∷ codes "\"" ∷ fields)
 
+-- what stands before the name in an announcement
 abbrev pub announcement_front : List ℕ
 announcement_front = codes "{ \"type\": \"test\", \"event\": \"started\", \"name\": \""
 
--- measurements have a type of their own
+-- what stands before the name in the line of an outcome: measurements have a type of their own
 abbrev pub outcome_front : Bool → List ℕ
 outcome_front false = codes "{ \"type\": \"test\", \"name\": \""
 outcome_front true = codes "{ \"type\": \"bench\", \"name\": \""
@@ -86,12 +90,13 @@ json_outcome name outcome = json_trial (outcome_front (is_measured outcome)) nam
 
 -- ---- the lines around them
 
-abbrev pub title_key : List ℕ
-title_key = codes "{ \"type\": \"suite\", \"event\": \"started\", \"test_count\": "
+-- what stands before the number of trials
+abbrev pub title_front : List ℕ
+title_front = codes "{ \"type\": \"suite\", \"event\": \"started\", \"test_count\": "
 
 -- the line that begins a report: how many trials it shows
 unfoldable pub json_title : ℕ → List ℕ
-json_title count = json_line (title_key ∷ decimal count ∷ [])
+json_title count = json_line (title_front ∷ decimal count ∷ [])
 
 -- whether the whole run failed
 abbrev pub json_verdict : ℕ → List ℕ
@@ -104,6 +109,7 @@ summary_front c = codes "{ \"type\": \"suite\", \"event\": \"" ∷ json_verdict 
     ∷ number_field (codes ", \"ignored\": ") c.num_ignored ∷ number_field (codes ", \"measured\": ") c.num_measured
     ∷ codes ", \"filtered_out\": " ∷ []
 
+-- what stands before the time
 abbrev pub time_key : List ℕ
 time_key = codes ", \"exec_time\": "
 
@@ -122,8 +128,8 @@ abbrev pub entry_of : Row → Entry
 entry_of row = record { name = row.label.name; outcome = row.outcome }
 
 -- the two lines of an entry
-abbrev pub entry_lines : Entry → List ℕ
-entry_lines entry = concat (json_announcement entry.name ∷ json_outcome entry.name entry.outcome ∷ [])
+abbrev pub entry_lines : Entry → List (List ℕ)
+entry_lines entry = json_announcement entry.name ∷ json_outcome entry.name entry.outcome ∷ []
 
 -- what a report in JSON tells: its entries, how many trials were filtered out, and the nanoseconds that the run took
 pub record Contents : Type 0 where
@@ -134,9 +140,13 @@ pub record Contents : Type 0 where
 abbrev pub conclusion_of : Contents → Conclusion
 conclusion_of c = counts_of (map (λ entry. entry.outcome) c.entries) c.filtered_out
 
--- the text of a report: its title, the lines of its entries and its summary, and nothing before, between or after
+-- the lines of a report: its title, those of its entries and its summary
+abbrev pub report_lines : Contents → List (List ℕ)
+report_lines c = json_title (length c.entries) ∷ (flat_map entry_lines c.entries ++ json_summary (conclusion_of c) c.nanos ∷ [])
+
+-- the text of a report: its lines one after another, and nothing before, between or after
 unfoldable pub json_report : Contents → List ℕ
-json_report c = concat (json_title (length c.entries) ∷ flat_map entry_lines c.entries ∷ json_summary (conclusion_of c) c.nanos ∷ [])
+json_report c = concat (report_lines c)
 
 -- the name is a text, and the outcome fits its types
 pub record FitsEntry (entry : Entry) : Type 0 where
