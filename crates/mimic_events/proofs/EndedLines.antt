@@ -68,9 +68,6 @@ tail_some rest (Some m) a b c d = ((refl, d.0.0, d.0.1), only rest m a b c d.1)
     only rest m a b c d (Failed (Some n)) h = ap (λ (x : List ℕ). Failed (Some x)) (d n (h.1, h.2))
     only rest m a b c d (Measured measurement) h = absurd cc
 
-letter : (k : ℕ) (x y : List ℕ) → x ≡ y → get_or x k 0 ≡ get_or y k 0
-letter k x y e = ap (λ (z : List ℕ). get_or z k 0) e
-
 tail_passed : (v : Outcome) → IsTail false v (tail Passed) → v ≡ Passed
 tail_passed Passed h = refl
 tail_passed Ignored h = absurd (eqb-false 111 105 refl (ap (λ (z : List ℕ). get_or z 12 0) h.2))
