@@ -1,31 +1,23 @@
 -- The lines of outcomes.
-use Rattle.std.proofs.Common.{◌≡◌, ◌≢◌, ℕ, List, ◌∷◌, ◌++◌, Bool, true, false, Option, Some, None, codes, option_map, decimal, refl, sym, ap, subst, ◌∙◌, append_assoc, [], get_or, arith, ◌<◌, ◌^◌}
+use Rattle.std.proofs.Common.{◌≡◌, ◌≢◌, ℕ, List, ◌∷◌, ◌++◌, Bool, true, false, Option, Some, None, option_map, decimal, refl, sym, ap, subst, ◌∙◌, append_assoc, [], get_or, arith, ◌<◌, ◌^◌}
 use Rattle.std.proofs.lemmas.Bool.{eqb-false}
 use Rattle.std.proofs.lemmas.List.{append_cancel_left}
-use Rattle.mimic_events.proofs.NamedLines.{close}
 use Rattle.mimic_trial.specs.declared.outcome.Outcome.{Outcome}
 use Rattle.mimic_trial.specs.declared.outcome.Outcome.TheVariants.{Passed, Failed, Ignored, Measured}
+use Rattle.libtest_mimic.specs.Count.{is_measured}
 use Rattle.libtest_mimic.specs.Escape.{escaped}
-use Rattle.libtest_mimic.specs.Json.{json_outcome, json_event, json_failure, json_measurement}
-use Rattle.mimic_events.specs.Parts.{ReadsNumber, failure_tail, IsFailure, IsTail, is_bench, tail}
+use Rattle.libtest_mimic.specs.Json.{deviation_key, json_end, json_outcome, median_key, outcome_front}
+use Rattle.mimic_events.specs.Parts.{ReadsNumber, IsFailure, IsTail, tail}
 use Rattle.mimic_events.specs.Reading.{Decodes, IsOutcome}
 
-abbrev pub front : Bool → List ℕ
-front true = codes "{ \"type\": \"bench\", \"name\": \""
-front false = codes "{ \"type\": \"test\", \"name\": \""
-
-pub outcome_is : (name : List ℕ) (o : Outcome) → json_outcome name o ≡ front (is_bench o) ++ (escaped name ++ 34 ∷ tail o)
-unfolding json_event json_failure json_measurement failure_tail
-outcome_is name Passed = refl
-outcome_is name (Failed None) = refl
-outcome_is name (Failed (Some message)) = refl
-outcome_is name Ignored = refl
-outcome_is name (Measured m) = refl
+pub outcome_is : (name : List ℕ) (o : Outcome) → json_outcome name o ≡ outcome_front (is_measured o) ++ (escaped name ++ 34 ∷ tail o)
+unfolding json_outcome
+outcome_is name o = refl
 
 abbrev pub measured : ℕ → ℕ → Outcome
 measured avg variance = Measured (record { avg = avg; variance = variance })
 
-apart : (b c : Bool) (x y : List ℕ) → front b ++ x ≡ front c ++ y → b ≡ c
+apart : (b c : Bool) (x y : List ℕ) → outcome_front b ++ x ≡ outcome_front c ++ y → b ≡ c
 apart true true x y e = refl
 apart false false x y e = refl
 apart true false x y e = absurd (eqb-false 98 116 refl (ap (λ (z : List ℕ). get_or z 11 0) e))
@@ -33,16 +25,16 @@ apart false true x y e = absurd (eqb-false 116 98 refl (ap (λ (z : List ℕ). g
 
 -- the front of the line of an outcome, with the name and its closing quote
 abbrev pub named : Bool → List ℕ → List ℕ
-named b name = front b ++ (escaped name ++ 34 ∷ [])
+named b name = outcome_front b ++ (escaped name ++ 34 ∷ [])
 
-regrouped : (b : Bool) (name rest : List ℕ) → named b name ++ rest ≡ front b ++ (escaped name ++ 34 ∷ rest)
-regrouped b name rest = append_assoc (front b) (escaped name ++ 34 ∷ []) rest ∙ ap (λ (x : List ℕ). front b ++ x) (append_assoc (escaped name) (34 ∷ []) rest)
+regrouped : (b : Bool) (name rest : List ℕ) → named b name ++ rest ≡ outcome_front b ++ (escaped name ++ 34 ∷ rest)
+regrouped b name rest = append_assoc (outcome_front b) (escaped name ++ 34 ∷ []) rest ∙ ap (λ (x : List ℕ). outcome_front b ++ x) (append_assoc (escaped name) (34 ∷ []) rest)
 
 -- a line of an outcome is read apart so
-given : (b : Bool) (line name rest : List ℕ) (v : Outcome) → line ≡ named b name ++ rest → IsOutcome name v line → (is_bench v ≡ b) × (tail v ≡ rest)
+given : (b : Bool) (line name rest : List ℕ) (v : Outcome) → line ≡ named b name ++ rest → IsOutcome name v line → (is_measured v ≡ b) × (tail v ≡ rest)
 given b line name rest v h f =
-    let e : line ≡ named (is_bench v) name ++ tail v = f.1 ∙ outcome_is name v ∙ sym (regrouped (is_bench v) name (tail v)) in
-    let same : is_bench v ≡ b = apart (is_bench v) b (escaped name ++ 34 ∷ tail v) (escaped name ++ 34 ∷ rest) (sym (regrouped (is_bench v) name (tail v)) ∙ sym e ∙ h ∙ regrouped b name rest) in
+    let e : line ≡ named (is_measured v) name ++ tail v = f.1 ∙ outcome_is name v ∙ sym (regrouped (is_measured v) name (tail v)) in
+    let same : is_measured v ≡ b = apart (is_measured v) b (escaped name ++ 34 ∷ tail v) (escaped name ++ 34 ∷ rest) (sym (regrouped (is_measured v) name (tail v)) ∙ sym e ∙ h ∙ regrouped b name rest) in
     (same, append_cancel_left (named b name) (tail v) rest (sym (subst (λ (c : Bool). line ≡ named c name ++ tail v) same e) ∙ h))
 
 pub ended_some : (b : Bool) (line name rest : List ℕ) (o : Option Outcome) → line ≡ named b name ++ rest → Decodes (IsTail b) rest o → Decodes (IsOutcome name) line o
@@ -51,7 +43,7 @@ ended_some b line name rest (Some e) h d =
     ((d.0.1, h ∙ regrouped b name rest ∙ rw (d.0.2, ← d.0.0) refl ∙ sym (outcome_is name e)), λ v f. let g = given b line name rest v h f in d.1 v (g.0, f.0, sym g.1))
 
 pub ended_none : (line name : List ℕ) (v : Outcome) → ((rest : List ℕ) → line ≢ named true name ++ rest) → ((rest : List ℕ) → line ≢ named false name ++ rest) → IsOutcome name v line → ⊥
-ended_none line name v bench test f = at (is_bench v) (f.1 ∙ outcome_is name v ∙ sym (regrouped (is_bench v) name (tail v)))
+ended_none line name v bench test f = at (is_measured v) (f.1 ∙ outcome_is name v ∙ sym (regrouped (is_measured v) name (tail v)))
   where
     at : (b : Bool) → line ≡ named b name ++ tail v → ⊥
     at true e = bench (tail v) e
@@ -76,11 +68,7 @@ tail_some rest (Some m) a b c d = ((refl, d.0.0, d.0.1), only rest m a b c d.1)
     only rest m a b c d (Failed (Some n)) h = ap (λ (x : List ℕ). Failed (Some x)) (d n (h.1, h.2))
     only rest m a b c d (Measured measurement) h = absurd cc
 
-letter : (k : ℕ) (x y : List ℕ) → x ≡ y → get_or x k 0 ≡ get_or y k 0
-letter k x y e = ap (λ (z : List ℕ). get_or z k 0) e
-
 tail_passed : (v : Outcome) → IsTail false v (tail Passed) → v ≡ Passed
-unfolding failure_tail
 tail_passed Passed h = refl
 tail_passed Ignored h = absurd (eqb-false 111 105 refl (ap (λ (z : List ℕ). get_or z 12 0) h.2))
 tail_passed (Failed None) h = absurd (eqb-false 111 102 refl (ap (λ (z : List ℕ). get_or z 12 0) h.2))
@@ -88,7 +76,6 @@ tail_passed (Failed (Some m)) h = absurd (eqb-false 111 102 refl (ap (λ (z : Li
 tail_passed (Measured m) h = absurd cc
 
 tail_ignored : (v : Outcome) → IsTail false v (tail Ignored) → v ≡ Ignored
-unfolding failure_tail
 tail_ignored Passed h = absurd (eqb-false 105 111 refl (ap (λ (z : List ℕ). get_or z 12 0) h.2))
 tail_ignored Ignored h = refl
 tail_ignored (Failed None) h = absurd (eqb-false 105 102 refl (ap (λ (z : List ℕ). get_or z 12 0) h.2))
@@ -96,7 +83,6 @@ tail_ignored (Failed (Some m)) h = absurd (eqb-false 105 102 refl (ap (λ (z : L
 tail_ignored (Measured m) h = absurd cc
 
 tail_failed : (v : Outcome) → IsTail false v (tail (Failed None)) → v ≡ Failed None
-unfolding failure_tail
 tail_failed Passed h = absurd (eqb-false 102 111 refl (ap (λ (z : List ℕ). get_or z 12 0) h.2))
 tail_failed Ignored h = absurd (eqb-false 102 105 refl (ap (λ (z : List ℕ). get_or z 12 0) h.2))
 tail_failed (Failed None) h = refl
@@ -114,42 +100,36 @@ is_failed rest e = ((refl, tt, e), λ v h. tail_failed v (subst (IsTail false v)
 
 -- ---- a measurement
 
-abbrev pub median : List ℕ
-median = codes ", \"median\": "
-
-abbrev pub deviation : List ℕ
-deviation = codes ", \"deviation\": "
-
-pub measured_first : (rest first : List ℕ) (v : Outcome) → IsTail true v rest → rest ≡ median ++ first → (x : ℕ) × (y : ℕ) × (v ≡ measured x y) × (x < 2 ^ 64) × (y < 2 ^ 64) × (first ≡ decimal x ++ (deviation ++ (decimal y ++ close)))
+pub measured_first : (rest first : List ℕ) (v : Outcome) → IsTail true v rest → rest ≡ median_key ++ first → (x : ℕ) × (y : ℕ) × (v ≡ measured x y) × (x < 2 ^ 64) × (y < 2 ^ 64) × (first ≡ decimal x ++ (deviation_key ++ (decimal y ++ json_end)))
 measured_first rest first Passed h e = absurd cc
 measured_first rest first Ignored h e = absurd cc
 measured_first rest first (Failed m) h e = absurd cc
-measured_first rest first (Measured m) h e = (m.avg, m.variance, refl, h.1.0, h.1.1, append_cancel_left median first _ (sym e ∙ h.2))
+measured_first rest first (Measured m) h e = (m.avg, m.variance, refl, h.1.0, h.1.1, append_cancel_left median_key first _ (sym e ∙ h.2))
 
-pub no_median : (rest : List ℕ) (v : Outcome) → ((more : List ℕ) → rest ≢ median ++ more) → IsTail true v rest → ⊥
+pub no_median : (rest : List ℕ) (v : Outcome) → ((more : List ℕ) → rest ≢ median_key ++ more) → IsTail true v rest → ⊥
 no_median rest Passed none h = absurd cc
 no_median rest Ignored none h = absurd cc
 no_median rest (Failed m) none h = absurd cc
-no_median rest (Measured m) none h = none (decimal m.avg ++ (deviation ++ (decimal m.variance ++ close))) h.2
+no_median rest (Measured m) none h = none (decimal m.avg ++ (deviation_key ++ (decimal m.variance ++ json_end))) h.2
 
-pub measured_second : (rest first second : List ℕ) (n : ℕ) (v : Outcome) → IsTail true v rest → rest ≡ median ++ first → ReadsNumber first (Some (n, second))
-    → (y : ℕ) × (v ≡ measured n y) × (y < 2 ^ 64) × (second ≡ deviation ++ (decimal y ++ close))
+pub measured_second : (rest first second : List ℕ) (n : ℕ) (v : Outcome) → IsTail true v rest → rest ≡ median_key ++ first → ReadsNumber first (Some (n, second))
+    → (y : ℕ) × (v ≡ measured n y) × (y < 2 ^ 64) × (second ≡ deviation_key ++ (decimal y ++ json_end))
 measured_second rest first second n v h e read =
     let m = measured_first rest first v h e in
-    let r = read.3 m.0 (deviation ++ (decimal m.1 ++ close)) m.3 (λ a b. omega arith) m.5 in
+    let r = read.3 m.0 (deviation_key ++ (decimal m.1 ++ json_end)) m.3 (λ a b. omega arith) m.5 in
     (m.1, m.2 ∙ ap (λ (x : ℕ). measured x m.1) r.0, m.4, sym r.1)
 
-pub measured_third : (rest first second third end : List ℕ) (n k : ℕ) (v : Outcome) → IsTail true v rest → rest ≡ median ++ first → ReadsNumber first (Some (n, second)) → second ≡ deviation ++ third → ReadsNumber third (Some (k, end))
-    → (v ≡ measured n k) × (close ≡ end)
+pub measured_third : (rest first second third end : List ℕ) (n k : ℕ) (v : Outcome) → IsTail true v rest → rest ≡ median_key ++ first → ReadsNumber first (Some (n, second)) → second ≡ deviation_key ++ third → ReadsNumber third (Some (k, end))
+    → (v ≡ measured n k) × (json_end ≡ end)
 measured_third rest first second third end n k v h e read f again =
     let m = measured_second rest first second n v h e read in
-    let third-is : third ≡ decimal m.0 ++ close = append_cancel_left deviation third (decimal m.0 ++ close) (sym f ∙ m.3) in
-    let r = again.3 m.0 close m.2 (λ a b. omega arith) third-is in
+    let third-is : third ≡ decimal m.0 ++ json_end = append_cancel_left deviation_key third (decimal m.0 ++ json_end) (sym f ∙ m.3) in
+    let r = again.3 m.0 json_end m.2 (λ a b. omega arith) third-is in
     (m.1 ∙ ap (λ (y : ℕ). measured n y) r.0, r.1)
 
-pub measured_all : (rest first second third end : List ℕ) (n k : ℕ) → rest ≡ median ++ first → ReadsNumber first (Some (n, second)) → second ≡ deviation ++ third → ReadsNumber third (Some (k, end)) → end ≡ close
+pub measured_all : (rest first second third end : List ℕ) (n k : ℕ) → rest ≡ median_key ++ first → ReadsNumber first (Some (n, second)) → second ≡ deviation_key ++ third → ReadsNumber third (Some (k, end)) → end ≡ json_end
     → Decodes (IsTail true) rest (Some (measured n k))
 measured_all rest first second third end n k e read f again last = (
-  (refl, (read.0, again.0), e ∙ ap (λ (x : List ℕ). median ++ x) (read.1 ∙ ap (λ (x : List ℕ). decimal n ++ x) (f ∙ ap (λ (x : List ℕ). deviation ++ x) (again.1 ∙ ap (λ (x : List ℕ). decimal k ++ x) last)))),
+  (refl, (read.0, again.0), e ∙ ap (λ (x : List ℕ). median_key ++ x) (read.1 ∙ ap (λ (x : List ℕ). decimal n ++ x) (f ∙ ap (λ (x : List ℕ). deviation_key ++ x) (again.1 ∙ ap (λ (x : List ℕ). decimal k ++ x) last)))),
   λ v h. (measured_third rest first second third end n k v h e read f again).0,
 )

@@ -1,13 +1,15 @@
 -- What is known of a reading, and the one report of its bytes.
 use Rattle.std.proofs.Common.{◌≡◌, ◌≢◌, ℕ, ◌+◌, ◌≤◌, ◌<◌, ◌^◌, List, [], ◌∷◌, ◌++◌, length, Option, Some, None, refl, sym, ap, subst, ◌∙◌, append_assoc, append-nil, ◌⊎◌, inl, inr, arith}
 use Rattle.std.specs.List.{flat_map, concat, AllByRecursion}
-use Rattle.std.proofs.lemmas.List.{length-append, length-map}
+use Rattle.std.proofs.lemmas.List.{length-append}
+use Rattle.std.proofs.lemmas.List.Folds.{concat-append}
 use Rattle.libtest_mimic.specs.Count.{counts_of}
-use Rattle.libtest_mimic.specs.Json.{Entry, Contents, FitsEntry, IsJsonReport, entry_lines, json_title, json_announcement, json_outcome, json_summary, json_report}
+use Rattle.libtest_mimic.specs.Json.{Entry, Contents, FitsEntry, IsJsonReport, conclusion_of, entry_lines, report_lines, json_title, json_announcement, json_outcome, json_summary, json_report}
+use Rattle.mimic_printer.proofs.JsonLines.{announcement_line, each_append, lines_each}
 use Rattle.mimic_events.specs.Contents.{Spells}
 use Rattle.mimic_events.specs.Reading.{Decodes}
 use Rattle.mimic_events.specs.Steps.{State, Next, Step, Goes, HasNoEnd, IsLine, IsReadOut, title_next, row_next, outcome_next, nothing_next}
-use Rattle.mimic_events.proofs.WholeLines.{one_line, no_line, line_some, title_line, announcement_line, outcome_line, summary_line}
+use Rattle.mimic_events.proofs.WholeLines.{one_line, no_line, line_some}
 use Rattle.mimic_events.proofs.Runs.{Runs, Reached, runs_append, runs_split, reached_none, reached_step}
 use Rattle.mimic_events.proofs.Steps.{AreFit, state_text, step_text, step_fits}
 use Rattle.mimic_events.proofs.Summaries.{outcomes}
@@ -39,14 +41,6 @@ IsUnread s rest = HasNoEnd rest ⊎ IsStuck s rest
 
 pub fresh : (entries : List Entry) → entries ≡ [] → Known (record { next = title_next; entries = entries })
 fresh entries none = record { lines = []; reached = rw none (reached_none start); text = refl; each = tt; fits = none }
-
-concat-append : (p q : List (List ℕ)) → concat (p ++ q) ≡ concat p ++ concat q
-concat-append [] q = refl
-concat-append (l ∷ p) q = ap (λ (x : List ℕ). l ++ x) (concat-append p q) ∙ sym (append_assoc l (concat p) (concat q))
-
-each_append : (p q : List (List ℕ)) → AllByRecursion IsLine p → AllByRecursion IsLine q → AllByRecursion IsLine (p ++ q)
-each_append [] q a b = b
-each_append (l ∷ p) q a b = (a.0, each_append p q a.1 b)
 
 -- one more line was read
 pub taken : (s t : State) (line rest after bytes : List ℕ) → Known s → IsLine line → Step s line t → ((u : State) → Step s line u → u ≡ t) → rest ≡ line ++ after → bytes ≡ state_text s ++ rest
@@ -113,54 +107,35 @@ was_read s rest known unread p more t each run e =
 
 -- ---- the lines of a report
 
-abbrev row_lines : Entry → List (List ℕ)
-row_lines entry = json_announcement entry.name ∷ json_outcome entry.name entry.outcome ∷ []
-
-abbrev front_lines : ℕ → List Entry → List (List ℕ)
-front_lines n es = json_title n ∷ flat_map row_lines es
-
-rows_text : (es : List Entry) → concat (flat_map row_lines es) ≡ flat_map entry_lines es
-rows_text [] = refl
-rows_text (e ∷ es) =
-    let a : List ℕ = json_announcement e.name in
-    let o : List ℕ = json_outcome e.name e.outcome in
-    ap (λ (x : List ℕ). a ++ (o ++ x)) (rows_text es) ∙ regroup a o (flat_map entry_lines es)
-  where
-    regroup : (a o x : List ℕ) → a ++ (o ++ x) ≡ (a ++ (o ++ [])) ++ x
-    regroup a o x = simp (append_assoc, append-nil)
-
-rows_each : (es : List Entry) → AllByRecursion FitsEntry es → AllByRecursion IsLine (flat_map row_lines es)
-rows_each [] h = tt
-rows_each (e ∷ es) h = (announcement_line e.name, (outcome_line e.name e.outcome h.0.outcome, rows_each es h.1))
-
 -- each row has a byte at least
-rows_long : (es : List Entry) → length es ≤ length (flat_map entry_lines es)
+rows_long : (es : List Entry) → length es ≤ length (concat (flat_map entry_lines es))
 rows_long [] = omega arith
 rows_long (e ∷ es) =
     let a : List ℕ = json_announcement e.name in
     let o : List ℕ = json_outcome e.name e.outcome in
     let some : 0 < length a = line_some a (announcement_line e.name) in
-    omega (arith, some, rows_long es, length-append a (o ++ []), length-append (a ++ (o ++ [])) (flat_map entry_lines es))
+    let rest : List ℕ = concat (flat_map entry_lines es) in
+    omega (arith, some, rows_long es, length-append a (o ++ rest), length-append o rest)
 
 pub report_long : (c : Contents) → length c.entries ≤ length (json_report c)
 unfolding json_report
 report_long c =
-    let rows : List ℕ = flat_map entry_lines c.entries in
-    let last : List ℕ = json_summary (counts_of (outcomes c.entries) c.filtered_out) c.nanos ++ [] in
+    let rows : List (List ℕ) = flat_map entry_lines c.entries in
+    let last : List (List ℕ) = json_summary (conclusion_of c) c.nanos ∷ [] in
     let title : List ℕ = json_title (length c.entries) in
-    omega (arith, rows_long c.entries, length-append title (rows ++ last), length-append rows last)
+    omega (arith, rows_long c.entries, length-append title (concat (rows ++ last)), ap length (concat-append rows last), length-append (concat rows) (concat last))
 
-rows_run : (n : ℕ) (old es : List Entry) → length old + length es ≤ n → AllByRecursion FitsEntry es → Runs (record { next = row_next n; entries = old }) (flat_map row_lines es) (record { next = row_next n; entries = old ++ es })
+rows_run : (n : ℕ) (old es : List Entry) → length old + length es ≤ n → AllByRecursion FitsEntry es → Runs (record { next = row_next n; entries = old }) (flat_map entry_lines es) (record { next = row_next n; entries = old ++ es })
 rows_run n old [] le fits = rw append-nil refl
 rows_run n old (e ∷ es) le fits =
     let rest = rows_run n (old ++ e ∷ []) es (omega (arith, length-append old (e ∷ []))) fits.1 in
-    let moved : Runs (record { next = row_next n; entries = old ++ e ∷ [] }) (flat_map row_lines es) (record { next = row_next n; entries = old ++ e ∷ es }) = rw append_assoc at rest in (
+    let moved : Runs (record { next = row_next n; entries = old ++ e ∷ [] }) (flat_map entry_lines es) (record { next = row_next n; entries = old ++ e ∷ es }) = rw append_assoc at rest in (
       record { next = outcome_next n e.name; entries = old },
       (refl, refl, omega arith, (fits.0.name, refl)),
       (record { next = row_next n; entries = old ++ e ∷ [] }, (refl, e.outcome, refl, (fits.0.outcome, refl)), moved),
     )
 
-front_run : (n : ℕ) (es : List Entry) → n < 2 ^ 64 → length es ≤ n → AllByRecursion FitsEntry es → Runs start (front_lines n es) (record { next = row_next n; entries = es })
+front_run : (n : ℕ) (es : List Entry) → n < 2 ^ 64 → length es ≤ n → AllByRecursion FitsEntry es → Runs start (json_title n ∷ flat_map entry_lines es) (record { next = row_next n; entries = es })
 front_run n es small le fits = (record { next = row_next n; entries = [] }, (refl, (small, refl)), rows_run n [] es (omega arith) fits)
 
 -- ---- the report of a reading
@@ -184,16 +159,12 @@ report_read : (s : State) (rest : List ℕ) (c : Contents) → Known s → IsUnr
 unfolding json_report
 report_read s rest c known unread few h =
     let n = length c.entries in
-    let last : List ℕ = json_summary (counts_of (outcomes c.entries) c.filtered_out) c.nanos in
-    let p : List (List ℕ) = front_lines n c.entries ++ last ∷ [] in
-    let text : concat p ++ [] ≡ json_report c =
-    append-nil (concat p) ∙ ap (λ (x : List ℕ). json_title n ++ x) (concat-append (flat_map row_lines c.entries) (last ∷ []) ∙ ap (λ (x : List ℕ). x ++ (last ++ [])) (rows_text c.entries)) in
+    let last : List (List ℕ) = json_summary (counts_of (outcomes c.entries) c.filtered_out) c.nanos ∷ [] in
+    let p : List (List ℕ) = report_lines c in
     let front = front_run n c.entries few (omega arith) h.entries in
-    let run : Runs start p (over c) = runs_append (front_lines n c.entries) (last ∷ []) start (record { next = row_next n; entries = c.entries }) (over c) front
+    let run : Runs start p (over c) = runs_append (json_title n ∷ flat_map entry_lines c.entries) last start (record { next = row_next n; entries = c.entries }) (over c) front
     (over c, (refl, omega arith, (h.filtered_out, h.nanos, refl)), refl) in
-    let short : length (outcomes c.entries) < 2 ^ 64 = simp length-map few in
-    let each = each_append (front_lines n c.entries) (last ∷ []) (title_line n few, rows_each c.entries h.entries) (summary_line (outcomes c.entries) c.filtered_out c.nanos short h.filtered_out h.nanos, tt) in
-    let r = was_read s rest known unread p [] (over c) each run (h.text ∙ sym text) in
+    let r = was_read s rest known unread p [] (over c) (lines_each (state_text s ++ rest) c h few) run (h.text ∙ sym (append-nil (concat p))) in
     let none = runs_nowhere c r.0 s r.2 in
     (sym (subst (λ (q : List (List ℕ)). Runs (over c) q s) none r.2), sym (r.3 ∙ ap (λ (q : List (List ℕ)). concat q ++ rest) none))
 
@@ -214,8 +185,10 @@ found_at : (next : Next) (entries : List Entry) (x t : ℕ) → Known (record { 
 unfolding json_report
 found_at next entries x t known end =
     let last = subst (λ (n : Next). Known (record { next = n; entries = entries })) end known in
+    let rows : List (List ℕ) = flat_map entry_lines entries in
+    let summary : List (List ℕ) = json_summary (counts_of (outcomes entries) x) t ∷ [] in
     let text : state_text (record { next = nothing_next x t; entries = entries }) ≡ json_report (record { entries = entries; filtered_out = x; nanos = t }) =
-    regroup (json_title (length entries)) (flat_map entry_lines entries) (json_summary (counts_of (outcomes entries) x) t) in
+    regroup (json_title (length entries)) (concat rows) (json_summary (counts_of (outcomes entries) x) t) ∙ ap (λ (y : List ℕ). json_title (length entries) ++ y) (sym (concat-append rows summary)) in
     record {
       text = subst (λ (n : Next). state_text (record { next = n; entries = entries }) ≡ json_report (record { entries = entries; filtered_out = x; nanos = t })) (sym end) text;
       entries = last.fits.1;

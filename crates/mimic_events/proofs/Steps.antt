@@ -1,8 +1,9 @@
 -- Steps over one line: where a summary leads, the text that a step reads, and what it keeps.
 use Rattle.std.proofs.Common.{◌≡◌, ℕ, ◌<◌, ◌≤◌, ◌^◌, List, [], ◌∷◌, ◌++◌, length, IsUtf8, refl, ap, ◌∙◌, append_assoc, append-nil, arith}
-use Rattle.std.specs.List.{flat_map, AllByRecursion}
+use Rattle.std.specs.List.{concat, flat_map, AllByRecursion}
 use Rattle.std.proofs.lemmas.List.{length-append}
 use Rattle.std.proofs.lemmas.List.Concat.{flat_map-append}
+use Rattle.std.proofs.lemmas.List.Folds.{concat-append}
 use Rattle.libtest_mimic.specs.Count.{counts_of}
 use Rattle.libtest_mimic.specs.Json.{Entry, FitsEntry, entry_lines, json_title, json_announcement, json_outcome, json_summary}
 use Rattle.mimic_events.specs.Reading.{IsSummary}
@@ -36,7 +37,7 @@ summed_some count entries line x t le is only =
 -- ---- the text that was read
 
 abbrev pub title_and : ℕ → List Entry → List ℕ
-title_and count entries = json_title count ++ flat_map entry_lines entries
+title_and count entries = json_title count ++ concat (flat_map entry_lines entries)
 
 abbrev pub text_so_far : Next → List Entry → List ℕ
 text_so_far title_next entries = []
@@ -68,7 +69,9 @@ goes_text (row_next count) entries l (nothing_next x t) after f h =
 goes_text (row_next count) entries l title_next after f h = absurd h
 goes_text (row_next count) entries l (row_next n) after f h = absurd h
 goes_text (outcome_next count name) entries l (row_next same) after f h =
-    let one : flat_map entry_lines (entries ++ record { name = name; outcome = h.1 } ∷ []) ≡ flat_map entry_lines entries ++ (json_announcement name ++ json_outcome name h.1) = flat_map-append entry_lines entries _ ∙ simp append-nil in
+    let e : Entry = record { name = name; outcome = h.1 } in
+    let one : concat (flat_map entry_lines (entries ++ e ∷ [])) ≡ concat (flat_map entry_lines entries) ++ (json_announcement name ++ json_outcome name h.1) =
+    ap concat (flat_map-append entry_lines entries (e ∷ [])) ∙ concat-append (flat_map entry_lines entries) (entry_lines e) ∙ simp append-nil in
     rw (h.0, h.2, h.3.1, one) (simp append_assoc)
 goes_text (outcome_next count name) entries l title_next after f h = absurd h
 goes_text (outcome_next count name) entries l (outcome_next n other) after f h = absurd h

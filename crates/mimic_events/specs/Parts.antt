@@ -1,12 +1,12 @@
 -- What the private readers of parts of a line promise one another. No public clause names these words.
-use Rattle.std.specs.Prelude.{◌≡◌, ◌≢◌, ℕ, ◌+◌, ◌-◌, ◌<◌, ◌≤◌, ◌^◌, ◌==◌, nat_lt, if◌then◌else◌, Bool, true, false, List, [], ◌∷◌, ◌++◌, codes, decimal, Option, Some, None, IsUtf8}
+use Rattle.std.specs.Prelude.{◌≡◌, ◌≢◌, ℕ, ◌+◌, ◌-◌, ◌<◌, ◌≤◌, ◌^◌, ◌==◌, nat_lt, if◌then◌else◌, Bool, List, [], ◌∷◌, ◌++◌, decimal, Option, Some, None, IsUtf8}
 use Rattle.std.specs.Borrow.{Bor}
 use Rattle.std.specs.Str.Parse.{AllDigits}
 use Rattle.mimic_trial.specs.declared.outcome.Outcome.{Outcome}
-use Rattle.mimic_trial.specs.declared.outcome.Outcome.TheVariants.{Passed, Failed, Ignored, Measured}
-use Rattle.mimic_trial.specs.declared.outcome.conclusion.Conclusion.{Conclusion}
+use Rattle.mimic_trial.specs.declared.outcome.Outcome.TheVariants.{Failed}
+use Rattle.libtest_mimic.specs.Count.{is_measured}
 use Rattle.libtest_mimic.specs.Escape.{escaped}
-use Rattle.libtest_mimic.specs.Json.{json_verdict}
+use Rattle.libtest_mimic.specs.Json.{json_line, outcome_fields}
 use Rattle.libtest_mimic.specs.Promise.{FitsTypes}
 
 -- ---- fronts
@@ -91,34 +91,12 @@ ReadsNumber bytes (Some found) = (found.0 < 2 ^ 64) × (bytes ≡ decimal found.
 
 -- ---- lines
 
--- the lines of measurements have a front of their own
-abbrev pub is_bench : Outcome → Bool
-is_bench Passed = false
-is_bench (Failed f) = false
-is_bench Ignored = false
-is_bench (Measured m) = true
-
--- what follows the name in the line of a failure with a message
-unfoldable pub failure_tail : List ℕ → List ℕ
-failure_tail message = codes ", \"event\": \"failed\", \"stdout\": \"Error: \\\"" ++ (escaped message ++ codes "\\\"\\n\" }\n")
-
-abbrev pub IsFailure : List ℕ → List ℕ → Type 0
-IsFailure message text = IsUtf8 message × (text ≡ failure_tail message)
-
 -- what follows the name and its closing quote in the line of an outcome
 abbrev pub tail : Outcome → List ℕ
-tail Passed = codes ", \"event\": \"ok\" }\n"
-tail (Failed None) = codes ", \"event\": \"failed\" }\n"
-tail (Failed (Some message)) = failure_tail message
-tail Ignored = codes ", \"event\": \"ignored\" }\n"
-tail (Measured m) = codes ", \"median\": " ++ (decimal m.avg ++ (codes ", \"deviation\": " ++ (decimal m.variance ++ codes " }\n")))
+tail outcome = json_line (outcome_fields outcome)
 
 abbrev pub IsTail : Bool → Outcome → List ℕ → Type 0
-IsTail bench outcome text = (is_bench outcome ≡ bench) × FitsTypes outcome × (text ≡ tail outcome)
+IsTail measured outcome text = (is_measured outcome ≡ measured) × FitsTypes outcome × (text ≡ tail outcome)
 
--- a summary line of these counts, up to the number of trials that were filtered out
-unfoldable pub summary_front : Conclusion → List ℕ
-summary_front c = codes "{ \"type\": \"suite\", \"event\": \"" ++ (json_verdict c.num_failed
-    ++ ((codes "\", \"passed\": " ++ decimal c.num_passed) ++ ((codes ", \"failed\": " ++ decimal c.num_failed)
-    ++ ((codes ", \"ignored\": " ++ decimal c.num_ignored) ++ ((codes ", \"measured\": " ++ decimal c.num_measured)
-    ++ codes ", \"filtered_out\": ")))))
+abbrev pub IsFailure : List ℕ → List ℕ → Type 0
+IsFailure message text = IsUtf8 message × (text ≡ tail (Failed (Some message)))

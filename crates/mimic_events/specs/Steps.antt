@@ -1,25 +1,13 @@
 -- Reading a report line by line. No public clause names these words.
 use Rattle.std.specs.Prelude.{◌≡◌, ◌≢◌, ℕ, ◌<◌, ◌≤◌, List, [], ◌∷◌, ◌++◌, length, map, string_bytes, Bool, true, false, Option, Some, None}
-use Rattle.std.specs.List.{AllByRecursion}
 use Rattle.mimic_trial.specs.declared.outcome.Outcome.{Outcome}
 use Rattle.libtest_mimic.specs.Json.{Entry, Contents}
+pub use Rattle.libtest_mimic.specs.Json.{HasNoEnd, IsLine}
 use Rattle.mimic_events.specs.declared.progress.Stage.{Stage}
 use Rattle.mimic_events.specs.declared.progress.Stage.TheVariants as stage
 use Rattle.mimic_events.specs.declared.progress.Progress.{Progress}
 use Rattle.mimic_events.specs.Contents.{entry_of}
 use Rattle.mimic_events.specs.Reading.{IsTitle, IsAnnouncement, IsOutcome, IsSummary}
-
--- ---- lines of a text
-
--- no line end stands in the bytes
-abbrev pub HasNoEnd : List ℕ → Type 0
-HasNoEnd bytes = AllByRecursion (λ b. b ≢ 10) bytes
-
--- one line: a line end stands last, and nowhere else
-pub record IsLine (bytes : List ℕ) : Type 0 where
-  pub front : List ℕ
-  pub parts : bytes ≡ front ++ 10 ∷ []
-  pub whole : HasNoEnd front
 
 -- ---- states between lines
 

@@ -1,8 +1,9 @@
 //! The line that ends a report.
 ghost use Rattle.std.specs.Prelude.{◌≡◌, ◌++◌, List, ℕ, decimal, map};
-ghost use Rattle.libtest_mimic.specs.Json.{json_verdict};
+ghost use Rattle.std.specs.List.{concat};
+ghost use Rattle.libtest_mimic.specs.Json.{json_verdict, summary_front};
 ghost use Rattle.mimic_events.specs.Contents.{entry_of};
-ghost use Rattle.mimic_events.specs.Parts.{Follows, summary_front};
+ghost use Rattle.mimic_events.specs.Parts.{Follows};
 ghost use Rattle.mimic_events.specs.Reading.{Decodes, IsSummary};
 
 use crate::counts::counts_of_rows;
@@ -25,7 +26,7 @@ pub(crate) fn summed(rows: &[Row], line: &[u8]) -> Option<(u64, u64)>
 
 // What follows a summary line up to the four counts of outcomes, where the text begins with that.
 fn after_counts<'a>(line: &'a [u8], counts: &Conclusion) -> Option<&'a [u8]>
-    ensures { Follows (summary_front counts.now) line.now result }
+    ensures { Follows (concat (summary_front counts.now)) line.now result }
 {
     let rest = after(line, br#"{ "type": "suite", "event": ""#)?;
     let rest = after(rest, verdict(counts).as_bytes())?;

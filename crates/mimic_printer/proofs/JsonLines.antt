@@ -1,170 +1,171 @@
--- How many lines end in a report in JSON.
-use Rattle.std.proofs.Common.{◌≡◌, ℕ, ◌+◌, ◌*◌, ◌<◌, ◌≤◌, ◌^◌, Bool, true, false, cond, eqb, ltb, List, [], ◌∷◌, ◌++◌, None, Some, length, map, refl, ap, ap₂, ◌∙◌, arith, inl, inr, decimal}
+-- Each line of a report in JSON ends once, at its end, and how many lines a report has.
+use Rattle.std.proofs.Common.{◌≡◌, ℕ, ◌+◌, ◌*◌, ◌<◌, ◌^◌, Bool, true, false, cond, eqb, ltb, not, ◌&&◌, List, [], ◌∷◌, ◌++◌, None, Some, length, map, codes, decimal, refl, sym, ap, ap₂, subst, ◌∙◌, append_assoc, arith, inl, inr}
 use Rattle.std.specs.List.{concat, flat_map, AllByRecursion}
-use Rattle.std.specs.Prelude.{codes}
 use Rattle.std.specs.Str.Parse.{AllDigits}
-use Rattle.std.proofs.lemmas.Bool.{cases_lt, eqb-true, ne_eqb}
+use Rattle.std.proofs.lemmas.Bool.{cases_lt, ne_eqb}
+use Rattle.std.proofs.lemmas.Bool.Decides.{nat_tests}
 use Rattle.std.proofs.lemmas.Fmt.{digits_decimal}
-use Rattle.std.proofs.lemmas.List.{length-map}
+use Rattle.std.proofs.lemmas.List.{length-append, length-map}
 use Rattle.std.proofs.lemmas.List.Sums.{count_by-le-length, sum_by-append, sum_by-cons}
 use Rattle.std.proofs.lemmas.Str.Parse.{digit_from_value, numerals_by_value, tells_digits}
 use Rattle.mimic_trial.specs.declared.outcome.Outcome.{Outcome}
 use Rattle.mimic_trial.specs.declared.outcome.Outcome.TheVariants.{Passed, Failed, Ignored, Measured}
 use Rattle.mimic_trial.specs.declared.outcome.conclusion.Conclusion.{Conclusion}
 use Rattle.mimic_trial.specs.Count.{counts_of, is_passed, is_failed, is_ignored_outcome, is_measured}
-use Rattle.mimic_text.specs.Escape.{escape, escaped}
-use Rattle.mimic_printer.specs.Json.{Contents, Entry, conclusion_of, entry_lines, json_announcement, json_event, json_failure, json_measurement, json_outcome, json_report, json_summary, json_title, json_verdict, line_ends}
 use Rattle.mimic_trial.specs.Promise.{FitsTypes}
+use Rattle.mimic_text.specs.Escape.{escape, escaped}
 use Rattle.mimic_text.specs.Seconds.{IsRest, exact_seconds}
 use Rattle.mimic_text.proofs.Bounded.{all_below, one_below}
 use Rattle.mimic_text.proofs.Escapes.{escape-high}
 use Rattle.mimic_text.proofs.ExactSeconds.{seconds_exact}
-
--- one text after another
-ends-append : (a b : List ℕ) → line_ends (a ++ b) ≡ line_ends a + line_ends b
-ends-append a b = sum_by-append _ a b
-
--- how many lines end in the parts of a text
-abbrev sum_ends : List (List ℕ) → ℕ
-sum_ends [] = 0
-sum_ends (part ∷ parts) = line_ends part + sum_ends parts
-
-ends-concat : (parts : List (List ℕ)) → line_ends (concat parts) ≡ sum_ends parts
-ends-concat [] = refl
-ends-concat (part ∷ parts) = ends-append part (concat parts) ∙ ap (λ n. line_ends part + n) (ends-concat parts)
+use Rattle.mimic_printer.specs.Json.{Contents, Entry, FitsEntry, HasNoEnd, IsJsonReport, IsLine, announcement_front, conclusion_of, deviation_key, entry_lines, event_field, json_announcement, json_line, json_outcome, json_report, json_summary, json_title, json_trial, json_verdict, line_ends, report_lines, median_key, number_field, outcome_fields, outcome_front, stdout_key, summary_front, time_key, title_front}
 
 -- ---- texts in which no line ends
 
-low_escapes : all_below (λ b. eqb (line_ends (escape b)) 0) 93 ≡ true
+pub no_end-append : (a b : List ℕ) → HasNoEnd a → HasNoEnd b → HasNoEnd (a ++ b)
+no_end-append [] b ha hb = hb
+no_end-append (x ∷ a) b ha hb = (ha.0, no_end-append a b ha.1 hb)
+
+abbrev ends_no_line : List ℕ → Bool
+ends_no_line [] = true
+ends_no_line (b ∷ bytes) = not (eqb b 10) && ends_no_line bytes
+
+by_test : (bytes : List ℕ) → ends_no_line bytes ≡ true → HasNoEnd bytes
+by_test [] h = tt
+by_test (b ∷ bytes) h = ((λ e. grind (arith, nat_tests)), by_test bytes (grind (arith, nat_tests)))
+
+low_escapes : all_below (λ b. ends_no_line (escape b)) 93 ≡ true
 low_escapes = refl
 
-one_plain : (b : ℕ) → 93 ≤ b → line_ends (b ∷ []) ≡ 0
-one_plain b h = let other : eqb b 10 ≡ false = ne_eqb b 10 (λ e. omega (arith, e, h)) in sum_by-cons (λ (c : ℕ). cond (eqb c 10) 1 0) b [] ∙ rw other refl
-
-escape_ends : (b : ℕ) → line_ends (escape b) ≡ 0
-escape_ends b = elim (cases_lt b 93) [
-  | inl lt ↦ eqb-true _ _ (one_below (λ c. eqb (line_ends (escape c)) 0) 93 b low_escapes lt)
-  | inr le ↦ rw (escape-high b le) (one_plain b le)
+escape_no_end : (b : ℕ) → HasNoEnd (escape b)
+escape_no_end b = elim (cases_lt b 93) [
+  | inl lt ↦ by_test (escape b) (one_below (λ c. ends_no_line (escape c)) 93 b low_escapes lt)
+  | inr le ↦ subst HasNoEnd (sym (escape-high b le)) ((λ e. omega (arith, le, e)), tt)
 ]
 
-escaped_ends : (text : List ℕ) → line_ends (escaped text) ≡ 0
+escaped_no_end : (text : List ℕ) → HasNoEnd (escaped text)
 unfolding escaped
-escaped_ends [] = refl
-escaped_ends (b ∷ text) = ends-append (escape b) (flat_map escape text) ∙ ap₂ (λ x y. x + y) (escape_ends b) (escaped_ends text)
+escaped_no_end [] = tt
+escaped_no_end (b ∷ text) = no_end-append (escape b) (flat_map escape text) (escape_no_end b) (escaped_no_end text)
 
-digits_end : (ds : List ℕ) → AllDigits 10 ds → line_ends ds ≡ 0
-digits_end [] h = refl
-digits_end (d ∷ ds) h =
-    let digit = digit_from_value d h.0 in
-    let other : eqb d 10 ≡ false = ne_eqb d 10 (λ e. omega (arith, digit.0, e)) in
-    sum_by-cons (λ (c : ℕ). cond (eqb c 10) 1 0) d ds ∙ ap₂ (λ x y. x + y) (ap (λ b. cond b 1 0) other) (digits_end ds h.1)
+digits_no_end : (bytes : List ℕ) → AllDigits 10 bytes → HasNoEnd bytes
+digits_no_end [] h = tt
+digits_no_end (b ∷ bytes) h = ((λ e. let d = digit_from_value b h.0 in omega (arith, d.0, e)), digits_no_end bytes h.1)
 
-decimal_ends : (n : ℕ) → n < 2 ^ 64 → line_ends (decimal n) ≡ 0
-decimal_ends n h = digits_end (decimal n) (digits_decimal (numerals_by_value (AllDigits 10) tells_digits) n h)
+decimal_no_end : (n : ℕ) → n < 2 ^ 64 → HasNoEnd (decimal n)
+decimal_no_end n h = digits_no_end (decimal n) (digits_decimal (numerals_by_value (AllDigits 10) tells_digits) n h)
 
-rest_ends : (fraction : ℕ) (rest : List ℕ) → IsRest fraction rest → line_ends rest ≡ 0
-rest_ends fraction rest (inl h) = ap line_ends h.0
-rest_ends fraction rest (inr h) = ap line_ends h.1 ∙ ends-append (46 ∷ []) h.0 ∙ ap (λ n. 0 + n) (digits_end h.0 h.2.numeral.1)
+number_no_end : (key : List ℕ) (n : ℕ) → ends_no_line key ≡ true → n < 2 ^ 64 → HasNoEnd (number_field key n)
+number_no_end key n clean h = no_end-append key (decimal n) (by_test key clean) (decimal_no_end n h)
 
-seconds_ends : (nanos : ℕ) → nanos < 2 ^ 64 → line_ends (exact_seconds nanos) ≡ 0
-seconds_ends nanos small =
+rest_no_end : (fraction : ℕ) (rest : List ℕ) → IsRest fraction rest → HasNoEnd rest
+rest_no_end fraction rest (inl h) = subst HasNoEnd (sym h.0) tt
+rest_no_end fraction rest (inr h) = subst HasNoEnd (sym h.1) ((λ e. omega (arith, e)), digits_no_end h.0 h.2.numeral.1)
+
+seconds_no_end : (nanos : ℕ) → nanos < 2 ^ 64 → HasNoEnd (exact_seconds nanos)
+seconds_no_end nanos small =
     let h = seconds_exact nanos in
-    ap line_ends h.parts ∙ ends-append (decimal h.whole) h.rest ∙ ap₂ (λ x y. x + y) (decimal_ends h.whole (omega (arith, h.value, small))) (rest_ends h.fraction h.rest h.spelled)
+    subst HasNoEnd (sym h.parts) (no_end-append (decimal h.whole) h.rest (decimal_no_end h.whole (omega (arith, h.value, small))) (rest_no_end h.fraction h.rest h.spelled))
 
-verdict_ends : (failed : ℕ) → line_ends (json_verdict failed) ≡ 0
-verdict_ends failed = by_case (ltb 0 failed)
-  where
-    by_case : (b : Bool) → line_ends (cond b (codes "failed") (codes "ok")) ≡ 0
-    by_case true = refl
-    by_case false = refl
+verdict_no_end : (failed : ℕ) → HasNoEnd (json_verdict failed)
+verdict_no_end failed = elim (ltb 0 failed) as (λ b. HasNoEnd (cond b (codes "failed") (codes "ok"))) [ true ↦ by_test (codes "failed") refl | false ↦ by_test (codes "ok") refl ]
 
--- ---- lines
+-- ---- the lines
 
-title_ends : (n : ℕ) → n < 2 ^ 64 → line_ends (json_title n) ≡ 1
+-- parts in which no line ends make one line
+line_of : (parts : List (List ℕ)) → AllByRecursion HasNoEnd parts → IsLine (json_line parts)
+line_of [] h = record { front = codes " }"; parts = refl; whole = by_test (codes " }") refl }
+line_of (part ∷ parts) h =
+    let line = line_of parts h.1 in
+    record { front = part ++ line.front; parts = ap (λ (t : List ℕ). part ++ t) line.parts ∙ sym (append_assoc part line.front (10 ∷ [])); whole = no_end-append part line.front h.0 line.whole }
+
+title_line : (n : ℕ) → n < 2 ^ 64 → IsLine (json_title n)
 unfolding json_title
-title_ends n h = ends-concat (codes "{ \"type\": \"suite\", \"event\": \"started\", \"test_count\": " ∷ decimal n ∷ codes " }\n" ∷ [])
-    ∙ rw (decimal_ends n h) refl
+title_line n h = line_of (title_front ∷ decimal n ∷ []) (by_test title_front refl, (decimal_no_end n h, tt))
 
-announcement_ends : (name : List ℕ) → line_ends (json_announcement name) ≡ 1
+trial_line : (front name : List ℕ) (fields : List (List ℕ)) → HasNoEnd front → AllByRecursion HasNoEnd fields → IsLine (json_trial front name fields)
+trial_line front name fields clean all = line_of (front ∷ escaped name ∷ codes "\"" ∷ fields) (clean, (escaped_no_end name, (by_test (codes "\"") refl, all)))
+
+pub announcement_line : (name : List ℕ) → IsLine (json_announcement name)
 unfolding json_announcement
-announcement_ends name = ends-concat (codes "{ \"type\": \"test\", \"event\": \"started\", \"name\": \"" ∷ escaped name ∷ codes "\" }\n" ∷ [])
-    ∙ rw (escaped_ends name) refl
+announcement_line name = trial_line announcement_front name [] (by_test announcement_front refl) tt
 
-event_ends : (name event : List ℕ) → line_ends event ≡ 0 → line_ends (json_event name event) ≡ 1
-unfolding json_event
-event_ends name event h = ends-concat (codes "{ \"type\": \"test\", \"name\": \"" ∷ escaped name ∷ codes "\", \"event\": \"" ∷ event ∷ codes "\" }\n" ∷ [])
-    ∙ rw (escaped_ends name, h) refl
+front_no_end : (measured : Bool) → HasNoEnd (outcome_front measured)
+front_no_end true = by_test (outcome_front true) refl
+front_no_end false = by_test (outcome_front false) refl
 
-failure_ends : (name message : List ℕ) → line_ends (json_failure name message) ≡ 1
-unfolding json_failure
-failure_ends name message = ends-concat (codes "{ \"type\": \"test\", \"name\": \"" ∷ escaped name
-    ∷ codes "\", \"event\": \"failed\", \"stdout\": \"Error: \\\"" ∷ escaped message ∷ codes "\\\"\\n\" }\n" ∷ [])
-    ∙ rw (escaped_ends name, escaped_ends message) refl
+fields_no_end : (o : Outcome) → FitsTypes o → AllByRecursion HasNoEnd (outcome_fields o)
+fields_no_end Passed h = (by_test (event_field (codes "ok")) refl, tt)
+fields_no_end (Failed None) h = (by_test (event_field (codes "failed")) refl, tt)
+fields_no_end (Failed (Some message)) h = (by_test (event_field (codes "failed")) refl, (by_test stdout_key refl, (escaped_no_end message, (by_test (codes "\\\"\\n\"") refl, tt))))
+fields_no_end Ignored h = (by_test (event_field (codes "ignored")) refl, tt)
+fields_no_end (Measured m) h = (number_no_end median_key m.avg refl h.0, (number_no_end deviation_key m.variance refl h.1, tt))
 
-measurement_ends : (name : List ℕ) (avg variance : ℕ) → avg < 2 ^ 64 → variance < 2 ^ 64 → line_ends (json_measurement name avg variance) ≡ 1
-unfolding json_measurement
-measurement_ends name avg variance h k = ends-concat (codes "{ \"type\": \"bench\", \"name\": \"" ∷ escaped name
-    ∷ codes "\", \"median\": " ∷ decimal avg ∷ codes ", \"deviation\": " ∷ decimal variance ∷ codes " }\n" ∷ [])
-    ∙ rw (escaped_ends name, decimal_ends avg h, decimal_ends variance k) refl
+outcome_line : (name : List ℕ) (o : Outcome) → FitsTypes o → IsLine (json_outcome name o)
+unfolding json_outcome
+outcome_line name o h = trial_line (outcome_front (is_measured o)) name (outcome_fields o) (front_no_end (is_measured o)) (fields_no_end o h)
 
-outcome_ends : (name : List ℕ) (o : Outcome) → FitsTypes o → line_ends (json_outcome name o) ≡ 1
-outcome_ends name Passed h = event_ends name (codes "ok") refl
-outcome_ends name (Failed None) h = event_ends name (codes "failed") refl
-outcome_ends name (Failed (Some message)) h = failure_ends name message
-outcome_ends name Ignored h = event_ends name (codes "ignored") refl
-outcome_ends name (Measured m) h = measurement_ends name m.avg m.variance h.0 h.1
-
--- the counts of few outcomes are small
-record SmallCounts (c : Conclusion) : Type 0 where
-  filtered_out : c.num_filtered_out < 2 ^ 64
-  passed : c.num_passed < 2 ^ 64
-  failed : c.num_failed < 2 ^ 64
-  ignored : c.num_ignored < 2 ^ 64
-  measured : c.num_measured < 2 ^ 64
-
-small_counts : (os : List Outcome) (n : ℕ) → length os < 2 ^ 64 → n < 2 ^ 64 → SmallCounts (counts_of os n)
-small_counts os n h k = record {
-  filtered_out = k;
-  passed = omega (arith, count_by-le-length is_passed os, h);
-  failed = omega (arith, count_by-le-length is_failed os, h);
-  ignored = omega (arith, count_by-le-length is_ignored_outcome os, h);
-  measured = omega (arith, count_by-le-length is_measured os, h);
-}
-
-summary_ends : (c : Conclusion) (nanos : ℕ) → SmallCounts c → nanos < 2 ^ 64 → line_ends (json_summary c nanos) ≡ 1
+summary_line : (os : List Outcome) (filtered_out nanos : ℕ) → length os < 2 ^ 64 → filtered_out < 2 ^ 64 → nanos < 2 ^ 64 → IsLine (json_summary (counts_of os filtered_out) nanos)
 unfolding json_summary
-summary_ends c nanos h k =
-    ends-concat (codes "{ \"type\": \"suite\", \"event\": \"" ∷ json_verdict c.num_failed
-    ∷ codes "\", \"passed\": " ∷ decimal c.num_passed ∷ codes ", \"failed\": " ∷ decimal c.num_failed
-    ∷ codes ", \"ignored\": " ∷ decimal c.num_ignored ∷ codes ", \"measured\": " ∷ decimal c.num_measured
-    ∷ codes ", \"filtered_out\": " ∷ decimal c.num_filtered_out ∷ codes ", \"exec_time\": " ∷ exact_seconds nanos ∷ codes " }\n" ∷ [])
-    ∙ rw (
-      verdict_ends c.num_failed,
-      decimal_ends c.num_passed h.passed,
-      decimal_ends c.num_failed h.failed,
-      decimal_ends c.num_ignored h.ignored,
-      decimal_ends c.num_measured h.measured,
-      decimal_ends c.num_filtered_out h.filtered_out,
-      seconds_ends nanos k,
-    ) refl
+summary_line os filtered_out nanos few h k =
+    let c : Conclusion = counts_of os filtered_out in
+    line_of (summary_front c ++ decimal filtered_out ∷ time_key ∷ exact_seconds nanos ∷ []) (
+      by_test (codes "{ \"type\": \"suite\", \"event\": \"") refl,
+      (
+        verdict_no_end c.num_failed,
+        (
+          number_no_end (codes "\", \"passed\": ") c.num_passed refl (omega (arith, count_by-le-length is_passed os)),
+          (
+            number_no_end (codes ", \"failed\": ") c.num_failed refl (omega (arith, count_by-le-length is_failed os)),
+            (
+              number_no_end (codes ", \"ignored\": ") c.num_ignored refl (omega (arith, count_by-le-length is_ignored_outcome os)),
+              (
+                number_no_end (codes ", \"measured\": ") c.num_measured refl (omega (arith, count_by-le-length is_measured os)),
+                (by_test (codes ", \"filtered_out\": ") refl, (decimal_no_end filtered_out h, (by_test time_key refl, (seconds_no_end nanos k, tt)))),
+              ),
+            ),
+          ),
+        ),
+      ),
+    )
 
--- ---- the whole
+-- ---- the lines of a report
 
-entries_end : (entries : List Entry) → AllByRecursion (λ (entry : Entry). FitsTypes entry.outcome) entries → line_ends (flat_map entry_lines entries) ≡ 2 * length entries
-entries_end [] h = refl
-entries_end (entry ∷ entries) h =
-    let both : line_ends (entry_lines entry) ≡ 2 = ends-concat (json_announcement entry.name ∷ json_outcome entry.name entry.outcome ∷ []) ∙ rw (announcement_ends entry.name, outcome_ends entry.name entry.outcome h.0) refl in
-    ends-append (entry_lines entry) (flat_map entry_lines entries) ∙ rw (both, entries_end entries h.1) (omega arith)
+pub each_append : (p q : List (List ℕ)) → AllByRecursion IsLine p → AllByRecursion IsLine q → AllByRecursion IsLine (p ++ q)
+each_append [] q a b = b
+each_append (l ∷ p) q a b = (a.0, each_append p q a.1 b)
+
+rows_each : (es : List Entry) → AllByRecursion FitsEntry es → AllByRecursion IsLine (flat_map entry_lines es)
+rows_each [] h = tt
+rows_each (e ∷ es) h = (announcement_line e.name, (outcome_line e.name e.outcome h.0.outcome, rows_each es h.1))
+
+-- each line of a report is one line
+pub lines_each : (bytes : List ℕ) (c : Contents) → IsJsonReport bytes c → length c.entries < 2 ^ 64 → AllByRecursion IsLine (report_lines c)
+lines_each bytes c report few =
+    let os : List Outcome = map (λ (entry : Entry). entry.outcome) c.entries in
+    let count : length os < 2 ^ 64 = omega (arith, length-map c.entries (λ (entry : Entry). entry.outcome), few) in
+    (title_line (length c.entries) few, each_append (flat_map entry_lines c.entries) _ (rows_each c.entries report.entries) (summary_line os c.filtered_out c.nanos count report.filtered_out report.nanos, tt))
+
+-- ---- how many there are
+
+no_ends : (bytes : List ℕ) → HasNoEnd bytes → line_ends bytes ≡ 0
+no_ends [] h = refl
+no_ends (b ∷ bytes) h =
+    sum_by-cons (λ (c : ℕ). cond (eqb c 10) 1 0) b bytes ∙ ap₂ (λ x y. x + y) (ap (λ (t : Bool). cond t 1 0) (ne_eqb b 10 h.0)) (no_ends bytes h.1)
+
+lines_end : (lines : List (List ℕ)) → AllByRecursion IsLine lines → line_ends (concat lines) ≡ length lines
+lines_end [] h = refl
+lines_end (l ∷ lines) h =
+    let one : line_ends l ≡ 1 = ap line_ends h.0.parts ∙ sum_by-append _ h.0.front (10 ∷ []) ∙ ap (λ n. n + 1) (no_ends h.0.front h.0.whole) in
+    sum_by-append _ l (concat lines) ∙ rw (one, lines_end lines h.1) (omega arith)
+
+rows_count : (es : List Entry) → length (flat_map entry_lines es) ≡ 2 * length es
+rows_count [] = refl
+rows_count (e ∷ es) = omega (arith, rows_count es)
 
 -- a report in JSON has two lines for each entry, and two more
-pub report_ends : (c : Contents) → AllByRecursion (λ (entry : Entry). FitsTypes entry.outcome) c.entries → length c.entries < 2 ^ 64 → c.filtered_out < 2 ^ 64 → c.nanos < 2 ^ 64
-    → line_ends (json_report c) ≡ 2 * length c.entries + 2
+pub report_ends : (bytes : List ℕ) (c : Contents) → IsJsonReport bytes c → length c.entries < 2 ^ 64 → line_ends bytes ≡ 2 * length c.entries + 2
 unfolding json_report
-report_ends c fits few filtered nanos =
-    let count : length (map (λ (entry : Entry). entry.outcome) c.entries) < 2 ^ 64 = omega (arith, length-map c.entries (λ (entry : Entry). entry.outcome), few) in
-    ends-concat (json_title (length c.entries) ∷ flat_map entry_lines c.entries ∷ json_summary (conclusion_of c) c.nanos ∷ [])
-    ∙ rw (
-      title_ends (length c.entries) few,
-      entries_end c.entries fits,
-      summary_ends (conclusion_of c) c.nanos (small_counts (map (λ (entry : Entry). entry.outcome) c.entries) c.filtered_out count filtered) nanos,
-    ) (omega arith)
+report_ends bytes c report few =
+    ap line_ends report.text ∙ lines_end (report_lines c) (lines_each bytes c report few)
+    ∙ omega (arith, rows_count c.entries, length-append (flat_map entry_lines c.entries) (json_summary (conclusion_of c) c.nanos ∷ []))

@@ -1,7 +1,8 @@
 -- A report in JSON, by its rows and by its entries.
-use Rattle.std.proofs.Common.{◌≡◌, ℕ, List, [], ◌∷◌, ◌++◌, length, map, refl, sym, ap, ap₂, ◌∙◌, append-nil}
+use Rattle.std.proofs.Common.{◌≡◌, ℕ, List, [], ◌∷◌, ◌++◌, length, map, refl, sym, ap, ap₂, ◌∙◌, append_assoc}
 use Rattle.std.specs.List.{concat, flat_map}
 use Rattle.std.proofs.lemmas.List.{length-map}
+use Rattle.std.proofs.lemmas.List.Folds.{concat-append}
 use Rattle.mimic_args.specs.declared.FormatSetting.{FormatSetting}
 use Rattle.mimic_args.specs.declared.FormatSetting.TheVariants.{Json}
 use Rattle.mimic_printer.specs.declared.Printer.{Printer}
@@ -18,12 +19,15 @@ contents_of rows filtered_out nanos = record { entries = map entry_of rows; filt
 abbrev row_in : FormatSetting → Printer → Row → List ℕ
 row_in f p row = announcement_in f p row.label ++ outcome_in f p row.label row.outcome
 
-rows_as_entries : (p : Printer) (rows : List Row) → flat_map (row_in Json p) rows ≡ flat_map entry_lines (map entry_of rows)
+rows_as_entries : (p : Printer) (rows : List Row) → flat_map (row_in Json p) rows ≡ concat (flat_map entry_lines (map entry_of rows))
 rows_as_entries p [] = refl
 rows_as_entries p (row ∷ rows) =
-    ap₂ (λ a b. a ++ b) (ap (λ l. announcement_in Json p row.label ++ l) (sym (append-nil (outcome_in Json p row.label row.outcome)))) (rows_as_entries p rows)
+    let announced : List ℕ = announcement_in Json p row.label in
+    let ended : List ℕ = outcome_in Json p row.label row.outcome in
+    append_assoc announced ended (flat_map (row_in Json p) rows) ∙ ap (λ (l : List ℕ). announced ++ (ended ++ l)) (rows_as_entries p rows)
 
-same_outcomes : (rows : List Row) → outcomes_of rows ≡ map (λ (entry : Entry). entry.outcome) (map entry_of rows)
+-- the outcomes of rows are those of their entries
+pub same_outcomes : (rows : List Row) → outcomes_of rows ≡ map (λ (entry : Entry). entry.outcome) (map entry_of rows)
 same_outcomes [] = refl
 same_outcomes (row ∷ rows) = ap (λ l. row.outcome ∷ l) (same_outcomes rows)
 
@@ -36,8 +40,9 @@ parts_in_json : (p : Printer) (rows : List Row) (filtered_out nanos : ℕ) → p
 unfolding json_report
 parts_in_json p rows filtered_out nanos =
     let count : length rows ≡ length (map entry_of rows) = sym (length-map rows entry_of) in
+    let lines : List (List ℕ) = flat_map entry_lines (map entry_of rows) in
     ap₂ (λ a b. a ++ b) (ap json_title count)
-    (ap₂ (λ a b. a ++ b) (rows_as_entries p rows) (ap (λ os. json_summary (counts_of os filtered_out) nanos ++ []) (same_outcomes rows)))
+    (ap₂ (λ a b. a ++ b) (rows_as_entries p rows) (ap (λ os. json_summary (counts_of os filtered_out) nanos ++ []) (same_outcomes rows)) ∙ sym (concat-append lines _))
 
 -- a report in JSON is the one text of what it tells
 pub report_is_json : (p : Printer) (rows : List Row) (filtered_out nanos : ℕ) → p.format ≡ Json → report_text p rows filtered_out nanos ≡ json_report (contents_of rows filtered_out nanos)

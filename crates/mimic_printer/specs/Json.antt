@@ -1,58 +1,121 @@
 -- The report in JSON: one object on each line. Its lines, names and spaces are the Rust crate's; the spelling of texts and of
 -- seconds is our own, so that each report has one text.
-use Rattle.std.specs.Prelude.{◌≡◌, ℕ, ◌<◌, ◌^◌, nat_lt, if◌then◌else◌, List, [], ◌∷◌, length, map, codes, count_by, decimal, ◌==◌, None, Some, IsUtf8}
+use Rattle.std.specs.Prelude.{◌≡◌, ◌≢◌, ℕ, ◌<◌, ◌^◌, Bool, true, false, nat_lt, if◌then◌else◌, List, [], ◌∷◌, ◌++◌, length, map, codes, count_by, decimal, ◌==◌, None, Some, IsUtf8}
 use Rattle.std.specs.List.{AllByRecursion, concat, flat_map}
 use Rattle.mimic_trial.specs.declared.outcome.Outcome.{Outcome}
 use Rattle.mimic_trial.specs.declared.outcome.Outcome.TheVariants.{Passed, Failed, Ignored, Measured}
 use Rattle.mimic_trial.specs.declared.outcome.conclusion.Conclusion.{Conclusion}
-use Rattle.mimic_trial.specs.Count.{counts_of}
+use Rattle.mimic_trial.specs.Count.{counts_of, is_measured}
 use Rattle.mimic_text.specs.Escape.{escaped}
 use Rattle.mimic_trial.specs.Promise.{FitsTypes}
 use Rattle.mimic_trial.specs.Row.{Row}
 use Rattle.mimic_text.specs.Seconds.{exact_seconds}
 
--- ---- lines
+-- ---- lines of a text (our own words)
 
--- the line that begins a report: how many trials it shows
-unfoldable pub json_title : ℕ → List ℕ
-json_title count = concat (codes "{ \"type\": \"suite\", \"event\": \"started\", \"test_count\": " ∷ decimal count ∷ codes " }\n" ∷ [])
+-- no line end stands in the bytes
+abbrev pub HasNoEnd : List ℕ → Type 0
+HasNoEnd bytes = AllByRecursion (λ b. b ≢ 10) bytes
+
+-- one line: a line end stands last, and nowhere else
+pub record IsLine (bytes : List ℕ) : Type 0 where
+  pub front : List ℕ
+  pub parts : bytes ≡ front ++ 10 ∷ []
+  pub whole : HasNoEnd front
+
+-- how many lines end in the text
+abbrev pub line_ends : List ℕ → ℕ
+line_ends text = count_by (λ b. b == 10) text
+
+-- ---- parts of a line
+
+-- what ends the object and the line
+abbrev pub json_end : List ℕ
+json_end = codes " }\n"
+
+-- a line, or what is left of it from a part on: its parts, and the end
+abbrev pub json_line : List (List ℕ) → List ℕ
+json_line parts = concat (parts ++ json_end ∷ [])
+
+-- a key, and the number behind it
+abbrev pub number_field : List ℕ → ℕ → List ℕ
+number_field key number = key ++ decimal number
+
+-- the field that tells an outcome in a word
+abbrev pub event_field : List ℕ → List ℕ
+event_field word = concat (codes ", \"event\": \"" ∷ word ∷ codes "\"" ∷ [])
+
+-- what stands before a failure's message
+abbrev pub stdout_key : List ℕ
+stdout_key = codes ", \"stdout\": \"Error: \\\""
+
+-- what stands before the average of a measurement
+abbrev pub median_key : List ℕ
+median_key = codes ", \"median\": "
+
+-- what stands before its variance
+abbrev pub deviation_key : List ℕ
+deviation_key = codes ", \"deviation\": "
+
+-- ---- the lines of a trial
+
+-- the line of a trial: its front up to the name, the name and the closing quote, and the fields behind it
+abbrev pub json_trial : List ℕ → List ℕ → List (List ℕ) → List ℕ
+json_trial front name fields = json_line (front ∷ escaped name ∷ codes "\"" ∷ fields)
+
+-- what stands before the name in an announcement
+abbrev pub announcement_front : List ℕ
+announcement_front = codes "{ \"type\": \"test\", \"event\": \"started\", \"name\": \""
+
+-- what stands before the name in the line of an outcome: measurements have a type of their own
+abbrev pub outcome_front : Bool → List ℕ
+outcome_front false = codes "{ \"type\": \"test\", \"name\": \""
+outcome_front true = codes "{ \"type\": \"bench\", \"name\": \""
+
+-- what is told of an outcome: a word, with a failure's message, or what was measured
+abbrev pub outcome_fields : Outcome → List (List ℕ)
+outcome_fields Passed = event_field (codes "ok") ∷ []
+outcome_fields (Failed None) = event_field (codes "failed") ∷ []
+outcome_fields (Failed (Some message)) = event_field (codes "failed") ∷ stdout_key ∷ escaped message ∷ codes "\\\"\\n\"" ∷ []
+outcome_fields Ignored = event_field (codes "ignored") ∷ []
+outcome_fields (Measured m) = number_field median_key m.avg ∷ number_field deviation_key m.variance ∷ []
 
 -- the line that announces a trial, by its name
 unfoldable pub json_announcement : List ℕ → List ℕ
-json_announcement name = concat (codes "{ \"type\": \"test\", \"event\": \"started\", \"name\": \"" ∷ escaped name ∷ codes "\" }\n" ∷ [])
-
--- the line of an outcome that is told in a word
-unfoldable pub json_event : List ℕ → List ℕ → List ℕ
-json_event name event = concat (codes "{ \"type\": \"test\", \"name\": \"" ∷ escaped name ∷ codes "\", \"event\": \"" ∷ event ∷ codes "\" }\n" ∷ [])
-
--- the line of a failure with a message
-unfoldable pub json_failure : List ℕ → List ℕ → List ℕ
-json_failure name message = concat (codes "{ \"type\": \"test\", \"name\": \"" ∷ escaped name
-    ∷ codes "\", \"event\": \"failed\", \"stdout\": \"Error: \\\"" ∷ escaped message ∷ codes "\\\"\\n\" }\n" ∷ [])
-
--- the line of a measurement
-unfoldable pub json_measurement : List ℕ → ℕ → ℕ → List ℕ
-json_measurement name avg variance = concat (codes "{ \"type\": \"bench\", \"name\": \"" ∷ escaped name
-    ∷ codes "\", \"median\": " ∷ decimal avg ∷ codes ", \"deviation\": " ∷ decimal variance ∷ codes " }\n" ∷ [])
+json_announcement name = json_trial announcement_front name []
 
 -- the line of an outcome
-abbrev pub json_outcome : List ℕ → Outcome → List ℕ
-json_outcome name Passed = json_event name (codes "ok")
-json_outcome name (Failed None) = json_event name (codes "failed")
-json_outcome name (Failed (Some message)) = json_failure name message
-json_outcome name Ignored = json_event name (codes "ignored")
-json_outcome name (Measured m) = json_measurement name m.avg m.variance
+unfoldable pub json_outcome : List ℕ → Outcome → List ℕ
+json_outcome name outcome = json_trial (outcome_front (is_measured outcome)) name (outcome_fields outcome)
+
+-- ---- the lines around them
+
+-- what stands before the number of trials
+abbrev pub title_front : List ℕ
+title_front = codes "{ \"type\": \"suite\", \"event\": \"started\", \"test_count\": "
+
+-- the line that begins a report: how many trials it shows
+unfoldable pub json_title : ℕ → List ℕ
+json_title count = json_line (title_front ∷ decimal count ∷ [])
 
 -- whether the whole run failed
 abbrev pub json_verdict : ℕ → List ℕ
 json_verdict failed = if nat_lt 0 failed then codes "failed" else codes "ok"
 
+-- a summary's verdict and counts, up to the number of trials that were filtered out
+abbrev pub summary_front : Conclusion → List (List ℕ)
+summary_front c = codes "{ \"type\": \"suite\", \"event\": \"" ∷ json_verdict c.num_failed
+    ∷ number_field (codes "\", \"passed\": ") c.num_passed ∷ number_field (codes ", \"failed\": ") c.num_failed
+    ∷ number_field (codes ", \"ignored\": ") c.num_ignored ∷ number_field (codes ", \"measured\": ") c.num_measured
+    ∷ codes ", \"filtered_out\": " ∷ []
+
+-- what stands before the time
+abbrev pub time_key : List ℕ
+time_key = codes ", \"exec_time\": "
+
 -- the line that ends a report: its counts, and the time in seconds
 unfoldable pub json_summary : Conclusion → ℕ → List ℕ
-json_summary c nanos = concat (codes "{ \"type\": \"suite\", \"event\": \"" ∷ json_verdict c.num_failed
-    ∷ codes "\", \"passed\": " ∷ decimal c.num_passed ∷ codes ", \"failed\": " ∷ decimal c.num_failed
-    ∷ codes ", \"ignored\": " ∷ decimal c.num_ignored ∷ codes ", \"measured\": " ∷ decimal c.num_measured
-    ∷ codes ", \"filtered_out\": " ∷ decimal c.num_filtered_out ∷ codes ", \"exec_time\": " ∷ exact_seconds nanos ∷ codes " }\n" ∷ [])
+json_summary c nanos = json_line (summary_front c ++ decimal c.num_filtered_out ∷ time_key ∷ exact_seconds nanos ∷ [])
 
 -- ---- the whole
 
@@ -65,8 +128,8 @@ abbrev pub entry_of : Row → Entry
 entry_of row = record { name = row.label.name; outcome = row.outcome }
 
 -- the two lines of an entry
-abbrev pub entry_lines : Entry → List ℕ
-entry_lines entry = concat (json_announcement entry.name ∷ json_outcome entry.name entry.outcome ∷ [])
+abbrev pub entry_lines : Entry → List (List ℕ)
+entry_lines entry = json_announcement entry.name ∷ json_outcome entry.name entry.outcome ∷ []
 
 -- what a report in JSON tells: its entries, how many trials were filtered out, and the nanoseconds that the run took
 pub record Contents : Type 0 where
@@ -77,9 +140,13 @@ pub record Contents : Type 0 where
 abbrev pub conclusion_of : Contents → Conclusion
 conclusion_of c = counts_of (map (λ entry. entry.outcome) c.entries) c.filtered_out
 
--- the text of a report: its title, the lines of its entries and its summary, and nothing before, between or after
+-- the lines of a report: its title, those of its entries and its summary
+abbrev pub report_lines : Contents → List (List ℕ)
+report_lines c = json_title (length c.entries) ∷ (flat_map entry_lines c.entries ++ json_summary (conclusion_of c) c.nanos ∷ [])
+
+-- the text of a report: its lines one after another, and nothing before, between or after
 unfoldable pub json_report : Contents → List ℕ
-json_report c = concat (json_title (length c.entries) ∷ flat_map entry_lines c.entries ∷ json_summary (conclusion_of c) c.nanos ∷ [])
+json_report c = concat (report_lines c)
 
 -- the name is a text, and the outcome fits its types
 pub record FitsEntry (entry : Entry) : Type 0 where
@@ -92,7 +159,3 @@ pub record IsJsonReport (bytes : List ℕ) (c : Contents) : Type 0 where
   pub entries : AllByRecursion FitsEntry c.entries
   pub filtered_out : c.filtered_out < 2 ^ 64
   pub nanos : c.nanos < 2 ^ 64
-
--- how many lines end in the text
-abbrev pub line_ends : List ℕ → ℕ
-line_ends text = count_by (λ b. b == 10) text

@@ -1,6 +1,6 @@
 -- What the private functions of the printer promise one another. No public clause names these words.
-use Rattle.std.specs.Prelude.{ℕ, Bool, not, ◌||◌, if◌then◌else◌, List, [], ◌∷◌, codes, decimal}
-use Rattle.std.specs.List.{concat, flat_map}
+use Rattle.std.specs.Prelude.{ℕ, Bool, not, ◌||◌, if◌then◌else◌, List, [], decimal}
+use Rattle.std.specs.List.{flat_map}
 use Rattle.mimic_printer.specs.declared.piece.Piece.{Piece}
 use Rattle.mimic_printer.specs.declared.piece.Piece.TheVariants.{Text, Number, TwoDigits, Spaces, Grouped, Escaped, Seconds}
 use Rattle.mimic_printer.specs.List.{list_line}
@@ -27,10 +27,6 @@ piece_text (Seconds n) = exact_seconds n
 
 abbrev pub pieces_text : List Piece → List ℕ
 pieces_text pieces = flat_map piece_text pieces
-
--- the line in JSON of an outcome that is told in a word, by its name and by all that stands behind the name
-unfoldable pub event_line : List ℕ → List ℕ → List ℕ
-event_line name rest = concat (codes "{ \"type\": \"test\", \"name\": \"" ∷ escaped name ∷ rest ∷ [])
 
 -- ---- failures by place
 

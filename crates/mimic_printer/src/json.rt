@@ -1,8 +1,10 @@
 //! The lines of a report in JSON.
-ghost use Rattle.std.specs.Prelude.{◌≡◌, ◌-◌, ◌^◌, ◌<◌};
-ghost use Rattle.mimic_printer.specs.Json.{json_announcement, json_failure, json_measurement, json_outcome, json_summary, json_title, json_verdict};
+ghost use Rattle.std.specs.Prelude.{◌≡◌, ◌-◌, ◌^◌, ◌<◌, ◌∷◌, [], Some, false};
+ghost use Rattle.std.specs.List.{concat};
+ghost use Rattle.mimic_printer.specs.Json.{json_announcement, json_outcome, json_summary, json_title, json_verdict, outcome_front};
 ghost use Rattle.mimic_printer.specs.Sink.{Puts, faults_of};
-ghost use Rattle.mimic_printer.specs.Steps.{event_line};
+ghost use Rattle.mimic_text.specs.Escape.{escaped};
+ghost use Rattle.mimic_trial.specs.declared.outcome.Outcome.TheVariants.{Failed, Measured};
 
 use crate::piece::{Piece, put_pieces};
 use crate::sink::{Sink, WriteFault};
@@ -58,14 +60,13 @@ pub(super) fn put_outcome<'a, W: Write>(
 }
 
 // Writes the line of an outcome that is told in a word: all before the name, the name, and all behind it.
-#[tactic(auto, unfolding(crate::specs::Steps::event_line))]
 fn put_event<'a, W: Write>(
     sink: &mut Sink<W>,
     name: &'a str,
     rest: &'a str,
 ) -> Result<(), WriteFault>
     requires { faults_of sink.old < 2 ^ 64 - 1 }
-    ensures { Puts W.contents sink.old sink.new (event_line name.now rest.now) result }
+    ensures { Puts W.contents sink.old sink.new (concat (outcome_front false ∷ escaped name.now ∷ rest.now ∷ [])) result }
 {
     let pieces = [
         Piece::Text("{ \"type\": \"test\", \"name\": \""),
@@ -75,14 +76,14 @@ fn put_event<'a, W: Write>(
     put_pieces(sink, &pieces)
 }
 
-#[tactic(auto, unfolding(crate::specs::Json::json_failure))]
+#[tactic(auto, unfolding(crate::specs::Json::json_outcome))]
 fn put_failure<'a, W: Write>(
     sink: &mut Sink<W>,
     name: &'a str,
     message: &'a str,
 ) -> Result<(), WriteFault>
     requires { faults_of sink.old < 2 ^ 64 - 1 }
-    ensures { Puts W.contents sink.old sink.new (json_failure name.now message.now) result }
+    ensures { Puts W.contents sink.old sink.new (json_outcome name.now (Failed (Some message.now))) result }
 {
     let pieces = [
         Piece::Text("{ \"type\": \"test\", \"name\": \""),
@@ -94,14 +95,14 @@ fn put_failure<'a, W: Write>(
     put_pieces(sink, &pieces)
 }
 
-#[tactic(auto, unfolding(crate::specs::Json::json_measurement))]
+#[tactic(auto, unfolding(crate::specs::Json::json_outcome))]
 fn put_measurement<W: Write>(
     sink: &mut Sink<W>,
     name: &str,
     measurement: &Measurement,
 ) -> Result<(), WriteFault>
     requires { faults_of sink.old < 2 ^ 64 - 1 }
-    ensures { Puts W.contents sink.old sink.new (json_measurement name.now measurement.now.avg measurement.now.variance) result }
+    ensures { Puts W.contents sink.old sink.new (json_outcome name.now (Measured measurement.now)) result }
 {
     let pieces = [
         Piece::Text("{ \"type\": \"bench\", \"name\": \""),
