@@ -59,8 +59,15 @@ struct Left {
 
 // Runs the trials in one thread, with these words on the command line.
 fn run_words(rt: &HostRuntime, asked: &[&str]) -> Result<Left, Fail> {
+    let mut words = vec![in rt.alloc(); "--test-threads", "1"]?;
+    words.extend_from_slice(asked)?;
+    run_only(rt, &words)
+}
+
+// Runs the trials with these words alone on the command line.
+fn run_only(rt: &HostRuntime, asked: &[&str]) -> Result<Left, Fail> {
     let alloc = rt.alloc();
-    let mut words = vec![in alloc; "harness", "--test-threads", "1"]?;
+    let mut words = vec![in alloc; "harness"]?;
     words.extend_from_slice(asked)?;
     let trials = mixed_bag_trials!(alloc);
     let out = Output::new(alloc, Passing::Lines, Vec::new(alloc))?;
@@ -126,6 +133,79 @@ fn counts_as_asked(rt: HostRuntime) -> Result<(), Fail> {
         assert_eq!(rt; left.status, if has_failed { 101 } else { 0 });
         assert!(rt; left.err.is_empty());
     }
+    Ok(())
+}
+
+// `--test-threads` has no effect yet: the counts are the same without it, with 0 and with many.
+#[test]
+fn heeds_no_number_of_threads(rt: HostRuntime) -> Result<(), Fail> {
+    let rows: [&[&str]; 3] = [&[], &["--test-threads", "0"], &["--test-threads", "64"]];
+    for words in rows {
+        let left = run_only(&rt, words)?;
+        assert_eq!(rt; left.status, 101, "{words:?}");
+        assert!(rt;
+            left.out.as_str().contains(
+                " 4 passed; 5 failed; 8 ignored; 0 measured; 0 filtered out;"
+            ),
+            "{words:?}"
+        );
+        assert!(rt; left.err.is_empty(), "{words:?}");
+    }
+    Ok(())
+}
+
+// The whole report of all benchmarks: each row has its own numbers, and each failure its own message.
+const MEASURED: &str = "
+running 17 tests
+test          cat    ... ignored
+test          \"ups\"  ... ignored
+test          dog    ... ignored
+test [apple]  fox    ... ignored
+test [apple]  bunny  ... ignored
+test          frog   ... ignored
+test          owl    ... ignored
+test [banana] fly    ... ignored
+test [banana] bear   ... ignored
+test          red    ... bench:          32 ns/iter (+/- 3)
+test          blue   ... FAILED
+test [kiwi]   yellow ... bench:          64 ns/iter (+/- 4)
+test [kiwi]   green  ... FAILED
+test          purple ... bench:         100 ns/iter (+/- 5)
+test          cyan   ... FAILED
+test [banana] orange ... bench:          17 ns/iter (+/- 6)
+test [banana] pink   ... FAILED
+
+failures:
+
+---- blue ----
+sky fell down
+
+---- green ----
+was poisoned
+
+---- cyan ----
+not creative enough
+
+---- pink ----
+bad
+
+
+failures:
+    blue
+    green
+    cyan
+    pink
+
+test result: FAILED. 0 passed; 4 failed; 9 ignored; 4 measured; 0 filtered out; finished in 0.00s
+
+";
+
+#[test]
+fn measures_ignored_benchmarks(rt: HostRuntime) -> Result<(), Fail> {
+    let left = run_words(&rt, &["--bench", "--include-ignored"])?;
+    assert_eq!(rt; left.out.as_str(), MEASURED);
+    assert_eq!(rt; left.status, 101);
+    assert!(rt; left.err.is_empty());
     Ok(())
 }
 
@@ -288,25 +368,31 @@ fn refuses_lines(rt: HostRuntime) -> Result<(), Fail> {
         assert!(rt; left.err.as_str().starts_with("error: "));
         assert!(rt; left.err.as_str().ends_with("\n"));
     }
-    let alloc = rt.alloc();
-    let line = Err(ArgumentsError::Refused(String::from_str(alloc, "no")?));
-    let out = Output::new(alloc, Passing::Lines, Vec::new(alloc))?;
-    let mut err: Vec<u8> = Vec::new(alloc);
-    let (_, status) = harness_run(
-        &rt,
-        alloc,
-        line,
-        Vec::<Trial>::new(alloc),
-        out,
-        &mut err,
-        Still,
-    );
-    assert_eq!(rt; status, 2);
-    assert!(rt; err.as_slice() == b"no\n".as_slice());
     let left = run_words(&rt, &["--help"])?;
     assert_eq!(rt; left.status, 0);
     assert!(rt; left.out.as_str().ends_with("\n"));
     assert!(rt; left.err.is_empty());
+    Ok(())
+}
+
+// Lines that gave no arguments, the status, and what is told on standard error.
+#[test]
+fn tells_why_a_line_gave_nothing(rt: HostRuntime) -> Result<(), Fail> {
+    let alloc = rt.alloc();
+    let refused = ArgumentsError::Refused(String::from_str(alloc, "no")?);
+    let rows: [(ArgumentsError, u8, &[u8]); 2] = [
+        (refused, 2, b"no\n"),
+        (ArgumentsError::OutOfMemory, 1, b"harness: out of memory\n"),
+    ];
+    for (error, status, text) in rows {
+        let tests = Vec::<Trial>::new(alloc);
+        let out = Output::new(alloc, Passing::Lines, Vec::new(alloc))?;
+        let mut err: Vec<u8> = Vec::new(alloc);
+        let (out, answered) = harness_run(&rt, alloc, Err(error), tests, out, &mut err, Still);
+        assert_eq!(rt; answered, status);
+        assert!(rt; out.is_empty());
+        assert!(rt; err.as_slice() == text);
+    }
     Ok(())
 }
 

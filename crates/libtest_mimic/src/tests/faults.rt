@@ -1,21 +1,24 @@
 //! Writers that fail: what they hold then, what is answered, and which runners were called.
 use super::reports::{TWO_TESTS, TWO_TESTS_JSON, TWO_TESTS_TERSE};
 use super::test_trial;
-use super::writers::{Full, Limited, stopped_clock};
+use super::writers::{Full, Limited, ample, stopped_clock, with_room};
 use crate::{
     Arguments, Failed, FormatSetting, RunError, Sink, Stopwatch, Trial, WriteFault, run_here,
 };
+use std::io::ErrorKind;
 use std::sync::Arc;
 use std::sync::atomic::{AtomicBool, Ordering};
 use std::test::Fail;
 
-// A report of the two tests, and after how many bytes of it each test runs: where its announcement has ended.
+// A report of the two tests; after how many bytes of it each test runs, which is where its announcement has ended;
+// and where its summary begins.
 #[derive(Clone, Copy)]
 struct Written {
     format: FormatSetting,
     report: &'static [u8],
     first_runs_at: usize,
     second_runs_at: usize,
+    summary_at: usize,
 }
 
 const PRETTY: Written = Written {
@@ -23,6 +26,7 @@ const PRETTY: Written = Written {
     report: TWO_TESTS,
     first_runs_at: 42,
     second_runs_at: 70,
+    summary_at: 147,
 };
 
 const TERSE: Written = Written {
@@ -30,6 +34,7 @@ const TERSE: Written = Written {
     report: TWO_TESTS_TERSE,
     first_runs_at: 17,
     second_runs_at: 18,
+    summary_at: 89,
 };
 
 const JSON: Written = Written {
@@ -37,6 +42,7 @@ const JSON: Written = Written {
     report: TWO_TESTS_JSON,
     first_runs_at: 123,
     second_runs_at: 247,
+    summary_at: 341,
 };
 
 // What a run of the two tests leaves.
@@ -47,6 +53,7 @@ struct Left {
     writer: Limited,
     first_ran: bool,
     second_ran: bool,
+    is_running: bool,
 }
 
 fn run_two(rt: &HostRuntime, format: FormatSetting, writer: Limited) -> Result<Left, Fail> {
@@ -81,54 +88,45 @@ fn run_two(rt: &HostRuntime, format: FormatSetting, writer: Limited) -> Result<L
         writer: sink.into_inner(),
         first_ran: first.load(Ordering::SeqCst),
         second_ran: second.load(Ordering::SeqCst),
+        is_running: watch.is_running(),
     })
 }
 
+// After a fault what came before it stands and nothing more is asked of the writer, though that is well again; the
+// watch runs on where the summary had not begun.
 #[test]
 fn stops_at_each_byte(rt: HostRuntime) -> Result<(), Fail> {
-    let ways = [
-        (PRETTY, 1, Full::Fails),
-        (PRETTY, 1, Full::TakesNone),
-        (PRETTY, usize::MAX, Full::Fails),
-        (PRETTY, usize::MAX, Full::TakesNone),
-        (TERSE, 1, Full::Fails),
-        (JSON, 1, Full::Fails),
-        (JSON, usize::MAX, Full::TakesNone),
-    ];
-    for (written, most, full) in ways {
-        for room in 0..=written.report.len() {
-            let left = run_two(
-                &rt,
-                written.format,
-                Limited {
-                    bytes: Vec::new(rt.alloc()),
-                    room,
-                    most,
-                    full,
-                    flushes: 0,
-                    failing_flush: 0,
-                },
-            )?;
-            let whole = room == written.report.len();
-            assert!(rt;
-                left.writer.bytes.as_slice() == &written.report[..room],
-                "room {room}"
-            );
-            assert_eq!(rt; left.faults, u64::from(!whole), "room {room}");
-            assert_eq!(rt;
-                left.first_ran,
-                room >= written.first_runs_at,
-                "room {room}"
-            );
-            assert_eq!(rt;
-                left.second_ran,
-                room >= written.second_runs_at,
-                "room {room}"
-            );
-            match left.fault {
-                None => assert!(rt; whole),
-                Some(WriteFault::Error(_)) => assert!(rt; full == Full::Fails),
-                Some(WriteFault::Zero) => assert!(rt; full == Full::TakesNone),
+    let alloc = rt.alloc();
+    for (written, most) in [
+        (PRETTY, 1),
+        (PRETTY, usize::MAX),
+        (TERSE, 1),
+        (TERSE, usize::MAX),
+        (JSON, 1),
+        (JSON, usize::MAX),
+    ] {
+        for full in Full::ALL {
+            for room in 0..=written.report.len() {
+                let writer = with_room(Vec::new(alloc), room, most, full);
+                let left = run_two(&rt, written.format, writer)?;
+                let whole = room == written.report.len();
+                assert!(rt;
+                    left.writer.bytes.as_slice() == &written.report[..room],
+                    "at {room}"
+                );
+                assert_eq!(rt; left.faults, u64::from(!whole), "at {room}");
+                assert_eq!(rt; left.writer.calls_after, 0, "at {room}");
+                assert_eq!(rt; left.is_running, room < written.summary_at, "at {room}");
+                assert_eq!(rt; left.first_ran, room >= written.first_runs_at, "at {room}");
+                assert_eq!(rt;
+                    left.second_ran,
+                    room >= written.second_runs_at,
+                    "at {room}"
+                );
+                match &left.fault {
+                    None => assert!(rt; whole, "at {room}"),
+                    Some(fault) => assert!(rt; full.is_told_as(fault), "at {room}"),
+                }
             }
         }
     }
@@ -145,21 +143,14 @@ fn stops_at_each_flush(rt: HostRuntime) -> Result<(), Fail> {
         (TERSE, 1, TERSE.report.len()),
         (JSON, 1, JSON.report.len()),
     ] {
-        let left = run_two(
-            &rt,
-            written.format,
-            Limited {
-                bytes: Vec::new(rt.alloc()),
-                room: usize::MAX,
-                most: usize::MAX,
-                full: Full::Fails,
-                flushes: 0,
-                failing_flush,
-            },
-        )?;
+        let mut writer = ample(Vec::new(rt.alloc()));
+        writer.failing_flush = failing_flush;
+        let left = run_two(&rt, written.format, writer)?;
         assert!(rt; matches!(left.fault, Some(WriteFault::Error(_))));
         assert_eq!(rt; left.faults, 1);
         assert!(rt; left.writer.bytes.as_slice() == &written.report[..len]);
+        assert_eq!(rt; left.writer.calls_after, 0);
+        assert_eq!(rt; left.is_running, len < written.summary_at);
         assert_eq!(rt; left.first_ran, len > written.first_runs_at);
         assert_eq!(rt; left.second_ran, len > written.second_runs_at);
     }
@@ -168,14 +159,8 @@ fn stops_at_each_flush(rt: HostRuntime) -> Result<(), Fail> {
 
 #[test]
 fn puts_nothing_into_a_full_writer(rt: HostRuntime) -> Result<(), Fail> {
-    let mut sink = Sink::new(Limited {
-        bytes: Vec::new(rt.alloc()),
-        room: 0,
-        most: 1,
-        full: Full::Fails,
-        flushes: 0,
-        failing_flush: 0,
-    });
+    let full = Full::Fails(ErrorKind::BrokenPipe);
+    let mut sink = Sink::new(with_room(Vec::new(rt.alloc()), 0, 1, full));
     assert!(rt; sink.put(b"").is_ok());
     assert_eq!(rt; sink.faults(), 0);
     assert!(rt; matches!(sink.put(b"a"), Err(WriteFault::Error(_))));

@@ -1,9 +1,12 @@
 //! Whole reports over memory.
 use super::test_trial;
-use super::writers::{Times, ample, run_ample};
+use super::writers::{Raised, Times, ample, run_ample};
 use crate::{
     Arguments, ColorSetting, Conclusion, Failed, FormatSetting, Sink, Stopwatch, Trial, run_here,
 };
+use std::process::ExitCode;
+use std::sync::Arc;
+use std::sync::atomic::{AtomicU64, Ordering};
 use std::test::Fail;
 
 pub(super) const TWO_TESTS: &[u8] =
@@ -27,8 +30,11 @@ pub(super) const TWO_TESTS_JSON: &[u8] =
 const NO_TESTS: &[u8] =
     b"\nrunning 0 tests\n\ntest result: ok. 0 passed; 0 failed; 0 ignored; 0 measured; 0 filtered out; finished in 0.00s\n\n";
 
+const NO_MESSAGES: &[u8] =
+    b"\nrunning 2 tests\ntest a ... FAILED\ntest b ... FAILED\n\nfailures:\n\n---- a ----\n\n---- b ----\n\n\n\nfailures:\n    a\n    b\n\ntest result: FAILED. 0 passed; 2 failed; 0 ignored; 0 measured; 0 filtered out; finished in 0.00s\n\n";
+
 // A format, a colour setting, the report, and how often it is flushed.
-#[derive(Drop)]
+#[derive(Clone, Copy)]
 struct Look {
     format: Option<FormatSetting>,
     color: Option<ColorSetting>,
@@ -36,38 +42,39 @@ struct Look {
     flushes: u64,
 }
 
+const LOOKS: [Look; 4] = [
+    Look {
+        format: None,
+        color: None,
+        report: TWO_TESTS,
+        flushes: 3,
+    },
+    Look {
+        format: Some(FormatSetting::Terse),
+        color: None,
+        report: TWO_TESTS_TERSE,
+        flushes: 1,
+    },
+    Look {
+        format: Some(FormatSetting::Pretty),
+        color: Some(ColorSetting::Always),
+        report: TWO_TESTS_COLOURED,
+        flushes: 3,
+    },
+    Look {
+        format: Some(FormatSetting::Json),
+        color: Some(ColorSetting::Always),
+        report: TWO_TESTS_JSON,
+        flushes: 1,
+    },
+];
+
 #[test]
 fn reports_two_tests(rt: HostRuntime) -> Result<(), Fail> {
     let alloc = rt.alloc();
-    let looks = [
-        Look {
-            format: None,
-            color: None,
-            report: TWO_TESTS,
-            flushes: 3,
-        },
-        Look {
-            format: Some(FormatSetting::Terse),
-            color: None,
-            report: TWO_TESTS_TERSE,
-            flushes: 1,
-        },
-        Look {
-            format: Some(FormatSetting::Pretty),
-            color: Some(ColorSetting::Always),
-            report: TWO_TESTS_COLOURED,
-            flushes: 3,
-        },
-        Look {
-            format: Some(FormatSetting::Json),
-            color: Some(ColorSetting::Always),
-            report: TWO_TESTS_JSON,
-            flushes: 1,
-        },
-    ];
     assert_eq!(rt; TWO_TESTS.len(), 247);
     assert_eq!(rt; TWO_TESTS_COLOURED.len(), 274);
-    for look in &looks {
+    for look in LOOKS {
         let mut args = Arguments::new(alloc);
         args.format = look.format;
         args.color = look.color;
@@ -92,6 +99,7 @@ fn reports_two_tests(rt: HostRuntime) -> Result<(), Fail> {
             }
         );
         assert!(rt; conclusion.has_failed());
+        assert!(rt; conclusion.exit_code() == ExitCode::from(101));
         assert!(rt; writer.bytes.as_slice() == look.report);
         assert_eq!(rt; writer.flushes, look.flushes);
     }
@@ -103,6 +111,7 @@ fn reports_no_tests(rt: HostRuntime) -> Result<(), Fail> {
     let alloc = rt.alloc();
     let (conclusion, writer) = run_ample(alloc, &Arguments::new(alloc), Vec::<Trial>::new(alloc))?;
     assert!(rt; !conclusion.has_failed());
+    assert!(rt; conclusion.exit_code() == ExitCode::from(0));
     assert!(rt; writer.bytes.as_slice() == NO_TESTS);
     Ok(())
 }
@@ -146,6 +155,34 @@ fn tells_the_time(rt: HostRuntime) -> Result<(), Fail> {
     Ok(())
 }
 
+// The time told is that which the trials took: a runner raises the clock while it runs.
+#[test]
+fn times_the_trials(rt: HostRuntime) -> Result<(), Fail> {
+    let alloc = rt.alloc();
+    let ends: [(FormatSetting, &[u8]); 2] = [
+        (FormatSetting::Pretty, b"; finished in 1.50s\n\n"),
+        (FormatSetting::Json, b", \"exec_time\": 1.5 }\n"),
+    ];
+    for (format, end) in ends {
+        let nanos = Arc::new(alloc, AtomicU64::new(0))?;
+        let raised = nanos.clone()?;
+        let tests = vec![in alloc;
+            test_trial!(alloc, "a", move || {
+                raised.fetch_add(1_500_000_000, Ordering::SeqCst);
+                Ok(())
+            }),
+        ]?;
+        let mut args = Arguments::new(alloc);
+        args.format = Some(format);
+        let mut sink = Sink::new(ample(Vec::new(alloc)));
+        let mut watch = Stopwatch::new(Raised { nanos });
+        run_here(alloc, &args, tests, &mut sink, &mut watch, false)?;
+        assert_eq!(rt; watch.elapsed(), Some(1_500_000_000));
+        assert!(rt; sink.into_inner().bytes.ends_with(end));
+    }
+    Ok(())
+}
+
 // Messages: none, an empty one, one of two lines, and a number that was displayed.
 #[test]
 fn shows_messages(rt: HostRuntime) -> Result<(), Fail> {
@@ -170,6 +207,20 @@ fn shows_messages(rt: HostRuntime) -> Result<(), Fail> {
             .windows(failures.len())
             .any(|part| part == failures)
     );
+    Ok(())
+}
+
+// A failure with an empty message has one line end more than one without a message.
+#[test]
+fn shows_an_empty_message(rt: HostRuntime) -> Result<(), Fail> {
+    let alloc = rt.alloc();
+    let empty = String::new(alloc);
+    let tests = vec![in alloc;
+        test_trial!(alloc, "a", || Err(Failed::without_message())),
+        test_trial!(alloc, "b", move || Err(Failed::with_message(empty))),
+    ]?;
+    let (_, writer) = run_ample(alloc, &Arguments::new(alloc), tests)?;
+    assert!(rt; writer.bytes.as_slice() == NO_MESSAGES);
     Ok(())
 }
 

@@ -1,9 +1,9 @@
 //! Runs of selected trials and of benchmarks, and lists.
-use super::writers::{Full, Limited, run_ample, stopped_clock};
+use super::writers::{Full, run_ample, stopped_clock, with_room};
 use super::{bench_trial, test_trial};
 use crate::{
     Arguments, ColorSetting, Conclusion, Failed, FormatSetting, Measurement, RunError, Sink,
-    Stopwatch, Trial, WriteFault, run_here,
+    Stopwatch, Trial, run_here,
 };
 use std::sync::Arc;
 use std::sync::atomic::{AtomicBool, Ordering};
@@ -102,6 +102,43 @@ fn runs_ignored_trials_as_asked(rt: HostRuntime) -> Result<(), Fail> {
     Ok(())
 }
 
+// The words `--test --ignored o`: a benchmark that is asked for by its flag is ignored, and its runner not called.
+#[test]
+fn ignores_benchmarks_of_a_test_run(rt: HostRuntime) -> Result<(), Fail> {
+    let alloc = rt.alloc();
+    let ran = Arc::new(alloc, AtomicBool::new(false))?;
+    let mark = ran.clone()?;
+    let measured = Arc::new(alloc, AtomicBool::new(false))?;
+    let mark_measured = measured.clone()?;
+    let frog = test_trial!(alloc, "frog", move || {
+        mark.store(true, Ordering::SeqCst);
+        Ok(())
+    });
+    let orange = bench_trial!(alloc, "orange", move |_mode: bool| {
+        mark_measured.store(true, Ordering::SeqCst);
+        Ok(None)
+    });
+    let tests = vec![in alloc;
+        test_trial!(alloc, "dog", || Err(Failed::without_message())),
+        frog.with_ignored_flag(true),
+        orange
+            .with_kind(String::from_str(alloc, "banana")?)
+            .with_ignored_flag(true),
+    ]?;
+    let mut args = Arguments::new(alloc);
+    args.test = true;
+    args.ignored = true;
+    args.filter = Some(String::from_str(alloc, "o")?);
+    let (_, writer) = run_ample(alloc, &args, tests)?;
+    assert!(rt; writer.bytes.as_slice() == IGNORED_ORANGE);
+    assert!(rt; ran.load(Ordering::SeqCst));
+    assert!(rt; !measured.load(Ordering::SeqCst));
+    Ok(())
+}
+
+const IGNORED_ORANGE: &[u8] =
+    b"\nrunning 2 tests\ntest          frog   ... ok\ntest [banana] orange ... ignored\n\ntest result: ok. 1 passed; 0 failed; 1 ignored; 0 measured; 1 filtered out; finished in 0.00s\n\n";
+
 // A filter, a skip pattern, whether they are exact, and how many of `foo`, `bar` and `barro` they select and
 // drop.
 #[test]
@@ -150,35 +187,32 @@ fn selects_by_patterns(rt: HostRuntime) -> Result<(), Fail> {
     Ok(())
 }
 
-// A list into a writer that fails after each number of bytes.
+// A list into a writer of which one write fails, in each way after each number of bytes, and which is well again.
 #[test]
 fn stops_a_list_at_each_byte(rt: HostRuntime) -> Result<(), Fail> {
     let alloc = rt.alloc();
     let list = b"[a] b: test\nc: bench\n";
-    for room in 0..=list.len() {
-        let tests = vec![in alloc;
-            test_trial!(alloc, "b", || Ok(())).with_kind(String::from_str(alloc, "a")?),
-            bench_trial!(alloc, "c", |_mode: bool| Ok(None)),
-        ]?;
-        let mut args = Arguments::new(alloc);
-        args.list = true;
-        let mut sink = Sink::new(Limited {
-            bytes: Vec::new(alloc),
-            room,
-            most: 3,
-            full: Full::TakesNone,
-            flushes: 0,
-            failing_flush: 0,
-        });
-        let mut watch = Stopwatch::new(stopped_clock());
-        match run_here(alloc, &args, tests, &mut sink, &mut watch, false) {
-            Ok(_) => assert!(rt; room == list.len()),
-            Err(RunError::Write(WriteFault::Zero)) => assert!(rt; room < list.len()),
-            Err(_) => assert!(rt; false),
+    for full in Full::ALL {
+        for room in 0..=list.len() {
+            let tests = vec![in alloc;
+                test_trial!(alloc, "b", || Ok(())).with_kind(String::from_str(alloc, "a")?),
+                bench_trial!(alloc, "c", |_mode: bool| Ok(None)),
+            ]?;
+            let mut args = Arguments::new(alloc);
+            args.list = true;
+            let mut sink = Sink::new(with_room(Vec::new(alloc), room, 3, full));
+            let mut watch = Stopwatch::new(stopped_clock());
+            match run_here(alloc, &args, tests, &mut sink, &mut watch, false) {
+                Ok(_) => assert!(rt; room == list.len()),
+                Err(RunError::Write(fault)) => assert!(rt; full.is_told_as(&fault)),
+                Err(RunError::OutOfMemory) => assert!(rt; false),
+            }
+            assert!(rt; watch.is_running());
+            assert_eq!(rt; sink.faults(), u64::from(room < list.len()));
+            let writer = sink.into_inner();
+            assert!(rt; writer.bytes.as_slice() == &list[..room]);
+            assert_eq!(rt; writer.calls_after, 0);
         }
-        assert!(rt; watch.is_running());
-        assert_eq!(rt; sink.faults(), u64::from(room < list.len()));
-        assert!(rt; sink.into_inner().bytes.as_slice() == &list[..room]);
     }
     Ok(())
 }
@@ -294,6 +328,39 @@ fn reports_in_terse(rt: HostRuntime) -> Result<(), Fail> {
             == b"\nrunning 1 test\n\x1b[32m.\x1b[0m\ntest result: \x1b[32mok\x1b[0m. 1 passed; 0 failed; 0 ignored; 0 measured; 0 filtered out; finished in 0.00s\n\n".as_slice()
     );
     assert_eq!(rt; writer.flushes, 1);
+    Ok(())
+}
+
+// A format, an average, a variance, and how they stand between the title and the summary.
+#[test]
+fn reports_measurements(rt: HostRuntime) -> Result<(), Fail> {
+    let alloc = rt.alloc();
+    let rows = [
+        (
+            FormatSetting::Terse,
+            1_234_567,
+            89,
+            "bench:   1,234,567 ns/iter (+/- 89)\n",
+        ),
+        (
+            FormatSetting::Pretty,
+            32,
+            3,
+            "test b ... bench:          32 ns/iter (+/- 3)\n",
+        ),
+    ];
+    for (format, avg, variance, row) in rows {
+        let runner = move |_mode: bool| Ok(Some(Measurement { avg, variance }));
+        let tests = vec![in alloc; bench_trial!(alloc, "b", runner)]?;
+        let mut args = Arguments::new(alloc);
+        args.bench = true;
+        args.format = Some(format);
+        let (_, writer) = run_ample(alloc, &args, tests)?;
+        let want = format!(in alloc;
+            "\nrunning 1 test\n{row}\ntest result: ok. 0 passed; 0 failed; 0 ignored; 1 measured; 0 filtered out; finished in 0.00s\n\n"
+        )?;
+        assert!(rt; writer.bytes.as_slice() == want.as_bytes(), "{row}");
+    }
     Ok(())
 }
 

@@ -1,7 +1,9 @@
 //! Which patterns match, and which trials are dropped and ignored.
 use super::test_trial;
+use super::writers::run_ample;
 use crate::select::{is_filtered_out, is_ignored, matches};
 use crate::{Arguments, Failed, Trial};
+use std::alloc::{AllocError, Global};
 use std::test::Fail;
 
 // A pattern, whether it has to be the whole name, a kind, a name, and whether the pattern matches.
@@ -106,6 +108,76 @@ fn ignores_trials(rt: HostRuntime) -> Result<(), Fail> {
         args.test = test;
         args.bench = bench;
         assert_eq!(rt; is_ignored(&args, &trial), want);
+    }
+    Ok(())
+}
+
+// Arguments with a filter, and one skip pattern.
+fn selecting(
+    alloc: Global,
+    filter: Option<&str>,
+    skip: Option<&str>,
+    exact: bool,
+) -> Result<Arguments, AllocError> {
+    let mut args = Arguments::new(alloc);
+    args.exact = exact;
+    if let Some(filter) = filter {
+        args.filter = Some(String::from_str(alloc, filter)?);
+    }
+    if let Some(skip) = skip {
+        args.skip.push(String::from_str(alloc, skip)?)?;
+    }
+    Ok(args)
+}
+
+// A filter, a skip pattern, whether they are exact, and the list of those of `foo`, `bar` and `barro` that they select.
+#[test]
+fn selects_by_name(rt: HostRuntime) -> Result<(), Fail> {
+    let alloc = rt.alloc();
+    let rows: [(Option<&str>, Option<&str>, bool, &[u8]); 8] = [
+        (Some("foo"), None, false, b"foo: test\n"),
+        (Some("bar"), None, false, b"bar: test\nbarro: test\n"),
+        (Some("bar"), None, true, b"bar: test\n"),
+        (Some("bar"), Some("barro"), false, b"bar: test\n"),
+        (None, None, false, b"foo: test\nbar: test\nbarro: test\n"),
+        (
+            None,
+            Some("peter"),
+            false,
+            b"foo: test\nbar: test\nbarro: test\n",
+        ),
+        (None, Some("bar"), false, b"foo: test\n"),
+        (None, Some("bar"), true, b"foo: test\nbarro: test\n"),
+    ];
+    for (filter, skip, exact, list) in rows {
+        let tests = vec![in alloc;
+            test_trial!(alloc, "foo", || Ok(())),
+            test_trial!(alloc, "bar", || Ok(())),
+            test_trial!(alloc, "barro", || Ok(())),
+        ]?;
+        let mut args = selecting(alloc, filter, skip, exact)?;
+        args.list = true;
+        let (_, writer) = run_ample(alloc, &args, tests)?;
+        assert!(rt;
+            writer.bytes.as_slice() == list,
+            "{filter:?} {skip:?} {exact}"
+        );
+    }
+    Ok(())
+}
+
+// An exact filter, and whether a run of the trial `n` of kind `k` keeps it: by its name and its full name, and not
+// by its kind alone.
+#[test]
+fn keeps_by_full_names(rt: HostRuntime) -> Result<(), Fail> {
+    let alloc = rt.alloc();
+    for (filter, keeps) in [("k", false), ("[k]", false), ("[k] n", true), ("n", true)] {
+        let trial = test_trial!(alloc, "n", || Ok(()));
+        let tests = vec![in alloc; trial.with_kind(String::from_str(alloc, "k")?)]?;
+        let args = selecting(alloc, Some(filter), None, true)?;
+        let (conclusion, _) = run_ample(alloc, &args, tests)?;
+        assert_eq!(rt; conclusion.num_passed, u64::from(keeps), "{filter}");
+        assert_eq!(rt; conclusion.num_filtered_out, u64::from(!keeps), "{filter}");
     }
     Ok(())
 }
