@@ -1,6 +1,6 @@
 -- What each field of the arguments is, by what a parsed line holds under the id of its option. An entry is an id with the
 -- texts of its uses, as `clap` answers them.
-use Rattle.std.specs.Prelude.{◌≡◌, is_some, ◌<◌, ◌^◌, ℕ, Bool, true, false, List, [], Option, Some, None, codes, map, option_map, option_and_then, unwrap_or, if◌then◌else◌}
+use Rattle.std.specs.Prelude.{◌≡◌, is_some, ◌<◌, ◌^◌, ℕ, Bool, true, false, List, [], ◌∷◌, find, Option, Some, None, codes, map, option_map, option_and_then, unwrap_or, if◌then◌else◌}
 use Rattle.std.specs.Str.{bytes_eq}
 use Rattle.std.specs.Str.Parse.{IsNumeral, digits_value, without_leading_plus}
 use Rattle.std.specs.String.{string_bytes}
@@ -37,11 +37,19 @@ color_named t = if bytes_eq t (codes "auto") then Some Auto
     else (if bytes_eq t (codes "always") then Some Always
     else (if bytes_eq t (codes "never") then Some Never else None))
 
--- the format of this name (the Rust crate's)
+-- the name of a format (the Rust crate's)
+abbrev pub format_name : FormatSetting → List ℕ
+format_name Pretty = codes "pretty"
+format_name Terse = codes "terse"
+format_name Json = codes "json"
+
+-- the names of all formats
+abbrev pub format_names : List (List ℕ)
+format_names = format_name Pretty ∷ format_name Terse ∷ format_name Json ∷ []
+
+-- the format of this name
 abbrev pub format_named : List ℕ → Option FormatSetting
-format_named t = if bytes_eq t (codes "pretty") then Some Pretty
-    else (if bytes_eq t (codes "terse") then Some Terse
-    else (if bytes_eq t (codes "json") then Some Json else None))
+format_named t = find (λ f. bytes_eq t (format_name f)) (Pretty ∷ Terse ∷ Json ∷ [])
 
 -- the one thing that `-Z` may ask for (the Rust crate's)
 abbrev pub unstable_named : List ℕ → Option UnstableFlags
@@ -77,7 +85,7 @@ pub record IsReadFrom (f : List Row) (a : Arguments) : Type 0 where
   pub filter : option_map string_bytes a.filter ≡ first_text f (codes "filter")
 
 -- each value that has a reader passed it: the field is absent only where no value was given
-pub record HasPassed (f : List Row) (a : Arguments) : Type 0 where
+pub record AreAccepted (f : List Row) (a : Arguments) : Type 0 where
   pub unstable : is_some (first_text f (codes "unstable")) ≡ is_some a.unstable_flags
   pub color : is_some (first_text f (codes "color")) ≡ is_some a.color
   pub format : is_some (first_text f (codes "format")) ≡ is_some a.format
