@@ -84,7 +84,7 @@ pub record IsReadFrom (f : List Row) (a : Arguments) : Type 0 where
   pub format : a.format ≡ option_and_then format_named (first_text f (codes "format"))
   pub filter : option_map string_bytes a.filter ≡ first_text f (codes "filter")
 
--- each value that has a reader passed it: the field is absent only where no value was given
+-- each value that has a reader was accepted: the field is absent only where no value was given
 pub record AreAccepted (f : List Row) (a : Arguments) : Type 0 where
   pub unstable : is_some (first_text f (codes "unstable")) ≡ is_some a.unstable_flags
   pub color : is_some (first_text f (codes "color")) ≡ is_some a.color

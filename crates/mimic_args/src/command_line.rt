@@ -1,5 +1,5 @@
 //! Reads arguments from a command line.
-ghost use Rattle.std.specs.Prelude.{◌≡◌, ◌<◌, IfOk, IsTrue, List, length, map};
+ghost use Rattle.std.specs.Prelude.{IsFalse, ◌≡◌, ◌<◌, IfOk, IsTrue, List, length, map};
 ghost use Rattle.clap.specs.Words.{Text};
 ghost use Rattle.clap.specs.declared.builder.value_parser.ValueParser.{ValueParser};
 ghost use Rattle.mimic_args.specs.CommandLine.{AreReaders, IsMeaningOf, harness_options, options_of};
@@ -75,6 +75,9 @@ impl Arguments {
         };
         let args = Arguments::from_matches(alloc, &matches)?;
         if !are_accepted(&matches, &args) {
+            return Err(refused_with(alloc, "a value can't be read")?);
+        }
+        if !is_free_of_conflicts(&matches, &args) {
             return Err(refused_with(alloc, "the arguments exclude one another")?);
         }
         Ok(args)
@@ -105,19 +108,32 @@ impl Arguments {
     }
 }
 
-// Whether what was declared to `clap` holds: each value passed its reader, and nothing excludes another.
+// Whether each value was accepted by its reader: the field is absent only where no value was given.
 fn are_accepted(matches: &ArgMatches<'_>, args: &Arguments) -> bool
-    ensures { IsTrue result → AreAccepted (entries_of matches.now) args.now × IsFreeOfConflicts (entries_of matches.now) args.now }
+    ensures yes { IsTrue result → AreAccepted (entries_of matches.now) args.now }
+    ensures no { IsFalse result → AreAccepted (entries_of matches.now) args.now → ⊥ }
 {
-    let is_format = text_under(matches, "format").is_some();
-    if args.test && args.bench || args.quiet && is_format {
+    if text_under(matches, "unstable").is_some() != args.unstable_flags.is_some() {
         return false;
     }
-    let is_read = is_format == args.format.is_some();
-    let is_named = text_under(matches, "unstable").is_some() == args.unstable_flags.is_some();
-    let is_color = text_under(matches, "color").is_some() == args.color.is_some();
-    let is_number = text_under(matches, "test-threads").is_some() == args.test_threads.is_some();
-    is_read && is_named && is_color && is_number
+    if text_under(matches, "color").is_some() != args.color.is_some() {
+        return false;
+    }
+    if text_under(matches, "format").is_some() != args.format.is_some() {
+        return false;
+    }
+    text_under(matches, "test-threads").is_some() == args.test_threads.is_some()
+}
+
+// Whether nothing is asked that excludes another.
+fn is_free_of_conflicts(matches: &ArgMatches<'_>, args: &Arguments) -> bool
+    ensures yes { IsTrue result → IsFreeOfConflicts (entries_of matches.now) args.now }
+    ensures no { IsFalse result → IsFreeOfConflicts (entries_of matches.now) args.now → ⊥ }
+{
+    if args.test && args.bench {
+        return false;
+    }
+    !(args.quiet && text_under(matches, "format").is_some())
 }
 
 fn refused_with(alloc: Global, text: &str) -> Result<ArgumentsError, AllocError> {

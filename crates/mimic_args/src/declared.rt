@@ -83,7 +83,7 @@ pub(super) fn unstable<'a>(alloc: Global) -> Arg<'a>
     ensures local { result.global ≡ false }
 {
     let arg = Arg::new(alloc, "unstable").short('Z').value_name("FLAG");
-    let help = "Allow what is unstable: unstable-options (no effect)";
+    let help = "Unstable options (no effect)";
     one_of(arg.help(help), UNSTABLE.as_slice())
 }
 
@@ -116,7 +116,7 @@ pub(super) fn color<'a>(alloc: Global) -> Arg<'a>
     ensures declared { (p : ValueParser) × TakesOnly color_names p × (declared_of result ≡ read_by p (alone (option_rule (codes "color")))) }
     ensures local { result.global ≡ false }
 {
-    let help = "When the report has colors: auto, always or never";
+    let help = "When to use colors";
     one_of(option(alloc, "color", "WHEN", help), COLORS.as_slice())
 }
 
@@ -124,7 +124,7 @@ pub(super) fn format<'a>(alloc: Global) -> Arg<'a>
     ensures declared { (p : ValueParser) × TakesOnly format_names p × (declared_of result ≡ read_by p (alone (option_rule (codes "format")))) }
     ensures local { result.global ≡ false }
 {
-    let help = "Format of the report: pretty, terse (one character for each test) or json";
+    let help = "How to write the report";
     one_of(option(alloc, "format", "FORMAT", help), FORMATS.as_slice())
 }
 

@@ -13,14 +13,15 @@ returns g c =
     let words = map g.S.AsStr.text c.args.words.now in
     let rows = (c.in-Ok.ensures.matches (ap is_simple app ∙ harness_is_simple made.0 made.1 made.2)).0
     ∙ ap (λ (a : App). matches_of a words) app in
-    let accepted = c.are_accepted.ensures (search rules) in (
+    let accepted = c.are_accepted.ensures.yes (search rules) in
+    let is_free = c.is_free_of_conflicts.ensures.yes (search rules) in (
       made.0,
       made.1,
       made.2,
       made.3,
       (
         subst (λ (r : List Row). IsReadFrom r args) rows c.in_ok-args.ensures,
-        subst (λ (r : List Row). AreAccepted r args) rows accepted.0,
-        subst (λ (r : List Row). IsFreeOfConflicts r args) rows accepted.1,
+        subst (λ (r : List Row). AreAccepted r args) rows accepted,
+        subst (λ (r : List Row). IsFreeOfConflicts r args) rows is_free,
       ),
     )
