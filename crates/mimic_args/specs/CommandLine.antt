@@ -9,36 +9,39 @@ use Rattle.clap.specs.declared.builder.arg.Arg.{Arg}
 use Rattle.clap.specs.declared.builder.command.Command.{Command}
 use Rattle.clap.specs.declared.builder.value_parser.ValueParser.{ValueParser}
 use Rattle.clap.specs.declared.builder.value_parser.ValueParser.TheVariants as vp
-use Rattle.mimic_args.specs.Matched.{IsReadFrom, AreAccepted, IsFreeOfConflicts, format_names}
+use Rattle.mimic_args.specs.Matched.{IsReadFrom, AreAccepted, IsFreeOfConflicts, color_names, format_names, unstable_names}
 use Rattle.mimic_args.specs.declared.Arguments.{Arguments}
 
--- what is declared of an argument: how a parse reads it, and the ids of those that no line may use beside it
+-- what is declared of an argument: how a parse reads it, and the ids of those that no line may use beside it (our own)
 abbrev pub Declared : Type 0
 Declared = Rule × List Text
 
+-- that of an argument (`clap`'s)
 abbrev pub declared_of : Arg → Declared
 declared_of a = (rule_of a, texts a.conflicts.items)
 
 -- what is declared of a command: how a parse reads it, and each two of its arguments that exclude one another, by their ids
+-- (our own)
 abbrev pub Options : Type 0
 Options = App × List (Text × Text)
 
--- an id beside each of the others
+-- an id beside each of the others (our own)
 abbrev pub pairs : Text → List Text → List (Text × Text)
 pairs id others = map (λ other. (id, other)) others
 
+-- that of a command (`clap`'s)
 abbrev pub options_of : Command → Options
 options_of c = (app_of c, flat_map (λ a. pairs a.id.now (texts a.conflicts.items)) (args_of c))
 
--- an argument that excludes no other
+-- an argument that excludes no other (our own)
 abbrev pub alone : Rule → Declared
 alone r = (r, [])
 
--- the same argument, where it excludes one more: a line that uses both is refused
+-- the same argument, where it excludes one more: a line that uses both is refused (`clap`'s)
 abbrev pub excluding : Declared → Text → Declared
 excluding d other = (record d.0 { is_free = false }, d.1 ++ other ∷ [])
 
--- the same argument, where its values are read by this reader
+-- the same argument, where its values are read by this reader (`clap`'s)
 abbrev pub read_by : ValueParser → Declared → Declared
 read_by p d = (record d.0 { parser = Some p }, d.1)
 
@@ -94,19 +97,11 @@ harness_options unstable color format = plus (plus (plus (plus (plus (plus (plus
     (read_by format (alone (option_rule (codes "format")))))
     (alone filter_rule)
 
--- the reader takes these texts and no other
+-- the reader takes these texts and no other (`clap`'s)
 abbrev pub TakesOnly : List Text → ValueParser → Type 0
 TakesOnly names p = (listed : Bor (List (Bor Text))) × (p ≡ vp.Names listed) × (texts listed.now ≡ names)
 
--- the values of `-Z` (the Rust crate's)
-abbrev pub unstable_names : List Text
-unstable_names = codes "unstable-options" ∷ []
-
--- the values of `--color` (the Rust crate's)
-abbrev pub color_names : List Text
-color_names = codes "auto" ∷ codes "always" ∷ codes "never" ∷ []
-
--- the readers of the values of `-Z`, `--color` and `--format`
+-- the readers of the values of `-Z`, `--color` and `--format` (the Rust crate's)
 pub record AreReaders (u c f : ValueParser) : Type 0 where
   pub unstable : TakesOnly unstable_names u
   pub color : TakesOnly color_names c

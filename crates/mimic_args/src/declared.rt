@@ -2,8 +2,8 @@
 ghost use Rattle.std.specs.Prelude.{◌≡◌, false, IfOk, codes};
 ghost use Rattle.clap.specs.Walk.{texts};
 ghost use Rattle.clap.specs.declared.builder.value_parser.ValueParser.{ValueParser};
-ghost use Rattle.mimic_args.specs.CommandLine.{TakesOnly, alone, color_names, declared_of, excluding, filter_rule, flag_options, flag_rule, option_rule, options_of, plus, read_by, skip_rule, threads_rule, unstable_names, unstable_rule};
-ghost use Rattle.mimic_args.specs.Matched.{format_names};
+ghost use Rattle.mimic_args.specs.CommandLine.{TakesOnly, alone, declared_of, excluding, filter_rule, flag_options, flag_rule, option_rule, options_of, plus, read_by, skip_rule, threads_rule, unstable_rule};
+ghost use Rattle.mimic_args.specs.Matched.{color_names, format_names, unstable_names};
 
 use crate::formats::{JSON, PRETTY, TERSE};
 use clap::{Arg, ArgAction, Command, value_parser};
@@ -116,7 +116,7 @@ pub(super) fn color<'a>(alloc: Global) -> Arg<'a>
     ensures declared { (p : ValueParser) × TakesOnly color_names p × (declared_of result ≡ read_by p (alone (option_rule (codes "color")))) }
     ensures local { result.global ≡ false }
 {
-    let help = "When to use colors";
+    let help = "When to use colours";
     one_of(option(alloc, "color", "WHEN", help), COLORS.as_slice())
 }
 

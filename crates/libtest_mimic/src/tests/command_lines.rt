@@ -3,7 +3,8 @@
 use crate::{Arguments, ArgumentsError, ColorSetting, FormatSetting, UnknownFormat, UnstableFlags};
 use std::test::Fail;
 
-// Each line is two columns, after two spaces: how an option is written, and what it does.
+// Worked by hand: after two spaces, how an option is written, in as many columns as the longest and two more, and then
+// what it does.
 const HELP: &str = "Usage: harness [OPTIONS] [FILTER]
 
 Arguments:
@@ -23,7 +24,7 @@ Options:
       --test-threads <THREADS>  Number of threads that run tests (no effect yet)
       --logfile <PATH>          Write the report to the file PATH
       --skip <FILTER>           Skip tests whose full name contains FILTER; may be given many times
-      --color <WHEN>            When to use colors [possible values: auto, always, never]
+      --color <WHEN>            When to use colours [possible values: auto, always, never]
       --format <FORMAT>         How to write the report [possible values: pretty, terse, json]
   -h, --help                    Print help
 ";
