@@ -191,6 +191,7 @@ fn reads_each_value(rt: HostRuntime) -> Result<(), Fail> {
     }
     let args = Arguments::from_iter(alloc, &["harness", "-Zunstable-options", "--skip=-x"])?;
     assert!(rt; args.unstable_flags == Some(UnstableFlags::UnstableOptions));
+    assert_eq!(rt; args.skip.len(), 1);
     assert_eq!(rt; args.skip[0].as_str(), "-x");
     Ok(())
 }
