@@ -1,2 +1,4 @@
 //! What is asked of a run.
-pub use mimic_args::{Arguments, ArgumentsError, ColorSetting, FormatSetting, UnstableFlags};
+pub use mimic_args::{
+    Arguments, ArgumentsError, ColorSetting, FormatSetting, UnknownFormat, UnstableFlags,
+};

@@ -11,7 +11,9 @@ pub mod select;
 mod stopwatch;
 pub mod text;
 
-pub use mimic_args::{Arguments, ArgumentsError, ColorSetting, FormatSetting, UnstableFlags};
+pub use mimic_args::{
+    Arguments, ArgumentsError, ColorSetting, FormatSetting, UnknownFormat, UnstableFlags,
+};
 pub use mimic_printer::{Sink, WriteFault};
 pub use mimic_trial::{
     BenchRunner, Conclusion, Failed, Measurement, Outcome, Runner, Task, TestInfo, TestRunner,

@@ -1,2 +1,2 @@
-pub mod Excluding
+pub mod Declaring
 pub mod SimpleLine

@@ -1,12 +1,53 @@
 -- The command line of a harness, as `clap` reads it: the options with their spellings, and what a line means.
-use Rattle.std.specs.Prelude.{false, List, Some, codes}
-use Rattle.clap.specs.Walk.{Rule, Text}
-use Rattle.clap.specs.Simple.{App, matches_of, new_app, new_rule, with_rule}
+use Rattle.std.specs.Prelude.{◌≡◌, ◌++◌, ◌∷◌, [], false, flat_map, List, map, Some, codes}
+use Rattle.std.specs.Borrow.{Bor}
+use Rattle.clap.specs.Words.{args_of}
+use Rattle.clap.specs.Walk.{Rule, Text, rule_of, texts}
+use Rattle.clap.specs.Simple.{App, app_of, matches_of, new_app, new_rule, with_rule}
 use Rattle.clap.specs.declared.builder.action.ArgAction.TheVariants.{SetTrue, Append}
+use Rattle.clap.specs.declared.builder.arg.Arg.{Arg}
+use Rattle.clap.specs.declared.builder.command.Command.{Command}
 use Rattle.clap.specs.declared.builder.value_parser.ValueParser.{ValueParser}
 use Rattle.clap.specs.declared.builder.value_parser.ValueParser.TheVariants as vp
-use Rattle.mimic_args.specs.Matched.{IsReadFrom, HasPassed, IsFreeOfConflicts}
+use Rattle.mimic_args.specs.Matched.{IsReadFrom, AreAccepted, IsFreeOfConflicts, color_names, format_names, unstable_names}
 use Rattle.mimic_args.specs.declared.Arguments.{Arguments}
+
+-- what is declared of an argument: how a parse reads it, and the ids of those that no line may use beside it (our own)
+abbrev pub Declared : Type 0
+Declared = Rule × List Text
+
+-- that of an argument (`clap`'s)
+abbrev pub declared_of : Arg → Declared
+declared_of a = (rule_of a, texts a.conflicts.items)
+
+-- what is declared of a command: how a parse reads it, and each two of its arguments that exclude one another, by their ids
+-- (our own)
+abbrev pub Options : Type 0
+Options = App × List (Text × Text)
+
+-- an id beside each of the others (our own)
+abbrev pub pairs : Text → List Text → List (Text × Text)
+pairs id others = map (λ other. (id, other)) others
+
+-- that of a command (`clap`'s)
+abbrev pub options_of : Command → Options
+options_of c = (app_of c, flat_map (λ a. pairs a.id.now (texts a.conflicts.items)) (args_of c))
+
+-- an argument that excludes no other (our own)
+abbrev pub alone : Rule → Declared
+alone r = (r, [])
+
+-- the same argument, where it excludes one more: a line that uses both is refused (`clap`'s)
+abbrev pub excluding : Declared → Text → Declared
+excluding d other = (record d.0 { is_free = false }, d.1 ++ other ∷ [])
+
+-- the same argument, where its values are read by this reader (`clap`'s)
+abbrev pub read_by : ValueParser → Declared → Declared
+read_by p d = (record d.0 { parser = Some p }, d.1)
+
+-- a command with one more argument
+unfoldable pub plus : Options → Declared → Options
+plus c a = (with_rule c.0 a.0, c.1 ++ pairs a.0.id a.1)
 
 -- a flag `--name`
 abbrev pub flag_rule : Text → Rule
@@ -32,36 +73,44 @@ skip_rule = record (option_rule (codes "skip")) { action = Some Append }
 abbrev pub filter_rule : Rule
 filter_rule = record (new_rule (codes "filter")) { value_names = 1 }
 
--- a command with one more argument
-unfoldable pub plus : App → Rule → App
-plus a r = with_rule a r
-
--- the same, where it excludes another option: a line that uses both is refused
-abbrev pub excluding : Rule → Rule
-excluding r = record r { is_free = false }
-
 -- the flags: `test` excludes `bench`, and `quiet`, also `-q`, excludes `format` (the Rust crate's)
-abbrev pub flags_app : App
-flags_app = plus (plus (plus (plus (plus (plus (plus (plus (plus (new_app (codes "harness"))
-    (flag_rule (codes "include-ignored"))) (flag_rule (codes "ignored"))) (excluding (flag_rule (codes "test"))))
-    (flag_rule (codes "bench"))) (flag_rule (codes "list"))) (flag_rule (codes "nocapture")))
-    (flag_rule (codes "show-output"))) (flag_rule (codes "exact")))
-    (excluding (record (flag_rule (codes "quiet")) { short = Some 113 }))
+abbrev pub flag_options : Options
+flag_options = plus (plus (plus (plus (plus (plus (plus (plus (plus (new_app (codes "harness"), [])
+    (alone (flag_rule (codes "include-ignored"))))
+    (alone (flag_rule (codes "ignored"))))
+    (excluding (alone (flag_rule (codes "test"))) (codes "bench")))
+    (alone (flag_rule (codes "bench"))))
+    (alone (flag_rule (codes "list"))))
+    (alone (flag_rule (codes "nocapture"))))
+    (alone (flag_rule (codes "show-output"))))
+    (alone (flag_rule (codes "exact"))))
+    (excluding (alone (record (flag_rule (codes "quiet")) { short = Some 113 })) (codes "format"))
 
 -- all options, by the readers of the values of `-Z`, `--color` and `--format` (the Rust crate's)
-abbrev pub harness_app : ValueParser → ValueParser → ValueParser → App
-harness_app unstable color format =
-    plus (plus (plus (plus (plus (plus (plus flags_app (record unstable_rule { parser = Some unstable }))
-    threads_rule)
-    (option_rule (codes "logfile")))
-    skip_rule)
-    (record (option_rule (codes "color")) { parser = Some color }))
-    (record (option_rule (codes "format")) { parser = Some format }))
-    filter_rule
+abbrev pub harness_options : ValueParser → ValueParser → ValueParser → Options
+harness_options unstable color format = plus (plus (plus (plus (plus (plus (plus flag_options
+    (read_by unstable (alone unstable_rule)))
+    (alone threads_rule))
+    (alone (option_rule (codes "logfile"))))
+    (alone skip_rule))
+    (read_by color (alone (option_rule (codes "color")))))
+    (read_by format (alone (option_rule (codes "format")))))
+    (alone filter_rule)
+
+-- the reader takes these texts and no other (`clap`'s)
+abbrev pub TakesOnly : List Text → ValueParser → Type 0
+TakesOnly names p = (listed : Bor (List (Bor Text))) × (p ≡ vp.Names listed) × (texts listed.now ≡ names)
+
+-- the readers of the values of `-Z`, `--color` and `--format` (the Rust crate's)
+pub record AreReaders (u c f : ValueParser) : Type 0 where
+  pub unstable : TakesOnly unstable_names u
+  pub color : TakesOnly color_names c
+  pub format : TakesOnly format_names f
 
 -- the arguments are what the line means: each field is what the words hold for its id, by `clap`'s own definition of what
--- words hold; every value passed its reader; and nothing is asked that excludes another
+-- words hold; every value was accepted; and nothing is asked that excludes another
 abbrev pub IsMeaningOf : List Text → Arguments → Type 0
 IsMeaningOf words a = (unstable : ValueParser) × (color : ValueParser) × (format : ValueParser)
-    × (let entries = matches_of (harness_app unstable color format) words in
-    IsReadFrom entries a × HasPassed entries a × IsFreeOfConflicts entries a)
+    × AreReaders unstable color format
+    × (let entries = matches_of (harness_options unstable color format).0 words in
+    IsReadFrom entries a × AreAccepted entries a × IsFreeOfConflicts entries a)

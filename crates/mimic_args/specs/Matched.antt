@@ -1,6 +1,6 @@
 -- What each field of the arguments is, by what a parsed line holds under the id of its option. An entry is an id with the
 -- texts of its uses, as `clap` answers them.
-use Rattle.std.specs.Prelude.{◌≡◌, is_some, ◌<◌, ◌^◌, ℕ, Bool, true, false, List, [], Option, Some, None, codes, map, option_map, option_and_then, unwrap_or, if◌then◌else◌}
+use Rattle.std.specs.Prelude.{◌≡◌, is_some, ◌<◌, ◌^◌, ℕ, Bool, true, false, List, [], ◌∷◌, find, Option, Some, None, codes, map, option_map, option_and_then, unwrap_or}
 use Rattle.std.specs.Str.{bytes_eq}
 use Rattle.std.specs.Str.Parse.{IsNumeral, digits_value, without_leading_plus}
 use Rattle.std.specs.String.{string_bytes}
@@ -31,21 +31,45 @@ texts_of f id = unwrap_or (all_of id f) []
 abbrev pub is_set : List Row → List ℕ → Bool
 is_set f id = option_map_or (λ t. bytes_eq t (codes "true")) (first_text f id) false
 
--- the setting of this name (the Rust crate's)
+-- the name of a setting of colours (the Rust crate's)
+abbrev pub color_name : ColorSetting → List ℕ
+color_name Auto = codes "auto"
+color_name Always = codes "always"
+color_name Never = codes "never"
+
+-- the names of all settings of colours (the Rust crate's)
+abbrev pub color_names : List (List ℕ)
+color_names = color_name Auto ∷ color_name Always ∷ color_name Never ∷ []
+
+-- the setting of this name (our own, by the names above)
 abbrev pub color_named : List ℕ → Option ColorSetting
-color_named t = if bytes_eq t (codes "auto") then Some Auto
-    else (if bytes_eq t (codes "always") then Some Always
-    else (if bytes_eq t (codes "never") then Some Never else None))
+color_named t = find (λ s. bytes_eq t (color_name s)) (Auto ∷ Always ∷ Never ∷ [])
 
--- the format of this name (the Rust crate's)
+-- the name of a format (the Rust crate's)
+abbrev pub format_name : FormatSetting → List ℕ
+format_name Pretty = codes "pretty"
+format_name Terse = codes "terse"
+format_name Json = codes "json"
+
+-- the names of all formats (the Rust crate's)
+abbrev pub format_names : List (List ℕ)
+format_names = format_name Pretty ∷ format_name Terse ∷ format_name Json ∷ []
+
+-- the format of this name (our own, by the names above)
 abbrev pub format_named : List ℕ → Option FormatSetting
-format_named t = if bytes_eq t (codes "pretty") then Some Pretty
-    else (if bytes_eq t (codes "terse") then Some Terse
-    else (if bytes_eq t (codes "json") then Some Json else None))
+format_named t = find (λ f. bytes_eq t (format_name f)) (Pretty ∷ Terse ∷ Json ∷ [])
 
--- the one thing that `-Z` may ask for (the Rust crate's)
+-- the name of what `-Z` asks for (the Rust crate's)
+abbrev pub unstable_name : UnstableFlags → List ℕ
+unstable_name UnstableOptions = codes "unstable-options"
+
+-- the one name that `-Z` takes (the Rust crate's)
+abbrev pub unstable_names : List (List ℕ)
+unstable_names = unstable_name UnstableOptions ∷ []
+
+-- what `-Z` asks for by this name (our own, by the name above)
 abbrev pub unstable_named : List ℕ → Option UnstableFlags
-unstable_named t = if bytes_eq t (codes "unstable-options") then Some UnstableOptions else None
+unstable_named t = find (λ u. bytes_eq t (unstable_name u)) (UnstableOptions ∷ [])
 
 -- the text is a whole number below 2^64 in decimal; a plus may stand first (Rust's `usize::from_str`)
 abbrev pub IsNumber : List ℕ → Type 0
@@ -76,8 +100,8 @@ pub record IsReadFrom (f : List Row) (a : Arguments) : Type 0 where
   pub format : a.format ≡ option_and_then format_named (first_text f (codes "format"))
   pub filter : option_map string_bytes a.filter ≡ first_text f (codes "filter")
 
--- each value that has a reader passed it: the field is absent only where no value was given
-pub record HasPassed (f : List Row) (a : Arguments) : Type 0 where
+-- each value that has a reader was accepted: the field is absent only where no value was given
+pub record AreAccepted (f : List Row) (a : Arguments) : Type 0 where
   pub unstable : is_some (first_text f (codes "unstable")) ≡ is_some a.unstable_flags
   pub color : is_some (first_text f (codes "color")) ≡ is_some a.color
   pub format : is_some (first_text f (codes "format")) ≡ is_some a.format

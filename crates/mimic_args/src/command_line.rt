@@ -1,9 +1,9 @@
 //! Reads arguments from a command line.
-ghost use Rattle.std.specs.Prelude.{◌≡◌, ◌<◌, IfOk, IsTrue, List, length, map};
-ghost use Rattle.clap.specs.Words.{Row, app_of};
+ghost use Rattle.std.specs.Prelude.{IsFalse, ◌≡◌, ◌<◌, IfOk, IsTrue, List, length, map};
+ghost use Rattle.clap.specs.Words.{Text};
 ghost use Rattle.clap.specs.declared.builder.value_parser.ValueParser.{ValueParser};
-ghost use Rattle.mimic_args.specs.CommandLine.{IsMeaningOf, harness_app};
-ghost use Rattle.mimic_args.specs.Matched.{HasPassed, IsFreeOfConflicts, IsReadFrom, entries_of};
+ghost use Rattle.mimic_args.specs.CommandLine.{AreReaders, IsMeaningOf, harness_options, options_of};
+ghost use Rattle.mimic_args.specs.Matched.{AreAccepted, IsFreeOfConflicts, IsReadFrom, entries_of};
 
 use crate::declared::{
     color, filter, format, logfile, skip, test_threads, unstable, with, with_flags,
@@ -24,7 +24,7 @@ impl Arguments {
     /// `--quiet` with `--format`.
     pub fn command<'a>(alloc: Global) -> Result<Command<'a>, AllocError>
         ensures { IfOk result (λ r. (u : ValueParser) × (c : ValueParser) × (f : ValueParser)
-            × (app_of r ≡ harness_app u c f)) }
+            × AreReaders u c f × (options_of r ≡ harness_options u c f)) }
     {
         let c = with_flags(alloc)?;
         let c = with(c, unstable(alloc))?;
@@ -71,11 +71,14 @@ impl Arguments {
     {
         let matches = match Arguments::command(alloc)?.try_get_matches_from(words) {
             Ok(matches) => matches,
-            Err(error) => return Err(refusal(alloc, &error)?),
+            Err(error) => return Err(error_of(alloc, &error)?),
         };
         let args = Arguments::from_matches(alloc, &matches)?;
-        if !have_passed(&matches, &args) {
-            return Err(refused(alloc, "the arguments exclude one another")?);
+        if !are_accepted(&matches, &args) {
+            return Err(refused_with(alloc, "a value can't be read")?);
+        }
+        if !is_free_of_conflicts(&matches, &args) {
+            return Err(refused_with(alloc, "the arguments exclude one another")?);
         }
         Ok(args)
     }
@@ -88,43 +91,56 @@ impl Arguments {
         rt: &R,
         alloc: Global,
     ) -> Result<Arguments, ArgumentsError>
-        ensures { IfOk result (λ a. (f : List Row) × IsReadFrom f a × HasPassed f a × IsFreeOfConflicts f a) }
+        ensures { IfOk result (λ a. (line : List Text) × IsMeaningOf line a) }
     {
         let args = match env::args(rt) {
             Ok(args) => args,
             Err(error) if error.kind() == io::ErrorKind::OutOfMemory => {
                 return Err(ArgumentsError::OutOfMemory);
             }
-            Err(_) => return Err(refused(alloc, "cannot read the arguments")?),
+            Err(_) => return Err(refused_with(alloc, "cannot read the arguments")?),
         };
         let words: Vec<String> = args.collect(alloc)?;
         if words.is_empty() {
-            return Err(refused(alloc, "cannot read the arguments")?);
+            return Err(refused_with(alloc, "cannot read the arguments")?);
         }
         Arguments::from_iter(alloc, words.as_slice())
     }
 }
 
-// Whether what was declared to `clap` holds: each value passed its reader, and nothing excludes another.
-fn have_passed(matches: &ArgMatches<'_>, args: &Arguments) -> bool
-    ensures { IsTrue result → HasPassed (entries_of matches.now) args.now × IsFreeOfConflicts (entries_of matches.now) args.now }
+// Whether each value was accepted by its reader: the field is absent only where no value was given.
+fn are_accepted(matches: &ArgMatches<'_>, args: &Arguments) -> bool
+    ensures yes { IsTrue result → AreAccepted (entries_of matches.now) args.now }
+    ensures no { IsFalse result → AreAccepted (entries_of matches.now) args.now → ⊥ }
 {
-    let is_format = text_under(matches, "format").is_some();
-    if args.test && args.bench || args.quiet && is_format {
+    if text_under(matches, "unstable").is_some() != args.unstable_flags.is_some() {
         return false;
     }
-    let is_read = is_format == args.format.is_some();
-    let is_named = text_under(matches, "unstable").is_some() == args.unstable_flags.is_some();
-    let is_color = text_under(matches, "color").is_some() == args.color.is_some();
-    let is_number = text_under(matches, "test-threads").is_some() == args.test_threads.is_some();
-    is_read && is_named && is_color && is_number
+    if text_under(matches, "color").is_some() != args.color.is_some() {
+        return false;
+    }
+    if text_under(matches, "format").is_some() != args.format.is_some() {
+        return false;
+    }
+    text_under(matches, "test-threads").is_some() == args.test_threads.is_some()
 }
 
-fn refused(alloc: Global, text: &str) -> Result<ArgumentsError, AllocError> {
+// Whether nothing is asked that excludes another.
+fn is_free_of_conflicts(matches: &ArgMatches<'_>, args: &Arguments) -> bool
+    ensures yes { IsTrue result → IsFreeOfConflicts (entries_of matches.now) args.now }
+    ensures no { IsFalse result → IsFreeOfConflicts (entries_of matches.now) args.now → ⊥ }
+{
+    if args.test && args.bench {
+        return false;
+    }
+    !(args.quiet && text_under(matches, "format").is_some())
+}
+
+fn refused_with(alloc: Global, text: &str) -> Result<ArgumentsError, AllocError> {
     Ok(ArgumentsError::Refused(String::from_str(alloc, text)?))
 }
 
-fn refusal(alloc: Global, error: &clap::Error) -> Result<ArgumentsError, AllocError> {
+fn error_of(alloc: Global, error: &clap::Error) -> Result<ArgumentsError, AllocError> {
     match error.kind() {
         ErrorKind::OutOfMemory => Ok(ArgumentsError::OutOfMemory),
         ErrorKind::DisplayHelp => Ok(ArgumentsError::Help(error.to_string(alloc)?)),

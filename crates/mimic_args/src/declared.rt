@@ -1,54 +1,43 @@
 //! The options of a harness, as they are declared to `clap`.
-ghost use Rattle.std.specs.Prelude.{◌≡◌, false, Some, IfOk, codes};
-ghost use Rattle.clap.specs.Words.{app_of, rule_of};
+ghost use Rattle.std.specs.Prelude.{◌≡◌, false, IfOk, codes};
+ghost use Rattle.clap.specs.Walk.{texts};
 ghost use Rattle.clap.specs.declared.builder.value_parser.ValueParser.{ValueParser};
-ghost use Rattle.mimic_args.specs.CommandLine.{excluding, filter_rule, flag_rule, flags_app, option_rule, plus, skip_rule, threads_rule, unstable_rule};
+ghost use Rattle.mimic_args.specs.CommandLine.{TakesOnly, alone, declared_of, excluding, filter_rule, flag_options, flag_rule, option_rule, options_of, plus, read_by, skip_rule, threads_rule, unstable_rule};
+ghost use Rattle.mimic_args.specs.Matched.{color_names, format_names, unstable_names};
 
+use crate::formats::{JSON, PRETTY, TERSE};
 use clap::{Arg, ArgAction, Command, value_parser};
 use std::alloc::{AllocError, Global};
 
 static COLORS: [&str; 3] = ["auto", "always", "never"];
 
-static FORMATS: [&str; 3] = ["pretty", "terse", "json"];
+static FORMATS: [&str; 3] = [PRETTY, TERSE, JSON];
 
 static UNSTABLE: [&str; 1] = ["unstable-options"];
 
 // A command with the flags alone.
 pub(super) fn with_flags<'a>(alloc: Global) -> Result<Command<'a>, AllocError>
-    ensures { IfOk result (λ r. app_of r ≡ flags_app) }
+    ensures { IfOk result (λ r. options_of r ≡ flag_options) }
 {
-    let test = flag(alloc, "test", "Run tests, and ignore benchmarks");
-    let quiet = flag(alloc, "quiet", "Report in the terse format").short('q');
-    let test = excluded(test, "bench")?;
+    let include_ignored = "Run ignored tests as well";
+    let test = "Run tests; benchmarks count as ignored";
+    let bench = "Run and measure benchmarks; tests count as ignored";
+    let list = "List tests and benchmarks, and run none";
+    let nocapture = "Print output of tests at once (no effect: it is never held back)";
+    let show_output = "Print output of tests that pass (no effect: it is never held back)";
+    let exact = "Match filters against whole names only";
+    let test = excluded(flag(alloc, "test", test), "bench")?;
+    let quiet = flag(alloc, "quiet", "Use the terse format").short('q');
     let quiet = excluded(quiet, "format")?;
     let c = Command::new(alloc, "harness");
-    let c = with(c, flag(alloc, "include-ignored", "Run ignored tests too"))?;
-    let c = with(c, flag(alloc, "ignored", "Run ignored tests alone"))?;
+    let c = with(c, flag(alloc, "include-ignored", include_ignored))?;
+    let c = with(c, flag(alloc, "ignored", "Run only ignored tests"))?;
     let c = with(c, test)?;
-    let c = with(
-        c,
-        flag(alloc, "bench", "Measure benchmarks, and ignore tests"),
-    )?;
-    let c = with(
-        c,
-        flag(alloc, "list", "List tests and benchmarks, and run none"),
-    )?;
-    let c = with(
-        c,
-        flag(alloc, "nocapture", "Has no effect: output isn't captured"),
-    )?;
-    let c = with(
-        c,
-        flag(alloc, "show-output", "Has no effect: output isn't captured"),
-    )?;
-    let c = with(
-        c,
-        flag(
-            alloc,
-            "exact",
-            "Let FILTER and --skip match whole names alone",
-        ),
-    )?;
+    let c = with(c, flag(alloc, "bench", bench))?;
+    let c = with(c, flag(alloc, "list", list))?;
+    let c = with(c, flag(alloc, "nocapture", nocapture))?;
+    let c = with(c, flag(alloc, "show-output", show_output))?;
+    let c = with(c, flag(alloc, "exact", exact))?;
     let c = with(c, quiet)?;
     Ok(c)
 }
@@ -56,21 +45,21 @@ pub(super) fn with_flags<'a>(alloc: Global) -> Result<Command<'a>, AllocError>
 // The command with one more argument.
 pub(super) fn with<'a>(command: Command<'a>, arg: Arg<'a>) -> Result<Command<'a>, AllocError>
     requires { arg.global ≡ false }
-    ensures { IfOk result (λ r. app_of r ≡ plus (app_of command.entry) (rule_of arg.entry)) }
+    ensures { IfOk result (λ r. options_of r ≡ plus (options_of command.entry) (declared_of arg.entry)) }
 {
     command.arg(arg)
 }
 
 // The argument, which no line may use beside the other one.
 fn excluded<'a>(arg: Arg<'a>, other: &'a str) -> Result<Arg<'a>, AllocError>
-    ensures rule { IfOk result (λ r. rule_of r ≡ excluding (rule_of arg.entry)) }
+    ensures declared { IfOk result (λ r. declared_of r ≡ excluding (declared_of arg.entry) other.entry.now) }
     ensures local { IfOk result (λ r. r.global ≡ arg.entry.global) }
 {
     arg.conflicts_with(other)
 }
 
 fn flag<'a>(alloc: Global, name: &'a str, help: &'a str) -> Arg<'a>
-    ensures rule { rule_of result ≡ flag_rule name.entry.now }
+    ensures declared { declared_of result ≡ alone (flag_rule name.entry.now) }
     ensures local { result.global ≡ false }
 {
     Arg::new(alloc, name)
@@ -80,7 +69,7 @@ fn flag<'a>(alloc: Global, name: &'a str, help: &'a str) -> Arg<'a>
 }
 
 fn option<'a>(alloc: Global, name: &'a str, value: &'a str, help: &'a str) -> Arg<'a>
-    ensures rule { rule_of result ≡ option_rule name.entry.now }
+    ensures declared { declared_of result ≡ alone (option_rule name.entry.now) }
     ensures local { result.global ≡ false }
 {
     Arg::new(alloc, name)
@@ -90,82 +79,66 @@ fn option<'a>(alloc: Global, name: &'a str, value: &'a str, help: &'a str) -> Ar
 }
 
 pub(super) fn unstable<'a>(alloc: Global) -> Arg<'a>
-    ensures rule { (p : ValueParser) × (rule_of result ≡ record unstable_rule { parser = Some p }) }
+    ensures declared { (p : ValueParser) × TakesOnly unstable_names p × (declared_of result ≡ read_by p (alone unstable_rule)) }
     ensures local { result.global ≡ false }
 {
-    let arg = Arg::new(alloc, "unstable").short('Z');
-    one_of(
-        arg.value_name("FLAG").help("Has no effect"),
-        UNSTABLE.as_slice(),
-    )
+    let arg = Arg::new(alloc, "unstable").short('Z').value_name("FLAG");
+    let help = "Unstable options (no effect)";
+    one_of(arg.help(help), UNSTABLE.as_slice())
 }
 
 pub(super) fn test_threads<'a>(alloc: Global) -> Arg<'a>
-    ensures rule { rule_of result ≡ threads_rule }
+    ensures declared { declared_of result ≡ alone threads_rule }
     ensures local { result.global ≡ false }
 {
-    let arg = option(
-        alloc,
-        "test-threads",
-        "THREADS",
-        "Run trials on so many threads",
-    );
+    let help = "Number of threads that run tests (no effect yet)";
+    let arg = option(alloc, "test-threads", "THREADS", help);
     arg.value_parser(value_parser!(usize))
 }
 
 pub(super) fn logfile<'a>(alloc: Global) -> Arg<'a>
-    ensures rule { rule_of result ≡ option_rule (codes "logfile") }
+    ensures declared { declared_of result ≡ alone (option_rule (codes "logfile")) }
     ensures local { result.global ≡ false }
 {
-    option(alloc, "logfile", "PATH", "Write the report to this file")
+    let help = "Write the report to the file PATH";
+    option(alloc, "logfile", "PATH", help)
 }
 
 pub(super) fn skip<'a>(alloc: Global) -> Arg<'a>
-    ensures rule { rule_of result ≡ skip_rule }
+    ensures declared { declared_of result ≡ alone skip_rule }
     ensures local { result.global ≡ false }
 {
-    let help = "Leave out what has FILTER in its full name; may come many times";
+    let help = "Skip tests whose full name contains FILTER; may be given many times";
     option(alloc, "skip", "FILTER", help).action(ArgAction::Append)
 }
 
 pub(super) fn color<'a>(alloc: Global) -> Arg<'a>
-    ensures rule { (p : ValueParser) × (rule_of result ≡ record (option_rule (codes "color")) { parser = Some p }) }
+    ensures declared { (p : ValueParser) × TakesOnly color_names p × (declared_of result ≡ read_by p (alone (option_rule (codes "color")))) }
     ensures local { result.global ≡ false }
 {
-    let arg = option(
-        alloc,
-        "color",
-        "WHEN",
-        "Colour the report: auto, always or never",
-    );
-    one_of(arg, COLORS.as_slice())
+    let help = "When to use colours";
+    one_of(option(alloc, "color", "WHEN", help), COLORS.as_slice())
 }
 
 pub(super) fn format<'a>(alloc: Global) -> Arg<'a>
-    ensures rule { (p : ValueParser) × (rule_of result ≡ record (option_rule (codes "format")) { parser = Some p }) }
+    ensures declared { (p : ValueParser) × TakesOnly format_names p × (declared_of result ≡ read_by p (alone (option_rule (codes "format")))) }
     ensures local { result.global ≡ false }
 {
-    let arg = option(
-        alloc,
-        "format",
-        "FORMAT",
-        "Report in this format: pretty, terse or json",
-    );
-    one_of(arg, FORMATS.as_slice())
+    let help = "How to write the report";
+    one_of(option(alloc, "format", "FORMAT", help), FORMATS.as_slice())
 }
 
 pub(super) fn filter<'a>(alloc: Global) -> Arg<'a>
-    ensures rule { rule_of result ≡ filter_rule }
+    ensures declared { declared_of result ≡ alone filter_rule }
     ensures local { result.global ≡ false }
 {
-    Arg::new(alloc, "filter")
-        .value_name("FILTER")
-        .help("Run only what has FILTER in its full name, `[kind] name`")
+    let help = "Run only tests whose full name, `[kind] name`, contains FILTER";
+    Arg::new(alloc, "filter").value_name("FILTER").help(help)
 }
 
 // The argument, whose value is to be one of the names.
 fn one_of<'a>(arg: Arg<'a>, names: &'a [&'a str]) -> Arg<'a>
-    ensures rule { (p : ValueParser) × (rule_of result ≡ record (rule_of arg.entry) { parser = Some p }) }
+    ensures declared { (p : ValueParser) × TakesOnly (texts names.entry.now) p × (declared_of result ≡ read_by p (declared_of arg.entry)) }
     ensures local { result.global ≡ arg.entry.global }
 {
     arg.value_parser(names)

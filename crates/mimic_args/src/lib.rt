@@ -1,14 +1,17 @@
 //! What is asked of a run: its arguments, and the command line that they are read from. A layer of `libtest_mimic`.
 #![tactic(auto)]
 
-ghost use Rattle.std.specs.Prelude.{◌≡◌, IfOk, map, option_map, string_bytes};
+ghost use Rattle.std.specs.Prelude.{◌≡◌, IfOk};
 
 mod command_line;
+mod copies;
 mod declared;
 mod error;
+mod formats;
 mod matched;
 
-pub use error::ArgumentsError;
+use copies::{all_copied, copied};
+pub use error::{ArgumentsError, UnknownFormat};
 use std::alloc::{AllocError, Global};
 
 /// When a report has colours.
@@ -122,11 +125,11 @@ impl Arguments {
             exact: self.exact,
             quiet: self.quiet,
             test_threads: self.test_threads,
-            logfile: copied(alloc, &self.logfile)?,
-            skip: all_copied(alloc, &self.skip)?,
+            logfile: copied(alloc, self.logfile.as_ref())?,
+            skip: all_copied(alloc, self.skip.as_slice())?,
             color: self.color,
             format: self.format,
-            filter: copied(alloc, &self.filter)?,
+            filter: copied(alloc, self.filter.as_ref())?,
         })
     }
 
@@ -152,23 +155,4 @@ impl Arguments {
             ColorSetting::Never => false,
         }
     }
-}
-
-fn copied(alloc: Global, text: &Option<String>) -> Result<Option<String>, AllocError>
-    ensures { IfOk result (λ t. option_map string_bytes t ≡ option_map string_bytes text.now) }
-{
-    match text {
-        Some(text) => Ok(Some(String::from_str(alloc, text.as_str())?)),
-        None => Ok(None),
-    }
-}
-
-fn all_copied(alloc: Global, texts: &Vec<String>) -> Result<Vec<String>, AllocError>
-    ensures { IfOk result (λ all. map string_bytes all.items ≡ map string_bytes texts.now.items) }
-{
-    let mut all = Vec::new(alloc);
-    for text in texts {
-        all.push(String::from_str(alloc, text.as_str())?)?;
-    }
-    Ok(all)
 }

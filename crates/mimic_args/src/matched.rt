@@ -3,6 +3,7 @@ ghost use Rattle.std.specs.Prelude.{◌≡◌, IfOk, codes, map, option_and_then
 ghost use Rattle.clap.specs.Words.{all_of, first_of};
 ghost use Rattle.mimic_args.specs.Matched.{IsNumberOf, color_named, entries_of, first_text, format_named, is_set, texts_of, unstable_named};
 
+use crate::copies::{all_copied, copied};
 use crate::{ColorSetting, FormatSetting, UnstableFlags};
 use clap::ArgMatches;
 use std::alloc::{AllocError, Global};
@@ -34,10 +35,7 @@ pub(super) fn text_of(
 ) -> Result<Option<String>, AllocError>
     ensures { IfOk result (λ o. option_map string_bytes o ≡ first_text (entries_of matches.now) id.now) }
 {
-    match text_under(matches, id) {
-        Some(text) => Ok(Some(String::from_str(alloc, text)?)),
-        None => Ok(None),
-    }
+    copied(alloc, text_under(matches, id).as_ref())
 }
 
 pub(super) fn texts_of(
@@ -48,19 +46,9 @@ pub(super) fn texts_of(
     ensures { IfOk result (λ v. map string_bytes v.items ≡ texts_of (entries_of matches.now) id.now) }
 {
     match texts_under(matches, id) {
-        Some(texts) => owned(alloc, texts),
+        Some(texts) => all_copied(alloc, texts),
         None => Ok(Vec::new(alloc)),
     }
-}
-
-fn owned(alloc: Global, texts: &[&str]) -> Result<Vec<String>, AllocError>
-    ensures { IfOk result (λ v. map string_bytes v.items ≡ map (λ t. t.now) texts.now) }
-{
-    let mut all = Vec::new(alloc);
-    for text in texts {
-        all.push(String::from_str(alloc, text)?)?;
-    }
-    Ok(all)
 }
 
 pub(super) fn threads_of(matches: &ArgMatches<'_>) -> Option<usize>
@@ -83,12 +71,7 @@ pub(super) fn color_of(matches: &ArgMatches<'_>) -> Option<ColorSetting>
 pub(super) fn format_of(matches: &ArgMatches<'_>) -> Option<FormatSetting>
     ensures { result ≡ option_and_then format_named (first_text (entries_of matches.now) (codes "format")) }
 {
-    match text_under(matches, "format")? {
-        "pretty" => Some(FormatSetting::Pretty),
-        "terse" => Some(FormatSetting::Terse),
-        "json" => Some(FormatSetting::Json),
-        _ => None,
-    }
+    text_under(matches, "format")?.parse::<FormatSetting>().ok()
 }
 
 pub(super) fn unstable_of(matches: &ArgMatches<'_>) -> Option<UnstableFlags>

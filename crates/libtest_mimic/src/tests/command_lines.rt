@@ -1,7 +1,54 @@
-//! Command lines, as words after the program's name, and what they give. What is refused, and help, is as in
-//! the Rust crate.
-use crate::{Arguments, ArgumentsError, ColorSetting, FormatSetting, UnstableFlags};
+//! Command lines, as words after the program's name, and what they give. What is refused is as in the Rust crate, and
+//! help has the same options in our own words.
+use crate::{Arguments, ArgumentsError, ColorSetting, FormatSetting, UnknownFormat, UnstableFlags};
 use std::test::Fail;
+
+// Worked by hand: after two spaces, how an option is written, in as many columns as the longest and two more, and then
+// what it does.
+const HELP: &str = "Usage: harness [OPTIONS] [FILTER]
+
+Arguments:
+  [FILTER]  Run only tests whose full name, `[kind] name`, contains FILTER
+
+Options:
+      --include-ignored         Run ignored tests as well
+      --ignored                 Run only ignored tests
+      --test                    Run tests; benchmarks count as ignored
+      --bench                   Run and measure benchmarks; tests count as ignored
+      --list                    List tests and benchmarks, and run none
+      --nocapture               Print output of tests at once (no effect: it is never held back)
+      --show-output             Print output of tests that pass (no effect: it is never held back)
+      --exact                   Match filters against whole names only
+  -q, --quiet                   Use the terse format
+  -Z <FLAG>                     Unstable options (no effect) [possible values: unstable-options]
+      --test-threads <THREADS>  Number of threads that run tests (no effect yet)
+      --logfile <PATH>          Write the report to the file PATH
+      --skip <FILTER>           Skip tests whose full name contains FILTER; may be given many times
+      --color <WHEN>            When to use colours [possible values: auto, always, never]
+      --format <FORMAT>         How to write the report [possible values: pretty, terse, json]
+  -h, --help                    Print help
+";
+
+// One word for each option, and one for the filter.
+const WORDS: [&str; 17] = [
+    "--include-ignored",
+    "--ignored",
+    "--test",
+    "--bench",
+    "--list",
+    "--nocapture",
+    "--show-output",
+    "--exact",
+    "--quiet",
+    "-q",
+    "--format=terse",
+    "--color=never",
+    "-Zunstable-options",
+    "--test-threads=2",
+    "--logfile=log",
+    "--skip=a",
+    "b",
+];
 
 #[test]
 fn reads_options(rt: HostRuntime) -> Result<(), Fail> {
@@ -88,8 +135,9 @@ fn refuses_lines(rt: HostRuntime) -> Result<(), Fail> {
         ["harness", "--test-threads", "-1"],
         ["harness", "-Z", "other"],
         ["harness", "a", "b"],
-        ["harness", "--test", "--bench"],
-        ["harness", "--list", "--list"],
+        ["harness", "--format=pretty", "-q"],
+        ["harness", "--test-threads", "18446744073709551616"],
+        ["harness", "--color", "Auto"],
         ["harness", "--skip", "-x"],
         ["harness", "--list", "-V"],
         ["harness", "--list=true", "a"],
@@ -108,25 +156,105 @@ fn refuses_lines(rt: HostRuntime) -> Result<(), Fail> {
 }
 
 #[test]
+fn reads_each_value(rt: HostRuntime) -> Result<(), Fail> {
+    let alloc = rt.alloc();
+    let colors = [
+        ("--color=auto", ColorSetting::Auto),
+        ("--color=always", ColorSetting::Always),
+        ("--color=never", ColorSetting::Never),
+    ];
+    for (word, color) in &colors {
+        let args = Arguments::from_iter(alloc, &["harness", *word])?;
+        assert!(rt; args.color == Some(*color), "{word}");
+    }
+    let formats = [
+        ("pretty", FormatSetting::Pretty),
+        ("terse", FormatSetting::Terse),
+        ("json", FormatSetting::Json),
+    ];
+    for (name, format) in &formats {
+        let args = Arguments::from_iter(alloc, &["harness", "--format", *name])?;
+        assert!(rt; args.format == Some(*format), "{name}");
+        assert!(rt; name.parse::<FormatSetting>() == Ok(*format), "{name}");
+        assert_eq!(rt; format.name(), *name);
+    }
+    assert!(rt; "JSON".parse::<FormatSetting>() == Err(UnknownFormat));
+    let numbers = [
+        ("0", 0),
+        ("1", 1),
+        ("+5", 5),
+        ("18446744073709551615", usize::MAX),
+    ];
+    for (word, number) in &numbers {
+        let args = Arguments::from_iter(alloc, &["harness", "--test-threads", *word])?;
+        assert!(rt; args.test_threads == Some(*number), "{word}");
+    }
+    let args = Arguments::from_iter(alloc, &["harness", "-Zunstable-options", "--skip=-x"])?;
+    assert!(rt; args.unstable_flags == Some(UnstableFlags::UnstableOptions));
+    assert_eq!(rt; args.skip.len(), 1);
+    assert_eq!(rt; args.skip[0].as_str(), "-x");
+    Ok(())
+}
+
+#[test]
+fn has_defaults(rt: HostRuntime) -> Result<(), Fail> {
+    assert!(rt; ColorSetting::default() == ColorSetting::Auto);
+    assert!(rt; FormatSetting::default() == FormatSetting::Pretty);
+    assert!(rt; Arguments::new(rt.alloc()).format_used() == FormatSetting::Pretty);
+    Ok(())
+}
+
+// Whether a line may not use the first word before the second.
+fn is_refused(first: &str, second: &str) -> bool {
+    match (first, second) {
+        ("--skip=a", "--skip=a") => false,
+        ("--test", "--bench") | ("--bench", "--test") => true,
+        ("--quiet" | "-q" | "--format=terse", "--quiet" | "-q" | "--format=terse") => true,
+        _ => first == second,
+    }
+}
+
+#[test]
+fn takes_all_pairs_but_those_excluded(rt: HostRuntime) -> Result<(), Fail> {
+    let alloc = rt.alloc();
+    for first in &WORDS {
+        for second in &WORDS {
+            match &Arguments::from_iter(alloc, &["harness", *first, *second]) {
+                Ok(_) => assert!(rt; !is_refused(first, second), "{first} {second}"),
+                Err(ArgumentsError::Refused(text)) => {
+                    let by_clap = text.as_str().starts_with("error: ");
+                    assert!(rt; by_clap && is_refused(first, second), "{first} {second}");
+                }
+                Err(error) => assert!(rt; false, "{first} {second}: {error}"),
+            }
+        }
+    }
+    Ok(())
+}
+
+#[test]
+fn reads_matches(rt: HostRuntime) -> Result<(), Fail> {
+    let alloc = rt.alloc();
+    let words = ["harness", "--bench", "--skip", "a", "--format=json", "b"];
+    let matches = Arguments::command(alloc)?.try_get_matches_from(&words)?;
+    let args = Arguments::from_matches(alloc, &matches)?;
+    let same = Arguments::from_iter(alloc, &words)?;
+    assert!(rt; args.bench && args.format == Some(FormatSetting::Json));
+    assert_eq!(rt;
+        format!(in alloc; "{args:?}")?.as_str(),
+        format!(in alloc; "{same:?}")?.as_str()
+    );
+    Ok(())
+}
+
+#[test]
 fn shows_help(rt: HostRuntime) -> Result<(), Fail> {
     let alloc = rt.alloc();
     for word in ["-h", "--help"] {
         match &Arguments::from_iter(alloc, &["harness", word]) {
-            Err(ArgumentsError::Help(text)) => {
-                for option in [
-                    "--include-ignored",
-                    "--skip <FILTER>",
-                    "--logfile <PATH>",
-                    "-q, --quiet",
-                    "[FILTER]",
-                ] {
-                    assert!(rt; text.as_str().contains(option), "{text}");
-                }
-            }
+            Err(ArgumentsError::Help(text)) => assert_eq!(rt; text.as_str(), HELP),
             _ => assert!(rt; false, "{word}"),
         }
     }
-    let plus = Arguments::from_iter(alloc, &["harness", "--test-threads", "+5", "--skip=-x"])?;
-    assert_eq!(rt; plus.test_threads, Some(5));
     Ok(())
 }
