@@ -154,55 +154,48 @@ fn heeds_no_number_of_threads(rt: HostRuntime) -> Result<(), Fail> {
     Ok(())
 }
 
-// The whole report of all benchmarks: each row has its own numbers, and each failure its own message.
-const MEASURED: &str = "
-running 17 tests
-test          cat    ... ignored
-test          \"ups\"  ... ignored
-test          dog    ... ignored
-test [apple]  fox    ... ignored
-test [apple]  bunny  ... ignored
-test          frog   ... ignored
-test          owl    ... ignored
-test [banana] fly    ... ignored
-test [banana] bear   ... ignored
-test          red    ... bench:          32 ns/iter (+/- 3)
-test          blue   ... FAILED
-test [kiwi]   yellow ... bench:          64 ns/iter (+/- 4)
-test [kiwi]   green  ... FAILED
-test          purple ... bench:         100 ns/iter (+/- 5)
-test          cyan   ... FAILED
-test [banana] orange ... bench:          17 ns/iter (+/- 6)
-test [banana] pink   ... FAILED
-
-failures:
-
----- blue ----
-sky fell down
-
----- green ----
-was poisoned
-
----- cyan ----
-not creative enough
-
----- pink ----
-bad
-
-
-failures:
-    blue
-    green
-    cyan
-    pink
-
-test result: FAILED. 0 passed; 4 failed; 9 ignored; 4 measured; 0 filtered out; finished in 0.00s
-
-";
+// All benchmarks measured, ignored ones too, with their numbers and messages, and each test ignored.
+const MEASURED: &str = r#"{ "type": "suite", "event": "started", "test_count": 17 }
+{ "type": "test", "event": "started", "name": "cat" }
+{ "type": "test", "name": "cat", "event": "ignored" }
+{ "type": "test", "event": "started", "name": "\"ups\"" }
+{ "type": "test", "name": "\"ups\"", "event": "ignored" }
+{ "type": "test", "event": "started", "name": "dog" }
+{ "type": "test", "name": "dog", "event": "ignored" }
+{ "type": "test", "event": "started", "name": "fox" }
+{ "type": "test", "name": "fox", "event": "ignored" }
+{ "type": "test", "event": "started", "name": "bunny" }
+{ "type": "test", "name": "bunny", "event": "ignored" }
+{ "type": "test", "event": "started", "name": "frog" }
+{ "type": "test", "name": "frog", "event": "ignored" }
+{ "type": "test", "event": "started", "name": "owl" }
+{ "type": "test", "name": "owl", "event": "ignored" }
+{ "type": "test", "event": "started", "name": "fly" }
+{ "type": "test", "name": "fly", "event": "ignored" }
+{ "type": "test", "event": "started", "name": "bear" }
+{ "type": "test", "name": "bear", "event": "ignored" }
+{ "type": "test", "event": "started", "name": "red" }
+{ "type": "bench", "name": "red", "median": 32, "deviation": 3 }
+{ "type": "test", "event": "started", "name": "blue" }
+{ "type": "test", "name": "blue", "event": "failed", "stdout": "Error: \"sky fell down\"\n" }
+{ "type": "test", "event": "started", "name": "yellow" }
+{ "type": "bench", "name": "yellow", "median": 64, "deviation": 4 }
+{ "type": "test", "event": "started", "name": "green" }
+{ "type": "test", "name": "green", "event": "failed", "stdout": "Error: \"was poisoned\"\n" }
+{ "type": "test", "event": "started", "name": "purple" }
+{ "type": "bench", "name": "purple", "median": 100, "deviation": 5 }
+{ "type": "test", "event": "started", "name": "cyan" }
+{ "type": "test", "name": "cyan", "event": "failed", "stdout": "Error: \"not creative enough\"\n" }
+{ "type": "test", "event": "started", "name": "orange" }
+{ "type": "bench", "name": "orange", "median": 17, "deviation": 6 }
+{ "type": "test", "event": "started", "name": "pink" }
+{ "type": "test", "name": "pink", "event": "failed", "stdout": "Error: \"bad\"\n" }
+{ "type": "suite", "event": "failed", "passed": 0, "failed": 4, "ignored": 9, "measured": 4, "filtered_out": 0, "exec_time": 0 }
+"#;
 
 #[test]
 fn measures_ignored_benchmarks(rt: HostRuntime) -> Result<(), Fail> {
-    let left = run_words(&rt, &["--bench", "--include-ignored"])?;
+    let left = run_words(&rt, &["--bench", "--include-ignored", "--format", "json"])?;
     assert_eq!(rt; left.out.as_str(), MEASURED);
     assert_eq!(rt; left.status, 101);
     assert!(rt; left.err.is_empty());
