@@ -17,7 +17,7 @@ ghost use Rattle.libtest_mimic.specs.Trial.{AllCanRun};
 use asked::{Asked, Runners};
 use libtest_mimic::{Clock, Failed, Outcome, RunError, Task, Trial};
 use measured::Measured;
-use mimic_output::{Output, Passing, buffered, run_into};
+use mimic_output::{FlushPolicy, Output, buffered, run_into};
 use std::alloc::Global;
 use std::io::Write;
 use std::process::ExitCode;
@@ -122,10 +122,15 @@ fn bench(rt: &HostRuntime) -> Result<u8, Fault> {
     let asked = Asked::from_words(rt)?;
     match &asked.logfile {
         Some(path) => match fs::create(rt, path.as_str()) {
-            Ok(file) => measure(rt, &asked, Passing::Blocks, file),
+            Ok(file) => measure(rt, &asked, FlushPolicy::WhenFull, file),
             Err(_) => Err(Fault::Logfile),
         },
-        None => measure(rt, &asked, Passing::of_format(asked.format), rt.stdout()),
+        None => measure(
+            rt,
+            &asked,
+            FlushPolicy::of_format(asked.format),
+            rt.stdout(),
+        ),
     }
 }
 
@@ -133,13 +138,13 @@ fn bench(rt: &HostRuntime) -> Result<u8, Fault> {
 fn measure<W: Write + Drop>(
     rt: &HostRuntime,
     asked: &Asked,
-    passing: Passing,
+    policy: FlushPolicy,
     writer: W,
 ) -> Result<u8, Fault> {
     let alloc = rt.alloc();
     // Made before the tests: where it lies behind them in memory, to free it makes the allocator go over all that the
     // tests have given back.
-    let output = buffered(alloc, passing, writer)?;
+    let output = buffered(alloc, policy, writer)?;
     let start = Instant::now(rt)?;
     match asked.runners {
         Runners::Boxes | Runners::Captures => {

@@ -9,7 +9,7 @@ mod tests;
 
 use clock::MonotonicClock;
 use libtest_mimic::{Arguments, Failed, Measurement, RunError, Trial};
-use mimic_output::{Passing, buffered};
+use mimic_output::{FlushPolicy, buffered};
 use mixed_bag::{Answer, MIXED_BAG, benchmark_answer, mixed_bag_trials, test_answer};
 use program::{CANNOT_RUN, harness_run};
 use std::process::ExitCode;
@@ -28,11 +28,11 @@ fn main(rt: HostRuntime) -> ExitCode {
 fn run_mixed_bag(rt: &HostRuntime) -> Result<u8, RunError> {
     let alloc = rt.alloc();
     let line = Arguments::from_args(rt, alloc);
-    let passing = match &line {
-        Ok(args) => Passing::of_format(args.format_used()),
-        Err(_) => Passing::Lines,
+    let policy = match &line {
+        Ok(args) => FlushPolicy::of_format(args.format_used()),
+        Err(_) => FlushPolicy::OnLineEnd,
     };
-    let out = buffered(alloc, passing, rt.stdout())?;
+    let out = buffered(alloc, policy, rt.stdout())?;
     let trials = mixed_bag_trials!(alloc);
     let clock = MonotonicClock::new(rt);
     let (_, status) = harness_run(rt, alloc, line, trials, out, &mut rt.stderr(), clock);

@@ -8,7 +8,7 @@ ghost use Rattle.harness.specs.Ended.{Ended, status_of, status_without};
 ghost use Rattle.mimic_output.specs.Run.{GotBeginning, Ran};
 
 use libtest_mimic::{Arguments, ArgumentsError, Clock, Conclusion, RunError, Task, Trial};
-use mimic_output::{Output, Passing, buffered, run_into};
+use mimic_output::{FlushPolicy, Output, buffered, run_into};
 use std::alloc::Global;
 use std::fs;
 use std::fs::Files;
@@ -141,7 +141,7 @@ fn run_into_logfile<F: Files, R: Task, C: Clock + Drop>(
     let Ok(file) = fs::create(files, path) else {
         return Err(Fault::Logfile);
     };
-    let output = buffered(alloc, Passing::Blocks, file)?;
+    let output = buffered(alloc, FlushPolicy::WhenFull, file)?;
     let conclusion = run_into(alloc, args, tests, output, clock).1?;
     Ok(conclusion)
 }

@@ -4,7 +4,7 @@ use crate::program::harness_run;
 use libtest_mimic::{
     Arguments, ArgumentsError, Clock, Failed, Measurement, Sink, Stopwatch, Trial, run_here,
 };
-use mimic_output::{Output, Passing, run_into};
+use mimic_output::{FlushPolicy, Output, run_into};
 use std::env::FillError;
 use std::io::Write;
 use std::rt::Env;
@@ -70,7 +70,7 @@ fn run_only(rt: &HostRuntime, asked: &[&str]) -> Result<Left, Fail> {
     let mut words = vec![in alloc; "harness"]?;
     words.extend_from_slice(asked)?;
     let trials = mixed_bag_trials!(alloc);
-    let out = Output::new(alloc, Passing::Lines, Vec::new(alloc))?;
+    let out = Output::new(alloc, FlushPolicy::OnLineEnd, Vec::new(alloc))?;
     let mut err: Vec<u8> = Vec::new(alloc);
     let line = Arguments::from_iter(alloc, words.as_slice());
     let (out, status) = harness_run(rt, alloc, line, trials, out, &mut err, Still);
@@ -379,7 +379,7 @@ fn tells_why_a_line_gave_nothing(rt: HostRuntime) -> Result<(), Fail> {
     ];
     for (error, status, text) in rows {
         let tests = Vec::<Trial>::new(alloc);
-        let out = Output::new(alloc, Passing::Lines, Vec::new(alloc))?;
+        let out = Output::new(alloc, FlushPolicy::OnLineEnd, Vec::new(alloc))?;
         let mut err: Vec<u8> = Vec::new(alloc);
         let (out, answered) = harness_run(&rt, alloc, Err(error), tests, out, &mut err, Still);
         assert_eq!(rt; answered, status);
@@ -465,7 +465,7 @@ fn refuses_words_that_are_no_text(rt: HostRuntime) -> Result<(), Fail> {
     ];
     for (words, status, on_out, on_err) in rows {
         let trials = mixed_bag_trials!(alloc);
-        let out = Output::new(alloc, Passing::Lines, Vec::new(alloc))?;
+        let out = Output::new(alloc, FlushPolicy::OnLineEnd, Vec::new(alloc))?;
         let mut err: Vec<u8> = Vec::new(alloc);
         let line = Arguments::from_args(&(RawLine { words }, alloc), alloc);
         let (out, answered) = harness_run(&rt, alloc, line, trials, out, &mut err, Still);
@@ -508,7 +508,7 @@ fn tells_of_a_full_output(rt: HostRuntime) -> Result<(), Fail> {
         (["harness", "--list", "--help"], 0, 0),
     ] {
         let trials = mixed_bag_trials!(alloc);
-        let out = Output::new(alloc, Passing::Lines, Narrow { room })?;
+        let out = Output::new(alloc, FlushPolicy::OnLineEnd, Narrow { room })?;
         let mut err: Vec<u8> = Vec::new(alloc);
         let line = Arguments::from_iter(alloc, &words);
         let (_, answered) = harness_run(&rt, alloc, line, trials, out, &mut err, Still);
@@ -559,7 +559,7 @@ fn stops_at_a_closed_output(rt: HostRuntime) -> Result<(), Fail> {
             Trial::test(String::from_str(alloc, "first")?, run_first),
             Trial::test(String::from_str(alloc, "second")?, run_second),
         ]?;
-        let out = Output::new(alloc, Passing::Lines, Narrow { room })?;
+        let out = Output::new(alloc, FlushPolicy::OnLineEnd, Narrow { room })?;
         let mut err: Vec<u8> = Vec::new(alloc);
         let line = Ok(Arguments::new(alloc));
         let (_, answered) = harness_run(&rt, alloc, line, trials, out, &mut err, Still);
@@ -580,7 +580,7 @@ fn tells_of_a_full_logfile(rt: HostRuntime) -> Result<(), Fail> {
         let mut args = Arguments::new(alloc);
         args.list = true;
         args.filter = Some(String::from_str(alloc, "a")?);
-        let file = Output::new(alloc, Passing::Blocks, Narrow { room })?;
+        let file = Output::new(alloc, FlushPolicy::WhenFull, Narrow { room })?;
         let (_, ran) = run_into(alloc, &args, trials, file, Still);
         assert_eq!(rt; ran.is_ok(), fits);
     }

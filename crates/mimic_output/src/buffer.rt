@@ -8,30 +8,30 @@ use std::alloc::Global;
 use std::io;
 use std::io::{BufWriter, Write};
 
-/// When bytes are handed on to the system, beside when the buffer is full or at the end.
+/// When a buffer hands its bytes on to the system, beside when it is full or finished.
 #[derive(Clone, Copy, Debug, PartialEq, Eq)]
-pub enum Passing {
+pub enum FlushPolicy {
     /// At each flush: somebody is looking on, and a flush comes before anything that takes its time.
-    Flushes,
-    /// Where a line has ended, and at each flush: somebody is looking on, and no flush comes of itself.
-    Lines,
+    OnFlush,
+    /// At the end of each line, and at each flush: somebody is looking on, and no flush comes of itself.
+    OnLineEnd,
     /// At no other time.
-    Blocks,
+    WhenFull,
 }
 
-impl Passing {
-    ghost use Rattle.mimic_output.specs.Output.{passing_of};
+impl FlushPolicy {
+    ghost use Rattle.mimic_output.specs.Output.{policy_of};
 
     /// How a report in this format is handed on to somebody who looks on.
     ///
     /// A run flushes a pretty report before each trial, so a row goes out with the announcement that comes directly
     /// behind it. The lines of other formats go out as they end.
-    pub fn of_format(format: FormatSetting) -> Passing
-        ensures { result ≡ passing_of format }
+    pub fn of_format(format: FormatSetting) -> FlushPolicy
+        ensures { result ≡ policy_of format }
     {
         match format {
-            FormatSetting::Pretty => Passing::Flushes,
-            FormatSetting::Terse | FormatSetting::Json => Passing::Lines,
+            FormatSetting::Pretty => FlushPolicy::OnFlush,
+            FormatSetting::Terse | FormatSetting::Json => FlushPolicy::OnLineEnd,
         }
     }
 }
@@ -42,18 +42,18 @@ impl Passing {
 #[derive(Drop)]
 pub struct Output<W: Write + Drop> {
     buffered: BufWriter<W>,
-    passing: Passing,
+    policy: FlushPolicy,
     fault: Option<io::Error>,
 }
 
 impl<W: Write + Drop> Output<W> {
     /// An empty buffer. An `Err` is answered where a growth was refused.
-    pub fn new(alloc: Global, passing: Passing, inner: W) -> io::Result<Self>
+    pub fn new(alloc: Global, policy: FlushPolicy, inner: W) -> io::Result<Self>
         ensures { IfOk result (λ output. Keeps (W.contents inner) (told_of W.contents output)) }
     {
         Ok(Output {
             buffered: BufWriter::new(alloc, inner)?,
-            passing,
+            policy,
             fault: None,
         })
     }
@@ -69,15 +69,15 @@ impl<W: Write + Drop> Output<W> {
         };
         let Output {
             buffered,
-            passing: _,
+            policy: _,
             fault: _,
         } = self;
         let (writer, _) = buffered.into_parts();
         (writer, finished)
     }
 
-    // Tells the fault of a line that could not be handed on.
-    fn tell_fault(&mut self) -> io::Result<()>
+    // Takes the fault of a line that could not be handed on.
+    fn take_fault(&mut self) -> io::Result<()>
         ensures { Keeps (told_of W.contents self.old) (told_of W.contents self.new) }
     {
         match self.fault.take() {
@@ -92,10 +92,10 @@ impl<W: Write + Drop> Write for Output<W> {
 
     fn write(&mut self, buf: &[u8]) -> io::Result<usize> {
         if self.fault.is_some() {
-            self.tell_fault()?;
+            self.take_fault()?;
         }
         let count = self.buffered.write(buf)?;
-        if self.passing == Passing::Lines && buf[..count].ends_with(b"\n") {
+        if self.policy == FlushPolicy::OnLineEnd && buf[..count].ends_with(b"\n") {
             self.fault = self.buffered.flush().err();
         }
         Ok(count)
@@ -103,11 +103,11 @@ impl<W: Write + Drop> Write for Output<W> {
 
     fn flush(&mut self) -> io::Result<()> {
         if self.fault.is_some() {
-            self.tell_fault()?;
+            self.take_fault()?;
         }
-        match self.passing {
-            Passing::Flushes | Passing::Lines => self.buffered.flush(),
-            Passing::Blocks => Ok(()),
+        match self.policy {
+            FlushPolicy::OnFlush | FlushPolicy::OnLineEnd => self.buffered.flush(),
+            FlushPolicy::WhenFull => Ok(()),
         }
     }
 }

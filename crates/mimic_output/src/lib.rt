@@ -4,7 +4,7 @@
 mod buffer;
 mod run;
 
-pub use buffer::{Output, Passing};
+pub use buffer::{FlushPolicy, Output};
 pub use run::{buffered, run_into};
 
 #[cfg(test)]

@@ -7,7 +7,7 @@ ghost use Rattle.libtest_mimic.specs.Trial.{AllCanRun};
 ghost use Rattle.mimic_output.specs.Output.{told_of};
 ghost use Rattle.mimic_output.specs.Run.{GotBeginning, Ran};
 
-use crate::buffer::{Output, Passing};
+use crate::buffer::{FlushPolicy, Output};
 use libtest_mimic::{
     Arguments, Clock, Conclusion, RunError, Sink, Stopwatch, Task, Trial, WriteFault, run_here,
 };
@@ -18,12 +18,12 @@ use std::io::Write;
 /// A buffer over the writer. An `Err` is `OutOfMemory`, where a growth was refused.
 pub fn buffered<W: Write + Drop>(
     alloc: Global,
-    passing: Passing,
+    policy: FlushPolicy,
     writer: W,
 ) -> Result<Output<W>, RunError>
     ensures { IfOk result (λ output. Keeps (W.contents writer) (told_of W.contents output)) }
 {
-    match Output::new(alloc, passing, writer) {
+    match Output::new(alloc, policy, writer) {
         Ok(output) => Ok(output),
         // Nothing else can fail here, which the error doesn't say by its type.
         Err(_) => Err(RunError::OutOfMemory),

@@ -1,5 +1,5 @@
 //! What no clause says: when bytes are handed on.
-use crate::{Output, Passing};
+use crate::{FlushPolicy, Output};
 use std::io;
 use std::io::Write;
 use std::test::Fail;
@@ -27,17 +27,17 @@ impl Write for Marked {
 #[test]
 fn hands_on_as_asked(rt: HostRuntime) -> Result<(), Fail> {
     let alloc = rt.alloc();
-    let rows: [(Passing, &[usize]); 3] = [
-        (Passing::Flushes, &[2, 5]),
-        (Passing::Lines, &[2, 4, 5]),
-        (Passing::Blocks, &[5]),
+    let rows: [(FlushPolicy, &[usize]); 3] = [
+        (FlushPolicy::OnFlush, &[2, 5]),
+        (FlushPolicy::OnLineEnd, &[2, 4, 5]),
+        (FlushPolicy::WhenFull, &[5]),
     ];
-    for (passing, marks) in rows {
+    for (policy, marks) in rows {
         let writer = Marked {
             len: 0,
             marks: Vec::new(alloc),
         };
-        let mut output = Output::new(alloc, passing, writer)?;
+        let mut output = Output::new(alloc, policy, writer)?;
         output.write_all(b"ab")?;
         output.flush()?;
         output.write_all(b"c\n")?;

@@ -177,11 +177,21 @@ impl fmt::Debug for OpaqueRunner {
     }
 }
 
+// As the Rust crate shows it.
 impl<R> fmt::Debug for Trial<R> {
     fn fmt<W: fmt::Write>(&self, f: &mut fmt::Formatter<W>) -> fmt::Result {
-        f.debug_struct("Trial")
-            .field("info", &self.info)
+        let TestInfo {
+            name,
+            kind,
+            is_ignored,
+            is_bench,
+        } = &self.info;
+        f.debug_struct("Test")
             .field("runner", &OpaqueRunner)
+            .field("name", name)
+            .field("kind", kind)
+            .field("is_ignored", is_ignored)
+            .field("is_bench", is_bench)
             .finish()
     }
 }

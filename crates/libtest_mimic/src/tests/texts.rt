@@ -82,9 +82,18 @@ fn shows_values(rt: HostRuntime) -> Result<(), Fail> {
     let trial = test_trial!(alloc, "a", || Ok(()));
     assert_eq!(rt;
         format!(in alloc; "{trial:?}")?.as_str(),
-        "Trial { info: TestInfo { name: \"a\", kind: \"\", is_ignored: false, is_bench: false }, runner: <runner> }"
+        "Test { runner: <runner>, name: \"a\", kind: \"\", is_ignored: false, is_bench: false }"
     );
+    let kept = Failed::with_message(String::from_str(alloc, "x")?);
     let texts = [
+        (
+            format!(in alloc; "{kept:?}")?,
+            "Failed { msg: Some(\"x\") }",
+        ),
+        (
+            format!(in alloc; "{:?}", Failed::without_message())?,
+            "Failed { msg: None }",
+        ),
         (
             format!(in alloc; "{}", RunError::OutOfMemory)?,
             "out of memory",

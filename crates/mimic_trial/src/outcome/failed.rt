@@ -7,17 +7,18 @@ ghost use Rattle.mimic_trial.specs.Failed.{not_measured_text, same_text};
 
 use crate::outcome::Outcome;
 use std::alloc::{AllocError, Global};
+use std::fmt;
 use std::fmt::Display;
 use std::marker::Model;
 
 /// The failure of a trial, with a message or without one. Contracts see it as an optional text.
-#[derive(Debug, Drop)]
+#[derive(Drop)]
 pub struct Failed {
     message: Option<Message>,
 }
 
 // A message, or the one message that is kept without memory.
-#[derive(Debug, Drop)]
+#[derive(Drop)]
 enum Message {
     Owned(String),
     NotMeasured,
@@ -90,6 +91,15 @@ impl Failed {
             Some(Message::NotMeasured) => Some(NOT_MEASURED),
             None => None,
         }
+    }
+}
+
+// The message alone, whichever way it is kept, as the Rust crate shows it.
+impl fmt::Debug for Failed {
+    fn fmt<W: fmt::Write>(&self, f: &mut fmt::Formatter<W>) -> fmt::Result {
+        f.debug_struct("Failed")
+            .field("msg", &self.message())
+            .finish()
     }
 }
 
