@@ -149,14 +149,9 @@ fn run_selected<R: Task, W: Write, C: Clock>(
         (shown W.contents sink.old) (shown W.contents sink.new) watch.new) }
     ensures memory { OnOutOfMemory result ((sink.new ≡ sink.old) × IsRunning watch.new × (selected.items ≢ [])) }
 {
-    let Ok(tally) = Tally::with_capacity(alloc, selected.len(), filtered_out) else {
-        return Err(RunError::OutOfMemory);
-    };
+    let tally = Tally::with_capacity(alloc, selected.len(), filtered_out)?;
     let printer = printer_for(args, selected.as_slice(), auto_colours);
-    match write_report(&printer, args, selected, tally, sink, watch) {
-        Ok(conclusion) => Ok(conclusion),
-        Err(fault) => Err(RunError::Write(fault)),
-    }
+    Ok(write_report(&printer, args, selected, tally, sink, watch)?)
 }
 
 // A printer that prints as that of the run does: only in pretty it has columns for these trials.
