@@ -22,7 +22,7 @@ use Rattle.mimic_printer.specs.declared.Printer.{Printer}
 use Rattle.mimic_printer.specs.Report.{announcement_text, outcome_text, row_text, rows_text}
 use Rattle.mimic_printer.specs.Sink.{Shown, Put, Stopped}
 use Rattle.mimic_printer.proofs.Appending.{Put-trans, Put-Stopped, Stopped-more}
-use Rattle.mimic_printer.proofs.FailedRows.{length-rows_from, range-push}
+use Rattle.mimic_printer.proofs.FailedRows.{range-push}
 use Rattle.libtest_mimic.specs.declared.run.tally.Tally.{Tally}
 use Rattle.libtest_mimic.specs.Arrangement.{IsOwn, IsOwnAt}
 use Rattle.libtest_mimic.specs.Selection.{IsIgnored}
@@ -127,11 +127,10 @@ length-failed rows =
     let f : Row → Bool = λ row. is_failed row.outcome in
     omega (arith, length-filter f rows, count_by-le-length f rows)
 
--- a tally has kept at most as many infos as it has counted rows
-length-kept : (t : Tally) (filtered_out : ℕ) (rows : List Row) → HasCounted t filtered_out rows → vec_len t.infos ≤ length rows
+-- a tally has kept at most as many failures as it has counted rows
+length-kept : (t : Tally) (filtered_out : ℕ) (rows : List Row) → HasCounted t filtered_out rows → vec_len t.failures ≤ length rows
 length-kept t filtered_out rows h =
-    let same : length t.infos.items ≡ length t.outcomes.items = sym t.infos.ok.0 ∙ t.side_by_side ∙ t.outcomes.ok.0 in
-    omega (arith, t.infos.ok.0, length-rows_from t.infos.items t.outcomes.items same, ap length h.failed, length-failed rows)
+    omega (arith, t.failures.ok.0, length-map t.failures.items (λ p. row_of p.0 p.1), ap length h.failed, length-failed rows)
 
 -- there is room to count one more row
 pub HasRoom-tally : (t : Tally) (filtered_out : ℕ) (rows : List Row) → HasCounted t filtered_out rows → length rows < 2 ^ 64 - 1 → HasRoom t.conclusion
@@ -139,12 +138,8 @@ HasRoom-tally t filtered_out rows h small =
     subst HasRoom (sym h.counts) (HasRoom-counts (outcomes_of rows) filtered_out (omega (arith, length-outcomes rows)))
 
 -- and to keep it
-pub HasRoomFor-tally : (t : Tally) (filtered_out : ℕ) (rows : List Row) (n : ℕ) → HasCounted t filtered_out rows → HasRoomFor t n → length rows < n → HasRoomFor t (vec_len t.infos + 1)
-HasRoomFor-tally t filtered_out rows n h room within = record {
-  infos = omega (arith, length-kept t filtered_out rows h, room.infos);
-  outcomes = omega (arith, length-kept t filtered_out rows h, room.outcomes);
-  order = omega (arith, length-kept t filtered_out rows h, room.order);
-}
+pub HasRoomFor-tally : (t : Tally) (filtered_out : ℕ) (rows : List Row) (n : ℕ) → HasCounted t filtered_out rows → HasRoomFor t n → length rows < n → HasRoomFor t (vec_len t.failures + 1)
+HasRoomFor-tally t filtered_out rows n h room within = omega (arith, length-kept t filtered_out rows h, room)
 
 -- ---- the rows so far
 

@@ -3,4 +3,5 @@ pub mod Widths
 pub mod Json
 pub mod Report
 pub mod List
+pub mod Failures
 pub mod Steps

@@ -4,14 +4,10 @@ use Rattle.std.specs.List.{flat_map}
 use Rattle.mimic_printer.specs.declared.piece.Piece.{Piece}
 use Rattle.mimic_printer.specs.declared.piece.Piece.TheVariants.{Text, Number, TwoDigits, Spaces, Grouped, Escaped, Seconds}
 use Rattle.mimic_printer.specs.List.{list_line}
-use Rattle.mimic_printer.specs.Report.{failure_text, failed_name}
 use Rattle.mimic_text.specs.Escape.{escaped}
 use Rattle.mimic_text.specs.Seconds.{exact_seconds}
 use Rattle.mimic_text.specs.Text.{spaces, two_digits, right_aligned, grouped}
-use Rattle.mimic_trial.specs.declared.outcome.Outcome.{Outcome}
 use Rattle.mimic_trial.specs.declared.trial.TestInfo.{TestInfo}
-use Rattle.mimic_trial.specs.Places.{label_at, outcome_at}
-use Rattle.mimic_trial.specs.Row.{Label}
 
 -- ---- pieces of a text
 
@@ -27,16 +23,6 @@ piece_text (Seconds n) = exact_seconds n
 
 abbrev pub pieces_text : List Piece → List ℕ
 pieces_text pieces = flat_map piece_text pieces
-
--- ---- failures by place
-
--- what is written of the failure at a place
-abbrev pub failure_at : List Label → List Outcome → ℕ → List ℕ
-failure_at labels outcomes place = failure_text (label_at labels place) (outcome_at outcomes place)
-
--- the line that names the failure at a place
-abbrev pub failed_name_at : List Label → List Outcome → ℕ → List ℕ
-failed_name_at labels outcomes place = failed_name (label_at labels place) (outcome_at outcomes place)
 
 -- ---- the list
 

@@ -1,5 +1,5 @@
 -- The rows of a report: what it shows of a trial, beside the trial's outcome.
-use Rattle.std.specs.Prelude.{ℕ, List, [], ◌∷◌, map, string_bytes}
+use Rattle.std.specs.Prelude.{ℕ, List, map, string_bytes}
 use Rattle.mimic_trial.specs.declared.trial.TestInfo.{TestInfo}
 use Rattle.mimic_trial.specs.declared.outcome.Outcome.{Outcome}
 
@@ -23,8 +23,6 @@ row_of info outcome = record { label = label_of info; outcome = outcome }
 abbrev pub outcomes_of : List Row → List Outcome
 outcomes_of rows = map (λ row. row.outcome) rows
 
--- the infos and the outcomes side by side, as far as both go
-abbrev pub rows_from : List TestInfo → List Outcome → List Row
-rows_from [] outcomes = []
-rows_from (info ∷ infos) [] = []
-rows_from (info ∷ infos) (o ∷ outcomes) = row_of info o ∷ rows_from infos outcomes
+-- the rows of trials that stand beside their outcomes
+abbrev pub rows_from : List (TestInfo × Outcome) → List Row
+rows_from pairs = map (λ p. row_of p.0 p.1) pairs

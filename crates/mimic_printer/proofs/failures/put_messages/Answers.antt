@@ -1,19 +1,31 @@
-use Rattle.std.proofs.Common.{◌<◌, get_or, length, map, subst}
-use Rattle.std.proofs.lemmas.List.Elements.{All-get_or}
-use Rattle.mimic_printer.specs.Report.{failure_text}
-use Rattle.mimic_trial.specs.Row.{label_of}
-use Rattle.mimic_printer.specs.Sink.{Stopped, shown}
-use Rattle.mimic_printer.specs.Steps.{failure_at}
-use Rattle.mimic_printer.proofs.Appending.{Puts-stopped, Stopped-next}
-use Rattle.mimic_printer.proofs.FailedRows.{text_is_at}
+use Rattle.std.proofs.Common.{◌<◌, ◌≤◌, ◌∙◌, ap, subst, List, ℕ}
+use Rattle.std.proofs.lemmas.List.{take_all}
+use Rattle.std.specs.List.{flat_map}
+use Rattle.mimic_trial.specs.Row.{row_of}
+use Rattle.mimic_printer.specs.Failures.{rows_in}
+use Rattle.mimic_printer.specs.Report.{row_failure}
+use Rattle.mimic_printer.specs.Sink.{Put, Stopped, shown}
+use Rattle.mimic_printer.proofs.Appending.{Put-next, Puts-stopped, Stopped-next}
+use Rattle.mimic_printer.proofs.FailedRows.{count_rows}
 use Rattle.mimic_printer.proofs.failures.put_messages.Goals as goal
+
+pub loop-number-preserved : goal.loop-number-preserved
+loop-number-preserved g c =
+    let within = subst (λ n. c.loop-number.number < n) (c.len-number-end.ensures ∙ count_rows c.args.rows c.requires.places) c.loop-number-test.true in
+    let P : List ℕ → Type 0 = λ l. Put (shown g.W.Write.contents c.loop-number.sink) (shown g.W.Write.contents c.put_message.new.sink) l in
+    Put-next row_failure (rows_in c.args.rows) _ (row_of c.row.result.0.now c.row.result.1.now) within c.loop-number.invariant
+    (subst P (ap row_failure c.row.ensures) c.in_ok-put_message.ensures)
 
 pub returns-in_err-put_message : goal.returns-in_err-put_message
 returns-in_err-put_message g c =
-    let infos = c.args.infos.now in
-    let place = get_or c.args.order.now c.loop-place.place-index 0 in
-    let within = All-get_or (λ p. p < length infos) c.args.order.now c.loop-place.place-index 0 c.loop-place-test.true c.requires.places in
-    let same = text_is_at failure_text infos c.args.outcomes.now place c.index-infos-place.result c.index-outcomes-place.result within c.requires.lengths c.index-infos-place.is c.index-outcomes-place.is in
+    let within = subst (λ n. c.loop-number.number < n) (c.len-number-end.ensures ∙ count_rows c.args.rows c.requires.places) c.loop-number-test.true in
+    let P : List ℕ → Type 0 = λ l. Stopped (shown g.W.Write.contents c.loop-number.sink) (shown g.W.Write.contents c.put_message.new.sink) l in
     Puts-stopped _ _ c.from_residual.ensures.0
-    (Stopped-next (failure_at (map label_of infos) c.args.outcomes.now) _ _ 0 c.loop-place-test.true c.loop-place.invariant
-    (subst (λ t. Stopped (shown g.W.Write.contents c.loop-place.sink) (shown g.W.Write.contents c.put_message.new.sink) t) same c.in_err-put_message.ensures))
+    (Stopped-next row_failure (rows_in c.args.rows) _ (row_of c.row.result.0.now c.row.result.1.now) within c.loop-number.invariant
+    (subst P (ap row_failure c.row.ensures) c.in_err-put_message.ensures))
+
+pub returns : goal.returns
+returns g c =
+    let all = subst (λ n. n ≤ c.loop-number.number) (c.len-number-end.ensures ∙ count_rows c.args.rows c.requires.places) c.loop-number-test.false in
+    let P : List ℕ → Type 0 = λ l. Put (shown g.W.Write.contents c.args.sink.now) (shown g.W.Write.contents c.loop-number.sink) l in
+    subst P (ap (flat_map row_failure) (take_all c.loop-number.number (rows_in c.args.rows) all)) c.loop-number.invariant
