@@ -14,10 +14,9 @@ use Rattle.mimic_trial.specs.Row.{Label, Row, outcomes_of}
 use Rattle.mimic_printer.specs.declared.Printer.{Printer}
 use Rattle.mimic_printer.specs.Report.{announcement_in, announcement_text, failures_in, failures_text, outcome_in, outcome_line, outcome_mark, outcome_text, report_text, result_summary, row_text, rows_text, summary_in, summary_text, terse_outcome, title_in, title_text}
 use Rattle.mimic_printer.specs.Sink.{Shown, Put, Stopped}
-use Rattle.libtest_mimic.specs.declared.stopwatch.Readings.{Readings}
 use Rattle.libtest_mimic.specs.Run.{Reported, ReportedInOrder, StartsReport, next_text, start_text}
 use Rattle.libtest_mimic.specs.Steps.{PrintsAs}
-use Rattle.libtest_mimic.specs.Stopwatch.{IsRunning, elapsed_of}
+use Rattle.libtest_mimic.specs.Stopwatch.{Watched, IsRunning, elapsed_of}
 use Rattle.libtest_mimic.specs.Suite.{Suite, rows_of}
 
 -- a printer is its fields
@@ -110,7 +109,7 @@ module _ {R : Type 0} (gives : Gives R) (suite : Suite R) (q : Printer) (same : 
       (ap₂ (λ x y. x ++ y) (rows_same suite.printer q same (rows_of suite placed)) (next_same placed left))
 
   -- a whole report
-  pub reported_same : (old new : Shown) (watch : Readings) (c : Conclusion) → ReportedInOrder gives suite old new watch c → ReportedInOrder gives (record suite { printer = q }) old new watch c
+  pub reported_same : (old new : Shown) (watch : Watched) (c : Conclusion) → ReportedInOrder gives suite old new watch c → ReportedInOrder gives (record suite { printer = q }) old new watch c
   reported_same old new watch c (placed, ordered, r) = (
     placed,
     ordered,
@@ -125,7 +124,7 @@ module _ {R : Type 0} (gives : Gives R) (suite : Suite R) (q : Printer) (same : 
   )
 
   -- a start of a report
-  pub starts_same : (order : List ℕ) (old new : Shown) (watch : Readings) → StartsReport gives suite order old new watch → StartsReport gives (record suite { printer = q }) order old new watch
+  pub starts_same : (order : List ℕ) (old new : Shown) (watch : Watched) → StartsReport gives suite order old new watch → StartsReport gives (record suite { printer = q }) order old new watch
   starts_same order old new watch s =
       let P : List ℕ → Type 0 = λ t. Stopped old new t in
       record {
