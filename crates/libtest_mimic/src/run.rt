@@ -104,10 +104,6 @@ fn select<R: Drop>(args: &Arguments, trials: &mut Vec<Trial<R>>) -> u64
     ensures selection { IsSelection args.now trials.old.items trials.new.items }
     ensures dropped { result ≡ length trials.old.items - length trials.new.items }
 {
-    // Without a selection the trials need not be gone through.
-    if args.filter.is_none() && args.skip.is_empty() && !args.ignored {
-        return 0;
-    }
     let count = trials.len();
     trials.retain(
         |trial| -> bool

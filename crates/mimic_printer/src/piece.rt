@@ -42,10 +42,12 @@ pub(crate) fn put_pieces<W: Write>(
     ensures { Puts W.contents sink.old sink.new (pieces_text pieces.now) result }
 {
     let mut row = [0; ROW];
+    // A fault is large: handing on the result whole costs more than to ask whether it is one.
     match write_row(pieces, &mut row) {
-        Some(len) => sink.put(&row[..len]),
-        None => put_each(sink, pieces),
+        Some(len) => sink.put(&row[..len])?,
+        None => put_each(sink, pieces)?,
     }
+    Ok(())
 }
 
 // Puts the pieces one after another.
