@@ -1,10 +1,7 @@
-use Rattle.std.proofs.Common.{◌≡◌, false, rules, ap, arith, None, [], length, inl, inr}
-use Rattle.std.proofs.lemmas.Bool.Decides.{nat_tests}
-use Rattle.std.proofs.lemmas.List.{nil_from_length}
-use Rattle.std.specs.Prelude.{vec_len}
+use Rattle.std.proofs.Common.{◌≡◌, false, rules}
 use Rattle.std.specs.Prelude.{◌↔◌, IsFalse}
 use Rattle.libtest_mimic.specs.Selection.{IsDropped}
-use Rattle.libtest_mimic.proofs.Selecting.{LeavesOut-from_retain, LeavesOut-none}
+use Rattle.libtest_mimic.proofs.Selecting.{LeavesOut-from_retain}
 use Rattle.libtest_mimic.proofs.run.select.Goals as goal
 
 pub returns-clause-selection : goal.returns-clause-selection
