@@ -2,8 +2,11 @@
 use Rattle.std.specs.Prelude.{◌≡◌, ◌<◌, ℕ, List, length, map, All}
 use Rattle.mimic_trial.specs.Places.{placed_at, rows_at}
 use Rattle.mimic_trial.specs.Row.{Row, label_of, rows_from}
+use Rattle.mimic_printer.specs.declared.failures.Part.{Part}
+use Rattle.mimic_printer.specs.declared.failures.Part.TheVariants.{Message, Name}
 use Rattle.mimic_printer.specs.declared.failures.Rows.{Rows}
 use Rattle.mimic_printer.specs.declared.failures.Rows.TheVariants.{Kept, Placed}
+use Rattle.mimic_printer.specs.Report.{row_failed_name, row_failure}
 
 -- the rows that are gone over
 abbrev pub rows_in : Rows → List Row
@@ -19,3 +22,8 @@ count_in (Placed infos order outcomes) = length order.now
 abbrev pub HasItsPlaces : Rows → Type 0
 HasItsPlaces (Kept rows) = Unit {0}
 HasItsPlaces (Placed infos order outcomes) = (length infos.now ≡ length outcomes.now) × All (λ p. p < length infos.now) order.now
+
+-- what is told of a row, where it failed
+abbrev pub row_part : Part → Row → List ℕ
+row_part Message row = row_failure row
+row_part Name row = row_failed_name row

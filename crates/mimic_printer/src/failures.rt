@@ -2,9 +2,9 @@
 ghost use Rattle.std.specs.Prelude.{◌≡◌, ◌-◌, ◌^◌, ◌<◌};
 ghost use Rattle.std.specs.List.{flat_map, list_any};
 ghost use Rattle.mimic_trial.specs.Count.{is_failed};
-ghost use Rattle.mimic_trial.specs.Row.{label_of, outcomes_of};
-ghost use Rattle.mimic_printer.specs.Failures.{HasItsPlaces, rows_in};
-ghost use Rattle.mimic_printer.specs.Report.{failed_name, failure_text, failures_if_any, failures_of, row_failed_name, row_failure};
+ghost use Rattle.mimic_trial.specs.Row.{label_of, outcomes_of, row_of};
+ghost use Rattle.mimic_printer.specs.Failures.{HasItsPlaces, row_part, rows_in};
+ghost use Rattle.mimic_printer.specs.Report.{failed_name, failure_text, failures_if_any, failures_of};
 ghost use Rattle.mimic_printer.specs.Sink.{Puts, faults_of};
 
 use crate::piece::{Piece, put_pieces};
@@ -59,6 +59,13 @@ impl<'a> Rows<'a> {
     }
 }
 
+// What is told of a row that failed: first come all messages, and then all names.
+#[derive(Clone, Copy)]
+enum Part {
+    Message,
+    Name,
+}
+
 // Writes the failures of the rows, and nothing where none failed.
 pub(crate) fn put_if_any<W: Write>(sink: &mut Sink<W>, rows: Rows<'_>) -> Result<(), WriteFault>
     requires room { faults_of sink.old < 2 ^ 64 - 1 }
@@ -93,33 +100,37 @@ fn put_failures<W: Write>(sink: &mut Sink<W>, rows: Rows<'_>) -> Result<(), Writ
     ensures { Puts W.contents sink.old sink.new (failures_of (rows_in rows.entry)) result }
 {
     sink.put(b"\nfailures:\n\n")?;
-    put_messages(sink, rows)?;
+    put_each(sink, rows, Part::Message)?;
     sink.put(b"\nfailures:\n")?;
-    put_names(sink, rows)
+    put_each(sink, rows, Part::Name)
 }
 
-fn put_messages<W: Write>(sink: &mut Sink<W>, rows: Rows<'_>) -> Result<(), WriteFault>
+// Puts the part of each row that failed.
+fn put_each<W: Write>(sink: &mut Sink<W>, rows: Rows<'_>, part: Part) -> Result<(), WriteFault>
     requires room { faults_of sink.old < 2 ^ 64 - 1 }
     requires places { HasItsPlaces rows }
-    ensures { Puts W.contents sink.old sink.new (flat_map row_failure (rows_in rows.entry)) result }
+    ensures { Puts W.contents sink.old sink.new (flat_map (row_part part) (rows_in rows.entry)) result }
 {
     for number in 0..rows.len() {
         let (info, outcome) = rows.row(number);
-        put_message(sink, info, outcome)?;
+        put_part(sink, part, info, outcome)?;
     }
     Ok(())
 }
 
-fn put_names<W: Write>(sink: &mut Sink<W>, rows: Rows<'_>) -> Result<(), WriteFault>
-    requires room { faults_of sink.old < 2 ^ 64 - 1 }
-    requires places { HasItsPlaces rows }
-    ensures { Puts W.contents sink.old sink.new (flat_map row_failed_name (rows_in rows.entry)) result }
+fn put_part<'a, W: Write>(
+    sink: &mut Sink<W>,
+    part: Part,
+    info: &'a TestInfo,
+    outcome: &'a Outcome,
+) -> Result<(), WriteFault>
+    requires { faults_of sink.old < 2 ^ 64 - 1 }
+    ensures { Puts W.contents sink.old sink.new (row_part part (row_of info.now outcome.now)) result }
 {
-    for number in 0..rows.len() {
-        let (info, outcome) = rows.row(number);
-        put_name(sink, info, outcome)?;
+    match part {
+        Part::Message => put_message(sink, info, outcome),
+        Part::Name => put_name(sink, info, outcome),
     }
-    Ok(())
 }
 
 fn put_message<'a, W: Write>(

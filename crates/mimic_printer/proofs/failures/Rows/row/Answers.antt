@@ -26,4 +26,4 @@ returns-in-Placed c =
     let place = get_or c.in-Placed.order.now c.args.number 0 in
     sym (ap (λ r. get_or (rows_in r) c.args.number row) c.in-Placed.is
     ∙ row_is_at c.in-Placed.infos.now c.in-Placed.order.now c.in-Placed.outcomes.now c.args.number place c.index-infos-place.result c.index-outcomes-place.result row has.0 has.1
-        within (get_or_default c.in-Placed.order.now c.args.number 0 place within) c.index-infos-place.is c.index-outcomes-place.is)
+    within (get_or_default c.in-Placed.order.now c.args.number 0 place within) c.index-infos-place.is c.index-outcomes-place.is)
