@@ -7,7 +7,7 @@ use Rattle.mimic_trial.specs.Trial.{labels_of, runner_of}
 use Rattle.mimic_printer.specs.Sink.{shown}
 use Rattle.mimic_printer.proofs.Appending.{Put-refl}
 use Rattle.libtest_mimic.specs.Arrangement.{IsOwnAt}
-use Rattle.libtest_mimic.specs.Steps.{RowsStopped, RowsWritten}
+use Rattle.libtest_mimic.specs.Steps.{RowsStopped, RowsWritten, suite_with}
 use Rattle.libtest_mimic.specs.Suite.{Suite}
 use Rattle.libtest_mimic.proofs.RowsInOrder.{All-next, HasRoom-tally, HasRoomFor-tally, count_rows, IsOwn-from_runner, IsOwnAt-next, RowsSoFar-push, label_at-next, longer, stopped_announcement, stopped_outcome}
 use Rattle.libtest_mimic.proofs.run.in_order.run_rows.Goals as goal
@@ -15,7 +15,7 @@ use Rattle.libtest_mimic.proofs.run.in_order.run_rows.Goals as goal
 pub loop-trial-init : goal.loop-trial-init
 loop-trial-init g c =
     let trials = c.args.trials.items in
-    let suite : Suite _ = record { args = c.args.args.now; trials = trials; printer = c.args.printer.now; filtered_out = c.args.tally.now.conclusion.num_filtered_out } in
+    let suite : Suite _ = suite_with c.args.args.now trials c.args.printer.now c.args.tally.now in
     record {
       seen = search rules;
       room = c.requires.capacity;
@@ -37,7 +37,7 @@ loop-trial-preserved g c =
     let o = c.run_unless-outcome.result in
     let all = c.args.trials.items in
     let seen = c.loop-trial.yielded in
-    let suite : Suite _ = record { args = c.args.args.now; trials = all; printer = c.args.printer.now; filtered_out = c.args.tally.now.conclusion.num_filtered_out } in
+    let suite : Suite _ = suite_with c.args.args.now all c.args.printer.now c.args.tally.now in
     let split = ap (λ l. seen ++ l) (sym c.in-Some.ensures.steps.0) ∙ c.loop-trial.invariant.seen in
     let label = ap label_of c.into_parts-info.ensures.info ∙ label_at-next seen _ all trial (length seen) split refl in
     let own = IsOwn-from_runner gives suite.args trial c.into_parts-info.result.1 c.is_ignored-ignored.result o c.is_ignored-ignored.ensures c.into_parts-info.ensures.runner c.run_unless-outcome.ensures in
@@ -55,7 +55,7 @@ returns-in_err-print_test g c =
     let trial = c.in-Some.trial in
     let all = c.args.trials.items in
     let seen = c.loop-trial.yielded in
-    let suite : Suite _ = record { args = c.args.args.now; trials = all; printer = c.args.printer.now; filtered_out = c.args.tally.now.conclusion.num_filtered_out } in
+    let suite : Suite _ = suite_with c.args.args.now all c.args.printer.now c.args.tally.now in
     let split = ap (λ l. seen ++ l) (sym c.in-Some.ensures.steps.0) ∙ c.loop-trial.invariant.seen in
     let label = ap label_of c.into_parts-info.ensures.info ∙ label_at-next seen _ all trial (length seen) split refl in
     let stopped = stopped_announcement g.R.Task.gives suite (length seen) _ (told c.loop-trial.sink) (told c.print_test.new.sink) c.loop-trial.tally c.loop-trial.invariant.so_far c.into_parts-info.result.0 _
@@ -73,7 +73,7 @@ returns-in_err-print_single_outcome g c =
     let o = c.run_unless-outcome.result in
     let all = c.args.trials.items in
     let seen = c.loop-trial.yielded in
-    let suite : Suite _ = record { args = c.args.args.now; trials = all; printer = c.args.printer.now; filtered_out = c.args.tally.now.conclusion.num_filtered_out } in
+    let suite : Suite _ = suite_with c.args.args.now all c.args.printer.now c.args.tally.now in
     let split = ap (λ l. seen ++ l) (sym c.in-Some.ensures.steps.0) ∙ c.loop-trial.invariant.seen in
     let label = ap label_of c.into_parts-info.ensures.info ∙ label_at-next seen _ all trial (length seen) split refl in
     let own = IsOwn-from_runner gives suite.args trial c.into_parts-info.result.1 c.is_ignored-ignored.result o c.is_ignored-ignored.ensures c.into_parts-info.ensures.runner c.run_unless-outcome.ensures in
