@@ -7,9 +7,9 @@ ghost use Rattle.mimic_trial.specs.Row.{label_of};
 use crate::Printer;
 use crate::colour::{colour_end, colour_start};
 use crate::columns::{kind_len, name_len};
-use crate::piece::{Piece, brackets, put_pieces};
+use crate::piece::{Piece, put_pieces};
 use crate::sink::{Sink, WriteFault};
-use mimic_text::hundredths;
+use mimic_text::{brackets, hundredths};
 use mimic_trial::{Conclusion, Failed, Outcome, TestInfo};
 use std::io::Write;
 
