@@ -8,7 +8,7 @@ use Rattle.std.proofs.lemmas.Str.{chars-append, chars-nil, chars_from_encodes, I
 use lib.Utf8.{encodes}
 use Rattle.mimic_text.specs.Text.{kind_part}
 use Rattle.mimic_printer.specs.Widths.{widest}
-use Rattle.mimic_trial.specs.Row.{Label}
+use Rattle.mimic_printer.specs.Row.{Label}
 
 kind_part_chars-some : (kind : List ℕ) → IsUtf8 kind → 0 < length kind → length (chars (kind_part kind)) ≡ length (chars kind) + 3
 unfolding chars is_utf8 lib.Utf8.encode

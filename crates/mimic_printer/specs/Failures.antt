@@ -1,12 +1,12 @@
 -- The rows of which the failures are told, for the private functions that go over them. No public clause names these words.
 use Rattle.std.specs.Prelude.{◌≡◌, ◌<◌, ℕ, List, length, map, All}
-use Rattle.mimic_trial.specs.Places.{placed_at, rows_at}
-use Rattle.mimic_trial.specs.Row.{Row, label_of, rows_from}
+use Rattle.mimic_trial.specs.Places.{placed_at}
+use Rattle.mimic_printer.specs.Row.{rows_at, PrintedRow, label_of, rows_from}
 use Rattle.mimic_printer.specs.declared.failures.Rows.{Rows}
 use Rattle.mimic_printer.specs.declared.failures.Rows.TheVariants.{Kept, Placed}
 
 -- the rows that are gone over
-abbrev pub rows_in : Rows → List Row
+abbrev pub rows_in : Rows → List PrintedRow
 rows_in (Kept rows) = rows_from rows.now
 rows_in (Placed infos order outcomes) = rows_at (map label_of infos.now) (placed_at order.now outcomes.now)
 

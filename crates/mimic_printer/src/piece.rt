@@ -4,7 +4,7 @@ ghost use Rattle.std.specs.Option.{MatchOption};
 ghost use Rattle.mimic_printer.specs.Sink.{Puts, faults_of};
 ghost use Rattle.mimic_text.specs.Escape.{escaped};
 ghost use Rattle.mimic_text.specs.Text.{spaces, right_aligned, grouped};
-ghost use Rattle.mimic_printer.specs.Steps.{pieces_text};
+ghost use Rattle.mimic_printer.specs.Piece.{pieces_text};
 
 use crate::sink::{Sink, WriteFault};
 use itoa::Buffer;
@@ -91,7 +91,7 @@ fn append(row: &mut [u8; ROW], len: usize, text: &[u8]) -> Option<usize>
 impl Piece<'_> {
     ghost use Rattle.std.specs.Prelude.{◌≡◌, ◌-◌, ◌^◌, ◌<◌, ◌≤◌, ◌++◌, IfSome, take};
     ghost use Rattle.mimic_printer.specs.Sink.{Puts, faults_of};
-    ghost use Rattle.mimic_printer.specs.Steps.{piece_text};
+    ghost use Rattle.mimic_printer.specs.Piece.{piece_text};
 
     // Writes the piece behind the first `len` bytes of the row, and answers where it ends. `None` as for a row.
     #[tactic(auto, using(crate::proofs::Escaping::spelled_as_is))]

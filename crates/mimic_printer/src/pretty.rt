@@ -2,7 +2,7 @@
 ghost use Rattle.std.specs.Prelude.{◌≡◌, ◌-◌, ◌^◌, ◌<◌};
 ghost use Rattle.mimic_printer.specs.Report.{noun_text, outcome_line, outcome_word, pretty_announcement, result_summary, running_title, verdict_of};
 ghost use Rattle.mimic_printer.specs.Sink.{Puts, faults_of};
-ghost use Rattle.mimic_trial.specs.Row.{label_of};
+ghost use Rattle.mimic_printer.specs.Row.{label_of};
 
 use crate::Printer;
 use crate::colour::{colour_end, colour_start};

@@ -1,7 +1,7 @@
 use Rattle.std.proofs.Common.{sym, subst}
 use Rattle.mimic_args.specs.declared.FormatSetting.{FormatSetting}
 use Rattle.mimic_printer.specs.Report.{announcement_in}
-use Rattle.mimic_trial.specs.Row.{label_of}
+use Rattle.mimic_printer.specs.Row.{label_of}
 use Rattle.mimic_printer.specs.Sink.{Puts}
 use Rattle.mimic_printer.proofs.Appending.{Puts_after}
 use Rattle.mimic_printer.proofs.Printer.print_test.Goals as goal

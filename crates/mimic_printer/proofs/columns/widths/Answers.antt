@@ -1,6 +1,6 @@
 use Rattle.std.proofs.Common.{◌≡◌, map, refl, rules, subst}
 use Rattle.std.proofs.lemmas.Fn.{fold_over, fronts, slice_gives}
-use Rattle.mimic_trial.specs.Row.{label_of}
+use Rattle.mimic_printer.specs.Row.{label_of}
 use Rattle.mimic_printer.specs.Widths.{name_width_of, kind_width_of, name_chars, kind_chars}
 use Rattle.mimic_printer.proofs.Characters.{widest-push}
 use Rattle.mimic_printer.proofs.columns.widths.Goals as goal

@@ -1,7 +1,7 @@
 use Rattle.std.proofs.Common.{◌≡◌, refl, rules, subst}
 use Rattle.std.proofs.lemmas.Fn.{fold_over, fronts, slice_gives}
-use Rattle.mimic_trial.specs.Row.{label_of}
-use Rattle.mimic_trial.specs.Trial.{info_of, labels_of}
+use Rattle.mimic_printer.specs.Row.{label_of, labels_of}
+use Rattle.mimic_trial.specs.Trial.{info_of}
 use Rattle.mimic_printer.specs.Widths.{name_width_of, kind_width_of, name_chars, kind_chars}
 use Rattle.mimic_printer.proofs.Characters.{widest-push}
 use Rattle.mimic_printer.proofs.columns.widths_of_trials.Goals as goal

@@ -1,7 +1,7 @@
 use Rattle.std.proofs.Common.{◌<◌, length, get_or, sym, subst, ap, ◌∙◌}
 use Rattle.std.proofs.lemmas.List.{get_or_default}
 use Rattle.std.proofs.lemmas.List.Elements.{All-get_or}
-use Rattle.mimic_trial.specs.Row.{row_of}
+use Rattle.mimic_printer.specs.Row.{row_of}
 use Rattle.mimic_printer.specs.Failures.{HasItsPlaces, count_in, rows_in}
 use Rattle.mimic_printer.proofs.FailedRows.{row_is_at}
 use Rattle.mimic_printer.proofs.failures.Rows.row.Goals as goal
@@ -26,4 +26,4 @@ returns-in-Placed c =
     let place = get_or c.in-Placed.order.now c.args.number 0 in
     sym (ap (λ r. get_or (rows_in r) c.args.number row) c.in-Placed.is
     ∙ row_is_at c.in-Placed.infos.now c.in-Placed.order.now c.in-Placed.outcomes.now c.args.number place c.index-infos-place.result c.index-outcomes-place.result row has.0 has.1
-        within (get_or_default c.in-Placed.order.now c.args.number 0 place within) c.index-infos-place.is c.index-outcomes-place.is)
+    within (get_or_default c.in-Placed.order.now c.args.number 0 place within) c.index-infos-place.is c.index-outcomes-place.is)
