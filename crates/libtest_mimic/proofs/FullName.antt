@@ -88,3 +88,8 @@ whole_parts p h t a b cut same s e =
 pub parts_whole : (p h t a b : List ℕ) → p ≡ h ++ t → length h ≡ length a → p ≡ a ++ b → t ≡ b
 parts_whole p h t a b cut same e =
     sym (drop_at h t (length a) same) ∙ ap (drop (length a)) (sym cut ∙ e) ∙ drop_at a b (length a) refl
+
+-- and its front is the first text
+pub whole_front : (p h t a b : List ℕ) → p ≡ h ++ t → length h ≡ length a → p ≡ a ++ b → StandsAt h a 0
+whole_front p h t a b cut same e =
+    (past_stands p h t a b 0 cut (omega arith) (omega (arith, same)) ([], sym e ∙ sym (append-nil p))).0

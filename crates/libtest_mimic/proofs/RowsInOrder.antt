@@ -12,12 +12,12 @@ use Rattle.mimic_trial.specs.declared.outcome.Outcome.{Outcome}
 use Rattle.mimic_trial.specs.declared.outcome.Outcome.TheVariants.{Ignored}
 use Rattle.mimic_trial.specs.declared.trial.TestInfo.{TestInfo}
 use Rattle.mimic_trial.specs.declared.trial.Trial.{Trial}
-use Rattle.mimic_trial.specs.Count.{HasRoom, is_failed}
-use Rattle.mimic_trial.specs.Places.{InOrder, Placed, label_at, places_of, rows_at}
+use Rattle.mimic_trial.specs.Count.{HasRoom, counted, counts_of, is_failed}
+use Rattle.mimic_trial.specs.Places.{InOrder, Placed, places_of}
+use Rattle.mimic_printer.specs.Row.{label_at, rows_at, Label, PrintedRow, label_of, outcomes_of, row_of, labels_of}
 use Rattle.mimic_trial.specs.Promise.{FitsTypes, Gives}
-use Rattle.mimic_trial.specs.Row.{Label, Row, label_of, outcomes_of, row_of}
-use Rattle.mimic_trial.specs.Trial.{info_of, runner_of, labels_of}
-use Rattle.mimic_trial.proofs.Counting.{HasRoom-counts}
+use Rattle.mimic_trial.specs.Trial.{info_of, runner_of}
+use Rattle.mimic_trial.proofs.Counting.{HasRoom-counts, counts-push}
 use Rattle.mimic_printer.specs.declared.Printer.{Printer}
 use Rattle.mimic_printer.specs.Report.{announcement_text, outcome_text, row_text, rows_text}
 use Rattle.mimic_printer.specs.Sink.{Shown, Put, Stopped}
@@ -96,7 +96,7 @@ count_rows labels placed = length-map placed _
 
 -- ---- one more row
 
-rows_text-push : (p : Printer) (rows : List Row) (row : Row) → rows_text p (rows ++ row ∷ []) ≡ rows_text p rows ++ row_text p row
+rows_text-push : (p : Printer) (rows : List PrintedRow) (row : PrintedRow) → rows_text p (rows ++ row ∷ []) ≡ rows_text p rows ++ row_text p row
 rows_text-push p rows row =
     flat_map-append (row_text p) rows (row ∷ []) ∙ ap (λ l. rows_text p rows ++ l) (append-nil (row_text p row))
 
@@ -106,7 +106,7 @@ rows_at-push labels placed info o e =
     ap (λ (l : Label). rows_at labels placed ++ record { label = l; outcome = o } ∷ []) e
     ∙ sym (map-append (λ (p : Placed). record { label = label_at labels p.0; outcome = p.1 }) placed ((length placed, o) ∷ []))
 
-module _ (p : Printer) (rows : List Row) (info : TestInfo) (o : Outcome) (a b c d : Shown) where
+module _ (p : Printer) (rows : List PrintedRow) (info : TestInfo) (o : Outcome) (a b c d : Shown) where
   Put-row : Put a b (rows_text p rows) → Put b c (announcement_text p (label_of info)) → Put c d (outcome_text p (label_of info) o) → Put a d (rows_text p (rows ++ row_of info o ∷ []))
   Put-row u v w =
       let P : List ℕ → Type 0 = λ t. Put a d t in
@@ -119,26 +119,30 @@ module _ (p : Printer) (rows : List Row) (info : TestInfo) (o : Outcome) (a b c 
 
 -- ---- what a tally has room for
 
-length-outcomes : (rows : List Row) → length (outcomes_of rows) ≡ length rows
-length-outcomes rows = length-map rows (λ (row : Row). row.outcome)
+-- the counts of one more row
+pub counts-row : (rows : List PrintedRow) (row : PrintedRow) (filtered_out : ℕ) → counts_of (outcomes_of (rows ++ row ∷ [])) filtered_out ≡ counted (counts_of (outcomes_of rows) filtered_out) row.outcome
+counts-row rows row n = ap (λ os. counts_of os n) (map-append (λ (r : PrintedRow). r.outcome) rows (row ∷ [])) ∙ counts-push (outcomes_of rows) row.outcome n
 
-length-failed : (rows : List Row) → length (filter (λ (row : Row). is_failed row.outcome) rows) ≤ length rows
+length-outcomes : (rows : List PrintedRow) → length (outcomes_of rows) ≡ length rows
+length-outcomes rows = length-map rows (λ (row : PrintedRow). row.outcome)
+
+length-failed : (rows : List PrintedRow) → length (filter (λ (row : PrintedRow). is_failed row.outcome) rows) ≤ length rows
 length-failed rows =
-    let f : Row → Bool = λ row. is_failed row.outcome in
+    let f : PrintedRow → Bool = λ row. is_failed row.outcome in
     omega (arith, length-filter f rows, count_by-le-length f rows)
 
 -- a tally has kept at most as many failures as it has counted rows
-length-kept : (t : Tally) (filtered_out : ℕ) (rows : List Row) → HasCounted t filtered_out rows → vec_len t.failures ≤ length rows
+length-kept : (t : Tally) (filtered_out : ℕ) (rows : List PrintedRow) → HasCounted t filtered_out rows → vec_len t.failures ≤ length rows
 length-kept t filtered_out rows h =
     omega (arith, t.failures.ok.0, length-map t.failures.items (λ p. row_of p.0 p.1), ap length h.failed, length-failed rows)
 
 -- there is room to count one more row
-pub HasRoom-tally : (t : Tally) (filtered_out : ℕ) (rows : List Row) → HasCounted t filtered_out rows → length rows < 2 ^ 64 - 1 → HasRoom t.conclusion
+pub HasRoom-tally : (t : Tally) (filtered_out : ℕ) (rows : List PrintedRow) → HasCounted t filtered_out rows → length rows < 2 ^ 64 - 1 → HasRoom t.conclusion
 HasRoom-tally t filtered_out rows h small =
     subst HasRoom (sym h.counts) (HasRoom-counts (outcomes_of rows) filtered_out (omega (arith, length-outcomes rows)))
 
 -- and to keep it
-pub HasRoomFor-tally : (t : Tally) (filtered_out : ℕ) (rows : List Row) (n : ℕ) → HasCounted t filtered_out rows → HasRoomFor t n → length rows < n → HasRoomFor t (vec_len t.failures + 1)
+pub HasRoomFor-tally : (t : Tally) (filtered_out : ℕ) (rows : List PrintedRow) (n : ℕ) → HasCounted t filtered_out rows → HasRoomFor t n → length rows < n → HasRoomFor t (vec_len t.failures + 1)
 HasRoomFor-tally t filtered_out rows n h room within = omega (arith, length-kept t filtered_out rows h, room)
 
 -- ---- the rows so far
@@ -169,11 +173,11 @@ module _ {R : Type 0} (gives : Gives R) where
 
     -- one more trial ran
     pub RowsSoFar-push : (u : Tally) → Put b c (announcement_text suite.printer (label_of info)) → Put c d (outcome_text suite.printer (label_of info) o)
-        → ((filtered_out : ℕ) (rows : List Row) → HasCounted t filtered_out rows → HasCounted u filtered_out (rows ++ row_of info o ∷ [])) → RowsSoFar suite (count + 1) a d u
+        → ((filtered_out : ℕ) (rows : List PrintedRow) → HasCounted t filtered_out rows → HasCounted u filtered_out (rows ++ row_of info o ∷ [])) → RowsSoFar suite (count + 1) a d u
     RowsSoFar-push u announced ended counted =
         let rows = rows_of suite so_far.placed in
-        let P : List Row → Type 0 = λ l. Put a d (rows_text suite.printer l) in
-        let Q : List Row → Type 0 = λ l. HasCounted u suite.filtered_out l in
+        let P : List PrintedRow → Type 0 = λ l. Put a d (rows_text suite.printer l) in
+        let Q : List PrintedRow → Type 0 = λ l. HasCounted u suite.filtered_out l in
         let push = rows_at-push (labels_of suite.trials) so_far.placed info o here in
         record {
           placed = so_far.placed ++ (length so_far.placed, o) ∷ [];
@@ -189,7 +193,7 @@ module _ {R : Type 0} (gives : Gives R) where
         → RowsStopped gives suite a d
     stopped_outcome m more announced ended =
         let rows = rows_of suite so_far.placed in
-        let P : List Row → Type 0 = λ l. Stopped a d (rows_text suite.printer l) in
+        let P : List PrintedRow → Type 0 = λ l. Stopped a d (rows_text suite.printer l) in
         let placed : List Placed = so_far.placed ++ (length so_far.placed, o) ∷ [] in
         record {
           placed = placed;

@@ -10,13 +10,13 @@ use Rattle.mimic_trial.specs.declared.outcome.Outcome.{Outcome}
 use Rattle.mimic_trial.specs.declared.outcome.Outcome.TheVariants.{Passed, Failed, Ignored, Measured}
 use Rattle.mimic_printer.specs.declared.Printer.{Printer}
 use Rattle.mimic_trial.specs.declared.trial.TestInfo.{TestInfo}
-use Rattle.mimic_trial.specs.Places.{label_at, placed_at, placed_if, rows_at}
+use Rattle.mimic_trial.specs.Places.{placed_at, placed_if}
+use Rattle.mimic_printer.specs.Row.{label_at, rows_at, Label, PrintedRow, label_of, row_of, outcomes_of}
 use Rattle.mimic_trial.specs.Count.{is_failed}
 use Rattle.mimic_printer.specs.declared.failures.Rows.{Rows}
 use Rattle.mimic_printer.specs.declared.failures.Rows.TheVariants.{Kept, Placed}
 use Rattle.mimic_printer.specs.Failures.{HasItsPlaces, count_in, rows_in}
 use Rattle.mimic_printer.specs.Report.{failure_text, failed_name, row_failure, row_failed_name, failures_of, failures_if_any, failures_in, failures_text}
-use Rattle.mimic_trial.specs.Row.{Label, Row, label_of, row_of, outcomes_of}
 
 -- ---- by place
 
@@ -35,7 +35,7 @@ length-rows_at infos (p ∷ ps) os n all =
     ap (λ l. length (rows_at (map label_of infos) l)) (placed-cons os p ps (get_or os p Passed) j (sym (get_or_default os p (get_or os p Passed) Passed j))) ∙ ap (λ m. suc m) next
 
 -- the row of a number is that of the info and the outcome at the place
-pub row_is_at : (infos : List TestInfo) (order : List ℕ) (os : List Outcome) (k p : ℕ) (t : TestInfo) (o : Outcome) (d : Row) → length infos ≡ length os → All (λ q. q < length infos) order
+pub row_is_at : (infos : List TestInfo) (order : List ℕ) (os : List Outcome) (k p : ℕ) (t : TestInfo) (o : Outcome) (d : PrintedRow) → length infos ≡ length os → All (λ q. q < length infos) order
     → k < length order → p ≡ get_or order k p → t ≡ get_or infos p t → o ≡ get_or os p o → get_or (rows_at (map label_of infos) (placed_at order os)) k d ≡ row_of t o
 row_is_at infos [] os k p t o d n all i e f g = absurd (omega arith)
 row_is_at infos (q ∷ qs) os zero p t o d n all i e f g =
@@ -62,22 +62,22 @@ or-true true = refl
 or-true false = refl
 
 -- whether the row of a number failed
-pub any-failed_row : (rows : List Row) (k : ℕ) (row : Row) → k < length rows → row ≡ get_or rows k row → is_failed row.outcome ≡ true → list_any is_failed (outcomes_of rows) ≡ true
+pub any-failed_row : (rows : List PrintedRow) (k : ℕ) (row : PrintedRow) → k < length rows → row ≡ get_or rows k row → is_failed row.outcome ≡ true → list_any is_failed (outcomes_of rows) ≡ true
 any-failed_row [] k row i e h = absurd (omega arith)
 any-failed_row (r ∷ rows) zero row i e h = ap (λ x. is_failed x.outcome || list_any is_failed (outcomes_of rows)) (sym e) ∙ ap (λ b. b || list_any is_failed (outcomes_of rows)) h
 any-failed_row (r ∷ rows) (suc k) row i e h = ap (λ b. is_failed r.outcome || b) (any-failed_row rows k row (omega arith) e h) ∙ or-true (is_failed r.outcome)
 
-pub failures-some : (rows : List Row) → list_any is_failed (outcomes_of rows) ≡ true → failures_if_any rows ≡ failures_of rows
+pub failures-some : (rows : List PrintedRow) → list_any is_failed (outcomes_of rows) ≡ true → failures_if_any rows ≡ failures_of rows
 unfolding failures_if_any
 failures-some rows h = rw h
 
-pub failures-none : (rows : List Row) → list_any is_failed (outcomes_of rows) ≡ false → failures_if_any rows ≡ []
+pub failures-none : (rows : List PrintedRow) → list_any is_failed (outcomes_of rows) ≡ false → failures_if_any rows ≡ []
 unfolding failures_if_any
 failures-none rows h = rw h
 
 -- ---- of the rows that failed alone
 
-abbrev is_failed_row : Row → Bool
+abbrev is_failed_row : PrintedRow → Bool
 is_failed_row row = is_failed row.outcome
 
 failure_text-none : (l : Label) (o : Outcome) → is_failed o ≡ false → failure_text l o ≡ []
@@ -92,24 +92,24 @@ failed_name-none l (Failed f) h = cc
 failed_name-none l Ignored h = refl
 failed_name-none l (Measured m) h = refl
 
-any_step : (row : Row) (rows : List Row) (b : Bool) → is_failed_row row ≡ b → list_any is_failed (outcomes_of (cond b (row ∷ rows) rows)) ≡ is_failed_row row || list_any is_failed (outcomes_of rows)
+any_step : (row : PrintedRow) (rows : List PrintedRow) (b : Bool) → is_failed_row row ≡ b → list_any is_failed (outcomes_of (cond b (row ∷ rows) rows)) ≡ is_failed_row row || list_any is_failed (outcomes_of rows)
 any_step row rows true h = refl
 any_step row rows false h = ap (λ c. c || list_any is_failed (outcomes_of rows)) (sym h)
 
-any-failed : (rows : List Row) → list_any is_failed (outcomes_of (filter is_failed_row rows)) ≡ list_any is_failed (outcomes_of rows)
+any-failed : (rows : List PrintedRow) → list_any is_failed (outcomes_of (filter is_failed_row rows)) ≡ list_any is_failed (outcomes_of rows)
 any-failed [] = refl
 any-failed (row ∷ rows) = any_step row (filter is_failed_row rows) (is_failed_row row) refl ∙ ap (λ b. is_failed_row row || b) (any-failed rows)
 
-text_step : (f : Row → List ℕ) → ((row : Row) → is_failed_row row ≡ false → f row ≡ []) → (row : Row) (rows : List Row) (b : Bool) → is_failed_row row ≡ b
+text_step : (f : PrintedRow → List ℕ) → ((row : PrintedRow) → is_failed_row row ≡ false → f row ≡ []) → (row : PrintedRow) (rows : List PrintedRow) (b : Bool) → is_failed_row row ≡ b
     → flat_map f (cond b (row ∷ rows) rows) ≡ f row ++ flat_map f rows
 text_step f none row rows true h = refl
 text_step f none row rows false h = ap (λ t. t ++ flat_map f rows) (sym (none row h))
 
-text-failed : (f : Row → List ℕ) → ((row : Row) → is_failed_row row ≡ false → f row ≡ []) → (rows : List Row) → flat_map f (filter is_failed_row rows) ≡ flat_map f rows
+text-failed : (f : PrintedRow → List ℕ) → ((row : PrintedRow) → is_failed_row row ≡ false → f row ≡ []) → (rows : List PrintedRow) → flat_map f (filter is_failed_row rows) ≡ flat_map f rows
 text-failed f none [] = refl
 text-failed f none (row ∷ rows) = text_step f none row (filter is_failed_row rows) (is_failed_row row) refl ∙ ap (λ t. f row ++ t) (text-failed f none rows)
 
-failures-failed : (rows : List Row) → failures_if_any (filter is_failed_row rows) ≡ failures_if_any rows
+failures-failed : (rows : List PrintedRow) → failures_if_any (filter is_failed_row rows) ≡ failures_if_any rows
 unfolding failures_if_any
 failures-failed rows =
     let any = any-failed rows in
@@ -117,13 +117,13 @@ failures-failed rows =
     let names = text-failed row_failed_name (λ row. failed_name-none row.label row.outcome) rows in
     rw (any, messages, names)
 
-failures_in-failed : (f : FormatSetting) (rows : List Row) → failures_in f (filter is_failed_row rows) ≡ failures_in f rows
+failures_in-failed : (f : FormatSetting) (rows : List PrintedRow) → failures_in f (filter is_failed_row rows) ≡ failures_in f rows
 failures_in-failed Pretty rows = failures-failed rows
 failures_in-failed Terse rows = failures-failed rows
 failures_in-failed Json rows = refl
 
 -- the failures of all rows are those of the rows that failed
-pub failures_text-failed : (p : Printer) (rows : List Row) → failures_text p (filter is_failed_row rows) ≡ failures_text p rows
+pub failures_text-failed : (p : Printer) (rows : List PrintedRow) → failures_text p (filter is_failed_row rows) ≡ failures_text p rows
 failures_text-failed p rows = failures_in-failed p.format rows
 
 -- ---- the rows that a tally kept
@@ -140,8 +140,8 @@ range-shift a zero = refl
 range-shift a (suc n) = ap₂ (λ x xs. x ∷ xs) (add-one a) (range-shift (a + 1) n)
 
 -- one more row, of those that failed
-pub failed-push : (rows : List Row) (row : Row) → is_failed_row row ≡ true → filter is_failed_row (rows ++ row ∷ []) ≡ filter is_failed_row rows ++ row ∷ []
+pub failed-push : (rows : List PrintedRow) (row : PrintedRow) → is_failed_row row ≡ true → filter is_failed_row (rows ++ row ∷ []) ≡ filter is_failed_row rows ++ row ∷ []
 failed-push rows row h = filter-append is_failed_row rows (row ∷ []) ∙ ap (λ b. filter is_failed_row rows ++ cond b (row ∷ []) []) h
 
-pub failed-skip : (rows : List Row) (row : Row) → is_failed_row row ≡ false → filter is_failed_row (rows ++ row ∷ []) ≡ filter is_failed_row rows
+pub failed-skip : (rows : List PrintedRow) (row : PrintedRow) → is_failed_row row ≡ false → filter is_failed_row (rows ++ row ∷ []) ≡ filter is_failed_row rows
 failed-skip rows row h = filter-append is_failed_row rows (row ∷ []) ∙ ap (λ b. filter is_failed_row rows ++ cond b (row ∷ []) []) h ∙ append-nil (filter is_failed_row rows)

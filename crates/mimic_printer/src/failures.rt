@@ -2,7 +2,7 @@
 ghost use Rattle.std.specs.Prelude.{◌≡◌, ◌-◌, ◌^◌, ◌<◌};
 ghost use Rattle.std.specs.List.{flat_map, list_any};
 ghost use Rattle.mimic_trial.specs.Count.{is_failed};
-ghost use Rattle.mimic_trial.specs.Row.{label_of, outcomes_of, row_of};
+ghost use Rattle.mimic_printer.specs.Row.{label_of, outcomes_of, row_of};
 ghost use Rattle.mimic_printer.specs.Failures.{HasItsPlaces, row_part, rows_in};
 ghost use Rattle.mimic_printer.specs.Report.{failed_name, failure_text, failures_if_any, failures_of};
 ghost use Rattle.mimic_printer.specs.Sink.{Puts, faults_of};
@@ -27,7 +27,7 @@ pub(crate) enum Rows<'a> {
 
 impl<'a> Rows<'a> {
     ghost use Rattle.std.specs.Prelude.{◌≡◌, ◌<◌, slice_index_or};
-    ghost use Rattle.mimic_trial.specs.Row.{row_of};
+    ghost use Rattle.mimic_printer.specs.Row.{row_of};
     ghost use Rattle.mimic_printer.specs.Failures.{HasItsPlaces, count_in, rows_in};
 
     fn len(self) -> usize

@@ -3,8 +3,8 @@ ghost use Rattle.std.specs.Prelude.{◌≡◌, ◌-◌, ◌^◌, ◌<◌, ◌≤
 ghost use Rattle.std.specs.Option.{MatchOption};
 ghost use Rattle.mimic_printer.specs.Sink.{Puts, faults_of};
 ghost use Rattle.mimic_text.specs.Escape.{escaped};
-ghost use Rattle.mimic_text.specs.Text.{spaces, right_aligned, grouped, kind_part};
-ghost use Rattle.mimic_printer.specs.Steps.{pieces_text};
+ghost use Rattle.mimic_text.specs.Text.{spaces, right_aligned, grouped};
+ghost use Rattle.mimic_printer.specs.Piece.{pieces_text};
 
 use crate::sink::{Sink, WriteFault};
 use itoa::Buffer;
@@ -93,7 +93,7 @@ fn append(row: &mut [u8; ROW], len: usize, text: &[u8]) -> Option<usize>
 impl Piece<'_> {
     ghost use Rattle.std.specs.Prelude.{◌≡◌, ◌-◌, ◌^◌, ◌<◌, ◌≤◌, ◌++◌, IfSome, take};
     ghost use Rattle.mimic_printer.specs.Sink.{Puts, faults_of};
-    ghost use Rattle.mimic_printer.specs.Steps.{piece_text};
+    ghost use Rattle.mimic_printer.specs.Piece.{piece_text};
 
     // Writes the piece behind the first `len` bytes of the row, and answers where it ends. `None` as for a row.
     #[tactic(auto, using(crate::proofs::Escaping::spelled_as_is))]
@@ -166,15 +166,4 @@ fn put_escaped<W: Write>(sink: &mut Sink<W>, text: &[u8]) -> Result<(), WriteFau
         rest = &rest[at + 1..];
     }
     sink.put(rest)
-}
-
-// What stands before and after a kind: brackets, and nothing for an empty kind.
-pub(super) fn brackets(kind: &str) -> (&'static str, &'static str)
-    ensures { result.0.now ++ (kind.now ++ result.1.now) ≡ kind_part kind.now }
-{
-    if kind.is_empty() {
-        ("", "")
-    } else {
-        ("[", "] ")
-    }
 }

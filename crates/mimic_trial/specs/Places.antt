@@ -1,8 +1,7 @@
--- Places of trials, counted from 0, and what a report shows there.
-use Rattle.std.specs.Prelude.{◌≡◌, ℕ, List, [], ◌∷◌, length, map, slice_get, slice_index_or, Option, None, Some}
+-- Places of trials, counted from 0, and the outcomes there.
+use Rattle.std.specs.Prelude.{◌≡◌, ℕ, List, [], ◌∷◌, length, map, slice_get, Option, None, Some}
 use Rattle.std.specs.List.{flat_map, range_with_len}
 use Rattle.mimic_trial.specs.declared.outcome.Outcome.{Outcome}
-use Rattle.mimic_trial.specs.Row.{Label, Row}
 
 -- a place among the trials, counted from 0, and the outcome of the trial there
 abbrev pub Placed : Type 0
@@ -14,14 +13,6 @@ places_of placed = map (λ p. p.0) placed
 -- the places are 0, 1, ..
 abbrev pub InOrder : List Placed → Type 0
 InOrder placed = places_of placed ≡ range_with_len 0 (length placed)
-
--- what a report shows at a place
-abbrev pub label_at : List Label → ℕ → Label
-label_at labels place = slice_index_or labels place (record { kind = []; name = [] })
-
--- the rows of a report, in the order of the places
-abbrev pub rows_at : List Label → List Placed → List Row
-rows_at labels placed = map (λ p. record { label = label_at labels p.0; outcome = p.1 }) placed
 
 -- a place with the outcome there, where one is there
 abbrev pub placed_if : ℕ → Option Outcome → List Placed

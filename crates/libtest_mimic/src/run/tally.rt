@@ -18,7 +18,7 @@ pub(crate) struct Tally {
 
 impl Tally {
     ghost use Rattle.mimic_trial.specs.Count.{HasRoom};
-    ghost use Rattle.mimic_trial.specs.Row.{Row, row_of};
+    ghost use Rattle.mimic_printer.specs.Row.{PrintedRow, row_of};
     ghost use Rattle.libtest_mimic.specs.Steps.{HasCounted, HasRoomFor};
 
     // Nothing is counted yet, and there is room for so many failures.
@@ -41,7 +41,7 @@ impl Tally {
     pub(crate) fn record(&mut self, info: TestInfo, outcome: Outcome)
         requires counts { HasRoom self.old.conclusion }
         requires room { HasRoomFor self.old (vec_len self.old.failures + 1) }
-        ensures counted { (filtered_out : ℕ) (rows : List Row) → HasCounted self.old filtered_out rows
+        ensures counted { (filtered_out : ℕ) (rows : List PrintedRow) → HasCounted self.old filtered_out rows
             → HasCounted self.new filtered_out (rows ++ row_of info outcome ∷ []) }
         ensures room { (count : ℕ) → HasRoomFor self.old count → HasRoomFor self.new count }
     {
@@ -58,7 +58,7 @@ impl Tally {
         sink: &mut Sink<W>,
     ) -> Result<(), WriteFault>
         requires { faults_of sink.old < 2 ^ 64 - 1 }
-        ensures { (filtered_out : ℕ) (rows : List Row) → HasCounted self.now filtered_out rows
+        ensures { (filtered_out : ℕ) (rows : List PrintedRow) → HasCounted self.now filtered_out rows
             → Puts W.contents sink.old sink.new (failures_text printer.now rows) result }
     {
         printer.print_failures_of(sink, &self.failures)

@@ -2,7 +2,7 @@ use Rattle.std.proofs.Common.{◌≡◌, ◌<◌, ◌≤◌, ◌∙◌, ap, sym,
 use Rattle.std.proofs.lemmas.List.{take_all}
 use Rattle.std.specs.List.{list_any}
 use Rattle.mimic_trial.specs.Count.{is_failed}
-use Rattle.mimic_trial.specs.Row.{outcomes_of, row_of}
+use Rattle.mimic_printer.specs.Row.{outcomes_of, row_of}
 use Rattle.mimic_printer.specs.Failures.{rows_in}
 use Rattle.mimic_printer.proofs.FailedRows.{any-failed_row, count_rows}
 use Rattle.mimic_printer.proofs.failures.any_failed.Goals as goal

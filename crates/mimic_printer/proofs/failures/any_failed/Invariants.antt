@@ -1,7 +1,7 @@
 use Rattle.std.proofs.Common.{◌≡◌, take, false}
 use Rattle.std.specs.List.{list_any}
 use Rattle.mimic_trial.specs.Count.{is_failed}
-use Rattle.mimic_trial.specs.Row.{outcomes_of}
+use Rattle.mimic_printer.specs.Row.{outcomes_of}
 use Rattle.mimic_printer.specs.Failures.{rows_in}
 use Rattle.mimic_printer.proofs.failures.any_failed.Given as goal
 

@@ -1,7 +1,7 @@
 use Rattle.std.proofs.Common.{◌<◌, ◌≤◌, ◌∙◌, ap, subst, List, ℕ}
 use Rattle.std.proofs.lemmas.List.{take_all}
 use Rattle.std.specs.List.{flat_map}
-use Rattle.mimic_trial.specs.Row.{row_of}
+use Rattle.mimic_printer.specs.Row.{row_of}
 use Rattle.mimic_printer.specs.Failures.{row_part, rows_in}
 use Rattle.mimic_printer.specs.Sink.{Put, Stopped, shown}
 use Rattle.mimic_printer.proofs.Appending.{Put-next, Puts-stopped, Stopped-next}

@@ -1,5 +1,5 @@
 use Rattle.std.proofs.Common.{◌≡◌, ◌≤◌, take}
-use Rattle.mimic_printer.specs.Steps.{pieces_text}
+use Rattle.mimic_printer.specs.Piece.{pieces_text}
 use Rattle.mimic_printer.proofs.piece.write_row.Given as goal
 
 abbrev pub invariant-loop-piece : goal.invariant-loop-piece

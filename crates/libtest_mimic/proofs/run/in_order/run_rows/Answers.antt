@@ -2,8 +2,8 @@ use Rattle.std.proofs.Common.{All, ◌≡◌, ◌∙◌, ◌+◌, ◌++◌, ◌�
 use Rattle.std.proofs.lemmas.List.Elements.{All-nil}
 use Rattle.std.proofs.lemmas.Result.{MatchResult-from_err}
 use Rattle.std.specs.Vec.Iter.{into_iter_items}
-use Rattle.mimic_trial.specs.Row.{label_of}
-use Rattle.mimic_trial.specs.Trial.{labels_of, runner_of}
+use Rattle.mimic_printer.specs.Row.{label_of, labels_of}
+use Rattle.mimic_trial.specs.Trial.{runner_of}
 use Rattle.mimic_printer.specs.Sink.{shown}
 use Rattle.mimic_printer.proofs.Appending.{Put-refl}
 use Rattle.libtest_mimic.specs.Arrangement.{IsOwnAt}

@@ -1,7 +1,7 @@
 use Rattle.std.proofs.Common.{◌<◌, length, get_or, sym, subst, ap, ◌∙◌}
 use Rattle.std.proofs.lemmas.List.{get_or_default}
 use Rattle.std.proofs.lemmas.List.Elements.{All-get_or}
-use Rattle.mimic_trial.specs.Row.{row_of}
+use Rattle.mimic_printer.specs.Row.{row_of}
 use Rattle.mimic_printer.specs.Failures.{HasItsPlaces, count_in, rows_in}
 use Rattle.mimic_printer.proofs.FailedRows.{row_is_at}
 use Rattle.mimic_printer.proofs.failures.Rows.row.Goals as goal

@@ -1,7 +1,7 @@
 use Rattle.std.proofs.Common.{◌∙◌, ap, List, ℕ, subst}
 use Rattle.mimic_printer.specs.Report.{failures_text}
 use Rattle.mimic_printer.specs.Sink.{Puts}
-use Rattle.mimic_trial.specs.Row.{rows_from}
+use Rattle.mimic_printer.specs.Row.{rows_from}
 use Rattle.mimic_printer.proofs.FailedRows.{failures_text-failed}
 use Rattle.libtest_mimic.proofs.run.tally.Tally.print_failures.Goals as goal
 

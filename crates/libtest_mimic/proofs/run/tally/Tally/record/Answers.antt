@@ -1,9 +1,9 @@
 use Rattle.std.proofs.Common.{◌∙◌, ◌++◌, ◌∷◌, [], ap, sym}
 use Rattle.std.proofs.lemmas.List.{map-append}
 use Rattle.mimic_trial.specs.Count.{counted, is_failed}
-use Rattle.mimic_trial.specs.Row.{row_of, rows_from}
-use Rattle.mimic_trial.proofs.Counting.{counts-row}
+use Rattle.mimic_printer.specs.Row.{row_of, rows_from}
 use Rattle.mimic_printer.proofs.FailedRows.{failed-push}
+use Rattle.libtest_mimic.proofs.RowsInOrder.{counts-row}
 use Rattle.libtest_mimic.proofs.run.tally.Tally.record.Goals as goal
 
 pub returns-in-Failed-clause-counted : goal.returns-in-Failed-clause-counted

@@ -1,15 +1,11 @@
--- What the private functions of the printer promise one another. No public clause names these words.
-use Rattle.std.specs.Prelude.{ℕ, Bool, not, ◌||◌, if◌then◌else◌, List, [], decimal}
+-- Pieces, of which the parts of a report are put together. No public clause names these words.
+use Rattle.std.specs.Prelude.{ℕ, List, decimal}
 use Rattle.std.specs.List.{flat_map}
 use Rattle.mimic_printer.specs.declared.piece.Piece.{Piece}
 use Rattle.mimic_printer.specs.declared.piece.Piece.TheVariants.{Text, Number, TwoDigits, Spaces, Grouped, Escaped, Seconds}
-use Rattle.mimic_printer.specs.List.{list_line}
 use Rattle.mimic_text.specs.Escape.{escaped}
 use Rattle.mimic_text.specs.Seconds.{exact_seconds}
 use Rattle.mimic_text.specs.Text.{spaces, two_digits, right_aligned, grouped}
-use Rattle.mimic_trial.specs.declared.trial.TestInfo.{TestInfo}
-
--- ---- pieces of a text
 
 -- the text that a piece stands for
 abbrev pub piece_text : Piece → List ℕ
@@ -21,11 +17,6 @@ piece_text (Grouped n width) = right_aligned width (grouped (decimal n))
 piece_text (Escaped t) = escaped t.now
 piece_text (Seconds n) = exact_seconds n
 
+-- their texts, one after another
 abbrev pub pieces_text : List Piece → List ℕ
 pieces_text pieces = flat_map piece_text pieces
-
--- ---- the list
-
--- the line of a trial in a list that may be asked for ignored trials alone
-abbrev pub listed_line : Bool → TestInfo → List ℕ
-listed_line ignored info = if not ignored || info.is_ignored then list_line info else []

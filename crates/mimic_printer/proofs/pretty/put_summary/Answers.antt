@@ -1,5 +1,5 @@
 use Rattle.mimic_printer.specs.Report.{result_summary}
-use Rattle.mimic_printer.proofs.Printer.print_result.Goals as goal
+use Rattle.mimic_printer.proofs.pretty.put_summary.Goals as goal
 
 pub returns : goal.returns
 unfolding result_summary
