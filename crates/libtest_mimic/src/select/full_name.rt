@@ -15,8 +15,7 @@ pub(super) fn is_full_name(pattern: &[u8], kind: &str, name: &[u8]) -> bool
     if pattern.len() < front {
         return false;
     }
-    let (head, tail) = pattern.split_at(front);
-    stands_in_kind_part(head, kind, 0) && tail == name
+    pattern.len() - front == name.len() && stands_at(pattern, kind, name, 0)
 }
 
 // Whether the pattern stands in the full name from some place before the name on.
@@ -33,7 +32,7 @@ pub(super) fn begins_in_kind_part(pattern: &[u8], kind: &str, name: &[u8]) -> bo
 
 // Whether the pattern stands in the full name from this place on.
 fn stands_at(pattern: &[u8], kind: &str, name: &[u8], start: usize) -> bool
-    requires { start < length (kind_part kind.now) }
+    requires { start ≤ length (kind_part kind.now) }
     ensures { IsTrue result ↔ StandsAt pattern.now (full_name kind.now name.now) start }
 {
     let front = kind_part_len(kind) - start;
