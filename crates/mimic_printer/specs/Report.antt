@@ -68,10 +68,8 @@ outcome_word (Measured m) = codes "bench"
 
 -- what stands behind the word: nothing, or what was measured, the average in eleven places
 abbrev pub outcome_tail : Outcome → List ℕ
-outcome_tail Passed = []
-outcome_tail (Failed f) = []
-outcome_tail Ignored = []
 outcome_tail (Measured m) = concat (codes ": " ∷ right_aligned 11 (grouped (decimal m.avg)) ∷ codes " ns/iter (+/- " ∷ grouped (decimal m.variance) ∷ codes ")" ∷ [])
+outcome_tail o = []
 
 -- the word between its colour's sequences, and what was measured
 unfoldable pub outcome_line : Printer → Outcome → List ℕ
@@ -112,17 +110,13 @@ message_line (Some message) = message ++ codes "\n"
 
 -- what is written of the failure of a row, and nothing where it did not fail
 abbrev pub failure_text : Label → Outcome → List ℕ
-failure_text l Passed = []
 failure_text l (Failed f) = concat (codes "---- " ∷ l.name ∷ codes " ----\n" ∷ message_line f ∷ codes "\n" ∷ [])
-failure_text l Ignored = []
-failure_text l (Measured m) = []
+failure_text l o = []
 
 -- the line that names a row that failed, and nothing where it did not fail
 abbrev pub failed_name : Label → Outcome → List ℕ
-failed_name l Passed = []
 failed_name l (Failed f) = concat (codes "    " ∷ l.name ∷ codes "\n" ∷ [])
-failed_name l Ignored = []
-failed_name l (Measured m) = []
+failed_name l o = []
 
 abbrev pub row_failure : PrintedRow → List ℕ
 row_failure row = failure_text row.label row.outcome
