@@ -1,5 +1,8 @@
 -- Rows of trials that run one after another.
 use Rattle.std.proofs.Common.{All, ◌≡◌, ℕ, zero, suc, ◌+◌, ◌-◌, ◌^◌, ◌<◌, ◌≤◌, List, [], ◌∷◌, ◌++◌, Option, Some, Bool, true, false, inl, inr, not, filter, length, refl, rules, sym, ap, ap₂, ◌∙◌, subst, arith, add-zero, zero-add, append-nil, length-append, vec_len}
+use Rattle.std.proofs.lemmas.Result.{MatchResult-from_err}
+use Rattle.std.specs.Result.{IsErr}
+use Rattle.std.specs.Prelude.{Result}
 use Rattle.std.proofs.lemmas.List.{length-map, map-append}
 use Rattle.std.proofs.lemmas.List.Concat.{flat_map-append}
 use Rattle.std.proofs.lemmas.List.Elements.{All-append, All-cons, All-head, All-nil, All-tail}
@@ -26,7 +29,7 @@ use Rattle.mimic_printer.proofs.FailedRows.{range-push}
 use Rattle.libtest_mimic.specs.declared.run.tally.Tally.{Tally}
 use Rattle.libtest_mimic.specs.Arrangement.{IsOwn, IsOwnAt}
 use Rattle.libtest_mimic.specs.Selection.{IsIgnored}
-use Rattle.libtest_mimic.specs.Steps.{HasCounted, HasRoomFor, RowsStopped}
+use Rattle.libtest_mimic.specs.Steps.{HasCounted, HasRoomFor, RowsRun, RowsStopped, RowsWritten}
 use Rattle.libtest_mimic.specs.Suite.{Suite, in_order, rows_of}
 
 -- ---- the next element of a list
@@ -56,7 +59,7 @@ module _ {R : Type 0} where
 
 module _ {R : Type 0} (gives : Gives R) (args : Arguments) where
   -- `Ignored` where the trial is ignored, and else an outcome that its runner gives, is its own
-  pub IsOwn-from_runner : (t : Trial R) (r : R) (b : Bool) (o : Outcome)
+  IsOwn-from_runner : (t : Trial R) (r : R) (b : Bool) (o : Outcome)
       → (IsTrue b ↔ IsIgnored args t) → r ≡ runner_of t → MatchBool b (o ≡ Ignored) (gives r (not args.bench) o × FitsTypes o) → IsOwn gives args t o
   IsOwn-from_runner t r true o says e own = inl (says.0 (search rules), own)
   IsOwn-from_runner t r false o says e own =
@@ -64,11 +67,20 @@ module _ {R : Type 0} (gives : Gives R) (args : Arguments) where
       inr ((λ i. let k : IsTrue false = says.1 i in search rules), subst P e own.0, own.1)
 
   -- what is own of the next trial is own at its place
-  pub IsOwnAt-next : (front rest all : List (Trial R)) (t : Trial R) (n : ℕ) (o : Outcome) → front ++ (t ∷ rest) ≡ all → n ≡ length front → IsOwn gives args t o → IsOwnAt gives args all (n, o)
+  IsOwnAt-next : (front rest all : List (Trial R)) (t : Trial R) (n : ℕ) (o : Outcome) → front ++ (t ∷ rest) ≡ all → n ≡ length front → IsOwn gives args t o → IsOwnAt gives args all (n, o)
   IsOwnAt-next front rest all t n o e k own =
       let here : slice_get all n ≡ Some t = ap₂ (λ (l : List (Trial R)) i. slice_get l i) (sym e) k ∙ slice_get-seam front rest t in
       let P : Option (Trial R) → Type 0 = λ x. IsSomeAnd x (λ u. IsOwn gives args u o) in
       subst P (sym here) own
+
+  -- the next trial, taken apart: what a report shows of it, and the outcome that becomes its own
+  pub ran-next : (front rest all : List (Trial R)) (t : Trial R) → front ++ (t ∷ rest) ≡ all → (info : TestInfo) (r : R) (b : Bool) (o : Outcome) → info ≡ info_of t → r ≡ runner_of t
+      → (IsTrue b ↔ IsIgnored args t) → MatchBool b (o ≡ Ignored) (gives r (not args.bench) o × FitsTypes o)
+      → (label_of info ≡ label_at (labels_of all) (length front)) × IsOwnAt gives args all (length front, o)
+  ran-next front rest all t e info r b o same runs says own = (
+    ap label_of same ∙ label_at-next front rest all t (length front) e refl,
+    IsOwnAt-next front rest all t (length front) o e refl (IsOwn-from_runner t r b o says runs own),
+  )
 
 -- ---- places in order
 
@@ -215,3 +227,7 @@ module _ {R : Type 0} (gives : Gives R) where
         own = so_far.own;
         text = Put-Stopped _ _ so_far.text (subst P (label ∙ ap (label_at (labels_of suite.trials)) (sym so_far.all)) announced);
       }
+
+  -- an answer that is a fault
+  pub RowsRun-stopped : {E T : Type 0} (suite : Suite R) (a b : Shown) (t : Tally) (r : Result T E) → IsErr r → RowsStopped gives suite a b → RowsRun gives suite a b t r
+  RowsRun-stopped suite a b t r e s = MatchResult-from_err r (λ _. RowsWritten gives suite a b t) (λ _. RowsStopped gives suite a b) e (λ _. s)
