@@ -4,9 +4,9 @@ use Rattle.std.proofs.lemmas.Bool.{eqb-false}
 use Rattle.std.proofs.lemmas.List.{append_cancel_left}
 use Rattle.mimic_trial.specs.declared.outcome.Outcome.{Outcome}
 use Rattle.mimic_trial.specs.declared.outcome.Outcome.TheVariants.{Passed, Failed, Ignored, Measured}
-use Rattle.libtest_mimic.specs.Count.{is_measured}
-use Rattle.libtest_mimic.specs.Escape.{escaped}
-use Rattle.libtest_mimic.specs.Json.{deviation_key, json_end, json_outcome, median_key, outcome_front}
+use Rattle.mimic_trial.specs.Count.{is_measured}
+use Rattle.mimic_text.specs.Escape.{escaped}
+use Rattle.mimic_printer.specs.Json.{deviation_key, json_end, json_outcome, median_key, outcome_front}
 use Rattle.mimic_events.specs.Parts.{ReadsNumber, IsFailure, IsTail, tail}
 use Rattle.mimic_events.specs.Reading.{Decodes, IsOutcome}
 

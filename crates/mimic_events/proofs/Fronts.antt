@@ -3,7 +3,7 @@ use Rattle.std.proofs.Common.{◌≡◌, ◌≢◌, ℕ, List, [], ◌++◌, Opt
 use Rattle.std.specs.List.{concat}
 use Rattle.std.proofs.lemmas.List.{append_cancel_left}
 use Rattle.mimic_trial.specs.declared.outcome.conclusion.Conclusion.{Conclusion}
-use Rattle.libtest_mimic.specs.Json.{summary_front}
+use Rattle.mimic_printer.specs.Json.{summary_front}
 use Rattle.mimic_events.specs.Parts.{Follows}
 
 -- behind the first part of a front

@@ -6,7 +6,6 @@ pub mod Fronts
 pub mod NamedLines
 pub mod QuotedTexts
 pub mod Readings
-pub mod RunReports
 pub mod Runs
 pub mod Steps
 pub mod Summaries

@@ -6,8 +6,8 @@ use Rattle.std.proofs.lemmas.Str.{IsUtf8-string_bytes}
 use Rattle.std.proofs.lemmas.List.Concat.{flat_map-append}
 use Rattle.std.proofs.lemmas.List.{append_cancel_left, append_cancel_right}
 use Rattle.mimic_trial.specs.declared.outcome.Outcome.TheVariants.{Failed}
-use Rattle.libtest_mimic.specs.Escape.{escape, escaped}
-use Rattle.libtest_mimic.specs.Json.{announcement_front, event_field, json_announcement, json_end, json_title, stdout_key, title_front}
+use Rattle.mimic_text.specs.Escape.{escape, escaped}
+use Rattle.mimic_printer.specs.Json.{announcement_front, event_field, json_announcement, json_end, json_title, stdout_key, title_front}
 use Rattle.mimic_events.specs.Parts.{ReadsQuoted, ReadsNamed, ReadsNumber, IsFailure, tail}
 use Rattle.mimic_events.specs.Reading.{Decodes, IsAnnouncement, IsTitle}
 

@@ -4,8 +4,8 @@ use Rattle.std.specs.List.{concat, flat_map, AllByRecursion}
 use Rattle.std.proofs.lemmas.List.{length-append}
 use Rattle.std.proofs.lemmas.List.Concat.{flat_map-append}
 use Rattle.std.proofs.lemmas.List.Folds.{concat-append}
-use Rattle.libtest_mimic.specs.Count.{counts_of}
-use Rattle.libtest_mimic.specs.Json.{Entry, FitsEntry, entry_lines, json_title, json_announcement, json_outcome, json_summary}
+use Rattle.mimic_trial.specs.Count.{counts_of}
+use Rattle.mimic_printer.specs.Json.{Entry, FitsEntry, entry_lines, json_title, json_announcement, json_outcome, json_summary}
 use Rattle.mimic_events.specs.Reading.{IsSummary}
 use Rattle.mimic_events.specs.Steps.{Next, State, Step, Goes, title_next, row_next, outcome_next, nothing_next}
 use Rattle.mimic_events.proofs.Summaries.{outcomes}

@@ -4,9 +4,9 @@ use Rattle.std.specs.List.{concat}
 use Rattle.std.proofs.lemmas.List.{append_cancel_left, append_cancel_right}
 use Rattle.std.proofs.lemmas.List.Folds.{concat-append}
 use Rattle.mimic_trial.specs.declared.outcome.Outcome.{Outcome}
-use Rattle.libtest_mimic.specs.Count.{counts_of}
-use Rattle.libtest_mimic.specs.Json.{Entry, json_end, json_summary, summary_front, time_key}
-use Rattle.libtest_mimic.specs.Seconds.{exact_seconds}
+use Rattle.mimic_trial.specs.Count.{counts_of}
+use Rattle.mimic_printer.specs.Json.{Entry, json_end, json_summary, summary_front, time_key}
+use Rattle.mimic_text.specs.Seconds.{exact_seconds}
 use Rattle.mimic_events.specs.declared.report.Row.{Row}
 use Rattle.mimic_events.specs.Contents.{entry_of}
 use Rattle.mimic_events.specs.Parts.{ReadsNumber}

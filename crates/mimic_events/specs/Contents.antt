@@ -1,6 +1,6 @@
 -- What a report that was read back tells, in the words of the reports that are written.
 use Rattle.std.specs.Prelude.{ℕ, List, map, string_bytes}
-use Rattle.libtest_mimic.specs.Json.{Entry, Contents, IsJsonReport}
+use Rattle.mimic_printer.specs.Json.{Entry, Contents, IsJsonReport}
 use Rattle.mimic_events.specs.declared.report.Row.{Row}
 use Rattle.mimic_events.specs.declared.report.Report.{Report}
 

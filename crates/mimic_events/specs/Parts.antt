@@ -4,10 +4,10 @@ use Rattle.std.specs.Borrow.{Bor}
 use Rattle.std.specs.Str.Parse.{AllDigits}
 use Rattle.mimic_trial.specs.declared.outcome.Outcome.{Outcome}
 use Rattle.mimic_trial.specs.declared.outcome.Outcome.TheVariants.{Failed}
-use Rattle.libtest_mimic.specs.Count.{is_measured}
-use Rattle.libtest_mimic.specs.Escape.{escaped}
-use Rattle.libtest_mimic.specs.Json.{json_line, outcome_fields}
-use Rattle.libtest_mimic.specs.Promise.{FitsTypes}
+use Rattle.mimic_trial.specs.Count.{is_measured}
+use Rattle.mimic_text.specs.Escape.{escaped}
+use Rattle.mimic_printer.specs.Json.{json_line, outcome_fields}
+use Rattle.mimic_trial.specs.Promise.{FitsTypes}
 
 -- ---- fronts
 

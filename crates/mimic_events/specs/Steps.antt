@@ -1,8 +1,8 @@
 -- Reading a report line by line. No public clause names these words.
 use Rattle.std.specs.Prelude.{◌≡◌, ◌≢◌, ℕ, ◌<◌, ◌≤◌, List, [], ◌∷◌, ◌++◌, length, map, string_bytes, Bool, true, false, Option, Some, None}
 use Rattle.mimic_trial.specs.declared.outcome.Outcome.{Outcome}
-use Rattle.libtest_mimic.specs.Json.{Entry, Contents}
-pub use Rattle.libtest_mimic.specs.Json.{HasNoEnd, IsLine}
+use Rattle.mimic_printer.specs.Json.{Entry, Contents}
+pub use Rattle.mimic_printer.specs.Json.{HasNoEnd, IsLine}
 use Rattle.mimic_events.specs.declared.progress.Stage.{Stage}
 use Rattle.mimic_events.specs.declared.progress.Stage.TheVariants as stage
 use Rattle.mimic_events.specs.declared.progress.Progress.{Progress}

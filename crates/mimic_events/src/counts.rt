@@ -1,9 +1,9 @@
 //! How many rows have each outcome.
 ghost use Rattle.std.specs.Prelude.{◌≡◌, map};
-ghost use Rattle.libtest_mimic.specs.Count.{counts_of};
+ghost use Rattle.mimic_trial.specs.Count.{counts_of};
 
 use crate::report::Row;
-use libtest_mimic::{Conclusion, Outcome};
+use mimic_trial::{Conclusion, Outcome};
 
 // The number of rows with each outcome, beside so many trials that were filtered out.
 pub(crate) fn counts_of_rows(rows: &[Row], filtered_out: u64) -> Conclusion

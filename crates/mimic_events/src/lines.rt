@@ -6,7 +6,7 @@ ghost use Rattle.mimic_events.specs.Reading.{Decodes, IsTitle, IsAnnouncement, I
 use crate::numbers::number_at;
 use crate::quoted::{after_quoted, quoted_after};
 use crate::strip::{after, before};
-use libtest_mimic::{Failed, Measurement, Outcome};
+use mimic_trial::{Failed, Measurement, Outcome};
 use std::alloc::{AllocError, Global};
 
 // The number of rows that a title line says.

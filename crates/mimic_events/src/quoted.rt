@@ -1,6 +1,6 @@
 //! Texts between the quotes of a JSON string.
 ghost use Rattle.std.specs.Prelude.{◌≡◌, ◌++◌, ◌∷◌, ◌<◌, [], IfOk, option_map};
-ghost use Rattle.libtest_mimic.specs.Escape.{ArePlain, escape, escaped};
+ghost use Rattle.mimic_text.specs.Escape.{ArePlain, escape, escaped};
 ghost use Rattle.mimic_events.specs.Parts.{Follows, named_of, control_of, candidate_of, Splits, ReadsEscaped, ReadsQuoted, ReadsNamed};
 
 use crate::strip::after;

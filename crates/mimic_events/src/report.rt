@@ -1,13 +1,13 @@
 //! Reports, as they are read back.
 ghost use Rattle.std.specs.Prelude.{◌≡◌, IfOk, map, option_map};
-ghost use Rattle.libtest_mimic.specs.Count.{counts_of};
+ghost use Rattle.mimic_trial.specs.Count.{counts_of};
 ghost use Rattle.mimic_events.specs.Contents.{contents_of, Spells};
 ghost use Rattle.mimic_events.specs.Reading.{Decodes};
 ghost use Rattle.mimic_events.specs.Steps.{state_of, IsReadOut};
 
 use crate::counts::counts_of_rows;
 use crate::progress::{Progress, Stage, first_line, take_line};
-use libtest_mimic::{Conclusion, Outcome};
+use mimic_trial::{Conclusion, Outcome};
 use std::alloc::{AllocError, Global};
 
 /// What a report tells of one trial.

@@ -1,7 +1,7 @@
 //! The line that ends a report.
 ghost use Rattle.std.specs.Prelude.{◌≡◌, ◌++◌, List, ℕ, decimal, map};
 ghost use Rattle.std.specs.List.{concat};
-ghost use Rattle.libtest_mimic.specs.Json.{json_verdict, summary_front};
+ghost use Rattle.mimic_printer.specs.Json.{json_verdict, summary_front};
 ghost use Rattle.mimic_events.specs.Contents.{entry_of};
 ghost use Rattle.mimic_events.specs.Parts.{Follows};
 ghost use Rattle.mimic_events.specs.Reading.{Decodes, IsSummary};
@@ -11,7 +11,7 @@ use crate::numbers::{number_at, seconds};
 use crate::report::Row;
 use crate::strip::{after, before};
 use itoa::Buffer;
-use libtest_mimic::Conclusion;
+use mimic_trial::Conclusion;
 
 // The number of trials that were filtered out and the nanoseconds, of a summary line of these rows.
 pub(crate) fn summed(rows: &[Row], line: &[u8]) -> Option<(u64, u64)>

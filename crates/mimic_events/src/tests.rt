@@ -1,9 +1,8 @@
 //! What no clause says: that reports are read where memory is ample, and what the definition of a report holds and refuses.
 //! Expected values are worked by hand from the format's rules.
-mod back;
 
 use crate::{Report, Row, read_report};
-use libtest_mimic::{Conclusion, Failed, Measurement, Outcome};
+use mimic_trial::{Conclusion, Failed, Measurement, Outcome};
 use std::alloc::Global;
 use std::test::Fail;
 

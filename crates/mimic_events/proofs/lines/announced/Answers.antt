@@ -1,5 +1,5 @@
 use Rattle.std.proofs.Common.{rules, ◌≡◌, ◌≢◌, string_bytes}
-use Rattle.libtest_mimic.specs.Json.{json_end}
+use Rattle.mimic_printer.specs.Json.{json_end}
 use Rattle.mimic_events.proofs.NamedLines.{announced_some, announced_none, announced_other, mapped}
 use Rattle.mimic_events.proofs.lines.announced.Goals as goal
 use Rattle.mimic_events.proofs.lines.announced.Goals.{in_default-via-in-Some+else-eq, in_default-via-in_default}

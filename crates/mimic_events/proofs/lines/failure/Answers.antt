@@ -1,5 +1,5 @@
 use Rattle.std.proofs.Common.{rules, ◌≡◌, ◌≢◌, string_bytes}
-use Rattle.libtest_mimic.specs.Json.{json_end}
+use Rattle.mimic_printer.specs.Json.{json_end}
 use Rattle.mimic_events.proofs.NamedLines.{failure_some, failure_none, failure_other, failure_unsaid, mapped}
 use Rattle.mimic_events.proofs.lines.failure.Goals as goal
 

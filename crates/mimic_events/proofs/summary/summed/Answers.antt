@@ -1,10 +1,10 @@
 use Rattle.std.proofs.Common.{◌≡◌, ◌++◌, List, ℕ, map, sym, ap, ◌∙◌}
 use Rattle.mimic_trial.specs.declared.outcome.Outcome.{Outcome}
 use Rattle.mimic_trial.specs.declared.outcome.conclusion.Conclusion.{Conclusion}
-use Rattle.libtest_mimic.specs.Count.{counts_of}
+use Rattle.mimic_trial.specs.Count.{counts_of}
 use Rattle.std.specs.List.{concat}
-use Rattle.libtest_mimic.specs.Json.{json_end, summary_front}
-use Rattle.libtest_mimic.specs.Seconds.{exact_seconds}
+use Rattle.mimic_printer.specs.Json.{json_end, summary_front}
+use Rattle.mimic_text.specs.Seconds.{exact_seconds}
 use Rattle.mimic_events.specs.declared.report.Row.{Row}
 use Rattle.mimic_events.specs.Contents.{entry_of}
 use Rattle.mimic_events.proofs.Summaries.{rest_of, outcomes, outcomes-rows, summary_first, summary_no_number, summary_second, summary_third, summary_time, summary_found}

@@ -1,8 +1,9 @@
 //! What a run writes in JSON, read back.
-use crate::{Report, read_report, run_to_report};
+use crate::run_to_report;
 use libtest_mimic::{
     Arguments, Clock, Failed, FormatSetting, Measurement, Outcome, Sink, Stopwatch, Trial, run_here,
 };
+use mimic_events::{Report, read_report};
 use std::alloc::{AllocError, Global};
 use std::process::Abort;
 use std::test::Fail;
