@@ -7,7 +7,7 @@ use Rattle.mimic_trial.specs.declared.outcome.Outcome.TheVariants.{Passed, Faile
 use Rattle.mimic_trial.specs.Count.{is_measured}
 use Rattle.mimic_text.specs.Escape.{escaped}
 use Rattle.mimic_printer.specs.Json.{deviation_key, json_end, json_outcome, median_key, outcome_front}
-use Rattle.mimic_events.specs.Parts.{ReadsNumber, IsFailure, IsTail, tail}
+use Rattle.mimic_events.specs.Steps.{ReadsNumber, IsFailure, IsTail, tail}
 use Rattle.mimic_events.specs.Reading.{Decodes, IsOutcome}
 
 pub outcome_is : (name : List ℕ) (o : Outcome) → json_outcome name o ≡ outcome_front (is_measured o) ++ (escaped name ++ 34 ∷ tail o)

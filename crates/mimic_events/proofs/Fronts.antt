@@ -4,7 +4,7 @@ use Rattle.std.specs.List.{concat}
 use Rattle.std.proofs.lemmas.List.{append_cancel_left}
 use Rattle.mimic_trial.specs.declared.outcome.conclusion.Conclusion.{Conclusion}
 use Rattle.mimic_printer.specs.Json.{summary_front}
-use Rattle.mimic_events.specs.Parts.{Follows}
+use Rattle.mimic_events.specs.Steps.{Follows}
 
 -- behind the first part of a front
 behind : (a b text rest more : List ℕ) → text ≡ a ++ rest → text ≡ (a ++ b) ++ more → rest ≡ b ++ more

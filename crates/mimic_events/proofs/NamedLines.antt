@@ -8,7 +8,7 @@ use Rattle.std.proofs.lemmas.List.{append_cancel_left, append_cancel_right}
 use Rattle.mimic_trial.specs.declared.outcome.Outcome.TheVariants.{Failed}
 use Rattle.mimic_text.specs.Escape.{escape, escaped}
 use Rattle.mimic_printer.specs.Json.{announcement_front, event_field, json_announcement, json_end, json_title, stdout_key, title_front}
-use Rattle.mimic_events.specs.Parts.{ReadsQuoted, ReadsNamed, ReadsNumber, IsFailure, tail}
+use Rattle.mimic_events.specs.Steps.{ReadsQuoted, ReadsNamed, ReadsNumber, IsFailure, tail}
 use Rattle.mimic_events.specs.Reading.{Decodes, IsAnnouncement, IsTitle}
 
 pub named_some : (front line rest : List ℕ) (o : Option (List ℕ × List ℕ)) → line ≡ front ++ rest → ReadsQuoted rest o → ReadsNamed front line o

@@ -8,8 +8,8 @@ use Rattle.mimic_trial.specs.Count.{counts_of}
 use Rattle.mimic_printer.specs.Json.{Entry, json_end, json_summary, summary_front, time_key}
 use Rattle.mimic_text.specs.Seconds.{exact_seconds}
 use Rattle.mimic_events.specs.declared.report.Row.{Row}
-use Rattle.mimic_events.specs.Contents.{entry_of}
-use Rattle.mimic_events.specs.Parts.{ReadsNumber}
+use Rattle.mimic_events.specs.Contents.{entry_read}
+use Rattle.mimic_events.specs.Steps.{ReadsNumber}
 use Rattle.mimic_events.specs.Reading.{Decodes, IsSeconds, IsSummary}
 
 -- what follows the counts of outcomes
@@ -64,6 +64,6 @@ summary_found entries line first second third time x t e read f g d =
     )
 
 -- the outcomes of entries are those of their rows
-pub outcomes-rows : (rows : List Row) → outcomes (map entry_of rows) ≡ map (λ (row : Row). row.outcome) rows
+pub outcomes-rows : (rows : List Row) → outcomes (map entry_read rows) ≡ map (λ (row : Row). row.outcome) rows
 outcomes-rows [] = refl
 outcomes-rows (row ∷ rows) = ap (λ (x : List Outcome). row.outcome ∷ x) (outcomes-rows rows)

@@ -3,7 +3,7 @@ ghost use Rattle.std.specs.Prelude.{◌≡◌, ◌<◌, ◌≤◌, ◌+◌, ◌*
 ghost use Rattle.std.specs.Str.Parse.{IsNumeral, digits_value};
 ghost use Rattle.mimic_text.specs.Seconds.{IsFraction, IsRest};
 ghost use Rattle.mimic_events.specs.Reading.{Decodes, IsNumber, IsSeconds};
-ghost use Rattle.mimic_events.specs.Parts.{SplitsDigits, ReadsNumber};
+ghost use Rattle.mimic_events.specs.Steps.{SplitsDigits, ReadsNumber};
 
 use itoa::Buffer;
 use std::str;

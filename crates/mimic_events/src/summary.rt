@@ -2,8 +2,8 @@
 ghost use Rattle.std.specs.Prelude.{◌≡◌, ◌++◌, List, ℕ, decimal, map};
 ghost use Rattle.std.specs.List.{concat};
 ghost use Rattle.mimic_printer.specs.Json.{json_verdict, summary_front};
-ghost use Rattle.mimic_events.specs.Contents.{entry_of};
-ghost use Rattle.mimic_events.specs.Parts.{Follows};
+ghost use Rattle.mimic_events.specs.Contents.{entry_read};
+ghost use Rattle.mimic_events.specs.Steps.{Follows};
 ghost use Rattle.mimic_events.specs.Reading.{Decodes, IsSummary};
 
 use crate::counts::counts_of_rows;
@@ -15,7 +15,7 @@ use mimic_trial::Conclusion;
 
 // The number of trials that were filtered out and the nanoseconds, of a summary line of these rows.
 pub(crate) fn summed(rows: &[Row], line: &[u8]) -> Option<(u64, u64)>
-    ensures { Decodes (IsSummary (map entry_of rows.now)) line.now result }
+    ensures { Decodes (IsSummary (map entry_read rows.now)) line.now result }
 {
     let rest = after_counts(line, &counts_of_rows(rows, 0))?;
     let (filtered_out, rest) = number_at(rest)?;

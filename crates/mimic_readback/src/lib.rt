@@ -6,7 +6,7 @@ ghost use Rattle.mimic_args.specs.declared.FormatSetting.TheVariants.{Json};
 ghost use Rattle.libtest_mimic.specs.Arguments.{format_of};
 ghost use Rattle.libtest_mimic.specs.Stopwatch.{IsFresh};
 ghost use Rattle.libtest_mimic.specs.Trial.{AllCanRun};
-ghost use Rattle.mimic_events.specs.Contents.{contents_of};
+ghost use Rattle.mimic_events.specs.Contents.{contents_read};
 ghost use Rattle.mimic_readback.specs.Run.{TellsRun};
 
 use libtest_mimic::{
@@ -28,7 +28,7 @@ pub fn run_to_report<R: Task, C: Clock>(
     requires unlisted { args.now.list ≡ false }
     requires runnable { AllCanRun R.can_run tests.items }
     requires fresh { IsFresh watch.old }
-    ensures { IfOk result (λ told. TellsRun R.gives args.now tests.items watch.new told.0 (contents_of told.1)) }
+    ensures { IfOk result (λ told. TellsRun R.gives args.now tests.items watch.new told.0 (contents_read told.1)) }
 {
     let mut sink = Sink::new(Vec::new(alloc));
     let conclusion = run_here(alloc, args, tests, &mut sink, watch, false)?;
