@@ -6,7 +6,8 @@ use Rattle.mimic_trial.specs.declared.outcome.Outcome.{Outcome}
 use Rattle.mimic_trial.specs.declared.outcome.Outcome.TheVariants.{Failed}
 use Rattle.mimic_trial.specs.Count.{is_measured}
 use Rattle.mimic_text.specs.Escape.{escaped}
-use Rattle.mimic_printer.specs.Json.{json_line, outcome_fields}
+use Rattle.mimic_printer.specs.Json.{json_line, outcome_fields, time_key}
+use Rattle.mimic_text.specs.Seconds.{exact_seconds}
 use Rattle.mimic_trial.specs.Promise.{FitsTypes}
 
 -- ---- fronts
@@ -95,8 +96,14 @@ ReadsNumber bytes (Some found) = (found.0 < 2 ^ 64) × (bytes ≡ decimal found.
 abbrev pub tail : Outcome → List ℕ
 tail outcome = json_line (outcome_fields outcome)
 
+-- the text is the tail of this outcome, which was measured or wasn't
 abbrev pub IsTail : Bool → Outcome → List ℕ → Type 0
 IsTail measured outcome text = (is_measured outcome ≡ measured) × FitsTypes outcome × (text ≡ tail outcome)
 
+-- what follows the name where it failed with this message
 abbrev pub IsFailure : List ℕ → List ℕ → Type 0
 IsFailure message text = IsUtf8 message × (text ≡ tail (Failed (Some message)))
+
+-- what follows the counts of outcomes in a summary: how many trials were filtered out, and the nanoseconds
+abbrev pub IsTotals : ℕ × ℕ → List ℕ → Type 0
+IsTotals numbers text = (numbers.0 < 2 ^ 64) × (numbers.1 < 2 ^ 64) × (text ≡ json_line (decimal numbers.0 ∷ time_key ∷ exact_seconds numbers.1 ∷ []))
