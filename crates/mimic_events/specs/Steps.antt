@@ -5,7 +5,7 @@ use Rattle.std.specs.Str.Parse.{AllDigits}
 use Rattle.mimic_trial.specs.declared.outcome.Outcome.{Outcome}
 use Rattle.mimic_trial.specs.declared.outcome.Outcome.TheVariants.{Failed}
 use Rattle.mimic_trial.specs.Count.{is_measured}
-use Rattle.mimic_text.specs.Escape.{escaped}
+use Rattle.mimic_text.specs.Escape.{escape, escaped}
 use Rattle.mimic_printer.specs.Json.{json_line, outcome_fields, time_key}
 use Rattle.mimic_text.specs.Seconds.{exact_seconds}
 use Rattle.mimic_trial.specs.Promise.{FitsTypes}
@@ -48,28 +48,28 @@ unfoldable pub candidate_of : List ℕ → ℕ
 candidate_of [] = 0
 candidate_of (b ∷ rest) = if b == 92 then after_backslash rest else b
 
--- what was found is spelled at the front, and the rest follows, and nothing else is; where nothing was found, nothing is spelled there
-abbrev pub Splits : {V : Type 0} → (V → List ℕ) → List ℕ → Option (V × List ℕ) → Type 0
-Splits {V} spelling text None = (v : V) (rest : List ℕ) → text ≡ spelling v ++ rest → ⊥
-Splits {V} spelling text (Some found) = (text ≡ spelling found.0 ++ found.1)
-    × ((v : V) (rest : List ℕ) → text ≡ spelling v ++ rest → (v ≡ found.0) × (rest ≡ found.1))
+-- what was found is a value and a rest that spell the text, and no others spell it; where nothing was found, none do
+abbrev pub Reads : {V : Type 0} → (V → List ℕ → List ℕ) → List ℕ → Option (V × List ℕ) → Type 0
+Reads {V} spelled text None = (v : V) (rest : List ℕ) → text ≡ spelled v rest → ⊥
+Reads {V} spelled text (Some found) = (text ≡ spelled found.0 found.1)
+    × ((v : V) (rest : List ℕ) → text ≡ spelled v rest → (v ≡ found.0) × (rest ≡ found.1))
+
+-- a byte as it is spelled, and what follows
+abbrev pub ReadsByte : List ℕ → Option (ℕ × List ℕ) → Type 0
+ReadsByte = Reads (λ byte rest. escape byte ++ rest)
+
+-- a text up to a closing quote, and what follows the quote
+abbrev pub ReadsQuoted : List ℕ → Option (List ℕ × List ℕ) → Type 0
+ReadsQuoted = Reads (λ text rest. escaped text ++ 34 ∷ rest)
+
+-- the same behind a front
+abbrev pub ReadsNamed : List ℕ → List ℕ → Option (List ℕ × List ℕ) → Type 0
+ReadsNamed front = Reads (λ text rest. front ++ (escaped text ++ 34 ∷ rest))
 
 -- the bytes begin with the spelling of the text, and the rest follows; no other text ends there at a quote
 pub record ReadsEscaped (bytes text rest : List ℕ) : Type 0 where
   pub front : bytes ≡ escaped text ++ rest
   pub only : (other after : List ℕ) → bytes ≡ escaped other ++ 34 ∷ after → (other ≡ text) × (34 ∷ after ≡ rest)
-
--- what was found is the text up to a closing quote, and what follows the quote; else no text ends at a quote
-abbrev pub ReadsQuoted : List ℕ → Option (List ℕ × List ℕ) → Type 0
-ReadsQuoted bytes None = (text rest : List ℕ) → bytes ≡ escaped text ++ 34 ∷ rest → ⊥
-ReadsQuoted bytes (Some found) = (bytes ≡ escaped found.0 ++ 34 ∷ found.1)
-    × ((text rest : List ℕ) → bytes ≡ escaped text ++ 34 ∷ rest → (text ≡ found.0) × (rest ≡ found.1))
-
--- the same behind a front
-abbrev pub ReadsNamed : List ℕ → List ℕ → Option (List ℕ × List ℕ) → Type 0
-ReadsNamed front bytes None = (text rest : List ℕ) → bytes ≡ front ++ (escaped text ++ 34 ∷ rest) → ⊥
-ReadsNamed front bytes (Some found) = (bytes ≡ front ++ (escaped found.0 ++ 34 ∷ found.1))
-    × ((text rest : List ℕ) → bytes ≡ front ++ (escaped text ++ 34 ∷ rest) → (text ≡ found.0) × (rest ≡ found.1))
 
 -- ---- numbers
 
