@@ -1,16 +1,18 @@
-//! Runs whose reports are wanted as values.
+//! Runs trials and reads back what the run wrote.
+#![tactic(auto)]
+
 ghost use Rattle.std.specs.Prelude.{◌≡◌, false, IfOk};
 ghost use Rattle.mimic_args.specs.declared.FormatSetting.TheVariants.{Json};
 ghost use Rattle.libtest_mimic.specs.Arguments.{format_of};
 ghost use Rattle.libtest_mimic.specs.Stopwatch.{IsFresh};
 ghost use Rattle.libtest_mimic.specs.Trial.{AllCanRun};
-ghost use Rattle.mimic_events.specs.Contents.{contents_of};
-ghost use Rattle.mimic_events.specs.Run.{TellsRun};
+ghost use Rattle.mimic_events.specs.Contents.{contents_read};
+ghost use Rattle.mimic_readback.specs.Run.{TellsRun};
 
-use crate::report::{Report, read_report};
 use libtest_mimic::{
     Arguments, Clock, Conclusion, RunError, Sink, Stopwatch, Task, Trial, run_here,
 };
+use mimic_events::{Report, read_report};
 use std::alloc::Global;
 
 /// Runs the selected trials as `run_here` does, and answers its conclusion and its report, as it is read back.
@@ -26,7 +28,7 @@ pub fn run_to_report<R: Task, C: Clock>(
     requires unlisted { args.now.list ≡ false }
     requires runnable { AllCanRun R.can_run tests.items }
     requires fresh { IsFresh watch.old }
-    ensures { IfOk result (λ told. TellsRun R.gives args.now tests.items watch.new told.0 (contents_of told.1)) }
+    ensures { IfOk result (λ told. TellsRun R.gives args.now tests.items watch.new told.0 (contents_read told.1)) }
 {
     let mut sink = Sink::new(Vec::new(alloc));
     let conclusion = run_here(alloc, args, tests, &mut sink, watch, false)?;
@@ -34,3 +36,6 @@ pub fn run_to_report<R: Task, C: Clock>(
     let report = read_report(alloc, bytes.as_slice())?.unwrap();
     Ok((conclusion, report))
 }
+
+#[cfg(test)]
+mod tests;

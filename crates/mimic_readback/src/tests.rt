@@ -1,8 +1,9 @@
 //! What a run writes in JSON, read back.
-use crate::{Report, read_report, run_to_report};
+use crate::run_to_report;
 use libtest_mimic::{
     Arguments, Clock, Failed, FormatSetting, Measurement, Outcome, Sink, Stopwatch, Trial, run_here,
 };
+use mimic_events::{Report, read_report};
 use std::alloc::{AllocError, Global};
 use std::process::Abort;
 use std::test::Fail;
@@ -82,11 +83,17 @@ fn outcome_of(alloc: Global, answer: Answer, bench: bool) -> Result<Outcome, All
     })
 }
 
-// The trials. This is a macro since boxed closures are to be made by the function that hands them in.
+// One test that passes and one that fails.
+static TWO_TRIALS: [(&str, bool, Answer); 2] = [
+    ("succeeding_test", false, Test(None)),
+    ("failing_test", false, Test(Some("Woops"))),
+];
+
+// The trials of a table. This is a macro since boxed closures are to be made by the function that hands them in.
 macro_rules! trials {
-    ($alloc:expr) => {{
+    ($alloc:expr, $table:expr) => {{
         let mut trials = Vec::new($alloc);
-        for (name, is_ignored, answer) in &TRIALS {
+        for (name, is_ignored, answer) in &$table {
             let name = String::from_str($alloc, name)?;
             let trial = match answer {
                 Test(message) => {
@@ -133,7 +140,14 @@ fn reads_back_what_a_run_wrote(rt: HostRuntime) -> Result<(), Fail> {
         args.bench = bench;
         let mut sink = Sink::new(Vec::new(alloc));
         let mut watch = Stopwatch::new(Steps { next: 0 });
-        let conclusion = run_here(alloc, &args, trials!(alloc), &mut sink, &mut watch, false)?;
+        let conclusion = run_here(
+            alloc,
+            &args,
+            trials!(alloc, TRIALS),
+            &mut sink,
+            &mut watch,
+            false,
+        )?;
         let bytes = sink.into_inner();
         assert_eq!(rt; bytes.iter().filter(|byte| **byte == b'\n').count(), 36);
         let report = read_report(alloc, bytes.as_slice())?.ok_or("no report")?;
@@ -149,7 +163,66 @@ fn answers_the_report_of_a_run(rt: HostRuntime) -> Result<(), Fail> {
     let mut args = Arguments::new(alloc);
     args.format = Some(FormatSetting::Json);
     let mut watch = Stopwatch::new(Steps { next: 0 });
-    let (conclusion, report) = run_to_report(alloc, &args, trials!(alloc), &mut watch)?;
+    let (conclusion, report) = run_to_report(alloc, &args, trials!(alloc, TRIALS), &mut watch)?;
     assert!(rt; report.counts() == conclusion);
     check_report(&rt, alloc, &report, false)
+}
+
+// The report with one part in place of another, which stands in it.
+fn altered(alloc: Global, report: &str, old: &str, new: &str) -> Result<String, Fail> {
+    let (front, back) = report.split_once(old).ok_or("not in the report")?;
+    Ok(format!(in alloc; "{front}{new}{back}")?)
+}
+
+// The report of two trials as a run wrote it, and nothing that is written otherwise.
+#[test]
+fn reads_two_trials_as_they_were_written(rt: HostRuntime) -> Result<(), Fail> {
+    let alloc = rt.alloc();
+    let mut args = Arguments::new(alloc);
+    args.format = Some(FormatSetting::Json);
+    let mut sink = Sink::new(Vec::new(alloc));
+    let mut watch = Stopwatch::new(Steps {
+        next: 1_500_000_000,
+    });
+    let conclusion = run_here(
+        alloc,
+        &args,
+        trials!(alloc, TWO_TRIALS),
+        &mut sink,
+        &mut watch,
+        false,
+    )?;
+    let written = String::from_utf8(sink.into_inner())?;
+    let report = read_report(alloc, written.as_str().as_bytes())?.ok_or("no report")?;
+    assert!(rt; report.counts() == conclusion);
+    assert_eq!(rt;
+        (report.rows.len(), report.filtered_out, report.nanos),
+        (2, 0, 0)
+    );
+    assert_eq!(rt; report.rows[0].name.as_str(), "succeeding_test");
+    assert!(rt; report.rows[0].outcome == Outcome::Passed);
+    assert_eq!(rt; report.rows[1].name.as_str(), "failing_test");
+    let message = String::from_str(alloc, "Woops")?;
+    assert!(rt; report.rows[1].outcome == Outcome::Failed(Failed::with_message(message)));
+    for (old, new) in [
+        (written.as_str(), ""),
+        ("\"exec_time\": 0 }\n", "\"exec_time\": 0 }"),
+        ("\"exec_time\": 0 }\n", "\"exec_time\": 0 }\n\n"),
+        ("\"test_count\": 2", "\"test_count\": 02"),
+        ("\"test_count\": 2", "\"test_count\": 1"),
+        ("\"exec_time\": 0", "\"exec_time\": 0.50"),
+        ("\\n\" }", "\\u000a\" }"),
+        ("\"passed\": 1", "\"passed\": 2"),
+        (
+            "\"name\": \"failing_test\", \"event\": \"failed\"",
+            "\"name\": \"failing_tests\", \"event\": \"failed\"",
+        ),
+    ] {
+        let text = altered(alloc, written.as_str(), old, new)?;
+        assert!(rt;
+            read_report(alloc, text.as_str().as_bytes())?.is_none(),
+            "{new} for {old}"
+        );
+    }
+    Ok(())
 }
