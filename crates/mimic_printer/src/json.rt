@@ -1,7 +1,9 @@
 //! The lines of a report in JSON.
-ghost use Rattle.std.specs.Prelude.{◌≡◌, ◌-◌, ◌^◌, ◌<◌, Some};
-ghost use Rattle.mimic_printer.specs.Json.{json_announcement, json_outcome, json_summary, json_title, json_verdict};
+ghost use Rattle.std.specs.Prelude.{◌≡◌, ◌-◌, ◌^◌, ◌<◌, ◌∷◌, [], Some, false};
+ghost use Rattle.std.specs.List.{concat};
+ghost use Rattle.mimic_printer.specs.Json.{json_announcement, json_outcome, json_summary, json_title, json_verdict, outcome_front};
 ghost use Rattle.mimic_printer.specs.Sink.{Puts, faults_of};
+ghost use Rattle.mimic_text.specs.Escape.{escaped};
 ghost use Rattle.mimic_trial.specs.declared.outcome.Outcome.TheVariants.{Failed, Measured};
 
 use crate::piece::{Piece, put_pieces};
@@ -46,26 +48,32 @@ pub(super) fn put_outcome<'a, W: Write>(
     requires { faults_of sink.old < 2 ^ 64 - 1 }
     ensures { Puts W.contents sink.old sink.new (json_outcome name.now outcome.now) result }
 {
-    let front = Piece::Text("{ \"type\": \"test\", \"name\": \"");
-    let quoted = Piece::Escaped(name);
     match outcome {
-        Outcome::Passed => {
-            let rest = Piece::Text("\", \"event\": \"ok\" }\n");
-            put_pieces(sink, &[front, quoted, rest])
-        }
-        Outcome::Ignored => {
-            let rest = Piece::Text("\", \"event\": \"ignored\" }\n");
-            put_pieces(sink, &[front, quoted, rest])
-        }
+        Outcome::Passed => put_event(sink, name, "\", \"event\": \"ok\" }\n"),
+        Outcome::Ignored => put_event(sink, name, "\", \"event\": \"ignored\" }\n"),
         Outcome::Measured(measurement) => put_measurement(sink, name, measurement),
         Outcome::Failed(failed) => match failed.message() {
-            None => {
-                let rest = Piece::Text("\", \"event\": \"failed\" }\n");
-                put_pieces(sink, &[front, quoted, rest])
-            }
+            None => put_event(sink, name, "\", \"event\": \"failed\" }\n"),
             Some(message) => put_failure(sink, name, message),
         },
     }
+}
+
+// Writes the line of an outcome that is told in a word: all before the name, the name, and all behind it.
+fn put_event<'a, W: Write>(
+    sink: &mut Sink<W>,
+    name: &'a str,
+    rest: &'a str,
+) -> Result<(), WriteFault>
+    requires { faults_of sink.old < 2 ^ 64 - 1 }
+    ensures { Puts W.contents sink.old sink.new (concat (outcome_front false ∷ escaped name.now ∷ rest.now ∷ [])) result }
+{
+    let pieces = [
+        Piece::Text("{ \"type\": \"test\", \"name\": \""),
+        Piece::Escaped(name),
+        Piece::Text(rest),
+    ];
+    put_pieces(sink, &pieces)
 }
 
 #[tactic(auto, unfolding(crate::specs::Json::json_outcome))]
