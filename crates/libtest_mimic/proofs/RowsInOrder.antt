@@ -4,7 +4,6 @@ use Rattle.std.proofs.lemmas.List.{length-map, map-append}
 use Rattle.std.proofs.lemmas.List.Concat.{flat_map-append}
 use Rattle.std.proofs.lemmas.List.Elements.{All-append, All-cons, All-head, All-nil, All-tail}
 use Rattle.std.proofs.lemmas.List.Sums.{count_by-le-length, length-filter}
-use Rattle.std.specs.Bool.{MatchBool}
 use Rattle.std.specs.List.{range_with_len}
 use Rattle.std.specs.Prelude.{◌↔◌, IsSomeAnd, IsTrue, slice_get}
 use Rattle.mimic_args.specs.declared.Arguments.{Arguments}
@@ -14,7 +13,7 @@ use Rattle.mimic_trial.specs.declared.trial.TestInfo.{TestInfo}
 use Rattle.mimic_trial.specs.declared.trial.Trial.{Trial}
 use Rattle.mimic_trial.specs.Count.{HasRoom, is_failed}
 use Rattle.mimic_trial.specs.Places.{InOrder, Placed, label_at, places_of, rows_at}
-use Rattle.mimic_trial.specs.Promise.{FitsTypes, Gives}
+use Rattle.mimic_trial.specs.Promise.{Gives, IsOutcomeOf}
 use Rattle.mimic_trial.specs.Row.{Label, Row, label_of, outcomes_of, row_of}
 use Rattle.mimic_trial.specs.Trial.{info_of, runner_of, labels_of}
 use Rattle.mimic_trial.proofs.Counting.{HasRoom-counts}
@@ -57,7 +56,7 @@ module _ {R : Type 0} where
 module _ {R : Type 0} (gives : Gives R) (args : Arguments) where
   -- `Ignored` where the trial is ignored, and else an outcome that its runner gives, is its own
   pub IsOwn-from_runner : (t : Trial R) (r : R) (b : Bool) (o : Outcome)
-      → (IsTrue b ↔ IsIgnored args t) → r ≡ runner_of t → MatchBool b (o ≡ Ignored) (gives r (not args.bench) o × FitsTypes o) → IsOwn gives args t o
+      → (IsTrue b ↔ IsIgnored args t) → r ≡ runner_of t → IsOutcomeOf gives b r (not args.bench) o → IsOwn gives args t o
   IsOwn-from_runner t r true o says e own = inl (says.0 (search rules), own)
   IsOwn-from_runner t r false o says e own =
       let P : R → Type 0 = λ x. gives x (not args.bench) o in
