@@ -1,0 +1,5 @@
+pub mod Dealing
+pub mod Working
+pub mod FirstArrivals
+pub mod Seating
+pub mod Settling
