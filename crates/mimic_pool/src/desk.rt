@@ -1,6 +1,8 @@
 //! The desk where outcomes arrive from the workers.
 ghost use Rattle.std.specs.Prelude.{◌≡◌, ◌++◌, ◌∷◌, [], ◌↔◌, ◌<◌, IfOk, IsTrue, List, MatchResult, Some, length, ℕ};
 ghost use Rattle.std.specs.Iterator.{YieldsFirst, item_count};
+ghost use Rattle.std.specs.List.{range_with_len};
+ghost use Rattle.std.specs.List.Sorted.{IsPermutation};
 ghost use Rattle.std.specs.Option.{option_copied};
 ghost use Rattle.mimic_trial.specs.Places.{Placed, places_of};
 ghost use Rattle.mimic_pool.specs.Arrivals.{AgreesAt, arrival_of, arrived_at, first_arrivals, missing_of, order_of, rows_after};
@@ -12,7 +14,7 @@ use std::alloc::{AllocError, Global};
 use std::marker::Model;
 
 /// What a desk says of an arrival.
-#[derive(Clone, Copy, Debug, Drop, PartialEq, Eq)]
+#[derive(Clone, Copy, Debug, PartialEq, Eq)]
 pub enum Arrival {
     /// It is the first one at its place, and the desk keeps it.
     First,
@@ -105,11 +107,12 @@ impl Desk {
 }
 
 impl Desk {
-    /// The places at which nothing arrived, rising.
+    /// The places at which nothing arrived, rising. Those of `order` and then these are all places, each once.
     pub fn missing(&self) -> Missing<'_>
         ensures places { missing_items result ≡ missing_of self.now }
         ensures order { (arrivals : List Placed) → self.now.rows ≡ first_arrivals self.now.places arrivals
             → places_of self.now.rows ++ missing_items result ≡ order_of self.now.places arrivals }
+        ensures whole { IsPermutation (places_of self.now.rows ++ missing_items result) (range_with_len 0 self.now.places) }
     {
         Missing {
             seats: self.seats.as_slice(),

@@ -4,7 +4,7 @@ ghost use Rattle.std.specs.Prelude.{◌≡◌, ◌↔◌, ◌+◌, ◌<◌, ℕ,
 use mimic_trial::Outcome;
 
 /// A row could not be told.
-#[derive(Debug, Drop)]
+#[derive(Clone, Copy, Debug, PartialEq, Eq)]
 pub struct Untold;
 
 /// Where a worker tells each row, a place and the outcome there, while it goes on with its share.
