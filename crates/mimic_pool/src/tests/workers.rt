@@ -1,11 +1,15 @@
 //! Shares and workers, over reports in memory and over a channel.
-use crate::{ChannelReports, MemoryReports, Reports, Share, Untold, deal, work};
+ghost use Rattle.std.specs.Prelude.{◌≡◌, ◌≤◌, length, vec_capacity, vec_len};
+ghost use Rattle.mimic_pool.specs.Share.{items_of};
+
+use crate::{Arrival, ChannelReports, Desk, MemoryReports, Reports, Share, Untold, deal, work};
 use crossbeam_channel::bounded;
 use mimic_trial::{Failed, Measurement, Outcome, Runner, Task, TestRunner};
 use std::alloc::{AllocError, Global};
 use std::sync::Arc;
 use std::sync::atomic::{AtomicBool, Ordering};
 use std::test::Fail;
+use std::thread;
 
 // A runner that is the outcome which it gives.
 #[derive(Drop)]
@@ -198,5 +202,43 @@ fn tells_over_a_channel(rt: HostRuntime) -> Result<(), Fail> {
     assert!(rt; reports.tell(0, &Outcome::Passed).is_err());
     assert_eq!(rt; reports.told(), 2);
     assert_eq!(rt; reports.refusals(), 1);
+    Ok(())
+}
+
+// Two workers in threads tell over one channel. What arrives at the desk is what they answer when they are joined.
+#[test]
+fn tells_from_threads(rt: HostRuntime) -> Result<(), Fail> {
+    let alloc = rt.alloc();
+    let runners = [passes(), passes(), passes(), passes(), passes()];
+    let (sender, receiver) = bounded(alloc, 5)?;
+    let mut handles = Vec::new(alloc);
+    for share in shares_of_five(alloc, runners)? {
+        let room = Vec::with_capacity(alloc, share.len())?;
+        let mut reports = ChannelReports::new(rt, alloc, sender.clone()?);
+        let handle = thread::spawn(
+            &rt,
+            move || -> Vec<(usize, Outcome)>
+                requires empty { vec_len room ≡ 0 }
+                requires fits { length (items_of share) ≤ vec_capacity room }
+                requires told { reports.counts.told ≡ 0 }
+                requires refusals { reports.counts.refusals ≡ 0 }
+            { work(share, true, &mut reports, room) },
+        )?;
+        handles.push(handle)?;
+    }
+    drop(sender);
+    let mut desk = Desk::new(alloc, 5)?;
+    for (place, outcome) in receiver.iter(&rt) {
+        assert_eq!(rt; desk.arrive(place, outcome), Arrival::First);
+    }
+    let mut answered = Vec::new(alloc);
+    for handle in handles {
+        for (place, outcome) in handle.join(&rt) {
+            assert!(rt; desk.outcome(place) == Some(&outcome));
+            answered.push(place)?;
+        }
+    }
+    assert_eq!(rt; answered.len(), 5);
+    assert_eq!(rt; desk.order().len(), 5);
     Ok(())
 }
