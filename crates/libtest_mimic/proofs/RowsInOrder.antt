@@ -7,7 +7,6 @@ use Rattle.std.proofs.lemmas.List.{length-map, map-append}
 use Rattle.std.proofs.lemmas.List.Concat.{flat_map-append}
 use Rattle.std.proofs.lemmas.List.Elements.{All-append, All-cons, All-head, All-nil, All-tail}
 use Rattle.std.proofs.lemmas.List.Sums.{count_by-le-length, length-filter}
-use Rattle.std.specs.Bool.{MatchBool}
 use Rattle.std.specs.List.{range_with_len}
 use Rattle.std.specs.Prelude.{◌↔◌, IsSomeAnd, IsTrue, slice_get}
 use Rattle.mimic_args.specs.declared.Arguments.{Arguments}
@@ -18,7 +17,7 @@ use Rattle.mimic_trial.specs.declared.trial.Trial.{Trial}
 use Rattle.mimic_trial.specs.Count.{HasRoom, counted, counts_of, is_failed}
 use Rattle.mimic_trial.specs.Places.{InOrder, Placed, places_of}
 use Rattle.mimic_printer.specs.Row.{label_at, rows_at, Label, PrintedRow, label_of, outcomes_of, row_of, labels_of}
-use Rattle.mimic_trial.specs.Promise.{FitsTypes, Gives}
+use Rattle.mimic_trial.specs.Promise.{Gives, IsOutcomeOf}
 use Rattle.mimic_trial.specs.Trial.{info_of, runner_of}
 use Rattle.mimic_trial.proofs.Counting.{HasRoom-counts, counts-push}
 use Rattle.mimic_printer.specs.declared.Printer.{Printer}
@@ -60,7 +59,7 @@ module _ {R : Type 0} where
 module _ {R : Type 0} (gives : Gives R) (args : Arguments) where
   -- `Ignored` where the trial is ignored, and else an outcome that its runner gives, is its own
   IsOwn-from_runner : (t : Trial R) (r : R) (b : Bool) (o : Outcome)
-      → (IsTrue b ↔ IsIgnored args t) → r ≡ runner_of t → MatchBool b (o ≡ Ignored) (gives r (not args.bench) o × FitsTypes o) → IsOwn gives args t o
+      → (IsTrue b ↔ IsIgnored args t) → r ≡ runner_of t → IsOutcomeOf gives b r (not args.bench) o → IsOwn gives args t o
   IsOwn-from_runner t r true o says e own = inl (says.0 (search rules), own)
   IsOwn-from_runner t r false o says e own =
       let P : R → Type 0 = λ x. gives x (not args.bench) o in
@@ -75,7 +74,7 @@ module _ {R : Type 0} (gives : Gives R) (args : Arguments) where
 
   -- the next trial, taken apart: what a report shows of it, and the outcome that becomes its own
   pub ran-next : (front rest all : List (Trial R)) (t : Trial R) → front ++ (t ∷ rest) ≡ all → (info : TestInfo) (r : R) (b : Bool) (o : Outcome) → info ≡ info_of t → r ≡ runner_of t
-      → (IsTrue b ↔ IsIgnored args t) → MatchBool b (o ≡ Ignored) (gives r (not args.bench) o × FitsTypes o)
+      → (IsTrue b ↔ IsIgnored args t) → IsOutcomeOf gives b r (not args.bench) o
       → (label_of info ≡ label_at (labels_of all) (length front)) × IsOwnAt gives args all (length front, o)
   ran-next front rest all t e info r b o same runs says own = (
     ap label_of same ∙ label_at-next front rest all t (length front) e refl,

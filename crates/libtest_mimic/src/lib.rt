@@ -1,10 +1,12 @@
 //! A test harness of one's own that looks and behaves as that of `rustc --test`.
 //!
-//! Its layers are crates of their own, whose public names stand here: texts, trials, arguments, reports.
+//! Its layers are crates of their own, whose public names stand here: texts, trials, arguments, reports,
+//! and the parts of a run over worker threads.
 #![tactic(auto)]
 
 pub mod args;
 pub mod outcome;
+pub mod pool;
 pub mod printer;
 mod run;
 pub mod select;

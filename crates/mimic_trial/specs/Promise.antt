@@ -1,5 +1,6 @@
 -- What runners promise to answer, and the outcome that an answer has.
 use Rattle.std.specs.Prelude.{◌≡◌, ◌<◌, ◌^◌, ℕ, List, Option, None, Some, Result, Ok, Err, Bool, true, false, IfSome, IsUtf8}
+use Rattle.std.specs.Bool.{MatchBool}
 use Rattle.mimic_trial.specs.declared.runner.TestRunner.{TestRunner}
 use Rattle.mimic_trial.specs.declared.runner.BenchRunner.{BenchRunner}
 use Rattle.mimic_trial.specs.declared.runner.Runner.{Runner}
@@ -48,3 +49,8 @@ PromisesOutcome (Bench b) test_mode o = (answer : _) × BenchAnswers b test_mode
 -- which outcomes a runner may give, by whether the mode is the test mode
 abbrev pub Gives : Type 0 → Type 1
 Gives R = R → Bool → Outcome → Type 0
+
+-- what becomes of a runner: `Ignored` where it is ignored, else an outcome that it gives in this mode, with numbers that
+-- fit (our own)
+abbrev pub IsOutcomeOf : {R : Type 0} → Gives R → Bool → R → Bool → Outcome → Type 0
+IsOutcomeOf gives ignored runner test_mode o = MatchBool ignored (o ≡ Ignored) (gives runner test_mode o × FitsTypes o)

@@ -1,5 +1,5 @@
 //! What becomes of trials: failures, measurements, outcomes and their counts.
-ghost use Rattle.std.specs.Prelude.{◌≡◌, ◌↔◌, ◌<◌, ◌^◌, ◌-◌, IsTrue};
+ghost use Rattle.std.specs.Prelude.{◌≡◌, ◌↔◌, ◌<◌, ◌^◌, ◌-◌, IfOk, IsTrue};
 ghost use Rattle.mimic_trial.specs.Count.{counts_of};
 ghost use Rattle.mimic_trial.specs.Promise.{FitsTypes, PromisesOutcome};
 
@@ -11,6 +11,7 @@ use crate::runner::Runner;
 pub use conclusion::Conclusion;
 pub use failed::Failed;
 pub use measurement::Measurement;
+use std::alloc::{AllocError, Global};
 
 /// What became of a trial.
 #[derive(Debug, Drop)]
@@ -23,6 +24,20 @@ pub enum Outcome {
     Ignored,
     /// The benchmark was measured.
     Measured(Measurement),
+}
+
+impl Outcome {
+    /// An equal outcome. Only the message of a failure takes memory, and an `Err` says that there was none.
+    pub fn try_clone(&self, alloc: Global) -> Result<Self, AllocError>
+        ensures { IfOk result (λ o. o ≡ self.now) }
+    {
+        Ok(match self {
+            Outcome::Passed => Outcome::Passed,
+            Outcome::Failed(failed) => Outcome::Failed(failed.try_clone(alloc)?),
+            Outcome::Ignored => Outcome::Ignored,
+            Outcome::Measured(measured) => Outcome::Measured(*measured),
+        })
+    }
 }
 
 impl PartialEq for Outcome {

@@ -1,6 +1,7 @@
 //! What a trial runs.
 ghost use Rattle.std.specs.Prelude.{◌≡◌, Bool};
 ghost use Rattle.mimic_trial.specs.declared.outcome.Outcome.{Outcome as AnOutcome};
+ghost use Rattle.mimic_trial.specs.Promise.{IsOutcomeOf};
 
 use crate::outcome::failed::Failed;
 use crate::outcome::{Outcome, run_single};
@@ -46,5 +47,17 @@ impl<F: FnOnce() -> Result<(), Failed> + Drop> Task for F {
             Ok(()) => Outcome::Passed,
             Err(failed) => failed.into_outcome(),
         }
+    }
+}
+
+/// Runs what isn't ignored, and drops what is without a call.
+pub fn run_unless<T: Task>(ignored: bool, task: T, test_mode: bool) -> Outcome
+    requires { T.can_run task }
+    ensures { IsOutcomeOf T.gives ignored task test_mode result }
+{
+    if ignored {
+        Outcome::Ignored
+    } else {
+        task.run(test_mode)
     }
 }

@@ -1,7 +1,5 @@
 //! Runs trials in the calling thread, one after another.
 ghost use Rattle.std.specs.Prelude.{◌≡◌, ◌-◌, ◌^◌, ◌<◌, [], vec_len};
-ghost use Rattle.std.specs.Bool.{MatchBool};
-ghost use Rattle.mimic_trial.specs.Promise.{FitsTypes};
 ghost use Rattle.mimic_trial.specs.Trial.{AllCanRun};
 ghost use Rattle.mimic_printer.specs.Sink.{faults_of, shown};
 ghost use Rattle.libtest_mimic.specs.Steps.{HasCounted, HasRoomFor, RowsRun, WritesReport, suite_with};
@@ -12,7 +10,7 @@ use crate::select::is_ignored;
 use crate::stopwatch::{Clock, Stopwatch};
 use mimic_args::Arguments;
 use mimic_printer::{Printer, Sink, WriteFault};
-use mimic_trial::{Conclusion, Outcome, Task, Trial};
+use mimic_trial::{Conclusion, Task, Trial, run_unless};
 use std::io::Write;
 
 // Runs the trials in their order, and writes the whole report. The watch is stopped directly before
@@ -68,16 +66,4 @@ fn run_rows<R: Task, W: Write>(
         tally.record(info, outcome);
     }
     Ok(())
-}
-
-// The outcome of a call of the runner, or `Ignored` without a call.
-fn run_unless<R: Task>(ignored: bool, runner: R, test_mode: bool) -> Outcome
-    requires { R.can_run runner }
-    ensures { MatchBool ignored (result ≡ Outcome.Ignored) (R.gives runner test_mode result × FitsTypes result) }
-{
-    if ignored {
-        Outcome::Ignored
-    } else {
-        runner.run(test_mode)
-    }
 }

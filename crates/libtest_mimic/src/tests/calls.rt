@@ -58,6 +58,34 @@ fn runs_benchmarks(rt: HostRuntime) -> Result<(), Fail> {
     Ok(())
 }
 
+// A failure with a message, the message kept without memory, and the others.
+#[test]
+fn copies_outcomes(rt: HostRuntime) -> Result<(), Fail> {
+    let alloc = rt.alloc();
+    let woops = Failed::with_message(String::from_str(alloc, "Woops")?);
+    let copy = woops.try_clone(alloc)?;
+    assert!(rt; copy == woops);
+    assert_eq!(rt; copy.message(), Some("Woops"));
+    let measures_nothing: Box<dyn FnOnce(bool) -> Result<Option<Measurement>, Failed> + Send> =
+        Box::new(alloc, |_mode: bool| Ok(None))?;
+    let not_measured = run_single(Runner::Bench(BenchRunner::new(measures_nothing)), false);
+    let outcomes = [
+        Outcome::Passed,
+        Outcome::Failed(woops),
+        Outcome::Failed(Failed::without_message()),
+        not_measured,
+        Outcome::Ignored,
+        Outcome::Measured(Measurement {
+            avg: 32,
+            variance: 3,
+        }),
+    ];
+    for outcome in &outcomes {
+        assert!(rt; outcome.try_clone(alloc)? == *outcome);
+    }
+    Ok(())
+}
+
 #[test]
 fn counts_outcomes(rt: HostRuntime) {
     let outcomes = [

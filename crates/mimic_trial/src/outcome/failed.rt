@@ -64,6 +64,20 @@ impl Failed {
         Ok(Failed::with_message(message.to_string(alloc)?))
     }
 
+    /// An equal failure. Only a message takes memory, and an `Err` says that there was none.
+    pub fn try_clone(&self, alloc: Global) -> Result<Self, AllocError>
+        ensures { IfOk result (λ f. f ≡ self.now) }
+    {
+        match &self.message {
+            Some(Message::Owned(message)) => {
+                let copy = String::from_str(alloc, message.as_str())?;
+                Ok(Failed::with_message(copy))
+            }
+            Some(Message::NotMeasured) => Ok(Failed::not_measured()),
+            None => Ok(Failed::without_message()),
+        }
+    }
+
     // The failure of a benchmark that measured nothing in bench mode.
     pub(crate) fn not_measured() -> Self
         ensures { result ≡ Some not_measured_text }

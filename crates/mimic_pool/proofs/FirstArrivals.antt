@@ -1,0 +1,125 @@
+-- First arrivals: one more arrival, by case, and the places where nothing came.
+use Rattle.std.proofs.Common.{◌≡◌, ◌∙◌, ℕ, suc, zero, ◌+◌, ◌<◌, ◌≤◌, nat_lt, eqb, Bool, true, false, not, ◌&&◌, ◌||◌, cond, List, [], ◌∷◌, ◌++◌, filter, refl, sym, ap, append_assoc, append-nil, inl, inr, arith}
+use Rattle.std.specs.List.{range_with_len}
+use Rattle.std.proofs.lemmas.List.Folds.{list_any-append}
+use Rattle.std.proofs.lemmas.Bool.{cases_Bool, eqb-true}
+use Rattle.std.proofs.lemmas.Bool.Decides.{nat_tests}
+use Rattle.mimic_trial.specs.Places.{Placed, places_of}
+use Rattle.mimic_pool.specs.Arrivals.{Arrived, arrival_of, first_after, first_arrivals, has_come, order_of, rows_after}
+use Rattle.mimic_pool.specs.declared.desk.Arrival.TheVariants.{First, Again, Stranger}
+
+-- ---- one more arrival
+
+-- what one more arrival adds to the first ones
+added : ℕ → List Placed → Placed → List Placed
+added n earlier a = cond (nat_lt a.0 n && not (has_come a.0 earlier)) (a ∷ []) []
+
+after_more : (n : ℕ) (earlier arrivals : List Placed) (a : Placed) → first_after n earlier (arrivals ++ a ∷ []) ≡ first_after n earlier arrivals ++ added n (earlier ++ arrivals) a
+unfolding added
+after_more n earlier [] a = ap (λ e. cond (nat_lt a.0 n && not (has_come a.0 e)) (a ∷ []) []) (sym (append-nil earlier))
+after_more n earlier (b ∷ arrivals) a =
+    let same : added n ((earlier ++ b ∷ []) ++ arrivals) a ≡ added n (earlier ++ b ∷ arrivals) a = ap (λ e. added n e a) (append_assoc earlier (b ∷ []) arrivals) in
+    let F = first_after n (earlier ++ b ∷ []) arrivals in
+    let F' = first_after n (earlier ++ b ∷ []) (arrivals ++ a ∷ []) in
+    let rest : F' ≡ F ++ added n (earlier ++ b ∷ arrivals) a = after_more n (earlier ++ b ∷ []) arrivals a ∙ ap (λ o. F ++ o) same in
+    let P : Bool → Type 0 = λ t. cond t (b ∷ F') F' ≡ cond t (b ∷ F) F ++ added n (earlier ++ b ∷ arrivals) a in
+    elim (nat_lt b.0 n && not (has_come b.0 earlier)) as P [ true ↦ ap (λ rows. b ∷ rows) rest | false ↦ rest ]
+
+or_assoc : (a b c : Bool) → ((a || (b || false)) || c) ≡ (a || (b || c))
+or_assoc true b c = refl
+or_assoc false true c = refl
+or_assoc false false c = refl
+
+skipped : (h e f : Bool) → (e ≡ true → h ≡ true) → (h || f) ≡ (h || (e || f))
+skipped true e f k = refl
+skipped false true f k = absurd (let no = k refl in cc)
+skipped false false f k = refl
+
+not_true : (b : Bool) → not b ≡ false → b ≡ true
+not_true true e = refl
+not_true false e = absurd (cc)
+
+-- an arrival below n that is no first one came before
+came_before : (n p : ℕ) (a : Placed) (earlier : List Placed) → nat_lt p n ≡ true → (nat_lt a.0 n && not (has_come a.0 earlier)) ≡ false → eqb p a.0 ≡ true → has_come p earlier ≡ true
+came_before n p a earlier low out here =
+    let e : p ≡ a.0 = eqb-true p a.0 here in
+    let low' : nat_lt a.0 n ≡ true = ap (λ q. nat_lt q n) (sym e) ∙ low in
+    let has : has_come a.0 earlier ≡ true = not_true (has_come a.0 earlier) (ap (λ t. t && not (has_come a.0 earlier)) (sym low') ∙ out) in
+    ap (λ q. has_come q earlier) e ∙ has
+
+-- a place below n is among the first arrivals exactly where it is among the arrivals
+after_has : (n p : ℕ) (earlier arrivals : List Placed) → nat_lt p n ≡ true
+    → (has_come p earlier || has_come p (first_after n earlier arrivals)) ≡ (has_come p earlier || has_come p arrivals)
+after_has n p earlier [] low = refl
+after_has n p earlier (a ∷ arrivals) low =
+    let E = has_come p earlier in
+    let F = first_after n (earlier ++ a ∷ []) arrivals in
+    let split : has_come p (earlier ++ a ∷ []) ≡ (E || (eqb p a.0 || false)) = list_any-append (λ r. eqb p r.0) earlier (a ∷ []) in
+    let all : (E || (eqb p a.0 || has_come p F)) ≡ (E || (eqb p a.0 || has_come p arrivals)) =
+    sym (or_assoc E (eqb p a.0) (has_come p F)) ∙ (ap (λ h. h || has_come p F) (sym split) ∙ (after_has n p (earlier ++ a ∷ []) arrivals low
+    ∙ (ap (λ h. h || has_come p arrivals) split ∙ or_assoc E (eqb p a.0) (has_come p arrivals)))) in
+    elim (cases_Bool (nat_lt a.0 n && not (has_come a.0 earlier))) [
+      | inl t ↦ ap (λ b. E || has_come p (cond b (a ∷ F) F)) t ∙ all
+      | inr f ↦ ap (λ b. E || has_come p (cond b (a ∷ F) F)) f ∙ (skipped E (eqb p a.0) (has_come p F) (came_before n p a earlier low f) ∙ all)
+    ]
+
+joined : (b : Bool) (rows : List Placed) (a : Placed) → rows ++ cond b (a ∷ []) [] ≡ cond b (rows ++ a ∷ []) rows
+joined true rows a = refl
+joined false rows a = append-nil rows
+
+-- the first arrivals after one more
+first_more : (n : ℕ) (arrivals : List Placed) (a : Placed) → first_arrivals n (arrivals ++ a ∷ []) ≡ rows_after n (first_arrivals n arrivals) a
+unfolding added
+first_more n arrivals a =
+    let F = first_arrivals n arrivals in
+    after_more n [] arrivals a ∙ elim (cases_Bool (nat_lt a.0 n)) [
+      | inl t ↦ ap (λ h. F ++ cond (nat_lt a.0 n && not h) (a ∷ []) []) (sym (after_has n a.0 [] arrivals t)) ∙ joined (nat_lt a.0 n && not (has_come a.0 F)) F a
+      | inr f ↦ ap (λ b. F ++ cond (b && not (has_come a.0 arrivals)) (a ∷ []) []) f ∙ (append-nil F ∙ ap (λ b. cond (b && not (has_come a.0 F)) (F ++ a ∷ []) F) (sym f))
+    ]
+
+-- rows that take one more arrival are the first ones of one more arrival
+pub history_more : (n : ℕ) (old new : List Placed) (a : Placed) → new ≡ rows_after n old a
+    → (arrivals : List Placed) → old ≡ first_arrivals n arrivals → new ≡ first_arrivals n (arrivals ++ a ∷ [])
+history_more n old new a kept arrivals was = kept ∙ (ap (λ rows. rows_after n rows a) was ∙ sym (first_more n arrivals a))
+
+-- ---- what an arrival does, by case
+
+module _ (d : Arrived) (a : Placed) where
+  low_test : (t : Bool) → nat_lt a.0 d.places ≡ t → cond (t && not (has_come a.0 d.rows)) (d.rows ++ a ∷ []) d.rows ≡ rows_after d.places d.rows a
+  low_test t e = ap (λ b. cond (b && not (has_come a.0 d.rows)) (d.rows ++ a ∷ []) d.rows) (sym e)
+
+  pub stranger_kept : d.places ≤ a.0 → d.rows ≡ rows_after d.places d.rows a
+  stranger_kept high = low_test false (grind (arith, nat_tests))
+
+  come_test : (h : Bool) → a.0 < d.places → has_come a.0 d.rows ≡ h → cond (not h) (d.rows ++ a ∷ []) d.rows ≡ rows_after d.places d.rows a
+  come_test h low e = ap (λ b. cond (not b) (d.rows ++ a ∷ []) d.rows) (sym e) ∙ low_test true (grind (arith, nat_tests))
+
+  pub again_kept : a.0 < d.places → has_come a.0 d.rows ≡ true → d.rows ≡ rows_after d.places d.rows a
+  again_kept low has = come_test true low has
+
+  pub first_kept : a.0 < d.places → has_come a.0 d.rows ≡ false → d.rows ++ a ∷ [] ≡ rows_after d.places d.rows a
+  first_kept low none = come_test false low none
+
+pub said : (d : Arrived) (p : ℕ) (h : Bool) → p < d.places → has_come p d.rows ≡ h → cond h Again First ≡ arrival_of d p
+said d p h low e =
+    let yes : nat_lt p d.places ≡ true = grind (arith, nat_tests) in
+    ap (λ b. cond b Again First) (sym e) ∙ ap (λ t. cond t (cond (has_come p d.rows) Again First) Stranger) (sym yes)
+
+-- ---- the places where nothing came
+
+missing_same : (n : ℕ) (arrivals : List Placed) (from len : ℕ) → from + len ≤ n
+    → filter (λ p. not (has_come p (first_arrivals n arrivals))) (range_with_len from len) ≡ filter (λ p. not (has_come p arrivals)) (range_with_len from len)
+missing_same n arrivals from zero low = refl
+missing_same n arrivals from (suc len) low =
+    let here : nat_lt from n ≡ true = grind (arith, nat_tests) in
+    let rest = filter (λ p. not (has_come p (first_arrivals n arrivals))) (range_with_len (from + 1) len) in
+    ap (λ b. cond (not b) (from ∷ rest) rest) (after_has n from [] arrivals here)
+    ∙ ap (λ l. cond (not (has_come from arrivals)) (from ∷ l) l) (missing_same n arrivals (from + 1) len (omega arith))
+
+-- the places of the first arrivals, and then those where nothing came, are the order of the arrivals
+pub order_same : (n : ℕ) (rows : List Placed) (missing : List ℕ) → missing ≡ filter (λ p. not (has_come p rows)) (range_with_len 0 n)
+    → (arrivals : List Placed) → rows ≡ first_arrivals n arrivals → places_of rows ++ missing ≡ order_of n arrivals
+order_same n rows missing is arrivals was =
+    ap (λ m. places_of rows ++ m) is
+    ∙ (ap (λ r. places_of r ++ filter (λ p. not (has_come p r)) (range_with_len 0 n)) was
+    ∙ ap (λ m. places_of (first_arrivals n arrivals) ++ m) (missing_same n arrivals 0 n (omega arith)))

@@ -1,0 +1,6 @@
+pub mod Share
+pub mod Answers
+pub mod Reports
+pub mod Arrivals
+pub mod Missing
+pub mod Seats

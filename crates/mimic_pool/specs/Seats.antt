@@ -1,0 +1,31 @@
+-- What a desk keeps inside: a seat for each place, and the places in order of arrival. No public clause names these words.
+use Rattle.std.specs.Prelude.{ℕ, ◌≡◌, ◌≤◌, List, Option, Some, None, is_some, map, length, slice_get, slice_index_or, vec_capacity, eqb}
+use Rattle.std.specs.List.{list_any, IsDistinct}
+use Rattle.mimic_trial.specs.declared.outcome.Outcome.{Outcome}
+use Rattle.mimic_trial.specs.declared.outcome.Outcome.TheVariants as outcome
+use Rattle.mimic_trial.specs.Places.{Placed}
+use Rattle.mimic_pool.specs.Arrivals.{Arrived}
+use Rattle.mimic_pool.specs.declared.desk.Desk.TheInside.{Inside}
+
+-- what lies in a seat that is taken
+abbrev pub seated : Option Outcome → Outcome
+seated (Some o) = o
+seated None = outcome.Passed
+
+-- the row of a place whose seat is taken
+abbrev pub seat_row : List (Option Outcome) → ℕ → Placed
+seat_row seats place = (place, seated (slice_index_or seats place None))
+
+-- what a desk with this inside shows
+abbrev pub arrived_of : Inside → Arrived
+arrived_of desk = record { places = length desk.seats.items; rows = map (seat_row desk.seats.items) desk.order.items }
+
+-- a place is in the order exactly where its seat is taken; none stands there twice, and there is room for all
+pub record IsSeated (desk : Inside) : Type 0 where
+  pub taken : (place : ℕ) → list_any (eqb place) desk.order.items ≡ is_some (slice_index_or desk.seats.items place None)
+  pub distinct : IsDistinct eqb desk.order.items
+  pub room : length desk.seats.items ≤ vec_capacity desk.order
+
+-- where a seat is taken, its outcome is the joined one
+abbrev pub SeatAgreesAt : List (Option Outcome) → List Outcome → ℕ → Type 0
+SeatAgreesAt seats joined place = (o : Outcome) → slice_index_or seats place None ≡ Some o → slice_get joined place ≡ Some o

@@ -1,0 +1,28 @@
+-- Shares: which worker runs which of the trials.
+use Rattle.std.specs.Prelude.{ℕ, ◌≡◌, ◌+◌, ◌%◌, ◌<◌, ◌==◌, Bool, List, [], ◌∷◌, filter, length, slice_index_or}
+use Rattle.mimic_pool.specs.declared.share.Assigned.{Assigned}
+use Rattle.mimic_pool.specs.declared.share.Share.{Share}
+
+module _ {X : Type 0} where
+  -- what a share holds, in its order
+  abbrev pub items_of : Share X → List (Assigned X)
+  items_of share = share.items.items
+
+  -- the runners with their places, counted from this one on, and their flags, as far as both go
+  abbrev pub assigned_from : ℕ → List X → List Bool → List (Assigned X)
+  assigned_from place [] flags = []
+  assigned_from place (runner ∷ runners) [] = []
+  assigned_from place (runner ∷ runners) (flag ∷ flags) = record { place = place; runner = runner; ignored = flag } ∷ assigned_from (place + 1) runners flags
+
+  -- those of so many workers whose place leaves this worker's number, in their order (our own)
+  abbrev pub share_of : ℕ → ℕ → List (Assigned X) → List (Assigned X)
+  share_of workers worker items = filter (λ item. item.place % workers == worker) items
+
+  -- each worker's share holds the runners of its places, each with its place and its flag
+  abbrev pub IsDealt : List X → List Bool → ℕ → List (Share X) → Type 0
+  IsDealt runners flags workers shares =
+      (worker : ℕ) (d : Share X) → worker < workers → items_of (slice_index_or shares worker d) ≡ share_of workers worker (assigned_from 0 runners flags)
+
+  -- each of these shares is empty
+  abbrev pub AreEmpty : List (Share X) → Type 0
+  AreEmpty shares = (worker : ℕ) (d : Share X) → worker < length shares → items_of (slice_index_or shares worker d) ≡ []

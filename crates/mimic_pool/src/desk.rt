@@ -1,0 +1,173 @@
+//! The desk where outcomes arrive from the workers.
+ghost use Rattle.std.specs.Prelude.{◌≡◌, ◌++◌, ◌∷◌, [], ◌↔◌, ◌<◌, IfOk, IsTrue, List, MatchResult, Some, length, ℕ};
+ghost use Rattle.std.specs.Iterator.{YieldsFirst, item_count};
+ghost use Rattle.std.specs.List.{range_with_len};
+ghost use Rattle.std.specs.List.Sorted.{IsPermutation};
+ghost use Rattle.std.specs.Option.{option_copied};
+ghost use Rattle.mimic_trial.specs.Places.{Placed, places_of};
+ghost use Rattle.mimic_pool.specs.Arrivals.{AgreesAt, arrival_of, arrived_at, first_arrivals, missing_of, order_of, rows_after};
+ghost use Rattle.mimic_pool.specs.Missing.{missing_items};
+ghost use Rattle.mimic_pool.specs.Seats.{SeatAgreesAt};
+
+use mimic_trial::Outcome;
+use std::alloc::{AllocError, Global};
+use std::marker::Model;
+
+/// What a desk says of an arrival.
+#[derive(Clone, Copy, Debug, PartialEq, Eq)]
+pub enum Arrival {
+    /// It is the first one at its place, and the desk keeps it.
+    First,
+    /// An outcome arrived at its place before.
+    Again,
+    /// The desk has no such place.
+    Stranger,
+}
+
+/// The first arrivals of outcomes at places, counted from 0. Contracts see the number of places, and the first arrivals
+/// in the order in which they came.
+///
+/// Outcomes may be lost on their way, come twice, come from nowhere, and come in any order.
+#[derive(Drop)]
+pub struct Desk {
+    seats: Vec<Option<Outcome>>,
+    order: Vec<usize>,
+}
+
+impl Model for Desk {
+    ghost use Rattle.mimic_pool.specs.Arrivals.{Arrived};
+    ghost use Rattle.mimic_pool.specs.Seats.{IsSeated, arrived_of};
+
+    ghost Value = { Arrived };
+
+    ghost view = { arrived_of };
+
+    ghost invariant = { IsSeated };
+}
+
+impl Desk {
+    /// A desk of `n` places at which nothing arrived yet. All of its memory is taken here.
+    pub fn new(alloc: Global, n: usize) -> Result<Desk, AllocError>
+        ensures { IfOk result (λ desk. desk ≡ record { places = n; rows = [] }) }
+    {
+        let mut seats = Vec::with_capacity(alloc, n)?;
+        let order = Vec::with_capacity(alloc, n)?;
+        for _place in 0..n {
+            seats.push(None)?;
+        }
+        Ok(Desk { seats, order })
+    }
+
+    /// Takes an arrival. Only the first one at a place of the desk changes it.
+    pub fn arrive(&mut self, place: usize, outcome: Outcome) -> Arrival
+        ensures answer { result ≡ arrival_of self.old place }
+        ensures places { self.new.places ≡ self.old.places }
+        ensures rows { self.new.rows ≡ rows_after self.old.places self.old.rows (place, outcome) }
+        ensures history { (arrivals : List Placed) → self.old.rows ≡ first_arrivals self.old.places arrivals
+            → self.new.rows ≡ first_arrivals self.old.places (arrivals ++ (place, outcome) ∷ []) }
+    {
+        if place >= self.seats.len() {
+            return Arrival::Stranger;
+        }
+        if self.seats[place].is_some() {
+            return Arrival::Again;
+        }
+        self.seats[place] = Some(outcome);
+        self.order.push_reserved(place);
+        Arrival::First
+    }
+
+    /// The first outcome that arrived at the place.
+    pub fn outcome(&self, place: usize) -> Option<&Outcome>
+        ensures { option_copied result ≡ arrived_at place self.now.rows }
+    {
+        match self.seats.get(place) {
+            Some(seat) => seat.as_ref(),
+            None => None,
+        }
+    }
+
+    /// The places of the first arrivals, in the order in which they came.
+    pub fn order(&self) -> &[usize]
+        ensures { result.now ≡ places_of self.now.rows }
+    {
+        self.order.as_slice()
+    }
+
+    /// Compares the first arrivals with the outcomes that workers answered, which stand by place. An `Err` names the
+    /// least place that differs. Places at which nothing arrived are passed over.
+    pub fn settle(&self, joined: &[Outcome]) -> Result<(), usize>
+        requires { length joined.now ≡ self.now.places }
+        ensures { MatchResult result
+            (λ _. (place : ℕ) → AgreesAt self.now.rows joined.now place)
+            (λ differs. (¬ AgreesAt self.now.rows joined.now differs) × ((place : ℕ) → place < differs → AgreesAt self.now.rows joined.now place)) }
+    {
+        first_difference(self.seats.as_slice(), joined)
+    }
+}
+
+impl Desk {
+    /// The places at which nothing arrived, rising. Those of `order` and then these are all places, each once.
+    pub fn missing(&self) -> Missing<'_>
+        ensures places { missing_items result ≡ missing_of self.now }
+        ensures order { (arrivals : List Placed) → self.now.rows ≡ first_arrivals self.now.places arrivals
+            → places_of self.now.rows ++ missing_items result ≡ order_of self.now.places arrivals }
+        ensures whole { IsPermutation (places_of self.now.rows ++ missing_items result) (range_with_len 0 self.now.places) }
+    {
+        Missing {
+            seats: self.seats.as_slice(),
+            next: 0,
+        }
+    }
+}
+
+/// The places of a desk at which nothing arrived, rising.
+#[derive(Drop)]
+pub struct Missing<'a> {
+    seats: &'a [Option<Outcome>],
+    next: usize,
+}
+
+impl<'a> Iterator for Missing<'a> {
+    type Item = usize;
+
+    ghost next_gives = { YieldsFirst missing_items };
+
+    ghost remaining = { item_count missing_items };
+
+    fn next(&mut self) -> Option<usize> {
+        while self.next < self.seats.len() {
+            let place = self.next;
+            self.next += 1;
+            if self.seats[place].is_none() {
+                return Some(place);
+            }
+        }
+        None
+    }
+}
+
+// The least place whose seat is taken by another outcome than the joined one.
+fn first_difference(seats: &[Option<Outcome>], joined: &[Outcome]) -> Result<(), usize>
+    requires { length joined.now ≡ length seats.now }
+    ensures { MatchResult result
+        (λ _. (place : ℕ) → SeatAgreesAt seats.now joined.now place)
+        (λ differs. (¬ SeatAgreesAt seats.now joined.now differs) × ((place : ℕ) → place < differs → SeatAgreesAt seats.now joined.now place)) }
+{
+    for place in 0..seats.len() {
+        if !agrees(&seats[place], &joined[place]) {
+            return Err(place);
+        }
+    }
+    Ok(())
+}
+
+// Whether the seat is free, or taken by this outcome.
+fn agrees(seat: &Option<Outcome>, joined: &Outcome) -> bool
+    ensures { IsTrue result ↔ ((o : _) → seat.now ≡ Some o → joined.now ≡ o) }
+{
+    match seat {
+        Some(outcome) => joined == outcome,
+        None => true,
+    }
+}

@@ -1,0 +1,19 @@
+//! What worker threads share out, tell and answer, and what is made of it. A layer of `libtest_mimic`.
+#![tactic(auto)]
+
+mod channel;
+mod desk;
+mod memory;
+mod reports;
+mod share;
+mod worker;
+
+pub use channel::ChannelReports;
+pub use desk::{Arrival, Desk, Missing};
+pub use memory::MemoryReports;
+pub use reports::{Reports, Untold};
+pub use share::{Share, deal};
+pub use worker::work;
+
+#[cfg(test)]
+mod tests;

@@ -1,0 +1,72 @@
+//! Where workers tell what became of their trials.
+ghost use Rattle.std.specs.Prelude.{◌≡◌, ◌↔◌, ◌+◌, ◌<◌, ℕ, IsOk, OnErr, OnOk};
+
+use mimic_trial::Outcome;
+
+/// A row could not be told.
+#[derive(Clone, Copy, Debug, PartialEq, Eq)]
+pub struct Untold;
+
+/// Where a worker tells each row, a place and the outcome there, while it goes on with its share.
+///
+/// What becomes of a told row is the form's own affair: it may be lost. So the worker answers all of its rows once more.
+pub trait Reports {
+    /// How many rows were told.
+    ghost told_of: { Self → ℕ };
+
+    /// How many rows could not be told.
+    ghost refused_by: { Self → ℕ };
+
+    /// Tells one row, and counts it as told, or with `Untold` as refused.
+    fn tell(&mut self, place: usize, outcome: &Outcome) -> Result<(), Untold>
+        requires room { (told_of self.old < u64.MAX) × (refused_by self.old < u64.MAX) }
+        ensures told { OnOk result ((told_of self.new ≡ told_of self.old + 1) × (refused_by self.new ≡ refused_by self.old)) }
+        ensures untold { OnErr result ((told_of self.new ≡ told_of self.old) × (refused_by self.new ≡ refused_by self.old + 1)) };
+
+    /// How many rows could not be told.
+    fn refusals(&self) -> u64
+        ensures { result ≡ refused_by self.now };
+
+    /// How many rows were told.
+    fn told(&self) -> u64
+        ensures { result ≡ told_of self.now };
+}
+
+// How many rows were told, and how many could not be.
+#[derive(Drop)]
+pub(crate) struct Counts {
+    pub(crate) told: u64,
+    pub(crate) refusals: u64,
+}
+
+impl Counts {
+    // No row was told yet.
+    pub(crate) fn new() -> Self
+        ensures told { result.told ≡ 0 }
+        ensures refusals { result.refusals ≡ 0 }
+    {
+        Counts {
+            told: 0,
+            refusals: 0,
+        }
+    }
+
+    // Counts one more row: as told, where it was kept or sent, else as refused.
+    pub(crate) fn count<E: Drop>(&mut self, row: Result<(), E>) -> Result<(), Untold>
+        requires room { (self.old.told < u64.MAX) × (self.old.refusals < u64.MAX) }
+        ensures same { IsOk result ↔ IsOk row }
+        ensures told { OnOk result ((self.new.told ≡ self.old.told + 1) × (self.new.refusals ≡ self.old.refusals)) }
+        ensures untold { OnErr result ((self.new.told ≡ self.old.told) × (self.new.refusals ≡ self.old.refusals + 1)) }
+    {
+        match row {
+            Ok(()) => {
+                self.told += 1;
+                Ok(())
+            }
+            Err(_) => {
+                self.refusals += 1;
+                Err(Untold)
+            }
+        }
+    }
+}

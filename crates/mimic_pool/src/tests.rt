@@ -1,0 +1,3 @@
+//! What no clause says: that calls succeed, that the rows which a worker tells are those that it answers, and worked rows.
+mod desk;
+mod workers;

@@ -1,0 +1,244 @@
+//! Shares and workers, over reports in memory and over a channel.
+ghost use Rattle.std.specs.Prelude.{◌≡◌, ◌≤◌, length, vec_capacity, vec_len};
+ghost use Rattle.mimic_pool.specs.Share.{items_of};
+
+use crate::{Arrival, ChannelReports, Desk, MemoryReports, Reports, Share, Untold, deal, work};
+use crossbeam_channel::bounded;
+use mimic_trial::{Failed, Measurement, Outcome, Runner, Task, TestRunner};
+use std::alloc::{AllocError, Global};
+use std::sync::Arc;
+use std::sync::atomic::{AtomicBool, Ordering};
+use std::test::Fail;
+use std::thread;
+
+// A runner that is the outcome which it gives.
+#[derive(Drop)]
+struct Becomes(Outcome);
+
+impl Task for Becomes {
+    fn run(self, _test_mode: bool) -> Outcome {
+        self.0
+    }
+}
+
+fn passes() -> Becomes {
+    Becomes(Outcome::Passed)
+}
+
+// Whether each share has these places, and no more.
+fn have_places<T>(shares: &[Share<T>], dealt: &[&[usize]]) -> bool {
+    let mut same = shares.len() == dealt.len();
+    for (share, places) in shares.iter().zip(dealt) {
+        same = same && share.len() == places.len() && share.place(places.len()).is_none();
+        for i in 0..places.len() {
+            same = same && share.place(i) == places.get(i).copied();
+        }
+    }
+    same
+}
+
+#[test]
+fn deals_by_remainders(rt: HostRuntime) -> Result<(), Fail> {
+    let alloc = rt.alloc();
+    let five = vec![in alloc; passes(), passes(), passes(), passes(), passes()]?;
+    let flags = vec![in alloc; false, false, false, false, false]?;
+    let shares = deal(alloc, five, flags, 2)?;
+    assert!(rt; have_places(&shares, &[&[0, 2, 4], &[1, 3]]));
+    let two = vec![in alloc; passes(), passes()]?;
+    let shares = deal(alloc, two, vec![in alloc; false, true]?, 3)?;
+    assert!(rt; have_places(&shares, &[&[0], &[1], &[]]));
+    Ok(())
+}
+
+// The shares of two workers of these runners at the places 0, 1, .. None is ignored but the last one.
+fn shares_of_five(alloc: Global, runners: [Becomes; 5]) -> Result<Vec<Share<Becomes>>, AllocError> {
+    let [first, second, third, fourth, fifth] = runners;
+    let runners = vec![in alloc; first, second, third, fourth, fifth]?;
+    deal(
+        alloc,
+        runners,
+        vec![in alloc; false, false, false, false, true]?,
+        2,
+    )
+}
+
+fn have_rows(rows: &[(usize, Outcome)], expected: &[(usize, Outcome)]) -> bool {
+    let mut same = rows.len() == expected.len();
+    for (row, other) in rows.iter().zip(expected) {
+        same = same && row.0 == other.0 && row.1 == other.1;
+    }
+    same
+}
+
+#[test]
+fn tells_what_it_answers(rt: HostRuntime) -> Result<(), Fail> {
+    let alloc = rt.alloc();
+    let woops = Failed::with_message(String::from_str(alloc, "Woops")?);
+    let measured = Outcome::Measured(Measurement {
+        avg: 32,
+        variance: 3,
+    });
+    let runners = [
+        Becomes(Outcome::Failed(woops.try_clone(alloc)?)),
+        passes(),
+        Becomes(measured),
+        passes(),
+        passes(),
+    ];
+    let even = [
+        (0, Outcome::Failed(woops)),
+        (
+            2,
+            Outcome::Measured(Measurement {
+                avg: 32,
+                variance: 3,
+            }),
+        ),
+        (4, Outcome::Ignored),
+    ];
+    let odd = [(1, Outcome::Passed), (3, Outcome::Passed)];
+    let expected: [&[(usize, Outcome)]; 2] = [&even, &odd];
+    let shares = shares_of_five(alloc, runners)?;
+    for (share, rows) in shares.into_iter().zip(&expected) {
+        let room = Vec::with_capacity(alloc, share.len())?;
+        let mut reports = MemoryReports::new(alloc);
+        let answer = work(share, false, &mut reports, room);
+        assert!(rt; have_rows(&answer, rows));
+        assert!(rt; have_rows(reports.rows(), rows));
+        assert_eq!(rt; reports.told(), rows.len() as u64);
+        assert_eq!(rt; reports.refusals(), 0);
+    }
+    Ok(())
+}
+
+// Boxed runners: the one that is ignored isn't called.
+#[test]
+fn drops_what_is_ignored(rt: HostRuntime) -> Result<(), Fail> {
+    let alloc = rt.alloc();
+    let first = Arc::new(alloc, AtomicBool::new(false))?;
+    let second = Arc::new(alloc, AtomicBool::new(false))?;
+    let first_flag = Arc::try_clone(&first)?;
+    let second_flag = Arc::try_clone(&second)?;
+    let calls_first: Box<dyn FnOnce() -> Result<(), Failed> + Send> = Box::new(alloc, move || {
+        first_flag.store(true, Ordering::SeqCst);
+        Ok(())
+    })?;
+    let calls_second: Box<dyn FnOnce() -> Result<(), Failed> + Send> = Box::new(alloc, move || {
+        second_flag.store(true, Ordering::SeqCst);
+        Ok(())
+    })?;
+    let runners = vec![in alloc;
+        Runner::Test(TestRunner::new(calls_first)),
+        Runner::Test(TestRunner::new(calls_second)),
+    ]?;
+    let shares = deal(alloc, runners, vec![in alloc; true, false]?, 1)?;
+    for share in shares {
+        let room = Vec::with_capacity(alloc, share.len())?;
+        let mut reports = MemoryReports::new(alloc);
+        let answer = work(share, true, &mut reports, room);
+        assert!(rt; have_rows(&answer, &[(0, Outcome::Ignored), (1, Outcome::Passed)]));
+    }
+    assert!(rt; !first.load(Ordering::SeqCst));
+    assert!(rt; second.load(Ordering::SeqCst));
+    Ok(())
+}
+
+// Refuses each row.
+#[derive(Drop)]
+struct Deaf {
+    refusals: u64,
+}
+
+impl Reports for Deaf {
+    ghost told_of = { λ _. 0 };
+
+    ghost refused_by = { λ reports. reports.refusals };
+
+    fn tell(&mut self, _place: usize, _outcome: &Outcome) -> Result<(), Untold> {
+        self.refusals += 1;
+        Err(Untold)
+    }
+
+    fn refusals(&self) -> u64 {
+        self.refusals
+    }
+
+    fn told(&self) -> u64 {
+        0
+    }
+}
+
+#[test]
+fn answers_what_is_untold(rt: HostRuntime) -> Result<(), Fail> {
+    let alloc = rt.alloc();
+    let runners = vec![in alloc; passes(), passes()]?;
+    let shares = deal(alloc, runners, vec![in alloc; false, false]?, 1)?;
+    for share in shares {
+        let room = Vec::with_capacity(alloc, share.len())?;
+        let mut reports = Deaf { refusals: 0 };
+        let answer = work(share, false, &mut reports, room);
+        assert!(rt; have_rows(&answer, &[(0, Outcome::Passed), (1, Outcome::Passed)]));
+        assert_eq!(rt; reports.refusals(), 2);
+        assert_eq!(rt; reports.told(), 0);
+    }
+    Ok(())
+}
+
+// Rows come over the channel in the order in which they were told. Without a receiver they are refused.
+#[test]
+fn tells_over_a_channel(rt: HostRuntime) -> Result<(), Fail> {
+    let alloc = rt.alloc();
+    let (sender, receiver) = bounded(alloc, 2)?;
+    let mut reports = ChannelReports::new(rt, alloc, sender);
+    let woops = Outcome::Failed(Failed::with_message(String::from_str(alloc, "Woops")?));
+    assert!(rt; reports.tell(3, &woops).is_ok());
+    assert!(rt; reports.tell(1, &Outcome::Passed).is_ok());
+    let mut rows = Vec::new(alloc);
+    for row in receiver.try_iter(&rt) {
+        rows.push(row)?;
+    }
+    assert!(rt; have_rows(&rows, &[(3, woops), (1, Outcome::Passed)]));
+    drop(receiver);
+    assert!(rt; reports.tell(0, &Outcome::Passed).is_err());
+    assert_eq!(rt; reports.told(), 2);
+    assert_eq!(rt; reports.refusals(), 1);
+    Ok(())
+}
+
+// Two workers in threads tell over one channel. What arrives at the desk is what they answer when they are joined.
+#[test]
+fn tells_from_threads(rt: HostRuntime) -> Result<(), Fail> {
+    let alloc = rt.alloc();
+    let runners = [passes(), passes(), passes(), passes(), passes()];
+    let (sender, receiver) = bounded(alloc, 5)?;
+    let mut handles = Vec::new(alloc);
+    for share in shares_of_five(alloc, runners)? {
+        let room = Vec::with_capacity(alloc, share.len())?;
+        let mut reports = ChannelReports::new(rt, alloc, sender.clone()?);
+        let handle = thread::spawn(
+            &rt,
+            move || -> Vec<(usize, Outcome)>
+                requires empty { vec_len room ≡ 0 }
+                requires fits { length (items_of share) ≤ vec_capacity room }
+                requires told { reports.counts.told ≡ 0 }
+                requires refusals { reports.counts.refusals ≡ 0 }
+            { work(share, true, &mut reports, room) },
+        )?;
+        handles.push(handle)?;
+    }
+    drop(sender);
+    let mut desk = Desk::new(alloc, 5)?;
+    for (place, outcome) in receiver.iter(&rt) {
+        assert_eq!(rt; desk.arrive(place, outcome), Arrival::First);
+    }
+    let mut answered = Vec::new(alloc);
+    for handle in handles {
+        for (place, outcome) in handle.join(&rt) {
+            assert!(rt; desk.outcome(place) == Some(&outcome));
+            answered.push(place)?;
+        }
+    }
+    assert_eq!(rt; answered.len(), 5);
+    assert_eq!(rt; desk.order().len(), 5);
+    Ok(())
+}

@@ -1,0 +1,42 @@
+//! What one worker does.
+ghost use Rattle.std.specs.Prelude.{◌≡◌, ◌+◌, ◌≤◌, ◌<◌, ◌^◌, All, length, vec_capacity, vec_len};
+ghost use Rattle.mimic_pool.specs.Answers.{Answers};
+ghost use Rattle.mimic_pool.specs.Share.{items_of};
+
+use crate::reports::Reports;
+use crate::share::{Assigned, Share};
+use mimic_trial::{Outcome, Task, run_unless};
+
+/// Runs the share in its order, tells each row when its trial has ended, and answers all of them.
+///
+/// A runner that is ignored is dropped without a call. A row that could not be told is answered all the same. The answer
+/// is put into `room`, which takes no memory.
+pub fn work<T: Task, R: Reports>(
+    share: Share<T>,
+    test_mode: bool,
+    reports: &mut R,
+    mut room: Vec<(usize, Outcome)>,
+) -> Vec<(usize, Outcome)>
+    requires runnable { All (λ item. T.can_run item.runner) (items_of share) }
+    requires empty { vec_len room ≡ 0 }
+    requires fits { length (items_of share) ≤ vec_capacity room }
+    requires told { R.told_of reports.old + length (items_of share) < 2 ^ 64 }
+    requires refusals { R.refused_by reports.old + length (items_of share) < 2 ^ 64 }
+    ensures answers { Answers T.gives test_mode (items_of share) result.items }
+    ensures counted { R.told_of reports.new + R.refused_by reports.new
+        ≡ R.told_of reports.old + R.refused_by reports.old + length (items_of share) }
+{
+    let Share { items } = share;
+    for item in items {
+        let Assigned {
+            place,
+            runner,
+            ignored,
+        } = item;
+        let outcome = run_unless(ignored, runner, test_mode);
+        // Told or not, the row is answered: whoever joins the worker gets it then.
+        let _ = reports.tell(place, &outcome);
+        room.push_reserved((place, outcome));
+    }
+    room
+}
