@@ -1,5 +1,5 @@
 -- What a run left in its sink, said of the bytes that were handed on.
-use Rattle.std.proofs.Common.{◌≡◌, ◌≢◌, ℕ, Bool, List, [], Option, Result, Ok, Err, true, false, refl, sym, ap, ap₂, subst, ◌∙◌, IfOk, OnOk, OnErr, IsOk, MatchResult}
+use Rattle.std.proofs.Common.{◌≡◌, ℕ, Bool, List, [], Option, Result, Ok, Err, true, false, refl, ap, ap₂, subst, ◌∙◌, IfOk, OnOk, OnErr, IsOk, MatchResult}
 use Rattle.std.proofs.lemmas.Bool.{false≢true}
 use Rattle.std.proofs.KnownBytes.{Appends-kept}
 use Rattle.std.specs.Io.KnownBytes.{Keeps}
@@ -10,13 +10,13 @@ use Rattle.mimic_printer.specs.declared.sink.Sink.{Sink}
 use Rattle.libtest_mimic.specs.declared.stopwatch.Readings.{Readings}
 use Rattle.libtest_mimic.specs.declared.stopwatch.Readings.TheVariants.{Fresh}
 use Rattle.libtest_mimic.specs.declared.run.RunError.{RunError}
-use Rattle.libtest_mimic.specs.declared.run.RunError.TheVariants.{OutOfMemory, Write}
+use Rattle.libtest_mimic.specs.declared.run.RunError.TheVariants.{OutOfMemory}
 use Rattle.libtest_mimic.specs.Count.{counts_of}
 use Rattle.libtest_mimic.specs.List.{list_text}
 use Rattle.libtest_mimic.specs.Promise.{Gives}
 use Rattle.libtest_mimic.specs.Run.{HasAnswer, OnOutOfMemory, OnWriteFault, ReportedInOrder, StartsReport}
 use Rattle.libtest_mimic.specs.Sink.{Put, Shown, Stopped, faults_of, shown, writer_of}
-use Rattle.libtest_mimic.specs.Suite.{OfSuite, Suite, in_order}
+use Rattle.libtest_mimic.specs.Suite.{OfSuite, in_order}
 use Rattle.libtest_mimic.proofs.Answered.{OnOutOfMemory-weaker}
 use Rattle.mimic_main.specs.Output.{HandsOn}
 use Rattle.mimic_main.specs.Run.{Answered, GotBeginning, Ran, Refused, faultless}

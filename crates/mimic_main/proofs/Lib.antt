@@ -1,2 +1,3 @@
 pub mod HandedOn
 pub mod Mapped
+pub mod TakenBack

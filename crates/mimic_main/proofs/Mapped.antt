@@ -1,5 +1,5 @@
 -- What still holds where an error is mapped.
-use Rattle.std.proofs.Common.{◌≡◌, Result, Ok, Err, Bool, true, false, IfOk, OnErr, is_ok, MatchResult, subst, sym}
+use Rattle.std.proofs.Common.{◌≡◌, Result, Ok, Err, IfOk, OnErr, is_ok, MatchResult, subst, sym}
 use Rattle.std.proofs.lemmas.Bool.{false≢true}
 
 -- what holds of an Ok value

@@ -1,5 +1,5 @@
 //! The buffer between a report and the system.
-ghost use Rattle.std.specs.Prelude.{◌≡◌, ◌≤◌, [], drop, length, take, OnOk};
+ghost use Rattle.std.specs.Prelude.{◌≡◌, ◌≤◌, ◌-◌, ℕ, [], drop, length, take, OnOk};
 ghost use Rattle.std.specs.Io.{WritesAtMost};
 ghost use Rattle.std.specs.Io.KnownBytes.{Appends, Keeps, WriteAppends};
 ghost use Rattle.mimic_main.specs.Output.{HandsOn, flushes_by, told_of, waiting_of};
@@ -60,6 +60,8 @@ pub struct Output<W: Write> {
     waiting: Vec<u8>,
     policy: FlushPolicy,
     has_failed: bool,
+    // The fault behind the front of a text that was taken. The next call tells it.
+    untold: Option<io::Error>,
 }
 
 impl<W: Write> Output<W> {
@@ -73,6 +75,7 @@ impl<W: Write> Output<W> {
             waiting: Vec::new(alloc),
             policy,
             has_failed: false,
+            untold: None,
         }
     }
 
@@ -95,6 +98,7 @@ impl<W: Write> Output<W> {
             waiting: _,
             policy: _,
             has_failed: _,
+            untold: _,
         } = self;
         (writer, finished)
     }
@@ -103,14 +107,28 @@ impl<W: Write> Output<W> {
     fn hand_on(&mut self) -> io::Result<()>
         ensures bytes { Keeps (told_of W.contents self.old) (told_of W.contents self.new) }
         ensures empty { OnOk result (waiting_of self.new ≡ []) }
+        ensures front { (n : ℕ) × (n ≤ length (waiting_of self.old)) × (waiting_of self.new ≡ drop n (waiting_of self.old))
+            × Appends (W.contents self.old.writer) (W.contents self.new.writer) (take n (waiting_of self.old)) }
     {
         if self.has_failed {
-            return Err(io::Error::from(ErrorKind::BrokenPipe));
+            return Err(self.earlier_fault());
         }
         let (taken, handed) = put_all(&mut self.writer, self.waiting.as_slice());
         self.waiting.drain(..taken);
         self.has_failed = handed.is_err();
         handed
+    }
+
+    // The fault that was not told yet, else that there was one.
+    fn earlier_fault(&mut self) -> io::Error
+        ensures bytes { told_of W.contents self.new ≡ told_of W.contents self.old }
+        ensures waiting { waiting_of self.new ≡ waiting_of self.old }
+        ensures writer { self.new.writer ≡ self.old.writer }
+    {
+        match self.untold.take() {
+            Some(error) => error,
+            None => io::Error::from(ErrorKind::BrokenPipe),
+        }
     }
 
     fn hand_on_and_flush(&mut self) -> io::Result<()>
@@ -123,27 +141,65 @@ impl<W: Write> Output<W> {
         flushed
     }
 
-    // Hands on what waits and then, as much as the writer takes at once, the text itself.
+    // Hands on what waits and then the text, in one write where both fit into a block and the writer takes them at once.
     fn write_through(&mut self, text: &[u8]) -> io::Result<usize>
         ensures bound { WritesAtMost result text.now }
         ensures bytes { WriteAppends (told_of W.contents self.old) (told_of W.contents self.new) result text.now }
     {
+        if !self.waiting.is_empty() && self.has_room(text.len()) {
+            return self.write_together(text);
+        }
         self.hand_on()?;
         let written = self.writer.write(text);
         self.has_failed = !matches!(written, Ok(1..));
         written
     }
+
+    // Hands on what waits and the text at once.
+    fn write_together(&mut self, text: &[u8]) -> io::Result<usize>
+        ensures bound { WritesAtMost result text.now }
+        ensures bytes { WriteAppends (told_of W.contents self.old) (told_of W.contents self.new) result text.now }
+    {
+        self.waiting.extend_from_slice(text)?;
+        let fault = self.hand_on().err();
+        let taken = take_back(&mut self.waiting, text.len());
+        match fault {
+            Some(error) if taken == 0 => Err(error),
+            untold => {
+                self.untold = untold;
+                Ok(taken)
+            }
+        }
+    }
+
+    // Whether so many bytes more can wait.
+    fn has_room(&self, count: usize) -> bool {
+        count <= BLOCK.saturating_sub(self.waiting.len())
+    }
+}
+
+// Takes so many bytes back from the end of what waits, and answers how many of them wait no longer.
+fn take_back(waiting: &mut Vec<u8>, count: usize) -> usize
+    ensures waiting { waiting.new.items ≡ take (length waiting.old.items - count) waiting.old.items }
+    ensures taken { result ≡ count - length waiting.old.items }
+{
+    let left = waiting.len();
+    waiting.truncate(left.saturating_sub(count));
+    count.saturating_sub(left)
 }
 
 impl<W: Write> Write for Output<W> {
     ghost contents = { told_of W.contents };
 
     fn write(&mut self, buf: &[u8]) -> io::Result<usize> {
+        if self.has_failed {
+            return Err(self.earlier_fault());
+        }
         let ends = self.policy == FlushPolicy::OnLineEnd && buf.ends_with(b"\n");
-        if ends || self.has_failed || buf.len() >= BLOCK {
+        if ends || buf.len() >= BLOCK {
             return self.write_through(buf);
         }
-        if buf.len() > BLOCK.saturating_sub(self.waiting.len()) {
+        if !self.has_room(buf.len()) {
             self.hand_on()?;
         }
         self.waiting.extend_from_slice(buf)?;
@@ -153,7 +209,7 @@ impl<W: Write> Write for Output<W> {
     fn flush(&mut self) -> io::Result<()> {
         match self.policy {
             FlushPolicy::OnFlush | FlushPolicy::OnLineEnd => self.hand_on_and_flush(),
-            FlushPolicy::WhenFull if self.has_failed => Err(io::Error::from(ErrorKind::BrokenPipe)),
+            FlushPolicy::WhenFull if self.has_failed => Err(self.earlier_fault()),
             FlushPolicy::WhenFull => Ok(()),
         }
     }

@@ -71,6 +71,19 @@ fn hands_on_whole_blocks(rt: HostRuntime) -> Result<(), Fail> {
     Ok(())
 }
 
+// A line goes out in one write, whether it comes in one piece or in many.
+#[test]
+fn hands_on_whole_lines(rt: HostRuntime) -> Result<(), Fail> {
+    let mut output = marking(&rt, FlushPolicy::OnLineEnd)?;
+    for piece in ["one piece\n", "many", " pieces", "\n", "\n", "the", " end"] {
+        output.write_all(piece.as_bytes())?;
+    }
+    let (writer, finished) = output.finish();
+    finished?;
+    assert!(rt; writer.marks.as_slice() == [10, 22, 23, 30].as_slice());
+    Ok(())
+}
+
 #[test]
 fn chooses_by_logfile_and_format(rt: HostRuntime) -> Result<(), Fail> {
     let alloc = rt.alloc();

@@ -1,7 +1,5 @@
-use Rattle.std.proofs.Common.{Option, List, ℕ, OnOk, subst, sym}
-use Rattle.std.specs.Io.KnownBytes.{Keeps}
 use Rattle.libtest_mimic.specs.Sink.{shown}
-use Rattle.mimic_main.specs.Output.{HandsOn, told_of}
+use Rattle.mimic_main.specs.Output.{told_of}
 use Rattle.mimic_main.proofs.HandedOn.{GotBeginning-from, HasAnswer-settled, OnErr-from, Ran-settled, shown-new, shown-same}
 use Rattle.mimic_main.proofs.run.run_into.Goals as goal
 
