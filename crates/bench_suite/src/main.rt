@@ -6,7 +6,7 @@
 //!
 //! The report goes to standard output or the logfile. Its own time is that of a clock that stands still, so that the
 //! same words always give the same report. What was measured goes to standard error: how long making the tests and
-//! running them took, and the peak of memory.
+//! running them took, and the peak of memory. A failing test that finds no memory for its message fails without one.
 #![tactic(auto)]
 
 mod asked;
