@@ -6,7 +6,7 @@
 //!
 //! The report goes to standard output or the logfile. Its own time is that of a clock that stands still, so that the
 //! same words always give the same report. What was measured goes to standard error: how long making the tests and
-//! running them took, and the peak of memory.
+//! running them took, and the peak of memory. A failing test that finds no memory for its message fails without one.
 #![tactic(auto)]
 
 mod asked;
@@ -15,9 +15,9 @@ mod measured;
 ghost use Rattle.libtest_mimic.specs.Trial.{AllCanRun};
 
 use asked::{Asked, Runners};
-use libtest_mimic::{Clock, Failed, Outcome, RunError, Task, Trial};
+use libtest_mimic::{Arguments, Failed, Outcome, RunError, Task, Trial};
 use measured::Measured;
-use mimic_output::{FlushPolicy, Output, buffered, run_into};
+use mimic_main::{FlushPolicy, Output, StillClock, run_into};
 use std::alloc::Global;
 use std::io::Write;
 use std::process::ExitCode;
@@ -29,8 +29,6 @@ const FAULT: u8 = 1;
 
 const REFUSED_LINE: u8 = 2;
 
-const TESTS_FAILED: u8 = 101;
-
 // What a failing test says.
 const MESSAGE: &str = "the left side is not equal to the right!";
 
@@ -39,8 +37,6 @@ const MESSAGE: &str = "the left side is not equal to the right!";
 pub(crate) enum Fault {
     #[error("usage: bench_suite N pretty|terse|json THREADS [fail_every K] [captures 1] [boxes 0] [logfile PATH]")]
     Usage,
-    #[error("cannot create the logfile")]
-    Logfile,
     #[error("{0}")]
     Run(#[from] RunError),
     #[error("{0}")]
@@ -49,7 +45,7 @@ pub(crate) enum Fault {
 
 fn main(rt: HostRuntime) -> ExitCode {
     match bench(&rt) {
-        Ok(status) => ExitCode::from(status),
+        Ok(code) => code,
         Err(fault) => {
             let _ = eprintln!(rt; "bench_suite: {fault}");
             ExitCode::from(match fault {
@@ -118,19 +114,12 @@ fn failure(alloc: Global) -> Failed {
     }
 }
 
-fn bench(rt: &HostRuntime) -> Result<u8, Fault> {
+fn bench(rt: &HostRuntime) -> Result<ExitCode, Fault> {
     let asked = Asked::from_words(rt)?;
-    match &asked.logfile {
-        Some(path) => match fs::create(rt, path.as_str()) {
-            Ok(file) => measure(rt, &asked, FlushPolicy::WhenFull, file),
-            Err(_) => Err(Fault::Logfile),
-        },
-        None => measure(
-            rt,
-            &asked,
-            FlushPolicy::of_format(asked.format),
-            rt.stdout(),
-        ),
+    let args = asked.arguments(rt.alloc())?;
+    match &args.logfile {
+        Some(path) => measure(rt, &asked, &args, fs::create(rt, path.as_str())?),
+        None => measure(rt, &asked, &args, rt.stdout()),
     }
 }
 
@@ -138,22 +127,23 @@ fn bench(rt: &HostRuntime) -> Result<u8, Fault> {
 fn measure<W: Write + Drop>(
     rt: &HostRuntime,
     asked: &Asked,
-    policy: FlushPolicy,
+    args: &Arguments,
     writer: W,
-) -> Result<u8, Fault> {
+) -> Result<ExitCode, Fault> {
     let alloc = rt.alloc();
     // Made before the tests: where it lies behind them in memory, to free it makes the allocator go over all that the
     // tests have given back.
-    let output = buffered(alloc, policy, writer)?;
+    let mut output = Output::new(alloc, FlushPolicy::of_run(args), writer);
+    output.reserve().map_err(RunError::from)?;
     let start = Instant::now(rt)?;
     match asked.runners {
         Runners::Boxes | Runners::Captures => {
             let tests = boxed_tests!(alloc, asked);
-            run_tests(rt, asked, start.elapsed(rt)?, tests, output)
+            run_tests(rt, asked, args, start.elapsed(rt)?, tests, output)
         }
         Runners::Units => {
             let tests = unit_tests(alloc, asked.count)?;
-            run_tests(rt, asked, start.elapsed(rt)?, tests, output)
+            run_tests(rt, asked, args, start.elapsed(rt)?, tests, output)
         }
     }
 }
@@ -162,15 +152,15 @@ fn measure<W: Write + Drop>(
 fn run_tests<R: Task, W: Write + Drop>(
     rt: &HostRuntime,
     asked: &Asked,
+    args: &Arguments,
     made: Duration,
     tests: Vec<Trial<R>>,
     output: Output<W>,
-) -> Result<u8, Fault>
+) -> Result<ExitCode, Fault>
     requires { AllCanRun R.can_run tests.items }
 {
-    let alloc = rt.alloc();
     let start = Instant::now(rt)?;
-    let conclusion = run_into(alloc, &asked.arguments(alloc), tests, output, Still).1?;
+    let conclusion = run_into(rt.alloc(), args, tests, output, StillClock, false).1?;
     let ran = start.elapsed(rt)?;
     let measured = Measured {
         asked,
@@ -179,19 +169,5 @@ fn run_tests<R: Task, W: Write + Drop>(
         peak: measured::peak(rt)?,
     };
     eprintln!(rt; "{measured}")?;
-    Ok(if conclusion.has_failed() {
-        TESTS_FAILED
-    } else {
-        0
-    })
-}
-
-// A clock that stands still.
-#[derive(Drop)]
-struct Still;
-
-impl Clock for Still {
-    fn now(&mut self) -> u64 {
-        0
-    }
+    Ok(conclusion.exit_code())
 }

@@ -1,27 +1,15 @@
 //! The program over memory: statuses, reports, lists and texts by the words of its command line.
+use crate::HARNESS;
 use crate::mixed_bag::{Answer, MIXED_BAG, benchmark_answer, mixed_bag_trials, test_answer};
-use crate::program::harness_run;
 use libtest_mimic::{
-    Arguments, ArgumentsError, Clock, Failed, Measurement, Sink, Stopwatch, Trial, run_here,
+    Arguments, ArgumentsError, Failed, Measurement, Sink, Stopwatch, Trial, run_here,
 };
-use mimic_output::{FlushPolicy, Output, run_into};
+use mimic_main::StillClock;
 use std::env::FillError;
 use std::io::Write;
 use std::rt::Env;
-use std::sync::Arc;
-use std::sync::atomic::{AtomicBool, Ordering};
 use std::test::Fail;
 use std::{fs, io};
-
-// A clock that stands still.
-#[derive(Drop)]
-struct Still;
-
-impl Clock for Still {
-    fn now(&mut self) -> u64 {
-        0
-    }
-}
 
 const TWO_TESTS: &[u8] =
     b"\nrunning 2 tests\ntest succeeding_test ... ok\ntest failing_test    ... FAILED\n\nfailures:\n\n---- failing_test ----\nWoops\n\n\nfailures:\n    failing_test\n\ntest result: FAILED. 1 passed; 1 failed; 0 ignored; 0 measured; 0 filtered out; finished in 0.00s\n\n";
@@ -42,7 +30,7 @@ fn runs_two_tests(rt: HostRuntime) -> Result<(), Fail> {
     ]?;
     let args = Arguments::new(alloc);
     let mut sink = Sink::new(Vec::new(alloc));
-    let mut watch = Stopwatch::new(Still);
+    let mut watch = Stopwatch::new(StillClock);
     let conclusion = run_here(alloc, &args, tests, &mut sink, &mut watch, false)?;
     assert!(rt; conclusion.has_failed());
     assert!(rt; sink.into_inner().as_slice() == TWO_TESTS);
@@ -70,10 +58,10 @@ fn run_only(rt: &HostRuntime, asked: &[&str]) -> Result<Left, Fail> {
     let mut words = vec![in alloc; "harness"]?;
     words.extend_from_slice(asked)?;
     let trials = mixed_bag_trials!(alloc);
-    let out = Output::new(alloc, FlushPolicy::OnLineEnd, Vec::new(alloc))?;
+    let out = Vec::new(alloc);
     let mut err: Vec<u8> = Vec::new(alloc);
     let line = Arguments::from_iter(alloc, words.as_slice());
-    let (out, status) = harness_run(rt, alloc, line, trials, out, &mut err, Still);
+    let (out, status) = HARNESS.harness_run(rt, alloc, line, trials, out, &mut err, StillClock);
     Ok(Left {
         status,
         out: String::from_utf8(out)?,
@@ -379,9 +367,9 @@ fn tells_why_a_line_gave_nothing(rt: HostRuntime) -> Result<(), Fail> {
     ];
     for (error, status, text) in rows {
         let tests = Vec::<Trial>::new(alloc);
-        let out = Output::new(alloc, FlushPolicy::OnLineEnd, Vec::new(alloc))?;
+        let out = Vec::new(alloc);
         let mut err: Vec<u8> = Vec::new(alloc);
-        let (out, answered) = harness_run(&rt, alloc, Err(error), tests, out, &mut err, Still);
+        let (out, answered) = HARNESS.harness_run(&rt, alloc, Err(error), tests, out, &mut err, StillClock);
         assert_eq!(rt; answered, status);
         assert!(rt; out.is_empty());
         assert!(rt; err.as_slice() == text);
@@ -465,10 +453,10 @@ fn refuses_words_that_are_no_text(rt: HostRuntime) -> Result<(), Fail> {
     ];
     for (words, status, on_out, on_err) in rows {
         let trials = mixed_bag_trials!(alloc);
-        let out = Output::new(alloc, FlushPolicy::OnLineEnd, Vec::new(alloc))?;
+        let out = Vec::new(alloc);
         let mut err: Vec<u8> = Vec::new(alloc);
         let line = Arguments::from_args(&(RawLine { words }, alloc), alloc);
-        let (out, answered) = harness_run(&rt, alloc, line, trials, out, &mut err, Still);
+        let (out, answered) = HARNESS.harness_run(&rt, alloc, line, trials, out, &mut err, StillClock);
         assert_eq!(rt; answered, status);
         assert!(rt; out.as_slice() == on_out.as_bytes());
         assert!(rt; err.as_slice() == on_err.as_bytes());
@@ -508,10 +496,10 @@ fn tells_of_a_full_output(rt: HostRuntime) -> Result<(), Fail> {
         (["harness", "--list", "--help"], 0, 0),
     ] {
         let trials = mixed_bag_trials!(alloc);
-        let out = Output::new(alloc, FlushPolicy::OnLineEnd, Narrow { room })?;
+        let out = Narrow { room };
         let mut err: Vec<u8> = Vec::new(alloc);
         let line = Arguments::from_iter(alloc, &words);
-        let (_, answered) = harness_run(&rt, alloc, line, trials, out, &mut err, Still);
+        let (_, answered) = HARNESS.harness_run(&rt, alloc, line, trials, out, &mut err, StillClock);
         assert_eq!(rt; answered, status);
         let text: &[u8] = if status == 1 {
             b"harness: cannot write the report\n"
@@ -519,70 +507,6 @@ fn tells_of_a_full_output(rt: HostRuntime) -> Result<(), Fail> {
             b""
         };
         assert!(rt; err.as_slice() == text);
-    }
-    Ok(())
-}
-
-// Standard output that is closed at some byte, as `head` does: the run ends there and is told to have failed, and no
-// runner is called after.
-#[test]
-fn stops_at_a_closed_output(rt: HostRuntime) -> Result<(), Fail> {
-    let alloc = rt.alloc();
-    for (room, first_runs, second_runs) in [
-        (0, false, false),
-        ("\nrunning 2 tests\n".len(), false, false),
-        ("\nrunning 2 tests\ntest first  ...".len(), false, false),
-        ("\nrunning 2 tests\ntest first  ... ".len(), true, false),
-        ("\nrunning 2 tests\ntest first  ... ok\n".len(), true, false),
-        (
-            "\nrunning 2 tests\ntest first  ... ok\ntest second ... ".len(),
-            true,
-            true,
-        ),
-    ] {
-        let first = Arc::new(alloc, AtomicBool::new(false))?;
-        let second = Arc::new(alloc, AtomicBool::new(false))?;
-        let mark_first = first.clone()?;
-        let mark_second = second.clone()?;
-        let run_first: Box<dyn FnOnce() -> Result<(), Failed> + Send> = Box::new(alloc, move || {
-            mark_first.store(true, Ordering::SeqCst);
-            Ok(())
-        })?;
-        let run_second: Box<dyn FnOnce() -> Result<(), Failed> + Send> = Box::new(
-            alloc,
-            move || {
-                mark_second.store(true, Ordering::SeqCst);
-                Ok(())
-            },
-        )?;
-        let trials = vec![in alloc;
-            Trial::test(String::from_str(alloc, "first")?, run_first),
-            Trial::test(String::from_str(alloc, "second")?, run_second),
-        ]?;
-        let out = Output::new(alloc, FlushPolicy::OnLineEnd, Narrow { room })?;
-        let mut err: Vec<u8> = Vec::new(alloc);
-        let line = Ok(Arguments::new(alloc));
-        let (_, answered) = harness_run(&rt, alloc, line, trials, out, &mut err, Still);
-        assert_eq!(rt; answered, 1);
-        assert!(rt; err.as_slice() == b"harness: cannot write the report\n".as_slice());
-        assert_eq!(rt; first.load(Ordering::SeqCst), first_runs);
-        assert_eq!(rt; second.load(Ordering::SeqCst), second_runs);
-    }
-    Ok(())
-}
-
-// A logfile gets its blocks at the end at the latest, and is told to be full then.
-#[test]
-fn tells_of_a_full_logfile(rt: HostRuntime) -> Result<(), Fail> {
-    let alloc = rt.alloc();
-    for (room, fits) in [(LISTED.len(), true), (LISTED.len() - 1, false)] {
-        let trials = mixed_bag_trials!(alloc);
-        let mut args = Arguments::new(alloc);
-        args.list = true;
-        args.filter = Some(String::from_str(alloc, "a")?);
-        let file = Output::new(alloc, FlushPolicy::WhenFull, Narrow { room })?;
-        let (_, ran) = run_into(alloc, &args, trials, file, Still);
-        assert_eq!(rt; ran.is_ok(), fits);
     }
     Ok(())
 }

@@ -3,6 +3,7 @@
 mod calls;
 mod command_lines;
 mod faults;
+mod lists;
 mod reports;
 mod runners;
 mod runs;

@@ -11,6 +11,8 @@ use Rattle.clap.specs.declared.builder.value_parser.ValueParser.{ValueParser}
 use Rattle.clap.specs.declared.builder.value_parser.ValueParser.TheVariants as vp
 use Rattle.mimic_args.specs.Matched.{IsReadFrom, AreAccepted, IsFreeOfConflicts, color_name, colors, format_name, formats, unstable_name, unstables}
 use Rattle.mimic_args.specs.declared.Arguments.{Arguments}
+use Rattle.mimic_args.specs.declared.error.ArgumentsError.{ArgumentsError}
+use Rattle.mimic_args.specs.declared.error.ArgumentsError.TheVariants.{OutOfMemory, Help, Refused}
 
 -- what is declared of an argument: how a parse reads it, and the ids of those that no line may use beside it (our own)
 abbrev pub Declared : Type 0
@@ -114,3 +116,10 @@ IsMeaningOf words a = (unstable : ValueParser) × (color : ValueParser) × (form
     × AreReaders unstable color format
     × (let entries = matches_of (harness_options unstable color format).0 words in
     IsReadFrom entries a × AreAccepted entries a × IsFreeOfConflicts entries a)
+
+-- a line that gave no arguments is told so: want of memory where memory was refused, help where help was asked for, and
+-- else a refused line (our own)
+abbrev pub IsToldAs : Type 0 → Type 0 → ArgumentsError → Type 0
+IsToldAs memory help OutOfMemory = memory
+IsToldAs memory help (Help text) = help
+IsToldAs memory help (Refused text) = (memory → ⊥) × (help → ⊥)

@@ -1,8 +1,12 @@
 //! Reads arguments from a command line.
 ghost use Rattle.std.specs.Prelude.{IsFalse, ◌≡◌, ◌<◌, IfOk, IsTrue, List, length, map};
+ghost use Rattle.clap.specs.Values.{kind_of};
 ghost use Rattle.clap.specs.Words.{Text};
+ghost use Rattle.clap.specs.declared.error.kind.ErrorKind.TheVariants as Kind;
 ghost use Rattle.clap.specs.declared.builder.value_parser.ValueParser.{ValueParser};
-ghost use Rattle.mimic_args.specs.CommandLine.{AreReaders, IsMeaningOf, harness_options, options_of};
+ghost use Rattle.std.specs.IoError.{error_kind};
+ghost use Rattle.std.specs.declared.io.ErrorKind.TheVariants as IoKind;
+ghost use Rattle.mimic_args.specs.CommandLine.{IsToldAs, AreReaders, IsMeaningOf, harness_options, options_of};
 ghost use Rattle.mimic_args.specs.Matched.{AreAccepted, IsFreeOfConflicts, IsReadFrom, entries_of};
 
 use crate::declared::{
@@ -95,10 +99,7 @@ impl Arguments {
     {
         let args = match env::args(rt) {
             Ok(args) => args,
-            Err(error) if error.kind() == io::ErrorKind::OutOfMemory => {
-                return Err(ArgumentsError::OutOfMemory);
-            }
-            Err(_) => return Err(refused_with(alloc, "cannot read the arguments")?),
+            Err(error) => return Err(unread(alloc, &error)?),
         };
         let words: Vec<String> = args.collect(alloc)?;
         if words.is_empty() {
@@ -136,11 +137,26 @@ fn is_free_of_conflicts(matches: &ArgMatches<'_>, args: &Arguments) -> bool
     !(args.quiet && text_under(matches, "format").is_some())
 }
 
-fn refused_with(alloc: Global, text: &str) -> Result<ArgumentsError, AllocError> {
+// Why the program's words were not read.
+fn unread(alloc: Global, error: &io::Error) -> Result<ArgumentsError, AllocError>
+    ensures { IfOk result (λ e. IsToldAs (error_kind error.now ≡ IoKind.OutOfMemory) ⊥ e) }
+{
+    match error.kind() {
+        io::ErrorKind::OutOfMemory => Ok(ArgumentsError::OutOfMemory),
+        _ => refused_with(alloc, "cannot read the arguments"),
+    }
+}
+
+fn refused_with(alloc: Global, text: &str) -> Result<ArgumentsError, AllocError>
+    ensures { IfOk result (λ e. IsToldAs ⊥ ⊥ e) }
+{
     Ok(ArgumentsError::Refused(String::from_str(alloc, text)?))
 }
 
-fn error_of(alloc: Global, error: &clap::Error) -> Result<ArgumentsError, AllocError> {
+// Why `clap` took no line.
+fn error_of(alloc: Global, error: &clap::Error) -> Result<ArgumentsError, AllocError>
+    ensures { IfOk result (λ e. IsToldAs (kind_of error.now ≡ Kind.OutOfMemory) (kind_of error.now ≡ Kind.DisplayHelp) e) }
+{
     match error.kind() {
         ErrorKind::OutOfMemory => Ok(ArgumentsError::OutOfMemory),
         ErrorKind::DisplayHelp => Ok(ArgumentsError::Help(error.to_string(alloc)?)),

@@ -1,0 +1,3 @@
+pub mod HandedOn
+pub mod Mapped
+pub mod TakenBack

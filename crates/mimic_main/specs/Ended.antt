@@ -1,0 +1,49 @@
+-- How the program ends: its exit status, and what its output has got then.
+use Rattle.std.specs.Prelude.{◌≡◌, ℕ, Bool, List, length, Option, IsNone, false, if◌then◌else◌, Result, Ok, Err, IfOk, OnErr, nat_lt}
+use Rattle.mimic_args.specs.declared.Arguments.{Arguments}
+use Rattle.mimic_args.specs.declared.error.ArgumentsError.{ArgumentsError}
+use Rattle.mimic_args.specs.declared.error.ArgumentsError.TheVariants.{OutOfMemory, Help, Refused}
+use Rattle.mimic_trial.specs.declared.trial.Trial.{Trial}
+use Rattle.mimic_trial.specs.Promise.{Gives}
+use Rattle.mimic_trial.specs.declared.outcome.conclusion.Conclusion.{Conclusion}
+use Rattle.libtest_mimic.specs.CommandLine.{IsMeaningOf}
+use Rattle.libtest_mimic.specs.Count.{total_of}
+use Rattle.libtest_mimic.specs.Run.{HasAnswer}
+use Rattle.mimic_main.specs.declared.program.Fault.{Fault}
+use Rattle.mimic_main.specs.Run.{Ran, GotBeginning}
+
+-- 101 where a trial failed, 0 where none did, 1 where the run was refused: the statuses of `rustc --test`, and 1 our own choice
+abbrev pub status_of : Result Conclusion Fault → ℕ
+status_of (Ok c) = if nat_lt 0 c.num_failed then 101 else 0
+status_of (Err fault) = 1
+
+-- 0 where help was asked for, 2 where the line was refused, 1 where memory was
+abbrev pub status_without : ArgumentsError → ℕ
+status_without OutOfMemory = 1
+status_without (Help text) = 0
+status_without (Refused text) = 2
+
+-- arguments were given by some words that mean them
+abbrev pub IsReadLine : Result Arguments ArgumentsError → Type 0
+IsReadLine line = IfOk line (λ args. (words : List (List ℕ)) × IsMeaningOf words args)
+
+module _ {R : Type 0} (gives : Gives R) where
+  -- the status is that of some answer of a run of the trials; without a logfile the output got all of that run's bytes,
+  -- or where the answer is a fault a beginning of some run's
+  pub record RanLine (args : Arguments) (auto : Bool) (trials : List (Trial R)) (old got : Option (List ℕ)) (status : ℕ) : Type 0 where
+    pub answer : Result Conclusion Fault
+    pub ended : status ≡ status_of answer
+    pub ran : IsNone args.logfile → IfOk answer (Ran gives args auto trials old got)
+    pub beginning : IsNone args.logfile → OnErr answer (GotBeginning gives args auto trials old got)
+    pub counts : IfOk answer (λ c. HasAnswer gives args trials (Ok c))
+    pub adds_up : args.list ≡ false → IfOk answer (λ c. total_of c ≡ length trials)
+
+  -- where the line gave arguments, the status is that of a run as they ask; else it says why there are none
+  abbrev pub Ended : Bool → Result Arguments ArgumentsError → List (Trial R) → Option (List ℕ) → Option (List ℕ) → ℕ → Type 0
+  Ended auto (Ok args) trials old got status = RanLine args auto trials old got status
+  Ended auto (Err error) trials old got status = status ≡ status_without error
+
+  -- the status is that of a program as it reads some command line, whatever its output holds
+  abbrev pub EndsByLine : Bool → List (Trial R) → ℕ → Type 0
+  EndsByLine auto trials status =
+      (line : Result Arguments ArgumentsError) × IsReadLine line × (old : Option (List ℕ)) × (got : Option (List ℕ)) × Ended auto line trials old got status

@@ -1,0 +1,36 @@
+-- What a buffered output was given, what of it waits, and when it is handed on.
+use Rattle.std.specs.Prelude.{ℕ, List, Option, if◌then◌else◌, is_some}
+use Rattle.std.specs.Io.KnownBytes.{Keeps, append_known}
+use Rattle.mimic_args.specs.declared.Arguments.{Arguments}
+use Rattle.mimic_args.specs.declared.FormatSetting.{FormatSetting}
+use Rattle.mimic_args.specs.declared.FormatSetting.TheVariants.{Pretty, Terse, Json}
+use Rattle.mimic_args.specs.Arguments.{format_of}
+use Rattle.mimic_main.specs.declared.buffer.Output.{Output}
+use Rattle.mimic_main.specs.declared.buffer.FlushPolicy.{FlushPolicy}
+use Rattle.mimic_main.specs.declared.buffer.FlushPolicy.TheVariants.{OnFlush, OnLineEnd, WhenFull}
+
+-- the bytes that wait to be handed on
+abbrev pub waiting_of : {W : Type 0} → Output W → List ℕ
+waiting_of output = output.waiting.items
+
+-- when an output hands its bytes on
+abbrev pub flushes_by : {W : Type 0} → Output W → FlushPolicy
+flushes_by output = output.policy
+
+-- the bytes of the writer behind and then those that wait in the buffer, where they are known
+abbrev pub told_of : {W : Type 0} → (W → Option (List ℕ)) → Output W → Option (List ℕ)
+told_of contents output = append_known (contents output.writer) (waiting_of output)
+
+-- known bytes are those that the writer got, and then some rest
+abbrev pub HandsOn : Option (List ℕ) → Option (List ℕ) → Type 0
+HandsOn told got = (rest : List ℕ) × Keeps told (append_known got rest)
+
+-- pretty reports are flushed before each trial, the others are not (our own)
+abbrev pub policy_of : FormatSetting → FlushPolicy
+policy_of Pretty = OnFlush
+policy_of Terse = OnLineEnd
+policy_of Json = OnLineEnd
+
+-- into a logfile whole blocks are written; else somebody looks on (our own)
+abbrev pub policy_for : Arguments → FlushPolicy
+policy_for args = if is_some args.logfile then WhenFull else policy_of (format_of args)

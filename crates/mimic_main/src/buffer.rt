@@ -1,0 +1,233 @@
+//! The buffer between a report and the system.
+ghost use Rattle.std.specs.Prelude.{◌≡◌, ◌≤◌, ◌-◌, ℕ, [], drop, length, take, OnOk};
+ghost use Rattle.std.specs.Io.{WritesAtMost};
+ghost use Rattle.std.specs.Io.KnownBytes.{Appends, Keeps, WriteAppends};
+ghost use Rattle.mimic_main.specs.Output.{HandsOn, flushes_by, told_of, waiting_of};
+
+use libtest_mimic::{Arguments, FormatSetting};
+use std::alloc::{AllocError, Global};
+use std::io;
+use std::io::{ErrorKind, Write};
+
+/// When a buffer hands its bytes on to the system, beside when it is full or finished.
+#[derive(Clone, Copy, Debug, PartialEq, Eq)]
+pub enum FlushPolicy {
+    /// At each flush: somebody is looking on, and a flush comes before anything that takes its time.
+    OnFlush,
+    /// At the end of each line, and at each flush: somebody is looking on, and no flush comes of itself.
+    OnLineEnd,
+    /// At no other time.
+    WhenFull,
+}
+
+impl FlushPolicy {
+    ghost use Rattle.mimic_main.specs.Output.{policy_for, policy_of};
+
+    /// How the output of a run with these arguments is handed on: into a logfile in whole blocks, else by its format.
+    pub fn of_run(args: &Arguments) -> FlushPolicy
+        ensures { result ≡ policy_for args.now }
+    {
+        if args.logfile.is_some() {
+            FlushPolicy::WhenFull
+        } else {
+            FlushPolicy::of_format(args.format_used())
+        }
+    }
+
+    /// How a report in this format is handed on to somebody who looks on.
+    ///
+    /// A run flushes a pretty report before each trial, so a row goes out with the announcement that comes directly
+    /// behind it. The lines of other formats go out as they end.
+    pub fn of_format(format: FormatSetting) -> FlushPolicy
+        ensures { result ≡ policy_of format }
+    {
+        match format {
+            FormatSetting::Pretty => FlushPolicy::OnFlush,
+            FormatSetting::Terse | FormatSetting::Json => FlushPolicy::OnLineEnd,
+        }
+    }
+}
+
+// So many bytes wait at most.
+const BLOCK: usize = 8192;
+
+/// A buffered writer. What waits in one that is dropped and not finished is lost.
+///
+/// A fault is told by the call that had it. After one nothing more is handed on, and every later call fails.
+#[derive(Drop)]
+pub struct Output<W: Write> {
+    writer: W,
+    waiting: Vec<u8>,
+    policy: FlushPolicy,
+    has_failed: bool,
+    // The fault behind the front of a text that was taken. The next call tells it.
+    untold: Option<io::Error>,
+}
+
+impl<W: Write> Output<W> {
+    /// An empty buffer, which has no room yet.
+    pub fn new(alloc: Global, policy: FlushPolicy, writer: W) -> Self
+        ensures bytes { told_of W.contents result ≡ W.contents writer }
+        ensures policy { flushes_by result ≡ policy }
+    {
+        Output {
+            writer,
+            waiting: Vec::new(alloc),
+            policy,
+            has_failed: false,
+            untold: None,
+        }
+    }
+
+    /// Makes room for a whole block, so that no later call takes memory.
+    pub fn reserve(&mut self) -> Result<(), AllocError>
+        ensures bytes { told_of W.contents self.new ≡ told_of W.contents self.old }
+        ensures policy { flushes_by self.new ≡ flushes_by self.old }
+    {
+        self.waiting.reserve(BLOCK)
+    }
+
+    /// Hands on what is left, flushes the writer and gives it back. With a fault it has got a beginning of all bytes.
+    pub fn finish(mut self) -> (W, io::Result<()>)
+        ensures whole { OnOk result.1 (Keeps (told_of W.contents self) (W.contents result.0)) }
+        ensures beginning { HandsOn (told_of W.contents self) (W.contents result.0) }
+    {
+        let finished = self.hand_on_and_flush();
+        let Output {
+            writer,
+            waiting: _,
+            policy: _,
+            has_failed: _,
+            untold: _,
+        } = self;
+        (writer, finished)
+    }
+
+    // Hands on what waits, up to a fault.
+    fn hand_on(&mut self) -> io::Result<()>
+        ensures bytes { Keeps (told_of W.contents self.old) (told_of W.contents self.new) }
+        ensures empty { OnOk result (waiting_of self.new ≡ []) }
+        ensures front { (n : ℕ) × (n ≤ length (waiting_of self.old)) × (waiting_of self.new ≡ drop n (waiting_of self.old))
+            × Appends (W.contents self.old.writer) (W.contents self.new.writer) (take n (waiting_of self.old)) }
+    {
+        if self.has_failed {
+            return Err(self.earlier_fault());
+        }
+        let (taken, handed) = put_all(&mut self.writer, self.waiting.as_slice());
+        self.waiting.drain(..taken);
+        self.has_failed = handed.is_err();
+        handed
+    }
+
+    // The fault that was not told yet, else that there was one.
+    fn earlier_fault(&mut self) -> io::Error
+        ensures bytes { told_of W.contents self.new ≡ told_of W.contents self.old }
+        ensures waiting { waiting_of self.new ≡ waiting_of self.old }
+        ensures writer { self.new.writer ≡ self.old.writer }
+    {
+        match self.untold.take() {
+            Some(error) => error,
+            None => io::Error::from(ErrorKind::BrokenPipe),
+        }
+    }
+
+    fn hand_on_and_flush(&mut self) -> io::Result<()>
+        ensures bytes { Keeps (told_of W.contents self.old) (told_of W.contents self.new) }
+        ensures empty { OnOk result (waiting_of self.new ≡ []) }
+    {
+        self.hand_on()?;
+        let flushed = self.writer.flush();
+        self.has_failed = flushed.is_err();
+        flushed
+    }
+
+    // Hands on what waits and then the text, in one write where both fit into a block and the writer takes them at once.
+    fn write_through(&mut self, text: &[u8]) -> io::Result<usize>
+        ensures bound { WritesAtMost result text.now }
+        ensures bytes { WriteAppends (told_of W.contents self.old) (told_of W.contents self.new) result text.now }
+    {
+        if !self.waiting.is_empty() && self.has_room(text.len()) {
+            return self.write_together(text);
+        }
+        self.hand_on()?;
+        let written = self.writer.write(text);
+        self.has_failed = !matches!(written, Ok(1..));
+        written
+    }
+
+    // Hands on what waits and the text at once.
+    fn write_together(&mut self, text: &[u8]) -> io::Result<usize>
+        ensures bound { WritesAtMost result text.now }
+        ensures bytes { WriteAppends (told_of W.contents self.old) (told_of W.contents self.new) result text.now }
+    {
+        self.waiting.extend_from_slice(text)?;
+        let fault = self.hand_on().err();
+        let taken = take_back(&mut self.waiting, text.len());
+        match fault {
+            Some(error) if taken == 0 => Err(error),
+            untold => {
+                self.untold = untold;
+                Ok(taken)
+            }
+        }
+    }
+
+    // Whether so many bytes more can wait.
+    fn has_room(&self, count: usize) -> bool {
+        count <= BLOCK.saturating_sub(self.waiting.len())
+    }
+}
+
+// Takes so many bytes back from the end of what waits, and answers how many of them wait no longer.
+fn take_back(waiting: &mut Vec<u8>, count: usize) -> usize
+    ensures waiting { waiting.new.items ≡ take (length waiting.old.items - count) waiting.old.items }
+    ensures taken { result ≡ count - length waiting.old.items }
+{
+    let left = waiting.len();
+    waiting.truncate(left.saturating_sub(count));
+    count.saturating_sub(left)
+}
+
+impl<W: Write> Write for Output<W> {
+    ghost contents = { told_of W.contents };
+
+    fn write(&mut self, buf: &[u8]) -> io::Result<usize> {
+        if self.has_failed {
+            return Err(self.earlier_fault());
+        }
+        let ends = self.policy == FlushPolicy::OnLineEnd && buf.ends_with(b"\n");
+        if ends || buf.len() >= BLOCK {
+            return self.write_through(buf);
+        }
+        if !self.has_room(buf.len()) {
+            self.hand_on()?;
+        }
+        self.waiting.extend_from_slice(buf)?;
+        Ok(buf.len())
+    }
+
+    fn flush(&mut self) -> io::Result<()> {
+        match self.policy {
+            FlushPolicy::OnFlush | FlushPolicy::OnLineEnd => self.hand_on_and_flush(),
+            FlushPolicy::WhenFull if self.has_failed => Err(self.earlier_fault()),
+            FlushPolicy::WhenFull => Ok(()),
+        }
+    }
+}
+
+// Hands the bytes to the writer, in as many writes as it wants, up to a fault. Answers how many it took.
+fn put_all<W: Write>(writer: &mut W, bytes: &[u8]) -> (usize, io::Result<()>)
+    ensures bound { result.0 ≤ length bytes.now }
+    ensures all { OnOk result.1 (result.0 ≡ length bytes.now) }
+    ensures bytes { Appends (W.contents writer.old) (W.contents writer.new) (take result.0 bytes.now) }
+{
+    let mut taken = 0;
+    while taken < bytes.len() {
+        match writer.write(&bytes[taken..]) {
+            Ok(0) => return (taken, Err(io::Error::from(ErrorKind::WriteZero))),
+            Ok(count) => taken += count,
+            Err(error) => return (taken, Err(error)),
+        }
+    }
+    (taken, Ok(()))
+}

@@ -1,0 +1,63 @@
+//! A whole program on the machine.
+ghost use Rattle.std.specs.Prelude.{◌≡◌, Bool, IfOk, OnErr};
+ghost use Rattle.std.specs.Process.{exit_status};
+ghost use Rattle.libtest_mimic.specs.Trial.{AllCanRun};
+ghost use Rattle.mimic_main.specs.Ended.{EndsByLine};
+
+use crate::clock::MonotonicClock;
+use crate::colours::shows_colours;
+use crate::program::Program;
+use libtest_mimic::{Arguments, RunError, Task, Trial};
+use std::process::ExitCode;
+
+/// Runs or lists the trials as the program's command line asks, and answers what its `main` is to return.
+///
+/// The report goes to standard output, in colours where that is a terminal and `NO_COLOR` isn't set, or into the
+/// logfile. A fault is told on standard error with its cause. Trials that could not be made are told as well, and end
+/// the program with status 1.
+pub fn run_program<R: Task>(
+    rt: &HostRuntime,
+    name: &str,
+    tests: Result<Vec<Trial<R>>, RunError>,
+) -> ExitCode
+    requires { IfOk tests (λ made. AllCanRun R.can_run made.items) }
+    ensures made { IfOk tests (λ made. (auto : Bool) × EndsByLine R.gives auto made.items (exit_status result)) }
+    ensures refused { OnErr tests (exit_status result ≡ 1) }
+{
+    let program = Program {
+        name,
+        auto_colours: shows_colours(rt, &rt.stdout()),
+        tells_causes: true,
+    };
+    match tests {
+        Ok(tests) => program.run(rt, tests),
+        Err(error) => program.end(rt, Err(error)),
+    }
+}
+
+impl Program<'_> {
+    /// Runs or lists the trials as the command line asks, on the standard streams, and answers what `main` is to return.
+    pub fn run<R: Task>(&self, rt: &HostRuntime, tests: Vec<Trial<R>>) -> ExitCode
+        requires { AllCanRun R.can_run tests.items }
+        ensures { EndsByLine R.gives self.now.auto_colours tests.items (exit_status result) }
+    {
+        let alloc = rt.alloc();
+        let line = Arguments::from_args(rt, alloc);
+        let clock = MonotonicClock::new(rt);
+        let (out, err) = (rt.stdout(), &mut rt.stderr());
+        let (_, status) = self.harness_run(rt, alloc, line, tests, out, err, clock);
+        ExitCode::from(status)
+    }
+
+    /// What `main` is to return where making the trials may be refused: what their run answered, or 1 after the refusal
+    /// is told on standard error.
+    pub fn end(&self, rt: &HostRuntime, ended: Result<ExitCode, RunError>) -> ExitCode
+        ensures ran { IfOk ended (λ code. result ≡ code) }
+        ensures refused { OnErr ended (exit_status result ≡ 1) }
+    {
+        match ended {
+            Ok(code) => code,
+            Err(error) => ExitCode::from(self.refuse(error, &mut rt.stderr())),
+        }
+    }
+}

@@ -1,0 +1,236 @@
+//! A program around a run, but for the machine that it runs on.
+ghost use Rattle.std.specs.Prelude.{◌≡◌, false, IfOk, IsNone, OnErr, vec_len};
+ghost use Rattle.libtest_mimic.specs.Count.{total_of};
+ghost use Rattle.libtest_mimic.specs.Run.{HasAnswer};
+ghost use Rattle.libtest_mimic.specs.Trial.{AllCanRun};
+ghost use Rattle.mimic_main.specs.Ended.{Ended, status_of, status_without};
+ghost use Rattle.mimic_main.specs.Run.{GotBeginning, Ran};
+
+use crate::buffer::{FlushPolicy, Output};
+use crate::run::run_into;
+use libtest_mimic::{Arguments, ArgumentsError, Clock, Conclusion, RunError, Task, Trial};
+use std::alloc::Global;
+use std::fs::Files;
+use std::io::Write;
+use std::{fs, io};
+
+// The exit statuses.
+const SUCCESS: u8 = 0;
+
+const CANNOT_RUN: u8 = 1;
+
+const REFUSED_LINE: u8 = 2;
+
+const TRIALS_FAILED: u8 = 101;
+
+// Why no report, or only a part of one, was written.
+#[derive(Debug, Drop)]
+pub(crate) enum Fault {
+    Logfile(io::Error),
+    Run(RunError),
+}
+
+/// A program that runs a harness: how it tells of faults, and whether its reports have colours.
+#[derive(Clone, Copy, Debug, PartialEq, Eq)]
+pub struct Program<'a> {
+    /// Its name, which stands before what it tells of a fault.
+    pub name: &'a str,
+    /// Whether a report has colours where the line leaves it open and no logfile is set.
+    pub auto_colours: bool,
+    /// Whether a fault is told with its cause: the path of the logfile, and what the system said.
+    pub tells_causes: bool,
+}
+
+impl Program<'_> {
+    /// Runs or lists the trials as the line asks, and answers the writer `out` and the exit status: 0 where no trial
+    /// failed or help was asked for, 101 where one failed, 1 where the logfile, memory or a write was refused, 2 where
+    /// the line was.
+    ///
+    /// The report or list goes into the logfile, which is made or emptied first; without one it goes to `out`. Help
+    /// goes to `out`, and what is refused to `err`; a fault in writing either changes no status.
+    pub fn harness_run<F: Files, R: Task, O: Write, E: Write, C: Clock + Drop>(
+        &self,
+        files: &F,
+        alloc: Global,
+        line: Result<Arguments, ArgumentsError>,
+        tests: Vec<Trial<R>>,
+        out: O,
+        err: &mut E,
+        clock: C,
+    ) -> (O, u8)
+        requires { AllCanRun R.can_run tests.items }
+        ensures { Ended R.gives self.now.auto_colours line tests.items (O.contents out) (O.contents result.0) result.1 }
+    {
+        match line {
+            Ok(args) => {
+                let (writer, ran) = run_line(
+                    files,
+                    alloc,
+                    &args,
+                    tests,
+                    out,
+                    clock,
+                    self.auto_colours,
+                );
+                (writer, self.status_of(ran, args.logfile.as_ref(), err))
+            }
+            Err(error) => {
+                let mut out = out;
+                let status = self.status_without(error, &mut out, err);
+                (out, status)
+            }
+        }
+    }
+
+    // The exit status of a run into the logfile, if there is one. A fault is told.
+    fn status_of<E: Write>(
+        &self,
+        ran: Result<Conclusion, Fault>,
+        logfile: Option<&String>,
+        err: &mut E,
+    ) -> u8
+        ensures { result ≡ status_of ran }
+    {
+        match ran {
+            Ok(conclusion) if conclusion.has_failed() => TRIALS_FAILED,
+            Ok(_) => SUCCESS,
+            Err(fault) => {
+                self.tell(&fault, logfile, err);
+                CANNOT_RUN
+            }
+        }
+    }
+
+    // Tells why a line gave no arguments, and answers the exit status.
+    fn status_without<O: Write, E: Write>(
+        &self,
+        error: ArgumentsError,
+        out: &mut O,
+        err: &mut E,
+    ) -> u8
+        ensures { result ≡ status_without error }
+    {
+        match error {
+            ArgumentsError::OutOfMemory => self.refuse(RunError::OutOfMemory, err),
+            ArgumentsError::Help(text) => {
+                let _ = out.write_all(text.as_bytes());
+                SUCCESS
+            }
+            ArgumentsError::Refused(text) => {
+                // The texts of `clap` end with a line end, and others do not.
+                let _ = writeln!(err, "{}", text.as_str().trim_end());
+                REFUSED_LINE
+            }
+        }
+    }
+
+    /// Tells why there was no run, in one line on `err`, and answers the exit status 1. A fault in writing changes
+    /// nothing.
+    pub fn refuse<E: Write>(&self, error: RunError, err: &mut E) -> u8
+        ensures { result ≡ 1 }
+    {
+        self.tell(&Fault::Run(error), None, err);
+        CANNOT_RUN
+    }
+
+    // Tells a fault in one line, where it can be written.
+    fn tell<E: Write>(&self, fault: &Fault, logfile: Option<&String>, err: &mut E) {
+        let name = self.name;
+        let place = logfile.map_or("standard output", |path| path.as_str());
+        let _ = match fault {
+            Fault::Logfile(error) if self.tells_causes => {
+                writeln!(err, "{name}: cannot create the logfile {place}: {error}")
+            }
+            Fault::Logfile(_) => writeln!(err, "{name}: cannot create the logfile"),
+            Fault::Run(RunError::Write(cause)) if self.tells_causes => {
+                writeln!(err, "{name}: cannot write the report to {place}: {cause}")
+            }
+            Fault::Run(error) => writeln!(err, "{name}: {error}"),
+        };
+    }
+}
+
+// Runs into the logfile where there is one, else to `out`, which is given back.
+fn run_line<F: Files, R: Task, O: Write, C: Clock + Drop>(
+    files: &F,
+    alloc: Global,
+    args: &Arguments,
+    tests: Vec<Trial<R>>,
+    out: O,
+    clock: C,
+    auto_colours: bool,
+) -> (O, Result<Conclusion, Fault>)
+    requires { AllCanRun R.can_run tests.items }
+    ensures ran { IsNone args.now.logfile → IfOk result.1 (λ c. Ran R.gives args.now auto_colours tests.items
+        (O.contents out) (O.contents result.0) c) }
+    ensures beginning { IsNone args.now.logfile → OnErr result.1 (GotBeginning R.gives args.now auto_colours tests.items
+        (O.contents out) (O.contents result.0)) }
+    ensures answer { IfOk result.1 (λ c. HasAnswer R.gives args.now tests.items (Ok c)) }
+    ensures adds_up { args.now.list ≡ false → IfOk result.1 (λ c. total_of c ≡ vec_len tests) }
+{
+    match &args.logfile {
+        Some(path) => {
+            let ran = run_into_logfile(
+                files,
+                alloc,
+                args,
+                tests,
+                path.as_str(),
+                clock,
+                auto_colours,
+            );
+            (out, ran)
+        }
+        None => {
+            let (writer, ran) = run_buffered(alloc, args, tests, out, clock, auto_colours);
+            (writer, ran.map_err(Fault::Run))
+        }
+    }
+}
+
+// Runs into the logfile, which is made or emptied first.
+fn run_into_logfile<F: Files, R: Task, C: Clock + Drop>(
+    files: &F,
+    alloc: Global,
+    args: &Arguments,
+    tests: Vec<Trial<R>>,
+    path: &str,
+    clock: C,
+    auto_colours: bool,
+) -> Result<Conclusion, Fault>
+    requires { AllCanRun R.can_run tests.items }
+    ensures answer { IfOk result (λ c. HasAnswer R.gives args.now tests.items (Ok c)) }
+    ensures adds_up { args.now.list ≡ false → IfOk result (λ c. total_of c ≡ vec_len tests) }
+{
+    let file = fs::create(files, path).map_err(Fault::Logfile)?;
+    let conclusion = run_buffered(alloc, args, tests, file, clock, auto_colours).1?;
+    Ok(conclusion)
+}
+
+// Runs into the writer through a buffer, and gives the writer back.
+fn run_buffered<R: Task, W: Write, C: Clock + Drop>(
+    alloc: Global,
+    args: &Arguments,
+    tests: Vec<Trial<R>>,
+    writer: W,
+    clock: C,
+    auto_colours: bool,
+) -> (W, Result<Conclusion, RunError>)
+    requires { AllCanRun R.can_run tests.items }
+    ensures ran { IfOk result.1 (λ c. Ran R.gives args.now auto_colours tests.items (W.contents writer) (W.contents result.0) c) }
+    ensures beginning { OnErr result.1 (GotBeginning R.gives args.now auto_colours tests.items (W.contents writer) (W.contents result.0)) }
+    ensures answer { IfOk result.1 (λ c. HasAnswer R.gives args.now tests.items (Ok c)) }
+    ensures adds_up { args.now.list ≡ false → IfOk result.1 (λ c. total_of c ≡ vec_len tests) }
+{
+    let mut output = Output::new(alloc, FlushPolicy::of_run(args), writer);
+    if output.reserve().is_err() {
+        return (output.finish().0, Err(RunError::OutOfMemory));
+    }
+    run_into(alloc, args, tests, output, clock, auto_colours)
+}
+
+impl From<RunError> for Fault {
+    fn from(error: RunError) -> Fault {
+        Fault::Run(error)
+    }
+}

@@ -1,0 +1,102 @@
+//! When a buffer hands its bytes on.
+use crate::{FlushPolicy, Output};
+use libtest_mimic::{Arguments, FormatSetting};
+use std::io;
+use std::io::Write;
+use std::test::Fail;
+
+// Keeps how many bytes it has got after each write.
+#[derive(Drop)]
+struct Marked {
+    len: usize,
+    marks: Vec<usize>,
+}
+
+impl Write for Marked {
+    fn write(&mut self, buf: &[u8]) -> io::Result<usize> {
+        self.len = self.len.saturating_add(buf.len());
+        self.marks.push(self.len)?;
+        Ok(buf.len())
+    }
+
+    fn flush(&mut self) -> io::Result<()> {
+        Ok(())
+    }
+}
+
+// An output over an empty one.
+fn marking(rt: &HostRuntime, policy: FlushPolicy) -> Result<Output<Marked>, Fail> {
+    let writer = Marked {
+        len: 0,
+        marks: Vec::new(rt.alloc()),
+    };
+    let mut output = Output::new(rt.alloc(), policy, writer);
+    output.reserve()?;
+    Ok(output)
+}
+
+// Two bytes and a flush, a line of two bytes, and one byte more.
+#[test]
+fn hands_on_as_asked(rt: HostRuntime) -> Result<(), Fail> {
+    let rows: [(FlushPolicy, &[usize]); 3] = [
+        (FlushPolicy::OnFlush, &[2, 5]),
+        (FlushPolicy::OnLineEnd, &[2, 4, 5]),
+        (FlushPolicy::WhenFull, &[5]),
+    ];
+    for (policy, marks) in rows {
+        let mut output = marking(&rt, policy)?;
+        output.write_all(b"ab")?;
+        output.flush()?;
+        output.write_all(b"c\n")?;
+        output.write_all(b"d")?;
+        let (writer, finished) = output.finish();
+        finished?;
+        assert!(rt; writer.marks.as_slice() == marks);
+    }
+    Ok(())
+}
+
+// A whole block waits, what comes behind it begins the next one, and a piece that fills a block by itself never waits.
+#[test]
+fn hands_on_whole_blocks(rt: HostRuntime) -> Result<(), Fail> {
+    let mut output = marking(&rt, FlushPolicy::WhenFull)?;
+    output.write_all(&[0; 8000])?;
+    output.write_all(&[0; 192])?;
+    output.write_all(&[0; 1])?;
+    output.write_all(&[0; 8192])?;
+    output.write_all(&[0; 2])?;
+    let (writer, finished) = output.finish();
+    finished?;
+    assert!(rt; writer.marks.as_slice() == [8192, 8193, 16385, 16387].as_slice());
+    Ok(())
+}
+
+// A line goes out in one write, whether it comes in one piece or in many.
+#[test]
+fn hands_on_whole_lines(rt: HostRuntime) -> Result<(), Fail> {
+    let mut output = marking(&rt, FlushPolicy::OnLineEnd)?;
+    for piece in ["one piece\n", "many", " pieces", "\n", "\n", "the", " end"] {
+        output.write_all(piece.as_bytes())?;
+    }
+    let (writer, finished) = output.finish();
+    finished?;
+    assert!(rt; writer.marks.as_slice() == [10, 22, 23, 30].as_slice());
+    Ok(())
+}
+
+#[test]
+fn chooses_by_logfile_and_format(rt: HostRuntime) -> Result<(), Fail> {
+    let alloc = rt.alloc();
+    for (format, policy) in [
+        (FormatSetting::Pretty, FlushPolicy::OnFlush),
+        (FormatSetting::Terse, FlushPolicy::OnLineEnd),
+        (FormatSetting::Json, FlushPolicy::OnLineEnd),
+    ] {
+        let mut args = Arguments::new(alloc);
+        args.format = Some(format);
+        assert!(rt; FlushPolicy::of_run(&args) == policy);
+        args.logfile = Some(String::from_str(alloc, "log")?);
+        assert!(rt; FlushPolicy::of_run(&args) == FlushPolicy::WhenFull);
+    }
+    Ok(())
+}

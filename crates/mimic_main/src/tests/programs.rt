@@ -1,0 +1,224 @@
+//! What a program tells, and the status that it ends with.
+use crate::{Program, StillClock, shows_colours};
+use libtest_mimic::{Arguments, ArgumentsError, Outcome, RunError, Task, Trial};
+use std::env::FillError;
+use std::io;
+use std::io::{ErrorKind, IsTerminal, Write};
+use std::rt::Env;
+use std::test::Fail;
+
+const PLAIN: Program<'static> = Program {
+    name: "plain",
+    auto_colours: false,
+    tells_causes: false,
+};
+
+const TELLING: Program<'static> = Program {
+    name: "telling",
+    auto_colours: true,
+    tells_causes: true,
+};
+
+// A test that passes.
+#[derive(Drop)]
+struct Pass;
+
+impl Task for Pass {
+    fn run(self, _test_mode: bool) -> Outcome {
+        Outcome::Passed
+    }
+}
+
+// Takes so many bytes, and then fails.
+#[derive(Drop)]
+struct Narrow {
+    room: usize,
+}
+
+impl Write for Narrow {
+    fn write(&mut self, buf: &[u8]) -> io::Result<usize> {
+        let count = buf.len().min(self.room);
+        if count == 0 {
+            return Err(io::Error::from(ErrorKind::StorageFull));
+        }
+        self.room -= count;
+        Ok(count)
+    }
+
+    fn flush(&mut self) -> io::Result<()> {
+        Ok(())
+    }
+}
+
+// What a program leaves that runs one test.
+#[derive(Drop)]
+struct Left {
+    status: u8,
+    err: String,
+}
+
+fn run_one<O: Write + Drop>(
+    rt: &HostRuntime,
+    program: &Program<'_>,
+    line: Result<Arguments, ArgumentsError>,
+    out: O,
+) -> Result<Left, Fail> {
+    let alloc = rt.alloc();
+    let tests = vec![in alloc; Trial::new(String::from_str(alloc, "a")?, Pass)]?;
+    let mut err: Vec<u8> = Vec::new(alloc);
+    let (_, status) = program.harness_run(rt, alloc, line, tests, out, &mut err, StillClock);
+    Ok(Left {
+        status,
+        err: String::from_utf8(err)?,
+    })
+}
+
+// Lines that gave no arguments, the status, and what is told on standard error.
+#[test]
+fn tells_why_a_line_gave_nothing(rt: HostRuntime) -> Result<(), Fail> {
+    let alloc = rt.alloc();
+    let help = ArgumentsError::Help(String::from_str(alloc, "help\n")?);
+    let refused = ArgumentsError::Refused(String::from_str(alloc, "no\n")?);
+    let rows: [(ArgumentsError, u8, &str); 3] = [
+        (help, 0, ""),
+        (refused, 2, "no\n"),
+        (ArgumentsError::OutOfMemory, 1, "plain: out of memory\n"),
+    ];
+    for (error, status, text) in rows {
+        let left = run_one(&rt, &PLAIN, Err(error), Narrow { room: 2 })?;
+        assert_eq!(rt; left.status, status);
+        assert_eq!(rt; left.err.as_str(), text);
+    }
+    Ok(())
+}
+
+// A report that can't be written, on standard output and in a logfile, with its cause and without.
+#[test]
+fn tells_faults(rt: HostRuntime) -> Result<(), Fail> {
+    let alloc = rt.alloc();
+    let cause = io::Error::from(ErrorKind::StorageFull);
+    let to_output = format!(in alloc;
+        "telling: cannot write the report to standard output: {cause}\n"
+    )?;
+    let rows: [(&Program<'_>, Option<&str>, &str); 6] = [
+        (&PLAIN, None, "plain: cannot write the report\n"),
+        (&TELLING, None, to_output.as_str()),
+        (
+            &PLAIN,
+            Some("/dev/full"),
+            "plain: cannot write the report\n",
+        ),
+        (
+            &TELLING,
+            Some("/dev/full"),
+            "telling: cannot write the report to /dev/full: No space left on device (os error 28)\n",
+        ),
+        (
+            &PLAIN,
+            Some("/nowhere/to/be"),
+            "plain: cannot create the logfile\n",
+        ),
+        (
+            &TELLING,
+            Some("/nowhere/to/be"),
+            "telling: cannot create the logfile /nowhere/to/be: No such file or directory (os error 2)\n",
+        ),
+    ];
+    for (program, logfile, text) in rows {
+        let mut args = Arguments::new(alloc);
+        if let Some(path) = logfile {
+            args.logfile = Some(String::from_str(alloc, path)?);
+        }
+        let left = run_one(&rt, program, Ok(args), Narrow { room: 2 })?;
+        assert_eq!(rt; left.status, 1);
+        assert_eq!(rt; left.err.as_str(), text);
+    }
+    Ok(())
+}
+
+#[test]
+fn tells_why_there_was_no_run(rt: HostRuntime) -> Result<(), Fail> {
+    let mut err: Vec<u8> = Vec::new(rt.alloc());
+    assert_eq!(rt; TELLING.refuse(RunError::OutOfMemory, &mut err), 1);
+    assert!(rt; err.as_slice() == b"telling: out of memory\n".as_slice());
+    Ok(())
+}
+
+// Colours of its own accord are those of the program, and not in a logfile.
+#[test]
+fn colours_as_the_program_says(rt: HostRuntime) -> Result<(), Fail> {
+    let alloc = rt.alloc();
+    for (program, is_coloured) in [(&PLAIN, false), (&TELLING, true)] {
+        let tests = vec![in alloc; Trial::new(String::from_str(alloc, "a")?, Pass)]?;
+        let line = Ok(Arguments::new(alloc));
+        let out: Vec<u8> = Vec::new(alloc);
+        let mut err: Vec<u8> = Vec::new(alloc);
+        let (out, status) = program.harness_run(&rt, alloc, line, tests, out, &mut err, StillClock);
+        assert_eq!(rt; status, 0);
+        assert_eq!(rt;
+            String::from_utf8(out)?.as_str().contains("\u{1b}[32mok"),
+            is_coloured
+        );
+    }
+    Ok(())
+}
+
+// An environment whose one variable is so.
+#[derive(Drop)]
+struct OneVariable {
+    name: &'static str,
+    value: &'static str,
+}
+
+impl Env for OneVariable {
+    fn arg(&self, _i: usize, _buf: &mut [u8]) -> Result<usize, FillError> {
+        Err(FillError::NotPresent)
+    }
+
+    fn var(&self, name: &str, buf: &mut [u8]) -> Result<usize, FillError> {
+        let value = self.value.as_bytes();
+        if name != self.name {
+            return Err(FillError::NotPresent);
+        }
+        if value.len() > buf.len() {
+            return Err(FillError::TooLong);
+        }
+        buf[..value.len()].copy_from_slice(value);
+        Ok(value.len())
+    }
+
+    fn var_at(&self, _i: usize, _buf: &mut [u8]) -> Result<usize, FillError> {
+        Err(FillError::NotPresent)
+    }
+}
+
+#[derive(Drop)]
+struct Terminal {
+    is_one: bool,
+}
+
+impl IsTerminal for Terminal {
+    fn is_terminal(&self) -> bool {
+        self.is_one
+    }
+}
+
+#[test]
+fn shows_colours_on_a_terminal(rt: HostRuntime) -> Result<(), Fail> {
+    for (name, value, is_one, shown) in [
+        ("TERM", "xterm", true, true),
+        ("TERM", "xterm", false, false),
+        ("NO_COLOR", "1", true, false),
+        ("NO_COLOR", "yes", true, false),
+        ("NO_COLOR", "", true, true),
+        ("NO_COLOR", "", false, false),
+    ] {
+        let env = OneVariable { name, value };
+        assert_eq!(rt;
+            shows_colours(&env, &Terminal { is_one }),
+            shown,
+            "{name}={value}"
+        );
+    }
+    Ok(())
+}
