@@ -42,18 +42,21 @@ state_of p = record { next = next_of p.stage; announced = p.announced; entries =
 
 -- not all rows have come, and the line announces one
 abbrev pub Announces : State → List ℕ → State → Type 0
-Announces old line new = (length old.entries < old.announced) × (name : List ℕ) × IsAnnouncement name line × (new ≡ record old { next = outcome_next name })
+Announces old line new = (length old.entries < old.announced)
+    × (name : List ℕ) × IsAnnouncement name line × (new ≡ record old { next = outcome_next name })
 
 -- all rows have come, and the line is their summary
 abbrev pub Ends : State → List ℕ → State → Type 0
-Ends old line new = (old.announced ≤ length old.entries) × (numbers : ℕ × ℕ) × IsSummary old.entries numbers line × (new ≡ record old { next = nothing_next numbers.0 numbers.1 })
+Ends old line new = (old.announced ≤ length old.entries)
+    × (numbers : ℕ × ℕ) × IsSummary old.entries numbers line × (new ≡ record old { next = nothing_next numbers.0 numbers.1 })
 
 -- where a line leads, by which line comes next
 abbrev pub LeadsFrom : Next → State → List ℕ → State → Type 0
 LeadsFrom title_next old line new = (count : ℕ) × IsTitle count line × (new ≡ record old { next = row_next; announced = count })
 LeadsFrom row_next old line new = Announces old line new ⊎ Ends old line new
 LeadsFrom (outcome_next name) old line new =
-    (outcome : Outcome) × IsOutcome name outcome line × (new ≡ record old { next = row_next; entries = old.entries ++ record { name = name; outcome = outcome } ∷ [] })
+    (outcome : Outcome) × IsOutcome name outcome line
+    × (new ≡ record old { next = row_next; entries = old.entries ++ record { name = name; outcome = outcome } ∷ [] })
 LeadsFrom (nothing_next filtered_out nanos) old line new = ⊥
 
 -- the line leads from one state to the other

@@ -106,4 +106,5 @@ IsFailure message text = IsUtf8 message × (text ≡ tail (Failed (Some message)
 
 -- what follows the counts of outcomes in a summary: how many trials were filtered out, and the nanoseconds
 abbrev pub IsTotals : ℕ × ℕ → List ℕ → Type 0
-IsTotals numbers text = (numbers.0 < 2 ^ 64) × (numbers.1 < 2 ^ 64) × (text ≡ json_line (decimal numbers.0 ∷ time_key ∷ exact_seconds numbers.1 ∷ []))
+IsTotals numbers text = (numbers.0 < 2 ^ 64) × (numbers.1 < 2 ^ 64)
+    × (text ≡ json_line (decimal numbers.0 ∷ time_key ∷ exact_seconds numbers.1 ∷ []))

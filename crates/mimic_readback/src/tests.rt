@@ -8,7 +8,7 @@ use std::alloc::{AllocError, Global};
 use std::process::Abort;
 use std::test::Fail;
 
-// A clock that stands still at first, and reads so many nanoseconds from then on.
+// A clock that reads this once, and one and a half seconds from then on.
 #[derive(Drop)]
 struct Steps {
     next: u64,
@@ -114,6 +114,23 @@ macro_rules! trials {
     }};
 }
 
+// Runs the trials of a table into memory, by a clock that first reads so many nanoseconds.
+macro_rules! written {
+    ($alloc:expr, $args:expr, $table:expr, $first:expr) => {{
+        let mut sink = Sink::new(Vec::new($alloc));
+        let mut watch = Stopwatch::new(Steps { next: $first });
+        let trials = trials!($alloc, $table);
+        let conclusion = run_here($alloc, $args, trials, &mut sink, &mut watch, false)?;
+        (conclusion, sink.into_inner())
+    }};
+}
+
+fn json_arguments(alloc: Global) -> Arguments {
+    let mut args = Arguments::new(alloc);
+    args.format = Some(FormatSetting::Json);
+    args
+}
+
 // The report tells of the trials, one and a half seconds long.
 fn check_report(rt: &impl Abort, alloc: Global, report: &Report, bench: bool) -> Result<(), Fail> {
     assert_eq!(rt; report.filtered_out, 0);
@@ -135,20 +152,9 @@ fn check_report(rt: &impl Abort, alloc: Global, report: &Report, bench: bool) ->
 fn reads_back_what_a_run_wrote(rt: HostRuntime) -> Result<(), Fail> {
     let alloc = rt.alloc();
     for bench in [false, true] {
-        let mut args = Arguments::new(alloc);
-        args.format = Some(FormatSetting::Json);
+        let mut args = json_arguments(alloc);
         args.bench = bench;
-        let mut sink = Sink::new(Vec::new(alloc));
-        let mut watch = Stopwatch::new(Steps { next: 0 });
-        let conclusion = run_here(
-            alloc,
-            &args,
-            trials!(alloc, TRIALS),
-            &mut sink,
-            &mut watch,
-            false,
-        )?;
-        let bytes = sink.into_inner();
+        let (conclusion, bytes) = written!(alloc, &args, TRIALS, 0);
         assert_eq!(rt; bytes.iter().filter(|byte| **byte == b'\n').count(), 36);
         let report = read_report(alloc, bytes.as_slice())?.ok_or("no report")?;
         assert!(rt; report.counts() == conclusion);
@@ -178,21 +184,9 @@ fn altered(alloc: Global, report: &str, old: &str, new: &str) -> Result<String, 
 #[test]
 fn reads_two_trials_as_they_were_written(rt: HostRuntime) -> Result<(), Fail> {
     let alloc = rt.alloc();
-    let mut args = Arguments::new(alloc);
-    args.format = Some(FormatSetting::Json);
-    let mut sink = Sink::new(Vec::new(alloc));
-    let mut watch = Stopwatch::new(Steps {
-        next: 1_500_000_000,
-    });
-    let conclusion = run_here(
-        alloc,
-        &args,
-        trials!(alloc, TWO_TRIALS),
-        &mut sink,
-        &mut watch,
-        false,
-    )?;
-    let written = String::from_utf8(sink.into_inner())?;
+    let args = json_arguments(alloc);
+    let (conclusion, bytes) = written!(alloc, &args, TWO_TRIALS, 1_500_000_000);
+    let written = String::from_utf8(bytes)?;
     let report = read_report(alloc, written.as_str().as_bytes())?.ok_or("no report")?;
     assert!(rt; report.counts() == conclusion);
     assert_eq!(rt;
