@@ -10,14 +10,13 @@ use Rattle.mimic_trial.specs.declared.outcome.conclusion.Conclusion.{Conclusion}
 use Rattle.mimic_trial.specs.Count.{counts_of}
 use Rattle.mimic_trial.specs.Places.{Placed}
 use Rattle.mimic_trial.specs.Promise.{Gives}
-use Rattle.mimic_trial.specs.Row.{Label, Row, outcomes_of}
+use Rattle.mimic_printer.specs.Row.{Label, PrintedRow, outcomes_of}
 use Rattle.mimic_printer.specs.declared.Printer.{Printer}
 use Rattle.mimic_printer.specs.Report.{announcement_in, announcement_text, failures_in, failures_text, outcome_in, outcome_line, outcome_mark, outcome_text, report_text, result_summary, row_text, rows_text, summary_in, summary_text, terse_outcome, title_in, title_text}
 use Rattle.mimic_printer.specs.Sink.{Shown, Put, Stopped}
-use Rattle.libtest_mimic.specs.declared.stopwatch.Readings.{Readings}
 use Rattle.libtest_mimic.specs.Run.{Reported, ReportedInOrder, StartsReport, next_text, start_text}
 use Rattle.libtest_mimic.specs.Steps.{PrintsAs}
-use Rattle.libtest_mimic.specs.Stopwatch.{IsRunning, elapsed_of}
+use Rattle.libtest_mimic.specs.Stopwatch.{Watched, IsRunning, elapsed_of}
 use Rattle.libtest_mimic.specs.Suite.{Suite, rows_of}
 
 -- a printer is its fields
@@ -74,19 +73,19 @@ module _ (p q : Printer) (same : PrintsAs p q) where
   announcement_same : (l : Label) → announcement_text p l ≡ announcement_text q l
   announcement_same l = announced p q p.format l same.columns ∙ ap (λ f. announcement_in f q l) same.format
 
-  row_same : (row : Row) → row_text p row ≡ row_text q row
+  row_same : (row : PrintedRow) → row_text p row ≡ row_text q row
   row_same row =
       ap₂ (λ x y. x ++ y) (announcement_same row.label)
       (ended p q p.format row.label row.outcome same.colour same.columns ∙ ap (λ f. outcome_in f q row.label row.outcome) same.format)
 
-  rows_same : (rows : List Row) → rows_text p rows ≡ rows_text q rows
+  rows_same : (rows : List PrintedRow) → rows_text p rows ≡ rows_text q rows
   rows_same [] = refl
   rows_same (row ∷ rows) = ap₂ (λ x y. x ++ y) (row_same row) (rows_same rows)
 
-  failures_same : (rows : List Row) → failures_text p rows ≡ failures_text q rows
+  failures_same : (rows : List PrintedRow) → failures_text p rows ≡ failures_text q rows
   failures_same rows = ap (λ f. failures_in f rows) same.format
 
-  report_same : (rows : List Row) (filtered_out nanos : ℕ) → report_text p rows filtered_out nanos ≡ report_text q rows filtered_out nanos
+  report_same : (rows : List PrintedRow) (filtered_out nanos : ℕ) → report_text p rows filtered_out nanos ≡ report_text q rows filtered_out nanos
   unfolding report_text
   report_same rows filtered_out nanos =
       let c : Conclusion = counts_of (outcomes_of rows) filtered_out in
@@ -110,7 +109,7 @@ module _ {R : Type 0} (gives : Gives R) (suite : Suite R) (q : Printer) (same : 
       (ap₂ (λ x y. x ++ y) (rows_same suite.printer q same (rows_of suite placed)) (next_same placed left))
 
   -- a whole report
-  pub reported_same : (old new : Shown) (watch : Readings) (c : Conclusion) → ReportedInOrder gives suite old new watch c → ReportedInOrder gives (record suite { printer = q }) old new watch c
+  pub reported_same : (old new : Shown) (watch : Watched) (c : Conclusion) → ReportedInOrder gives suite old new watch c → ReportedInOrder gives (record suite { printer = q }) old new watch c
   reported_same old new watch c (placed, ordered, r) = (
     placed,
     ordered,
@@ -125,7 +124,7 @@ module _ {R : Type 0} (gives : Gives R) (suite : Suite R) (q : Printer) (same : 
   )
 
   -- a start of a report
-  pub starts_same : (order : List ℕ) (old new : Shown) (watch : Readings) → StartsReport gives suite order old new watch → StartsReport gives (record suite { printer = q }) order old new watch
+  pub starts_same : (order : List ℕ) (old new : Shown) (watch : Watched) → StartsReport gives suite order old new watch → StartsReport gives (record suite { printer = q }) order old new watch
   starts_same order old new watch s =
       let P : List ℕ → Type 0 = λ t. Stopped old new t in
       record {

@@ -51,7 +51,7 @@ stands_short p a b at room = (
 )
 
 -- a text is its front and its back
-pub parts_of : (n : ℕ) (s h t : List ℕ) → h ≡ take n s → t ≡ drop n s → s ≡ h ++ t
+parts_of : (n : ℕ) (s h t : List ℕ) → h ≡ take n s → t ≡ drop n s → s ≡ h ++ t
 parts_of n s h t front back = sym (ap₂ (λ x y. x ++ y) front back ∙ take-append-drop n s)
 
 none_left : (h r : List ℕ) (n : ℕ) → n ≡ length h → n ≡ length (h ++ r) → r ≡ []
@@ -59,7 +59,7 @@ none_left h [] n e f = refl
 none_left h (x ∷ r) n e f = absurd (omega (arith, length-append h (x ∷ r)))
 
 -- a pattern that is cut where the first text ends stands in both where its parts stand there and begin the second
-pub stands_past : (p h t a b : List ℕ) (at : ℕ) → p ≡ h ++ t → at ≤ length a → at + length h ≡ length a
+stands_past : (p h t a b : List ℕ) (at : ℕ) → p ≡ h ++ t → at ≤ length a → at + length h ≡ length a
     → StandsAt h a at → (rest : List ℕ) → b ≡ t ++ rest → StandsAt p (a ++ b) at
 stands_past p h t a b at cut le room s rest e =
     let none : s.0 ≡ [] = none_left h s.0 (length a - at) (omega arith) (sym (length-drop at a) ∙ ap length s.1) in
@@ -69,7 +69,7 @@ stands_past p h t a b at cut le room s rest e =
     (rest, whole)
 
 -- and only there
-pub past_stands : (p h t a b : List ℕ) (at : ℕ) → p ≡ h ++ t → at ≤ length a → at + length h ≡ length a
+past_stands : (p h t a b : List ℕ) (at : ℕ) → p ≡ h ++ t → at ≤ length a → at + length h ≡ length a
     → StandsAt p (a ++ b) at → StandsAt h a at × ((rest : List ℕ) × (b ≡ t ++ rest))
 past_stands p h t a b at cut le room s =
     let e : drop at (a ++ b) ≡ h ++ (t ++ s.0) = s.1 ∙ (ap (λ x. x ++ s.0) cut ∙ append_assoc h t s.0) in
@@ -78,13 +78,18 @@ past_stands p h t a b at cut le room s =
     ∙ (ap (drop (length h)) e ∙ drop_at h (t ++ s.0) (length h) refl)) in
     (first, (s.0, second))
 
--- a pattern that is cut where the first text ends is both texts where its parts are they
-pub whole_parts : (p h t a b : List ℕ) → p ≡ h ++ t → length h ≡ length a → StandsAt h a 0 → t ≡ b → p ≡ a ++ b
-whole_parts p h t a b cut same s e =
-    let there : a ≡ h = s.1 ∙ (ap (λ x. h ++ x) (none_left h s.0 (length a) (sym same) (ap length s.1)) ∙ append-nil h) in
-    cut ∙ ap₂ (λ x y. x ++ y) (sym there) e
+-- both, of a pattern that was cut where the first text ends
+pub stands_cut : (p h t a b : List ℕ) (at n : ℕ) → h ≡ take n p → t ≡ drop n p → length h ≡ n → at + n ≡ length a
+    → (StandsAt h a at → (rest : List ℕ) → b ≡ t ++ rest → StandsAt p (a ++ b) at) × (StandsAt p (a ++ b) at → StandsAt h a at × ((rest : List ℕ) × (b ≡ t ++ rest)))
+stands_cut p h t a b at n front back all room =
+    let cut = parts_of n p h t front back in
+    let le : at ≤ length a = omega (arith, room) in
+    let ends : at + length h ≡ length a = omega (arith, room, all) in
+    (stands_past p h t a b at cut le ends, past_stands p h t a b at cut le ends)
 
--- and only there
-pub parts_whole : (p h t a b : List ℕ) → p ≡ h ++ t → length h ≡ length a → p ≡ a ++ b → t ≡ b
-parts_whole p h t a b cut same e =
-    sym (drop_at h t (length a) same) ∙ ap (drop (length a)) (sym cut ∙ e) ∙ drop_at a b (length a) refl
+-- a text that stands in one of its length is that text
+pub whole_stands : (p s : List ℕ) → length p ≡ length s → StandsAt p s 0 → p ≡ s
+whole_stands p s same h = sym (h.1 ∙ (ap (λ x. p ++ x) (none_left p h.0 (length s) (sym same) (ap length h.1)) ∙ append-nil p))
+
+pub stands_whole : (p s : List ℕ) → p ≡ s → StandsAt p s 0
+stands_whole p s e = ([], sym e ∙ sym (append-nil p))

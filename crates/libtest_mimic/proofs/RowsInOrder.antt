@@ -1,5 +1,8 @@
 -- Rows of trials that run one after another.
 use Rattle.std.proofs.Common.{All, ◌≡◌, ℕ, zero, suc, ◌+◌, ◌-◌, ◌^◌, ◌<◌, ◌≤◌, List, [], ◌∷◌, ◌++◌, Option, Some, Bool, true, false, inl, inr, not, filter, length, refl, rules, sym, ap, ap₂, ◌∙◌, subst, arith, add-zero, zero-add, append-nil, length-append, vec_len}
+use Rattle.std.proofs.lemmas.Result.{MatchResult-from_err}
+use Rattle.std.specs.Result.{IsErr}
+use Rattle.std.specs.Prelude.{Result}
 use Rattle.std.proofs.lemmas.List.{length-map, map-append}
 use Rattle.std.proofs.lemmas.List.Concat.{flat_map-append}
 use Rattle.std.proofs.lemmas.List.Elements.{All-append, All-cons, All-head, All-nil, All-tail}
@@ -11,21 +14,21 @@ use Rattle.mimic_trial.specs.declared.outcome.Outcome.{Outcome}
 use Rattle.mimic_trial.specs.declared.outcome.Outcome.TheVariants.{Ignored}
 use Rattle.mimic_trial.specs.declared.trial.TestInfo.{TestInfo}
 use Rattle.mimic_trial.specs.declared.trial.Trial.{Trial}
-use Rattle.mimic_trial.specs.Count.{HasRoom, is_failed}
-use Rattle.mimic_trial.specs.Places.{InOrder, Placed, label_at, places_of, rows_at}
+use Rattle.mimic_trial.specs.Count.{HasRoom, counted, counts_of, is_failed}
+use Rattle.mimic_trial.specs.Places.{InOrder, Placed, places_of}
+use Rattle.mimic_printer.specs.Row.{label_at, rows_at, Label, PrintedRow, label_of, outcomes_of, row_of, labels_of}
 use Rattle.mimic_trial.specs.Promise.{Gives, IsOutcomeOf}
-use Rattle.mimic_trial.specs.Row.{Label, Row, label_of, outcomes_of, row_of}
-use Rattle.mimic_trial.specs.Trial.{info_of, runner_of, labels_of}
-use Rattle.mimic_trial.proofs.Counting.{HasRoom-counts}
+use Rattle.mimic_trial.specs.Trial.{info_of, runner_of}
+use Rattle.mimic_trial.proofs.Counting.{HasRoom-counts, counts-push}
 use Rattle.mimic_printer.specs.declared.Printer.{Printer}
 use Rattle.mimic_printer.specs.Report.{announcement_text, outcome_text, row_text, rows_text}
 use Rattle.mimic_printer.specs.Sink.{Shown, Put, Stopped}
 use Rattle.mimic_printer.proofs.Appending.{Put-trans, Put-Stopped, Stopped-more}
-use Rattle.mimic_printer.proofs.FailedRows.{length-rows_from, range-push}
+use Rattle.mimic_printer.proofs.FailedRows.{range-push}
 use Rattle.libtest_mimic.specs.declared.run.tally.Tally.{Tally}
 use Rattle.libtest_mimic.specs.Arrangement.{IsOwn, IsOwnAt}
 use Rattle.libtest_mimic.specs.Selection.{IsIgnored}
-use Rattle.libtest_mimic.specs.Steps.{HasCounted, HasRoomFor, RowsStopped}
+use Rattle.libtest_mimic.specs.Steps.{HasCounted, HasRoomFor, RowsRun, RowsStopped, RowsWritten}
 use Rattle.libtest_mimic.specs.Suite.{Suite, in_order, rows_of}
 
 -- ---- the next element of a list
@@ -55,7 +58,7 @@ module _ {R : Type 0} where
 
 module _ {R : Type 0} (gives : Gives R) (args : Arguments) where
   -- `Ignored` where the trial is ignored, and else an outcome that its runner gives, is its own
-  pub IsOwn-from_runner : (t : Trial R) (r : R) (b : Bool) (o : Outcome)
+  IsOwn-from_runner : (t : Trial R) (r : R) (b : Bool) (o : Outcome)
       → (IsTrue b ↔ IsIgnored args t) → r ≡ runner_of t → IsOutcomeOf gives b r (not args.bench) o → IsOwn gives args t o
   IsOwn-from_runner t r true o says e own = inl (says.0 (search rules), own)
   IsOwn-from_runner t r false o says e own =
@@ -63,11 +66,20 @@ module _ {R : Type 0} (gives : Gives R) (args : Arguments) where
       inr ((λ i. let k : IsTrue false = says.1 i in search rules), subst P e own.0, own.1)
 
   -- what is own of the next trial is own at its place
-  pub IsOwnAt-next : (front rest all : List (Trial R)) (t : Trial R) (n : ℕ) (o : Outcome) → front ++ (t ∷ rest) ≡ all → n ≡ length front → IsOwn gives args t o → IsOwnAt gives args all (n, o)
+  IsOwnAt-next : (front rest all : List (Trial R)) (t : Trial R) (n : ℕ) (o : Outcome) → front ++ (t ∷ rest) ≡ all → n ≡ length front → IsOwn gives args t o → IsOwnAt gives args all (n, o)
   IsOwnAt-next front rest all t n o e k own =
       let here : slice_get all n ≡ Some t = ap₂ (λ (l : List (Trial R)) i. slice_get l i) (sym e) k ∙ slice_get-seam front rest t in
       let P : Option (Trial R) → Type 0 = λ x. IsSomeAnd x (λ u. IsOwn gives args u o) in
       subst P (sym here) own
+
+  -- the next trial, taken apart: what a report shows of it, and the outcome that becomes its own
+  pub ran-next : (front rest all : List (Trial R)) (t : Trial R) → front ++ (t ∷ rest) ≡ all → (info : TestInfo) (r : R) (b : Bool) (o : Outcome) → info ≡ info_of t → r ≡ runner_of t
+      → (IsTrue b ↔ IsIgnored args t) → IsOutcomeOf gives b r (not args.bench) o
+      → (label_of info ≡ label_at (labels_of all) (length front)) × IsOwnAt gives args all (length front, o)
+  ran-next front rest all t e info r b o same runs says own = (
+    ap label_of same ∙ label_at-next front rest all t (length front) e refl,
+    IsOwnAt-next front rest all t (length front) o e refl (IsOwn-from_runner t r b o says runs own),
+  )
 
 -- ---- places in order
 
@@ -95,7 +107,7 @@ count_rows labels placed = length-map placed _
 
 -- ---- one more row
 
-rows_text-push : (p : Printer) (rows : List Row) (row : Row) → rows_text p (rows ++ row ∷ []) ≡ rows_text p rows ++ row_text p row
+rows_text-push : (p : Printer) (rows : List PrintedRow) (row : PrintedRow) → rows_text p (rows ++ row ∷ []) ≡ rows_text p rows ++ row_text p row
 rows_text-push p rows row =
     flat_map-append (row_text p) rows (row ∷ []) ∙ ap (λ l. rows_text p rows ++ l) (append-nil (row_text p row))
 
@@ -105,7 +117,7 @@ rows_at-push labels placed info o e =
     ap (λ (l : Label). rows_at labels placed ++ record { label = l; outcome = o } ∷ []) e
     ∙ sym (map-append (λ (p : Placed). record { label = label_at labels p.0; outcome = p.1 }) placed ((length placed, o) ∷ []))
 
-module _ (p : Printer) (rows : List Row) (info : TestInfo) (o : Outcome) (a b c d : Shown) where
+module _ (p : Printer) (rows : List PrintedRow) (info : TestInfo) (o : Outcome) (a b c d : Shown) where
   Put-row : Put a b (rows_text p rows) → Put b c (announcement_text p (label_of info)) → Put c d (outcome_text p (label_of info) o) → Put a d (rows_text p (rows ++ row_of info o ∷ []))
   Put-row u v w =
       let P : List ℕ → Type 0 = λ t. Put a d t in
@@ -118,32 +130,31 @@ module _ (p : Printer) (rows : List Row) (info : TestInfo) (o : Outcome) (a b c 
 
 -- ---- what a tally has room for
 
-length-outcomes : (rows : List Row) → length (outcomes_of rows) ≡ length rows
-length-outcomes rows = length-map rows (λ (row : Row). row.outcome)
+-- the counts of one more row
+pub counts-row : (rows : List PrintedRow) (row : PrintedRow) (filtered_out : ℕ) → counts_of (outcomes_of (rows ++ row ∷ [])) filtered_out ≡ counted (counts_of (outcomes_of rows) filtered_out) row.outcome
+counts-row rows row n = ap (λ os. counts_of os n) (map-append (λ (r : PrintedRow). r.outcome) rows (row ∷ [])) ∙ counts-push (outcomes_of rows) row.outcome n
 
-length-failed : (rows : List Row) → length (filter (λ (row : Row). is_failed row.outcome) rows) ≤ length rows
+length-outcomes : (rows : List PrintedRow) → length (outcomes_of rows) ≡ length rows
+length-outcomes rows = length-map rows (λ (row : PrintedRow). row.outcome)
+
+length-failed : (rows : List PrintedRow) → length (filter (λ (row : PrintedRow). is_failed row.outcome) rows) ≤ length rows
 length-failed rows =
-    let f : Row → Bool = λ row. is_failed row.outcome in
+    let f : PrintedRow → Bool = λ row. is_failed row.outcome in
     omega (arith, length-filter f rows, count_by-le-length f rows)
 
--- a tally has kept at most as many infos as it has counted rows
-length-kept : (t : Tally) (filtered_out : ℕ) (rows : List Row) → HasCounted t filtered_out rows → vec_len t.infos ≤ length rows
+-- a tally has kept at most as many failures as it has counted rows
+length-kept : (t : Tally) (filtered_out : ℕ) (rows : List PrintedRow) → HasCounted t filtered_out rows → vec_len t.failures ≤ length rows
 length-kept t filtered_out rows h =
-    let same : length t.infos.items ≡ length t.outcomes.items = sym t.infos.ok.0 ∙ t.side_by_side ∙ t.outcomes.ok.0 in
-    omega (arith, t.infos.ok.0, length-rows_from t.infos.items t.outcomes.items same, ap length h.failed, length-failed rows)
+    omega (arith, t.failures.ok.0, length-map t.failures.items (λ p. row_of p.0 p.1), ap length h.failed, length-failed rows)
 
 -- there is room to count one more row
-pub HasRoom-tally : (t : Tally) (filtered_out : ℕ) (rows : List Row) → HasCounted t filtered_out rows → length rows < 2 ^ 64 - 1 → HasRoom t.conclusion
+pub HasRoom-tally : (t : Tally) (filtered_out : ℕ) (rows : List PrintedRow) → HasCounted t filtered_out rows → length rows < 2 ^ 64 - 1 → HasRoom t.conclusion
 HasRoom-tally t filtered_out rows h small =
     subst HasRoom (sym h.counts) (HasRoom-counts (outcomes_of rows) filtered_out (omega (arith, length-outcomes rows)))
 
 -- and to keep it
-pub HasRoomFor-tally : (t : Tally) (filtered_out : ℕ) (rows : List Row) (n : ℕ) → HasCounted t filtered_out rows → HasRoomFor t n → length rows < n → HasRoomFor t (vec_len t.infos + 1)
-HasRoomFor-tally t filtered_out rows n h room within = record {
-  infos = omega (arith, length-kept t filtered_out rows h, room.infos);
-  outcomes = omega (arith, length-kept t filtered_out rows h, room.outcomes);
-  order = omega (arith, length-kept t filtered_out rows h, room.order);
-}
+pub HasRoomFor-tally : (t : Tally) (filtered_out : ℕ) (rows : List PrintedRow) (n : ℕ) → HasCounted t filtered_out rows → HasRoomFor t n → length rows < n → HasRoomFor t (vec_len t.failures + 1)
+HasRoomFor-tally t filtered_out rows n h room within = omega (arith, length-kept t filtered_out rows h, room)
 
 -- ---- the rows so far
 
@@ -173,11 +184,11 @@ module _ {R : Type 0} (gives : Gives R) where
 
     -- one more trial ran
     pub RowsSoFar-push : (u : Tally) → Put b c (announcement_text suite.printer (label_of info)) → Put c d (outcome_text suite.printer (label_of info) o)
-        → ((filtered_out : ℕ) (rows : List Row) → HasCounted t filtered_out rows → HasCounted u filtered_out (rows ++ row_of info o ∷ [])) → RowsSoFar suite (count + 1) a d u
+        → ((filtered_out : ℕ) (rows : List PrintedRow) → HasCounted t filtered_out rows → HasCounted u filtered_out (rows ++ row_of info o ∷ [])) → RowsSoFar suite (count + 1) a d u
     RowsSoFar-push u announced ended counted =
         let rows = rows_of suite so_far.placed in
-        let P : List Row → Type 0 = λ l. Put a d (rows_text suite.printer l) in
-        let Q : List Row → Type 0 = λ l. HasCounted u suite.filtered_out l in
+        let P : List PrintedRow → Type 0 = λ l. Put a d (rows_text suite.printer l) in
+        let Q : List PrintedRow → Type 0 = λ l. HasCounted u suite.filtered_out l in
         let push = rows_at-push (labels_of suite.trials) so_far.placed info o here in
         record {
           placed = so_far.placed ++ (length so_far.placed, o) ∷ [];
@@ -193,7 +204,7 @@ module _ {R : Type 0} (gives : Gives R) where
         → RowsStopped gives suite a d
     stopped_outcome m more announced ended =
         let rows = rows_of suite so_far.placed in
-        let P : List Row → Type 0 = λ l. Stopped a d (rows_text suite.printer l) in
+        let P : List PrintedRow → Type 0 = λ l. Stopped a d (rows_text suite.printer l) in
         let placed : List Placed = so_far.placed ++ (length so_far.placed, o) ∷ [] in
         record {
           placed = placed;
@@ -215,3 +226,7 @@ module _ {R : Type 0} (gives : Gives R) where
         own = so_far.own;
         text = Put-Stopped _ _ so_far.text (subst P (label ∙ ap (label_at (labels_of suite.trials)) (sym so_far.all)) announced);
       }
+
+  -- an answer that is a fault
+  pub RowsRun-stopped : {E T : Type 0} (suite : Suite R) (a b : Shown) (t : Tally) (r : Result T E) → IsErr r → RowsStopped gives suite a b → RowsRun gives suite a b t r
+  RowsRun-stopped suite a b t r e s = MatchResult-from_err r (λ _. RowsWritten gives suite a b t) (λ _. RowsStopped gives suite a b) e (λ _. s)

@@ -11,13 +11,13 @@ pub use Rattle.mimic_text.specs.Seconds
 pub use Rattle.mimic_trial.specs.Failed
 pub use Rattle.mimic_trial.specs.Promise
 pub use Rattle.mimic_trial.specs.Count
-pub use Rattle.mimic_trial.specs.Row
 pub use Rattle.mimic_trial.specs.Trial
 pub use Rattle.mimic_trial.specs.Places
 pub use Rattle.mimic_args.specs.Arguments
 pub use Rattle.mimic_args.specs.Matched
 pub use Rattle.mimic_args.specs.CommandLine
 pub use Rattle.mimic_printer.specs.Sink
+pub use Rattle.mimic_printer.specs.Row
 pub use Rattle.mimic_printer.specs.Widths
 pub use Rattle.mimic_printer.specs.Json
 pub use Rattle.mimic_printer.specs.Report

@@ -6,9 +6,8 @@ use Rattle.mimic_args.specs.Arguments.{colours_of, format_of}
 use Rattle.mimic_printer.specs.declared.Printer.{Printer}
 use Rattle.mimic_printer.specs.Widths.{kind_width_of, name_width_of}
 use Rattle.mimic_trial.specs.declared.trial.Trial.{Trial}
-use Rattle.mimic_trial.specs.Places.{Placed, rows_at}
-use Rattle.mimic_trial.specs.Row.{Label, Row}
-use Rattle.mimic_trial.specs.Trial.{labels_of}
+use Rattle.mimic_trial.specs.Places.{Placed}
+use Rattle.mimic_printer.specs.Row.{rows_at, Label, PrintedRow, labels_of}
 use Rattle.libtest_mimic.specs.Selection.{IsSelection}
 
 -- the printer of a run: the format and the colours that the arguments ask for, and columns as wide as the trials need
@@ -47,5 +46,5 @@ abbrev pub in_order : {R : Type 0} → Suite R → List ℕ
 in_order suite = range_with_len 0 (length suite.trials)
 
 -- the rows of outcomes that stand at places of the suite
-abbrev pub rows_of : {R : Type 0} → Suite R → List Placed → List Row
+abbrev pub rows_of : {R : Type 0} → Suite R → List Placed → List PrintedRow
 rows_of suite placed = rows_at (labels_of suite.trials) placed

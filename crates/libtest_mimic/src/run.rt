@@ -5,7 +5,8 @@ ghost use Rattle.mimic_printer.specs.List.{list_text};
 ghost use Rattle.mimic_printer.specs.Sink.{Put, Stopped, Puts, faults_of, shown};
 ghost use Rattle.mimic_printer.specs.Widths.{kind_width_of, name_width_of};
 ghost use Rattle.mimic_trial.specs.Count.{counts_of, total_of};
-ghost use Rattle.mimic_trial.specs.Trial.{AllCanRun, labels_of};
+ghost use Rattle.mimic_trial.specs.Trial.{AllCanRun};
+ghost use Rattle.mimic_printer.specs.Row.{labels_of};
 ghost use Rattle.libtest_mimic.specs.Run.{HasAnswer, HasLines, OnOutOfMemory, OnWriteFault, ReportedInOrder, StartsReport};
 ghost use Rattle.libtest_mimic.specs.Selection.{IsDropped, IsSelection};
 ghost use Rattle.libtest_mimic.specs.Steps.{PrintsAs};
@@ -104,10 +105,6 @@ fn select<R: Drop>(args: &Arguments, trials: &mut Vec<Trial<R>>) -> u64
     ensures selection { IsSelection args.now trials.old.items trials.new.items }
     ensures dropped { result ≡ length trials.old.items - length trials.new.items }
 {
-    // Without a selection the trials need not be gone through.
-    if args.filter.is_none() && args.skip.is_empty() && !args.ignored {
-        return 0;
-    }
     let count = trials.len();
     trials.retain(
         |trial| -> bool

@@ -28,11 +28,11 @@ pub struct Stopwatch<C: Clock> {
 }
 
 impl<C: Clock> Model for Stopwatch<C> {
-    ghost use Rattle.libtest_mimic.specs.declared.stopwatch.Readings.{Readings};
+    ghost use Rattle.libtest_mimic.specs.Stopwatch.{Watched, watched};
 
-    ghost Value = { Readings };
+    ghost Value = { Watched };
 
-    ghost view = { λ w. w.readings };
+    ghost view = { λ w. watched w.readings };
 }
 
 impl<C: Clock> Stopwatch<C> {

@@ -9,7 +9,7 @@ use Rattle.clap.specs.declared.builder.arg.Arg.{Arg}
 use Rattle.clap.specs.declared.builder.command.Command.{Command}
 use Rattle.clap.specs.declared.builder.value_parser.ValueParser.{ValueParser}
 use Rattle.clap.specs.declared.builder.value_parser.ValueParser.TheVariants as vp
-use Rattle.mimic_args.specs.Matched.{IsReadFrom, AreAccepted, IsFreeOfConflicts, color_names, format_names, unstable_names}
+use Rattle.mimic_args.specs.Matched.{IsReadFrom, AreAccepted, IsFreeOfConflicts, color_name, colors, format_name, formats, unstable_name, unstables}
 use Rattle.mimic_args.specs.declared.Arguments.{Arguments}
 
 -- what is declared of an argument: how a parse reads it, and the ids of those that no line may use beside it (our own)
@@ -103,9 +103,9 @@ TakesOnly names p = (listed : Bor (List (Bor Text))) × (p ≡ vp.Names listed) 
 
 -- the readers of the values of `-Z`, `--color` and `--format` (the Rust crate's)
 pub record AreReaders (u c f : ValueParser) : Type 0 where
-  pub unstable : TakesOnly unstable_names u
-  pub color : TakesOnly color_names c
-  pub format : TakesOnly format_names f
+  pub unstable : TakesOnly (map unstable_name unstables) u
+  pub color : TakesOnly (map color_name colors) c
+  pub format : TakesOnly (map format_name formats) f
 
 -- the arguments are what the line means: each field is what the words hold for its id, by `clap`'s own definition of what
 -- words hold; every value was accepted; and nothing is asked that excludes another

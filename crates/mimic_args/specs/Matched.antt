@@ -31,45 +31,34 @@ texts_of f id = unwrap_or (all_of id f) []
 abbrev pub is_set : List Row → List ℕ → Bool
 is_set f id = option_map_or (λ t. bytes_eq t (codes "true")) (first_text f id) false
 
--- the name of a setting of colours (the Rust crate's)
+-- the first of these values whose name the text is
+abbrev pub named : {A : Type 0} → (A → List ℕ) → List A → List ℕ → Option A
+named name values t = find (λ a. bytes_eq t (name a)) values
+
+-- the values of `--color`, and their names (the Rust crate's)
+abbrev pub colors : List ColorSetting
+colors = Auto ∷ Always ∷ Never ∷ []
+
 abbrev pub color_name : ColorSetting → List ℕ
 color_name Auto = codes "auto"
 color_name Always = codes "always"
 color_name Never = codes "never"
 
--- the names of all settings of colours (the Rust crate's)
-abbrev pub color_names : List (List ℕ)
-color_names = color_name Auto ∷ color_name Always ∷ color_name Never ∷ []
+-- the values of `--format`, and their names (the Rust crate's)
+abbrev pub formats : List FormatSetting
+formats = Pretty ∷ Terse ∷ Json ∷ []
 
--- the setting of this name (our own, by the names above)
-abbrev pub color_named : List ℕ → Option ColorSetting
-color_named t = find (λ s. bytes_eq t (color_name s)) (Auto ∷ Always ∷ Never ∷ [])
-
--- the name of a format (the Rust crate's)
 abbrev pub format_name : FormatSetting → List ℕ
 format_name Pretty = codes "pretty"
 format_name Terse = codes "terse"
 format_name Json = codes "json"
 
--- the names of all formats (the Rust crate's)
-abbrev pub format_names : List (List ℕ)
-format_names = format_name Pretty ∷ format_name Terse ∷ format_name Json ∷ []
+-- the one value of `-Z`, and its name (the Rust crate's)
+abbrev pub unstables : List UnstableFlags
+unstables = UnstableOptions ∷ []
 
--- the format of this name (our own, by the names above)
-abbrev pub format_named : List ℕ → Option FormatSetting
-format_named t = find (λ f. bytes_eq t (format_name f)) (Pretty ∷ Terse ∷ Json ∷ [])
-
--- the name of what `-Z` asks for (the Rust crate's)
 abbrev pub unstable_name : UnstableFlags → List ℕ
 unstable_name UnstableOptions = codes "unstable-options"
-
--- the one name that `-Z` takes (the Rust crate's)
-abbrev pub unstable_names : List (List ℕ)
-unstable_names = unstable_name UnstableOptions ∷ []
-
--- what `-Z` asks for by this name (our own, by the name above)
-abbrev pub unstable_named : List ℕ → Option UnstableFlags
-unstable_named t = find (λ u. bytes_eq t (unstable_name u)) (UnstableOptions ∷ [])
 
 -- the text is a whole number below 2^64 in decimal; a plus may stand first (Rust's `usize::from_str`)
 abbrev pub IsNumber : List ℕ → Type 0
@@ -92,12 +81,12 @@ pub record IsReadFrom (f : List Row) (a : Arguments) : Type 0 where
   pub show_output : a.show_output ≡ is_set f (codes "show-output")
   pub exact : a.exact ≡ is_set f (codes "exact")
   pub quiet : a.quiet ≡ is_set f (codes "quiet")
-  pub unstable_flags : a.unstable_flags ≡ option_and_then unstable_named (first_text f (codes "unstable"))
+  pub unstable_flags : a.unstable_flags ≡ option_and_then (named unstable_name unstables) (first_text f (codes "unstable"))
   pub test_threads : IsNumberOf (first_text f (codes "test-threads")) a.test_threads
   pub logfile : option_map string_bytes a.logfile ≡ first_text f (codes "logfile")
   pub skip : map string_bytes a.skip.items ≡ texts_of f (codes "skip")
-  pub color : a.color ≡ option_and_then color_named (first_text f (codes "color"))
-  pub format : a.format ≡ option_and_then format_named (first_text f (codes "format"))
+  pub color : a.color ≡ option_and_then (named color_name colors) (first_text f (codes "color"))
+  pub format : a.format ≡ option_and_then (named format_name formats) (first_text f (codes "format"))
   pub filter : option_map string_bytes a.filter ≡ first_text f (codes "filter")
 
 -- each value that has a reader was accepted: the field is absent only where no value was given

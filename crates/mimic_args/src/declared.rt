@@ -1,9 +1,9 @@
 //! The options of a harness, as they are declared to `clap`.
-ghost use Rattle.std.specs.Prelude.{◌≡◌, false, IfOk, codes};
+ghost use Rattle.std.specs.Prelude.{◌≡◌, false, IfOk, codes, map};
 ghost use Rattle.clap.specs.Walk.{texts};
 ghost use Rattle.clap.specs.declared.builder.value_parser.ValueParser.{ValueParser};
 ghost use Rattle.mimic_args.specs.CommandLine.{TakesOnly, alone, declared_of, excluding, filter_rule, flag_options, flag_rule, option_rule, options_of, plus, read_by, skip_rule, threads_rule, unstable_rule};
-ghost use Rattle.mimic_args.specs.Matched.{color_names, format_names, unstable_names};
+ghost use Rattle.mimic_args.specs.Matched.{color_name, colors, format_name, formats, unstable_name, unstables};
 
 use crate::formats::{JSON, PRETTY, TERSE};
 use clap::{Arg, ArgAction, Command, value_parser};
@@ -79,7 +79,7 @@ fn option<'a>(alloc: Global, name: &'a str, value: &'a str, help: &'a str) -> Ar
 }
 
 pub(super) fn unstable<'a>(alloc: Global) -> Arg<'a>
-    ensures declared { (p : ValueParser) × TakesOnly unstable_names p × (declared_of result ≡ read_by p (alone unstable_rule)) }
+    ensures declared { (p : ValueParser) × TakesOnly (map unstable_name unstables) p × (declared_of result ≡ read_by p (alone unstable_rule)) }
     ensures local { result.global ≡ false }
 {
     let arg = Arg::new(alloc, "unstable").short('Z').value_name("FLAG");
@@ -113,7 +113,7 @@ pub(super) fn skip<'a>(alloc: Global) -> Arg<'a>
 }
 
 pub(super) fn color<'a>(alloc: Global) -> Arg<'a>
-    ensures declared { (p : ValueParser) × TakesOnly color_names p × (declared_of result ≡ read_by p (alone (option_rule (codes "color")))) }
+    ensures declared { (p : ValueParser) × TakesOnly (map color_name colors) p × (declared_of result ≡ read_by p (alone (option_rule (codes "color")))) }
     ensures local { result.global ≡ false }
 {
     let help = "When to use colours";
@@ -121,7 +121,7 @@ pub(super) fn color<'a>(alloc: Global) -> Arg<'a>
 }
 
 pub(super) fn format<'a>(alloc: Global) -> Arg<'a>
-    ensures declared { (p : ValueParser) × TakesOnly format_names p × (declared_of result ≡ read_by p (alone (option_rule (codes "format")))) }
+    ensures declared { (p : ValueParser) × TakesOnly (map format_name formats) p × (declared_of result ≡ read_by p (alone (option_rule (codes "format")))) }
     ensures local { result.global ≡ false }
 {
     let help = "How to write the report";

@@ -1,7 +1,7 @@
 //! The names of formats.
 ghost use Rattle.std.specs.Prelude.{◌≡◌, Some};
 ghost use Rattle.std.specs.Result.{result_ok};
-ghost use Rattle.mimic_args.specs.Matched.{format_name, format_named};
+ghost use Rattle.mimic_args.specs.Matched.{format_name, formats, named};
 
 use crate::{FormatSetting, UnknownFormat};
 use std::str::FromStr;
@@ -16,7 +16,7 @@ impl FormatSetting {
     /// The name of the format, as `--format` takes it.
     pub fn name(self) -> &'static str
         ensures name { result.now ≡ format_name self }
-        ensures read_back { format_named result.now ≡ Some self }
+        ensures read_back { named format_name formats result.now ≡ Some self }
     {
         match self {
             FormatSetting::Pretty => PRETTY,
@@ -30,7 +30,7 @@ impl FormatSetting {
 impl FromStr for FormatSetting {
     type Err = UnknownFormat;
 
-    ghost from_str_gives = { λ text r. result_ok r ≡ format_named text };
+    ghost from_str_gives = { λ text r. result_ok r ≡ named format_name formats text };
 
     fn from_str(text: &str) -> Result<FormatSetting, UnknownFormat> {
         match text {

@@ -1,7 +1,7 @@
 //! What a parsed line holds for each field of the arguments.
 ghost use Rattle.std.specs.Prelude.{◌≡◌, IfOk, codes, map, option_and_then, option_map, string_bytes};
 ghost use Rattle.clap.specs.Words.{all_of, first_of};
-ghost use Rattle.mimic_args.specs.Matched.{IsNumberOf, color_named, entries_of, first_text, format_named, is_set, texts_of, unstable_named};
+ghost use Rattle.mimic_args.specs.Matched.{IsNumberOf, color_name, colors, entries_of, first_text, format_name, formats, is_set, named, texts_of, unstable_name, unstables};
 
 use crate::copies::{all_copied, copied};
 use crate::{ColorSetting, FormatSetting, UnstableFlags};
@@ -58,7 +58,7 @@ pub(super) fn threads_of(matches: &ArgMatches<'_>) -> Option<usize>
 }
 
 pub(super) fn color_of(matches: &ArgMatches<'_>) -> Option<ColorSetting>
-    ensures { result ≡ option_and_then color_named (first_text (entries_of matches.now) (codes "color")) }
+    ensures { result ≡ option_and_then (named color_name colors) (first_text (entries_of matches.now) (codes "color")) }
 {
     match text_under(matches, "color")? {
         "auto" => Some(ColorSetting::Auto),
@@ -69,13 +69,13 @@ pub(super) fn color_of(matches: &ArgMatches<'_>) -> Option<ColorSetting>
 }
 
 pub(super) fn format_of(matches: &ArgMatches<'_>) -> Option<FormatSetting>
-    ensures { result ≡ option_and_then format_named (first_text (entries_of matches.now) (codes "format")) }
+    ensures { result ≡ option_and_then (named format_name formats) (first_text (entries_of matches.now) (codes "format")) }
 {
     text_under(matches, "format")?.parse::<FormatSetting>().ok()
 }
 
 pub(super) fn unstable_of(matches: &ArgMatches<'_>) -> Option<UnstableFlags>
-    ensures { result ≡ option_and_then unstable_named (first_text (entries_of matches.now) (codes "unstable")) }
+    ensures { result ≡ option_and_then (named unstable_name unstables) (first_text (entries_of matches.now) (codes "unstable")) }
 {
     match text_under(matches, "unstable")? {
         "unstable-options" => Some(UnstableFlags::UnstableOptions),

@@ -1,16 +1,18 @@
 -- Numbers and seconds: where the digits at the front of a text end, and what they are worth.
-use Rattle.std.proofs.Common.{◌≡◌, ◌≢◌, ℕ, zero, suc, inl, inr, ◌<◌, ◌≤◌, ◌^◌, ◌+◌, ◌-◌, ◌*◌, List, [], ◌∷◌, ◌++◌, Option, Some, None, length, take, get_or, refl, sym, ap, subst, ◌∙◌, arith, decimal}
+use Rattle.std.proofs.Common.{◌≡◌, ◌≢◌, ℕ, inl, inr, ◌<◌, ◌≤◌, ◌^◌, ◌+◌, ◌-◌, ◌*◌, List, [], ◌∷◌, ◌++◌, Option, Some, None, length, take, get_or, refl, sym, ap, subst, ◌∙◌, arith, decimal}
 use Rattle.std.specs.Int.{IsInRange}
 use Rattle.std.specs.Prelude.{Result, Ok, Err, SomeIff, IsUtf8}
 use Rattle.std.specs.Result.{result_ok}
+use Rattle.std.proofs.Math.Nat.{mul-lt-mul_of_pos_right, one-le-pow}
+use Rattle.std.proofs.lemmas.Nat.{pow-add}
 use Rattle.std.proofs.lemmas.Str.{IsUtf8-from_ascii}
 use Rattle.std.specs.Str.Parse.{AllDigits, IsNumeral, digits_value, ParsesUnsigned}
 use Rattle.std.proofs.lemmas.Str.Parse.{digit_from_value, numerals_by_value, tells_by_index, tells_digits, parse_plain, digits_value_short}
 use Rattle.std.proofs.lemmas.Fmt.{digits_decimal, decimal_injective, IsAscii-from_digits}
 use Rattle.std.proofs.lemmas.List.{get_or-take, length-take}
-use Rattle.libtest_mimic.specs.Seconds.{IsRest, IsExactSeconds}
+use Rattle.mimic_text.specs.Seconds.{IsRest, IsExactSeconds}
 use Rattle.mimic_text.proofs.ExactSeconds.{seconds_exact, seconds_only}
-use Rattle.mimic_events.specs.Parts.{EndsNumber, SplitsDigits, ReadsNumber}
+use Rattle.mimic_events.specs.Steps.{EndsNumber, SplitsDigits, ReadsNumber}
 use Rattle.mimic_events.specs.Reading.{Decodes, IsNumber, IsSeconds}
 
 -- two ways to end the digits of one text are one
@@ -66,18 +68,10 @@ numeral_ok {E} digits (Err f) o short plus parsed e =
 pub numeral_utf8 : (digits : List ℕ) → IsNumeral 10 digits → IsUtf8 digits
 numeral_utf8 digits h = IsUtf8-from_ascii digits (IsAscii-from_digits digits h.1)
 
-pub scaled_fits : (value digits : ℕ) → digits ≤ 9 → value < 10 ^ digits → value * 10 ^ (9 - digits) < 10 ^ 9
-scaled_fits value zero le lt = omega arith
-scaled_fits value (suc zero) le lt = omega arith
-scaled_fits value (suc (suc zero)) le lt = omega arith
-scaled_fits value (suc (suc (suc zero))) le lt = omega arith
-scaled_fits value (suc (suc (suc (suc zero)))) le lt = omega arith
-scaled_fits value (suc (suc (suc (suc (suc zero))))) le lt = omega arith
-scaled_fits value (suc (suc (suc (suc (suc (suc zero)))))) le lt = omega arith
-scaled_fits value (suc (suc (suc (suc (suc (suc (suc zero))))))) le lt = omega arith
-scaled_fits value (suc (suc (suc (suc (suc (suc (suc (suc zero)))))))) le lt = omega arith
-scaled_fits value (suc (suc (suc (suc (suc (suc (suc (suc (suc zero))))))))) le lt = omega arith
-scaled_fits value (suc (suc (suc (suc (suc (suc (suc (suc (suc (suc digits)))))))))) le lt = absurd (omega arith)
+scaled_fits : (value digits : ℕ) → digits ≤ 9 → value < 10 ^ digits → value * 10 ^ (9 - digits) < 10 ^ 9
+scaled_fits value digits le lt =
+    let whole : 10 ^ digits * 10 ^ (9 - digits) ≡ 10 ^ 9 = let all : digits + (9 - digits) ≡ 9 = omega (arith, le) in sym (pow-add 10 digits (9 - digits)) ∙ ap (λ (k : ℕ). 10 ^ k) all in
+    subst (λ (k : ℕ). value * 10 ^ (9 - digits) < k) whole (mul-lt-mul_of_pos_right {m = value} {n = 10 ^ digits} {k = 10 ^ (9 - digits)} lt (one-le-pow (9 - digits) 10 (omega arith)))
 
 pub fraction_fits : (digits : List ℕ) (value : ℕ) → length digits ≤ 9 → IsNumeral 10 digits → value ≡ digits_value 10 digits → value * 10 ^ (9 - length digits) < 10 ^ 9
 fraction_fits digits value short numeral is =

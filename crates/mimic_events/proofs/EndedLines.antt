@@ -4,10 +4,10 @@ use Rattle.std.proofs.lemmas.Bool.{eqb-false}
 use Rattle.std.proofs.lemmas.List.{append_cancel_left}
 use Rattle.mimic_trial.specs.declared.outcome.Outcome.{Outcome}
 use Rattle.mimic_trial.specs.declared.outcome.Outcome.TheVariants.{Passed, Failed, Ignored, Measured}
-use Rattle.libtest_mimic.specs.Count.{is_measured}
-use Rattle.libtest_mimic.specs.Escape.{escaped}
-use Rattle.libtest_mimic.specs.Json.{deviation_key, json_end, json_outcome, median_key, outcome_front}
-use Rattle.mimic_events.specs.Parts.{ReadsNumber, IsFailure, IsTail, tail}
+use Rattle.mimic_trial.specs.Count.{is_measured}
+use Rattle.mimic_text.specs.Escape.{escaped}
+use Rattle.mimic_printer.specs.Json.{deviation_key, json_end, json_outcome, median_key, outcome_front}
+use Rattle.mimic_events.specs.Steps.{ReadsNumber, IsFailure, IsTail, tail}
 use Rattle.mimic_events.specs.Reading.{Decodes, IsOutcome}
 
 pub outcome_is : (name : List ℕ) (o : Outcome) → json_outcome name o ≡ outcome_front (is_measured o) ++ (escaped name ++ 34 ∷ tail o)
@@ -49,24 +49,18 @@ ended_none line name v bench test f = at (is_measured v) (f.1 ∙ outcome_is nam
     at true e = bench (tail v) e
     at false e = test (tail v) e
 
--- the endings of a trial that isn't measured
+-- the endings of a trial that isn't measured: it failed with a message, unless it has one of these
+failed_with : (rest : List ℕ) (v : Outcome) → rest ≢ tail Passed → rest ≢ tail Ignored → rest ≢ tail (Failed None) → IsTail false v rest → (message : List ℕ) × (v ≡ Failed (Some message)) × IsFailure message rest
+failed_with rest Passed a b c h = absurd (a h.2)
+failed_with rest Ignored a b c h = absurd (b h.2)
+failed_with rest (Failed None) a b c h = absurd (c h.2)
+failed_with rest (Failed (Some message)) a b c h = (message, refl, (h.1, h.2))
+failed_with rest (Measured measurement) a b c h = absurd cc
+
 pub tail_some : (rest : List ℕ) (o : Option (List ℕ)) → rest ≢ tail Passed → rest ≢ tail Ignored → rest ≢ tail (Failed None) → Decodes IsFailure rest o → Decodes (IsTail false) rest (option_map (λ m. Failed (Some m)) o)
-tail_some rest None a b c d = none rest a b c d
-  where
-    none : (rest : List ℕ) → rest ≢ tail Passed → rest ≢ tail Ignored → rest ≢ tail (Failed None) → ((v : List ℕ) → IsFailure v rest → ⊥) → (v : Outcome) → IsTail false v rest → ⊥
-    none rest a b c d Passed h = a h.2
-    none rest a b c d Ignored h = b h.2
-    none rest a b c d (Failed None) h = c h.2
-    none rest a b c d (Failed (Some m)) h = d m (h.1, h.2)
-    none rest a b c d (Measured measurement) h = absurd cc
-tail_some rest (Some m) a b c d = ((refl, d.0.0, d.0.1), only rest m a b c d.1)
-  where
-    only : (rest m : List ℕ) → rest ≢ tail Passed → rest ≢ tail Ignored → rest ≢ tail (Failed None) → ((v : List ℕ) → IsFailure v rest → v ≡ m) → (v : Outcome) → IsTail false v rest → v ≡ Failed (Some m)
-    only rest m a b c d Passed h = absurd (a h.2)
-    only rest m a b c d Ignored h = absurd (b h.2)
-    only rest m a b c d (Failed None) h = absurd (c h.2)
-    only rest m a b c d (Failed (Some n)) h = ap (λ (x : List ℕ). Failed (Some x)) (d n (h.1, h.2))
-    only rest m a b c d (Measured measurement) h = absurd cc
+tail_some rest None a b c d = λ v h. let f = failed_with rest v a b c h in d f.0 f.2
+tail_some rest (Some m) a b c d =
+    ((refl, d.0.0, d.0.1), λ v h. let f = failed_with rest v a b c h in f.1 ∙ ap (λ (x : List ℕ). Failed (Some x)) (d.1 f.0 f.2))
 
 tail_passed : (v : Outcome) → IsTail false v (tail Passed) → v ≡ Passed
 tail_passed Passed h = refl

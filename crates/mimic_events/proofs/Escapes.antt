@@ -3,10 +3,10 @@ use Rattle.std.proofs.Common.{◌≡◌, ℕ, ◌<◌, ◌≤◌, true, false, e
 use Rattle.std.proofs.lemmas.Bool.{cases_lt, eqb-true, lt-ltb}
 use Rattle.std.proofs.lemmas.Bool.Decides.{nat_tests}
 use Rattle.std.proofs.lemmas.List.{append_cancel_left}
-use Rattle.libtest_mimic.specs.Escape.{escape, escape_char}
+use Rattle.mimic_text.specs.Escape.{escape, escape_char}
 use Rattle.mimic_text.proofs.Bounded.{all_below, one_below}
 use Rattle.mimic_text.proofs.Escapes.{escape-high}
-use Rattle.mimic_events.specs.Parts.{candidate_of, after_backslash, after_u}
+use Rattle.mimic_events.specs.Steps.{candidate_of, after_backslash, after_u}
 
 not_backslash : (b : ℕ) → 93 ≤ b → eqb b 92 ≡ false
 not_backslash b h = grind (arith, nat_tests)

@@ -3,11 +3,9 @@ pub mod EndedLines
 pub mod Escapes
 pub mod FirstLines
 pub mod Fronts
+pub mod Machine
 pub mod NamedLines
 pub mod QuotedTexts
 pub mod Readings
-pub mod RunReports
-pub mod Runs
-pub mod Steps
 pub mod Summaries
 pub mod WholeLines

@@ -1,14 +1,14 @@
 -- Lines with a name in quotes, the title, and the message of a failure.
-use Rattle.std.proofs.Common.{◌≡◌, ◌≢◌, ℕ, List, ◌∷◌, ◌++◌, Option, Some, None, Result, Ok, Err, IsOk, IfOk, MatchOption, Vec, String, string_bytes, option_map, IsUtf8, codes, decimal, arith, refl, sym, ap, subst, ◌∙◌, append_assoc}
+use Rattle.std.proofs.Common.{◌≡◌, ℕ, List, ◌∷◌, ◌++◌, Option, Some, None, Result, Ok, Err, IsOk, IfOk, MatchOption, Vec, String, string_bytes, option_map, IsUtf8, codes, decimal, arith, refl, sym, ap, subst, ◌∙◌, append_assoc}
 use Rattle.std.specs.Result.{result_ok}
 use Rattle.std.specs.String.{string_vec}
 use Rattle.std.proofs.lemmas.Str.{IsUtf8-string_bytes}
 use Rattle.std.proofs.lemmas.List.Concat.{flat_map-append}
 use Rattle.std.proofs.lemmas.List.{append_cancel_left, append_cancel_right}
 use Rattle.mimic_trial.specs.declared.outcome.Outcome.TheVariants.{Failed}
-use Rattle.libtest_mimic.specs.Escape.{escape, escaped}
-use Rattle.libtest_mimic.specs.Json.{announcement_front, event_field, json_announcement, json_end, json_title, stdout_key, title_front}
-use Rattle.mimic_events.specs.Parts.{ReadsQuoted, ReadsNamed, ReadsNumber, IsFailure, tail}
+use Rattle.mimic_text.specs.Escape.{escape, escaped}
+use Rattle.mimic_printer.specs.Json.{announcement_front, event_field, json_announcement, json_end, json_title, stdout_key, title_front}
+use Rattle.mimic_events.specs.Steps.{ReadsQuoted, ReadsNamed, ReadsNumber, IsFailure, tail}
 use Rattle.mimic_events.specs.Reading.{Decodes, IsAnnouncement, IsTitle}
 
 pub named_some : (front line rest : List ℕ) (o : Option (List ℕ × List ℕ)) → line ≡ front ++ rest → ReadsQuoted rest o → ReadsNamed front line o
@@ -27,12 +27,6 @@ announced_some line name rest None h e text = λ v f.
 announced_some line name rest (Some t) h e text =
     let is : line ≡ json_announcement t = h.0 ∙ ap (λ (r : List ℕ). announcement_front ++ (escaped name ++ 34 ∷ r)) e ∙ sym (announcement_is name) ∙ ap json_announcement (sym text.0) in
     ((subst IsUtf8 (sym text.0) text.1, is), λ v f. (h.1 v json_end (f.1 ∙ announcement_is v)).0 ∙ sym text.0)
-
-pub announced_none : (line v : List ℕ) → ReadsNamed announcement_front line None → IsAnnouncement v line → ⊥
-announced_none line v h f = h v json_end (f.1 ∙ announcement_is v)
-
-pub announced_other : (line name rest v : List ℕ) → ReadsNamed announcement_front line (Some (name, rest)) → rest ≢ json_end → IsAnnouncement v line → ⊥
-announced_other line name rest v h ne f = ne (sym (h.1 v json_end (f.1 ∙ announcement_is v)).1)
 
 -- what a text made of bytes shows
 pub mapped : {A : Type 0} (o : Option A) (f : A → List ℕ) (bytes : List ℕ) → MatchOption o (IsUtf8 bytes → ⊥) (λ text. (f text ≡ bytes) × IsUtf8 bytes)
@@ -62,12 +56,6 @@ title_some line rest end n e h last = (
   λ v f. (h.3 v json_end f.0 (λ a b. omega arith) (title_rest line rest v e f.1)).0,
 )
 
-pub title_other : (line rest end : List ℕ) (n v : ℕ) → line ≡ title_front ++ rest → ReadsNumber rest (Some (n, end)) → end ≢ json_end → IsTitle v line → ⊥
-title_other line rest end n v e h ne f = ne (sym (h.3 v json_end f.0 (λ a b. omega arith) (title_rest line rest v e f.1)).1)
-
-pub title_none : (line rest : List ℕ) (v : ℕ) → line ≡ title_front ++ rest → ReadsNumber rest None → IsTitle v line → ⊥
-title_none line rest v e h f = h v json_end f.0 (λ a b. omega arith) (title_rest line rest v e f.1)
-
 -- ---- the message of a failure
 
 abbrev pub failure_front : List ℕ
@@ -96,12 +84,3 @@ failure_some text st (Some m) message h e t = (
   (subst IsUtf8 (sym t.0) t.1, h.0 ∙ ap (λ (x : List ℕ). failure_front ++ (escaped x ++ 34 ∷ json_end)) (e ∙ ap said (sym t.0)) ∙ sym (failure_is m)),
   λ v f. said_one v message ((h.1 (said v) json_end (f.1 ∙ failure_is v)).0 ∙ e) ∙ sym t.0,
 )
-
-pub failure_none : (text v : List ℕ) → ReadsNamed failure_front text None → IsFailure v text → ⊥
-failure_none text v h f = h (said v) json_end (f.1 ∙ failure_is v)
-
-pub failure_other : (text st end v : List ℕ) → ReadsNamed failure_front text (Some (st, end)) → end ≢ json_end → IsFailure v text → ⊥
-failure_other text st end v h ne f = ne (sym (h.1 (said v) json_end (f.1 ∙ failure_is v)).1)
-
-pub failure_unsaid : (text st end v : List ℕ) → ReadsNamed failure_front text (Some (st, end)) → ((m : List ℕ) → st ≢ said m) → IsFailure v text → ⊥
-failure_unsaid text st end v h none f = none v (sym (h.1 (said v) json_end (f.1 ∙ failure_is v)).0)

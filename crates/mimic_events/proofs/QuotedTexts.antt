@@ -3,10 +3,10 @@ use Rattle.std.proofs.Common.{◌≡◌, ◌≢◌, ℕ, ◌<◌, ◌≤◌, Lis
 use Rattle.std.specs.List.{flat_map}
 use Rattle.std.proofs.lemmas.List.{append-nil, nil_from_length, take_all}
 use Rattle.std.proofs.lemmas.List.Concat.{flat_map-append}
-use Rattle.libtest_mimic.specs.Escape.{ArePlain, escape, escaped}
+use Rattle.mimic_text.specs.Escape.{ArePlain, escape, escaped}
 use Rattle.mimic_text.proofs.Escapes.{escaped-plain}
-use Rattle.mimic_events.specs.Parts.{candidate_of, ReadsEscaped}
-use Rattle.mimic_events.specs.Parts.{Follows}
+use Rattle.mimic_events.specs.Steps.{candidate_of, ReadsEscaped}
+use Rattle.mimic_events.specs.Steps.{Follows}
 use Rattle.mimic_events.proofs.Escapes.{again, one_split}
 use Rattle.mimic_events.proofs.Fronts.{Follows-then, Follows-stop}
 

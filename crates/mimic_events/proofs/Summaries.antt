@@ -1,69 +1,76 @@
 -- The line that ends a report.
-use Rattle.std.proofs.Common.{◌≡◌, ℕ, List, [], ◌∷◌, ◌++◌, Some, None, map, decimal, refl, sym, ap, ◌∙◌, arith}
+use Rattle.std.proofs.Common.{◌≡◌, ℕ, List, [], ◌∷◌, ◌++◌, Option, Some, None, map, decimal, refl, sym, ap, ◌∙◌, arith}
 use Rattle.std.specs.List.{concat}
 use Rattle.std.proofs.lemmas.List.{append_cancel_left, append_cancel_right}
 use Rattle.std.proofs.lemmas.List.Folds.{concat-append}
 use Rattle.mimic_trial.specs.declared.outcome.Outcome.{Outcome}
-use Rattle.libtest_mimic.specs.Count.{counts_of}
-use Rattle.libtest_mimic.specs.Json.{Entry, json_end, json_summary, summary_front, time_key}
-use Rattle.libtest_mimic.specs.Seconds.{exact_seconds}
+use Rattle.mimic_trial.specs.declared.outcome.conclusion.Conclusion.{Conclusion}
+use Rattle.mimic_trial.specs.Count.{counts_of}
+use Rattle.mimic_printer.specs.Json.{Entry, json_end, json_summary, summary_front, time_key}
+use Rattle.mimic_text.specs.Seconds.{exact_seconds}
 use Rattle.mimic_events.specs.declared.report.Row.{Row}
-use Rattle.mimic_events.specs.Contents.{entry_of}
-use Rattle.mimic_events.specs.Parts.{ReadsNumber}
+use Rattle.mimic_events.specs.Contents.{entry_read}
+use Rattle.mimic_events.specs.Steps.{IsTotals, ReadsNumber}
 use Rattle.mimic_events.specs.Reading.{Decodes, IsSeconds, IsSummary}
-
--- what follows the counts of outcomes
-abbrev pub rest_of : ℕ → ℕ → List ℕ
-rest_of x t = decimal x ++ (time_key ++ (exact_seconds t ++ json_end))
 
 abbrev pub outcomes : List Entry → List Outcome
 outcomes entries = map (λ entry. entry.outcome) entries
 
-summary_is : (os : List Outcome) (x t : ℕ) → json_summary (counts_of os x) t ≡ concat (summary_front (counts_of os 0)) ++ rest_of x t
-unfolding json_summary
-summary_is os x t = concat-append (summary_front (counts_of os 0)) (decimal x ∷ time_key ∷ exact_seconds t ∷ json_end ∷ [])
+-- ---- what follows the counts of outcomes
 
--- ---- what a summary line is, part by part
+abbrev pub totals_of : ℕ → ℕ → List ℕ
+totals_of x t = decimal x ++ (time_key ++ (exact_seconds t ++ json_end))
 
-pub summary_first : (entries : List Entry) (line : List ℕ) (v : ℕ × ℕ) → IsSummary entries v line → line ≡ concat (summary_front (counts_of (outcomes entries) 0)) ++ rest_of v.0 v.1
-summary_first entries line v h = h.2 ∙ summary_is (outcomes entries) v.0 v.1
-
-first_rest : (entries : List Entry) (line first : List ℕ) (v : ℕ × ℕ) → IsSummary entries v line → line ≡ concat (summary_front (counts_of (outcomes entries) 0)) ++ first → first ≡ rest_of v.0 v.1
-first_rest entries line first v h e = append_cancel_left (concat (summary_front (counts_of (outcomes entries) 0))) first (rest_of v.0 v.1) (sym e ∙ summary_first entries line v h)
-
-pub summary_no_number : (entries : List Entry) (line first : List ℕ) (v : ℕ × ℕ) → IsSummary entries v line → line ≡ concat (summary_front (counts_of (outcomes entries) 0)) ++ first → ReadsNumber first None → ⊥
-summary_no_number entries line first v h e read = read v.0 (time_key ++ (exact_seconds v.1 ++ json_end)) h.0 (λ a b. omega arith) (first_rest entries line first v h e)
-
-pub summary_second : (entries : List Entry) (line first second : List ℕ) (x : ℕ) (v : ℕ × ℕ) → IsSummary entries v line → line ≡ concat (summary_front (counts_of (outcomes entries) 0)) ++ first → ReadsNumber first (Some (x, second))
-    → (v.0 ≡ x) × (second ≡ time_key ++ (exact_seconds v.1 ++ json_end))
-summary_second entries line first second x v h e read =
-    let r = read.3 v.0 (time_key ++ (exact_seconds v.1 ++ json_end)) h.0 (λ a b. omega arith) (first_rest entries line first v h e) in
+-- behind the number of trials that were filtered out
+pub behind_number : (text rest : List ℕ) (x : ℕ) (v : ℕ × ℕ) → ReadsNumber text (Some (x, rest)) → IsTotals v text → (v.0 ≡ x) × (rest ≡ time_key ++ (exact_seconds v.1 ++ json_end))
+behind_number text rest x v read h =
+    let r = read.3 v.0 (time_key ++ (exact_seconds v.1 ++ json_end)) h.0 (λ a b. omega arith) h.2 in
     (r.0, sym r.1)
 
-pub summary_third : (entries : List Entry) (line first second third : List ℕ) (x : ℕ) (v : ℕ × ℕ) → IsSummary entries v line → line ≡ concat (summary_front (counts_of (outcomes entries) 0)) ++ first → ReadsNumber first (Some (x, second))
-    → second ≡ time_key ++ third → third ≡ exact_seconds v.1 ++ json_end
-summary_third entries line first second third x v h e read f =
-    append_cancel_left time_key third (exact_seconds v.1 ++ json_end) (sym f ∙ (summary_second entries line first second x v h e read).1)
+-- behind the key of the time
+pub behind_key : (text rest time : List ℕ) (x : ℕ) (v : ℕ × ℕ) → ReadsNumber text (Some (x, rest)) → rest ≡ time_key ++ time → IsTotals v text → time ≡ exact_seconds v.1 ++ json_end
+behind_key text rest time x v read e h = append_cancel_left time_key time (exact_seconds v.1 ++ json_end) (sym e ∙ (behind_number text rest x v read h).1)
 
-pub summary_time : (entries : List Entry) (line first second third time : List ℕ) (x : ℕ) (v : ℕ × ℕ) → IsSummary entries v line → line ≡ concat (summary_front (counts_of (outcomes entries) 0)) ++ first → ReadsNumber first (Some (x, second))
-    → second ≡ time_key ++ third → third ≡ time ++ json_end → IsSeconds v.1 time
-summary_time entries line first second third time x v h e read f g =
-    (h.1, append_cancel_right time (exact_seconds v.1) json_end (sym g ∙ summary_third entries line first second third x v h e read f))
+pub is_time : (text rest time spelled : List ℕ) (x : ℕ) (v : ℕ × ℕ) → ReadsNumber text (Some (x, rest)) → rest ≡ time_key ++ time → time ≡ spelled ++ json_end → IsTotals v text → IsSeconds v.1 spelled
+is_time text rest time spelled x v read e f h = (h.1, append_cancel_right spelled (exact_seconds v.1) json_end (sym f ∙ behind_key text rest time x v read e h))
 
-pub summary_found : (entries : List Entry) (line first second third time : List ℕ) (x t : ℕ) → line ≡ concat (summary_front (counts_of (outcomes entries) 0)) ++ first → ReadsNumber first (Some (x, second))
-    → second ≡ time_key ++ third → third ≡ time ++ json_end → Decodes IsSeconds time (Some t) → Decodes (IsSummary entries) line (Some (x, t))
-summary_found entries line first second third time x t e read f g d =
-    let front : List ℕ = concat (summary_front (counts_of (outcomes entries) 0)) in
-    let whole : line ≡ front ++ rest_of x t =
-    e ∙ ap (λ (y : List ℕ). front ++ y) (read.1 ∙ ap (λ (y : List ℕ). decimal x ++ y) (f ∙ ap (λ (y : List ℕ). time_key ++ y) (g ∙ ap (λ (y : List ℕ). y ++ json_end) d.0.1))) in (
-      (read.0, d.0.0, whole ∙ sym (summary_is (outcomes entries) x t)),
+pub totals_found : (text rest time spelled : List ℕ) (x t : ℕ) → ReadsNumber text (Some (x, rest)) → rest ≡ time_key ++ time → time ≡ spelled ++ json_end → Decodes IsSeconds spelled (Some t) → Decodes IsTotals text (Some (x, t))
+totals_found text rest time spelled x t read e f d =
+    let whole : text ≡ totals_of x t =
+    read.1 ∙ ap (λ (y : List ℕ). decimal x ++ y) (e ∙ ap (λ (y : List ℕ). time_key ++ y) (f ∙ ap (λ (y : List ℕ). y ++ json_end) d.0.1)) in (
+      (read.0, d.0.0, whole),
       λ v h.
-          let a = (summary_second entries line first second x v h e read).0 in
-          let b = d.1 v.1 (summary_time entries line first second third time x v h e read f g) in
+          let a = (behind_number text rest x v read h).0 in
+          let b = d.1 v.1 (is_time text rest time spelled x v read e f h) in
           rw (← a, ← b) refl,
     )
 
+-- ---- the whole line
+
+summary_is : (os : List Outcome) (x t : ℕ) → json_summary (counts_of os x) t ≡ concat (summary_front (counts_of os 0)) ++ totals_of x t
+unfolding json_summary
+summary_is os x t = concat-append (summary_front (counts_of os 0)) (decimal x ∷ time_key ∷ exact_seconds t ∷ json_end ∷ [])
+
 -- the outcomes of entries are those of their rows
-pub outcomes-rows : (rows : List Row) → outcomes (map entry_of rows) ≡ map (λ (row : Row). row.outcome) rows
+outcomes-rows : (rows : List Row) → outcomes (map entry_read rows) ≡ map (λ (row : Row). row.outcome) rows
 outcomes-rows [] = refl
 outcomes-rows (row ∷ rows) = ap (λ (x : List Outcome). row.outcome ∷ x) (outcomes-rows rows)
+
+-- a summary of these rows, by their counts
+pub summary_front_is : (rows : List Row) (counts : Conclusion) (line : List ℕ) (v : ℕ × ℕ) → counts ≡ counts_of (map (λ (row : Row). row.outcome) rows) 0 → IsSummary (map entry_read rows) v line
+    → line ≡ concat (summary_front counts) ++ totals_of v.0 v.1
+summary_front_is rows counts line v e h =
+    h.2 ∙ summary_is (outcomes (map entry_read rows)) v.0 v.1
+    ∙ ap (λ (c : Conclusion). concat (summary_front c) ++ totals_of v.0 v.1) (ap (λ (os : List Outcome). counts_of os 0) (outcomes-rows rows) ∙ sym e)
+
+-- what is read behind the counts is what the line says
+pub summary_read : (rows : List Row) (counts : Conclusion) (line rest : List ℕ) (o : Option (ℕ × ℕ)) → counts ≡ counts_of (map (λ (row : Row). row.outcome) rows) 0 → line ≡ concat (summary_front counts) ++ rest
+    → Decodes IsTotals rest o → Decodes (IsSummary (map entry_read rows)) line o
+summary_read rows counts line rest None e f d = λ v h. d v (h.0, h.1, append_cancel_left (concat (summary_front counts)) rest (totals_of v.0 v.1) (sym f ∙ summary_front_is rows counts line v e h))
+summary_read rows counts line rest (Some found) e f d =
+    let same : counts ≡ counts_of (outcomes (map entry_read rows)) 0 = e ∙ ap (λ (os : List Outcome). counts_of os 0) (sym (outcomes-rows rows)) in
+    let whole : line ≡ json_summary (counts_of (outcomes (map entry_read rows)) found.0) found.1 =
+    f ∙ ap (λ (y : List ℕ). concat (summary_front counts) ++ y) d.0.2 ∙ ap (λ (c : Conclusion). concat (summary_front c) ++ totals_of found.0 found.1) same ∙ sym (summary_is (outcomes (map entry_read rows)) found.0 found.1) in (
+      (d.0.0, d.0.1, whole),
+      λ v h. d.1 v (h.0, h.1, append_cancel_left (concat (summary_front counts)) rest (totals_of v.0 v.1) (sym f ∙ summary_front_is rows counts line v e h)),
+    )

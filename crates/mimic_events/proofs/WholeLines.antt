@@ -1,7 +1,7 @@
 -- A text begins with one line at most.
 use Rattle.std.proofs.Common.{◌≡◌, ℕ, ◌<◌, length, List, [], ◌∷◌, ◌++◌, refl, sym, ap, ◌∙◌, append_assoc, arith}
 use Rattle.std.proofs.lemmas.List.{length-append}
-use Rattle.libtest_mimic.specs.Json.{HasNoEnd, IsLine}
+use Rattle.mimic_printer.specs.Json.{HasNoEnd, IsLine}
 
 one_front : (a b x y : List ℕ) → HasNoEnd a → HasNoEnd b → a ++ 10 ∷ x ≡ b ++ 10 ∷ y → (a ≡ b) × (x ≡ y)
 one_front [] [] x y ha hb e = (refl, cc)

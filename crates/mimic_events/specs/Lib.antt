@@ -1,5 +1,4 @@
 pub mod Contents
-pub mod Parts
+pub mod Machine
 pub mod Reading
-pub mod Run
 pub mod Steps

@@ -1,10 +1,10 @@
 -- What readers answer, and what they read.
 use Rattle.std.specs.Prelude.{◌≡◌, ℕ, ◌<◌, ◌^◌, List, map, decimal, Option, Some, None, IsUtf8}
 use Rattle.mimic_trial.specs.declared.outcome.Outcome.{Outcome}
-use Rattle.libtest_mimic.specs.Count.{counts_of}
-use Rattle.libtest_mimic.specs.Json.{Entry, json_title, json_announcement, json_outcome, json_summary}
-use Rattle.libtest_mimic.specs.Promise.{FitsTypes}
-use Rattle.libtest_mimic.specs.Seconds.{exact_seconds}
+use Rattle.mimic_trial.specs.Count.{counts_of}
+use Rattle.mimic_printer.specs.Json.{Entry, json_title, json_announcement, json_outcome, json_summary}
+use Rattle.mimic_trial.specs.Promise.{FitsTypes}
+use Rattle.mimic_text.specs.Seconds.{exact_seconds}
 
 -- what was found is the one value that the text spells; where nothing was found, the text spells none
 abbrev pub Decodes : {V : Type 0} → (V → List ℕ → Type 0) → List ℕ → Option V → Type 0

@@ -7,12 +7,10 @@ mod numbers;
 mod progress;
 mod quoted;
 mod report;
-mod run;
 mod strip;
 mod summary;
 
 pub use report::{Report, Row, read_report};
-pub use run::run_to_report;
 
 #[cfg(test)]
 mod tests;

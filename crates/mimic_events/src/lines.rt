@@ -1,12 +1,12 @@
 //! The lines of a report, each with its line end.
 ghost use Rattle.std.specs.Prelude.{◌≡◌, ◌≢◌, ◌++◌, ℕ, List, IfOk, MatchOption, IsUtf8, codes, option_map, string_bytes, true, false};
-ghost use Rattle.mimic_events.specs.Parts.{IsFailure, IsTail};
+ghost use Rattle.mimic_events.specs.Steps.{IsFailure, IsTail};
 ghost use Rattle.mimic_events.specs.Reading.{Decodes, IsTitle, IsAnnouncement, IsOutcome};
 
 use crate::numbers::number_at;
 use crate::quoted::{after_quoted, quoted_after};
 use crate::strip::{after, before};
-use libtest_mimic::{Failed, Measurement, Outcome};
+use mimic_trial::{Failed, Measurement, Outcome};
 use std::alloc::{AllocError, Global};
 
 // The number of rows that a title line says.

@@ -1,9 +1,9 @@
 //! Numbers and seconds, as a report spells them.
 ghost use Rattle.std.specs.Prelude.{◌≡◌, ◌<◌, ◌≤◌, ◌+◌, ◌*◌, ◌^◌, length, option_map, SomeIff};
 ghost use Rattle.std.specs.Str.Parse.{IsNumeral, digits_value};
-ghost use Rattle.libtest_mimic.specs.Seconds.{IsFraction, IsRest};
+ghost use Rattle.mimic_text.specs.Seconds.{IsFraction, IsRest};
 ghost use Rattle.mimic_events.specs.Reading.{Decodes, IsNumber, IsSeconds};
-ghost use Rattle.mimic_events.specs.Parts.{SplitsDigits, ReadsNumber};
+ghost use Rattle.mimic_events.specs.Steps.{SplitsDigits, ReadsNumber};
 
 use itoa::Buffer;
 use std::str;

@@ -1,23 +1,23 @@
 //! How far the lines of a report were read.
-ghost use Rattle.std.specs.Prelude.{◌≡◌, ◌++◌, IfOk, MatchOption};
-ghost use Rattle.mimic_events.specs.Steps.{IsLine, HasNoEnd, Takes, state_of, next_of, row_next};
+ghost use Rattle.std.specs.Prelude.{◌≡◌, ◌++◌, MatchOption};
+ghost use Rattle.mimic_events.specs.Machine.{IsLine, HasNoEnd};
 
 use crate::lines::{announced, ended, titled};
-use crate::report::Row;
+use crate::report::{Report, Row};
 use crate::summary::summed;
 use memchr::memchr;
 use std::alloc::{AllocError, Global};
 use std::mem;
 
-// Which line is next. A title's number of rows is kept until all rows have come.
+// Which line comes next.
 #[derive(Debug, Drop)]
-pub(crate) enum Stage {
+enum Stage {
     // The title.
     Title,
     // The announcement of a row, or the summary where all rows have come.
-    Row(u64),
+    Row,
     // The outcome of the row of this name.
-    Outcome(u64, String),
+    Outcome(String),
     // None: the summary said how many trials were filtered out, and the nanoseconds.
     Over(u64, u64),
 }
@@ -25,68 +25,80 @@ pub(crate) enum Stage {
 // What the lines so far said.
 #[derive(Debug, Drop)]
 pub(crate) struct Progress {
-    pub(crate) stage: Stage,
-    pub(crate) rows: Vec<Row>,
+    stage: Stage,
+    // The number of rows that the title announced, and 0 before it.
+    announced: u64,
+    // The rows that have come.
+    rows: Vec<Row>,
 }
 
-// Takes the next line, and says whether it belongs there. Where it doesn't, nothing changes.
-pub(crate) fn take_line(
-    alloc: Global,
-    progress: &mut Progress,
-    line: &[u8],
-) -> Result<bool, AllocError>
-    ensures { IfOk result (λ taken. Takes taken (state_of progress.old) line.now (state_of progress.new)) }
-{
-    match &progress.stage {
-        Stage::Title => {
-            let Some(count) = titled(line) else {
-                return Ok(false);
-            };
-            progress.stage = Stage::Row(count);
-            Ok(true)
+impl Progress {
+    ghost use Rattle.std.specs.Prelude.{◌≡◌, IfOk, option_map};
+    ghost use Rattle.mimic_events.specs.Contents.{contents_read};
+    ghost use Rattle.mimic_events.specs.Machine.{IsReadOut, Takes, start, state_of};
+
+    // No line was read.
+    pub(crate) fn new(alloc: Global) -> Self
+        ensures { state_of result ≡ start }
+    {
+        Progress {
+            stage: Stage::Title,
+            announced: 0,
+            rows: Vec::new(alloc),
         }
-        Stage::Row(count) => {
-            let count = *count;
-            let taken = take_between_rows(alloc, progress, count, line)?;
-            Ok(taken)
-        }
-        Stage::Outcome(count, name) => {
-            let count = *count;
-            let Some(outcome) = ended(alloc, name.as_str(), line)? else {
-                return Ok(false);
-            };
-            progress.rows.reserve(1)?;
-            if let Stage::Outcome(_, name) = mem::replace(&mut progress.stage, Stage::Row(count)) {
-                progress.rows.push(Row { name, outcome })?;
+    }
+
+    // Takes the next line, and says whether it belongs there. Where it doesn't, nothing changes.
+    pub(crate) fn take_line(&mut self, alloc: Global, line: &[u8]) -> Result<bool, AllocError>
+        ensures { IfOk result (λ taken. Takes taken (state_of self.old) line.now (state_of self.new)) }
+    {
+        match &self.stage {
+            Stage::Title => {
+                let Some(count) = titled(line) else {
+                    return Ok(false);
+                };
+                self.announced = count;
+                self.stage = Stage::Row;
             }
-            Ok(true)
+            Stage::Row if (self.rows.len() as u64) < self.announced => {
+                let Some(name) = announced(alloc, line)? else {
+                    return Ok(false);
+                };
+                self.stage = Stage::Outcome(name);
+            }
+            Stage::Row => {
+                let Some((filtered_out, nanos)) = summed(&self.rows, line) else {
+                    return Ok(false);
+                };
+                self.stage = Stage::Over(filtered_out, nanos);
+            }
+            Stage::Outcome(name) => {
+                let Some(outcome) = ended(alloc, name.as_str(), line)? else {
+                    return Ok(false);
+                };
+                self.rows.reserve(1)?;
+                if let Stage::Outcome(name) = mem::replace(&mut self.stage, Stage::Row) {
+                    self.rows.push(Row { name, outcome })?;
+                }
+            }
+            Stage::Over(_, _) => return Ok(false),
         }
-        Stage::Over(_, _) => Ok(false),
+        Ok(true)
     }
-}
 
-// Takes the next line where it announces a row, or ends a report of all its rows, which are this many.
-fn take_between_rows(
-    alloc: Global,
-    progress: &mut Progress,
-    count: u64,
-    line: &[u8],
-) -> Result<bool, AllocError>
-    requires { next_of progress.old.stage ≡ row_next count }
-    ensures { IfOk result (λ taken. Takes taken (state_of progress.old) line.now (state_of progress.new)) }
-{
-    if (progress.rows.len() as u64) < count {
-        let Some(name) = announced(alloc, line)? else {
-            return Ok(false);
-        };
-        progress.stage = Stage::Outcome(count, name);
-    } else {
-        let Some((filtered_out, nanos)) = summed(&progress.rows, line) else {
-            return Ok(false);
-        };
-        progress.stage = Stage::Over(filtered_out, nanos);
+    // What the lines said, where the summary was the last of them.
+    pub(crate) fn into_report(self) -> Option<Report>
+        ensures { IsReadOut (state_of self) (option_map contents_read result) }
+    {
+        match self.stage {
+            Stage::Over(filtered_out, nanos) => Some(Report {
+                rows: self.rows,
+                filtered_out,
+                nanos,
+            }),
+            _ => None,
+        }
     }
-    Ok(true)
 }
 
 // The first line, with its end, and what follows it.

@@ -1,7 +1,7 @@
 //! Texts between the quotes of a JSON string.
 ghost use Rattle.std.specs.Prelude.{◌≡◌, ◌++◌, ◌∷◌, ◌<◌, [], IfOk, option_map};
-ghost use Rattle.libtest_mimic.specs.Escape.{ArePlain, escape, escaped};
-ghost use Rattle.mimic_events.specs.Parts.{Follows, named_of, control_of, candidate_of, Splits, ReadsEscaped, ReadsQuoted, ReadsNamed};
+ghost use Rattle.mimic_text.specs.Escape.{ArePlain, escape, escaped};
+ghost use Rattle.mimic_events.specs.Steps.{Follows, named_of, control_of, candidate_of, ReadsByte, ReadsEscaped, ReadsQuoted, ReadsNamed};
 
 use crate::strip::after;
 use mimic_text::{escape_byte, next_escape};
@@ -94,7 +94,7 @@ fn escaped_at(alloc: Global, bytes: &[u8]) -> Result<(Vec<u8>, &[u8]), AllocErro
 
 // The byte whose spelling the text begins with, and what follows.
 fn unescape(text: &[u8]) -> Option<(u8, &[u8])>
-    ensures { Splits escape text.now (option_map (λ found. (found.0, found.1.now)) result) }
+    ensures { ReadsByte text.now (option_map (λ found. (found.0, found.1.now)) result) }
 {
     let byte = candidate(text);
     let rest = after_spelling(text, byte)?;
@@ -102,7 +102,7 @@ fn unescape(text: &[u8]) -> Option<(u8, &[u8])>
 }
 
 // The byte that the spelling at the front would be of, whether or not it is spelled so.
-#[tactic(auto, unfolding(crate::specs::Parts::candidate_of, crate::specs::Parts::after_backslash, crate::specs::Parts::after_u))]
+#[tactic(auto, unfolding(crate::specs::Steps::candidate_of, crate::specs::Steps::after_backslash, crate::specs::Steps::after_u))]
 fn candidate(text: &[u8]) -> u8
     ensures { result ≡ candidate_of text.now }
 {

@@ -1,13 +1,12 @@
 //! Reports, as they are read back.
 ghost use Rattle.std.specs.Prelude.{◌≡◌, IfOk, map, option_map};
-ghost use Rattle.libtest_mimic.specs.Count.{counts_of};
-ghost use Rattle.mimic_events.specs.Contents.{contents_of, Spells};
+ghost use Rattle.mimic_trial.specs.Count.{counts_of};
+ghost use Rattle.mimic_events.specs.Contents.{contents_read, Spells};
 ghost use Rattle.mimic_events.specs.Reading.{Decodes};
-ghost use Rattle.mimic_events.specs.Steps.{state_of, IsReadOut};
 
 use crate::counts::counts_of_rows;
-use crate::progress::{Progress, Stage, first_line, take_line};
-use libtest_mimic::{Conclusion, Outcome};
+use crate::progress::{Progress, first_line};
+use mimic_trial::{Conclusion, Outcome};
 use std::alloc::{AllocError, Global};
 
 /// What a report tells of one trial.
@@ -45,15 +44,12 @@ impl Report {
 /// and totals that are not those of the rows are all no report.
 pub fn read_report(alloc: Global, bytes: &[u8]) -> Result<Option<Report>, AllocError>
     // The bytes are the report of what was found and of nothing else; where nothing was found, they are no report.
-    ensures { IfOk result (λ found. Decodes Spells bytes.now (option_map contents_of found)) }
+    ensures { IfOk result (λ found. Decodes Spells bytes.now (option_map contents_read found)) }
 {
-    let mut progress = Progress {
-        stage: Stage::Title,
-        rows: Vec::new(alloc),
-    };
+    let mut progress = Progress::new(alloc);
     let mut rest = bytes;
     while let Some((line, after)) = first_line(rest) {
-        if !take_line(alloc, &mut progress, line)? {
+        if !progress.take_line(alloc, line)? {
             return Ok(None);
         }
         rest = after;
@@ -61,20 +57,5 @@ pub fn read_report(alloc: Global, bytes: &[u8]) -> Result<Option<Report>, AllocE
     if !rest.is_empty() {
         return Ok(None);
     }
-    Ok(report_of(progress))
-}
-
-// What the lines said, where the summary was the last of them.
-fn report_of(progress: Progress) -> Option<Report>
-    ensures { IsReadOut (state_of progress) (option_map contents_of result) }
-{
-    let Progress { stage, rows } = progress;
-    match stage {
-        Stage::Over(filtered_out, nanos) => Some(Report {
-            rows,
-            filtered_out,
-            nanos,
-        }),
-        _ => None,
-    }
+    Ok(progress.into_report())
 }

@@ -1,11 +1,24 @@
 //! The two ends of a text.
-ghost use Rattle.std.specs.Prelude.{◌≡◌, ◌≢◌, ◌++◌, ℕ, List, MatchOption};
+ghost use Rattle.std.specs.Prelude.{◌≡◌, ◌≢◌, ◌++◌, ℕ, List, MatchOption, map};
+ghost use Rattle.std.specs.List.{concat};
+ghost use Rattle.mimic_events.specs.Steps.{Follows};
 
 // What follows the front, where the text begins with it.
 pub(crate) fn after<'a>(text: &'a [u8], front: &[u8]) -> Option<&'a [u8]>
     ensures { MatchOption result ((rest : List ℕ) → text.now ≢ front.now ++ rest) (λ rest. text.now ≡ front.now ++ rest.now) }
 {
     text.strip_prefix(front)
+}
+
+// What follows these fronts, where the text begins with them, one after another.
+pub(crate) fn after_all<'a>(text: &'a [u8], fronts: &[&[u8]]) -> Option<&'a [u8]>
+    ensures { Follows (concat (map (λ front. front.now) fronts.now)) text.now result }
+{
+    let mut rest = text;
+    for front in fronts {
+        rest = after(rest, front)?;
+    }
+    Some(rest)
 }
 
 // What stands before the back, where the text ends with it.

@@ -1,23 +1,30 @@
 //! The line that ends a report.
-ghost use Rattle.std.specs.Prelude.{◌≡◌, ◌++◌, List, ℕ, decimal, map};
+ghost use Rattle.std.specs.Prelude.{◌≡◌, map};
 ghost use Rattle.std.specs.List.{concat};
-ghost use Rattle.libtest_mimic.specs.Json.{json_verdict, summary_front};
-ghost use Rattle.mimic_events.specs.Contents.{entry_of};
-ghost use Rattle.mimic_events.specs.Parts.{Follows};
+ghost use Rattle.mimic_printer.specs.Json.{json_verdict, summary_front};
+ghost use Rattle.mimic_events.specs.Contents.{entry_read};
+ghost use Rattle.mimic_events.specs.Steps.{Follows, IsTotals};
 ghost use Rattle.mimic_events.specs.Reading.{Decodes, IsSummary};
 
 use crate::counts::counts_of_rows;
 use crate::numbers::{number_at, seconds};
 use crate::report::Row;
-use crate::strip::{after, before};
+use crate::strip::{after, after_all, before};
 use itoa::Buffer;
-use libtest_mimic::Conclusion;
+use mimic_trial::Conclusion;
 
 // The number of trials that were filtered out and the nanoseconds, of a summary line of these rows.
 pub(crate) fn summed(rows: &[Row], line: &[u8]) -> Option<(u64, u64)>
-    ensures { Decodes (IsSummary (map entry_of rows.now)) line.now result }
+    ensures { Decodes (IsSummary (map entry_read rows.now)) line.now result }
 {
-    let rest = after_counts(line, &counts_of_rows(rows, 0))?;
+    // How many were filtered out is told behind these counts.
+    totals(after_counts(line, &counts_of_rows(rows, 0))?)
+}
+
+// The number of trials that were filtered out and the nanoseconds, from what follows the counts of outcomes.
+fn totals(rest: &[u8]) -> Option<(u64, u64)>
+    ensures { Decodes IsTotals rest.now result }
+{
     let (filtered_out, rest) = number_at(rest)?;
     let rest = after(rest, br#", "exec_time": "#)?;
     let nanos = seconds(before(rest, b" }\n")?)?;
@@ -28,21 +35,22 @@ pub(crate) fn summed(rows: &[Row], line: &[u8]) -> Option<(u64, u64)>
 fn after_counts<'a>(line: &'a [u8], counts: &Conclusion) -> Option<&'a [u8]>
     ensures { Follows (concat (summary_front counts.now)) line.now result }
 {
-    let rest = after(line, br#"{ "type": "suite", "event": ""#)?;
-    let rest = after(rest, verdict(counts).as_bytes())?;
-    let rest = after_count(rest, br#"", "passed": "#, counts.num_passed)?;
-    let rest = after_count(rest, br#", "failed": "#, counts.num_failed)?;
-    let rest = after_count(rest, br#", "ignored": "#, counts.num_ignored)?;
-    let rest = after_count(rest, br#", "measured": "#, counts.num_measured)?;
-    after(rest, br#", "filtered_out": "#)
-}
-
-// What follows a label and this number, where the text begins with them.
-fn after_count<'a>(text: &'a [u8], label: &[u8], count: u64) -> Option<&'a [u8]>
-    ensures { Follows (label.now ++ decimal count) text.now result }
-{
-    let rest = after(text, label)?;
-    after(rest, Buffer::new().format(count).as_bytes())
+    after_all(
+        line,
+        &[
+            br#"{ "type": "suite", "event": ""#,
+            verdict(counts).as_bytes(),
+            br#"", "passed": "#,
+            Buffer::new().format(counts.num_passed).as_bytes(),
+            br#", "failed": "#,
+            Buffer::new().format(counts.num_failed).as_bytes(),
+            br#", "ignored": "#,
+            Buffer::new().format(counts.num_ignored).as_bytes(),
+            br#", "measured": "#,
+            Buffer::new().format(counts.num_measured).as_bytes(),
+            br#", "filtered_out": "#,
+        ],
+    )
 }
 
 // Whether the whole run failed, in a word.

@@ -1,19 +1,9 @@
 //! What no clause says: that reports are read where memory is ample, and what the definition of a report holds and refuses.
-//! Expected values are worked by hand from the format's rules.
-mod back;
-
+//! Expected values are worked by hand from the format's rules. The report of a run is read back in `mimic_readback`.
 use crate::{Report, Row, read_report};
-use libtest_mimic::{Conclusion, Failed, Measurement, Outcome};
+use mimic_trial::{Conclusion, Failed, Measurement, Outcome};
 use std::alloc::Global;
 use std::test::Fail;
-
-const TWO_ROWS: &str = r#"{ "type": "suite", "event": "started", "test_count": 2 }
-{ "type": "test", "event": "started", "name": "succeeding_test" }
-{ "type": "test", "name": "succeeding_test", "event": "ok" }
-{ "type": "test", "event": "started", "name": "failing_test" }
-{ "type": "test", "name": "failing_test", "event": "failed", "stdout": "Error: \"Woops\"\n" }
-{ "type": "suite", "event": "failed", "passed": 1, "failed": 1, "ignored": 0, "measured": 0, "filtered_out": 0, "exec_time": 0 }
-"#;
 
 const NO_ROWS: &str = r#"{ "type": "suite", "event": "started", "test_count": 0 }
 { "type": "suite", "event": "ok", "passed": 0, "failed": 0, "ignored": 0, "measured": 0, "filtered_out": 0, "exec_time": 0 }
@@ -48,31 +38,6 @@ fn row(alloc: Global, name: &str, outcome: Outcome) -> Result<Row, Fail> {
 fn failed(alloc: Global, message: &str) -> Result<Outcome, Fail> {
     let message = String::from_str(alloc, message)?;
     Ok(Outcome::Failed(Failed::with_message(message)))
-}
-
-#[test]
-fn reads_two_rows(rt: HostRuntime) -> Result<(), Fail> {
-    let alloc = rt.alloc();
-    let report = read_report(alloc, TWO_ROWS.as_bytes())?.ok_or("no report")?;
-    let rows = vec![in alloc;
-        row(alloc, "succeeding_test", Outcome::Passed)?,
-        row(alloc, "failing_test", failed(alloc, "Woops")?)?,
-    ]?;
-    let counts = Conclusion {
-        num_filtered_out: 0,
-        num_passed: 1,
-        num_failed: 1,
-        num_ignored: 0,
-        num_measured: 0,
-    };
-    assert!(rt; report.counts() == counts);
-    let want = Report {
-        rows,
-        filtered_out: 0,
-        nanos: 0,
-    };
-    assert!(rt; report == want);
-    Ok(())
 }
 
 #[test]
@@ -130,69 +95,68 @@ fn reads_numbers(rt: HostRuntime) -> Result<(), Fail> {
     Ok(())
 }
 
-// Parts of the report of two rows, and what is no report in their place.
+// Parts of the report of every outcome, and what is no report in their place.
 #[test]
 fn refuses_other_texts(rt: HostRuntime) -> Result<(), Fail> {
     let alloc = rt.alloc();
     for (old, new) in [
         // Whole lines, and what stands before, between and behind them.
-        (TWO_ROWS, ""),
-        ("\"exec_time\": 0 }\n", "\"exec_time\": 0 }"),
-        ("\"exec_time\": 0 }\n", "\"exec_time\": 0 }\n\n"),
+        (ALL_SORTS, ""),
+        (ALL_SORTS, "\n"),
+        ("\"exec_time\": 1.5 }\n", "\"exec_time\": 1.5 }"),
+        ("\"exec_time\": 1.5 }\n", "\"exec_time\": 1.5 }\n\n"),
         (
-            "\"exec_time\": 0 }\n",
-            "\"exec_time\": 0 }\n{ \"type\": \"suite\", \"event\": \"started\", \"test_count\": 0 }\n",
+            "\"exec_time\": 1.5 }\n",
+            "\"exec_time\": 1.5 }\n{ \"type\": \"suite\", \"event\": \"started\", \"test_count\": 0 }\n",
         ),
-        ("2 }\n", "2 }\r\n"),
-        ("2 }\n", "2 }\n\n"),
+        ("5 }\n", "5 }\r\n"),
+        ("5 }\n", "5 }\n\n"),
         ("{ \"type\": \"suite\"", " { \"type\": \"suite\""),
         ("{ \"type\": \"suite\"", "\u{feff}{ \"type\": \"suite\""),
         ("\"type\": \"suite\"", "\"type\":\"suite\""),
         // Numbers.
-        ("\"test_count\": 2", "\"test_count\": 02"),
-        ("\"test_count\": 2", "\"test_count\": +2"),
-        ("\"test_count\": 2", "\"test_count\": "),
-        ("\"test_count\": 2", "\"test_count\": 1"),
-        ("\"test_count\": 2", "\"test_count\": 3"),
-        ("\"test_count\": 2", "\"test_count\": 18446744073709551618"),
-        ("\"passed\": 1", "\"passed\": 2"),
-        ("\"ignored\": 0", "\"ignored\": 00"),
-        (
-            "\"filtered_out\": 0",
-            "\"filtered_out\": 18446744073709551616",
-        ),
-        ("\"exec_time\": 0", "\"exec_time\": 0.50"),
-        ("\"exec_time\": 0", "\"exec_time\": 0.0"),
-        ("\"exec_time\": 0", "\"exec_time\": 0."),
-        ("\"exec_time\": 0", "\"exec_time\": .5"),
-        ("\"exec_time\": 0", "\"exec_time\": 1e0"),
-        ("\"exec_time\": 0", "\"exec_time\": 1.5000000000"),
-        ("\"exec_time\": 0", "\"exec_time\": 0.0000000001"),
-        ("\"exec_time\": 0", "\"exec_time\": 18446744073.709551616"),
+        ("\"test_count\": 5", "\"test_count\": 05"),
+        ("\"test_count\": 5", "\"test_count\": +5"),
+        ("\"test_count\": 5", "\"test_count\": "),
+        ("\"test_count\": 5", "\"test_count\": 4"),
+        ("\"test_count\": 5", "\"test_count\": 6"),
+        ("\"test_count\": 5", "\"test_count\": 18446744073709551621"),
+        ("\"passed\": 0", "\"passed\": 1"),
+        ("\"failed\": 3", "\"failed\": 2"),
+        ("\"ignored\": 1", "\"ignored\": 01"),
+        ("\"measured\": 1", "\"measured\": 0"),
+        ("615, \"deviation\"", "616, \"deviation\""),
+        ("615, \"exec_time\"", "616, \"exec_time\""),
+        ("\"exec_time\": 1.5", "\"exec_time\": 1.50"),
+        ("\"exec_time\": 1.5", "\"exec_time\": 1.0"),
+        ("\"exec_time\": 1.5", "\"exec_time\": 1."),
+        ("\"exec_time\": 1.5", "\"exec_time\": .5"),
+        ("\"exec_time\": 1.5", "\"exec_time\": 1e0"),
+        ("\"exec_time\": 1.5", "\"exec_time\": 1.5000000000"),
+        ("\"exec_time\": 1.5", "\"exec_time\": 0.0000000001"),
+        ("\"exec_time\": 1.5", "\"exec_time\": 18446744073.709551616"),
         // Names, words and messages.
-        (
-            "\"name\": \"failing_test\", \"event\": \"failed\"",
-            "\"name\": \"failing_tests\", \"event\": \"failed\"",
-        ),
+        ("\"name\": \"b\", \"median\"", "\"name\": \"c\", \"median\""),
         (
             "\"event\": \"failed\", \"passed\"",
             "\"event\": \"ok\", \"passed\"",
         ),
-        ("\"event\": \"ok\" }", "\"event\": \"okay\" }"),
+        ("\"event\": \"ignored\" }", "\"event\": \"ignore\" }"),
         ("\\n\" }", "\\u000a\" }"),
         ("\\n\" }", "\n\" }"),
         ("\\n\" }", "\" }"),
         ("Error: ", "error: "),
-        ("Woops", "\\/"),
-        ("Woops", "\\u0041"),
-        ("Woops", "\\u001F"),
-        ("Woops", "\\u00"),
-        ("Woops", "\t"),
-        ("Woops", "\u{1f}"),
-        ("Woops", "\""),
-        ("Woops", "\\"),
+        ("\\b\\t", "\\u0008\\t"),
+        ("\\b\\t", "\\b\t"),
+        ("\\u001f", "\\u001F"),
+        ("\\u001f", "\\u00"),
+        ("\\u001f", "\u{1f}"),
+        ("\\u001f/", "\\u001f\\/"),
+        ("\\u001f/", "\\u0041"),
+        ("\\u001f/", "\""),
+        ("\\u001f/", "\\"),
     ] {
-        let text = altered(alloc, TWO_ROWS, old, new)?;
+        let text = altered(alloc, ALL_SORTS, old, new)?;
         assert!(rt;
             read_report(alloc, text.as_str().as_bytes())?.is_none(),
             "{new} for {old}"
@@ -206,13 +170,27 @@ fn refuses_names_that_are_no_text(rt: HostRuntime) -> Result<(), Fail> {
     let alloc = rt.alloc();
     for bad in [b"\xff".as_slice(), b"\xc3", b"\xed\xa0\x80", b"\xc0\xaf"] {
         let mut bytes = Vec::new(alloc);
-        for (at, part) in TWO_ROWS.split("succeeding_test").enumerate() {
+        for (at, part) in ALL_SORTS.split("\u{e9}").enumerate() {
             if at > 0 {
                 bytes.extend_from_slice(bad)?;
             }
             bytes.extend_from_slice(part.as_bytes())?;
         }
         assert!(rt; read_report(alloc, bytes.as_slice())?.is_none());
+    }
+    Ok(())
+}
+
+// A title may announce more rows than any memory holds: room is taken for the rows that come, and not for those.
+#[test]
+fn takes_no_room_for_rows_that_do_not_come(rt: HostRuntime) -> Result<(), Fail> {
+    let alloc = rt.alloc();
+    for (report, count) in [(NO_ROWS, "0 }"), (ALL_SORTS, "5 }")] {
+        let text = altered(alloc, report, count, "18446744073709551615 }")?;
+        let title = text.as_str().split_once("\n").ok_or("no line")?.0;
+        let title = format!(in alloc; "{title}\n")?;
+        assert!(rt; read_report(alloc, title.as_str().as_bytes())?.is_none());
+        assert!(rt; read_report(alloc, text.as_str().as_bytes())?.is_none());
     }
     Ok(())
 }

@@ -7,7 +7,7 @@ use Rattle.mimic_args.specs.declared.Arguments.{Arguments}
 use Rattle.mimic_trial.specs.declared.trial.Trial.{Trial}
 use Rattle.mimic_trial.specs.declared.outcome.conclusion.Conclusion.{Conclusion}
 use Rattle.mimic_printer.specs.declared.sink.Sink.{Sink}
-use Rattle.libtest_mimic.specs.declared.stopwatch.Readings.{Readings}
+use Rattle.libtest_mimic.specs.Stopwatch.{Watched}
 use Rattle.libtest_mimic.specs.declared.run.RunError.{RunError}
 use Rattle.libtest_mimic.specs.declared.run.RunError.TheVariants.{OutOfMemory, Write}
 use Rattle.libtest_mimic.specs.Count.{counts_of}
@@ -30,7 +30,7 @@ Put-got : (old : Option (List ℕ)) (new : Shown) (got : Option (List ℕ)) (tex
 Put-got old new got text k p = record { appended = Appends-kept old new.bytes got text p.appended k; faults = refl }
 
 module _ {R : Type 0} (gives : Gives R) (args : Arguments) (trials : List (Trial R)) where
-  Ran-got : (old : Option (List ℕ)) (new : Shown) (got : Option (List ℕ)) (watch : Readings) (c : Conclusion) → Keeps new.bytes got → Answered gives args trials (faultless old) new watch c → Ran gives args trials old got c
+  Ran-got : (old : Option (List ℕ)) (new : Shown) (got : Option (List ℕ)) (watch : Watched) (c : Conclusion) → Keeps new.bytes got → Answered gives args trials (faultless old) new watch c → Ran gives args trials old got c
   Ran-got old new got watch c k a = (
     watch,
     record {
@@ -61,7 +61,7 @@ module _ {R : Type 0} (gives : Gives R) (args : Arguments) (trials : List (Trial
   OnOk-here (Err e) K p k = absurd (false≢true p)
 
   -- the answer `r`, which is Ok only where the run answered that and its last bytes were handed on
-  pub Ran-settled : {T E : Type 0} (old : Option (List ℕ)) (first new : Shown) (got : Option (List ℕ)) (watch : Readings) (ran r : Result Conclusion RunError) (finished : Result T E)
+  pub Ran-settled : {T E : Type 0} (old : Option (List ℕ)) (first new : Shown) (got : Option (List ℕ)) (watch : Watched) (ran r : Result Conclusion RunError) (finished : Result T E)
       → first ≡ faultless old → OnOk finished (Keeps new.bytes got) → IfOk r (λ c. ran ≡ Ok c) → (IsOk r → IsOk finished)
       → (args.list ≡ true → IfOk ran (λ c. (c ≡ counts_of [] 0) × OfSuite args false trials (λ suite. Put first new (list_text suite.trials))))
       → (args.list ≡ false → IfOk ran (λ c. OfSuite args false trials (λ suite. ReportedInOrder gives suite first new watch c)))
@@ -81,7 +81,7 @@ module _ {R : Type 0} (gives : Gives R) (args : Arguments) (trials : List (Trial
 
   -- ---- a run of which a beginning was handed on
 
-  cases : (old new : Shown) (watch : Readings) (ran : Result Conclusion RunError)
+  cases : (old new : Shown) (watch : Watched) (ran : Result Conclusion RunError)
       → (args.list ≡ true → IfOk ran (λ c. (c ≡ counts_of [] 0) × OfSuite args false trials (λ suite. Put old new (list_text suite.trials))))
       → (args.list ≡ false → IfOk ran (λ c. OfSuite args false trials (λ suite. ReportedInOrder gives suite old new watch c)))
       → (args.list ≡ true → OnWriteFault ran (OfSuite args false trials (λ suite. Stopped old new (list_text suite.trials))))
@@ -91,7 +91,7 @@ module _ {R : Type 0} (gives : Gives R) (args : Arguments) (trials : List (Trial
   cases old new watch (Ok c) listed reported list_stopped report_stopped memory = record { listed = listed; reported = reported }
   cases old new watch (Err e) listed reported list_stopped report_stopped memory = record { list_stopped = list_stopped; report_stopped = report_stopped; memory = memory }
 
-  pub GotBeginning-from : (old : Option (List ℕ)) (first new : Shown) (got : Option (List ℕ)) (watch : Readings) (ran : Result Conclusion RunError) → first ≡ faultless old → HandsOn new.bytes got
+  pub GotBeginning-from : (old : Option (List ℕ)) (first new : Shown) (got : Option (List ℕ)) (watch : Watched) (ran : Result Conclusion RunError) → first ≡ faultless old → HandsOn new.bytes got
       → (args.list ≡ true → IfOk ran (λ c. (c ≡ counts_of [] 0) × OfSuite args false trials (λ suite. Put first new (list_text suite.trials))))
       → (args.list ≡ false → IfOk ran (λ c. OfSuite args false trials (λ suite. ReportedInOrder gives suite first new watch c)))
       → (args.list ≡ true → OnWriteFault ran (OfSuite args false trials (λ suite. Stopped first new (list_text suite.trials))))

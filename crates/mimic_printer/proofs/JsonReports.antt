@@ -9,17 +9,17 @@ use Rattle.mimic_printer.specs.declared.Printer.{Printer}
 use Rattle.mimic_trial.specs.Count.{counts_of}
 use Rattle.mimic_printer.specs.Json.{Contents, Entry, entry_lines, entry_of, json_report, json_summary, json_title}
 use Rattle.mimic_printer.specs.Report.{announcement_in, failures_in, outcome_in, report_text, summary_in, title_in}
-use Rattle.mimic_trial.specs.Row.{Row, outcomes_of}
+use Rattle.mimic_printer.specs.Row.{PrintedRow, outcomes_of}
 
 -- what a report of these rows tells
-abbrev pub contents_of : List Row → ℕ → ℕ → Contents
+abbrev pub contents_of : List PrintedRow → ℕ → ℕ → Contents
 contents_of rows filtered_out nanos = record { entries = map entry_of rows; filtered_out = filtered_out; nanos = nanos }
 
 -- the text of a row in a format
-abbrev row_in : FormatSetting → Printer → Row → List ℕ
+abbrev row_in : FormatSetting → Printer → PrintedRow → List ℕ
 row_in f p row = announcement_in f p row.label ++ outcome_in f p row.label row.outcome
 
-rows_as_entries : (p : Printer) (rows : List Row) → flat_map (row_in Json p) rows ≡ concat (flat_map entry_lines (map entry_of rows))
+rows_as_entries : (p : Printer) (rows : List PrintedRow) → flat_map (row_in Json p) rows ≡ concat (flat_map entry_lines (map entry_of rows))
 rows_as_entries p [] = refl
 rows_as_entries p (row ∷ rows) =
     let announced : List ℕ = announcement_in Json p row.label in
@@ -27,16 +27,16 @@ rows_as_entries p (row ∷ rows) =
     append_assoc announced ended (flat_map (row_in Json p) rows) ∙ ap (λ (l : List ℕ). announced ++ (ended ++ l)) (rows_as_entries p rows)
 
 -- the outcomes of rows are those of their entries
-pub same_outcomes : (rows : List Row) → outcomes_of rows ≡ map (λ (entry : Entry). entry.outcome) (map entry_of rows)
+pub same_outcomes : (rows : List PrintedRow) → outcomes_of rows ≡ map (λ (entry : Entry). entry.outcome) (map entry_of rows)
 same_outcomes [] = refl
 same_outcomes (row ∷ rows) = ap (λ l. row.outcome ∷ l) (same_outcomes rows)
 
 -- the parts of a report in a format
-abbrev parts_in : FormatSetting → Printer → List Row → ℕ → ℕ → List ℕ
+abbrev parts_in : FormatSetting → Printer → List PrintedRow → ℕ → ℕ → List ℕ
 parts_in f p rows filtered_out nanos =
     concat (title_in f (length rows) ∷ flat_map (row_in f p) rows ∷ failures_in f rows ∷ summary_in f p (counts_of (outcomes_of rows) filtered_out) nanos ∷ [])
 
-parts_in_json : (p : Printer) (rows : List Row) (filtered_out nanos : ℕ) → parts_in Json p rows filtered_out nanos ≡ json_report (contents_of rows filtered_out nanos)
+parts_in_json : (p : Printer) (rows : List PrintedRow) (filtered_out nanos : ℕ) → parts_in Json p rows filtered_out nanos ≡ json_report (contents_of rows filtered_out nanos)
 unfolding json_report
 parts_in_json p rows filtered_out nanos =
     let count : length rows ≡ length (map entry_of rows) = sym (length-map rows entry_of) in
@@ -45,6 +45,6 @@ parts_in_json p rows filtered_out nanos =
     (ap₂ (λ a b. a ++ b) (rows_as_entries p rows) (ap (λ os. json_summary (counts_of os filtered_out) nanos ++ []) (same_outcomes rows)) ∙ sym (concat-append lines _))
 
 -- a report in JSON is the one text of what it tells
-pub report_is_json : (p : Printer) (rows : List Row) (filtered_out nanos : ℕ) → p.format ≡ Json → report_text p rows filtered_out nanos ≡ json_report (contents_of rows filtered_out nanos)
+pub report_is_json : (p : Printer) (rows : List PrintedRow) (filtered_out nanos : ℕ) → p.format ≡ Json → report_text p rows filtered_out nanos ≡ json_report (contents_of rows filtered_out nanos)
 unfolding report_text
 report_is_json p rows filtered_out nanos h = ap (λ f. parts_in f p rows filtered_out nanos) h ∙ parts_in_json p rows filtered_out nanos

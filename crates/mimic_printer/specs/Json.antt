@@ -8,7 +8,7 @@ use Rattle.mimic_trial.specs.declared.outcome.conclusion.Conclusion.{Conclusion}
 use Rattle.mimic_trial.specs.Count.{counts_of, is_measured}
 use Rattle.mimic_text.specs.Escape.{escaped}
 use Rattle.mimic_trial.specs.Promise.{FitsTypes}
-use Rattle.mimic_trial.specs.Row.{Row}
+use Rattle.mimic_printer.specs.Row.{PrintedRow}
 use Rattle.mimic_text.specs.Seconds.{exact_seconds}
 
 -- ---- lines of a text (our own words)
@@ -124,7 +124,7 @@ pub record Entry : Type 0 where
   pub name : List ℕ
   pub outcome : Outcome
 
-abbrev pub entry_of : Row → Entry
+abbrev pub entry_of : PrintedRow → Entry
 entry_of row = record { name = row.label.name; outcome = row.outcome }
 
 -- the two lines of an entry

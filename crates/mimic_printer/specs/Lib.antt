@@ -1,6 +1,8 @@
 pub mod Sink
+pub mod Row
 pub mod Widths
 pub mod Json
 pub mod Report
 pub mod List
-pub mod Steps
+pub mod Failures
+pub mod Piece

@@ -9,7 +9,7 @@ use Rattle.mimic_trial.specs.declared.outcome.Outcome.TheVariants.{Passed, Faile
 use Rattle.mimic_trial.specs.declared.outcome.conclusion.Conclusion.{Conclusion}
 use Rattle.mimic_text.specs.Text.{padded, right_aligned, kind_part, grouped, nearest_hundredths, two_digits}
 use Rattle.mimic_printer.specs.Json.{json_announcement, json_outcome, json_summary, json_title}
-use Rattle.mimic_trial.specs.Row.{Label, Row, outcomes_of}
+use Rattle.mimic_printer.specs.Row.{Label, PrintedRow, outcomes_of}
 use Rattle.mimic_trial.specs.Count.{is_failed, counts_of}
 
 -- ---- colours
@@ -68,10 +68,8 @@ outcome_word (Measured m) = codes "bench"
 
 -- what stands behind the word: nothing, or what was measured, the average in eleven places
 abbrev pub outcome_tail : Outcome → List ℕ
-outcome_tail Passed = []
-outcome_tail (Failed f) = []
-outcome_tail Ignored = []
 outcome_tail (Measured m) = concat (codes ": " ∷ right_aligned 11 (grouped (decimal m.avg)) ∷ codes " ns/iter (+/- " ∷ grouped (decimal m.variance) ∷ codes ")" ∷ [])
+outcome_tail o = []
 
 -- the word between its colour's sequences, and what was measured
 unfoldable pub outcome_line : Printer → Outcome → List ℕ
@@ -98,10 +96,10 @@ outcome_text p l o = outcome_in p.format p l o
 
 -- ---- rows
 
-abbrev pub row_text : Printer → Row → List ℕ
+abbrev pub row_text : Printer → PrintedRow → List ℕ
 row_text p row = announcement_text p row.label ++ outcome_text p row.label row.outcome
 
-abbrev pub rows_text : Printer → List Row → List ℕ
+abbrev pub rows_text : Printer → List PrintedRow → List ℕ
 rows_text p rows = flat_map (row_text p) rows
 
 -- ---- failures
@@ -112,38 +110,34 @@ message_line (Some message) = message ++ codes "\n"
 
 -- what is written of the failure of a row, and nothing where it did not fail
 abbrev pub failure_text : Label → Outcome → List ℕ
-failure_text l Passed = []
 failure_text l (Failed f) = concat (codes "---- " ∷ l.name ∷ codes " ----\n" ∷ message_line f ∷ codes "\n" ∷ [])
-failure_text l Ignored = []
-failure_text l (Measured m) = []
+failure_text l o = []
 
 -- the line that names a row that failed, and nothing where it did not fail
 abbrev pub failed_name : Label → Outcome → List ℕ
-failed_name l Passed = []
 failed_name l (Failed f) = concat (codes "    " ∷ l.name ∷ codes "\n" ∷ [])
-failed_name l Ignored = []
-failed_name l (Measured m) = []
+failed_name l o = []
 
-abbrev pub row_failure : Row → List ℕ
+abbrev pub row_failure : PrintedRow → List ℕ
 row_failure row = failure_text row.label row.outcome
 
-abbrev pub row_failed_name : Row → List ℕ
+abbrev pub row_failed_name : PrintedRow → List ℕ
 row_failed_name row = failed_name row.label row.outcome
 
-abbrev pub failures_of : List Row → List ℕ
+abbrev pub failures_of : List PrintedRow → List ℕ
 failures_of rows = concat (codes "\nfailures:\n\n" ∷ flat_map row_failure rows ∷ codes "\nfailures:\n" ∷ flat_map row_failed_name rows ∷ [])
 
 -- the messages and then the names of the rows that failed, and nothing where none did
-unfoldable pub failures_if_any : List Row → List ℕ
+unfoldable pub failures_if_any : List PrintedRow → List ℕ
 failures_if_any rows = if list_any is_failed (outcomes_of rows) then failures_of rows else []
 
 -- JSON has the messages in the lines of the outcomes
-abbrev pub failures_in : FormatSetting → List Row → List ℕ
+abbrev pub failures_in : FormatSetting → List PrintedRow → List ℕ
 failures_in Pretty rows = failures_if_any rows
 failures_in Terse rows = failures_if_any rows
 failures_in Json rows = []
 
-abbrev pub failures_text : Printer → List Row → List ℕ
+abbrev pub failures_text : Printer → List PrintedRow → List ℕ
 failures_text p rows = failures_in p.format rows
 
 -- ---- summary
@@ -171,7 +165,7 @@ summary_text p c nanos = summary_in p.format p c nanos
 -- ---- the whole
 
 -- a report of these rows, beside so many trials that were filtered out, of a run that took so many nanoseconds
-unfoldable pub report_text : Printer → List Row → ℕ → ℕ → List ℕ
+unfoldable pub report_text : Printer → List PrintedRow → ℕ → ℕ → List ℕ
 report_text p rows filtered_out nanos = concat (
     title_text p (length rows) ∷ rows_text p rows ∷ failures_text p rows
     ∷ summary_text p (counts_of (outcomes_of rows) filtered_out) nanos ∷ [])

@@ -2,7 +2,7 @@
 use Rattle.std.specs.Prelude.{ℕ, max, List, [], ◌∷◌, map, length}
 use Rattle.std.specs.Str.{chars}
 use Rattle.mimic_text.specs.Text.{kind_part}
-use Rattle.mimic_trial.specs.Row.{Label}
+use Rattle.mimic_printer.specs.Row.{Label}
 
 -- the greatest of the numbers, and 0 for none
 abbrev pub widest : List ℕ → ℕ

@@ -1,86 +1,136 @@
 //! The failures at the end of a report: the messages of the trials that failed, and their names.
-ghost use Rattle.std.specs.Prelude.{◌≡◌, ◌-◌, ◌^◌, ◌<◌, map, length, All};
+ghost use Rattle.std.specs.Prelude.{◌≡◌, ◌-◌, ◌^◌, ◌<◌};
 ghost use Rattle.std.specs.List.{flat_map, list_any};
-ghost use Rattle.mimic_trial.specs.Places.{rows_at, placed_at, outcome_at};
 ghost use Rattle.mimic_trial.specs.Count.{is_failed};
-ghost use Rattle.mimic_printer.specs.Report.{failure_text, failed_name, failures_if_any, failures_of};
-ghost use Rattle.mimic_trial.specs.Row.{label_of};
+ghost use Rattle.mimic_printer.specs.Row.{label_of, outcomes_of, row_of};
+ghost use Rattle.mimic_printer.specs.Failures.{HasItsPlaces, row_part, rows_in};
+ghost use Rattle.mimic_printer.specs.Report.{failed_name, failure_text, failures_if_any, failures_of};
 ghost use Rattle.mimic_printer.specs.Sink.{Puts, faults_of};
-ghost use Rattle.mimic_printer.specs.Steps.{failure_at, failed_name_at};
 
 use crate::piece::{Piece, put_pieces};
 use crate::sink::{Sink, WriteFault};
 use mimic_trial::{Outcome, TestInfo};
 use std::io::Write;
 
-// Writes the failures at the places, and nothing where no trial failed there.
-pub(super) fn put_if_any<W: Write>(
-    sink: &mut Sink<W>,
-    infos: &[TestInfo],
-    order: &[usize],
-    outcomes: &[Outcome],
-) -> Result<(), WriteFault>
+/// The rows of which the failures are told.
+#[derive(Clone, Copy)]
+pub(crate) enum Rows<'a> {
+    /// These, one after another.
+    Kept(&'a [(TestInfo, Outcome)]),
+    /// Those at the places of `order`, in that order. Infos and outcomes are by place.
+    Placed {
+        infos: &'a [TestInfo],
+        order: &'a [usize],
+        outcomes: &'a [Outcome],
+    },
+}
+
+impl<'a> Rows<'a> {
+    ghost use Rattle.std.specs.Prelude.{◌≡◌, ◌<◌, slice_index_or};
+    ghost use Rattle.mimic_printer.specs.Row.{row_of};
+    ghost use Rattle.mimic_printer.specs.Failures.{HasItsPlaces, count_in, rows_in};
+
+    fn len(self) -> usize
+        ensures { result ≡ count_in self.entry }
+    {
+        match self {
+            Rows::Kept(rows) => rows.len(),
+            Rows::Placed { order, .. } => order.len(),
+        }
+    }
+
+    // The row of this number, counted from 0.
+    fn row(self, number: usize) -> (&'a TestInfo, &'a Outcome)
+        requires places { HasItsPlaces self }
+        requires within { number < count_in self }
+        ensures { row_of result.0.now result.1.now ≡ slice_index_or (rows_in self.entry) number (row_of result.0.now result.1.now) }
+    {
+        match self {
+            Rows::Kept(rows) => (&rows[number].0, &rows[number].1),
+            Rows::Placed {
+                infos,
+                order,
+                outcomes,
+            } => {
+                let place = order[number];
+                (&infos[place], &outcomes[place])
+            }
+        }
+    }
+}
+
+// What is told of a row that failed: first come all messages, and then all names.
+#[derive(Clone, Copy)]
+enum Part {
+    Message,
+    Name,
+}
+
+// Writes the failures of the rows, and nothing where none failed.
+pub(crate) fn put_if_any<W: Write>(sink: &mut Sink<W>, rows: Rows<'_>) -> Result<(), WriteFault>
     requires room { faults_of sink.old < 2 ^ 64 - 1 }
-    requires lengths { length infos.now ≡ length outcomes.now }
-    requires places { All (λ p. p < length infos.now) order.now }
-    ensures { Puts W.contents sink.old sink.new
-        (failures_if_any (rows_at (map label_of infos.now) (placed_at order.now outcomes.now))) result }
+    requires places { HasItsPlaces rows }
+    ensures { Puts W.contents sink.old sink.new (failures_if_any (rows_in rows.entry)) result }
 {
-    if any_failed(order, outcomes) {
-        put_failures(sink, infos, order, outcomes)
+    if any_failed(rows) {
+        put_failures(sink, rows)
     } else {
         Ok(())
     }
 }
 
-// Whether a trial failed at one of the places.
-fn any_failed(order: &[usize], outcomes: &[Outcome]) -> bool
-    requires { All (λ p. p < length outcomes.now) order.now }
-    ensures { result ≡ list_any (λ p. is_failed (outcome_at outcomes.now p)) order.now }
+// Whether one of the rows failed.
+#[tactic(auto, using(crate::proofs::FailedRows::count_rows))]
+fn any_failed(rows: Rows<'_>) -> bool
+    requires { HasItsPlaces rows }
+    ensures { result ≡ list_any is_failed (outcomes_of (rows_in rows.entry)) }
 {
-    for place in order {
-        if matches!(outcomes[*place], Outcome::Failed(_)) {
+    for number in 0..rows.len() {
+        if matches!(rows.row(number).1, Outcome::Failed(_)) {
             return true;
         }
     }
     false
 }
 
-// Writes the failures at the places, of which one at least is there.
-fn put_failures<W: Write>(
-    sink: &mut Sink<W>,
-    infos: &[TestInfo],
-    order: &[usize],
-    outcomes: &[Outcome],
-) -> Result<(), WriteFault>
+// Writes the failures of the rows, of which one at least failed.
+fn put_failures<W: Write>(sink: &mut Sink<W>, rows: Rows<'_>) -> Result<(), WriteFault>
     requires room { faults_of sink.old < 2 ^ 64 - 1 }
-    requires lengths { length infos.now ≡ length outcomes.now }
-    requires places { All (λ p. p < length infos.now) order.now }
-    ensures { Puts W.contents sink.old sink.new
-        (failures_of (rows_at (map label_of infos.now) (placed_at order.now outcomes.now))) result }
+    requires places { HasItsPlaces rows }
+    ensures { Puts W.contents sink.old sink.new (failures_of (rows_in rows.entry)) result }
 {
     sink.put(b"\nfailures:\n\n")?;
-    put_messages(sink, infos, order, outcomes)?;
+    put_each(sink, rows, Part::Message)?;
     sink.put(b"\nfailures:\n")?;
-    put_names(sink, infos, order, outcomes)
+    put_each(sink, rows, Part::Name)
 }
 
-fn put_messages<W: Write>(
-    sink: &mut Sink<W>,
-    infos: &[TestInfo],
-    order: &[usize],
-    outcomes: &[Outcome],
-) -> Result<(), WriteFault>
+// Puts the part of each row that failed.
+fn put_each<W: Write>(sink: &mut Sink<W>, rows: Rows<'_>, part: Part) -> Result<(), WriteFault>
     requires room { faults_of sink.old < 2 ^ 64 - 1 }
-    requires lengths { length infos.now ≡ length outcomes.now }
-    requires places { All (λ p. p < length infos.now) order.now }
-    ensures { Puts W.contents sink.old sink.new
-        (flat_map (failure_at (map label_of infos.now) outcomes.now) order.now) result }
+    requires places { HasItsPlaces rows }
+    ensures { Puts W.contents sink.old sink.new (flat_map (row_part part) (rows_in rows.entry)) result }
 {
-    for place in order {
-        put_message(sink, &infos[*place], &outcomes[*place])?;
+    for number in 0..rows.len() {
+        let (info, outcome) = rows.row(number);
+        put_part(sink, part, info, outcome)?;
     }
     Ok(())
+}
+
+fn put_part<'a, W: Write>(
+    sink: &mut Sink<W>,
+    part: Part,
+    info: &'a TestInfo,
+    outcome: &'a Outcome,
+) -> Result<(), WriteFault>
+    requires { faults_of sink.old < 2 ^ 64 - 1 }
+    ensures { Puts W.contents sink.old sink.new (row_part part (row_of info.now outcome.now)) result }
+{
+    match part {
+        Part::Message => put_message(sink, info, outcome),
+        Part::Name => put_name(sink, info, outcome),
+    }
 }
 
 fn put_message<'a, W: Write>(
@@ -109,24 +159,6 @@ fn put_message<'a, W: Write>(
             put_pieces(sink, &pieces)
         }
     }
-}
-
-fn put_names<W: Write>(
-    sink: &mut Sink<W>,
-    infos: &[TestInfo],
-    order: &[usize],
-    outcomes: &[Outcome],
-) -> Result<(), WriteFault>
-    requires room { faults_of sink.old < 2 ^ 64 - 1 }
-    requires lengths { length infos.now ≡ length outcomes.now }
-    requires places { All (λ p. p < length infos.now) order.now }
-    ensures { Puts W.contents sink.old sink.new
-        (flat_map (failed_name_at (map label_of infos.now) outcomes.now) order.now) result }
-{
-    for place in order {
-        put_name(sink, &infos[*place], &outcomes[*place])?;
-    }
-    Ok(())
 }
 
 fn put_name<W: Write>(

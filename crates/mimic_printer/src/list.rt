@@ -1,32 +1,17 @@
 //! The lines of a list of trials.
-ghost use Rattle.std.specs.Prelude.{◌≡◌, ◌-◌, ◌^◌, ◌<◌, []};
+ghost use Rattle.std.specs.Prelude.{◌≡◌, ◌-◌, ◌^◌, ◌<◌};
 ghost use Rattle.mimic_printer.specs.List.{list_line, sort_word};
 ghost use Rattle.mimic_printer.specs.Sink.{Puts, faults_of};
-ghost use Rattle.mimic_printer.specs.Steps.{listed_line};
 
-use crate::piece::{Piece, brackets, put_pieces};
+use crate::piece::{Piece, put_pieces};
 use crate::sink::{Sink, WriteFault};
+use mimic_text::brackets;
 use mimic_trial::TestInfo;
 use std::io::Write;
 
-// Writes the line of a trial, and with `ignored` only where the trial is marked as ignored.
-pub(super) fn put_listed<W: Write>(
-    sink: &mut Sink<W>,
-    info: &TestInfo,
-    ignored: bool,
-) -> Result<(), WriteFault>
-    requires { faults_of sink.old < 2 ^ 64 - 1 }
-    ensures { Puts W.contents sink.old sink.new (listed_line ignored info.now) result }
-{
-    if !ignored || info.is_ignored {
-        put_line(sink, info)
-    } else {
-        Ok(())
-    }
-}
-
+// Writes the line of a trial.
 #[tactic(auto, unfolding(crate::specs::List::list_line))]
-fn put_line<W: Write>(sink: &mut Sink<W>, info: &TestInfo) -> Result<(), WriteFault>
+pub(super) fn put_line<W: Write>(sink: &mut Sink<W>, info: &TestInfo) -> Result<(), WriteFault>
     requires { faults_of sink.old < 2 ^ 64 - 1 }
     ensures { Puts W.contents sink.old sink.new (list_line info.now) result }
 {

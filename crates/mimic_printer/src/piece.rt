@@ -3,8 +3,8 @@ ghost use Rattle.std.specs.Prelude.{◌≡◌, ◌-◌, ◌^◌, ◌<◌, ◌≤
 ghost use Rattle.std.specs.Option.{MatchOption};
 ghost use Rattle.mimic_printer.specs.Sink.{Puts, faults_of};
 ghost use Rattle.mimic_text.specs.Escape.{escaped};
-ghost use Rattle.mimic_text.specs.Text.{spaces, right_aligned, grouped, kind_part};
-ghost use Rattle.mimic_printer.specs.Steps.{pieces_text};
+ghost use Rattle.mimic_text.specs.Text.{spaces, right_aligned, grouped};
+ghost use Rattle.mimic_printer.specs.Piece.{pieces_text};
 
 use crate::sink::{Sink, WriteFault};
 use itoa::Buffer;
@@ -42,10 +42,13 @@ pub(crate) fn put_pieces<W: Write>(
     ensures { Puts W.contents sink.old sink.new (pieces_text pieces.now) result }
 {
     let mut row = [0; ROW];
-    match write_row(pieces, &mut row) {
-        Some(len) => sink.put(&row[..len]),
-        None => put_each(sink, pieces),
+    let (count, len) = gather(pieces, &mut row);
+    // A fault is large: handing on the result whole costs more than to ask whether it is one.
+    sink.put(&row[..len])?;
+    if count < pieces.len() {
+        put_each(sink, &pieces[count..])?;
     }
+    Ok(())
 }
 
 // Puts the pieces one after another.
@@ -59,22 +62,27 @@ fn put_each<W: Write>(sink: &mut Sink<W>, pieces: &[Piece<'_>]) -> Result<(), Wr
     Ok(())
 }
 
-// Gathers the pieces at the front of the row, and answers where they end. `None` where they don't fit, or some piece
-// is no plain text, number or short run of spaces: a row of such pieces is put piece by piece.
-fn write_row(pieces: &[Piece<'_>], row: &mut [u8; ROW]) -> Option<usize>
-    ensures { IfSome result (λ len. (len ≤ 256) × (take len row.new ≡ pieces_text pieces.now)) }
+// Gathers pieces at the front of the row as long as they fit, and answers how many they are and where they end.
+fn gather(pieces: &[Piece<'_>], row: &mut [u8; ROW]) -> (usize, usize)
+    ensures count { result.0 ≤ length pieces.now }
+    ensures within { result.1 ≤ 256 }
+    ensures gathered { take result.1 row.new ≡ pieces_text (take result.0 pieces.now) }
 {
     let mut len = 0;
-    for piece in pieces {
-        len = piece.write(row, len)?;
+    for (count, piece) in pieces.iter().enumerate() {
+        match piece.write(row, len) {
+            Some(end) => len = end,
+            None => return (count, len),
+        }
     }
-    Some(len)
+    (pieces.len(), len)
 }
 
 // Writes the text behind the first `len` bytes of the row, and answers where it ends. `None` where it doesn't fit.
 fn append(row: &mut [u8; ROW], len: usize, text: &[u8]) -> Option<usize>
     requires { len ≤ 256 }
-    ensures { IfSome result (λ end. (end ≤ 256) × (take end row.new ≡ take len row.old ++ text.now)) }
+    ensures front { take len row.new ≡ take len row.old }
+    ensures written { IfSome result (λ end. (end ≤ 256) × (take end row.new ≡ take len row.old ++ text.now)) }
 {
     // Most reports have no colours and no kinds.
     if text.is_empty() {
@@ -91,17 +99,25 @@ fn append(row: &mut [u8; ROW], len: usize, text: &[u8]) -> Option<usize>
 impl Piece<'_> {
     ghost use Rattle.std.specs.Prelude.{◌≡◌, ◌-◌, ◌^◌, ◌<◌, ◌≤◌, ◌++◌, IfSome, take};
     ghost use Rattle.mimic_printer.specs.Sink.{Puts, faults_of};
-    ghost use Rattle.mimic_printer.specs.Steps.{piece_text};
+    ghost use Rattle.mimic_printer.specs.Piece.{piece_text};
 
-    // Writes the piece behind the first `len` bytes of the row, and answers where it ends. `None` as for a row.
+    // Writes the piece behind the first `len` bytes of the row, and answers where it ends. `None` where it doesn't fit,
+    // or is a long run of spaces, a grouped number or a text with escapes.
     #[tactic(auto, using(crate::proofs::Escaping::spelled_as_is))]
     fn write(self, row: &mut [u8; ROW], len: usize) -> Option<usize>
         requires { len ≤ 256 }
-        ensures { IfSome result (λ end. (end ≤ 256) × (take end row.new ≡ take len row.old ++ piece_text self.entry)) }
+        ensures front { take len row.new ≡ take len row.old }
+        ensures written { IfSome result (λ end. (end ≤ 256) × (take end row.new ≡ take len row.old ++ piece_text self.entry)) }
     {
         match self {
             Piece::Text(text) => append(row, len, text.as_bytes()),
             Piece::Number(number) => append(row, len, Buffer::new().format(number).as_bytes()),
+            Piece::TwoDigits(number) => {
+                append(row, len, &[b'0' + number / 10, b'0' + number % 10])
+            }
+            Piece::Seconds(nanos) => {
+                append(row, len, exact_seconds(nanos, &mut [0; 32]).as_bytes())
+            }
             Piece::Spaces(count) if count <= SPACES.len() => append(row, len, &SPACES[..count]),
             Piece::Escaped(text) if next_escape(text.as_bytes()).is_none() => {
                 append(row, len, text.as_bytes())
@@ -164,15 +180,4 @@ fn put_escaped<W: Write>(sink: &mut Sink<W>, text: &[u8]) -> Result<(), WriteFau
         rest = &rest[at + 1..];
     }
     sink.put(rest)
-}
-
-// What stands before and after a kind: brackets, and nothing for an empty kind.
-pub(super) fn brackets(kind: &str) -> (&'static str, &'static str)
-    ensures { result.0.now ++ (kind.now ++ result.1.now) ≡ kind_part kind.now }
-{
-    if kind.is_empty() {
-        ("", "")
-    } else {
-        ("[", "] ")
-    }
 }

@@ -1,8 +1,8 @@
 //! The small texts of reports: grouped numbers, seconds, and texts in JSON. A layer of `libtest_mimic`.
 #![tactic(auto)]
 
-ghost use Rattle.std.specs.Prelude.{◌≡◌, ◌≤◌, IfOk, length, take, decimal, string_bytes};
-ghost use Rattle.mimic_text.specs.Text.{grouped, without_commas};
+ghost use Rattle.std.specs.Prelude.{◌≡◌, ◌≢◌, ◌≤◌, ◌++◌, [], IfOk, codes, length, take, decimal, string_bytes};
+ghost use Rattle.mimic_text.specs.Text.{grouped, kind_part, without_commas};
 
 mod escape;
 mod seconds;
@@ -12,6 +12,19 @@ use itoa::Buffer;
 pub use seconds::{exact_seconds, hundredths};
 use std::alloc::{AllocError, Global};
 use std::str;
+
+/// What stands before and behind a kind that is shown before a name: brackets, the closing one with a
+/// space behind it, and nothing around an empty kind.
+pub fn brackets(kind: &str) -> (&'static str, &'static str)
+    ensures shown { result.0.now ++ (kind.now ++ result.1.now) ≡ kind_part kind.now }
+    ensures opening { kind.now ≢ [] → result.0.now ≡ codes "[" }
+{
+    if kind.is_empty() {
+        ("", "")
+    } else {
+        ("[", "] ")
+    }
+}
 
 /// The number in decimal with a comma between groups of three digits, in the caller's buffer.
 ///

@@ -1,11 +1,10 @@
 -- Lemmas on counts of outcomes.
 use Rattle.std.proofs.Common.{◌≡◌, ℕ, ◌+◌, ◌-◌, ◌^◌, ◌<◌, List, [], ◌∷◌, ◌++◌, Bool, true, false, cond, length, take, get_or, refl, sym, ap, ◌∙◌, arith, add-zero}
-use Rattle.std.proofs.lemmas.List.{take_more, length-take, map-append}
+use Rattle.std.proofs.lemmas.List.{take_more, length-take}
 use Rattle.std.proofs.lemmas.List.Sums.{count_by-le-length, sum_by_push}
 use Rattle.std.specs.Prelude.{count_by}
 use Rattle.mimic_trial.specs.declared.outcome.Outcome.{Outcome}
 use Rattle.mimic_trial.specs.declared.outcome.Outcome.TheVariants.{Passed, Failed, Ignored, Measured}
-use Rattle.mimic_trial.specs.Row.{Row, outcomes_of}
 use Rattle.mimic_trial.specs.Count.{counts_of, is_passed, is_failed, is_ignored_outcome, is_measured}
 use Rattle.mimic_trial.specs.Count.{counted, HasRoom}
 
@@ -41,7 +40,3 @@ counts-more os i o n h e =
 -- there is room for one more before the last
 pub HasRoom-take : (os : List Outcome) (i filtered_out : ℕ) → i < length os → length os < 2 ^ 64 → HasRoom (counts_of (take i os) filtered_out)
 HasRoom-take os i n h small = HasRoom-counts (take i os) n (omega (arith, length-take i os))
-
--- the counts of one more row
-pub counts-row : (rows : List Row) (row : Row) (filtered_out : ℕ) → counts_of (outcomes_of (rows ++ row ∷ [])) filtered_out ≡ counted (counts_of (outcomes_of rows) filtered_out) row.outcome
-counts-row rows row n = ap (λ os. counts_of os n) (map-append (λ (r : Row). r.outcome) rows (row ∷ [])) ∙ counts-push (outcomes_of rows) row.outcome n

@@ -6,27 +6,19 @@ use Rattle.mimic_trial.specs.declared.outcome.conclusion.Conclusion.{Conclusion}
 
 abbrev pub is_passed : Outcome → Bool
 is_passed Passed = true
-is_passed (Failed f) = false
-is_passed Ignored = false
-is_passed (Measured m) = false
+is_passed o = false
 
 abbrev pub is_failed : Outcome → Bool
-is_failed Passed = false
 is_failed (Failed f) = true
-is_failed Ignored = false
-is_failed (Measured m) = false
+is_failed o = false
 
 abbrev pub is_ignored_outcome : Outcome → Bool
-is_ignored_outcome Passed = false
-is_ignored_outcome (Failed f) = false
 is_ignored_outcome Ignored = true
-is_ignored_outcome (Measured m) = false
+is_ignored_outcome o = false
 
 abbrev pub is_measured : Outcome → Bool
-is_measured Passed = false
-is_measured (Failed f) = false
-is_measured Ignored = false
 is_measured (Measured m) = true
+is_measured o = false
 
 -- the counts of these outcomes, beside so many trials that were filtered out (the Rust crate's `Conclusion`)
 abbrev pub counts_of : List Outcome → ℕ → Conclusion

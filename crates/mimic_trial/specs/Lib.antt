@@ -2,6 +2,5 @@ pub mod Failed
 pub mod Promise
 pub mod Same
 pub mod Count
-pub mod Row
 pub mod Trial
 pub mod Places

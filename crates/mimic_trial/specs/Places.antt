@@ -1,9 +1,7 @@
--- Places of trials, counted from 0, and what a report shows there.
-use Rattle.std.specs.Prelude.{◌≡◌, ℕ, List, [], length, map, slice_index_or}
-use Rattle.std.specs.List.{range_with_len}
+-- Places of trials, counted from 0, and the outcomes there.
+use Rattle.std.specs.Prelude.{◌≡◌, ℕ, List, [], ◌∷◌, length, map, slice_get, Option, None, Some}
+use Rattle.std.specs.List.{flat_map, range_with_len}
 use Rattle.mimic_trial.specs.declared.outcome.Outcome.{Outcome}
-use Rattle.mimic_trial.specs.declared.outcome.Outcome.TheVariants.{Passed}
-use Rattle.mimic_trial.specs.Row.{Label, Row}
 
 -- a place among the trials, counted from 0, and the outcome of the trial there
 abbrev pub Placed : Type 0
@@ -16,18 +14,11 @@ places_of placed = map (λ p. p.0) placed
 abbrev pub InOrder : List Placed → Type 0
 InOrder placed = places_of placed ≡ range_with_len 0 (length placed)
 
--- what a report shows at a place
-abbrev pub label_at : List Label → ℕ → Label
-label_at labels place = slice_index_or labels place (record { kind = []; name = [] })
+-- a place with the outcome there, where one is there
+abbrev pub placed_if : ℕ → Option Outcome → List Placed
+placed_if place None = []
+placed_if place (Some outcome) = (place, outcome) ∷ []
 
--- the rows of a report, in the order of the places
-abbrev pub rows_at : List Label → List Placed → List Row
-rows_at labels placed = map (λ p. record { label = label_at labels p.0; outcome = p.1 }) placed
-
--- the outcome at a place
-abbrev pub outcome_at : List Outcome → ℕ → Outcome
-outcome_at outcomes place = slice_index_or outcomes place Passed
-
--- the places in this order, each with the outcome there
+-- the places in this order, each with the outcome there; a place that has none is left out
 abbrev pub placed_at : List ℕ → List Outcome → List Placed
-placed_at order outcomes = map (λ p. (p, outcome_at outcomes p)) order
+placed_at order outcomes = flat_map (λ place. placed_if place (slice_get outcomes place)) order

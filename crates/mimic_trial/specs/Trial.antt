@@ -1,8 +1,7 @@
 -- A trial: what is known of it before it runs, and its runner.
-use Rattle.std.specs.Prelude.{All, List, map}
+use Rattle.std.specs.Prelude.{All, List}
 use Rattle.mimic_trial.specs.declared.trial.TestInfo.{TestInfo}
 use Rattle.mimic_trial.specs.declared.trial.Trial.{Trial}
-use Rattle.mimic_trial.specs.Row.{Label, label_of}
 
 -- what is known of the trial before it runs
 abbrev pub info_of : {R : Type 0} → Trial R → TestInfo
@@ -15,7 +14,3 @@ runner_of trial = trial.runner
 -- each trial's runner may be run
 abbrev pub AllCanRun : {R : Type 0} → (R → Type 0) → List (Trial R) → Type 0
 AllCanRun can_run trials = All (λ t. can_run (runner_of t)) trials
-
--- what a report shows of the trials, in their order
-abbrev pub labels_of : {R : Type 0} → List (Trial R) → List Label
-labels_of trials = map (λ t. label_of (info_of t)) trials

@@ -1,6 +1,6 @@
 -- What the exit status of the program tells of its input.
 use Rattle.std.specs.Prelude.{◌≡◌, ◌⊎◌, ℕ, List, Option, IfSome}
-use Rattle.libtest_mimic.specs.Json.{Contents, IsJsonReport}
+use Rattle.mimic_printer.specs.Json.{Contents, IsJsonReport}
 
 -- the bytes are a report in JSON
 abbrev pub IsReport : List ℕ → Type 0

@@ -5,14 +5,6 @@ use std::io;
 use std::io::{ErrorKind, Read, Write};
 use std::test::Fail;
 
-const TWO_ROWS: &str = r#"{ "type": "suite", "event": "started", "test_count": 2 }
-{ "type": "test", "event": "started", "name": "succeeding_test" }
-{ "type": "test", "name": "succeeding_test", "event": "ok" }
-{ "type": "test", "event": "started", "name": "failing_test" }
-{ "type": "test", "name": "failing_test", "event": "failed", "stdout": "Error: \"Woops\"\n" }
-{ "type": "suite", "event": "failed", "passed": 1, "failed": 1, "ignored": 0, "measured": 0, "filtered_out": 0, "exec_time": 0 }
-"#;
-
 const ONE_ROW: &str = r#"{ "type": "suite", "event": "started", "test_count": 1 }
 { "type": "test", "event": "started", "name": "b" }
 { "type": "bench", "name": "b", "median": 32, "deviation": 3 }
@@ -22,6 +14,28 @@ const ONE_ROW: &str = r#"{ "type": "suite", "event": "started", "test_count": 1 
 const NO_ROWS: &str = r#"{ "type": "suite", "event": "started", "test_count": 0 }
 { "type": "suite", "event": "ok", "passed": 0, "failed": 0, "ignored": 0, "measured": 0, "filtered_out": 0, "exec_time": 0 }
 "#;
+
+// A report of four trials that passed, three that failed, two that were ignored and one that was measured.
+fn mixed_report(alloc: Global) -> Result<String, Fail> {
+    let title = "{ \"type\": \"suite\", \"event\": \"started\", \"test_count\": 10 }\n";
+    let mut report = String::from_str(alloc, title)?;
+    for (count, kind, fields) in [
+        (4, "test", "\"event\": \"ok\""),
+        (3, "test", "\"event\": \"failed\""),
+        (2, "test", "\"event\": \"ignored\""),
+        (1, "bench", "\"median\": 32, \"deviation\": 3"),
+    ] {
+        for _ in 0..count {
+            report.push_str("{ \"type\": \"test\", \"event\": \"started\", \"name\": \"t\" }\n")?;
+            let row = format!(in alloc; "{{ \"type\": \"{kind}\", \"name\": \"t\", {fields} }}\n")?;
+            report.push_str(row.as_str())?;
+        }
+    }
+    report.push_str(
+        "{ \"type\": \"suite\", \"event\": \"failed\", \"passed\": 4, \"failed\": 3, \"ignored\": 2, \"measured\": 1, \"filtered_out\": 16, \"exec_time\": 0.000000005 }\n",
+    )?;
+    Ok(report)
+}
 
 // Bytes that come a few at a time; at their end, or after them, a fault.
 #[derive(Drop)]
@@ -102,20 +116,22 @@ fn run_over(
     })
 }
 
+// Of no rows, of one, and of ten, with seven different numbers.
 #[test]
 fn tells_reports(rt: HostRuntime) -> Result<(), Fail> {
+    let mixed = mixed_report(rt.alloc())?;
     for (report, line) in [
         (
-            TWO_ROWS,
-            "2 trials: 1 passed; 1 failed; 0 ignored; 0 measured; 0 filtered out; 0 ns\n",
+            NO_ROWS,
+            "0 trials: 0 passed; 0 failed; 0 ignored; 0 measured; 0 filtered out; 0 ns\n",
         ),
         (
             ONE_ROW,
             "1 trials: 0 passed; 0 failed; 0 ignored; 1 measured; 16 filtered out; 1000000005 ns\n",
         ),
         (
-            NO_ROWS,
-            "0 trials: 0 passed; 0 failed; 0 ignored; 0 measured; 0 filtered out; 0 ns\n",
+            mixed.as_str(),
+            "10 trials: 4 passed; 3 failed; 2 ignored; 1 measured; 16 filtered out; 5 ns\n",
         ),
     ] {
         let left = run_over(rt.alloc(), report.as_bytes(), None, usize::MAX, false)?;
@@ -132,8 +148,8 @@ fn refuses_other_input(rt: HostRuntime) -> Result<(), Fail> {
         b"".as_slice(),
         b"\n",
         b"\xff",
-        &TWO_ROWS.as_bytes()[1..],
-        &TWO_ROWS.as_bytes()[..TWO_ROWS.len() - 1],
+        &ONE_ROW.as_bytes()[1..],
+        &ONE_ROW.as_bytes()[..ONE_ROW.len() - 1],
     ] {
         let left = run_over(rt.alloc(), bytes, None, usize::MAX, false)?;
         assert_eq!(rt; left.status, 1);
@@ -149,10 +165,10 @@ fn tells_of_faulty_input(rt: HostRuntime) -> Result<(), Fail> {
     for (count, kind, text) in [
         (0, ErrorKind::BrokenPipe, "cannot read\n"),
         (100, ErrorKind::BrokenPipe, "cannot read\n"),
-        (TWO_ROWS.len(), ErrorKind::BrokenPipe, "cannot read\n"),
-        (TWO_ROWS.len(), ErrorKind::OutOfMemory, "out of memory\n"),
+        (ONE_ROW.len(), ErrorKind::BrokenPipe, "cannot read\n"),
+        (ONE_ROW.len(), ErrorKind::OutOfMemory, "out of memory\n"),
     ] {
-        let bytes = &TWO_ROWS.as_bytes()[..count];
+        let bytes = &ONE_ROW.as_bytes()[..count];
         let left = run_over(rt.alloc(), bytes, Some(kind), usize::MAX, false)?;
         assert_eq!(rt; left.status, 1);
         assert_eq!(rt; left.out.as_str(), "");
@@ -166,14 +182,14 @@ fn tells_of_faulty_input(rt: HostRuntime) -> Result<(), Fail> {
 fn tells_of_a_full_output(rt: HostRuntime) -> Result<(), Fail> {
     for (room, flush_fails, out) in [
         (0, false, ""),
-        (8, false, "2 trials"),
+        (8, false, "1 trials"),
         (
             usize::MAX,
             true,
-            "2 trials: 1 passed; 1 failed; 0 ignored; 0 measured; 0 filtered out; 0 ns\n",
+            "1 trials: 0 passed; 0 failed; 0 ignored; 1 measured; 16 filtered out; 1000000005 ns\n",
         ),
     ] {
-        let left = run_over(rt.alloc(), TWO_ROWS.as_bytes(), None, room, flush_fails)?;
+        let left = run_over(rt.alloc(), ONE_ROW.as_bytes(), None, room, flush_fails)?;
         assert_eq!(rt; left.status, 1);
         assert_eq!(rt; left.out.as_str(), out);
         assert_eq!(rt; left.err.as_str(), "cannot write\n");

@@ -2,7 +2,7 @@
 ghost use Rattle.std.specs.Prelude.{◌≡◌, ◌-◌, ◌^◌, ◌<◌, [], vec_len};
 ghost use Rattle.mimic_trial.specs.Trial.{AllCanRun};
 ghost use Rattle.mimic_printer.specs.Sink.{faults_of, shown};
-ghost use Rattle.libtest_mimic.specs.Steps.{HasCounted, HasRoomFor, RowsRun, WritesReport};
+ghost use Rattle.libtest_mimic.specs.Steps.{HasCounted, HasRoomFor, RowsRun, WritesReport, suite_with};
 ghost use Rattle.libtest_mimic.specs.Stopwatch.{IsRunning};
 
 use crate::run::tally::Tally;
@@ -28,12 +28,7 @@ pub(super) fn write_report<R: Task, W: Write, C: Clock>(
     requires empty { HasCounted tally tally.conclusion.num_filtered_out [] }
     requires runnable { AllCanRun R.can_run trials.items }
     requires capacity { HasRoomFor tally (vec_len trials) }
-    ensures { WritesReport R.gives (record {
-      args = args.now;
-      trials = trials.items;
-      printer = printer.now;
-      filtered_out = tally.conclusion.num_filtered_out;
-    })
+    ensures { WritesReport R.gives (suite_with args.now trials.items printer.now tally)
         (shown W.contents sink.old) (shown W.contents sink.new) watch.new result }
 {
     let mut tally = tally;
@@ -59,12 +54,7 @@ fn run_rows<R: Task, W: Write>(
     requires empty { HasCounted tally.old tally.old.conclusion.num_filtered_out [] }
     requires runnable { AllCanRun R.can_run trials.items }
     requires capacity { HasRoomFor tally.old (vec_len trials) }
-    ensures { RowsRun R.gives (record {
-      args = args.now;
-      trials = trials.items;
-      printer = printer.now;
-      filtered_out = tally.old.conclusion.num_filtered_out;
-    })
+    ensures { RowsRun R.gives (suite_with args.now trials.items printer.now tally.old)
         (shown W.contents sink.old) (shown W.contents sink.new) tally.new result }
 {
     for trial in trials {

@@ -1,6 +1,5 @@
 //! What a run keeps of the trials that ran: their counts, and those that failed.
 ghost use Rattle.std.specs.Prelude.{ℕ, ◌≡◌, ◌+◌, ◌-◌, ◌^◌, ◌∷◌, ◌++◌, ◌<◌, [], IfOk, IsOk, List, vec_len};
-ghost use Rattle.std.specs.List.{range_with_len};
 ghost use Rattle.mimic_printer.specs.Report.{failures_text};
 ghost use Rattle.mimic_printer.specs.Sink.{Puts, faults_of};
 
@@ -14,16 +13,12 @@ use std::io::Write;
 #[derive(Drop)]
 pub(crate) struct Tally {
     conclusion: Conclusion,
-    infos: Vec<TestInfo>,
-    outcomes: Vec<Outcome>,
-    order: Vec<usize>,
-    ghost side_by_side: { vec_len infos ≡ vec_len outcomes },
-    ghost in_order: { order.items ≡ range_with_len 0 (vec_len infos) },
+    failures: Vec<(TestInfo, Outcome)>,
 }
 
 impl Tally {
     ghost use Rattle.mimic_trial.specs.Count.{HasRoom};
-    ghost use Rattle.mimic_trial.specs.Row.{Row, row_of};
+    ghost use Rattle.mimic_printer.specs.Row.{PrintedRow, row_of};
     ghost use Rattle.libtest_mimic.specs.Steps.{HasCounted, HasRoomFor};
 
     // Nothing is counted yet, and there is room for so many failures.
@@ -38,25 +33,21 @@ impl Tally {
     {
         Ok(Tally {
             conclusion: Conclusion::empty(filtered_out),
-            infos: Vec::with_capacity(alloc, trials)?,
-            outcomes: Vec::with_capacity(alloc, trials)?,
-            order: Vec::with_capacity(alloc, trials)?,
+            failures: Vec::with_capacity(alloc, trials)?,
         })
     }
 
     // Counts the outcome, and keeps both where the trial failed.
     pub(crate) fn record(&mut self, info: TestInfo, outcome: Outcome)
         requires counts { HasRoom self.old.conclusion }
-        requires room { HasRoomFor self.old (vec_len self.old.infos + 1) }
-        ensures counted { (filtered_out : ℕ) (rows : List Row) → HasCounted self.old filtered_out rows
+        requires room { HasRoomFor self.old (vec_len self.old.failures + 1) }
+        ensures counted { (filtered_out : ℕ) (rows : List PrintedRow) → HasCounted self.old filtered_out rows
             → HasCounted self.new filtered_out (rows ++ row_of info outcome ∷ []) }
         ensures room { (count : ℕ) → HasRoomFor self.old count → HasRoomFor self.new count }
     {
         self.conclusion.count(&outcome);
         if let Outcome::Failed(_) = outcome {
-            self.order.push_reserved(self.infos.len());
-            self.infos.push_reserved(info);
-            self.outcomes.push_reserved(outcome);
+            self.failures.push_reserved((info, outcome));
         }
     }
 
@@ -67,10 +58,10 @@ impl Tally {
         sink: &mut Sink<W>,
     ) -> Result<(), WriteFault>
         requires { faults_of sink.old < 2 ^ 64 - 1 }
-        ensures { (filtered_out : ℕ) (rows : List Row) → HasCounted self.now filtered_out rows
+        ensures { (filtered_out : ℕ) (rows : List PrintedRow) → HasCounted self.now filtered_out rows
             → Puts W.contents sink.old sink.new (failures_text printer.now rows) result }
     {
-        printer.print_failures(sink, &self.infos, &self.order, &self.outcomes)
+        printer.print_failures_of(sink, &self.failures)
     }
 
     // The counts.

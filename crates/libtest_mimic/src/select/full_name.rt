@@ -1,24 +1,25 @@
-//! Searches full names part by part: the kind part, which is `[kind] ` and nothing for an empty kind,
-//! and then the name. All texts are bytes here, since a pattern may be cut between any two.
+//! Searches full names part by part: the kind in its brackets, if there is one, and then the name.
+//! Patterns are bytes here, since one may be cut between any two.
 ghost use Rattle.std.specs.Prelude.{◌≡◌, ◌↔◌, ◌+◌, ◌<◌, ◌≤◌, IsTrue, length, slice_index};
 ghost use Rattle.libtest_mimic.specs.Selection.{full_name};
 ghost use Rattle.libtest_mimic.specs.Steps.{OccursBefore, StandsAt};
 ghost use Rattle.mimic_text.specs.Text.{kind_part};
 
+use mimic_text::brackets;
+
 // Whether the pattern is the full name.
-pub(super) fn is_full_name(pattern: &[u8], kind: &[u8], name: &[u8]) -> bool
+pub(super) fn is_full_name(pattern: &[u8], kind: &str, name: &[u8]) -> bool
     ensures { IsTrue result ↔ (pattern.now ≡ full_name kind.now name.now) }
 {
     let front = kind_part_len(kind);
     if pattern.len() < front {
         return false;
     }
-    let (head, tail) = pattern.split_at(front);
-    stands_in_kind_part(head, kind, 0) && tail == name
+    pattern.len() - front == name.len() && stands_at(pattern, kind, name, 0)
 }
 
 // Whether the pattern stands in the full name from some place before the name on.
-pub(super) fn begins_in_kind_part(pattern: &[u8], kind: &[u8], name: &[u8]) -> bool
+pub(super) fn begins_in_kind_part(pattern: &[u8], kind: &str, name: &[u8]) -> bool
     ensures { IsTrue result ↔ OccursBefore pattern.now (kind_part kind.now) name.now }
 {
     for start in 0..kind_part_len(kind) {
@@ -30,8 +31,8 @@ pub(super) fn begins_in_kind_part(pattern: &[u8], kind: &[u8], name: &[u8]) -> b
 }
 
 // Whether the pattern stands in the full name from this place on.
-fn stands_at(pattern: &[u8], kind: &[u8], name: &[u8], start: usize) -> bool
-    requires { start < length (kind_part kind.now) }
+fn stands_at(pattern: &[u8], kind: &str, name: &[u8], start: usize) -> bool
+    requires { start ≤ length (kind_part kind.now) }
     ensures { IsTrue result ↔ StandsAt pattern.now (full_name kind.now name.now) start }
 {
     let front = kind_part_len(kind) - start;
@@ -44,7 +45,7 @@ fn stands_at(pattern: &[u8], kind: &[u8], name: &[u8], start: usize) -> bool
 }
 
 // Whether the piece stands in the kind part from this place on.
-fn stands_in_kind_part(piece: &[u8], kind: &[u8], start: usize) -> bool
+fn stands_in_kind_part(piece: &[u8], kind: &str, start: usize) -> bool
     requires { start + length piece.now ≤ length (kind_part kind.now) }
     ensures { IsTrue result ↔ StandsAt piece.now (kind_part kind.now) start }
 {
@@ -57,24 +58,25 @@ fn stands_in_kind_part(piece: &[u8], kind: &[u8], start: usize) -> bool
 }
 
 // How many bytes the kind part has.
-fn kind_part_len(kind: &[u8]) -> usize
+fn kind_part_len(kind: &str) -> usize
     ensures { result ≡ length (kind_part kind.now) }
 {
-    if kind.is_empty() { 0 } else { kind.len() + 3 }
+    let (open, close) = brackets(kind);
+    open.len() + kind.len() + close.len()
 }
 
 // The byte of the kind part at this place.
-fn kind_part_byte(kind: &[u8], place: usize) -> u8
+fn kind_part_byte(kind: &str, place: usize) -> u8
     requires { place < length (kind_part kind.now) }
     ensures { result ≡ slice_index (kind_part kind.now) place }
 {
-    if place == 0 {
-        b'['
-    } else if place <= kind.len() {
-        kind[place - 1]
-    } else if place == kind.len() + 1 {
-        b']'
+    let (open, close) = brackets(kind);
+    let behind = open.len() + kind.len();
+    if place < open.len() {
+        open.as_bytes()[place]
+    } else if place < behind {
+        kind.as_bytes()[place - open.len()]
     } else {
-        b' '
+        close.as_bytes()[place - behind]
     }
 }

@@ -1,4 +1,5 @@
 //! Runs of selected trials and of benchmarks, and lists.
+use super::selection::selecting;
 use super::writers::{Full, run_ample, stopped_clock, with_room};
 use super::{bench_trial, test_trial};
 use crate::{
@@ -163,14 +164,7 @@ fn selects_by_patterns(rt: HostRuntime) -> Result<(), Fail> {
             test_trial!(alloc, "bar", || Ok(())),
             test_trial!(alloc, "barro", || Ok(())),
         ]?;
-        let mut args = Arguments::new(alloc);
-        args.exact = exact;
-        if let Some(filter) = filter {
-            args.filter = Some(String::from_str(alloc, filter)?);
-        }
-        if let Some(skip) = skip {
-            args.skip.push(String::from_str(alloc, skip)?)?;
-        }
+        let args = selecting(alloc, filter, skip, exact)?;
         let (conclusion, writer) = run_ample(alloc, &args, tests)?;
         assert_eq!(rt;
             conclusion,

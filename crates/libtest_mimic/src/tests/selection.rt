@@ -113,7 +113,7 @@ fn ignores_trials(rt: HostRuntime) -> Result<(), Fail> {
 }
 
 // Arguments with a filter, and one skip pattern.
-fn selecting(
+pub(super) fn selecting(
     alloc: Global,
     filter: Option<&str>,
     skip: Option<&str>,

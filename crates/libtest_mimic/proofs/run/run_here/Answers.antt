@@ -18,11 +18,9 @@ run_selected-requires-clause-runnable g c =
 pub returns-then-args-clause-listed : goal.returns-then-args-clause-listed
 returns-then-args-clause-listed g c asked =
     let told = shown g.W.Write.contents in
-    let trials = c.args.tests.items in
-    let mine = c.select-filtered_out.new.trials.items in
     let P : Suite _ → Type 0 = λ suite. Put (told c.args.sink.now) (told c.write_list.new.sink) (list_text suite.trials) in
     IfOk-weaker c.write_list.result _ _
-    (λ x h. (h.0, OfSuite-from c.args.args.now c.args.auto_colours trials mine (length trials - length mine) P c.select-filtered_out.ensures.selection refl (rw (← c.as_slice.ensures.value) h.1)))
+    (λ x h. (h.0, OfSuite-from c.args.args.now c.args.auto_colours c.args.tests.items c.select-filtered_out.new.trials.items _ P c.select-filtered_out.ensures.selection refl (rw (← c.as_slice.ensures.value) h.1)))
     c.write_list.ensures.listed
 
 pub returns-else-args-clause-reported : goal.returns-else-args-clause-reported
@@ -36,11 +34,9 @@ returns-else-args-clause-reported g c unlisted =
 pub returns-then-args-clause-list_stopped : goal.returns-then-args-clause-list_stopped
 returns-then-args-clause-list_stopped g c asked =
     let told = shown g.W.Write.contents in
-    let trials = c.args.tests.items in
-    let mine = c.select-filtered_out.new.trials.items in
     let P : Suite _ → Type 0 = λ suite. Stopped (told c.args.sink.now) (told c.write_list.new.sink) (list_text suite.trials) in
     OnWriteFault-weaker c.write_list.result _ _
-    (λ h. OfSuite-from c.args.args.now c.args.auto_colours trials mine (length trials - length mine) P c.select-filtered_out.ensures.selection refl (rw (← c.as_slice.ensures.value) h))
+    (λ h. OfSuite-from c.args.args.now c.args.auto_colours c.args.tests.items c.select-filtered_out.new.trials.items _ P c.select-filtered_out.ensures.selection refl (rw (← c.as_slice.ensures.value) h))
     c.write_list.ensures.stopped
 
 pub returns-else-args-clause-report_stopped : goal.returns-else-args-clause-report_stopped

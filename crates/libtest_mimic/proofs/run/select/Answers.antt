@@ -1,21 +1,8 @@
-use Rattle.std.proofs.Common.{◌≡◌, false, rules, ap, arith, None, [], length, inl, inr}
-use Rattle.std.proofs.lemmas.Bool.Decides.{nat_tests}
-use Rattle.std.proofs.lemmas.List.{nil_from_length}
-use Rattle.std.specs.Prelude.{vec_len}
+use Rattle.std.proofs.Common.{◌≡◌, false, rules}
 use Rattle.std.specs.Prelude.{◌↔◌, IsFalse}
 use Rattle.libtest_mimic.specs.Selection.{IsDropped}
-use Rattle.libtest_mimic.proofs.Selecting.{LeavesOut-from_retain, LeavesOut-none}
+use Rattle.libtest_mimic.proofs.Selecting.{LeavesOut-from_retain}
 use Rattle.libtest_mimic.proofs.run.select.Goals as goal
-
--- nothing that could drop a trial is asked for
-pub returns-then-not-args-clause-selection : goal.returns-then-not-args-clause-selection
-returns-then-not-args-clause-selection g c =
-    let filter : c.args.args.now.filter ≡ None = search rules in
-    let count : vec_len c.args.args.now.skip ≡ 0 = grind (arith, nat_tests) in
-    let skip : c.args.args.now.skip.items ≡ [] = nil_from_length _ (omega (arith, count)) in
-    let ignored : c.args.args.now.ignored ≡ false = search rules in
-    LeavesOut-none (λ t. IsDropped c.args.args.now t)
-    (λ t. elim [ inl missed ↦ rw filter at missed | inr (inl skipped) ↦ omega (arith, skipped.2, ap length skip) | inr (inr flag) ↦ cc ]) _
 
 pub returns-clause-selection : goal.returns-clause-selection
 returns-clause-selection g c = LeavesOut-from_retain _ (λ t. IsDropped c.args.args.now t) _

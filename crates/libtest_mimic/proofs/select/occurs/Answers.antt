@@ -13,7 +13,7 @@ returns-then-contains c =
 
 pub returns-else-contains : goal.returns-else-contains
 returns-else-contains c =
-    let e = rw (c.as_bytes.ensures.value, c.as_bytes-else-contains.ensures.value, c.as_bytes-else-contains-2.ensures.value) at c.begins_in_kind_part.ensures in (
+    let e = rw (c.as_bytes.ensures.value, c.as_bytes-else-contains.ensures.value) at c.begins_in_kind_part.ensures in (
       (λ t. let begins = e.0 t in occurs_at c.args.pattern.now _ begins.0 begins.2),
       (λ h. elim (occurs_split c.args.pattern.now (kind_part c.args.kind.now) c.args.name.now h) [
         | inl begins ↦ e.1 begins

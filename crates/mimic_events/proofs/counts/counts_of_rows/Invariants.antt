@@ -1,5 +1,5 @@
 use Rattle.std.proofs.Common.{◌≡◌, map, take}
-use Rattle.libtest_mimic.specs.Count.{counts_of}
+use Rattle.mimic_trial.specs.Count.{counts_of}
 use Rattle.mimic_events.proofs.counts.counts_of_rows.Given as goal
 
 abbrev pub invariant-loop-row : goal.invariant-loop-row

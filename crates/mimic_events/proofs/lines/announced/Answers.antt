@@ -1,6 +1,6 @@
-use Rattle.std.proofs.Common.{rules, ◌≡◌, ◌≢◌, string_bytes}
-use Rattle.libtest_mimic.specs.Json.{json_end}
-use Rattle.mimic_events.proofs.NamedLines.{announced_some, announced_none, announced_other, mapped}
+use Rattle.std.proofs.Common.{rules, ◌≡◌, ◌≢◌, string_bytes, sym, ◌∙◌}
+use Rattle.mimic_printer.specs.Json.{json_end}
+use Rattle.mimic_events.proofs.NamedLines.{announced_some, announcement_is, mapped}
 use Rattle.mimic_events.proofs.lines.announced.Goals as goal
 use Rattle.mimic_events.proofs.lines.announced.Goals.{in_default-via-in-Some+else-eq, in_default-via-in_default}
 
@@ -13,6 +13,7 @@ pub returns-in_default : goal.returns-in_default
 returns-in_default c = λ v h. elim c.in_default.branch [
   | in_default-via-in-Some+else-eq w ↦
       let end : w.in-Some.end.now ≢ json_end = search rules in
-      announced_other c.args.line.now w.in-Some.name.items w.in-Some.end.now v (rw w.in-Some.is at c.in_ok-name.ensures) end h
-  | in_default-via-in_default w ↦ announced_none c.args.line.now v (rw w.in_default.is at c.in_ok-name.ensures) h
+      let read = rw w.in-Some.is at c.in_ok-name.ensures in
+      end (sym (read.1 v json_end (h.1 ∙ announcement_is v)).1)
+  | in_default-via-in_default w ↦ let read = rw w.in_default.is at c.in_ok-name.ensures in read v json_end (h.1 ∙ announcement_is v)
 ]

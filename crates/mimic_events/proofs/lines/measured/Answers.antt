@@ -1,5 +1,5 @@
 use Rattle.std.proofs.Common.{◌≡◌, ◌++◌, decimal, rules}
-use Rattle.libtest_mimic.specs.Json.{json_end}
+use Rattle.mimic_printer.specs.Json.{json_end}
 use Rattle.mimic_events.proofs.EndedLines.{no_median, measured_second, measured_all}
 use Rattle.mimic_events.proofs.lines.measured.Goals as goal
 

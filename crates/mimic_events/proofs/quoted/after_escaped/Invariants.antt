@@ -1,6 +1,6 @@
 use Rattle.std.proofs.Common.{List, ℕ, Option, Bor, length}
-use Rattle.libtest_mimic.specs.Escape.{escaped}
-use Rattle.mimic_events.specs.Parts.{Follows}
+use Rattle.mimic_text.specs.Escape.{escaped}
+use Rattle.mimic_events.specs.Steps.{Follows}
 use Rattle.mimic_events.proofs.quoted.after_escaped.Given as goal
 
 -- what follows the rest of the text is what follows the whole

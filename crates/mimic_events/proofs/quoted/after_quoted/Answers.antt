@@ -1,5 +1,5 @@
 use Rattle.std.proofs.Common.{[], ◌∷◌, ◌++◌, List, ℕ, None, refl, sym, ap, ◌∙◌}
-use Rattle.libtest_mimic.specs.Escape.{escaped}
+use Rattle.mimic_text.specs.Escape.{escaped}
 use Rattle.mimic_events.proofs.Fronts.{Follows-then, Follows-stop, Follows-after}
 use Rattle.mimic_events.proofs.quoted.after_quoted.Goals as goal
 

@@ -1,5 +1,5 @@
 use Rattle.std.proofs.Common.{◌≡◌, ◌++◌, ℕ, List, sym, ap, ◌∙◌}
-use Rattle.libtest_mimic.specs.Escape.{escape}
+use Rattle.mimic_text.specs.Escape.{escape}
 use Rattle.mimic_events.proofs.Escapes.{one_split, candidate_at}
 use Rattle.mimic_events.proofs.quoted.unescape.Goals as goal
 

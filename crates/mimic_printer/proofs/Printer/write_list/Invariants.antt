@@ -1,7 +1,7 @@
 use Rattle.std.proofs.Common.{take}
 use Rattle.std.specs.List.{flat_map}
 use Rattle.mimic_printer.specs.Sink.{Put, shown}
-use Rattle.mimic_printer.specs.Steps.{listed_line}
+use Rattle.mimic_printer.proofs.Listing.{listed_line}
 use Rattle.mimic_trial.specs.Trial.{info_of}
 use Rattle.mimic_printer.proofs.Printer.write_list.Given as goal
 

@@ -1,21 +1,27 @@
-use Rattle.std.proofs.Common.{◌<◌, ◌+◌, ◌∙◌, ap, arith, length, rules, subst, sym}
-use Rattle.std.specs.Prelude.{string_bytes}
-use Rattle.std.specs.Str.{chars, IsUtf8}
-use Rattle.mimic_printer.proofs.Characters.{kind_part_chars-some, kind_part_chars-empty, length-chars-le, text_small}
+use Rattle.std.proofs.Common.{◌+◌, ◌∙◌, ap, arith, length, sym}
+use Rattle.std.specs.Str.{chars}
+use Rattle.mimic_text.specs.Text.{kind_part}
+use Rattle.mimic_printer.proofs.Characters.{brackets_short, kind_part_chars, length-chars-le, text_small}
 use Rattle.mimic_printer.proofs.columns.kind_len.Goals as goal
 
 pub overflow_add-result : goal.overflow_add-result
 overflow_add-result c =
-    let few = length-chars-le c.as_str.result.now c.as_str.utf8 in
-    let same = ap length c.as_str.ensures.value in
-    omega (arith, few, same, text_small c.args.info.now.kind, c.char_count.ensures)
+    let few = length-chars-le c.as_str-kind.result.now c.as_str-kind.utf8 in
+    let same = ap length c.as_str-kind.ensures.value in
+    let short = brackets_short c.brackets.result.0.now c.as_str-kind.result.now c.brackets.result.1.now c.brackets.ensures.shown in
+    omega (arith, few, same, short, text_small c.args.info.now.kind, c.char_count.ensures)
 
-pub returns-then-is_empty : goal.returns-then-is_empty
-returns-then-is_empty c = sym (kind_part_chars-empty (string_bytes c.args.info.now.kind) (search rules))
+pub overflow_add-result-2 : goal.overflow_add-result-2
+overflow_add-result-2 c =
+    let few = length-chars-le c.as_str-kind.result.now c.as_str-kind.utf8 in
+    let same = ap length c.as_str-kind.ensures.value in
+    let short = brackets_short c.brackets.result.0.now c.as_str-kind.result.now c.brackets.result.1.now c.brackets.ensures.shown in
+    omega (arith, few, same, short, text_small c.args.info.now.kind, c.char_count.ensures)
 
-pub returns-else-is_empty : goal.returns-else-is_empty
-returns-else-is_empty c =
-    let kind = c.as_str.ensures.value in
-    let some : 0 < length (string_bytes c.args.info.now.kind) = grind arith in
-    ap (λ n. n + 3) (c.char_count.ensures ∙ ap (λ t. length (chars t)) kind)
-    ∙ sym (kind_part_chars-some (string_bytes c.args.info.now.kind) (subst IsUtf8 kind c.as_str.utf8) some)
+pub returns : goal.returns
+returns c =
+    let front = c.brackets.result.0.now in
+    let back = c.brackets.result.1.now in
+    ap (λ n. length front + n + length back) c.char_count.ensures
+    ∙ sym (kind_part_chars front c.as_str-kind.result.now back c.as_str-kind.utf8 c.brackets.ensures.shown)
+    ∙ ap (λ kind. length (chars (kind_part kind))) c.as_str-kind.ensures.value

@@ -1,18 +1,18 @@
-use Rattle.std.proofs.Common.{ap, ◌∙◌, sym}
-use Rattle.std.specs.Prelude.{max}
-use Rattle.mimic_trial.specs.Row.{label_of}
-use Rattle.mimic_printer.specs.Widths.{name_chars, kind_chars}
-use Rattle.mimic_printer.proofs.Characters.{widest_more}
+use Rattle.std.proofs.Common.{◌≡◌, map, refl, rules, subst}
+use Rattle.std.proofs.lemmas.Fn.{fold_over, fronts, slice_gives}
+use Rattle.mimic_printer.specs.Row.{label_of}
+use Rattle.mimic_printer.specs.Widths.{name_width_of, kind_width_of, name_chars, kind_chars}
+use Rattle.mimic_printer.proofs.Characters.{widest-push}
 use Rattle.mimic_printer.proofs.columns.widths.Goals as goal
 
-pub loop-info-preserved : goal.loop-info-preserved
-loop-info-preserved c =
-    let item = c.info-item.result in
-    let names = widest_more label_of name_chars c.args.infos.now c.loop-info.info-index item c.loop-info-test.true in
-    let kinds = widest_more label_of kind_chars c.args.infos.now c.loop-info.info-index item c.loop-info-test.true in
-    record {
-      names = c.max-name_width.ensures ∙ ap (λ n. max n c.loop-info.name_width) (c.name_len.ensures ∙ ap (λ t. name_chars (label_of t)) c.info-item.is)
-          ∙ ap (max _) c.loop-info.invariant.names ∙ sym names;
-      kinds = c.max-kind_width.ensures ∙ ap (λ n. max n c.loop-info.kind_width) (c.kind_len.ensures ∙ ap (λ t. kind_chars (label_of t)) c.info-item.is)
-          ∙ ap (max _) c.loop-info.invariant.kinds ∙ sym kinds;
-    }
+pub returns-clause-names : goal.returns-clause-names
+returns-clause-names c = subst (λ l. c.fold.result.0 ≡ name_width_of (map label_of l)) c.iter.ensures.rest
+    (fold_over fronts (λ y. y.now) _ (λ infos w. w.0 ≡ name_width_of (map label_of infos)) _
+    (λ infos a x b f' so_far k. let more = widest-push label_of name_chars infos x.now a.0 b.0 so_far in search rules)
+    _ _ _ _ (slice_gives c.iter.result) refl c.fold.ensures.ran)
+
+pub returns-clause-kinds : goal.returns-clause-kinds
+returns-clause-kinds c = subst (λ l. c.fold.result.1 ≡ kind_width_of (map label_of l)) c.iter.ensures.rest
+    (fold_over fronts (λ y. y.now) _ (λ infos w. w.1 ≡ kind_width_of (map label_of infos)) _
+    (λ infos a x b f' so_far k. let more = widest-push label_of kind_chars infos x.now a.1 b.1 so_far in search rules)
+    _ _ _ _ (slice_gives c.iter.result) refl c.fold.ensures.ran)

@@ -1,21 +1,19 @@
-use Rattle.std.proofs.Common.{ap, ◌∙◌, sym}
-use Rattle.std.specs.Prelude.{max}
-use Rattle.mimic_trial.specs.Row.{label_of}
+use Rattle.std.proofs.Common.{◌≡◌, refl, rules, subst}
+use Rattle.std.proofs.lemmas.Fn.{fold_over, fronts, slice_gives}
+use Rattle.mimic_printer.specs.Row.{label_of, labels_of}
 use Rattle.mimic_trial.specs.Trial.{info_of}
-use Rattle.mimic_printer.specs.Widths.{name_chars, kind_chars}
-use Rattle.mimic_printer.proofs.Characters.{widest_more}
+use Rattle.mimic_printer.specs.Widths.{name_width_of, kind_width_of, name_chars, kind_chars}
+use Rattle.mimic_printer.proofs.Characters.{widest-push}
 use Rattle.mimic_printer.proofs.columns.widths_of_trials.Goals as goal
 
-pub loop-trial-preserved : goal.loop-trial-preserved
-loop-trial-preserved g c =
-    let item = c.trial-item.result in
-    let names = widest_more (λ t. label_of (info_of t)) name_chars c.args.trials.now c.loop-trial.trial-index item c.loop-trial-test.true in
-    let kinds = widest_more (λ t. label_of (info_of t)) kind_chars c.args.trials.now c.loop-trial.trial-index item c.loop-trial-test.true in
-    record {
-      names = c.max-name_width.ensures ∙ ap (λ n. max n c.loop-trial.name_width)
-          (c.name_len.ensures ∙ ap (λ i. name_chars (label_of i)) c.info.ensures ∙ ap (λ t. name_chars (label_of (info_of t))) c.trial-item.is)
-          ∙ ap (max _) c.loop-trial.invariant.names ∙ sym names;
-      kinds = c.max-kind_width.ensures ∙ ap (λ n. max n c.loop-trial.kind_width)
-          (c.kind_len.ensures ∙ ap (λ i. kind_chars (label_of i)) c.info-in-loop-trial.ensures ∙ ap (λ t. kind_chars (label_of (info_of t))) c.trial-item.is)
-          ∙ ap (max _) c.loop-trial.invariant.kinds ∙ sym kinds;
-    }
+pub returns-clause-names : goal.returns-clause-names
+returns-clause-names g c = subst (λ l. c.fold.result.0 ≡ name_width_of (labels_of l)) c.iter.ensures.rest
+    (fold_over fronts (λ y. y.now) _ (λ trials w. w.0 ≡ name_width_of (labels_of trials)) _
+    (λ trials a x b f' so_far k. let more = widest-push (λ t. label_of (info_of t)) name_chars trials x.now a.0 b.0 so_far in search rules)
+    _ _ _ _ (slice_gives c.iter.result) refl c.fold.ensures.ran)
+
+pub returns-clause-kinds : goal.returns-clause-kinds
+returns-clause-kinds g c = subst (λ l. c.fold.result.1 ≡ kind_width_of (labels_of l)) c.iter.ensures.rest
+    (fold_over fronts (λ y. y.now) _ (λ trials w. w.1 ≡ kind_width_of (labels_of trials)) _
+    (λ trials a x b f' so_far k. let more = widest-push (λ t. label_of (info_of t)) kind_chars trials x.now a.1 b.1 so_far in search rules)
+    _ _ _ _ (slice_gives c.iter.result) refl c.fold.ensures.ran)

@@ -1,4 +1,4 @@
-use Rattle.mimic_printer.specs.Steps.{piece_text}
+use Rattle.mimic_printer.specs.Piece.{piece_text}
 use Rattle.mimic_printer.proofs.Appending.{Puts-stopped, Stopped-next}
 use Rattle.mimic_printer.proofs.piece.put_each.Goals as goal
 

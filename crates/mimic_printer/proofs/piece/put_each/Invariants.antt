@@ -1,6 +1,6 @@
 use Rattle.std.proofs.Common.{take}
 use Rattle.mimic_printer.specs.Sink.{Put, shown}
-use Rattle.mimic_printer.specs.Steps.{pieces_text}
+use Rattle.mimic_printer.specs.Piece.{pieces_text}
 use Rattle.mimic_printer.proofs.piece.put_each.Given as goal
 
 abbrev pub invariant-loop-piece : goal.invariant-loop-piece

@@ -1,22 +1,14 @@
-use Rattle.std.proofs.Common.{arith, rules, ◌≡◌, length}
-use Rattle.std.proofs.lemmas.Bool.Decides.{Decides-eqb}
-use Rattle.std.proofs.lemmas.Slice.Eq.{slice_eq-Decides}
-use Rattle.libtest_mimic.specs.Steps.{StandsAt}
+use Rattle.std.proofs.Common.{◌≡◌, ◌++◌, arith, length, length-append}
 use Rattle.mimic_text.specs.Text.{kind_part}
-use Rattle.libtest_mimic.proofs.FullName.{parts_of, whole_parts, parts_whole}
+use Rattle.libtest_mimic.proofs.FullName.{stands_whole, whole_stands}
 use Rattle.libtest_mimic.proofs.select.full_name.is_full_name.Goals as goal
 
-pub returns-then-stands_in_kind_part : goal.returns-then-stands_in_kind_part
-returns-then-stands_in_kind_part c =
+pub returns-then-pattern-front-2 : goal.returns-then-pattern-front-2
+returns-then-pattern-front-2 c =
     let pattern = c.args.pattern.now in
     let part = kind_part c.args.kind.now in
     let name = c.args.name.now in
-    let head = c.split_at.result.0.now in
-    let tail = c.split_at.result.1.now in
-    let cut = parts_of _ pattern head tail c.split_at.ensures.front c.split_at.ensures.back in
-    let same : length head ≡ length part = omega (arith, c.split_at.ensures.front_len, c.kind_part_len-front.ensures) in
-    let before : StandsAt head part 0 = c.stands_in_kind_part.ensures.0 (search rules) in
-    let equal = slice_eq-Decides Decides-eqb tail name c.eq.result c.eq.ensures in (
-      (λ t. whole_parts pattern head tail part name cut same before (equal.0 t)),
-      (λ h. equal.1 (parts_whole pattern head tail part name cut same h)),
+    let same : length pattern ≡ length (part ++ name) = omega (arith, c.kind_part_len-front.ensures, c.if-pattern-front.false, c.if-pattern-front-2.true, length-append part name) in (
+      (λ t. whole_stands pattern (part ++ name) same (c.stands_at.ensures.0 t)),
+      (λ e. c.stands_at.ensures.1 (stands_whole pattern (part ++ name) e)),
     )

@@ -1,0 +1,94 @@
+-- Steps over one line: the text that a step reads, and what it keeps.
+use Rattle.std.proofs.Common.{◌≡◌, ℕ, ◌<◌, ◌≤◌, ◌^◌, List, [], ◌∷◌, ◌++◌, length, IsUtf8, refl, sym, ap, subst, ◌∙◌, append_assoc, append-nil, arith, ◌⊎◌, inl, inr, Some, true}
+use Rattle.std.specs.List.{concat, flat_map, AllByRecursion}
+use Rattle.std.proofs.lemmas.List.{length-append}
+use Rattle.std.proofs.lemmas.List.Concat.{flat_map-append}
+use Rattle.std.proofs.lemmas.List.Folds.{concat-append}
+use Rattle.mimic_trial.specs.Count.{counts_of}
+use Rattle.mimic_printer.specs.Json.{Entry, FitsEntry, entry_lines, json_title, json_announcement, json_outcome, json_summary}
+use Rattle.mimic_events.specs.Machine.{Announces, Ends, LeadsFrom, Next, State, Step, Takes, title_next, row_next, outcome_next, nothing_next}
+use Rattle.mimic_events.specs.Reading.{Decodes, IsSummary}
+use Rattle.mimic_events.proofs.Summaries.{outcomes}
+
+-- ---- the text that was read
+
+abbrev pub title_and : State → List ℕ
+title_and s = json_title s.announced ++ concat (flat_map entry_lines s.entries)
+
+abbrev pub text_so_far : Next → State → List ℕ
+text_so_far title_next s = []
+text_so_far row_next s = title_and s
+text_so_far (outcome_next name) s = title_and s ++ json_announcement name
+text_so_far (nothing_next filtered_out nanos) s = title_and s ++ json_summary (counts_of (outcomes s.entries) filtered_out) nanos
+
+abbrev pub state_text : State → List ℕ
+state_text s = text_so_far s.next s
+
+-- no more rows than the title announced, and a name that is text
+abbrev pub FitsNext : Next → State → Type 0
+FitsNext title_next s = s.entries ≡ []
+FitsNext row_next s = length s.entries ≤ s.announced
+FitsNext (outcome_next name) s = (length s.entries < s.announced) × IsUtf8 name
+FitsNext (nothing_next filtered_out nanos) s = (length s.entries ≡ s.announced) × (filtered_out < 2 ^ 64) × (nanos < 2 ^ 64)
+
+-- names and messages are text, and numbers are below 2^64
+pub record Fits (s : State) : Type 0 where
+  pub announced : s.announced < 2 ^ 64
+  pub entries : AllByRecursion FitsEntry s.entries
+  pub next : FitsNext s.next s
+
+-- ---- a step
+
+fits_more : (entries : List Entry) (e : Entry) → AllByRecursion FitsEntry entries → FitsEntry e → AllByRecursion FitsEntry (entries ++ e ∷ [])
+fits_more [] e h one = (one, tt)
+fits_more (x ∷ entries) e h one = (h.0, fits_more entries e h.1 one)
+
+-- a step adds its line to the text, and what fitted fits on
+abbrev Keeps : List ℕ → List ℕ → State → Type 0
+Keeps text line new = (state_text new ≡ text ++ line) × Fits new
+
+keeps_from : (next : Next) (old : State) (line : List ℕ) (new : State) → old.announced < 2 ^ 64 → AllByRecursion FitsEntry old.entries → FitsNext next old → LeadsFrom next old line new → Keeps (text_so_far next old) line new
+keeps_from title_next old line new few fits at (count, is, e) =
+    let there : State = record old { next = row_next; announced = count } in
+    let text : state_text there ≡ line = rw (at, is.1, append-nil) refl in
+    subst (Keeps [] line) (sym e) (text, record { announced = is.0; entries = fits; next = rw at (omega arith) })
+keeps_from row_next old line new few fits at (inl (more, name, is, e)) =
+    let there : State = record old { next = outcome_next name } in
+    subst (Keeps (title_and old) line) (sym e) (ap (λ (l : List ℕ). title_and old ++ l) (sym is.1), record { announced = few; entries = fits; next = (more, is.0) })
+keeps_from row_next old line new few fits at (inr (all, numbers, is, e)) =
+    let there : State = record old { next = nothing_next numbers.0 numbers.1 } in
+    subst (Keeps (title_and old) line) (sym e) (ap (λ (l : List ℕ). title_and old ++ l) (sym is.2), record { announced = few; entries = fits; next = (omega (arith, at, all), is.0, is.1) })
+keeps_from (outcome_next name) old line new few fits at (outcome, is, e) =
+    let one : Entry = record { name = name; outcome = outcome } in
+    let there : State = record old { next = row_next; entries = old.entries ++ one ∷ [] } in
+    let lines : concat (flat_map entry_lines there.entries) ≡ concat (flat_map entry_lines old.entries) ++ (json_announcement name ++ json_outcome name outcome) =
+    ap concat (flat_map-append entry_lines old.entries (one ∷ [])) ∙ concat-append (flat_map entry_lines old.entries) (entry_lines one) ∙ simp append-nil in
+    let text : state_text there ≡ text_so_far (outcome_next name) old ++ line = rw (is.1, lines) (simp append_assoc) in
+    subst (Keeps (text_so_far (outcome_next name) old) line) (sym e) (
+      text,
+      record {
+        announced = few;
+        entries = fits_more old.entries one fits (record { name = at.1; outcome = is.0 });
+        next = omega (arith, at.0, length-append old.entries (one ∷ []));
+      },
+    )
+keeps_from (nothing_next filtered_out nanos) old line new few fits at h = absurd h
+
+pub step_keeps : (old : State) (line : List ℕ) (new : State) → Fits old → Step old line new → (state_text new ≡ state_text old ++ line) × Fits new
+step_keeps old line new fits step = keeps_from old.next old line new fits.announced fits.entries fits.next step
+
+-- ---- where all rows have come
+
+no_summary : (s : State) (line : List ℕ) (t : State) → s.announced ≤ length s.entries → ((v : ℕ × ℕ) → IsSummary s.entries v line → ⊥) → Announces s line t ⊎ Ends s line t → ⊥
+no_summary s line t all none (inl (more, name, is, e)) = omega (arith, more, all)
+no_summary s line t all none (inr (done, numbers, is, e)) = none numbers is
+
+pub refuses_summary : (s : State) (line : List ℕ) → s.next ≡ row_next → s.announced ≤ length s.entries → ((v : ℕ × ℕ) → IsSummary s.entries v line → ⊥) → (t : State) → Step s line t → ⊥
+refuses_summary s line at all none t h = no_summary s line t all none (rw at at h)
+
+one_end : (s : State) (line : List ℕ) (v : ℕ × ℕ) (t : State) → s.announced ≤ length s.entries → ((u : ℕ × ℕ) → IsSummary s.entries u line → u ≡ v) → Announces s line t ⊎ Ends s line t → t ≡ record s { next = nothing_next v.0 v.1 }
+one_end s line v t all only (inl (more, name, is, e)) = absurd (omega (arith, more, all))
+one_end s line v t all only (inr (done, numbers, is, e)) = e ∙ ap (λ (u : ℕ × ℕ). record s { next = nothing_next u.0 u.1 }) (only numbers is)
+
+pub takes_summary : (s : State) (line : List ℕ) (v : ℕ × ℕ) → s.next ≡ row_next → s.announced ≤ length s.entries → Decodes (IsSummary s.entries) line (Some v) → Takes true s line (record s { next = nothing_next v.0 v.1 })
+takes_summary s line v at all d = rw at (inr (all, v, d.0, refl), λ t h. one_end s line v t all d.1 h)

@@ -1,0 +1,71 @@
+-- Reading a report line by line, as a machine: which line may come next, and where it leads. No public clause names these words.
+use Rattle.std.specs.Prelude.{◌≡◌, ◌≢◌, ◌⊎◌, ℕ, ◌<◌, ◌≤◌, List, [], ◌∷◌, ◌++◌, length, map, string_bytes, Bool, true, false, Option, Some, None}
+use Rattle.mimic_trial.specs.declared.outcome.Outcome.{Outcome}
+use Rattle.mimic_printer.specs.Json.{Entry, Contents}
+pub use Rattle.mimic_printer.specs.Json.{HasNoEnd, IsLine}
+use Rattle.mimic_events.specs.declared.progress.Stage.{Stage}
+use Rattle.mimic_events.specs.declared.progress.Stage.TheVariants as stage
+use Rattle.mimic_events.specs.declared.progress.Progress.{Progress}
+use Rattle.mimic_events.specs.Contents.{entry_read}
+use Rattle.mimic_events.specs.Reading.{IsTitle, IsAnnouncement, IsOutcome, IsSummary}
+
+-- ---- states between lines
+
+-- which line comes next: the title; a row's announcement or the summary; the outcome of the row of this name; none, since the
+-- summary has said how many trials were filtered out, and the nanoseconds
+pub data Next : Type 0 where
+  title_next : Next
+  row_next : Next
+  outcome_next : List ℕ → Next
+  nothing_next : ℕ → ℕ → Next
+
+-- which line comes next, how many rows the title announced, and the rows that have ended
+pub record State : Type 0 where
+  pub next : Next
+  pub announced : ℕ
+  pub entries : List Entry
+
+-- no line was read
+abbrev pub start : State
+start = record { next = title_next; announced = 0; entries = [] }
+
+abbrev pub next_of : Stage → Next
+next_of stage.Title = title_next
+next_of stage.Row = row_next
+next_of (stage.Outcome name) = outcome_next (string_bytes name)
+next_of (stage.Over filtered_out nanos) = nothing_next filtered_out nanos
+
+abbrev pub state_of : Progress → State
+state_of p = record { next = next_of p.stage; announced = p.announced; entries = map entry_read p.rows.items }
+
+-- ---- steps
+
+-- not all rows have come, and the line announces one
+abbrev pub Announces : State → List ℕ → State → Type 0
+Announces old line new = (length old.entries < old.announced) × (name : List ℕ) × IsAnnouncement name line × (new ≡ record old { next = outcome_next name })
+
+-- all rows have come, and the line is their summary
+abbrev pub Ends : State → List ℕ → State → Type 0
+Ends old line new = (old.announced ≤ length old.entries) × (numbers : ℕ × ℕ) × IsSummary old.entries numbers line × (new ≡ record old { next = nothing_next numbers.0 numbers.1 })
+
+-- where a line leads, by which line comes next
+abbrev pub LeadsFrom : Next → State → List ℕ → State → Type 0
+LeadsFrom title_next old line new = (count : ℕ) × IsTitle count line × (new ≡ record old { next = row_next; announced = count })
+LeadsFrom row_next old line new = Announces old line new ⊎ Ends old line new
+LeadsFrom (outcome_next name) old line new =
+    (outcome : Outcome) × IsOutcome name outcome line × (new ≡ record old { next = row_next; entries = old.entries ++ record { name = name; outcome = outcome } ∷ [] })
+LeadsFrom (nothing_next filtered_out nanos) old line new = ⊥
+
+-- the line leads from one state to the other
+abbrev pub Step : State → List ℕ → State → Type 0
+Step old line new = LeadsFrom old.next old line new
+
+-- the line leads to the new state and to no other; or it leads nowhere, and the state stays
+abbrev pub Takes : Bool → State → List ℕ → State → Type 0
+Takes true old line new = Step old line new × ((s : State) → Step old line s → s ≡ new)
+Takes false old line new = (new ≡ old) × ((s : State) → Step old line s → ⊥)
+
+-- what the lines said, where the summary was the last of them; nothing where it wasn't
+abbrev pub IsReadOut : State → Option Contents → Type 0
+IsReadOut s None = (filtered_out nanos : ℕ) → s.next ≢ nothing_next filtered_out nanos
+IsReadOut s (Some c) = (s.next ≡ nothing_next c.filtered_out c.nanos) × (s.entries ≡ c.entries)

@@ -1,9 +1,0 @@
-use Rattle.mimic_printer.proofs.Measured.{outcome_line-measured}
-use Rattle.mimic_printer.proofs.Printer.print_outcome_line.Goals as goal
-
-pub returns-in-Measured : goal.returns-in-Measured
-returns-in-Measured g c =
-    let start = rw c.in-Measured.is at c.colour_start.ensures in
-    let word = rw c.in-Measured.is at c.word.ensures in
-    let written = rw word at c.put_pieces.ensures in
-    rw (c.in-Measured.is, outcome_line-measured c.args.self.now c.in-Measured.measurement, ← start, ← c.colour_end.ensures) written

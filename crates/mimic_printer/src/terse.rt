@@ -1,0 +1,52 @@
+//! Outcomes in terse: a mark each, and no announcement. All else is as in pretty.
+ghost use Rattle.std.specs.Prelude.{◌≡◌, ◌-◌, ◌^◌, ◌<◌};
+ghost use Rattle.mimic_printer.specs.Report.{outcome_mark, terse_outcome};
+ghost use Rattle.mimic_printer.specs.Sink.{Puts, faults_of};
+
+use crate::colour::{colour_end, colour_start};
+use crate::piece::{Piece, put_pieces};
+use crate::sink::{Sink, WriteFault};
+use crate::{Printer, pretty};
+use mimic_trial::Outcome;
+use std::io::Write;
+
+// Writes the mark of an outcome, or the whole line of a measurement, as pretty has it.
+pub(super) fn put_outcome<W: Write>(
+    sink: &mut Sink<W>,
+    printer: &Printer,
+    outcome: &Outcome,
+) -> Result<(), WriteFault>
+    requires { faults_of sink.old < 2 ^ 64 - 1 }
+    ensures { Puts W.contents sink.old sink.new (terse_outcome printer.now outcome.now) result }
+{
+    match outcome {
+        Outcome::Passed => put_mark(sink, printer, outcome, ".")?,
+        Outcome::Failed(_) => put_mark(sink, printer, outcome, "F")?,
+        Outcome::Ignored => put_mark(sink, printer, outcome, "i")?,
+        Outcome::Measured(_) => pretty::put_outcome(sink, printer, outcome)?,
+    }
+    Ok(())
+}
+
+#[tactic(auto, unfolding(crate::specs::Report::outcome_mark))]
+fn put_mark<W: Write>(
+    sink: &mut Sink<W>,
+    printer: &Printer,
+    outcome: &Outcome,
+    mark: &str,
+) -> Result<(), WriteFault>
+    requires { faults_of sink.old < 2 ^ 64 - 1 }
+    ensures { Puts W.contents sink.old sink.new (outcome_mark printer.now outcome.now mark.now) result }
+{
+    if printer.colour {
+        let pieces = [
+            Piece::Text(colour_start(printer, outcome)),
+            Piece::Text(mark),
+            Piece::Text(colour_end(printer)),
+        ];
+        put_pieces(sink, &pieces)?;
+    } else {
+        sink.put(mark.as_bytes())?;
+    }
+    Ok(())
+}
