@@ -15,7 +15,7 @@ use Rattle.mimic_pool.specs.Arrivals.{arrived_at, has_come, missing_of}
 use Rattle.mimic_pool.specs.Missing.{free_from}
 use Rattle.mimic_pool.specs.Seats.{seated, seat_row}
 
-pub has_shown : (seats : List (Option Outcome)) (order : List ℕ) (p : ℕ) → has_come p (map (seat_row seats) order) ≡ list_any (eqb p) order
+has_shown : (seats : List (Option Outcome)) (order : List ℕ) (p : ℕ) → has_come p (map (seat_row seats) order) ≡ list_any (eqb p) order
 has_shown seats [] p = refl
 has_shown seats (x ∷ xs) p = ap (λ t. eqb p x || t) (has_shown seats xs p)
 
@@ -96,9 +96,9 @@ distinct_more xs p d none = IsDistinct-push eqb_equiv xs p d none
 
 -- there is room for a place that is not in the order
 pub room_left : (seats : List (Option Outcome)) (order : List ℕ) (p : ℕ) → IsDistinct eqb order
-    → ((q : ℕ) → list_any (eqb q) order ≡ is_some (slice_index_or seats q None)) → p < length seats → is_some (slice_index_or seats p None) ≡ false → length order < length seats
+    → ((q : ℕ) → list_any (eqb q) order ≡ is_some (slice_index_or seats q None)) → p < length seats → list_any (eqb p) order ≡ false → length order < length seats
 room_left seats order p d taken low free =
-    let more = length-le_from_distinct_below (order ++ p ∷ []) (length seats) (IsDistinct-push eqb_equiv order p d (taken p ∙ free)) (more_below seats order p taken low) in
+    let more = length-le_from_distinct_below (order ++ p ∷ []) (length seats) (IsDistinct-push eqb_equiv order p d free) (more_below seats order p taken low) in
     let len = length-append order (p ∷ []) in
     omega arith
 
@@ -113,9 +113,14 @@ taken_more seats order p o low taken q =
       | inr e ↦ split ∙ (ap (λ t. list_any (eqb q) order || (t || false)) e.0 ∙ (or_false (list_any (eqb q) order) ∙ (taken q ∙ ap is_some (sym (get_or-set_other seats p q (Some o) None e.1)))))
     ]
 
-pub seat_known : (seats : List (Option Outcome)) (p : ℕ) (now : Option Outcome) (b : Bool) → now ≡ slice_index_or seats p now → p < length seats → is_some now ≡ b
-    → is_some (slice_index_or seats p None) ≡ b
-seat_known seats p now b at low is = ap is_some (get_or_default seats p None now low ∙ sym at) ∙ is
+-- what the order and the rows say of a seat that was looked at
+pub order_known : (seats : List (Option Outcome)) (order : List ℕ) (p : ℕ) (now : Option Outcome) (b : Bool)
+    → ((q : ℕ) → list_any (eqb q) order ≡ is_some (slice_index_or seats q None)) → now ≡ slice_index_or seats p now → p < length seats → is_some now ≡ b
+    → list_any (eqb p) order ≡ b
+order_known seats order p now b taken at low is = taken p ∙ (ap is_some (get_or_default seats p None now low ∙ sym at) ∙ is)
+
+pub come_known : (seats : List (Option Outcome)) (order : List ℕ) (p : ℕ) (b : Bool) → list_any (eqb p) order ≡ b → has_come p (map (seat_row seats) order) ≡ b
+come_known seats order p b known = has_shown seats order p ∙ known
 
 -- the rows after a first arrival
 pub shown_more : (seats : List (Option Outcome)) (order : List ℕ) (p : ℕ) (o : Outcome) → p < length seats → list_any (eqb p) order ≡ false

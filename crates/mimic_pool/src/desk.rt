@@ -94,19 +94,6 @@ impl Desk {
         self.order.as_slice()
     }
 
-    /// Compares the first arrivals with the outcomes that workers answered, which stand by place. An `Err` names the
-    /// least place that differs. Places at which nothing arrived are passed over.
-    pub fn settle(&self, joined: &[Outcome]) -> Result<(), usize>
-        requires { length joined.now ≡ self.now.places }
-        ensures { MatchResult result
-            (λ _. (place : ℕ) → AgreesAt self.now.rows joined.now place)
-            (λ differs. (¬ AgreesAt self.now.rows joined.now differs) × ((place : ℕ) → place < differs → AgreesAt self.now.rows joined.now place)) }
-    {
-        first_difference(self.seats.as_slice(), joined)
-    }
-}
-
-impl Desk {
     /// The places at which nothing arrived, rising. Those of `order` and then these are all places, each once.
     pub fn missing(&self) -> Missing<'_>
         ensures places { missing_items result ≡ missing_of self.now }
@@ -118,6 +105,17 @@ impl Desk {
             seats: self.seats.as_slice(),
             next: 0,
         }
+    }
+
+    /// Compares the first arrivals with the outcomes that workers answered, which stand by place. An `Err` names the
+    /// least place that differs. Places at which nothing arrived are passed over.
+    pub fn settle(&self, joined: &[Outcome]) -> Result<(), usize>
+        requires { length joined.now ≡ self.now.places }
+        ensures { MatchResult result
+            (λ _. (place : ℕ) → AgreesAt self.now.rows joined.now place)
+            (λ differs. (¬ AgreesAt self.now.rows joined.now differs) × ((place : ℕ) → place < differs → AgreesAt self.now.rows joined.now place)) }
+    {
+        first_difference(self.seats.as_slice(), joined)
     }
 }
 

@@ -1,8 +1,8 @@
-use Rattle.std.proofs.Common.{arith, ◌∙◌, sym, true, false, Some}
+use Rattle.std.proofs.Common.{arith, sym, true, false, Some, ◌∙◌}
 use Rattle.std.proofs.Math.ListN.{length-set}
 use Rattle.mimic_pool.specs.Seats.{arrived_of}
 use Rattle.mimic_pool.proofs.FirstArrivals.{again_kept, first_kept, history_more, said, stranger_kept}
-use Rattle.mimic_pool.proofs.Seating.{distinct_more, has_shown, room_left, seat_known, shown_more, taken_more}
+use Rattle.mimic_pool.proofs.Seating.{come_known, distinct_more, order_known, room_left, shown_more, taken_more}
 use Rattle.mimic_pool.proofs.desk.Desk.arrive.Goals as goal
 
 -- ---- no such place
@@ -20,16 +20,14 @@ returns-then-place-len-clause-history c = history_more _ _ _ _ (returns-then-pla
 pub returns-then-is_some-clause-answer : goal.returns-then-is_some-clause-answer
 returns-then-is_some-clause-answer c =
     let ok = c.self.inside.seats.ok in
-    let known = seat_known c.self.inside.seats.items c.args.place c.index.result.now true c.index.ensures (omega arith) (sym c.if-is_some.ensures) in
-    let has = has_shown c.self.inside.seats.items c.self.inside.order.items c.args.place ∙ (c.self.invariant.taken c.args.place ∙ known) in
-    rw (← c.self.view_is) (said (arrived_of c.self.inside) _ true (omega arith) has)
+    let taken = order_known _ _ c.args.place _ true c.self.invariant.taken c.index.ensures (omega arith) (sym c.if-is_some.ensures) in
+    rw (← c.self.view_is) (said (arrived_of c.self.inside) _ true (omega arith) (come_known c.self.inside.seats.items c.self.inside.order.items c.args.place true taken))
 
 pub returns-then-is_some-clause-rows : goal.returns-then-is_some-clause-rows
 returns-then-is_some-clause-rows c =
     let ok = c.self.inside.seats.ok in
-    let known = seat_known c.self.inside.seats.items c.args.place c.index.result.now true c.index.ensures (omega arith) (sym c.if-is_some.ensures) in
-    let has = has_shown c.self.inside.seats.items c.self.inside.order.items c.args.place ∙ (c.self.invariant.taken c.args.place ∙ known) in
-    rw (← c.self.view_is) (again_kept (arrived_of c.self.inside) _ (omega arith) has)
+    let taken = order_known _ _ c.args.place _ true c.self.invariant.taken c.index.ensures (omega arith) (sym c.if-is_some.ensures) in
+    rw (← c.self.view_is) (again_kept (arrived_of c.self.inside) _ (omega arith) (come_known c.self.inside.seats.items c.self.inside.order.items c.args.place true taken))
 
 pub returns-then-is_some-clause-history : goal.returns-then-is_some-clause-history
 returns-then-is_some-clause-history c = history_more _ _ _ _ (returns-then-is_some-clause-rows c)
@@ -40,38 +38,34 @@ pub push_reserved-requires : goal.push_reserved-requires
 push_reserved-requires c =
     let ok = c.self.inside.seats.ok in
     let order = c.self.inside.order.ok in
-    let known = seat_known c.self.inside.seats.items c.args.place c.index.result.now false c.index.ensures (omega arith) (sym c.if-is_some.ensures) in
-    let room = room_left c.self.inside.seats.items c.self.inside.order.items c.args.place c.self.invariant.distinct c.self.invariant.taken (omega arith) known in
+    let free = order_known _ _ c.args.place _ false c.self.invariant.taken c.index.ensures (omega arith) (sym c.if-is_some.ensures) in
+    let room = room_left _ _ c.args.place c.self.invariant.distinct c.self.invariant.taken (omega arith) free in
     let fits = c.self.invariant.room in
     omega arith
 
 pub invariant_of-self : goal.invariant_of-self
 invariant_of-self c =
     let ok = c.self.inside.seats.ok in
-    let known = seat_known c.self.inside.seats.items c.args.place c.index.result.now false c.index.ensures (omega arith) (sym c.if-is_some.ensures) in
-    let none = c.self.invariant.taken c.args.place ∙ known in
+    let free = order_known _ _ c.args.place _ false c.self.invariant.taken c.index.ensures (omega arith) (sym c.if-is_some.ensures) in
     let pushed = c.push_reserved.ensures.items in
     record {
       taken = rw pushed (taken_more _ _ _ _ (omega arith) c.self.invariant.taken);
-      distinct = rw pushed (distinct_more _ _ c.self.invariant.distinct none);
+      distinct = rw pushed (distinct_more _ _ c.self.invariant.distinct free);
       room = let cap = c.push_reserved.ensures.capacity in let room = c.self.invariant.room in let len = length-set c.self.inside.seats.items c.args.place (Some c.args.outcome) in omega arith;
     }
 
 pub returns-clause-answer : goal.returns-clause-answer
 returns-clause-answer c =
     let ok = c.self.inside.seats.ok in
-    let known = seat_known c.self.inside.seats.items c.args.place c.index.result.now false c.index.ensures (omega arith) (sym c.if-is_some.ensures) in
-    let none = has_shown c.self.inside.seats.items c.self.inside.order.items c.args.place ∙ (c.self.invariant.taken c.args.place ∙ known) in
-    rw (← c.self.view_is) (said (arrived_of c.self.inside) _ false (omega arith) none)
+    let free = order_known _ _ c.args.place _ false c.self.invariant.taken c.index.ensures (omega arith) (sym c.if-is_some.ensures) in
+    rw (← c.self.view_is) (said (arrived_of c.self.inside) _ false (omega arith) (come_known c.self.inside.seats.items c.self.inside.order.items c.args.place false free))
 
 pub returns-clause-rows : goal.returns-clause-rows
 returns-clause-rows c =
     let ok = c.self.inside.seats.ok in
-    let known = seat_known c.self.inside.seats.items c.args.place c.index.result.now false c.index.ensures (omega arith) (sym c.if-is_some.ensures) in
-    let free = c.self.invariant.taken c.args.place ∙ known in
-    let none = has_shown c.self.inside.seats.items c.self.inside.order.items c.args.place ∙ free in
+    let free = order_known _ _ c.args.place _ false c.self.invariant.taken c.index.ensures (omega arith) (sym c.if-is_some.ensures) in
     let pushed = c.push_reserved.ensures.items in
-    rw (pushed, ← c.self.view_is) (shown_more _ _ _ _ (omega arith) free ∙ first_kept (arrived_of c.self.inside) _ (omega arith) none)
+    rw (pushed, ← c.self.view_is) (shown_more _ _ _ _ (omega arith) free ∙ first_kept (arrived_of c.self.inside) _ (omega arith) (come_known c.self.inside.seats.items c.self.inside.order.items c.args.place false free))
 
 pub returns-clause-history : goal.returns-clause-history
 returns-clause-history c = history_more _ _ _ _ (returns-clause-rows c)
