@@ -30,31 +30,29 @@ Put-got : (old : Option (List ℕ)) (new : Shown) (got : Option (List ℕ)) (tex
 Put-got old new got text k p = record { appended = Appends-kept old new.bytes got text p.appended k; faults = refl }
 
 module _ {R : Type 0} (gives : Gives R) (args : Arguments) (auto : Bool) (trials : List (Trial R)) where
-  Ran-got : (old : Option (List ℕ)) (new : Shown) (got : Option (List ℕ)) (watch : Watched) (c : Conclusion) → Keeps new.bytes got → Answered gives args auto trials (faultless old) new watch c → Ran gives args auto trials old got c
-  Ran-got old new got watch c k a = (
-    watch,
-    record {
-      listed = λ asked. let l = a.listed asked in (l.0, (l.1.0, l.1.1, Put-got old new got _ k l.1.2));
-      reported = λ unlisted.
-          let o = a.reported unlisted in
-          let r = o.2.2 in (
-            o.0,
-            o.1,
-            (
-              o.2.0,
-              o.2.1,
-              record {
-                arranged = r.arranged;
-                nanos = r.nanos;
-                elapsed = r.elapsed;
-                fits = r.fits;
-                appended = Put-got old new got _ k r.appended;
-                counts = r.counts;
-              },
-            ),
-          );
-    },
-  )
+  Ran-got : (old : Option (List ℕ)) (new : Shown) (got : Option (List ℕ)) (c : Conclusion) → Keeps new.bytes got → Answered gives args auto trials (faultless old) new c → Ran gives args auto trials old got c
+  Ran-got old new got c k a = record {
+    watch = a.watch;
+    listed = λ asked. let l = a.listed asked in (l.0, (l.1.0, l.1.1, Put-got old new got _ k l.1.2));
+    reported = λ unlisted.
+        let o = a.reported unlisted in
+        let r = o.2.2 in (
+          o.0,
+          o.1,
+          (
+            o.2.0,
+            o.2.1,
+            record {
+              arranged = r.arranged;
+              nanos = r.nanos;
+              elapsed = r.elapsed;
+              fits = r.fits;
+              appended = Put-got old new got _ k r.appended;
+              counts = r.counts;
+            },
+          ),
+        );
+  }
 
   OnOk-here : {T E : Type 0} (finished : Result T E) (K : Type 0) → IsOk finished → OnOk finished K → K
   OnOk-here (Ok x) K p k = k
@@ -69,7 +67,8 @@ module _ {R : Type 0} (gives : Gives R) (args : Arguments) (auto : Bool) (trials
   Ran-settled old first new got watch ran (Ok c) finished e k a f listed reported =
       let L : Result Conclusion RunError → Shown → Type 0 = λ x s. args.list ≡ true → IfOk x (λ d. (d ≡ counts_of [] 0) × OfSuite args auto trials (λ suite. Put s new (list_text suite.trials))) in
       let Q : Result Conclusion RunError → Shown → Type 0 = λ x s. args.list ≡ false → IfOk x (λ d. OfSuite args auto trials (λ suite. ReportedInOrder gives suite s new watch d)) in
-      Ran-got old new got watch c (OnOk-here finished _ (f refl) k) (record {
+      Ran-got old new got c (OnOk-here finished _ (f refl) k) (record {
+        watch = watch;
         listed = subst (L (Ok c)) e (subst (λ x. L x first) a listed);
         reported = subst (Q (Ok c)) e (subst (λ x. Q x first) a reported);
       })
@@ -87,9 +86,9 @@ module _ {R : Type 0} (gives : Gives R) (args : Arguments) (auto : Bool) (trials
       → (args.list ≡ true → OnWriteFault ran (OfSuite args auto trials (λ suite. Stopped old new (list_text suite.trials))))
       → (args.list ≡ false → OnWriteFault ran (OfSuite args auto trials (λ suite. StartsReport gives suite (in_order suite) old new watch)))
       → OnOutOfMemory ran (new ≡ old)
-      → MatchResult ran (λ c. Answered gives args auto trials old new watch c) (λ e. Refused gives args auto trials old new watch e)
-  cases old new watch (Ok c) listed reported list_stopped report_stopped memory = record { listed = listed; reported = reported }
-  cases old new watch (Err e) listed reported list_stopped report_stopped memory = record { list_stopped = list_stopped; report_stopped = report_stopped; memory = memory }
+      → MatchResult ran (λ c. Answered gives args auto trials old new c) (λ e. Refused gives args auto trials old new e)
+  cases old new watch (Ok c) listed reported list_stopped report_stopped memory = record { watch = watch; listed = listed; reported = reported }
+  cases old new watch (Err e) listed reported list_stopped report_stopped memory = record { watch = watch; list_stopped = list_stopped; report_stopped = report_stopped; memory = memory }
 
   pub GotBeginning-from : (old : Option (List ℕ)) (first new : Shown) (got : Option (List ℕ)) (watch : Watched) (ran : Result Conclusion RunError) → first ≡ faultless old → HandsOn new.bytes got
       → (args.list ≡ true → IfOk ran (λ c. (c ≡ counts_of [] 0) × OfSuite args auto trials (λ suite. Put first new (list_text suite.trials))))
@@ -99,10 +98,9 @@ module _ {R : Type 0} (gives : Gives R) (args : Arguments) (auto : Bool) (trials
       → OnOutOfMemory ran (new ≡ first)
       → GotBeginning gives args auto trials old got
   GotBeginning-from old first new got watch ran e handed listed reported list_stopped report_stopped memory =
-      let P : Shown → Type 0 = λ s. MatchResult ran (λ c. Answered gives args auto trials s new watch c) (λ x. Refused gives args auto trials s new watch x) in
+      let P : Shown → Type 0 = λ s. MatchResult ran (λ c. Answered gives args auto trials s new c) (λ x. Refused gives args auto trials s new x) in
       record {
         left = new;
-        watch = watch;
         answer = ran;
         ran = subst P e (cases first new watch ran listed reported list_stopped report_stopped memory);
         handed = handed;
@@ -123,8 +121,7 @@ GotBeginning-nothing gives args auto trials old told got reserved e f handed =
     let P : Option (List ℕ) → Type 0 = λ bytes. HandsOn bytes got in
     record {
       left = faultless old;
-      watch = nothing;
       answer = Err OutOfMemory;
-      ran = record { list_stopped = λ listed. tt; report_stopped = λ unlisted. tt; memory = refl };
+      ran = record { watch = nothing; list_stopped = λ listed. tt; report_stopped = λ unlisted. tt; memory = refl };
       handed = subst P (f ∙ e) handed;
     }

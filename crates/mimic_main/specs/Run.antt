@@ -20,24 +20,25 @@ faultless bytes = record { bytes = bytes; faults = 0 }
 module _ {R : Type 0} (gives : Gives R) where
   -- what a run left that answered, where `auto` says whether it has colours of its own accord: the list of the selected
   -- trials and five zeros, or a report of them and its counts
-  pub record Answered (args : Arguments) (auto : Bool) (trials : List (Trial R)) (old new : Shown) (watch : Watched) (c : Conclusion) : Type 0 where
+  pub record Answered (args : Arguments) (auto : Bool) (trials : List (Trial R)) (old new : Shown) (c : Conclusion) : Type 0 where
+    pub watch : Watched
     pub listed : args.list ≡ true → (c ≡ counts_of [] 0) × OfSuite args auto trials (λ suite. Put old new (list_text suite.trials))
     pub reported : args.list ≡ false → OfSuite args auto trials (λ suite. ReportedInOrder gives suite old new watch c)
 
   -- what a run left that was refused: a beginning of the list, a start of a report, or nothing new
-  pub record Refused (args : Arguments) (auto : Bool) (trials : List (Trial R)) (old new : Shown) (watch : Watched) (e : RunError) : Type 0 where
+  pub record Refused (args : Arguments) (auto : Bool) (trials : List (Trial R)) (old new : Shown) (e : RunError) : Type 0 where
+    pub watch : Watched
     pub list_stopped : args.list ≡ true → OnWriteFault (Err e) (OfSuite args auto trials (λ suite. Stopped old new (list_text suite.trials)))
     pub report_stopped : args.list ≡ false → OnWriteFault (Err e) (OfSuite args auto trials (λ suite. StartsReport gives suite (in_order suite) old new watch))
     pub memory : OnOutOfMemory (Err e) (new ≡ old)
 
   -- from old bytes to new ones a run answered so
   abbrev pub Ran : Arguments → Bool → List (Trial R) → Option (List ℕ) → Option (List ℕ) → Conclusion → Type 0
-  Ran args auto trials old new c = (watch : Watched) × Answered args auto trials (faultless old) (faultless new) watch c
+  Ran args auto trials old new c = Answered args auto trials (faultless old) (faultless new) c
 
   -- the writer got a beginning of what some run left in its sink
   pub record GotBeginning (args : Arguments) (auto : Bool) (trials : List (Trial R)) (old got : Option (List ℕ)) : Type 0 where
     pub left : Shown
-    pub watch : Watched
     pub answer : Result Conclusion RunError
-    pub ran : MatchResult answer (λ c. Answered args auto trials (faultless old) left watch c) (λ e. Refused args auto trials (faultless old) left watch e)
+    pub ran : MatchResult answer (λ c. Answered args auto trials (faultless old) left c) (λ e. Refused args auto trials (faultless old) left e)
     pub handed : HandsOn left.bytes got
