@@ -369,7 +369,15 @@ fn tells_why_a_line_gave_nothing(rt: HostRuntime) -> Result<(), Fail> {
         let tests = Vec::<Trial>::new(alloc);
         let out = Vec::new(alloc);
         let mut err: Vec<u8> = Vec::new(alloc);
-        let (out, answered) = HARNESS.harness_run(&rt, alloc, Err(error), tests, out, &mut err, StillClock);
+        let (out, answered) = HARNESS.harness_run(
+            &rt,
+            alloc,
+            Err(error),
+            tests,
+            out,
+            &mut err,
+            StillClock,
+        );
         assert_eq!(rt; answered, status);
         assert!(rt; out.is_empty());
         assert!(rt; err.as_slice() == text);
@@ -456,7 +464,9 @@ fn refuses_words_that_are_no_text(rt: HostRuntime) -> Result<(), Fail> {
         let out = Vec::new(alloc);
         let mut err: Vec<u8> = Vec::new(alloc);
         let line = Arguments::from_args(&(RawLine { words }, alloc), alloc);
-        let (out, answered) = HARNESS.harness_run(&rt, alloc, line, trials, out, &mut err, StillClock);
+        let (out, answered) = HARNESS.harness_run(
+            &rt, alloc, line, trials, out, &mut err, StillClock,
+        );
         assert_eq!(rt; answered, status);
         assert!(rt; out.as_slice() == on_out.as_bytes());
         assert!(rt; err.as_slice() == on_err.as_bytes());
@@ -499,7 +509,9 @@ fn tells_of_a_full_output(rt: HostRuntime) -> Result<(), Fail> {
         let out = Narrow { room };
         let mut err: Vec<u8> = Vec::new(alloc);
         let line = Arguments::from_iter(alloc, &words);
-        let (_, answered) = HARNESS.harness_run(&rt, alloc, line, trials, out, &mut err, StillClock);
+        let (_, answered) = HARNESS.harness_run(
+            &rt, alloc, line, trials, out, &mut err, StillClock,
+        );
         assert_eq!(rt; answered, status);
         let text: &[u8] = if status == 1 {
             b"harness: cannot write the report\n"

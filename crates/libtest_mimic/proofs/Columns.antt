@@ -1,5 +1,5 @@
 -- Printers that differ in columns alone print the same where their format has none.
-use Rattle.std.proofs.Common.{◌≡◌, ◌∙◌, ℕ, Bool, List, [], ◌∷◌, ◌++◌, Option, None, Some, length, refl, sym, ap, ap₂, subst}
+use Rattle.std.proofs.Common.{◌≡◌, ◌∙◌, ℕ, Bool, List, [], ◌∷◌, ◌++◌, Option, None, Some, length, refl, ap, ap₂, subst}
 use Rattle.std.specs.List.{concat}
 use Rattle.std.specs.Prelude.{MatchOption}
 use Rattle.mimic_args.specs.declared.FormatSetting.{FormatSetting}
@@ -12,11 +12,11 @@ use Rattle.mimic_trial.specs.Places.{Placed}
 use Rattle.mimic_trial.specs.Promise.{Gives}
 use Rattle.mimic_printer.specs.Row.{Label, PrintedRow, outcomes_of}
 use Rattle.mimic_printer.specs.declared.Printer.{Printer}
-use Rattle.mimic_printer.specs.Report.{announcement_in, announcement_text, failures_in, failures_text, outcome_in, outcome_line, outcome_mark, outcome_text, report_text, result_summary, row_text, rows_text, summary_in, summary_text, terse_outcome, title_in, title_text}
+use Rattle.mimic_printer.specs.Report.{announcement_in, announcement_text, failures_in, failures_text, outcome_in, outcome_line, outcome_mark, report_text, result_summary, row_text, rows_text, summary_in, terse_outcome, title_in, title_text}
 use Rattle.mimic_printer.specs.Sink.{Shown, Put, Stopped}
-use Rattle.libtest_mimic.specs.Run.{Reported, ReportedInOrder, StartsReport, next_text, start_text}
+use Rattle.libtest_mimic.specs.Run.{ReportedInOrder, StartsReport, next_text, start_text}
 use Rattle.libtest_mimic.specs.Steps.{PrintsAs}
-use Rattle.libtest_mimic.specs.Stopwatch.{Watched, IsRunning, elapsed_of}
+use Rattle.libtest_mimic.specs.Stopwatch.{Watched, elapsed_of}
 use Rattle.libtest_mimic.specs.Suite.{Suite, rows_of}
 
 -- a printer is its fields

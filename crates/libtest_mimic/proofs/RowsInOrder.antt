@@ -11,7 +11,6 @@ use Rattle.std.specs.List.{range_with_len}
 use Rattle.std.specs.Prelude.{◌↔◌, IsSomeAnd, IsTrue, slice_get}
 use Rattle.mimic_args.specs.declared.Arguments.{Arguments}
 use Rattle.mimic_trial.specs.declared.outcome.Outcome.{Outcome}
-use Rattle.mimic_trial.specs.declared.outcome.Outcome.TheVariants.{Ignored}
 use Rattle.mimic_trial.specs.declared.trial.TestInfo.{TestInfo}
 use Rattle.mimic_trial.specs.declared.trial.Trial.{Trial}
 use Rattle.mimic_trial.specs.Count.{HasRoom, counted, counts_of, is_failed}
@@ -29,7 +28,7 @@ use Rattle.libtest_mimic.specs.declared.run.tally.Tally.{Tally}
 use Rattle.libtest_mimic.specs.Arrangement.{IsOwn, IsOwnAt}
 use Rattle.libtest_mimic.specs.Selection.{IsIgnored}
 use Rattle.libtest_mimic.specs.Steps.{HasCounted, HasRoomFor, RowsRun, RowsStopped, RowsWritten}
-use Rattle.libtest_mimic.specs.Suite.{Suite, in_order, rows_of}
+use Rattle.libtest_mimic.specs.Suite.{Suite, rows_of}
 
 -- ---- the next element of a list
 

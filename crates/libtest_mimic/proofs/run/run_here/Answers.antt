@@ -1,4 +1,4 @@
-use Rattle.std.proofs.Common.{◌≡◌, ◌≢◌, ◌+◌, ◌-◌, ◌<◌, ◌^◌, ◌∙◌, [], true, false, refl, sym, arith, length, vec_len}
+use Rattle.std.proofs.Common.{◌≡◌, ◌≢◌, ◌+◌, ◌<◌, ◌^◌, ◌∙◌, [], true, false, refl, sym, arith, length, vec_len}
 use Rattle.mimic_trial.specs.Trial.{runner_of}
 use Rattle.mimic_trial.specs.declared.outcome.conclusion.Conclusion.{Conclusion}
 use Rattle.mimic_printer.specs.List.{list_text}

@@ -1,13 +1,12 @@
-use Rattle.std.proofs.Common.{All, ◌≡◌, ◌∙◌, ◌+◌, ◌++◌, ◌∷◌, ◌<◌, [], refl, rules, ap, append_assoc, arith, length, length-append, subst, suc, sym, vec_len}
+use Rattle.std.proofs.Common.{◌≡◌, ◌∙◌, ◌++◌, ◌∷◌, [], refl, rules, ap, append_assoc, arith, length, length-append, subst, sym, vec_len}
 use Rattle.std.proofs.lemmas.List.Elements.{All-nil}
-use Rattle.std.proofs.lemmas.Result.{MatchResult-from_err}
 use Rattle.std.specs.Vec.Iter.{into_iter_items}
 use Rattle.mimic_printer.specs.Row.{label_of, labels_of}
 use Rattle.mimic_trial.specs.Trial.{runner_of}
 use Rattle.mimic_printer.specs.Sink.{shown}
 use Rattle.mimic_printer.proofs.Appending.{Put-refl}
 use Rattle.libtest_mimic.specs.Arrangement.{IsOwnAt}
-use Rattle.libtest_mimic.specs.Steps.{RowsStopped, RowsWritten, suite_with}
+use Rattle.libtest_mimic.specs.Steps.{suite_with}
 use Rattle.libtest_mimic.specs.Suite.{Suite}
 use Rattle.libtest_mimic.proofs.RowsInOrder.{All-next, HasRoom-tally, HasRoomFor-tally, RowsRun-stopped, RowsSoFar-push, count_rows, label_at-next, longer, ran-next, stopped_announcement, stopped_outcome}
 use Rattle.libtest_mimic.proofs.run.in_order.run_rows.Goals as goal
