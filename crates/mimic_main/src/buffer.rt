@@ -197,7 +197,8 @@ impl<W: Write> Write for Output<W> {
         }
         let ends = self.policy == FlushPolicy::OnLineEnd && buf.ends_with(b"\n");
         if ends || buf.len() >= BLOCK {
-            return self.write_through(buf);
+            let count = self.write_through(buf)?;
+            return Ok(count);
         }
         if !self.has_room(buf.len()) {
             self.hand_on()?;
