@@ -71,14 +71,15 @@ module _ {R : Type 0} (gives : Gives R) (args : Arguments) where
       let P : Option (Trial R) → Type 0 = λ x. IsSomeAnd x (λ u. IsOwn gives args u o) in
       subst P (sym here) own
 
-  -- the next trial, taken apart: what a report shows of it, and the outcome that becomes its own
-  pub ran-next : (front rest all : List (Trial R)) (t : Trial R) → front ++ (t ∷ rest) ≡ all → (info : TestInfo) (r : R) (b : Bool) (o : Outcome) → info ≡ info_of t → r ≡ runner_of t
+  -- the next trial of those that are left, taken apart: what a report shows of it, and the outcome that becomes its own
+  pub ran-next : (front left rest all : List (Trial R)) (t : Trial R) → left ≡ t ∷ rest → front ++ left ≡ all → (info : TestInfo) (r : R) (b : Bool) (o : Outcome) → info ≡ info_of t → r ≡ runner_of t
       → (IsTrue b ↔ IsIgnored args t) → IsOutcomeOf gives b r (not args.bench) o
       → (label_of info ≡ label_at (labels_of all) (length front)) × IsOwnAt gives args all (length front, o)
-  ran-next front rest all t e info r b o same runs says own = (
-    ap label_of same ∙ label_at-next front rest all t (length front) e refl,
-    IsOwnAt-next front rest all t (length front) o e refl (IsOwn-from_runner t r b o says runs own),
-  )
+  ran-next front left rest all t step seen info r b o same runs says own =
+      let e : front ++ (t ∷ rest) ≡ all = ap (λ l. front ++ l) (sym step) ∙ seen in (
+        ap label_of same ∙ label_at-next front rest all t (length front) e refl,
+        IsOwnAt-next front rest all t (length front) o e refl (IsOwn-from_runner t r b o says runs own),
+      )
 
 -- ---- places in order
 

@@ -35,27 +35,26 @@ is_set f id = option_map_or (λ t. bytes_eq t (codes "true")) (first_text f id) 
 abbrev pub named : {A : Type 0} → (A → List ℕ) → List A → List ℕ → Option A
 named name values t = find (λ a. bytes_eq t (name a)) values
 
--- the values of `--color`, and their names (the Rust crate's)
+-- the values of `--color`, of `--format` and of `-Z`
 abbrev pub colors : List ColorSetting
 colors = Auto ∷ Always ∷ Never ∷ []
 
+abbrev pub formats : List FormatSetting
+formats = Pretty ∷ Terse ∷ Json ∷ []
+
+abbrev pub unstables : List UnstableFlags
+unstables = UnstableOptions ∷ []
+
+-- their names (the Rust crate's)
 abbrev pub color_name : ColorSetting → List ℕ
 color_name Auto = codes "auto"
 color_name Always = codes "always"
 color_name Never = codes "never"
 
--- the values of `--format`, and their names (the Rust crate's)
-abbrev pub formats : List FormatSetting
-formats = Pretty ∷ Terse ∷ Json ∷ []
-
 abbrev pub format_name : FormatSetting → List ℕ
 format_name Pretty = codes "pretty"
 format_name Terse = codes "terse"
 format_name Json = codes "json"
-
--- the one value of `-Z`, and its name (the Rust crate's)
-abbrev pub unstables : List UnstableFlags
-unstables = UnstableOptions ∷ []
 
 abbrev pub unstable_name : UnstableFlags → List ℕ
 unstable_name UnstableOptions = codes "unstable-options"

@@ -86,21 +86,14 @@ impl Write for Narrow {
     }
 }
 
-// What the program left on its two outputs.
-#[derive(Drop)]
-struct Left {
-    status: u8,
-    out: String,
-    err: String,
-}
-
+// The status, and what the program left on its two outputs.
 fn run_over(
     alloc: Global,
     bytes: &[u8],
     fault: Option<ErrorKind>,
     room: usize,
     flush_fails: bool,
-) -> Result<Left, Fail> {
+) -> Result<(u8, String, String), Fail> {
     let mut input = Input { left: bytes, fault };
     let mut out = Narrow {
         taken: Vec::new(alloc),
@@ -109,11 +102,9 @@ fn run_over(
     };
     let mut err: Vec<u8> = Vec::new(alloc);
     let status = readreport_run(alloc, &mut input, &mut out, &mut err);
-    Ok(Left {
-        status,
-        out: String::from_utf8(out.taken)?,
-        err: String::from_utf8(err)?,
-    })
+    let out = String::from_utf8(out.taken)?;
+    let err = String::from_utf8(err)?;
+    Ok((status, out, err))
 }
 
 // Of no rows, of one, and of ten, with seven different numbers.
@@ -134,10 +125,16 @@ fn tells_reports(rt: HostRuntime) -> Result<(), Fail> {
             "10 trials: 2 passed; 1 failed; 4 ignored; 3 measured; 16 filtered out; 5 ns\n",
         ),
     ] {
-        let left = run_over(rt.alloc(), report.as_bytes(), None, usize::MAX, false)?;
-        assert_eq!(rt; left.status, 0);
-        assert_eq!(rt; left.out.as_str(), line);
-        assert_eq!(rt; left.err.as_str(), "");
+        let (status, on_out, on_err) = run_over(
+            rt.alloc(),
+            report.as_bytes(),
+            None,
+            usize::MAX,
+            false,
+        )?;
+        assert_eq!(rt; status, 0);
+        assert_eq!(rt; on_out.as_str(), line);
+        assert_eq!(rt; on_err.as_str(), "");
     }
     Ok(())
 }
@@ -151,10 +148,10 @@ fn refuses_other_input(rt: HostRuntime) -> Result<(), Fail> {
         &ONE_ROW.as_bytes()[1..],
         &ONE_ROW.as_bytes()[..ONE_ROW.len() - 1],
     ] {
-        let left = run_over(rt.alloc(), bytes, None, usize::MAX, false)?;
-        assert_eq!(rt; left.status, 1);
-        assert_eq!(rt; left.out.as_str(), "");
-        assert_eq!(rt; left.err.as_str(), "not a report\n");
+        let (status, on_out, on_err) = run_over(rt.alloc(), bytes, None, usize::MAX, false)?;
+        assert_eq!(rt; status, 1);
+        assert_eq!(rt; on_out.as_str(), "");
+        assert_eq!(rt; on_err.as_str(), "not a report\n");
     }
     Ok(())
 }
@@ -169,10 +166,10 @@ fn tells_of_faulty_input(rt: HostRuntime) -> Result<(), Fail> {
         (ONE_ROW.len(), ErrorKind::OutOfMemory, "out of memory\n"),
     ] {
         let bytes = &ONE_ROW.as_bytes()[..count];
-        let left = run_over(rt.alloc(), bytes, Some(kind), usize::MAX, false)?;
-        assert_eq!(rt; left.status, 1);
-        assert_eq!(rt; left.out.as_str(), "");
-        assert_eq!(rt; left.err.as_str(), text);
+        let (status, on_out, on_err) = run_over(rt.alloc(), bytes, Some(kind), usize::MAX, false)?;
+        assert_eq!(rt; status, 1);
+        assert_eq!(rt; on_out.as_str(), "");
+        assert_eq!(rt; on_err.as_str(), text);
     }
     Ok(())
 }
@@ -189,10 +186,16 @@ fn tells_of_a_full_output(rt: HostRuntime) -> Result<(), Fail> {
             "1 trials: 0 passed; 0 failed; 0 ignored; 1 measured; 16 filtered out; 1000000005 ns\n",
         ),
     ] {
-        let left = run_over(rt.alloc(), ONE_ROW.as_bytes(), None, room, flush_fails)?;
-        assert_eq!(rt; left.status, 1);
-        assert_eq!(rt; left.out.as_str(), out);
-        assert_eq!(rt; left.err.as_str(), "cannot write\n");
+        let (status, on_out, on_err) = run_over(
+            rt.alloc(),
+            ONE_ROW.as_bytes(),
+            None,
+            room,
+            flush_fails,
+        )?;
+        assert_eq!(rt; status, 1);
+        assert_eq!(rt; on_out.as_str(), out);
+        assert_eq!(rt; on_err.as_str(), "cannot write\n");
     }
     Ok(())
 }

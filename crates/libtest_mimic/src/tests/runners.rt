@@ -10,17 +10,16 @@ use std::test::Fail;
 // A sum and what it is to be: plain data.
 #[derive(Drop)]
 struct Sum {
-    left: u32,
-    right: u32,
+    summands: (u32, u32),
     total: u64,
 }
 
 impl Task for Sum {
     // It passes exactly where the sum is right.
-    ghost gives = { λ sum _ o. o ≡ (if sum.left + sum.right == sum.total then HasPassed else HasFailed None) };
+    ghost gives = { λ sum _ o. o ≡ (if sum.summands.0 + sum.summands.1 == sum.total then HasPassed else HasFailed None) };
 
     fn run(self, _test_mode: bool) -> Outcome {
-        if u64::from(self.left) + u64::from(self.right) == self.total {
+        if u64::from(self.summands.0) + u64::from(self.summands.1) == self.total {
             Outcome::Passed
         } else {
             Outcome::Failed(Failed::without_message())
@@ -34,8 +33,7 @@ fn sums(alloc: Global, cases: &[(u32, u32, u64)]) -> Result<Vec<Trial<Sum>>, Fai
     for (left, right, total) in cases {
         let name = format!(in alloc; "{left} + {right}")?;
         let sum = Sum {
-            left: *left,
-            right: *right,
+            summands: (*left, *right),
             total: *total,
         };
         trials.push(Trial::new(name, sum))?;

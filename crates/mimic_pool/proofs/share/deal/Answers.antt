@@ -5,15 +5,15 @@ use Rattle.mimic_pool.proofs.share.deal.Goals as goal
 
 pub loop-runner-init : goal.loop-runner-init
 loop-runner-init g c = record {
-  len = search rules;
-  left = search rules;
-  some_worker = omega arith;
   dealt = λ w d below.
       let ok = c.in_ok-shares.shares.ok in
       let len = c.in_ok-shares.ensures.len in
       let none = c.in_ok-shares.ensures.empty w d (omega arith) in
       let all = c.into_iter-runner-iterator.ensures.into_iter_gives.0 in
       rw (none, all) refl;
+  len = search rules;
+  left = search rules;
+  some_worker = omega arith;
 }
 
 pub loop-runner-preserved : goal.loop-runner-preserved

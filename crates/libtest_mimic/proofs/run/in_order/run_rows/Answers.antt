@@ -30,15 +30,13 @@ loop-trial-init g c =
 
 pub loop-trial-preserved : goal.loop-trial-preserved
 loop-trial-preserved g c =
-    let told = shown g.W.Write.contents in
     let seen = c.loop-trial.yielded in
     let suite : Suite _ = suite_with c.args.args.now c.args.trials.items c.args.printer.now c.args.tally.now in
-    let split = ap (λ l. seen ++ l) (sym c.in-Some.ensures.steps.0) ∙ c.loop-trial.invariant.seen in
-    let ran = ran-next g.R.Task.gives suite.args seen _ suite.trials c.in-Some.trial split _ _ _ _ c.into_parts-info.ensures.info c.into_parts-info.ensures.runner c.is_ignored-ignored.ensures c.run_unless-outcome.ensures in
-    let next = RowsSoFar-push g.R.Task.gives suite (length seen) _ _ _ (told c.print_single_outcome.new.sink) c.loop-trial.tally c.loop-trial.invariant.so_far c.into_parts-info.result.0 _ ran.0 ran.1
+    let ran = ran-next g.R.Task.gives suite.args seen _ _ suite.trials c.in-Some.trial c.in-Some.ensures.steps.0 c.loop-trial.invariant.seen _ _ _ _ c.into_parts-info.ensures.info c.into_parts-info.ensures.runner c.is_ignored-ignored.ensures c.run_unless-outcome.ensures in
+    let next = RowsSoFar-push g.R.Task.gives suite (length seen) _ _ _ (shown g.W.Write.contents c.print_single_outcome.new.sink) c.loop-trial.tally c.loop-trial.invariant.so_far c.into_parts-info.result.0 _ ran.0 ran.1
     c.record.new.self c.in_ok-print_test.ensures c.in_ok-print_single_outcome.ensures c.record.ensures.counted in
     record {
-      seen = append_assoc seen (c.in-Some.trial ∷ []) _ ∙ split;
+      seen = append_assoc seen (c.in-Some.trial ∷ []) _ ∙ (ap (λ l. seen ++ l) (sym c.in-Some.ensures.steps.0) ∙ c.loop-trial.invariant.seen);
       room = c.record.ensures.room _ c.loop-trial.invariant.room;
       so_far = rw (length-append seen (c.in-Some.trial ∷ [])) next;
     }
@@ -56,14 +54,12 @@ returns-in_err-print_test g c =
 
 pub returns-in_err-print_single_outcome : goal.returns-in_err-print_single_outcome
 returns-in_err-print_single_outcome g c =
-    let told = shown g.W.Write.contents in
     let seen = c.loop-trial.yielded in
     let suite : Suite _ = suite_with c.args.args.now c.args.trials.items c.args.printer.now c.args.tally.now in
-    let split = ap (λ l. seen ++ l) (sym c.in-Some.ensures.steps.0) ∙ c.loop-trial.invariant.seen in
-    let ran = ran-next g.R.Task.gives suite.args seen _ suite.trials c.in-Some.trial split _ _ _ _ c.into_parts-info.ensures.info c.into_parts-info.ensures.runner c.is_ignored-ignored.ensures c.run_unless-outcome.ensures in
+    let ran = ran-next g.R.Task.gives suite.args seen _ _ suite.trials c.in-Some.trial c.in-Some.ensures.steps.0 c.loop-trial.invariant.seen _ _ _ _ c.into_parts-info.ensures.info c.into_parts-info.ensures.runner c.is_ignored-ignored.ensures c.run_unless-outcome.ensures in
     RowsRun-stopped g.R.Task.gives suite _ _ _ c.from_residual-in_err-print_single_outcome.result c.from_residual-in_err-print_single_outcome.ensures.0
-    (stopped_outcome g.R.Task.gives suite (length seen) _ _ _ (told c.print_single_outcome.new.sink) c.loop-trial.tally c.loop-trial.invariant.so_far c.into_parts-info.result.0 _ ran.0 ran.1 _
-    (longer seen _ suite.trials c.in-Some.trial split) c.in_ok-print_test.ensures c.in_err-print_single_outcome.ensures)
+    (stopped_outcome g.R.Task.gives suite (length seen) _ _ _ (shown g.W.Write.contents c.print_single_outcome.new.sink) c.loop-trial.tally c.loop-trial.invariant.so_far c.into_parts-info.result.0 _ ran.0 ran.1 _
+    (longer seen _ suite.trials c.in-Some.trial (ap (λ l. seen ++ l) (sym c.in-Some.ensures.steps.0) ∙ c.loop-trial.invariant.seen)) c.in_ok-print_test.ensures c.in_err-print_single_outcome.ensures)
 
 pub run_unless-outcome-requires : goal.run_unless-outcome-requires
 run_unless-outcome-requires g c =
