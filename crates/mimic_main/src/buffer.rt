@@ -209,10 +209,11 @@ impl<W: Write> Write for Output<W> {
 
     fn flush(&mut self) -> io::Result<()> {
         match self.policy {
-            FlushPolicy::OnFlush | FlushPolicy::OnLineEnd => self.hand_on_and_flush(),
-            FlushPolicy::WhenFull if self.has_failed => Err(self.earlier_fault()),
-            FlushPolicy::WhenFull => Ok(()),
+            FlushPolicy::OnFlush | FlushPolicy::OnLineEnd => self.hand_on_and_flush()?,
+            FlushPolicy::WhenFull if self.has_failed => return Err(self.earlier_fault()),
+            FlushPolicy::WhenFull => {}
         }
+        Ok(())
     }
 }
 

@@ -54,7 +54,8 @@ pub(super) fn put_announcement<W: Write>(
         Piece::Spaces(printer.name_width.saturating_sub(name_len(info))),
         Piece::Text(" ... "),
     ];
-    put_pieces(sink, &pieces)
+    put_pieces(sink, &pieces)?;
+    Ok(())
 }
 
 // Writes an outcome's word, what was measured, and a line end.
@@ -88,10 +89,11 @@ pub(super) fn put_outcome<W: Write>(
                 },
                 Piece::Text(")\n"),
             ];
-            put_pieces(sink, &pieces)
+            put_pieces(sink, &pieces)?;
         }
-        _ => put_pieces(sink, &[start, word, end, Piece::Text("\n")]),
+        _ => put_pieces(sink, &[start, word, end, Piece::Text("\n")])?,
     }
+    Ok(())
 }
 
 fn word(outcome: &Outcome) -> &'static str

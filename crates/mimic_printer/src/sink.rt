@@ -82,12 +82,10 @@ impl<W: Write> Sink<W> {
         requires { faults_of self.old < 2 ^ 64 - 1 }
         ensures { Puts W.contents self.old self.new [] result }
     {
-        match self.writer.flush() {
-            Ok(()) => Ok(()),
-            Err(error) => {
-                self.faults += 1;
-                Err(WriteFault::Error(error))
-            }
+        if let Err(error) = self.writer.flush() {
+            self.faults += 1;
+            return Err(WriteFault::Error(error));
         }
+        Ok(())
     }
 }
