@@ -23,6 +23,11 @@ module _ {A P : Type 0} (R : P → A → Bool → P → Type 0) (Out : A → Typ
   pub LeavesOut-from_retain : (xs ys : List A) → IsFiltered R p xs ys → LeavesOut Out xs ys
   LeavesOut-from_retain xs ys h = let Q : List A → Type 0 = λ l. LeavesOut Out xs l in subst Q (sym h.4) (kept h.0 xs h.1 p refl h.2 h.3)
 
+-- where nothing is to be left out, all are kept
+pub LeavesOut-none : {A : Type 0} (Out : A → Type 0) → ((x : A) → ¬ Out x) → (xs : List A) → LeavesOut Out xs xs
+LeavesOut-none Out none [] = refl
+LeavesOut-none Out none (x ∷ xs) = inr (none x, (xs, refl, LeavesOut-none Out none xs))
+
 -- no more than there were
 pub length-LeavesOut-le : {A : Type 0} (Out : A → Type 0) (xs ys : List A) → LeavesOut Out xs ys → length ys ≤ length xs
 length-LeavesOut-le Out [] ys h = omega (arith, ap length h)

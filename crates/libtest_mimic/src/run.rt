@@ -16,7 +16,7 @@ ghost use Rattle.libtest_mimic.specs.Suite.{OfSuite, in_order, printer_for, suit
 mod in_order;
 pub(crate) mod tally;
 
-use crate::select::is_filtered_out;
+use crate::select::{drops_nothing, is_filtered_out};
 use crate::stopwatch::{Clock, Stopwatch};
 use in_order::write_report;
 use mimic_args::{Arguments, FormatSetting};
@@ -105,6 +105,9 @@ fn select<R: Drop>(args: &Arguments, trials: &mut Vec<Trial<R>>) -> u64
     ensures selection { IsSelection args.now trials.old.items trials.new.items }
     ensures dropped { result ≡ length trials.old.items - length trials.new.items }
 {
+    if drops_nothing::<R>(args) {
+        return 0;
+    }
     let count = trials.len();
     trials.retain(
         |trial| -> bool

@@ -120,6 +120,7 @@ impl<W: Write> Output<W> {
     }
 
     // The fault that was not told yet, else that there was one.
+    #[inline(never)]
     fn earlier_fault(&mut self) -> io::Error
         ensures bytes { told_of W.contents self.new ≡ told_of W.contents self.old }
         ensures waiting { waiting_of self.new ≡ waiting_of self.old }
@@ -142,6 +143,7 @@ impl<W: Write> Output<W> {
     }
 
     // Hands on what waits and then the text, in one write where both fit into a block and the writer takes them at once.
+    #[inline(never)]
     fn write_through(&mut self, text: &[u8]) -> io::Result<usize>
         ensures bound { WritesAtMost result text.now }
         ensures bytes { WriteAppends (told_of W.contents self.old) (told_of W.contents self.new) result text.now }
