@@ -114,8 +114,12 @@ impl<W: Write> Output<W> {
             return Err(self.earlier_fault());
         }
         let (taken, handed) = put_all(&mut self.writer, self.waiting.as_slice());
-        self.waiting.drain(..taken);
         self.has_failed = handed.is_err();
+        if self.has_failed {
+            self.waiting.drain(..taken);
+        } else {
+            self.waiting.clear();
+        }
         handed
     }
 

@@ -35,6 +35,7 @@ fn noun(count: u64) -> &'static str
 
 // Writes a trial's kind and name, each padded to its column.
 #[tactic(auto, using(crate::proofs::Characters::text_small), unfolding(crate::specs::Report::pretty_announcement))]
+#[inline(always)]
 pub(super) fn put_announcement<W: Write>(
     sink: &mut Sink<W>,
     printer: &Printer,
@@ -60,6 +61,7 @@ pub(super) fn put_announcement<W: Write>(
 
 // Writes an outcome's word, what was measured, and a line end.
 #[tactic(auto, unfolding(crate::specs::Report::outcome_line))]
+#[inline(always)]
 pub(super) fn put_outcome<W: Write>(
     sink: &mut Sink<W>,
     printer: &Printer,

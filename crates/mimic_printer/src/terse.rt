@@ -10,7 +10,9 @@ use crate::{Printer, pretty};
 use mimic_trial::Outcome;
 use std::io::Write;
 
-// Writes the mark of an outcome, or the whole line of a measurement, as pretty has it.
+// Writes the mark of an outcome, or the whole line of a measurement, as pretty has it. What hands a fault on is inlined,
+// here and in pretty: it is large, and would be copied at each call.
+#[inline(always)]
 pub(super) fn put_outcome<W: Write>(
     sink: &mut Sink<W>,
     printer: &Printer,
@@ -28,6 +30,7 @@ pub(super) fn put_outcome<W: Write>(
     Ok(())
 }
 
+#[inline(always)]
 #[tactic(auto, unfolding(crate::specs::Report::outcome_mark))]
 fn put_mark<W: Write>(
     sink: &mut Sink<W>,

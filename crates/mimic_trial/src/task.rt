@@ -51,6 +51,7 @@ impl<F: FnOnce() -> Result<(), Failed> + Drop> Task for F {
 }
 
 /// Runs what isn't ignored, and drops what is without a call.
+#[inline(always)]
 pub fn run_unless<T: Task>(ignored: bool, task: T, test_mode: bool) -> Outcome
     requires { T.can_run task }
     ensures { IsOutcomeOf T.gives ignored task test_mode result }
