@@ -1,5 +1,5 @@
 -- Rows of trials that run one after another.
-use Rattle.std.proofs.Common.{All, ◌≡◌, ℕ, zero, suc, ◌+◌, ◌-◌, ◌^◌, ◌<◌, ◌≤◌, List, [], ◌∷◌, ◌++◌, Option, Some, Bool, true, false, inl, inr, not, filter, length, refl, rules, sym, ap, ap₂, ◌∙◌, subst, arith, add-zero, zero-add, append-nil, length-append, vec_len}
+use Rattle.std.proofs.Common.{All, ◌≡◌, ℕ, zero, suc, ◌+◌, ◌-◌, ◌^◌, ◌<◌, ◌≤◌, List, [], ◌∷◌, ◌++◌, Option, Some, Bool, not, filter, length, refl, sym, ap, ap₂, ◌∙◌, subst, arith, add-zero, zero-add, append-nil, length-append, vec_len}
 use Rattle.std.proofs.lemmas.Result.{MatchResult-from_err}
 use Rattle.std.specs.Result.{IsErr}
 use Rattle.std.specs.Prelude.{Result}
@@ -56,14 +56,6 @@ module _ {R : Type 0} where
       sym (label_at-seam front rest t) ∙ ap (λ l. label_at (labels_of l) (length front)) e ∙ ap (label_at (labels_of all)) (sym k)
 
 module _ {R : Type 0} (gives : Gives R) (args : Arguments) where
-  -- `Ignored` where the trial is ignored, and else an outcome that its runner gives, is its own
-  IsOwn-from_runner : (t : Trial R) (r : R) (b : Bool) (o : Outcome)
-      → (IsTrue b ↔ IsIgnored args t) → r ≡ runner_of t → IsOutcomeOf gives b r (not args.bench) o → IsOwn gives args t o
-  IsOwn-from_runner t r true o says e own = inl (says.0 (search rules), own)
-  IsOwn-from_runner t r false o says e own =
-      let P : R → Type 0 = λ x. gives x (not args.bench) o in
-      inr ((λ i. let k : IsTrue false = says.1 i in search rules), subst P e own.0, own.1)
-
   -- what is own of the next trial is own at its place
   IsOwnAt-next : (front rest all : List (Trial R)) (t : Trial R) (n : ℕ) (o : Outcome) → front ++ (t ∷ rest) ≡ all → n ≡ length front → IsOwn gives args t o → IsOwnAt gives args all (n, o)
   IsOwnAt-next front rest all t n o e k own =
@@ -78,7 +70,7 @@ module _ {R : Type 0} (gives : Gives R) (args : Arguments) where
   ran-next front left rest all t step seen info r b o same runs says own =
       let e : front ++ (t ∷ rest) ≡ all = ap (λ l. front ++ l) (sym step) ∙ seen in (
         ap label_of same ∙ label_at-next front rest all t (length front) e refl,
-        IsOwnAt-next front rest all t (length front) o e refl (IsOwn-from_runner t r b o says runs own),
+        IsOwnAt-next front rest all t (length front) o e refl (b, says, subst (λ x. IsOutcomeOf gives b x (not args.bench) o) runs own),
       )
 
 -- ---- places in order

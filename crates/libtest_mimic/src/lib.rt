@@ -1,7 +1,7 @@
 //! A test harness of one's own that looks and behaves as that of `rustc --test`.
 //!
-//! Its layers are crates of their own, whose public names stand here: texts, trials, arguments, reports,
-//! and the parts of a run over worker threads.
+//! Its layers are crates of their own, and what a harness names of them stands here: texts, trials, arguments,
+//! reports, and the parts of a run over worker threads.
 #![tactic(auto)]
 
 pub mod args;
