@@ -1,5 +1,6 @@
 pub mod Share
 pub mod Answers
+pub mod Joined
 pub mod Reports
 pub mod Arrivals
 pub mod Missing

@@ -6,6 +6,8 @@ mod desk;
 mod memory;
 mod reports;
 mod share;
+mod start;
+mod threads;
 mod worker;
 
 pub use channel::ChannelReports;
@@ -13,6 +15,8 @@ pub use desk::{Arrival, Desk, Missing};
 pub use memory::MemoryReports;
 pub use reports::{Reports, Untold};
 pub use share::{Share, deal};
+pub use start::{AnswersShare, Rows, Start};
+pub use threads::{join_all, prepare, start_all};
 pub use worker::work;
 
 #[cfg(test)]

@@ -1,0 +1,55 @@
+-- What the workers' answers make when they are joined: an outcome for each place.
+use Rattle.std.specs.Prelude.{ℕ, ◌≡◌, ◌<◌, Bool, List, [], ◌∷◌, length, map, slice_index_or, slice_set}
+use Rattle.mimic_trial.specs.declared.outcome.Outcome.{Outcome}
+use Rattle.mimic_trial.specs.Places.{Placed}
+use Rattle.mimic_trial.specs.Promise.{Gives, IsOutcomeOf}
+use Rattle.mimic_pool.specs.Answers.{Answers}
+use Rattle.mimic_pool.specs.Share.{items_of}
+use Rattle.mimic_pool.specs.declared.share.Assigned.{Assigned}
+use Rattle.mimic_pool.specs.declared.share.Share.{Share}
+use Rattle.mimic_pool.specs.declared.start.AnswersShare.{AnswersShare}
+use Rattle.std.specs.declared.thread.PromisedHandle.{PromisedHandle}
+
+-- the outcomes after these rows were put at their places, one after another
+abbrev pub put_all : List Placed → List Outcome → List Outcome
+put_all [] outcomes = outcomes
+put_all (row ∷ rows) outcomes = put_all rows (slice_set outcomes row.0 row.1)
+
+-- the places of all rows are below n
+abbrev pub RowsBelow : ℕ → List Placed → Type 0
+RowsBelow n [] = Unit {0}
+RowsBelow n (row ∷ rows) = (row.0 < n) × RowsBelow n rows
+
+module _ {X : Type 0} where
+  -- the job of a started worker: the mode, and the items of its share
+  abbrev pub job_of : {T : Type 0} → PromisedHandle T (AnswersShare X) → Bool × List (Assigned X)
+  job_of handle = (handle.promise.test_mode, items_of handle.promise.share.value)
+
+  -- the jobs of these shares in this mode
+  abbrev pub jobs_of : Bool → List (Share X) → List (Bool × List (Assigned X))
+  jobs_of mode shares = map (λ share. (mode, items_of share)) shares
+
+  -- the places of all items are below n
+  abbrev pub ItemsBelow : ℕ → List (Assigned X) → Type 0
+  ItemsBelow n [] = Unit {0}
+  ItemsBelow n (item ∷ items) = (item.place < n) × ItemsBelow n items
+
+  -- the places of all jobs are below n
+  abbrev pub AreBelow : ℕ → List (Bool × List (Assigned X)) → Type 0
+  AreBelow n [] = Unit {0}
+  AreBelow n (job ∷ jobs) = ItemsBelow n job.1 × AreBelow n jobs
+
+module _ {X : Type 0} (gives : Gives X) where
+  -- what stands at the place is an outcome of the item there
+  abbrev pub IsOutcomeAt : Bool → List (Assigned X) → List Outcome → ℕ → Type 0
+  IsOutcomeAt mode items outcomes place =
+      (x : Assigned X) (o : Outcome) → IsOutcomeOf gives (slice_index_or items place x).ignored (slice_index_or items place x).runner mode (slice_index_or outcomes place o)
+
+  -- there is an outcome of each item, at its place
+  abbrev pub AreOutcomes : Bool → List (Assigned X) → List Outcome → Type 0
+  AreOutcomes mode items outcomes = (length outcomes ≡ length items) × ((place : ℕ) → place < length items → IsOutcomeAt mode items outcomes place)
+
+  -- for each job in turn, rows that answer it were put at their places
+  abbrev pub AreJoined : List (Bool × List (Assigned X)) → List Outcome → List Outcome → Type 0
+  AreJoined [] old new = new ≡ old
+  AreJoined (job ∷ jobs) old new = (rows : List Placed) × Answers gives job.0 job.1 rows × AreJoined jobs (put_all rows old) new

@@ -1,0 +1,36 @@
+//! What a worker starts with, and what its thread promises.
+ghost use Rattle.std.specs.Prelude.{◌≡◌, ◌≤◌, length, vec_capacity, vec_len};
+ghost use Rattle.mimic_pool.specs.Share.{items_of};
+
+use crate::share::Share;
+use crossbeam_channel::Sender;
+use mimic_trial::{Outcome, Task};
+use std::snapshot::Snapshot;
+use std::thread::Promise;
+
+/// What a worker answers: a place and the outcome there, for each trial of its share.
+pub type Rows = Vec<(usize, Outcome)>;
+
+/// What a worker starts with: its share, room for what it answers, and where it sends its rows.
+#[derive(Drop)]
+pub struct Start<T> {
+    pub(crate) share: Share<T>,
+    pub(crate) room: Rows,
+    pub(crate) rows: Sender<(usize, Outcome)>,
+    pub(crate) ghost empty: { vec_len room ≡ 0 },
+    pub(crate) ghost fits: { length (items_of share) ≤ vec_capacity room },
+}
+
+/// The promise of a worker's thread: it answers its share.
+#[derive(Drop)]
+pub struct AnswersShare<T> {
+    pub(crate) share: Snapshot<Share<T>>,
+    pub(crate) test_mode: bool,
+}
+
+impl<T: Task> Promise<Rows> for AnswersShare<T> {
+    ghost use Rattle.mimic_pool.specs.Answers.{Answers};
+    ghost use Rattle.mimic_pool.specs.Share.{items_of};
+
+    ghost kept_by = { λ promise rows. Answers T.gives promise.test_mode (items_of promise.share.value) rows.items };
+}

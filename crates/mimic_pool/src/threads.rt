@@ -1,0 +1,124 @@
+//! Worker threads, which run the shares and send their rows over a channel.
+ghost use Rattle.std.specs.Prelude.{◌≡◌, ◌≤◌, All, Bool, List, IfOk, IfSome, length, map, vec_capacity, vec_len};
+ghost use Rattle.mimic_pool.specs.Answers.{Answers};
+ghost use Rattle.mimic_pool.specs.Joined.{AreBelow, AreOutcomes, RowsBelow, job_of, jobs_of, put_all};
+ghost use Rattle.mimic_pool.specs.declared.share.Share.{Share};
+ghost use Rattle.mimic_pool.specs.Share.{CanRun, IsDealt, assigned_from, items_of};
+
+use crate::channel::ChannelReports;
+use crate::share::Share;
+use crate::start::{AnswersShare, Rows, Start};
+use crate::worker::work;
+use crossbeam_channel::Sender;
+use mimic_trial::{Outcome, Task};
+use std::alloc::{AllocError, Global};
+use std::snapshot::Snapshot;
+use std::sync::Wait;
+use std::thread;
+use std::thread::{PromisedHandle, Threads};
+
+/// What each worker starts with, one for each share. All memory for the workers is taken here.
+pub fn prepare<T: Task>(
+    alloc: Global,
+    shares: Vec<Share<T>>,
+    rows: Sender<(usize, Outcome)>,
+) -> Result<Vec<Start<T>>, AllocError>
+    ensures { IfOk result (λ starts. map (λ start. start.share) starts.items ≡ shares.items) }
+{
+    let mut starts = Vec::with_capacity(alloc, shares.len())?;
+    for share in shares {
+        let room = Vec::with_capacity(alloc, share.len())?;
+        let rows = rows.clone()?;
+        starts.push(Start { share, room, rows })?;
+    }
+    Ok(starts)
+}
+
+/// Starts a worker for each share, and keeps their handles in `handles`, which takes no memory. Where one can't be
+/// started, no further one is, and those that were started are handed back.
+pub fn start_all<T: Task + Send + 'static, R: Threads + Wait + Copy + Drop + Send + 'static>(
+    rt: &R,
+    alloc: Global,
+    starts: Vec<Start<T>>,
+    test_mode: bool,
+    mut handles: Vec<PromisedHandle<Rows, AnswersShare<T>>>,
+) -> Result<Vec<PromisedHandle<Rows, AnswersShare<T>>>, Vec<PromisedHandle<Rows, AnswersShare<T>>>>
+    requires runnable { All (λ start. CanRun T.can_run start.share) starts.items }
+    requires empty { vec_len handles ≡ 0 }
+    requires fits { vec_len starts ≤ vec_capacity handles }
+    ensures { IfOk result (λ started. map job_of started.items ≡ jobs_of test_mode (map (λ start. start.share) starts.items)) }
+{
+    for start in starts {
+        match start_worker(rt, alloc, start, test_mode) {
+            Some(handle) => handles.push_reserved(handle),
+            None => return Err(handles),
+        }
+    }
+    Ok(handles)
+}
+
+// Starts one worker. `None` where no thread can be made.
+fn start_worker<T: Task + Send + 'static, R: Threads + Wait + Copy + Drop + Send + 'static>(
+    rt: &R,
+    alloc: Global,
+    start: Start<T>,
+    test_mode: bool,
+) -> Option<PromisedHandle<Rows, AnswersShare<T>>>
+    requires runnable { CanRun T.can_run start.share }
+    ensures share { IfSome result (λ handle. handle.promise.share.value ≡ start.share) }
+    ensures mode { IfSome result (λ handle. handle.promise.test_mode ≡ test_mode) }
+{
+    let Start { share, room, rows } = start;
+    let promise = AnswersShare {
+        share: Snapshot::of(&share),
+        test_mode,
+    };
+    let theirs = *rt;
+    let started = thread::spawn_with(
+        rt,
+        promise,
+        move || -> Rows
+            requires runnable { CanRun T.can_run share }
+            requires empty { vec_len room ≡ 0 }
+            requires fits { length (items_of share) ≤ vec_capacity room }
+            ensures { Answers T.gives test_mode (items_of share) result.items }
+        {
+            let mut reports = ChannelReports::new(theirs, alloc, rows);
+            work(share, test_mode, &mut reports, room)
+        },
+    );
+    started.ok()
+}
+
+/// Joins the workers one after another, and puts what they answered into `outcomes`, each at its place. Where their shares
+/// were dealt from runners, each place has then an outcome of the runner there.
+pub fn join_all<T: Task + Send + 'static, R: Threads>(
+    rt: &R,
+    handles: Vec<PromisedHandle<Rows, AnswersShare<T>>>,
+    mut outcomes: Vec<Outcome>,
+) -> Vec<Outcome>
+    requires { AreBelow (vec_len outcomes) (map job_of handles.items) }
+    ensures joined { (runners : List T) (flags : List Bool) (shares : List (Share T)) (test_mode : Bool)
+        → 1 ≤ length shares → IsDealt runners flags (length shares) shares → map job_of handles.items ≡ jobs_of test_mode shares
+        → vec_len outcomes ≡ length (assigned_from 0 runners flags)
+        → AreOutcomes T.gives test_mode (assigned_from 0 runners flags) result.items }
+    ensures len { vec_len result ≡ vec_len outcomes }
+{
+    for handle in handles {
+        let rows = handle.join(rt);
+        outcomes = put_rows(rows, outcomes);
+    }
+    outcomes
+}
+
+// Puts the outcomes at their places.
+fn put_rows(rows: Rows, mut outcomes: Vec<Outcome>) -> Vec<Outcome>
+    requires { RowsBelow (vec_len outcomes) rows.items }
+    ensures put { result.items ≡ put_all rows.items outcomes.items }
+    ensures len { vec_len result ≡ vec_len outcomes }
+{
+    for (place, outcome) in rows {
+        outcomes[place] = outcome;
+    }
+    outcomes
+}
