@@ -12,7 +12,7 @@ use Rattle.mimic_trial.specs.Places.{Placed}
 use Rattle.mimic_trial.specs.Promise.{Gives}
 use Rattle.mimic_printer.specs.Row.{Label, PrintedRow, outcomes_of}
 use Rattle.mimic_printer.specs.declared.Printer.{Printer}
-use Rattle.mimic_printer.specs.Report.{announcement_in, announcement_text, failures_in, failures_text, outcome_in, outcome_line, outcome_mark, report_text, result_summary, row_text, rows_text, summary_in, terse_outcome, title_in, title_text}
+use Rattle.mimic_printer.specs.Report.{announcement_in, announcement_text, failures_in, failures_text, outcome_in, outcome_line, outcome_mark, report_text, result_summary, row_text, rows_text, summary_in, terse_outcome, title_in, title_text, summary_text}
 use Rattle.mimic_printer.specs.Sink.{Shown, Put, Stopped}
 use Rattle.libtest_mimic.specs.Run.{ReportedInOrder, StartsReport, next_text, start_text}
 use Rattle.libtest_mimic.specs.Steps.{PrintsAs}
@@ -85,12 +85,13 @@ module _ (p q : Printer) (same : PrintsAs p q) where
   failures_same : (rows : List PrintedRow) → failures_text p rows ≡ failures_text q rows
   failures_same rows = ap (λ f. failures_in f rows) same.format
 
+  summary_same : (c : Conclusion) (nanos : ℕ) → summary_text p c nanos ≡ summary_text q c nanos
+  summary_same c nanos = summed p q p.format c nanos same.colour ∙ ap (λ f. summary_in f q c nanos) same.format
+
   report_same : (rows : List PrintedRow) (filtered_out nanos : ℕ) → report_text p rows filtered_out nanos ≡ report_text q rows filtered_out nanos
   unfolding report_text
   report_same rows filtered_out nanos =
-      let c : Conclusion = counts_of (outcomes_of rows) filtered_out in
-      joined _ _ _ _ _ _ _ _ (title_same (length rows)) (rows_same rows) (failures_same rows)
-      (summed p q p.format c nanos same.colour ∙ ap (λ f. summary_in f q c nanos) same.format)
+      joined _ _ _ _ _ _ _ _ (title_same (length rows)) (rows_same rows) (failures_same rows) (summary_same (counts_of (outcomes_of rows) filtered_out) nanos)
 
 -- ---- suites of two printers
 
@@ -134,5 +135,10 @@ module _ {R : Type 0} (gives : Gives R) (suite : Suite R) (q : Printer) (same : 
         own = s.own;
         begun = MatchOption-weaker (elapsed_of watch) _ _ _ _
             (λ h. (h.0, subst P (start_same s.placed s.left) h.1))
-            (λ nanos h. (h.0, subst P (report_same suite.printer q same _ suite.filtered_out nanos) h.1)) s.begun;
+            (λ nanos h. (
+            h.0,
+            h.1,
+            subst (λ t. Put old h.1 t) (start_same s.placed []) h.2,
+            subst (λ t. Stopped h.1 new t) (summary_same suite.printer q same _ nanos) h.3,
+            )) s.begun;
       }

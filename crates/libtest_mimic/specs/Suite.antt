@@ -36,10 +36,14 @@ suite_of args auto_colours selected filtered_out = record {
   filtered_out = filtered_out;
 }
 
+-- how many trials were filtered out: those that were handed in and are not selected
+abbrev pub filtered_out_of : {A : Type 0} → List A → List A → ℕ
+filtered_out_of trials selected = length trials - length selected
+
 -- P holds of the suite of the trials that the arguments select of those handed in; the others are filtered out
 abbrev pub OfSuite : {R : Type 0} → Arguments → Bool → List (Trial R) → (Suite R → Type 0) → Type 0
 OfSuite {R} args auto_colours trials P =
-    (selected : List (Trial R)) × IsSelection args trials selected × P (suite_of args auto_colours selected (length trials - length selected))
+    (selected : List (Trial R)) × IsSelection args trials selected × P (suite_of args auto_colours selected (filtered_out_of trials selected))
 
 -- the places of the suite's trials in their order: 0, 1, ..
 abbrev pub in_order : {R : Type 0} → Suite R → List ℕ

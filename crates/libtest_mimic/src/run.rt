@@ -11,7 +11,7 @@ ghost use Rattle.libtest_mimic.specs.Run.{HasAnswer, HasLines, OnOutOfMemory, On
 ghost use Rattle.libtest_mimic.specs.Selection.{IsDropped, IsSelection};
 ghost use Rattle.libtest_mimic.specs.Steps.{PrintsAs};
 ghost use Rattle.libtest_mimic.specs.Stopwatch.{IsFresh, IsRunning};
-ghost use Rattle.libtest_mimic.specs.Suite.{OfSuite, in_order, printer_for, suite_of};
+ghost use Rattle.libtest_mimic.specs.Suite.{OfSuite, filtered_out_of, in_order, printer_for, suite_of};
 
 mod in_order;
 pub(crate) mod tally;
@@ -103,7 +103,7 @@ pub fn run_here<R: Task, W: Write, C: Clock>(
 // Keeps the selected trials alone, and answers how many were dropped.
 fn select<R: Drop>(args: &Arguments, trials: &mut Vec<Trial<R>>) -> u64
     ensures selection { IsSelection args.now trials.old.items trials.new.items }
-    ensures dropped { result ≡ length trials.old.items - length trials.new.items }
+    ensures dropped { result ≡ filtered_out_of trials.old.items trials.new.items }
 {
     if drops_nothing::<R>(args) {
         return 0;

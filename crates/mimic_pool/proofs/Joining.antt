@@ -12,7 +12,7 @@ use Rattle.mimic_pool.specs.declared.share.Assigned.{Assigned}
 use Rattle.mimic_pool.specs.declared.share.Share.{Share}
 use Rattle.mimic_pool.specs.Answers.{Answers}
 use Rattle.mimic_pool.specs.Share.{IsDealt, assigned_from, items_of, share_of}
-use Rattle.mimic_pool.specs.Joined.{AreBelow, AreJoined, AreOutcomes, IsOutcomeAt, ItemsBelow, jobs_of, put_all}
+use Rattle.mimic_pool.specs.Joined.{AreJoined, AreOutcomes, IsOutcomeAt, jobs_of, put_all}
 
 module _ {X : Type 0} where
   -- the item is the one at its place
@@ -107,18 +107,6 @@ module _ {X : Type 0} where
       has_job mode p (p % workers) shares (omega arith) (λ d.
       let P : List (Assigned X) → Type 0 = λ xs. HasPlace p xs in
       subst P (sym (dealt (p % workers) d w)) (has_filter (assigned_from 0 rs bs) workers p (has_whole rs bs p low)))
-
-  items_below : (items xs : List (Assigned X)) → ArePlaced items xs → ItemsBelow (length items) xs
-  items_below items [] h = tt
-  items_below items (x ∷ xs) h = (h.0.0, items_below items xs h.1)
-
-  jobs_below : (items : List (Assigned X)) (mode : Bool) (jobs : List (Bool × List (Assigned X))) → JobsPlaced items mode jobs → AreBelow (length items) jobs
-  jobs_below items mode [] h = tt
-  jobs_below items mode (j ∷ js) h = (items_below items j.1 h.1, jobs_below items mode js h.2)
-
-  pub dealt_below : (rs : List X) (bs : List Bool) (workers : ℕ) (mode : Bool) (shares : List (Share X)) → length shares ≡ workers → IsDealt rs bs workers shares
-      → AreBelow (length (assigned_from 0 rs bs)) (jobs_of mode shares)
-  dealt_below rs bs workers mode shares len dealt = jobs_below (assigned_from 0 rs bs) mode (jobs_of mode shares) (dealt_placed rs bs workers mode shares len dealt)
 
 module _ {X : Type 0} (gives : Gives X) where
   length_put : (rows : List Placed) (outs : List Outcome) → length (put_all rows outs) ≡ length outs

@@ -15,11 +15,6 @@ abbrev pub put_all : List Placed → List Outcome → List Outcome
 put_all [] outcomes = outcomes
 put_all (row ∷ rows) outcomes = put_all rows (slice_set outcomes row.0 row.1)
 
--- the places of all rows are below n
-abbrev pub RowsBelow : ℕ → List Placed → Type 0
-RowsBelow n [] = Unit {0}
-RowsBelow n (row ∷ rows) = (row.0 < n) × RowsBelow n rows
-
 module _ {X : Type 0} where
   -- the job of a started worker: the mode, and the items of its share
   abbrev pub job_of : {T : Type 0} → PromisedHandle T (AnswersShare X) → Bool × List (Assigned X)
@@ -28,16 +23,6 @@ module _ {X : Type 0} where
   -- the jobs of these shares in this mode
   abbrev pub jobs_of : Bool → List (Share X) → List (Bool × List (Assigned X))
   jobs_of mode shares = map (λ share. (mode, items_of share)) shares
-
-  -- the places of all items are below n
-  abbrev pub ItemsBelow : ℕ → List (Assigned X) → Type 0
-  ItemsBelow n [] = Unit {0}
-  ItemsBelow n (item ∷ items) = (item.place < n) × ItemsBelow n items
-
-  -- the places of all jobs are below n
-  abbrev pub AreBelow : ℕ → List (Bool × List (Assigned X)) → Type 0
-  AreBelow n [] = Unit {0}
-  AreBelow n (job ∷ jobs) = ItemsBelow n job.1 × AreBelow n jobs
 
 module _ {X : Type 0} (gives : Gives X) where
   -- what stands at the place is an outcome of the item there

@@ -1,7 +1,7 @@
 //! Worker threads, which run the shares and send their rows over a channel.
 ghost use Rattle.std.specs.Prelude.{◌≡◌, ◌≤◌, All, Bool, List, IfOk, IfSome, length, map, vec_capacity, vec_len};
 ghost use Rattle.mimic_pool.specs.Answers.{Answers};
-ghost use Rattle.mimic_pool.specs.Joined.{AreBelow, AreOutcomes, RowsBelow, job_of, jobs_of, put_all};
+ghost use Rattle.mimic_pool.specs.Joined.{AreOutcomes, job_of, jobs_of, put_all};
 ghost use Rattle.mimic_pool.specs.declared.share.Share.{Share};
 ghost use Rattle.mimic_pool.specs.Share.{CanRun, IsDealt, assigned_from, items_of};
 
@@ -23,7 +23,8 @@ pub fn prepare<T: Task>(
     shares: Vec<Share<T>>,
     rows: Sender<(usize, Outcome)>,
 ) -> Result<Vec<Start<T>>, AllocError>
-    ensures { IfOk result (λ starts. map (λ start. start.share) starts.items ≡ shares.items) }
+    ensures shares { IfOk result (λ starts. map (λ start. start.share) starts.items ≡ shares.items) }
+    ensures len { IfOk result (λ starts. vec_len starts ≡ vec_len shares) }
 {
     let mut starts = Vec::with_capacity(alloc, shares.len())?;
     for share in shares {
@@ -43,7 +44,7 @@ pub fn start_all<T: Task + Send + 'static, R: Threads + Wait + Copy + Drop + Sen
     test_mode: bool,
     mut handles: Vec<PromisedHandle<Rows, AnswersShare<T>>>,
 ) -> Result<Vec<PromisedHandle<Rows, AnswersShare<T>>>, Vec<PromisedHandle<Rows, AnswersShare<T>>>>
-    requires runnable { All (λ start. CanRun T.can_run start.share) starts.items }
+    requires runnable { All (λ share. CanRun T.can_run share) (map (λ start. start.share) starts.items) }
     requires empty { vec_len handles ≡ 0 }
     requires fits { vec_len starts ≤ vec_capacity handles }
     ensures { IfOk result (λ started. map job_of started.items ≡ jobs_of test_mode (map (λ start. start.share) starts.items)) }
@@ -97,7 +98,6 @@ pub fn join_all<T: Task + Send + 'static, R: Threads>(
     handles: Vec<PromisedHandle<Rows, AnswersShare<T>>>,
     mut outcomes: Vec<Outcome>,
 ) -> Vec<Outcome>
-    requires { AreBelow (vec_len outcomes) (map job_of handles.items) }
     ensures joined { (runners : List T) (flags : List Bool) (shares : List (Share T)) (test_mode : Bool)
         → 1 ≤ length shares → IsDealt runners flags (length shares) shares → map job_of handles.items ≡ jobs_of test_mode shares
         → vec_len outcomes ≡ length (assigned_from 0 runners flags)
@@ -111,14 +111,15 @@ pub fn join_all<T: Task + Send + 'static, R: Threads>(
     outcomes
 }
 
-// Puts the outcomes at their places.
+// Puts the outcomes at their places. One that has none is passed over.
 fn put_rows(rows: Rows, mut outcomes: Vec<Outcome>) -> Vec<Outcome>
-    requires { RowsBelow (vec_len outcomes) rows.items }
     ensures put { result.items ≡ put_all rows.items outcomes.items }
     ensures len { vec_len result ≡ vec_len outcomes }
 {
     for (place, outcome) in rows {
-        outcomes[place] = outcome;
+        if let Some(seat) = outcomes.get_mut(place) {
+            *seat = outcome;
+        }
     }
     outcomes
 }

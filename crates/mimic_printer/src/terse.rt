@@ -10,8 +10,8 @@ use crate::{Printer, pretty};
 use mimic_trial::Outcome;
 use std::io::Write;
 
-// Writes the mark of an outcome, or the whole line of a measurement, as pretty has it. What hands a fault on is inlined,
-// here and in pretty: it is large, and would be copied at each call.
+// Writes the mark of an outcome, or the whole line of a measurement, as pretty has it. A fault is large: what hands one
+// on is inlined, here and in pretty, so that it isn't copied at each call.
 #[inline(always)]
 pub(super) fn put_outcome<W: Write>(
     sink: &mut Sink<W>,
@@ -30,8 +30,8 @@ pub(super) fn put_outcome<W: Write>(
     Ok(())
 }
 
-#[inline(always)]
 #[tactic(auto, unfolding(crate::specs::Report::outcome_mark))]
+#[inline(always)]
 fn put_mark<W: Write>(
     sink: &mut Sink<W>,
     printer: &Printer,

@@ -1,15 +1,19 @@
 //! Shares and workers, over reports in memory and over a channel.
-ghost use Rattle.std.specs.Prelude.{◌≡◌, ◌≤◌, length, vec_capacity, vec_len};
-ghost use Rattle.mimic_pool.specs.Share.{items_of};
+ghost use Rattle.std.specs.Prelude.{All};
+ghost use Rattle.mimic_pool.specs.Share.{CanRun};
 
-use crate::{Arrival, ChannelReports, Desk, MemoryReports, Reports, Share, Untold, deal, work};
+use crate::{
+    Arrival, ChannelReports, Desk, MemoryReports, Reports, Share, Untold, deal, join_all, prepare,
+    start_all, work,
+};
 use crossbeam_channel::bounded;
 use mimic_trial::{Failed, Measurement, Outcome, Runner, Task, TestRunner};
 use std::alloc::{AllocError, Global};
-use std::sync::Arc;
+use std::process::Abort;
 use std::sync::atomic::{AtomicBool, Ordering};
+use std::sync::{Arc, Wait};
 use std::test::Fail;
-use std::thread;
+use std::thread::Threads;
 
 // A runner that is the outcome which it gives.
 #[derive(Drop)]
@@ -205,40 +209,47 @@ fn tells_over_a_channel(rt: HostRuntime) -> Result<(), Fail> {
     Ok(())
 }
 
+// Runs these shares in threads. Answers a desk with what arrived, and what the workers answered when they were joined.
+fn run_in_threads<
+    T: Task + Send + 'static,
+    R: Threads + Wait + Abort + Copy + Drop + Send + 'static,
+>(rt: &R, alloc: Global, shares: Vec<Share<T>>, trials: usize) -> Result<(Desk, Vec<Outcome>), Fail>
+    requires { All (λ share. CanRun T.can_run share) shares.items }
+{
+    let (sender, receiver) = bounded(alloc, trials)?;
+    let handles = Vec::with_capacity(alloc, shares.len())?;
+    let mut outcomes = Vec::with_capacity(alloc, trials)?;
+    for _place in 0..trials {
+        outcomes.push(Outcome::Ignored)?;
+    }
+    let mut desk = Desk::new(alloc, trials)?;
+    let starts = prepare(alloc, shares, sender)?;
+    let Ok(handles) = start_all(rt, alloc, starts, true, handles) else {
+        return Err(Fail::new("a worker could not be started"));
+    };
+    for (place, outcome) in receiver.iter(rt) {
+        assert_eq!(rt; desk.arrive(place, outcome), Arrival::First);
+    }
+    Ok((desk, join_all(rt, handles, outcomes)))
+}
+
 // Two workers in threads tell over one channel. What arrives at the desk is what they answer when they are joined.
 #[test]
 fn tells_from_threads(rt: HostRuntime) -> Result<(), Fail> {
     let alloc = rt.alloc();
-    let runners = [passes(), passes(), passes(), passes(), passes()];
-    let (sender, receiver) = bounded(alloc, 5)?;
-    let mut handles = Vec::new(alloc);
-    for share in shares_of_five(alloc, runners)? {
-        let room = Vec::with_capacity(alloc, share.len())?;
-        let mut reports = ChannelReports::new(rt, alloc, sender.clone()?);
-        let handle = thread::spawn(
-            &rt,
-            move || -> Vec<(usize, Outcome)>
-                requires empty { vec_len room ≡ 0 }
-                requires fits { length (items_of share) ≤ vec_capacity room }
-                requires told { reports.counts.told ≡ 0 }
-                requires refusals { reports.counts.refusals ≡ 0 }
-            { work(share, true, &mut reports, room) },
-        )?;
-        handles.push(handle)?;
-    }
-    drop(sender);
-    let mut desk = Desk::new(alloc, 5)?;
-    for (place, outcome) in receiver.iter(&rt) {
-        assert_eq!(rt; desk.arrive(place, outcome), Arrival::First);
-    }
-    let mut answered = Vec::new(alloc);
-    for handle in handles {
-        for (place, outcome) in handle.join(&rt) {
-            assert!(rt; desk.outcome(place) == Some(&outcome));
-            answered.push(place)?;
-        }
-    }
-    assert_eq!(rt; answered.len(), 5);
+    let woops = Failed::with_message(String::from_str(alloc, "Woops")?);
+    let failing = Becomes(Outcome::Failed(woops.try_clone(alloc)?));
+    let shares = shares_of_five(alloc, [passes(), passes(), failing, passes(), passes()])?;
+    let (desk, joined) = run_in_threads(&rt, alloc, shares, 5)?;
+    assert!(rt; desk.settle(&joined).is_ok());
     assert_eq!(rt; desk.order().len(), 5);
+    let expected = [
+        Outcome::Passed,
+        Outcome::Passed,
+        Outcome::Failed(woops),
+        Outcome::Passed,
+        Outcome::Ignored,
+    ];
+    assert!(rt; joined.as_slice() == expected.as_slice());
     Ok(())
 }

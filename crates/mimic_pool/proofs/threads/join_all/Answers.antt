@@ -2,23 +2,15 @@ use Rattle.std.proofs.Common.{◌≡◌, ◌∙◌, arith, length, refl, rules, 
 use Rattle.std.specs.Vec.Iter.{into_iter_items}
 use Rattle.mimic_pool.specs.Joined.{job_of}
 use Rattle.mimic_pool.proofs.Joining.{joined_none, joined_own}
-use Rattle.mimic_pool.proofs.Working.{below_from_answers}
 use Rattle.mimic_pool.proofs.threads.join_all.Goals as goal
-
-pub put_rows-outcomes-requires : goal.put_rows-outcomes-requires
-put_rows-outcomes-requires g c =
-    let both = rw c.in-Some.ensures.steps.0 at c.loop-handle.invariant.below in
-    below_from_answers g.T.Task.gives _ c.in-Some.handle.promise.test_mode _ _ both.0 c.join-rows.ensures
 
 pub loop-handle-preserved : goal.loop-handle-preserved
 loop-handle-preserved g c =
     let next = c.in-Some.ensures.steps.0 in
     let put = c.put_rows-outcomes.ensures.put in
     let was = c.loop-handle.invariant.joined in
-    let both = rw next at c.loop-handle.invariant.below in
     record {
       joined = λ new rest. was new (rw next (c.join-rows.result.items, c.join-rows.ensures, rw put at rest));
-      below = rw c.put_rows-outcomes.ensures.len both.1;
       len = search rules;
     }
 

@@ -8,5 +8,5 @@ abbrev pub invariant-loop-start : goal.invariant-loop-start
 invariant-loop-start g l = record {
   jobs : map job_of l.handles.items ++ jobs_of l.test_mode (map (λ start. start.share) (into_iter_items l.start-iterator)) ≡ jobs_of l.test_mode (map (λ start. start.share) l.fn.starts.items);
   fits : vec_len l.handles + into_iter_len l.start-iterator ≤ vec_capacity l.handles;
-  runnable : All (λ start. CanRun g.T.Task.can_run start.share) (into_iter_items l.start-iterator);
+  runnable : All (λ share. CanRun g.T.Task.can_run share) (map (λ start. start.share) (into_iter_items l.start-iterator));
 }
