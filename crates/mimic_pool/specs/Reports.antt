@@ -1,8 +1,26 @@
--- What was told.
-use Rattle.std.specs.Prelude.{List}
+-- What was told, and how much of it.
+use Rattle.std.specs.Prelude.{ℕ, List}
 use Rattle.mimic_trial.specs.Places.{Placed}
+use Rattle.mimic_pool.specs.declared.channel.ChannelReports.{ChannelReports}
 use Rattle.mimic_pool.specs.declared.memory.MemoryReports.{MemoryReports}
 
 -- the rows that were told into memory, in their order
 abbrev pub rows_told : MemoryReports → List Placed
 rows_told reports = reports.rows.items
+
+-- how many rows were told into memory
+abbrev pub told_into : MemoryReports → ℕ
+told_into reports = reports.counts.told
+
+-- how many rows memory refused
+abbrev pub refused_into : MemoryReports → ℕ
+refused_into reports = reports.counts.refusals
+
+module _ {R : Type 0} where
+  -- how many rows were told over a channel
+  abbrev pub told_over : ChannelReports R → ℕ
+  told_over reports = reports.counts.told
+
+  -- how many rows a channel refused
+  abbrev pub refused_over : ChannelReports R → ℕ
+  refused_over reports = reports.counts.refusals

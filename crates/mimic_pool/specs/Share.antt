@@ -1,5 +1,5 @@
 -- Shares: which worker runs which of the trials.
-use Rattle.std.specs.Prelude.{ℕ, ◌≡◌, ◌+◌, ◌%◌, ◌<◌, ◌==◌, Bool, List, [], ◌∷◌, All, filter, length, slice_index_or}
+use Rattle.std.specs.Prelude.{ℕ, ◌≡◌, ◌+◌, ◌%◌, ◌<◌, ◌==◌, All, Bool, List, [], ◌∷◌, filter, length, map, slice_index_or}
 use Rattle.mimic_pool.specs.declared.share.Assigned.{Assigned}
 use Rattle.mimic_pool.specs.declared.share.Share.{Share}
 
@@ -8,9 +8,13 @@ module _ {X : Type 0} where
   abbrev pub items_of : Share X → List (Assigned X)
   items_of share = share.items.items
 
-  -- each of its runners may be run
-  abbrev pub CanRun : (X → Type 0) → Share X → Type 0
-  CanRun can_run share = All (λ item. can_run item.runner) (items_of share)
+  -- the places of a share, in its order
+  abbrev pub places_in : Share X → List ℕ
+  places_in share = map (λ item. item.place) (items_of share)
+
+  -- this holds of each runner of a share
+  abbrev pub AllRunners : (X → Type 0) → Share X → Type 0
+  AllRunners P share = All (λ item. P item.runner) (items_of share)
 
   -- the runners with their places, counted from this one on, and their flags, as far as both go
   abbrev pub assigned_from : ℕ → List X → List Bool → List (Assigned X)

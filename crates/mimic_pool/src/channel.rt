@@ -1,5 +1,6 @@
 //! Reports over a channel.
 ghost use Rattle.std.specs.Prelude.{◌≡◌};
+ghost use Rattle.mimic_pool.specs.Reports.{refused_over, told_over};
 
 use crate::reports::{Counts, Reports, Untold};
 use crossbeam_channel::Sender;
@@ -7,10 +8,10 @@ use mimic_trial::Outcome;
 use std::alloc::Global;
 use std::sync::Wait;
 
-/// Rows that are sent over a channel. To tell one waits as long as a bounded channel is full.
+/// Rows of which copies are sent over a channel.
 ///
-/// A row is refused where there is no memory for a copy of it, or where the channel takes none, since all receivers are
-/// gone.
+/// A row is refused where no copy of it can be made, or where the channel gives it back. How long a row waits, and when it
+/// comes back, is the channel's own word.
 #[derive(Drop)]
 pub struct ChannelReports<R: Wait + Drop> {
     rt: R,
@@ -22,8 +23,8 @@ pub struct ChannelReports<R: Wait + Drop> {
 impl<R: Wait + Drop> ChannelReports<R> {
     /// Nothing was told yet.
     pub fn new(rt: R, alloc: Global, rows: Sender<(usize, Outcome)>) -> Self
-        ensures told { result.counts.told ≡ 0 }
-        ensures refusals { result.counts.refusals ≡ 0 }
+        ensures told { told_over result ≡ 0 }
+        ensures refusals { refused_over result ≡ 0 }
     {
         ChannelReports {
             rt,
@@ -46,9 +47,9 @@ impl<R: Wait + Drop> ChannelReports<R> {
 }
 
 impl<R: Wait + Drop> Reports for ChannelReports<R> {
-    ghost told_of = { λ reports. reports.counts.told };
+    ghost told_of = { told_over };
 
-    ghost refused_by = { λ reports. reports.counts.refusals };
+    ghost refused_by = { refused_over };
 
     fn tell(&mut self, place: usize, outcome: &Outcome) -> Result<(), Untold> {
         let sent = self.send(place, outcome);

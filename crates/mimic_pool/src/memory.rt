@@ -1,12 +1,12 @@
 //! Reports into a list in memory.
 ghost use Rattle.std.specs.Prelude.{◌≡◌, ◌++◌, ◌∷◌, ◌+◌, ◌<◌, [], OnErr, OnOk};
-ghost use Rattle.mimic_pool.specs.Reports.{rows_told};
+ghost use Rattle.mimic_pool.specs.Reports.{refused_into, rows_told, told_into};
 
 use crate::reports::{Counts, Reports, Untold};
 use mimic_trial::Outcome;
 use std::alloc::{AllocError, Global};
 
-/// Rows that are told into a list. A row for which there is no memory is refused.
+/// Rows that are told into a list.
 #[derive(Drop)]
 pub struct MemoryReports {
     rows: Vec<(usize, Outcome)>,
@@ -18,8 +18,8 @@ impl MemoryReports {
     /// Nothing was told yet.
     pub fn new(alloc: Global) -> Self
         ensures rows { rows_told result ≡ [] }
-        ensures told { result.counts.told ≡ 0 }
-        ensures refusals { result.counts.refusals ≡ 0 }
+        ensures told { told_into result ≡ 0 }
+        ensures refusals { refused_into result ≡ 0 }
     {
         MemoryReports {
             rows: Vec::new(alloc),
@@ -48,15 +48,15 @@ impl MemoryReports {
 }
 
 impl Reports for MemoryReports {
-    ghost told_of = { λ reports. reports.counts.told };
+    ghost told_of = { told_into };
 
-    ghost refused_by = { λ reports. reports.counts.refusals };
+    ghost refused_by = { refused_into };
 
     /// Adds the row to the list, and counts it as told, or with `Untold` as refused.
     fn tell(&mut self, place: usize, outcome: &Outcome) -> Result<(), Untold>
-        requires room { (self.old.counts.told < u64.MAX) × (self.old.counts.refusals < u64.MAX) }
-        ensures told { OnOk result ((self.new.counts.told ≡ self.old.counts.told + 1) × (self.new.counts.refusals ≡ self.old.counts.refusals)) }
-        ensures untold { OnErr result ((self.new.counts.told ≡ self.old.counts.told) × (self.new.counts.refusals ≡ self.old.counts.refusals + 1)) }
+        requires room { (told_into self.old < u64.MAX) × (refused_into self.old < u64.MAX) }
+        ensures told { OnOk result ((told_into self.new ≡ told_into self.old + 1) × (refused_into self.new ≡ refused_into self.old)) }
+        ensures untold { OnErr result ((told_into self.new ≡ told_into self.old) × (refused_into self.new ≡ refused_into self.old + 1)) }
         ensures kept { OnOk result (rows_told self.new ≡ rows_told self.old ++ (place, outcome.now) ∷ []) }
         ensures refused { OnErr result (rows_told self.new ≡ rows_told self.old) }
     {

@@ -7,9 +7,9 @@ use mimic_trial::Outcome;
 #[derive(Clone, Copy, Debug, PartialEq, Eq)]
 pub struct Untold;
 
-/// Where a worker tells each row, a place and the outcome there, while it goes on with its share.
+/// Where rows are told, each a place and the outcome there, and counted.
 ///
-/// What becomes of a told row is the form's own affair: it may be lost. So the worker answers all of its rows once more.
+/// What becomes of a told row is the form's own affair: it may be lost. So a worker answers all of its rows once more.
 pub trait Reports {
     /// How many rows were told.
     ghost told_of: { Self → ℕ };

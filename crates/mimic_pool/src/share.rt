@@ -1,6 +1,6 @@
 //! Shares of the trials, one for each worker.
-ghost use Rattle.std.specs.Prelude.{◌≡◌, ◌≤◌, IfOk, length, option_map, slice_get, vec_len};
-ghost use Rattle.mimic_pool.specs.Share.{AreEmpty, IsDealt, items_of};
+ghost use Rattle.std.specs.Prelude.{◌≡◌, ◌≤◌, IfOk, length, slice_get, vec_len};
+ghost use Rattle.mimic_pool.specs.Share.{AreEmpty, IsDealt, items_of, places_in};
 
 use mimic_trial::Runner;
 use std::alloc::{AllocError, Global};
@@ -29,7 +29,7 @@ impl<T> Share<T> {
 
     /// Its `i`-th place, counted from 0, and `None` from its length on.
     pub fn place(&self, i: usize) -> Option<usize>
-        ensures { result ≡ option_map (λ item. item.place) (slice_get (items_of self.now) i) }
+        ensures { result ≡ slice_get (places_in self.now) i }
     {
         match self.items.get(i) {
             Some(item) => Some(item.place),

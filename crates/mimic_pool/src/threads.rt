@@ -3,7 +3,7 @@ ghost use Rattle.std.specs.Prelude.{◌≡◌, ◌≤◌, All, Bool, List, IfOk,
 ghost use Rattle.mimic_pool.specs.Answers.{Answers};
 ghost use Rattle.mimic_pool.specs.Joined.{AreOutcomes, job_of, jobs_of, put_all};
 ghost use Rattle.mimic_pool.specs.declared.share.Share.{Share};
-ghost use Rattle.mimic_pool.specs.Share.{CanRun, IsDealt, assigned_from, items_of};
+ghost use Rattle.mimic_pool.specs.Share.{AllRunners, IsDealt, assigned_from, items_of};
 
 use crate::channel::ChannelReports;
 use crate::share::Share;
@@ -44,7 +44,7 @@ pub fn start_all<T: Task + Send + 'static, R: Threads + Wait + Copy + Drop + Sen
     test_mode: bool,
     mut handles: Vec<PromisedHandle<Rows, AnswersShare<T>>>,
 ) -> Result<Vec<PromisedHandle<Rows, AnswersShare<T>>>, Vec<PromisedHandle<Rows, AnswersShare<T>>>>
-    requires runnable { All (λ share. CanRun T.can_run share) (map (λ start. start.share) starts.items) }
+    requires runnable { All (λ share. AllRunners T.can_run share) (map (λ start. start.share) starts.items) }
     requires empty { vec_len handles ≡ 0 }
     requires fits { vec_len starts ≤ vec_capacity handles }
     ensures { IfOk result (λ started. map job_of started.items ≡ jobs_of test_mode (map (λ start. start.share) starts.items)) }
@@ -65,7 +65,7 @@ fn start_worker<T: Task + Send + 'static, R: Threads + Wait + Copy + Drop + Send
     start: Start<T>,
     test_mode: bool,
 ) -> Option<PromisedHandle<Rows, AnswersShare<T>>>
-    requires runnable { CanRun T.can_run start.share }
+    requires runnable { AllRunners T.can_run start.share }
     ensures share { IfSome result (λ handle. handle.promise.share.value ≡ start.share) }
     ensures mode { IfSome result (λ handle. handle.promise.test_mode ≡ test_mode) }
 {
@@ -79,7 +79,7 @@ fn start_worker<T: Task + Send + 'static, R: Threads + Wait + Copy + Drop + Send
         rt,
         promise,
         move || -> Rows
-            requires runnable { CanRun T.can_run share }
+            requires runnable { AllRunners T.can_run share }
             requires empty { vec_len room ≡ 0 }
             requires fits { length (items_of share) ≤ vec_capacity room }
             ensures { Answers T.gives test_mode (items_of share) result.items }

@@ -1,7 +1,7 @@
 //! What one worker does.
-ghost use Rattle.std.specs.Prelude.{◌≡◌, ◌+◌, ◌≤◌, ◌<◌, ◌^◌, All, length, vec_capacity, vec_len};
+ghost use Rattle.std.specs.Prelude.{◌≡◌, ◌+◌, ◌≤◌, ◌<◌, ◌^◌, length, vec_capacity, vec_len};
 ghost use Rattle.mimic_pool.specs.Answers.{Answers};
-ghost use Rattle.mimic_pool.specs.Share.{items_of};
+ghost use Rattle.mimic_pool.specs.Share.{AllRunners, items_of};
 
 use crate::reports::Reports;
 use crate::share::{Assigned, Share};
@@ -17,7 +17,7 @@ pub fn work<T: Task, R: Reports>(
     reports: &mut R,
     mut room: Vec<(usize, Outcome)>,
 ) -> Vec<(usize, Outcome)>
-    requires runnable { All (λ item. T.can_run item.runner) (items_of share) }
+    requires runnable { AllRunners T.can_run share }
     requires empty { vec_len room ≡ 0 }
     requires fits { length (items_of share) ≤ vec_capacity room }
     requires told { R.told_of reports.old + length (items_of share) < 2 ^ 64 }

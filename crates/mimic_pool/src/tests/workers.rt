@@ -1,6 +1,6 @@
 //! Shares and workers, over reports in memory and over a channel.
 ghost use Rattle.std.specs.Prelude.{All};
-ghost use Rattle.mimic_pool.specs.Share.{CanRun};
+ghost use Rattle.mimic_pool.specs.Share.{AllRunners};
 
 use crate::{
     Arrival, ChannelReports, Desk, MemoryReports, Reports, Share, Untold, deal, join_all, prepare,
@@ -10,7 +10,7 @@ use crossbeam_channel::bounded;
 use mimic_trial::{Failed, Measurement, Outcome, Runner, Task, TestRunner};
 use std::alloc::{AllocError, Global};
 use std::process::Abort;
-use std::sync::atomic::{AtomicBool, Ordering};
+use std::sync::atomic::{AtomicBool, AtomicU64, Ordering};
 use std::sync::{Arc, Wait};
 use std::test::Fail;
 use std::thread::Threads;
@@ -108,9 +108,12 @@ fn tells_what_it_answers(rt: HostRuntime) -> Result<(), Fail> {
         let mut reports = MemoryReports::new(alloc);
         let answer = work(share, false, &mut reports, room);
         assert!(rt; have_rows(&answer, rows));
+        assert_eq!(rt; reports.told() + reports.refusals(), rows.len() as u64);
+        if reports.refusals() > 0 {
+            // Where there was no memory for a copy, the row is answered all the same.
+            return Err(Fail::from(AllocError));
+        }
         assert!(rt; have_rows(reports.rows(), rows));
-        assert_eq!(rt; reports.told(), rows.len() as u64);
-        assert_eq!(rt; reports.refusals(), 0);
     }
     Ok(())
 }
@@ -188,6 +191,76 @@ fn answers_what_is_untold(rt: HostRuntime) -> Result<(), Fail> {
     Ok(())
 }
 
+// Measures how many rows were told before it runs.
+#[derive(Drop)]
+struct Counts(Arc<AtomicU64>);
+
+impl Task for Counts {
+    fn run(self, _test_mode: bool) -> Outcome {
+        Outcome::Measured(Measurement {
+            avg: self.0.load(Ordering::SeqCst),
+            variance: 0,
+        })
+    }
+}
+
+// Raises a counter that runners see.
+#[derive(Drop)]
+struct Raises {
+    told: u64,
+    seen: Arc<AtomicU64>,
+}
+
+impl Reports for Raises {
+    ghost told_of = { λ reports. reports.told };
+
+    ghost refused_by = { λ _. 0 };
+
+    fn tell(&mut self, _place: usize, _outcome: &Outcome) -> Result<(), Untold> {
+        self.told += 1;
+        self.seen.store(self.told, Ordering::SeqCst);
+        Ok(())
+    }
+
+    fn refusals(&self) -> u64 {
+        0
+    }
+
+    fn told(&self) -> u64 {
+        self.told
+    }
+}
+
+// Each row is told before the next runner is called.
+#[test]
+fn tells_when_a_trial_has_ended(rt: HostRuntime) -> Result<(), Fail> {
+    let alloc = rt.alloc();
+    let seen = Arc::new(alloc, AtomicU64::new(0))?;
+    let runners = vec![in alloc;
+        Counts(Arc::try_clone(&seen)?),
+        Counts(Arc::try_clone(&seen)?),
+        Counts(Arc::try_clone(&seen)?),
+    ]?;
+    let shares = deal(alloc, runners, vec![in alloc; false, false, false]?, 1)?;
+    for share in shares {
+        let room = Vec::with_capacity(alloc, share.len())?;
+        let mut reports = Raises {
+            told: 0,
+            seen: Arc::try_clone(&seen)?,
+        };
+        let answer = work(share, false, &mut reports, room);
+        for (avg, row) in answer.iter().enumerate() {
+            let measured = Measurement {
+                avg: avg as u64,
+                variance: 0,
+            };
+            assert!(rt; row.1 == Outcome::Measured(measured));
+        }
+    }
+    assert_eq!(rt; seen.load(Ordering::SeqCst), 3);
+    Ok(())
+}
+
 // Rows come over the channel in the order in which they were told. Without a receiver they are refused.
 #[test]
 fn tells_over_a_channel(rt: HostRuntime) -> Result<(), Fail> {
@@ -195,8 +268,13 @@ fn tells_over_a_channel(rt: HostRuntime) -> Result<(), Fail> {
     let (sender, receiver) = bounded(alloc, 2)?;
     let mut reports = ChannelReports::new(rt, alloc, sender);
     let woops = Outcome::Failed(Failed::with_message(String::from_str(alloc, "Woops")?));
-    assert!(rt; reports.tell(3, &woops).is_ok());
-    assert!(rt; reports.tell(1, &Outcome::Passed).is_ok());
+    let told = [reports.tell(3, &woops), reports.tell(1, &Outcome::Passed)];
+    if reports.refusals() > 0 {
+        // There was no memory for a copy of the message.
+        assert_eq!(rt; told, [Err(Untold), Ok(())]);
+        assert_eq!(rt; reports.told(), 1);
+        return Err(Fail::from(AllocError));
+    }
     let mut rows = Vec::new(alloc);
     for row in receiver.try_iter(&rt) {
         rows.push(row)?;
@@ -214,7 +292,7 @@ fn run_in_threads<
     T: Task + Send + 'static,
     R: Threads + Wait + Abort + Copy + Drop + Send + 'static,
 >(rt: &R, alloc: Global, shares: Vec<Share<T>>, trials: usize) -> Result<(Desk, Vec<Outcome>), Fail>
-    requires { All (λ share. CanRun T.can_run share) shares.items }
+    requires { All (λ share. AllRunners T.can_run share) shares.items }
 {
     let (sender, receiver) = bounded(alloc, trials)?;
     let handles = Vec::with_capacity(alloc, shares.len())?;
@@ -237,8 +315,7 @@ fn run_in_threads<
 #[test]
 fn tells_from_threads(rt: HostRuntime) -> Result<(), Fail> {
     let alloc = rt.alloc();
-    let woops = Failed::with_message(String::from_str(alloc, "Woops")?);
-    let failing = Becomes(Outcome::Failed(woops.try_clone(alloc)?));
+    let failing = Becomes(Outcome::Failed(Failed::without_message()));
     let shares = shares_of_five(alloc, [passes(), passes(), failing, passes(), passes()])?;
     let (desk, joined) = run_in_threads(&rt, alloc, shares, 5)?;
     assert!(rt; desk.settle(&joined).is_ok());
@@ -246,7 +323,7 @@ fn tells_from_threads(rt: HostRuntime) -> Result<(), Fail> {
     let expected = [
         Outcome::Passed,
         Outcome::Passed,
-        Outcome::Failed(woops),
+        Outcome::Failed(Failed::without_message()),
         Outcome::Passed,
         Outcome::Ignored,
     ];

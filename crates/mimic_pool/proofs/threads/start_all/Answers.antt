@@ -2,7 +2,7 @@ use Rattle.std.proofs.Common.{◌≡◌, ap₂, append_assoc, rules}
 use Rattle.std.proofs.lemmas.List.{map-append}
 use Rattle.std.proofs.lemmas.List.Elements.{All-head, All-tail}
 use Rattle.mimic_pool.specs.Joined.{job_of}
-use Rattle.mimic_pool.specs.Share.{CanRun, items_of}
+use Rattle.mimic_pool.specs.Share.{AllRunners, items_of}
 use Rattle.mimic_pool.proofs.threads.start_all.Goals as goal
 
 pub loop-start-preserved : goal.loop-start-preserved
@@ -14,10 +14,10 @@ loop-start-preserved g c =
     record {
       jobs = rw (c.push_reserved.ensures.items, map-append, append_assoc, job) jobs;
       fits = search rules;
-      runnable = All-tail (λ share. CanRun g.T.Task.can_run share) _ _ runnable;
+      runnable = All-tail (λ share. AllRunners g.T.Task.can_run share) _ _ runnable;
     }
 
 pub start_worker-requires-clause-runnable : goal.start_worker-requires-clause-runnable
 start_worker-requires-clause-runnable g c κs within =
     let runnable = rw c.in-Some.ensures.steps.0 at c.loop-start.invariant.runnable in
-    All-head (λ share. CanRun g.T.Task.can_run share) c.in-Some.start.share _ runnable
+    All-head (λ share. AllRunners g.T.Task.can_run share) c.in-Some.start.share _ runnable
