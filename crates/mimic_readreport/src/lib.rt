@@ -6,7 +6,7 @@ mod machine;
 mod program;
 
 pub use machine::run_program;
-pub use program::{Fault, readreport_run};
+pub use program::readreport_run;
 
 #[cfg(test)]
 mod tests;

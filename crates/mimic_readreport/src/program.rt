@@ -13,16 +13,13 @@ const SUCCESS: u8 = 0;
 
 const FAILURE: u8 = 1;
 
-/// Why a report is not told.
-#[derive(Clone, Copy, Debug, PartialEq, Eq)]
-pub enum Fault {
-    /// The input could not be read to its end.
+// Why a report is not told.
+#[derive(Clone, Copy, Debug)]
+pub(crate) enum Fault {
     Read,
-    /// The input is no report in JSON.
     NoReport,
-    /// The line could not be written whole, or not be flushed.
+    // The line could not be written whole, or not be flushed.
     Write,
-    /// Memory was refused.
     OutOfMemory,
 }
 
