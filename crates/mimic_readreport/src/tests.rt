@@ -1,5 +1,5 @@
 //! The program over memory: its line, its statuses, and what it tells of faults.
-use crate::program::readreport_run;
+use crate::readreport_run;
 use std::alloc::Global;
 use std::io;
 use std::io::{ErrorKind, Read, Write};

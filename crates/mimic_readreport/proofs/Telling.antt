@@ -1,0 +1,28 @@
+-- What a text that was put leaves behind.
+use Rattle.std.proofs.Common.{◌≡◌, ℕ, List, [], Option, Some, None, Result, Ok, Err, IfSome, option_map, sym, subst, ◌∙◌, append-nil}
+use Rattle.std.specs.Io.KnownBytes.{Appends}
+use Rattle.mimic_printer.specs.Json.{Contents, IsJsonReport}
+use Rattle.mimic_events.specs.declared.report.Report.{Report}
+use Rattle.mimic_events.specs.Contents.{Spells, contents_read}
+use Rattle.mimic_events.specs.Reading.{Decodes}
+use Rattle.mimic_readreport.specs.declared.program.Fault.{Fault}
+use Rattle.mimic_readreport.specs.Told.{Behind, GetsBeginning, Holds, Leaves, PutsText, report_line}
+
+-- a text that was put, whole or not, left a beginning of it
+pub put_begins : {T : Type 0} (a b : Option (List ℕ)) (text line : List ℕ) (put : Result T Fault) → text ≡ line → PutsText a b text put → GetsBeginning a b line
+put_begins a b text line (Ok done) e p = record { front = text; rest = []; parts = sym e ∙ sym (append-nil text); appended = p }
+put_begins a b text line (Err fault) e p = subst (λ l. GetsBeginning a b l) e p.1
+
+-- a report that was read from the input is what the input holds
+pub read_holds : (input : Option (List ℕ)) (bytes now : List ℕ) (o : Option Report) (r : Report) → IfSome input (λ all. bytes ≡ all) → now ≡ bytes → Decodes Spells now (option_map contents_read o) → o ≡ Some r
+    → Holds input (contents_read r)
+read_holds None bytes now o r e f d g = tt
+read_holds (Some all) bytes now o r e f d g =
+    let found = rw g at d in
+    subst (λ (l : List ℕ). IsJsonReport l (contents_read r)) (f ∙ e) found.0
+
+-- its line that was put, whole or not, is what a report leaves
+pub put_leaves : {T : Type 0} (input a b : Option (List ℕ)) (contents : Contents) (text : List ℕ) (put : Result T Fault) → Holds input contents → text ≡ report_line contents → PutsText a b text put → Leaves input a b put
+put_leaves input a b contents text (Ok done) held e p = record { contents = contents; held = held; appended = subst (λ l. Appends a b l) e p }
+put_leaves input a b contents text (Err fault) held e p =
+    subst (λ f. Behind f input a b) (sym p.0) (record { contents = contents; held = held; got = subst (λ l. GetsBeginning a b l) e p.1 })

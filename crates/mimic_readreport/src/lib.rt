@@ -1,0 +1,12 @@
+//! A program that tells a report in JSON in one line, for those that run it.
+#![tactic(auto)]
+
+mod line;
+mod machine;
+mod program;
+
+pub use machine::run_program;
+pub use program::readreport_run;
+
+#[cfg(test)]
+mod tests;

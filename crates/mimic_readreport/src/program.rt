@@ -1,0 +1,106 @@
+//! The program, but for the machine's input and output.
+ghost use Rattle.std.specs.Prelude.{◌≡◌, IfErr, IfOk, IfSome};
+ghost use Rattle.mimic_readreport.specs.declared.program.Fault.TheVariants.{OutOfMemory};
+ghost use Rattle.mimic_readreport.specs.Told.{Ended, IsOfInput, Leaves, PutsText, fault_line};
+
+use crate::line::line_of;
+use mimic_events::read_report;
+use std::alloc::{AllocError, Global};
+use std::io::{ErrorKind, Read, Write};
+
+// The exit statuses.
+const SUCCESS: u8 = 0;
+
+const FAILURE: u8 = 1;
+
+// Why a report is not told.
+#[derive(Clone, Copy, Debug)]
+pub(crate) enum Fault {
+    Read,
+    NoReport,
+    // The line could not be written whole, or not be flushed.
+    Write,
+    OutOfMemory,
+}
+
+impl Fault {
+    // The line that tells the fault.
+    fn line(self) -> &'static str
+        ensures { result.now ≡ fault_line self }
+    {
+        match self {
+            Fault::Read => "cannot read\n",
+            Fault::NoReport => "not a report\n",
+            Fault::Write => "cannot write\n",
+            Fault::OutOfMemory => "out of memory\n",
+        }
+    }
+}
+
+/// Reads a report to the end of the input, tells it in one line on `out`, and answers the exit status 0. Where
+/// that can't be done, the reason goes to `err` as one line, and the status is 1; a fault in writing it is not told.
+pub fn readreport_run<I: Read, O: Write, E: Write>(
+    alloc: Global,
+    input: &mut I,
+    out: &mut O,
+    err: &mut E,
+) -> u8
+    ensures { Ended (I.remaining input.old) (O.contents out.old) (O.contents out.new) (E.contents err.old) (E.contents err.new) result }
+{
+    match tell_report(alloc, input, out) {
+        Ok(()) => SUCCESS,
+        Err(fault) => {
+            let _ = put_text(err, fault.line());
+            FAILURE
+        }
+    }
+}
+
+fn tell_report<I: Read, O: Write>(alloc: Global, input: &mut I, out: &mut O) -> Result<(), Fault>
+    ensures { Leaves (I.remaining input.old) (O.contents out.old) (O.contents out.new) result }
+{
+    let bytes = read_all(alloc, input)?;
+    let Some(report) = read_report(alloc, bytes.as_slice())? else {
+        return Err(Fault::NoReport);
+    };
+    let line = line_of(alloc, &report)?;
+    put_text(out, line.as_str())
+}
+
+// Reads to the end of the input.
+fn read_all<I: Read>(alloc: Global, input: &mut I) -> Result<Vec<u8>, Fault>
+    ensures read { IfOk result (λ bytes. IfSome (I.remaining input.old) (λ all. bytes.items ≡ all)) }
+    ensures faults { IfErr result IsOfInput }
+{
+    let mut bytes = Vec::new(alloc);
+    match input.read_to_end(&mut bytes) {
+        Ok(_) => Ok(bytes),
+        Err(error) if error.kind() == ErrorKind::OutOfMemory => Err(Fault::OutOfMemory),
+        Err(_) => Err(Fault::Read),
+    }
+}
+
+// Writes the text whole and flushes it. What fails is not tried again.
+fn put_text<W: Write>(writer: &mut W, text: &str) -> Result<(), Fault>
+    ensures { PutsText (W.contents writer.old) (W.contents writer.new) text.now result }
+{
+    let mut rest = text.as_bytes();
+    while !rest.is_empty() {
+        match writer.write(rest) {
+            Ok(0) | Err(_) => return Err(Fault::Write),
+            Ok(count) => rest = &rest[count..],
+        }
+    }
+    match writer.flush() {
+        Ok(()) => Ok(()),
+        Err(_) => Err(Fault::Write),
+    }
+}
+
+impl From<AllocError> for Fault {
+    ghost from_gives = { λ _ fault. fault ≡ OutOfMemory };
+
+    fn from(_error: AllocError) -> Fault {
+        Fault::OutOfMemory
+    }
+}
