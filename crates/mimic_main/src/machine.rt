@@ -1,5 +1,5 @@
 //! A whole program on the machine.
-ghost use Rattle.std.specs.Prelude.{◌≡◌, Bool, IfOk, OnErr};
+ghost use Rattle.std.specs.Prelude.{◌≡◌, Bool, IfOk, OnErr, true};
 ghost use Rattle.std.specs.Process.{exit_status};
 ghost use Rattle.libtest_mimic.specs.Trial.{AllCanRun};
 ghost use Rattle.mimic_main.specs.Ended.{EndsByLine};
@@ -9,6 +9,7 @@ use crate::colours::shows_colours;
 use crate::program::Program;
 use libtest_mimic::{Arguments, RunError, Task, Trial};
 use std::process::ExitCode;
+use std::rt::{Stderr, Stdout};
 
 /// Runs or lists the trials as the program's command line asks, and answers what its `main` is to return.
 ///
@@ -24,17 +25,28 @@ pub fn run_program<R: Task>(
     ensures made { IfOk tests (λ made. (auto : Bool) × EndsByLine R.gives auto made.items (exit_status result)) }
     ensures refused { OnErr tests (exit_status result ≡ 1) }
 {
-    let program = Program {
-        name,
-        auto_colours: shows_colours(rt, &rt.stdout()),
-        tells_causes: true,
-    };
+    let out: Stdout = rt.stdout();
+    let program = telling(name, shows_colours(rt, &out));
     match tests {
         Ok(tests) => program.run(rt, tests),
         Err(error) => program.end(rt, Err(error)),
     }
 }
 
+// A program that tells a fault with its cause.
+fn telling(name: &str, auto_colours: bool) -> Program<'_>
+    ensures name { result.name.now ≡ name.now }
+    ensures colours { result.auto_colours ≡ auto_colours }
+    ensures causes { result.tells_causes ≡ true }
+{
+    Program {
+        name,
+        auto_colours,
+        tells_causes: true,
+    }
+}
+
+// Each stream is bound with its type, so that no other is taken for it.
 impl Program<'_> {
     /// Runs or lists the trials as the command line asks, on the standard streams, and answers what `main` is to return.
     pub fn run<R: Task>(&self, rt: &HostRuntime, tests: Vec<Trial<R>>) -> ExitCode
@@ -44,8 +56,9 @@ impl Program<'_> {
         let alloc = rt.alloc();
         let line = Arguments::from_args(rt, alloc);
         let clock = MonotonicClock::new(rt);
-        let (out, err) = (rt.stdout(), &mut rt.stderr());
-        let (_, status) = self.harness_run(rt, alloc, line, tests, out, err, clock);
+        let out: Stdout = rt.stdout();
+        let mut err: Stderr = rt.stderr();
+        let (_, status) = self.harness_run(rt, alloc, line, tests, out, &mut err, clock);
         ExitCode::from(status)
     }
 
@@ -57,7 +70,10 @@ impl Program<'_> {
     {
         match ended {
             Ok(code) => code,
-            Err(error) => ExitCode::from(self.refuse(error, &mut rt.stderr())),
+            Err(error) => {
+                let mut err: Stderr = rt.stderr();
+                ExitCode::from(self.refuse(error, &mut err))
+            }
         }
     }
 }

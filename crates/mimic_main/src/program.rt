@@ -4,6 +4,7 @@ ghost use Rattle.libtest_mimic.specs.Count.{total_of};
 ghost use Rattle.libtest_mimic.specs.Run.{HasAnswer};
 ghost use Rattle.libtest_mimic.specs.Trial.{AllCanRun};
 ghost use Rattle.mimic_main.specs.Ended.{Ended, status_of, status_without};
+ghost use Rattle.mimic_main.specs.declared.program.Fault.TheVariants.{Run};
 ghost use Rattle.mimic_main.specs.Run.{GotBeginning, Ran};
 
 use crate::buffer::{FlushPolicy, Output};
@@ -230,6 +231,8 @@ fn run_buffered<R: Task, W: Write, C: Clock + Drop>(
 }
 
 impl From<RunError> for Fault {
+    ghost from_gives = { λ error fault. fault ≡ Run error };
+
     fn from(error: RunError) -> Fault {
         Fault::Run(error)
     }

@@ -219,6 +219,28 @@ fn stops_at_each_call(rt: HostRuntime) -> Result<(), Fail> {
     Ok(())
 }
 
+// A piece that fills a block, by each policy, where the writer fails once: no call is well after that, flushes neither.
+#[test]
+fn fails_after_a_fault(rt: HostRuntime) -> Result<(), Fail> {
+    let alloc = rt.alloc();
+    let full = Fault::Error(ErrorKind::StorageFull);
+    for policy in [
+        FlushPolicy::OnFlush,
+        FlushPolicy::OnLineEnd,
+        FlushPolicy::WhenFull,
+    ] {
+        let writer = failing_at(alloc, 1, full, Arc::new(alloc, AtomicBool::new(false))?);
+        let mut output = Output::new(alloc, policy, writer);
+        assert!(rt; output.write_all(&[0; 8192]).is_err());
+        assert!(rt; output.flush().is_err());
+        assert!(rt; output.write_all(b"a").is_err());
+        let (writer, finished) = output.finish();
+        assert!(rt; finished.is_err());
+        assert_eq!(rt; writer.calls_after, 0);
+    }
+    Ok(())
+}
+
 // A piece through a sink and a buffer, where the writer fails once: the call that had the fault tells it, and each later
 // one fails without asking the writer.
 #[test]

@@ -78,10 +78,10 @@ fn run_one<O: Write + Drop>(
 fn tells_why_a_line_gave_nothing(rt: HostRuntime) -> Result<(), Fail> {
     let alloc = rt.alloc();
     let help = ArgumentsError::Help(String::from_str(alloc, "help\n")?);
-    let refused = ArgumentsError::Refused(String::from_str(alloc, "no\n")?);
+    let refused = ArgumentsError::Refused(String::from_str(alloc, " no\n")?);
     let rows: [(ArgumentsError, u8, &str); 3] = [
         (help, 0, ""),
-        (refused, 2, "no\n"),
+        (refused, 2, " no\n"),
         (ArgumentsError::OutOfMemory, 1, "plain: out of memory\n"),
     ];
     for (error, status, text) in rows {
