@@ -30,7 +30,7 @@ use thiserror::Error;
 /// Why a run was refused.
 #[derive(Debug, Drop, Error)]
 pub enum RunError {
-    /// A growth was refused. All growths come before the title: nothing was written.
+    /// An allocation failed. All of them come before the title: nothing was written.
     #[error("out of memory")]
     OutOfMemory,
     /// A write or a flush failed. A start of the report, or a beginning of the list, was written.

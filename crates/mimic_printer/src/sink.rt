@@ -8,7 +8,7 @@ use thiserror::Error;
 /// Why a write failed.
 #[derive(Debug, Drop, Error)]
 pub enum WriteFault {
-    /// The writer answered an error of any kind, `Interrupted` too.
+    /// The writer returned an error of any kind, `Interrupted` too.
     #[error("{0}")]
     Error(io::Error),
     /// The writer took none of a piece that isn't empty.
@@ -18,8 +18,8 @@ pub enum WriteFault {
 
 /// A writer, and how many of its writes and flushes failed.
 ///
-/// A fault is answered and not tried again. A run that answers `Ok` has counted none, and one that
-/// answers a write fault has counted exactly one.
+/// A fault is returned and not tried again. A run that returns `Ok` has counted none, and one that
+/// returns a write fault has counted exactly one.
 #[derive(Drop)]
 pub struct Sink<W: Write> {
     writer: W,

@@ -15,7 +15,7 @@ use libtest_mimic::{
 use mimic_events::{Report, read_report};
 use std::alloc::Global;
 
-/// Runs the selected trials as `run_here` does, and answers its conclusion and its report, as it is read back.
+/// Runs the selected trials as `run_here` does, and returns its conclusion and its report, as it is read back.
 ///
 /// The arguments ask for JSON and for no list. The report is written to memory.
 pub fn run_to_report<R: Task, C: Clock>(

@@ -69,7 +69,7 @@ impl Eq for Outcome {
     ghost laws = { decided same_outcome outcome_decides };
 }
 
-/// Calls the runner once, and answers the outcome of its answer.
+/// Calls the runner once, and returns the outcome of its answer.
 ///
 /// A test's `Ok` has the outcome `Passed`, and every `Err` the outcome `Failed`. In test mode a
 /// benchmark's `Ok` is `Passed` and a measurement is dropped. In bench mode a measurement is

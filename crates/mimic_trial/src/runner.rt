@@ -21,7 +21,7 @@ impl TestRunner {
         TestRunner { boxed }
     }
 
-    /// Makes the one call of the box, and answers what it answers.
+    /// Makes the one call of the box, and returns what it returns.
     pub fn call(self) -> Result<(), Failed>
         ensures { TestAnswers self result }
     {
@@ -49,7 +49,7 @@ impl BenchRunner {
         BenchRunner { boxed }
     }
 
-    /// Makes the one call of the box, and answers what it answers. In test mode the benchmark is only
+    /// Makes the one call of the box, and returns what it returns. In test mode the benchmark is only
     /// run, and in bench mode it is measured.
     pub fn call(self, test_mode: bool) -> Result<Option<Measurement>, Failed>
         ensures { BenchAnswers self test_mode result }

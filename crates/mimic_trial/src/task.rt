@@ -34,7 +34,7 @@ impl Task for Runner {
     }
 }
 
-/// A closure that no box holds is a test: it passes where it answers `Ok`.
+/// A closure that no box holds is a test: it passes where it returns `Ok`.
 impl<F: FnOnce() -> Result<(), Failed> + Drop> Task for F {
     ghost use Rattle.mimic_trial.specs.Promise.{outcome_of_test};
 

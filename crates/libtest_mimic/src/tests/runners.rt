@@ -1,6 +1,6 @@
 //! Trials over runners of one's own: plain data, closures that no box holds, and one function for all cases.
 ghost use Rattle.std.specs.Prelude.{◌≡◌, ◌+◌, ◌==◌, IfOk, None, if◌then◌else◌};
-ghost use Rattle.mimic_trial.specs.declared.outcome.Outcome.TheVariants.{Failed as HasFailed, Passed as HasPassed};
+ghost use Rattle.mimic_trial.specs.declared.outcome.Outcome.TheVariants.{Failed as AFailed, Passed as APassed};
 
 use super::writers::run_ample;
 use crate::{Arguments, Conclusion, Failed, Measurement, Outcome, Task, TestInfo, Trial};
@@ -16,7 +16,7 @@ struct Sum {
 
 impl Task for Sum {
     // It passes exactly where the sum is right.
-    ghost gives = { λ sum _ o. o ≡ (if sum.summands.0 + sum.summands.1 == sum.total then HasPassed else HasFailed None) };
+    ghost gives = { λ sum _ o. o ≡ (if sum.summands.0 + sum.summands.1 == sum.total then APassed else AFailed None) };
 
     fn run(self, _test_mode: bool) -> Outcome {
         if u64::from(self.summands.0) + u64::from(self.summands.1) == self.total {

@@ -56,7 +56,7 @@ impl Failed {
 
     /// A failure whose message is what the value displays.
     ///
-    /// An `Err` is answered where a growth was refused, or where the value's own `Display` failed.
+    /// It returns an `Err` where an allocation failed, or the value's own `Display`.
     pub fn from_display<M: Display>(alloc: Global, message: &M) -> Result<Self, AllocError>
         ensures some { IfOk result (λ f. IsSome f) }
         ensures kept { IfOk result (λ f. IfSome (M.output message.now) (λ text. f ≡ Some text)) }
