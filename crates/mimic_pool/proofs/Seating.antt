@@ -2,7 +2,8 @@
 use Rattle.std.proofs.Common.{◌≡◌, ◌≢◌, ℕ, suc, zero, ◌+◌, ◌<◌, eqb, Bool, true, false, not, ◌||◌, cond, List, [], ◌∷◌, ◌++◌, Option, Some, None, is_some, is_none, filter, length, length-append, map, slice_index_or, slice_set, refl, sym, ◌∙◌, ap, subst, inl, inr, arith}
 use Rattle.std.specs.List.{list_any, IsDistinct, range_with_len}
 use Rattle.std.proofs.lemmas.Grind.{get_or-set_at}
-use Rattle.std.proofs.lemmas.List.{get_or-set_other, get_or_default, map-append}
+use Rattle.std.proofs.lemmas.List.{get_or-set_other, get_or_default}
+use Rattle.std.proofs.lemmas.List.Concat.{flat_map-append}
 use Rattle.std.proofs.lemmas.List.Folds.{list_any-append}
 use Rattle.std.specs.Cmp.{IsEquivalence}
 use Rattle.std.proofs.lemmas.Bool.{eqb-true, eq-eqb}
@@ -10,43 +11,93 @@ use Rattle.std.proofs.lemmas.Map.Keys.{IsDistinct-push}
 use Rattle.std.proofs.lemmas.Map.Steps.{length-le_from_distinct_below}
 use Rattle.std.proofs.lemmas.Bool.Decides.{eqb_tells}
 use Rattle.mimic_trial.specs.declared.outcome.Outcome.{Outcome}
-use Rattle.mimic_trial.specs.Places.{Placed}
+use Rattle.mimic_trial.specs.Places.{Placed, placed_if}
 use Rattle.mimic_pool.specs.Arrivals.{arrived_at, has_come, missing_of}
 use Rattle.mimic_pool.specs.Missing.{free_from}
-use Rattle.mimic_pool.specs.Seats.{seated, seat_row}
+use Rattle.mimic_pool.specs.Seats.{seated_at}
 
-has_shown : (seats : List (Option Outcome)) (order : List ℕ) (p : ℕ) → has_come p (map (seat_row seats) order) ≡ list_any (eqb p) order
-has_shown seats [] p = refl
-has_shown seats (x ∷ xs) p = ap (λ t. eqb p x || t) (has_shown seats xs p)
+-- each place in the order has a seat that is taken
+AllTaken : List (Option Outcome) → List ℕ → Type 0
+AllTaken seats order = (q : ℕ) → list_any (eqb q) order ≡ true → is_some (slice_index_or seats q None) ≡ true
 
-pub order_shown : (seats : List (Option Outcome)) (order : List ℕ) → order ≡ map (λ r. r.0) (map (seat_row seats) order)
-order_shown seats [] = refl
-order_shown seats (x ∷ xs) = ap (λ t. x ∷ t) (order_shown seats xs)
+true_after : (b : Bool) → (b || true) ≡ true
+true_after true = refl
+true_after false = refl
 
-row_found : (seats : List (Option Outcome)) (order : List ℕ) (p : ℕ)
-    → arrived_at p (map (seat_row seats) order) ≡ cond (list_any (eqb p) order) (Some (seated (slice_index_or seats p None))) None
-row_found seats [] p = refl
-row_found seats (x ∷ xs) p =
-    let here = Some (seated (slice_index_or seats p None)) in
-    let ih = row_found seats xs p in
-    let P : Bool → Type 0 = λ t. cond t (Some (seated (slice_index_or seats x None))) (arrived_at p (map (seat_row seats) xs)) ≡ cond (t || list_any (eqb p) xs) here None in
-    elim (eqb_tells p x) [
-      | inl h ↦ subst P (sym h.0) (ap (λ q. Some (seated (slice_index_or seats q None))) (sym h.1))
-      | inr h ↦ subst P (sym h.0) ih
+module _ (seats : List (Option Outcome)) (x : ℕ) (xs : List ℕ) where
+  taken_first : AllTaken seats (x ∷ xs) → is_some (slice_index_or seats x None) ≡ true
+  unfolding AllTaken
+  taken_first all = all x (ap (λ b. b || list_any (eqb x) xs) (eq-eqb x x refl))
+
+  taken_rest : AllTaken seats (x ∷ xs) → AllTaken seats xs
+  unfolding AllTaken
+  taken_rest all = λ q h. all q (ap (λ b. eqb q x || b) h ∙ true_after (eqb q x))
+
+all_taken : (seats : List (Option Outcome)) (order : List ℕ) → ((q : ℕ) → list_any (eqb q) order ≡ is_some (slice_index_or seats q None)) → AllTaken seats order
+unfolding AllTaken
+all_taken seats order taken = λ q h. sym (taken q) ∙ h
+
+-- ---- the row of one seat that is taken, before others
+
+module _ (x : ℕ) (rest : List Placed) where
+  come_if : (p : ℕ) (o : Option Outcome) → is_some o ≡ true → has_come p (placed_if x o ++ rest) ≡ (eqb p x || has_come p rest)
+  come_if p (Some o) some = refl
+  come_if p None some = absurd (cc)
+
+  place_if : (o : Option Outcome) → is_some o ≡ true → map (λ r. r.0) (placed_if x o ++ rest) ≡ x ∷ map (λ r. r.0) rest
+  place_if (Some o) some = refl
+  place_if None some = absurd (cc)
+
+  found_if : (p : ℕ) (o : Option Outcome) → is_some o ≡ true → arrived_at p (placed_if x o ++ rest) ≡ cond (eqb p x) o (arrived_at p rest)
+  found_if p (Some o) some = refl
+  found_if p None some = absurd (cc)
+
+-- ---- all rows
+
+has_seated : (seats : List (Option Outcome)) (order : List ℕ) (p : ℕ) → AllTaken seats order → has_come p (seated_at order seats) ≡ list_any (eqb p) order
+has_seated seats [] p all = refl
+has_seated seats (x ∷ xs) p all =
+    come_if x (seated_at xs seats) p (slice_index_or seats x None) (taken_first seats x xs all)
+    ∙ ap (λ t. eqb p x || t) (has_seated seats xs p (taken_rest seats x xs all))
+
+order_seated : (seats : List (Option Outcome)) (order : List ℕ) → AllTaken seats order → order ≡ map (λ r. r.0) (seated_at order seats)
+order_seated seats [] all = refl
+order_seated seats (x ∷ xs) all =
+    ap (λ t. x ∷ t) (order_seated seats xs (taken_rest seats x xs all))
+    ∙ sym (place_if x (seated_at xs seats) (slice_index_or seats x None) (taken_first seats x xs all))
+
+row_found : (seats : List (Option Outcome)) (order : List ℕ) (p : ℕ) → AllTaken seats order
+    → arrived_at p (seated_at order seats) ≡ cond (list_any (eqb p) order) (slice_index_or seats p None) None
+row_found seats [] p all = refl
+row_found seats (x ∷ xs) p all =
+    let here = slice_index_or seats p None in
+    let there = slice_index_or seats x None in
+    let rest = arrived_at p (seated_at xs seats) in
+    let P : Bool → Type 0 = λ t. cond t there rest ≡ cond (t || list_any (eqb p) xs) here None in
+    found_if x (seated_at xs seats) p there (taken_first seats x xs all) ∙ elim (eqb_tells p x) [
+      | inl h ↦ subst P (sym h.0) (ap (λ q. slice_index_or seats q None) (sym h.1))
+      | inr h ↦ subst P (sym h.0) (row_found seats xs p (taken_rest seats x xs all))
     ]
 
-seated_some : (o : Option Outcome) → cond (is_some o) (Some (seated o)) None ≡ o
-seated_some (Some o) = refl
-seated_some None = refl
+some_or_none : (o : Option Outcome) → cond (is_some o) o None ≡ o
+some_or_none (Some o) = refl
+some_or_none None = refl
 
-pub row_shown : (seats : List (Option Outcome)) (order : List ℕ) (p : ℕ)
-    → list_any (eqb p) order ≡ is_some (slice_index_or seats p None) → arrived_at p (map (seat_row seats) order) ≡ slice_index_or seats p None
-row_shown seats order p taken =
-    row_found seats order p ∙ (ap (λ t. cond t (Some (seated (slice_index_or seats p None))) None) taken ∙ seated_some (slice_index_or seats p None))
+module _ (seats : List (Option Outcome)) (order : List ℕ) (taken : (q : ℕ) → list_any (eqb q) order ≡ is_some (slice_index_or seats q None)) where
+  pub has_shown : (p : ℕ) → has_come p (seated_at order seats) ≡ list_any (eqb p) order
+  has_shown p = has_seated seats order p (all_taken seats order taken)
+
+  pub order_shown : order ≡ map (λ r. r.0) (seated_at order seats)
+  order_shown = order_seated seats order (all_taken seats order taken)
+
+  pub row_shown : (p : ℕ) → arrived_at p (seated_at order seats) ≡ slice_index_or seats p None
+  row_shown p =
+      row_found seats order p (all_taken seats order taken)
+      ∙ (ap (λ t. cond t (slice_index_or seats p None) None) (taken p) ∙ some_or_none (slice_index_or seats p None))
 
 -- a seat that is not in the order is written: the rows stay
 pub shown_set : (seats : List (Option Outcome)) (order : List ℕ) (q : ℕ) (v : Option Outcome)
-    → list_any (eqb q) order ≡ false → map (seat_row (slice_set seats q v)) order ≡ map (seat_row seats) order
+    → list_any (eqb q) order ≡ false → seated_at order (slice_set seats q v) ≡ seated_at order seats
 shown_set seats [] q v none = refl
 shown_set seats (x ∷ xs) q v none =
     elim (eqb_tells q x) [
@@ -54,8 +105,8 @@ shown_set seats (x ∷ xs) q v none =
       | inr h ↦
           let rest : list_any (eqb q) xs ≡ false = ap (λ t. t || list_any (eqb q) xs) (sym h.0) ∙ none in
           let other : x ≢ q = λ e. h.1 (sym e) in
-          let same : seat_row (slice_set seats q v) x ≡ seat_row seats x = ap (λ o. (x, seated o)) (get_or-set_other seats q x v None other) in
-          ap (λ r. r ∷ map (seat_row (slice_set seats q v)) xs) same ∙ ap (λ rs. seat_row seats x ∷ rs) (shown_set seats xs q v rest)
+          ap (λ o. placed_if x o ++ seated_at xs (slice_set seats q v)) (get_or-set_other seats q x v None other)
+          ∙ ap (λ rows. placed_if x (slice_index_or seats x None) ++ rows) (shown_set seats xs q v rest)
     ]
 
 pub or_false : (b : Bool) → (b || (false || false)) ≡ b
@@ -119,16 +170,17 @@ pub order_known : (seats : List (Option Outcome)) (order : List ℕ) (p : ℕ) (
     → list_any (eqb p) order ≡ b
 order_known seats order p now b taken at low is = taken p ∙ (ap is_some (get_or_default seats p None now low ∙ sym at) ∙ is)
 
-pub come_known : (seats : List (Option Outcome)) (order : List ℕ) (p : ℕ) (b : Bool) → list_any (eqb p) order ≡ b → has_come p (map (seat_row seats) order) ≡ b
-come_known seats order p b known = has_shown seats order p ∙ known
+pub come_known : (seats : List (Option Outcome)) (order : List ℕ) (p : ℕ) (b : Bool) → ((q : ℕ) → list_any (eqb q) order ≡ is_some (slice_index_or seats q None))
+    → list_any (eqb p) order ≡ b → has_come p (seated_at order seats) ≡ b
+come_known seats order p b taken known = has_shown seats order taken p ∙ known
 
 -- the rows after a first arrival
 pub shown_more : (seats : List (Option Outcome)) (order : List ℕ) (p : ℕ) (o : Outcome) → p < length seats → list_any (eqb p) order ≡ false
-    → map (seat_row (slice_set seats p (Some o))) (order ++ p ∷ []) ≡ map (seat_row seats) order ++ (p, o) ∷ []
+    → seated_at (order ++ p ∷ []) (slice_set seats p (Some o)) ≡ seated_at order seats ++ (p, o) ∷ []
 shown_more seats order p o low none =
-    map-append (seat_row (slice_set seats p (Some o))) order (p ∷ [])
-    ∙ (ap (λ rs. rs ++ seat_row (slice_set seats p (Some o)) p ∷ []) (shown_set seats order p (Some o) none)
-    ∙ ap (λ v. map (seat_row seats) order ++ (p, seated v) ∷ []) (get_or-set_at seats p p (Some o) None refl low))
+    flat_map-append (λ q. placed_if q (slice_index_or (slice_set seats p (Some o)) q None)) order (p ∷ [])
+    ∙ (ap (λ rows. rows ++ seated_at (p ∷ []) (slice_set seats p (Some o))) (shown_set seats order p (Some o) none)
+    ∙ ap (λ v. seated_at order seats ++ (placed_if p v ++ [])) (get_or-set_at seats p p (Some o) None refl low))
 
 pub distinct_none : IsDistinct eqb []
 unfolding IsDistinct
@@ -155,8 +207,8 @@ free_rows rows k (o ∷ os) h =
     ∙ ap (λ t. cond t (k ∷ filter (λ p. not (has_come p rows)) (range_with_len (k + 1) (length os))) (filter (λ p. not (has_come p rows)) (range_with_len (k + 1) (length os)))) head
 
 pub missing_shown : (seats : List (Option Outcome)) (order : List ℕ) → ((q : ℕ) → list_any (eqb q) order ≡ is_some (slice_index_or seats q None))
-    → free_from 0 seats ≡ missing_of (record { places = length seats; rows = map (seat_row seats) order })
+    → free_from 0 seats ≡ missing_of (record { places = length seats; rows = seated_at order seats })
 missing_shown seats order taken =
-    free_rows (map (seat_row seats) order) 0 seats (λ i low.
+    free_rows (seated_at order seats) 0 seats (λ i low.
     let e : 0 + i ≡ i = omega arith in
-    not_some (slice_index_or seats i None) ∙ (ap not (sym (taken i)) ∙ (ap not (sym (has_shown seats order i)) ∙ ap (λ p. not (has_come p (map (seat_row seats) order))) (sym e))))
+    not_some (slice_index_or seats i None) ∙ (ap not (sym (taken i)) ∙ (ap not (sym (has_shown seats order taken i)) ∙ ap (λ p. not (has_come p (seated_at order seats))) (sym e))))

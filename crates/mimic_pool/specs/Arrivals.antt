@@ -10,11 +10,19 @@ use Rattle.mimic_pool.specs.declared.desk.Arrival.TheVariants.{First, Again, Str
 abbrev pub has_come : ℕ → List Placed → Bool
 has_come place arrivals = list_any (λ a. place == a.0) arrivals
 
--- of the arrivals after these earlier ones: those at a place below n where nothing came before, in their order
+-- the arrival is at a place below n where nothing came before
+abbrev pub is_first : ℕ → List Placed → Placed → Bool
+is_first n earlier a = nat_lt a.0 n && not (has_come a.0 earlier)
+
+-- the places below n where nothing came, rising
+abbrev pub not_come : ℕ → List Placed → List ℕ
+not_come n arrivals = filter (λ place. not (has_come place arrivals)) (range_with_len 0 n)
+
+-- of the arrivals after these earlier ones: those that are first ones, in their order
 abbrev pub first_after : ℕ → List Placed → List Placed → List Placed
 first_after n earlier [] = []
 first_after n earlier (a ∷ arrivals) =
-    if nat_lt a.0 n && not (has_come a.0 earlier) then a ∷ first_after n (earlier ++ a ∷ []) arrivals else first_after n (earlier ++ a ∷ []) arrivals
+    if is_first n earlier a then a ∷ first_after n (earlier ++ a ∷ []) arrivals else first_after n (earlier ++ a ∷ []) arrivals
 
 -- the first arrivals: at each place below n the first one, in the order in which they came (our own)
 abbrev pub first_arrivals : ℕ → List Placed → List Placed
@@ -22,7 +30,7 @@ first_arrivals n arrivals = first_after n [] arrivals
 
 -- the order of n places in a report: those of the first arrivals, and then those where nothing came, rising (our own)
 abbrev pub order_of : ℕ → List Placed → List ℕ
-order_of n arrivals = places_of (first_arrivals n arrivals) ++ filter (λ place. not (has_come place arrivals)) (range_with_len 0 n)
+order_of n arrivals = places_of (first_arrivals n arrivals) ++ not_come n arrivals
 
 -- ---- a desk
 
@@ -35,9 +43,9 @@ pub record Arrived : Type 0 where
 abbrev pub arrival_of : Arrived → ℕ → Arrival
 arrival_of desk place = if nat_lt place desk.places then (if has_come place desk.rows then Again else First) else Stranger
 
--- the rows after one more arrival: it is the last one where it is the first at a place below n
+-- the rows after one more arrival: it is their last where it is a first one
 abbrev pub rows_after : ℕ → List Placed → Placed → List Placed
-rows_after n rows a = if nat_lt a.0 n && not (has_come a.0 rows) then rows ++ a ∷ [] else rows
+rows_after n rows a = if is_first n rows a then rows ++ a ∷ [] else rows
 
 -- the outcome that arrived at the place
 abbrev pub arrived_at : ℕ → List Placed → Option Outcome
@@ -46,7 +54,7 @@ arrived_at place (row ∷ rows) = if place == row.0 then Some row.1 else arrived
 
 -- the places where nothing arrived, rising
 abbrev pub missing_of : Arrived → List ℕ
-missing_of desk = filter (λ place. not (has_come place desk.rows)) (range_with_len 0 desk.places)
+missing_of desk = not_come desk.places desk.rows
 
 -- an outcome that arrived at the place is the joined one there
 abbrev pub AgreesAt : List Placed → List Outcome → ℕ → Type 0

@@ -1,24 +1,18 @@
 -- What a desk keeps inside: a seat for each place, and the places in order of arrival. No public clause names these words.
-use Rattle.std.specs.Prelude.{ℕ, ◌≡◌, ◌≤◌, List, Option, Some, None, is_some, map, length, slice_get, slice_index_or, vec_capacity, eqb}
-use Rattle.std.specs.List.{list_any, IsDistinct}
+use Rattle.std.specs.Prelude.{ℕ, ◌≡◌, ◌≤◌, List, Option, Some, None, is_some, length, slice_get, slice_index_or, vec_capacity, eqb}
+use Rattle.std.specs.List.{flat_map, list_any, IsDistinct}
 use Rattle.mimic_trial.specs.declared.outcome.Outcome.{Outcome}
-use Rattle.mimic_trial.specs.declared.outcome.Outcome.TheVariants as outcome
-use Rattle.mimic_trial.specs.Places.{Placed}
+use Rattle.mimic_trial.specs.Places.{Placed, placed_if}
 use Rattle.mimic_pool.specs.Arrivals.{Arrived}
 use Rattle.mimic_pool.specs.declared.desk.Desk.TheInside.{Inside}
 
--- what lies in a seat that is taken
-abbrev pub seated : Option Outcome → Outcome
-seated (Some o) = o
-seated None = outcome.Passed
-
--- the row of a place whose seat is taken
-abbrev pub seat_row : List (Option Outcome) → ℕ → Placed
-seat_row seats place = (place, seated (slice_index_or seats place None))
+-- the places in this order, each with what lies in its seat; a place whose seat is free is left out
+abbrev pub seated_at : List ℕ → List (Option Outcome) → List Placed
+seated_at order seats = flat_map (λ place. placed_if place (slice_index_or seats place None)) order
 
 -- what a desk with this inside shows
 abbrev pub arrived_of : Inside → Arrived
-arrived_of desk = record { places = length desk.seats.items; rows = map (seat_row desk.seats.items) desk.order.items }
+arrived_of desk = record { places = length desk.seats.items; rows = seated_at desk.order.items desk.seats.items }
 
 -- a place is in the order exactly where its seat is taken; none stands there twice, and there is room for all
 pub record IsSeated (desk : Inside) : Type 0 where

@@ -10,7 +10,7 @@ use mimic_trial::{Outcome, Task, run_unless};
 /// Runs the share in its order, tells each row when its trial has ended, and answers all of them.
 ///
 /// A runner that is ignored is dropped without a call. A row that could not be told is answered all the same. The answer
-/// is put into `room`, which takes no memory.
+/// is put into `room`, which has room for all of it.
 pub fn work<T: Task, R: Reports>(
     share: Share<T>,
     test_mode: bool,

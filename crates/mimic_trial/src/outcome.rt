@@ -27,7 +27,7 @@ pub enum Outcome {
 }
 
 impl Outcome {
-    /// An equal outcome. Only the message of a failure takes memory, and an `Err` says that there was none.
+    /// An equal outcome. An `Err` is the allocator's word that there was no memory for a failure's message.
     pub fn try_clone(&self, alloc: Global) -> Result<Self, AllocError>
         ensures { IfOk result (λ o. o ≡ self.now) }
     {

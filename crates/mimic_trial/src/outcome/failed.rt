@@ -64,7 +64,7 @@ impl Failed {
         Ok(Failed::with_message(message.to_string(alloc)?))
     }
 
-    /// An equal failure. Only a message takes memory, and an `Err` says that there was none.
+    /// An equal failure. An `Err` is the allocator's word that there was no memory for its message.
     pub fn try_clone(&self, alloc: Global) -> Result<Self, AllocError>
         ensures { IfOk result (λ f. f ≡ self.now) }
     {

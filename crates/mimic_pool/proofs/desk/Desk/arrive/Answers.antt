@@ -21,13 +21,13 @@ pub returns-then-is_some-clause-answer : goal.returns-then-is_some-clause-answer
 returns-then-is_some-clause-answer c =
     let ok = c.self.inside.seats.ok in
     let taken = order_known _ _ c.args.place _ true c.self.invariant.taken c.index.ensures (omega arith) (sym c.if-is_some.ensures) in
-    rw (← c.self.view_is) (said (arrived_of c.self.inside) _ true (omega arith) (come_known c.self.inside.seats.items c.self.inside.order.items c.args.place true taken))
+    rw (← c.self.view_is) (said (arrived_of c.self.inside) _ true (omega arith) (come_known c.self.inside.seats.items c.self.inside.order.items c.args.place true c.self.invariant.taken taken))
 
 pub returns-then-is_some-clause-rows : goal.returns-then-is_some-clause-rows
 returns-then-is_some-clause-rows c =
     let ok = c.self.inside.seats.ok in
     let taken = order_known _ _ c.args.place _ true c.self.invariant.taken c.index.ensures (omega arith) (sym c.if-is_some.ensures) in
-    rw (← c.self.view_is) (again_kept (arrived_of c.self.inside) _ (omega arith) (come_known c.self.inside.seats.items c.self.inside.order.items c.args.place true taken))
+    rw (← c.self.view_is) (again_kept (arrived_of c.self.inside) _ (omega arith) (come_known c.self.inside.seats.items c.self.inside.order.items c.args.place true c.self.invariant.taken taken))
 
 pub returns-then-is_some-clause-history : goal.returns-then-is_some-clause-history
 returns-then-is_some-clause-history c = history_more _ _ _ _ (returns-then-is_some-clause-rows c)
@@ -58,14 +58,14 @@ pub returns-clause-answer : goal.returns-clause-answer
 returns-clause-answer c =
     let ok = c.self.inside.seats.ok in
     let free = order_known _ _ c.args.place _ false c.self.invariant.taken c.index.ensures (omega arith) (sym c.if-is_some.ensures) in
-    rw (← c.self.view_is) (said (arrived_of c.self.inside) _ false (omega arith) (come_known c.self.inside.seats.items c.self.inside.order.items c.args.place false free))
+    rw (← c.self.view_is) (said (arrived_of c.self.inside) _ false (omega arith) (come_known c.self.inside.seats.items c.self.inside.order.items c.args.place false c.self.invariant.taken free))
 
 pub returns-clause-rows : goal.returns-clause-rows
 returns-clause-rows c =
     let ok = c.self.inside.seats.ok in
     let free = order_known _ _ c.args.place _ false c.self.invariant.taken c.index.ensures (omega arith) (sym c.if-is_some.ensures) in
     let pushed = c.push_reserved.ensures.items in
-    rw (pushed, ← c.self.view_is) (shown_more _ _ _ _ (omega arith) free ∙ first_kept (arrived_of c.self.inside) _ (omega arith) (come_known c.self.inside.seats.items c.self.inside.order.items c.args.place false free))
+    rw (pushed, ← c.self.view_is) (shown_more c.self.inside.seats.items c.self.inside.order.items c.args.place c.args.outcome (omega arith) free ∙ first_kept (arrived_of c.self.inside) _ (omega arith) (come_known c.self.inside.seats.items c.self.inside.order.items c.args.place false c.self.invariant.taken free))
 
 pub returns-clause-history : goal.returns-clause-history
 returns-clause-history c = history_more _ _ _ _ (returns-clause-rows c)

@@ -19,7 +19,7 @@ pub returns-clause-whole : goal.returns-clause-whole
 returns-clause-whole c =
     let order = c.self.inside.order.items in
     let rows = c.args.self.now.rows in
-    let same : order ≡ places_of rows = order_shown c.self.inside.seats.items order ∙ ap (λ desk. places_of desk.rows) c.self.view_is in
+    let same : order ≡ places_of rows = order_shown c.self.inside.seats.items order c.self.invariant.taken ∙ ap (λ desk. places_of desk.rows) c.self.view_is in
     let P : List ℕ → Type 0 = λ l. IsDistinct eqb l in
     let Q : List ℕ → Type 0 = λ l. (p : ℕ) → list_any (eqb p) l ≡ true → p < c.args.self.now.places in
     order_whole _ rows _ (subst P same c.self.invariant.distinct)
