@@ -100,7 +100,7 @@ pub fn run_here<R: Task, W: Write, C: Clock>(
     }
 }
 
-// Keeps the selected trials alone, and answers how many were dropped.
+// Keeps the selected trials alone, and returns how many were dropped.
 fn select<R: Drop>(args: &Arguments, trials: &mut Vec<Trial<R>>) -> u64
     ensures selection { IsSelection args.now trials.old.items trials.new.items }
     ensures dropped { result ≡ filtered_out_of trials.old.items trials.new.items }

@@ -117,7 +117,7 @@ IsMeaningOf words a = (unstable : ValueParser) × (color : ValueParser) × (form
     × (let entries = matches_of (harness_options unstable color format).0 words in
     IsReadFrom entries a × AreAccepted entries a × IsFreeOfConflicts entries a)
 
--- a line that gave no arguments is told so: want of memory where memory was refused, help where help was asked for, and
+-- a line that gave no arguments is told so: out of memory where an allocation failed, help where help was asked for, and
 -- else a refused line (our own)
 abbrev pub IsToldAs : Type 0 → Type 0 → ArgumentsError → Type 0
 IsToldAs memory help OutOfMemory = memory

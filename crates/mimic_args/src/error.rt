@@ -5,7 +5,7 @@ use thiserror::Error;
 /// Why a command line gives no arguments. Its text is what a user is to see.
 #[derive(Debug, Drop, Error)]
 pub enum ArgumentsError {
-    /// A growth was refused.
+    /// An allocation failed.
     #[error("out of memory")]
     OutOfMemory,
     /// Help was asked for: its text.

@@ -12,12 +12,12 @@ use Rattle.libtest_mimic.specs.Run.{HasAnswer}
 use Rattle.mimic_main.specs.declared.program.Fault.{Fault}
 use Rattle.mimic_main.specs.Run.{Ran, GotBeginning}
 
--- 101 where a trial failed, 0 where none did, 1 where the run was refused: the statuses of `rustc --test`, and 1 our own choice
+-- 101 where a trial failed, 0 where none did, 1 where the run was refused: the statuses of the Rust crate, and 1 our own choice
 abbrev pub status_of : Result Conclusion Fault → ℕ
 status_of (Ok c) = if nat_lt 0 c.num_failed then 101 else 0
 status_of (Err fault) = 1
 
--- 0 where help was asked for, 2 where the line was refused, 1 where memory was
+-- 0 where help was asked for, 2 where the line was refused, 1 where an allocation failed
 abbrev pub status_without : ArgumentsError → ℕ
 status_without OutOfMemory = 1
 status_without (Help text) = 0
@@ -28,8 +28,8 @@ abbrev pub IsReadLine : Result Arguments ArgumentsError → Type 0
 IsReadLine line = IfOk line (λ args. (words : List (List ℕ)) × IsMeaningOf words args)
 
 module _ {R : Type 0} (gives : Gives R) where
-  -- the status is that of some answer of a run of the trials; without a logfile the output got all of that run's bytes,
-  -- or where the answer is a fault a beginning of some run's
+  -- the status is that of an answer whose counts are lawful for these trials; without a logfile it is a run's, and the
+  -- output got all of its bytes, or where the answer is a fault a beginning of some run's
   pub record RanLine (args : Arguments) (auto : Bool) (trials : List (Trial R)) (old got : Option (List ℕ)) (status : ℕ) : Type 0 where
     pub answer : Result Conclusion Fault
     pub ended : status ≡ status_of answer

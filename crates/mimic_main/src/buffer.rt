@@ -123,7 +123,7 @@ impl<W: Write> Output<W> {
         handed
     }
 
-    // The fault that was not told yet, else that there was one.
+    // The fault that was not told yet, else that there was one. It is kept out of the way of a write that is well.
     #[inline(never)]
     fn earlier_fault(&mut self) -> io::Error
         ensures bytes { told_of W.contents self.new ≡ told_of W.contents self.old }
@@ -184,7 +184,7 @@ impl<W: Write> Output<W> {
     }
 }
 
-// Takes so many bytes back from the end of what waits, and answers how many of them wait no longer.
+// Takes so many bytes back from the end of what waits, and returns how many of them wait no longer.
 fn take_back(waiting: &mut Vec<u8>, count: usize) -> usize
     ensures waiting { waiting.new.items ≡ take (length waiting.old.items - count) waiting.old.items }
     ensures taken { result ≡ count - length waiting.old.items }

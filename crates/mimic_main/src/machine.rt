@@ -11,9 +11,9 @@ use libtest_mimic::{Arguments, RunError, Task, Trial};
 use std::process::ExitCode;
 use std::rt::{Stderr, Stdout};
 
-/// Runs or lists the trials as the program's command line asks, and answers what its `main` is to return.
+/// Runs or lists the trials as the program's command line asks, and returns what its `main` is to return.
 ///
-/// The report goes to standard output, in colours where that is a terminal and `NO_COLOR` isn't set, or into the
+/// The report goes to standard output, in colours where that is a terminal and `NO_COLOR` unset or empty, or into the
 /// logfile. A fault is told on standard error with its cause. Trials that could not be made are told as well, and end
 /// the program with status 1.
 pub fn run_program<R: Task>(
@@ -48,7 +48,7 @@ fn telling(name: &str, auto_colours: bool) -> Program<'_>
 
 // Each stream is bound with its type, so that no other is taken for it.
 impl Program<'_> {
-    /// Runs or lists the trials as the command line asks, on the standard streams, and answers what `main` is to return.
+    /// Runs or lists the trials as the command line asks, on the standard streams, and returns what `main` is to return.
     pub fn run<R: Task>(&self, rt: &HostRuntime, tests: Vec<Trial<R>>) -> ExitCode
         requires { AllCanRun R.can_run tests.items }
         ensures { EndsByLine R.gives self.now.auto_colours tests.items (exit_status result) }

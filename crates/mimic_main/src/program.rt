@@ -43,9 +43,9 @@ pub struct Program<'a> {
 }
 
 impl Program<'_> {
-    /// Runs or lists the trials as the line asks, and answers the writer `out` and the exit status: 0 where no trial
-    /// failed or help was asked for, 101 where one failed, 1 where the logfile, memory or a write was refused, 2 where
-    /// the line was.
+    /// Runs or lists the trials as the line asks, and returns the writer `out` and the exit status: 0 where no trial
+    /// failed or help was asked for, 101 where one failed, 1 where the logfile, an allocation or a write failed, 2 where
+    /// the line was refused.
     ///
     /// The report or list goes into the logfile, which is made or emptied first; without one it goes to `out`. Help
     /// goes to `out`, and what is refused to `err`; a fault in writing either changes no status.
@@ -102,7 +102,7 @@ impl Program<'_> {
         }
     }
 
-    // Tells why a line gave no arguments, and answers the exit status.
+    // Tells why a line gave no arguments, and returns the exit status.
     fn status_without<O: Write, E: Write>(
         &self,
         error: ArgumentsError,
@@ -125,7 +125,7 @@ impl Program<'_> {
         }
     }
 
-    /// Tells why there was no run, in one line on `err`, and answers the exit status 1. A fault in writing changes
+    /// Tells why there was no run, in one line on `err`, and returns the exit status 1. A fault in writing changes
     /// nothing.
     pub fn refuse<E: Write>(&self, error: RunError, err: &mut E) -> u8
         ensures { result ≡ 1 }

@@ -62,7 +62,7 @@ fn put_each<W: Write>(sink: &mut Sink<W>, pieces: &[Piece<'_>]) -> Result<(), Wr
     Ok(())
 }
 
-// Gathers pieces at the front of the row as long as they fit, and answers how many they are and where they end.
+// Gathers pieces at the front of the row as long as they fit, and returns how many they are and where they end.
 fn gather(pieces: &[Piece<'_>], row: &mut [u8; ROW]) -> (usize, usize)
     ensures count { result.0 ≤ length pieces.now }
     ensures within { result.1 ≤ 256 }
@@ -78,7 +78,7 @@ fn gather(pieces: &[Piece<'_>], row: &mut [u8; ROW]) -> (usize, usize)
     (pieces.len(), len)
 }
 
-// Writes the text behind the first `len` bytes of the row, and answers where it ends. `None` where it doesn't fit.
+// Writes the text behind the first `len` bytes of the row, and returns where it ends. `None` where it doesn't fit.
 fn append(row: &mut [u8; ROW], len: usize, text: &[u8]) -> Option<usize>
     requires { len ≤ 256 }
     ensures front { take len row.new ≡ take len row.old }
@@ -101,7 +101,7 @@ impl Piece<'_> {
     ghost use Rattle.mimic_printer.specs.Sink.{Puts, faults_of};
     ghost use Rattle.mimic_printer.specs.Piece.{piece_text};
 
-    // Writes the piece behind the first `len` bytes of the row, and answers where it ends. `None` where it doesn't fit,
+    // Writes the piece behind the first `len` bytes of the row, and returns where it ends. `None` where it doesn't fit,
     // or is a long run of spaces, a grouped number or a text with escapes.
     #[tactic(auto, using(crate::proofs::Escaping::spelled_as_is))]
     fn write(self, row: &mut [u8; ROW], len: usize) -> Option<usize>

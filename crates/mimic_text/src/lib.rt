@@ -47,7 +47,7 @@ pub fn fmt_with_thousand_sep(alloc: Global, v: u64) -> Result<String, AllocError
     String::from_str(alloc, thousands(v, &mut [0; 26]))
 }
 
-// Writes the digits with their commas, and answers how many bytes that took.
+// Writes the digits with their commas, and returns how many bytes that took.
 fn write_grouped(digits: &[u8], buf: &mut [u8; 26]) -> usize
     requires { length digits.now ≤ 20 }
     ensures within { result ≤ 26 }

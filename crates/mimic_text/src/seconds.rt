@@ -31,7 +31,7 @@ pub fn exact_seconds(nanos: u64, buf: &mut [u8; 32]) -> &str
     str::from_utf8(&all[..len]).unwrap()
 }
 
-// Writes the seconds to the front, and answers where they end.
+// Writes the seconds to the front, and returns where they end.
 fn write_seconds(nanos: u64, buf: &mut [u8; 32]) -> usize
     ensures within { result ≤ 32 }
     ensures written { take result buf.new ≡ exact_seconds nanos }
@@ -48,7 +48,7 @@ fn write_seconds(nanos: u64, buf: &mut [u8; 32]) -> usize
     write_fraction(rest, buf, len + 1)
 }
 
-// Writes the digits behind the point from `start` on, and answers where they end.
+// Writes the digits behind the point from `start` on, and returns where they end.
 fn write_fraction(rest: u64, buf: &mut [u8; 32], start: usize) -> usize
     requires small { rest < 10 ^ 9 }
     requires room { start + 9 ≤ 32 }
