@@ -136,9 +136,9 @@ module _ {R : Type 0} (gives : Gives R) (suite : Suite R) (q : Printer) (same : 
         begun = MatchOption-weaker (elapsed_of watch) _ _ _ _
             (λ h. (h.0, subst P (start_same s.placed s.left) h.1))
             (λ nanos h. (
-            h.0,
-            h.1,
-            subst (λ t. Put old h.1 t) (start_same s.placed []) h.2,
-            subst (λ t. Stopped h.1 new t) (summary_same suite.printer q same _ nanos) h.3,
+              h.0,
+              h.1,
+              subst (λ t. Put old h.1 t) (start_same s.placed []) h.2,
+              subst (λ t. Stopped h.1 new t) (summary_same suite.printer q same _ nanos) h.3,
             )) s.begun;
       }
