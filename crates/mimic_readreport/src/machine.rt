@@ -6,7 +6,7 @@ ghost use Rattle.mimic_readreport.specs.Told.{EndsSomehow};
 use crate::program::readreport_run;
 use std::process::ExitCode;
 
-/// Tells the report on standard input on standard output, or a fault on standard error, and answers what `main` is
+/// Tells the report on standard input on standard output, or a fault on standard error, and returns what `main` is
 /// to return.
 pub fn run_program(rt: &HostRuntime) -> ExitCode
     ensures { EndsSomehow (exit_status result) }
