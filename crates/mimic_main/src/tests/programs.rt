@@ -1,10 +1,14 @@
 //! What a program tells, and the status that it ends with.
 use crate::{Program, StillClock, shows_colours};
-use libtest_mimic::{Arguments, ArgumentsError, Outcome, RunError, Task, Trial};
+use libtest_mimic::{
+    Arguments, ArgumentsError, Failed, FormatSetting, Outcome, RunError, Task, Trial,
+};
 use std::env::FillError;
 use std::io;
 use std::io::{ErrorKind, IsTerminal, Write};
 use std::rt::Env;
+use std::sync::Arc;
+use std::sync::atomic::{AtomicU64, Ordering};
 use std::test::Fail;
 
 const PLAIN: Program<'static> = Program {
@@ -88,6 +92,97 @@ fn tells_why_a_line_gave_nothing(rt: HostRuntime) -> Result<(), Fail> {
         let left = run_one(&rt, &PLAIN, Err(error), Narrow { room: 2 })?;
         assert_eq!(rt; left.status, status);
         assert_eq!(rt; left.err.as_str(), text);
+    }
+    Ok(())
+}
+
+// Help goes to the output as it is, and nothing is told.
+#[test]
+fn writes_help(rt: HostRuntime) -> Result<(), Fail> {
+    let alloc = rt.alloc();
+    let help = ArgumentsError::Help(String::from_str(alloc, "help\n")?);
+    let tests: Vec<Trial<Pass>> = Vec::new(alloc);
+    let out: Vec<u8> = Vec::new(alloc);
+    let mut err: Vec<u8> = Vec::new(alloc);
+    let (out, status) = PLAIN.harness_run(&rt, alloc, Err(help), tests, out, &mut err, StillClock);
+    assert_eq!(rt; status, 0);
+    assert!(rt; out.as_slice() == b"help\n".as_slice());
+    assert!(rt; err.is_empty());
+    Ok(())
+}
+
+// Counts the bytes that it was given.
+#[derive(Drop)]
+struct Counting {
+    bytes: Arc<AtomicU64>,
+}
+
+impl Write for Counting {
+    fn write(&mut self, buf: &[u8]) -> io::Result<usize> {
+        self.bytes.fetch_add(buf.len() as u64, Ordering::SeqCst);
+        Ok(buf.len())
+    }
+
+    fn flush(&mut self) -> io::Result<()> {
+        Ok(())
+    }
+}
+
+// A test that passes where so many bytes are out when it runs.
+#[derive(Drop)]
+struct Looks {
+    bytes: Arc<AtomicU64>,
+    expected: usize,
+}
+
+impl Task for Looks {
+    fn run(self, _test_mode: bool) -> Outcome {
+        if self.bytes.load(Ordering::SeqCst) == self.expected as u64 {
+            Outcome::Passed
+        } else {
+            Outcome::Failed(Failed::without_message())
+        }
+    }
+}
+
+// What is out when a test runs: in each format all that was written before, and nothing where a logfile has it.
+#[test]
+fn shows_what_is_running(rt: HostRuntime) -> Result<(), Fail> {
+    let alloc = rt.alloc();
+    let rows: [(FormatSetting, Option<&str>, &str); 4] = [
+        (FormatSetting::Pretty, None, "\nrunning 1 test\ntest a ... "),
+        (FormatSetting::Terse, None, "\nrunning 1 test\n"),
+        (
+            FormatSetting::Json,
+            None,
+            "{ \"type\": \"suite\", \"event\": \"started\", \"test_count\": 1 }\n\
+             { \"type\": \"test\", \"event\": \"started\", \"name\": \"a\" }\n",
+        ),
+        (FormatSetting::Pretty, Some("/dev/null"), ""),
+    ];
+    for (format, logfile, text) in rows {
+        let mut args = Arguments::new(alloc);
+        args.format = Some(format);
+        if let Some(path) = logfile {
+            args.logfile = Some(String::from_str(alloc, path)?);
+        }
+        let bytes = Arc::new(alloc, AtomicU64::new(0))?;
+        let looks = Looks {
+            bytes: Arc::try_clone(&bytes)?,
+            expected: text.len(),
+        };
+        let tests = vec![in alloc; Trial::new(String::from_str(alloc, "a")?, looks)]?;
+        let mut err: Vec<u8> = Vec::new(alloc);
+        let (_, status) = PLAIN.harness_run(
+            &rt,
+            alloc,
+            Ok(args),
+            tests,
+            Counting { bytes },
+            &mut err,
+            StillClock,
+        );
+        assert_eq!(rt; status, 0);
     }
     Ok(())
 }
