@@ -17,7 +17,7 @@ use std::sync::Wait;
 use std::thread;
 use std::thread::{PromisedHandle, Threads};
 
-/// What each worker starts with, one for each share. All memory for the workers is taken here.
+/// What each worker starts with, one for each share: room for what it answers, and a sender of its own.
 pub fn prepare<T: Task>(
     alloc: Global,
     shares: Vec<Share<T>>,
