@@ -1,10 +1,10 @@
 //! The desk where outcomes arrive from the workers.
-ghost use Rattle.std.specs.Prelude.{◌≡◌, ◌++◌, ◌∷◌, [], ◌↔◌, ◌<◌, IfOk, IsTrue, List, MatchResult, Some, length, ℕ};
+ghost use Rattle.std.specs.Prelude.{◌≡◌, ◌++◌, ◌∷◌, [], ◌↔◌, ◌<◌, ◌≤◌, IfOk, IsTrue, List, MatchResult, OnOk, Some, length, vec_capacity, vec_len, ℕ};
 ghost use Rattle.std.specs.Iterator.{YieldsFirst, item_count};
 ghost use Rattle.std.specs.List.{range_with_len};
 ghost use Rattle.std.specs.List.Sorted.{IsPermutation};
 ghost use Rattle.std.specs.Option.{option_copied};
-ghost use Rattle.mimic_trial.specs.Places.{Placed, places_of};
+ghost use Rattle.mimic_trial.specs.Places.{Placed, placed_at, places_of};
 ghost use Rattle.mimic_pool.specs.Arrivals.{AgreesAt, arrival_of, arrived_at, first_arrivals, missing_of, order_of, rows_after};
 ghost use Rattle.mimic_pool.specs.Missing.{missing_items};
 ghost use Rattle.mimic_pool.specs.Seats.{SeatAgreesAt};
@@ -107,13 +107,28 @@ impl Desk {
         }
     }
 
+    /// All places in the order of a report: those of `order`, and then those of `missing`. `room` must have room for them;
+    /// no memory is taken.
+    pub fn whole_order(&self, mut room: Vec<usize>) -> Vec<usize>
+        requires empty { vec_len room ≡ 0 }
+        requires fits { self.now.places ≤ vec_capacity room }
+        ensures places { result.items ≡ places_of self.now.rows ++ missing_of self.now }
+        ensures whole { IsPermutation result.items (range_with_len 0 self.now.places) }
+    {
+        for place in self.order().iter().copied().chain(self.missing()) {
+            room.push_reserved(place);
+        }
+        room
+    }
+
     /// Compares the first arrivals with the outcomes that workers answered, which stand by place. An `Err` names the
     /// least place that differs. Places at which nothing arrived are passed over.
     pub fn settle(&self, joined: &[Outcome]) -> Result<(), usize>
         requires { length joined.now ≡ self.now.places }
-        ensures { MatchResult result
+        ensures settled { MatchResult result
             (λ _. (place : ℕ) → AgreesAt self.now.rows joined.now place)
             (λ differs. (¬ AgreesAt self.now.rows joined.now differs) × ((place : ℕ) → place < differs → AgreesAt self.now.rows joined.now place)) }
+        ensures rows { OnOk result (self.now.rows ≡ placed_at (places_of self.now.rows) joined.now) }
     {
         first_difference(self.seats.as_slice(), joined)
     }
