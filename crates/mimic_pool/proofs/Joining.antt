@@ -12,7 +12,7 @@ use Rattle.mimic_pool.specs.declared.share.Assigned.{Assigned}
 use Rattle.mimic_pool.specs.declared.share.Share.{Share}
 use Rattle.mimic_pool.specs.Answers.{Answers}
 use Rattle.mimic_pool.specs.Share.{IsDealt, assigned_from, items_of, share_of}
-use Rattle.mimic_pool.specs.Joined.{AreJoined, AreOutcomes, IsOutcomeAt, jobs_of, put_all}
+use Rattle.mimic_pool.specs.Joined.{AreOutcomes, IsOutcomeAt, jobs_of, put_all}
 
 module _ {X : Type 0} where
   -- the item is the one at its place
@@ -107,6 +107,11 @@ module _ {X : Type 0} where
       has_job mode p (p % workers) shares (omega arith) (λ d.
       let P : List (Assigned X) → Type 0 = λ xs. HasPlace p xs in
       subst P (sym (dealt (p % workers) d w)) (has_filter (assigned_from 0 rs bs) workers p (has_whole rs bs p low)))
+
+-- for each job in turn, rows that answer it were put at their places
+abbrev pub AreJoined : {X : Type 0} → Gives X → List (Bool × List (Assigned X)) → List Outcome → List Outcome → Type 0
+AreJoined gives [] old new = new ≡ old
+AreJoined gives (job ∷ jobs) old new = (rows : List Placed) × Answers gives job.0 job.1 rows × AreJoined gives jobs (put_all rows old) new
 
 module _ {X : Type 0} (gives : Gives X) where
   length_put : (rows : List Placed) (outs : List Outcome) → length (put_all rows outs) ≡ length outs

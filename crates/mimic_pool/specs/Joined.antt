@@ -1,13 +1,13 @@
 -- What the workers' answers make when they are joined: an outcome for each place.
-use Rattle.std.specs.Prelude.{ℕ, ◌≡◌, ◌<◌, Bool, List, [], ◌∷◌, length, map, slice_index_or, slice_set}
+use Rattle.std.specs.Prelude.{ℕ, ◌≡◌, ◌<◌, ◌≤◌, Bool, List, [], ◌∷◌, length, map, slice_index_or, slice_set}
 use Rattle.mimic_trial.specs.declared.outcome.Outcome.{Outcome}
 use Rattle.mimic_trial.specs.Places.{Placed}
 use Rattle.mimic_trial.specs.Promise.{Gives, IsOutcomeOf}
-use Rattle.mimic_pool.specs.Answers.{Answers}
-use Rattle.mimic_pool.specs.Share.{items_of}
+use Rattle.mimic_pool.specs.Share.{IsDealt, assigned_from, items_of}
 use Rattle.mimic_pool.specs.declared.share.Assigned.{Assigned}
 use Rattle.mimic_pool.specs.declared.share.Share.{Share}
 use Rattle.mimic_pool.specs.declared.start.AnswersShare.{AnswersShare}
+use Rattle.mimic_pool.specs.declared.start.Start.{Start}
 use Rattle.std.specs.declared.thread.PromisedHandle.{PromisedHandle}
 
 -- the outcomes after these rows were put at their places, one after another
@@ -20,9 +20,21 @@ module _ {X : Type 0} where
   abbrev pub job_of : {T : Type 0} → PromisedHandle T (AnswersShare X) → Bool × List (Assigned X)
   job_of handle = (handle.promise.test_mode, items_of handle.promise.share.value)
 
+  -- the shares that workers start with, one for each
+  abbrev pub shares_of : List (Start X) → List (Share X)
+  shares_of starts = map (λ start. start.share) starts
+
   -- the jobs of these shares in this mode
   abbrev pub jobs_of : Bool → List (Share X) → List (Bool × List (Assigned X))
   jobs_of mode shares = map (λ share. (mode, items_of share)) shares
+
+  -- the runners were dealt into these shares, at least one, a worker was started on each in this mode, and there is an outcome to replace for each runner
+  pub record AreReadyToJoin {T : Type 0} (runners : List X) (flags : List Bool) (shares : List (Share X)) (mode : Bool)
+      (handles : List (PromisedHandle T (AnswersShare X))) (outcomes : List Outcome) : Type 0 where
+    pub some : 1 ≤ length shares
+    pub dealt : IsDealt runners flags (length shares) shares
+    pub started : map job_of handles ≡ jobs_of mode shares
+    pub room : length outcomes ≡ length (assigned_from 0 runners flags)
 
 module _ {X : Type 0} (gives : Gives X) where
   -- what stands at the place is an outcome of the item there
@@ -33,8 +45,3 @@ module _ {X : Type 0} (gives : Gives X) where
   -- there is an outcome of each item, at its place
   abbrev pub AreOutcomes : Bool → List (Assigned X) → List Outcome → Type 0
   AreOutcomes mode items outcomes = (length outcomes ≡ length items) × ((place : ℕ) → place < length items → IsOutcomeAt mode items outcomes place)
-
-  -- for each job in turn, rows that answer it were put at their places
-  abbrev pub AreJoined : List (Bool × List (Assigned X)) → List Outcome → List Outcome → Type 0
-  AreJoined [] old new = new ≡ old
-  AreJoined (job ∷ jobs) old new = (rows : List Placed) × Answers gives job.0 job.1 rows × AreJoined jobs (put_all rows old) new

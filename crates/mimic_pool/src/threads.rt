@@ -1,9 +1,9 @@
 //! Worker threads, which run the shares and send their rows over a channel.
 ghost use Rattle.std.specs.Prelude.{◌≡◌, ◌≤◌, All, Bool, List, IfOk, IfSome, length, map, vec_capacity, vec_len};
 ghost use Rattle.mimic_pool.specs.Answers.{Answers};
-ghost use Rattle.mimic_pool.specs.Joined.{AreOutcomes, job_of, jobs_of, put_all};
+ghost use Rattle.mimic_pool.specs.Joined.{AreOutcomes, AreReadyToJoin, job_of, jobs_of, put_all, shares_of};
 ghost use Rattle.mimic_pool.specs.declared.share.Share.{Share};
-ghost use Rattle.mimic_pool.specs.Share.{AllRunners, IsDealt, assigned_from, items_of};
+ghost use Rattle.mimic_pool.specs.Share.{AllRunners, assigned_from, items_of};
 
 use crate::channel::ChannelReports;
 use crate::share::Share;
@@ -23,7 +23,7 @@ pub fn prepare<T: Task>(
     shares: Vec<Share<T>>,
     rows: Sender<(usize, Outcome)>,
 ) -> Result<Vec<Start<T>>, AllocError>
-    ensures shares { IfOk result (λ starts. map (λ start. start.share) starts.items ≡ shares.items) }
+    ensures shares { IfOk result (λ starts. shares_of starts.items ≡ shares.items) }
     ensures len { IfOk result (λ starts. vec_len starts ≡ vec_len shares) }
 {
     let mut starts = Vec::with_capacity(alloc, shares.len())?;
@@ -44,10 +44,10 @@ pub fn start_all<T: Task + Send + 'static, R: Threads + Wait + Copy + Drop + Sen
     test_mode: bool,
     mut handles: Vec<PromisedHandle<Rows, AnswersShare<T>>>,
 ) -> Result<Vec<PromisedHandle<Rows, AnswersShare<T>>>, Vec<PromisedHandle<Rows, AnswersShare<T>>>>
-    requires runnable { All (λ share. AllRunners T.can_run share) (map (λ start. start.share) starts.items) }
+    requires runnable { All (λ share. AllRunners T.can_run share) (shares_of starts.items) }
     requires empty { vec_len handles ≡ 0 }
     requires fits { vec_len starts ≤ vec_capacity handles }
-    ensures { IfOk result (λ started. map job_of started.items ≡ jobs_of test_mode (map (λ start. start.share) starts.items)) }
+    ensures { IfOk result (λ started. map job_of started.items ≡ jobs_of test_mode (shares_of starts.items)) }
 {
     for start in starts {
         match start_worker(rt, alloc, start, test_mode) {
@@ -99,8 +99,7 @@ pub fn join_all<T: Task + Send + 'static, R: Threads>(
     mut outcomes: Vec<Outcome>,
 ) -> Vec<Outcome>
     ensures joined { (runners : List T) (flags : List Bool) (shares : List (Share T)) (test_mode : Bool)
-        → 1 ≤ length shares → IsDealt runners flags (length shares) shares → map job_of handles.items ≡ jobs_of test_mode shares
-        → vec_len outcomes ≡ length (assigned_from 0 runners flags)
+        → AreReadyToJoin runners flags shares test_mode handles.items outcomes.items
         → AreOutcomes T.gives test_mode (assigned_from 0 runners flags) result.items }
     ensures len { vec_len result ≡ vec_len outcomes }
 {

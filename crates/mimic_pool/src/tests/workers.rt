@@ -331,3 +331,53 @@ fn tells_from_threads(rt: HostRuntime) -> Result<(), Fail> {
     assert!(rt; joined.as_slice() == expected.as_slice());
     Ok(())
 }
+
+// Raises its flag, and then looks for the other's. Where that is not raised in time, it gives what was prepared for that.
+#[derive(Drop)]
+struct Meets {
+    mine: Arc<AtomicBool>,
+    theirs: Arc<AtomicBool>,
+    unmet: Outcome,
+}
+
+impl Task for Meets {
+    fn run(self, _test_mode: bool) -> Outcome {
+        self.mine.store(true, Ordering::SeqCst);
+        for _ in 0..100_000_000 {
+            if self.theirs.load(Ordering::SeqCst) {
+                return Outcome::Passed;
+            }
+        }
+        self.unmet
+    }
+}
+
+fn unmet(alloc: Global) -> Result<Outcome, AllocError> {
+    let message = String::from_str(alloc, "not met")?;
+    Ok(Outcome::Failed(Failed::with_message(message)))
+}
+
+// Each of two runners waits for the other, so their workers run at the same time.
+#[test]
+fn two_workers_meet(rt: HostRuntime) -> Result<(), Fail> {
+    let alloc = rt.alloc();
+    let first = Arc::new(alloc, AtomicBool::new(false))?;
+    let second = Arc::new(alloc, AtomicBool::new(false))?;
+    let runners = vec![in alloc;
+        Meets {
+            mine: Arc::try_clone(&first)?,
+            theirs: Arc::try_clone(&second)?,
+            unmet: unmet(alloc)?,
+        },
+        Meets {
+            mine: second,
+            theirs: first,
+            unmet: unmet(alloc)?,
+        },
+    ]?;
+    let shares = deal(alloc, runners, vec![in alloc; false, false]?, 2)?;
+    let (_desk, joined) = run_in_threads(&rt, alloc, shares, 2)?;
+    let met = [Outcome::Passed, Outcome::Passed];
+    assert!(rt; joined.as_slice() == met.as_slice());
+    Ok(())
+}

@@ -15,8 +15,8 @@ loop-handle-preserved g c =
     }
 
 pub returns-clause-joined : goal.returns-clause-joined
-returns-clause-joined g c runners flags shares mode some dealt jobs len =
+returns-clause-joined g c runners flags shares mode ready =
     let left = into_iter_items c.loop-handle.handle-iterator in
     let none : length left ≡ 0 = sym c.loop-handle.handle-iterator.rest.ok.0 ∙ c.in-None.ensures.steps.0 in
     let joined = c.loop-handle.invariant.joined _ (joined_none g.T.Task.gives job_of left _ none) in
-    joined_own g.T.Task.gives mode runners flags _ shares _ _ _ (omega (arith, some)) refl dealt jobs (omega (arith, len, c.args.outcomes.ok.0)) joined
+    joined_own g.T.Task.gives mode runners flags _ shares _ _ _ (omega (arith, ready.some)) refl ready.dealt ready.started ready.room joined

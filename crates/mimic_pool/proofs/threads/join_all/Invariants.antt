@@ -1,6 +1,7 @@
 use Rattle.std.proofs.Common.{◌≡◌, List, map, vec_len}
 use Rattle.std.specs.Vec.Iter.{into_iter_items}
-use Rattle.mimic_pool.specs.Joined.{AreJoined, job_of}
+use Rattle.mimic_pool.specs.Joined.{job_of}
+use Rattle.mimic_pool.proofs.Joining.{AreJoined}
 use Rattle.mimic_pool.proofs.threads.join_all.Given as goal
 
 abbrev pub invariant-loop-handle : goal.invariant-loop-handle
