@@ -17,6 +17,9 @@ use std::sync::Wait;
 use std::thread;
 use std::thread::{PromisedHandle, Threads};
 
+/// The handles of workers that were started, in the order of their shares.
+pub type Handles<T> = Vec<PromisedHandle<Rows, AnswersShare<T>>>;
+
 /// What each worker starts with, one for each share: room for what it answers, and a sender of its own.
 pub fn prepare<T: Task>(
     alloc: Global,
@@ -42,8 +45,8 @@ pub fn start_all<T: Task + Send + 'static, R: Threads + Wait + Copy + Drop + Sen
     alloc: Global,
     starts: Vec<Start<T>>,
     test_mode: bool,
-    mut handles: Vec<PromisedHandle<Rows, AnswersShare<T>>>,
-) -> Result<Vec<PromisedHandle<Rows, AnswersShare<T>>>, Vec<PromisedHandle<Rows, AnswersShare<T>>>>
+    mut handles: Handles<T>,
+) -> Result<Handles<T>, Handles<T>>
     requires runnable { All (λ share. AllRunners T.can_run share) (shares_of starts.items) }
     requires empty { vec_len handles ≡ 0 }
     requires fits { vec_len starts ≤ vec_capacity handles }
@@ -95,7 +98,7 @@ fn start_worker<T: Task + Send + 'static, R: Threads + Wait + Copy + Drop + Send
 /// were dealt from runners, each place has then an outcome of the runner there.
 pub fn join_all<T: Task + Send + 'static, R: Threads>(
     rt: &R,
-    handles: Vec<PromisedHandle<Rows, AnswersShare<T>>>,
+    handles: Handles<T>,
     mut outcomes: Vec<Outcome>,
 ) -> Vec<Outcome>
     ensures joined { (runners : List T) (flags : List Bool) (shares : List (Share T)) (test_mode : Bool)
