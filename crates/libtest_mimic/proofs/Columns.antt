@@ -1,5 +1,5 @@
 -- Printers that differ in columns alone print the same where their format has none.
-use Rattle.std.proofs.Common.{◌≡◌, ◌∙◌, ℕ, Bool, List, [], ◌∷◌, ◌++◌, Option, None, Some, length, refl, ap, ap₂, subst}
+use Rattle.std.proofs.Common.{◌≡◌, ◌∙◌, ℕ, Bool, List, [], ◌∷◌, ◌++◌, Option, None, Some, Result, Ok, Err, length, refl, ap, ap₂, subst}
 use Rattle.std.specs.List.{concat}
 use Rattle.std.specs.Prelude.{MatchOption}
 use Rattle.mimic_args.specs.declared.FormatSetting.{FormatSetting}
@@ -14,7 +14,9 @@ use Rattle.mimic_printer.specs.Row.{Label, PrintedRow, outcomes_of}
 use Rattle.mimic_printer.specs.declared.Printer.{Printer}
 use Rattle.mimic_printer.specs.Report.{announcement_in, announcement_text, failures_in, failures_text, outcome_in, outcome_line, outcome_mark, report_text, result_summary, row_text, rows_text, summary_in, terse_outcome, title_in, title_text, summary_text}
 use Rattle.mimic_printer.specs.Sink.{Shown, Put, Stopped}
-use Rattle.libtest_mimic.specs.Run.{ReportedInOrder, StartsReport, next_text, start_text}
+use Rattle.libtest_mimic.specs.declared.running.RunError.{RunError}
+use Rattle.libtest_mimic.specs.declared.running.RunError.TheVariants.{OutOfMemory, Write, ZeroThreads, Spawn, Arrival}
+use Rattle.libtest_mimic.specs.Run.{ReportedBy, Reports, StartsReport, next_text, start_text}
 use Rattle.libtest_mimic.specs.Steps.{PrintsAs}
 use Rattle.libtest_mimic.specs.Stopwatch.{Watched, elapsed_of}
 use Rattle.libtest_mimic.specs.Suite.{Suite, rows_of}
@@ -110,8 +112,8 @@ module _ {R : Type 0} (gives : Gives R) (suite : Suite R) (q : Printer) (same : 
       (ap₂ (λ x y. x ++ y) (rows_same suite.printer q same (rows_of suite placed)) (next_same placed left))
 
   -- a whole report
-  pub reported_same : (old new : Shown) (watch : Watched) (c : Conclusion) → ReportedInOrder gives suite old new watch c → ReportedInOrder gives (record suite { printer = q }) old new watch c
-  reported_same old new watch c (placed, ordered, r) = (
+  pub reported_same : (threads : ℕ) (old new : Shown) (watch : Watched) (c : Conclusion) → ReportedBy gives threads suite old new watch c → ReportedBy gives threads (record suite { printer = q }) old new watch c
+  reported_same threads old new watch c (placed, ordered, r) = (
     placed,
     ordered,
     record {
@@ -125,7 +127,7 @@ module _ {R : Type 0} (gives : Gives R) (suite : Suite R) (q : Printer) (same : 
   )
 
   -- a start of a report
-  pub starts_same : (order : List ℕ) (old new : Shown) (watch : Watched) → StartsReport gives suite order old new watch → StartsReport gives (record suite { printer = q }) order old new watch
+  starts_same : (order : List ℕ) (old new : Shown) (watch : Watched) → StartsReport gives suite order old new watch → StartsReport gives (record suite { printer = q }) order old new watch
   starts_same order old new watch s =
       let P : List ℕ → Type 0 = λ t. Stopped old new t in
       record {
@@ -142,3 +144,14 @@ module _ {R : Type 0} (gives : Gives R) (suite : Suite R) (q : Printer) (same : 
               subst (λ t. Stopped h.1 new t) (summary_same suite.printer q same _ nanos) h.3,
             )) s.begun;
       }
+
+  -- a report, or what stands after it was refused
+  pub reports_same : (threads : ℕ) (old new : Shown) (watch : Watched) (result : Result Conclusion RunError) → Reports gives threads suite old new watch result
+      → Reports gives threads (record suite { printer = q }) old new watch result
+  reports_same threads old new watch (Ok c) h = reported_same threads old new watch c h
+  reports_same threads old new watch (Err OutOfMemory) h = h
+  reports_same threads old new watch (Err (Write fault)) (order, whole, ordered, s) = (order, whole, ordered, starts_same order old new watch s)
+  reports_same threads old new watch (Err ZeroThreads) h = h
+  reports_same threads old new watch (Err Spawn) (several, some, title, running) =
+      (several, some, subst (λ t. Put old new t) (title_same suite.printer q same (length suite.trials)) title, running)
+  reports_same threads old new watch (Err (Arrival place)) h = h

@@ -1,8 +1,12 @@
 pub mod Answered
+pub mod Arranged
 pub mod Columns
 pub mod FullName
+pub mod Gathering
+pub mod InWorkers
 pub mod JsonRuns
 pub mod OnlyOutcomes
 pub mod RowsInOrder
 pub mod Selecting
+pub mod Told
 pub mod WholeReport

@@ -24,7 +24,7 @@ use Rattle.mimic_printer.specs.Report.{announcement_text, outcome_text, row_text
 use Rattle.mimic_printer.specs.Sink.{Shown, Put, Stopped}
 use Rattle.mimic_printer.proofs.Appending.{Put-trans, Put-Stopped, Stopped-more}
 use Rattle.mimic_printer.proofs.FailedRows.{range-push}
-use Rattle.libtest_mimic.specs.declared.run.tally.Tally.{Tally}
+use Rattle.libtest_mimic.specs.declared.running.tally.Tally.{Tally}
 use Rattle.libtest_mimic.specs.Arrangement.{IsOwn, IsOwnAt}
 use Rattle.libtest_mimic.specs.Selection.{IsIgnored}
 use Rattle.libtest_mimic.specs.Steps.{HasCounted, HasRoomFor, RowsRun, RowsStopped, RowsWritten}

@@ -8,7 +8,7 @@ pub mod args;
 pub mod outcome;
 pub mod pool;
 pub mod printer;
-mod run;
+mod running;
 pub mod select;
 mod stopwatch;
 pub mod text;
@@ -21,7 +21,7 @@ pub use mimic_trial::{
     BenchRunner, Conclusion, Failed, Measurement, Outcome, Runner, Task, TestInfo, TestRunner,
     Trial, count_rows, run_single,
 };
-pub use run::{RunError, run_here};
+pub use running::{RunError, run, run_here};
 pub use stopwatch::{Clock, Stopwatch};
 
 #[cfg(test)]

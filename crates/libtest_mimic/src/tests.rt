@@ -9,6 +9,7 @@ mod runners;
 mod runs;
 mod selection;
 mod texts;
+mod threads;
 mod writers;
 
 // A test of this name over the closure.

@@ -8,8 +8,8 @@ use Rattle.mimic_trial.specs.declared.trial.Trial.{Trial}
 use Rattle.mimic_trial.specs.declared.outcome.conclusion.Conclusion.{Conclusion}
 use Rattle.mimic_printer.specs.declared.sink.Sink.{Sink}
 use Rattle.libtest_mimic.specs.Stopwatch.{Watched, nothing}
-use Rattle.libtest_mimic.specs.declared.run.RunError.{RunError}
-use Rattle.libtest_mimic.specs.declared.run.RunError.TheVariants.{OutOfMemory}
+use Rattle.libtest_mimic.specs.declared.running.RunError.{RunError}
+use Rattle.libtest_mimic.specs.declared.running.RunError.TheVariants.{OutOfMemory}
 use Rattle.libtest_mimic.specs.Count.{counts_of}
 use Rattle.libtest_mimic.specs.List.{list_text}
 use Rattle.libtest_mimic.specs.Promise.{Gives}

@@ -4,7 +4,7 @@ use Rattle.mimic_args.specs.declared.Arguments.{Arguments}
 use Rattle.mimic_trial.specs.declared.trial.Trial.{Trial}
 use Rattle.mimic_trial.specs.declared.outcome.conclusion.Conclusion.{Conclusion}
 use Rattle.libtest_mimic.specs.Stopwatch.{Watched}
-use Rattle.libtest_mimic.specs.declared.run.RunError.{RunError}
+use Rattle.libtest_mimic.specs.declared.running.RunError.{RunError}
 use Rattle.libtest_mimic.specs.Count.{counts_of}
 use Rattle.libtest_mimic.specs.List.{list_text}
 use Rattle.libtest_mimic.specs.Promise.{Gives}

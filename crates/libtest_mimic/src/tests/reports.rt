@@ -27,7 +27,7 @@ pub(super) const TWO_TESTS_JSON: &[u8] =
 { "type": "suite", "event": "failed", "passed": 1, "failed": 1, "ignored": 0, "measured": 0, "filtered_out": 0, "exec_time": 0 }
 "#;
 
-const NO_TESTS: &[u8] =
+pub(super) const NO_TESTS: &[u8] =
     b"\nrunning 0 tests\n\ntest result: ok. 0 passed; 0 failed; 0 ignored; 0 measured; 0 filtered out; finished in 0.00s\n\n";
 
 const NO_MESSAGES: &[u8] =

@@ -1,0 +1,144 @@
+-- What workers told and answered: the title, the rows that were told, and then those that were missing.
+use Rattle.std.proofs.Common.{◌≡◌, ◌∙◌, ◌⊎◌, inl, inr, ℕ, suc, ◌+◌, ◌-◌, ◌%◌, ◌==◌, ◌≤◌, ◌<◌, Bool, true, false, cond, List, [], ◌∷◌, ◌++◌, Result, Ok, Err, length, length-append, map, drop, take, append_assoc, refl, sym, ap, subst, arith}
+use Rattle.std.specs.List.{range_with_len}
+use Rattle.std.specs.List.Sorted.{IsPermutation}
+use Rattle.std.specs.Prelude.{All, IsErrAnd, MatchResult, slice_get}
+use Rattle.std.proofs.lemmas.List.{take_all}
+use Rattle.std.proofs.lemmas.List.Concat.{flat_map-append}
+use Rattle.std.proofs.lemmas.List.Elements.{All-cons, All-head, All-nil, All-tail}
+use Rattle.mimic_trial.specs.declared.outcome.Outcome.{Outcome}
+use Rattle.mimic_trial.specs.declared.trial.TestInfo.{TestInfo}
+use Rattle.mimic_trial.specs.Places.{placed_at, placed_if, places_of}
+use Rattle.mimic_pool.specs.declared.share.Assigned.{Assigned}
+use Rattle.mimic_pool.specs.declared.share.Share.{Share}
+use Rattle.mimic_pool.specs.Arrivals.{Arrived}
+use Rattle.mimic_pool.specs.Joined.{AreOutcomes, AreReadyToJoin, job_of, jobs_of}
+use Rattle.mimic_pool.specs.Share.{AllRunners, IsDealt, assigned_from, share_of}
+use Rattle.mimic_pool.specs.declared.start.AnswersShare.{AnswersShare}
+use Rattle.std.specs.declared.thread.PromisedHandle.{PromisedHandle}
+use Rattle.mimic_trial.specs.Promise.{Gives}
+use Rattle.mimic_printer.specs.declared.Printer.{Printer}
+use Rattle.mimic_printer.specs.Report.{rows_text, title_text}
+use Rattle.mimic_printer.specs.Row.{label_of, rows_at}
+use Rattle.mimic_printer.specs.Sink.{Put, Shown, Stopped, Writes}
+use Rattle.mimic_printer.proofs.Appending.{Put-Stopped, Put-refl, Put-trans, Stopped-more}
+use Rattle.libtest_mimic.specs.Run.{Follows}
+use Rattle.libtest_mimic.specs.Steps.{Gathered, titled_rows, told_text}
+use Rattle.libtest_mimic.proofs.Arranged.{length_assigned, order_below}
+use Rattle.libtest_mimic.proofs.Told.{rows_joined}
+
+-- an answer that is this error
+pub on_error : {T E : Type 0} (r : Result T E) (error : E) (P : T → Type 0) (Q : E → Type 0) → IsErrAnd r (λ e. e ≡ error) → Q error → MatchResult r P Q
+on_error (Ok x) error P Q e q = absurd e
+on_error (Err x) error P Q e q = subst Q (sym e) q
+
+-- whatever was written, it follows what stood there
+pub follows : {E T : Type 0} (a b c : Shown) (s t : List ℕ) (r : Result T E) → Put a b s → Writes b c t r → Follows a c
+follows a b c s t (Ok x) p q =
+    let both = Put-trans s t p q in record { text = s ++ t; appended = both.appended; faults = omega (arith, both.faults); }
+follows a b c s t (Err e) p q =
+    let both = Put-Stopped s t p q in record { text = both.front; appended = both.appended; faults = omega (arith, both.faults); }
+
+-- ---- runners that were dealt
+
+module _ {R : Type 0} (P : R → Type 0) where
+  runnable_items : (place : ℕ) (rs : List R) (bs : List Bool) → All P rs → All (λ (item : Assigned R). P item.runner) (assigned_from place rs bs)
+  runnable_items place [] bs h = All-nil (λ (item : Assigned R). P item.runner)
+  runnable_items place (r ∷ rs) [] h = All-nil (λ (item : Assigned R). P item.runner)
+  runnable_items place (r ∷ rs) (b ∷ bs) h =
+      All-cons (λ (item : Assigned R). P item.runner) (record { place = place; runner = r; ignored = b }) (assigned_from (place + 1) rs bs)
+      (All-head P r rs h) (runnable_items (place + 1) rs bs (All-tail P r rs h))
+
+  runnable_share : (workers w : ℕ) (items : List (Assigned R)) → All (λ (item : Assigned R). P item.runner) items → All (λ (item : Assigned R). P item.runner) (share_of workers w items)
+  runnable_share workers w [] h = h
+  runnable_share workers w (x ∷ xs) h =
+      let Q : Assigned R → Type 0 = λ item. P item.runner in
+      let rest = runnable_share workers w xs (All-tail Q x xs h) in
+      elim (x.place % workers == w) as (λ t. All Q (cond t (x ∷ share_of workers w xs) (share_of workers w xs))) [
+        true ↦ All-cons Q x (share_of workers w xs) (All-head Q x xs h) rest
+        | false ↦ rest
+      ]
+
+  -- runners that can run can run in each share
+  pub runnable_dealt : (rs : List R) (bs : List Bool) (workers : ℕ) (shares : List (Share R)) → All P rs → length shares ≡ workers → IsDealt rs bs workers shares → All (λ share. AllRunners P share) shares
+  runnable_dealt rs bs workers shares h count dealt = λ k d low.
+      subst (λ (xs : List (Assigned R)). All (λ item. P item.runner) xs) (sym (dealt k d (omega (arith, count, low)))) (runnable_share workers k (assigned_from 0 rs bs) (runnable_items 0 rs bs h))
+
+-- ---- what the workers answered
+
+module _ {R T : Type 0} (gives : Gives R) (mode : Bool) (rs : List R) (bs : List Bool) (same : length rs ≡ length bs) where
+  -- where all workers were started on their shares and joined, and the order has each place once
+  pub gathered : (workers : ℕ) (shares : List (Share R)) (handles : List (PromisedHandle T (AnswersShare R))) (room outs : List Outcome) (n : ℕ) (order : List ℕ)
+      → 1 ≤ workers → length shares ≡ workers → IsDealt rs bs workers shares → map job_of handles ≡ jobs_of mode shares → length room ≡ length rs
+      → (AreReadyToJoin rs bs shares mode handles room → AreOutcomes gives mode (assigned_from 0 rs bs) outs) → n ≡ length rs → IsPermutation order (range_with_len 0 n)
+      → Gathered gives mode (assigned_from 0 rs bs) order outs
+  gathered workers shares handles room outs n order some count dealt started fits joined places whole =
+      let all : length rs ≡ length (assigned_from 0 rs bs) = sym (length_assigned 0 rs bs same) in
+      record {
+        answered = joined (record {
+          some = omega (arith, count, some);
+          dealt = subst (λ (k : ℕ). IsDealt rs bs k shares) (sym count) dealt;
+          started = started;
+          room = fits ∙ all;
+        });
+        whole = subst (λ (k : ℕ). IsPermutation order (range_with_len 0 k)) (places ∙ all) whole;
+      }
+
+-- ---- the places that were missing
+
+rest_of : (xs ys : List ℕ) → drop (length xs) (xs ++ ys) ≡ ys
+rest_of [] ys = refl
+rest_of (x ∷ xs) ys = rest_of xs ys
+
+-- the part of an order behind the places that were told
+pub order_rest : (xs ys order : List ℕ) (k : ℕ) → order ≡ xs ++ ys → k ≡ length xs → take (length order - k) (drop k order) ≡ ys
+order_rest xs ys order k e count =
+    let dropped : drop k order ≡ ys = ap (λ n. drop n order) count ∙ ap (drop (length xs)) e ∙ rest_of xs ys in
+    ap (take (length order - k)) dropped ∙ take_all (length order - k) ys (omega (arith, ap length e, length-append xs ys, count))
+
+All-behind : (P : ℕ → Type 0) (xs ys : List ℕ) → All P (xs ++ ys) → All P ys
+All-behind P [] ys h = h
+All-behind P (x ∷ xs) ys h = All-behind P xs ys (All-tail P x (xs ++ ys) h)
+
+-- those places are below their number, too
+pub rest_below : (xs ys order : List ℕ) (k n : ℕ) → order ≡ xs ++ ys → k ≡ length xs → IsPermutation order (range_with_len 0 n) → All (λ p. p < n) (take (length order - k) (drop k order))
+rest_below xs ys order k n e count whole =
+    let P : List ℕ → Type 0 = λ l. All (λ p. p < n) l in
+    subst P (sym (order_rest xs ys order k e count)) (All-behind (λ p. p < n) xs ys (subst P e (order_below n order whole)))
+
+-- ---- the texts
+
+-- an empty desk has no rows to write
+pub nothing_told : (p : Printer) (infos : List TestInfo) (desk : Arrived) (n : ℕ) → desk ≡ record { places = n; rows = [] } → (s : Shown) → Put s s (told_text p infos desk)
+nothing_told p infos desk n e s = subst (λ t. Put s s t) (sym (ap (told_text p infos) e)) (Put-refl s)
+
+module _ (p : Printer) (infos : List TestInfo) (desk : Arrived) (outs : List Outcome) (order missing : List ℕ)
+    (whole : order ≡ places_of desk.rows ++ missing) (settled : desk.rows ≡ placed_at (places_of desk.rows) outs) where
+  abbrev pub missing_text : List ℕ
+  missing_text = rows_text p (rows_at (map label_of infos) (placed_at missing outs))
+
+  split : titled_rows p infos order outs ≡ (title_text p (length infos) ++ told_text p infos desk) ++ missing_text
+  split =
+      let texts : List (ℕ × Outcome) → List ℕ = λ l. rows_text p (rows_at (map label_of infos) l) in
+      ap (λ l. title_text p (length infos) ++ l)
+      (ap (λ l. texts (placed_at l outs)) whole
+      ∙ ap texts (flat_map-append (λ place. placed_if place (slice_get outs place)) (places_of desk.rows) missing)
+      ∙ rows_joined p (map label_of infos) (placed_at (places_of desk.rows) outs) (placed_at missing outs)
+      ∙ ap (λ l. texts l ++ missing_text) (sym settled))
+      ∙ sym (append_assoc (title_text p (length infos)) (told_text p infos desk) missing_text)
+
+  module _ (a b c : Shown) (n : ℕ) (count : n ≡ length infos) (title : Put a b (title_text p n)) where
+    titled : Put a b (title_text p (length infos))
+    titled = subst (λ (k : ℕ). Put a b (title_text p k)) count title
+
+    -- a fault in a row that was told
+    pub stopped_told : Stopped b c (told_text p infos desk) → Stopped a c (titled_rows p infos order outs)
+    stopped_told s = subst (λ t. Stopped a c t) (sym split) (Stopped-more _ missing_text (Put-Stopped _ _ titled s))
+
+    module _ (d : Shown) (told : Put b c (told_text p infos desk)) where
+      -- a fault in a row that was missing
+      pub stopped_missing : Stopped c d missing_text → Stopped a d (titled_rows p infos order outs)
+      stopped_missing s = subst (λ t. Stopped a d t) (sym split) (Put-Stopped _ _ (Put-trans _ _ titled told) s)
+
+      pub put_all : Put c d missing_text → Put a d (titled_rows p infos order outs)
+      put_all s = subst (λ t. Put a d t) (sym split) (Put-trans _ _ (Put-trans _ _ titled told) s)

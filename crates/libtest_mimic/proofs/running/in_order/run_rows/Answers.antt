@@ -1,0 +1,94 @@
+use Rattle.std.proofs.Common.{◌≡◌, ◌∙◌, ◌++◌, ◌∷◌, [], refl, rules, ap, append_assoc, arith, length, length-append, subst, sym, vec_len}
+use Rattle.std.proofs.lemmas.List.Elements.{All-nil}
+use Rattle.std.specs.Vec.Iter.{into_iter_items}
+use Rattle.mimic_printer.specs.Row.{label_of, labels_of}
+use Rattle.mimic_trial.specs.Trial.{runner_of}
+use Rattle.mimic_printer.specs.Sink.{shown}
+use Rattle.mimic_printer.proofs.Appending.{Put-refl}
+use Rattle.libtest_mimic.specs.Arrangement.{IsOwnAt}
+use Rattle.libtest_mimic.specs.Steps.{suite_with}
+use Rattle.libtest_mimic.specs.Suite.{Suite}
+use Rattle.libtest_mimic.proofs.RowsInOrder.{All-next, HasRoom-tally, HasRoomFor-tally, RowsRun-stopped, RowsSoFar-push, count_rows, label_at-next, longer, ran-next, stopped_announcement, stopped_outcome}
+use Rattle.libtest_mimic.proofs.running.in_order.run_rows.Goals as goal
+
+pub loop-trial-init : goal.loop-trial-init
+loop-trial-init g c =
+    let trials = c.args.trials.items in
+    let suite : Suite _ = suite_with c.args.args.now trials c.args.printer.now c.args.tally.now in
+    record {
+      seen = search rules;
+      room = c.requires.capacity;
+      so_far = record {
+        placed = [];
+        ordered = refl;
+        all = refl;
+        own = All-nil (IsOwnAt g.R.Task.gives suite.args suite.trials);
+        text = Put-refl (shown g.W.Write.contents c.args.sink.now);
+        tally = c.requires.empty;
+      };
+    }
+
+pub loop-trial-preserved : goal.loop-trial-preserved
+loop-trial-preserved g c =
+    let seen = c.loop-trial.yielded in
+    let suite : Suite _ = suite_with c.args.args.now c.args.trials.items c.args.printer.now c.args.tally.now in
+    let ran = ran-next g.R.Task.gives suite.args seen _ _ suite.trials c.in-Some.trial c.in-Some.ensures.steps.0 c.loop-trial.invariant.seen _ _ _ _ c.into_parts-info.ensures.info c.into_parts-info.ensures.runner c.is_ignored-ignored.ensures c.run_unless-outcome.ensures in
+    let next = RowsSoFar-push g.R.Task.gives suite (length seen) _ _ _ (shown g.W.Write.contents c.print_single_outcome.new.sink) c.loop-trial.tally c.loop-trial.invariant.so_far c.into_parts-info.result.0 _ ran.0 ran.1
+    c.record.new.self c.in_ok-print_test.ensures c.in_ok-print_single_outcome.ensures c.record.ensures.counted in
+    record {
+      seen = append_assoc seen (c.in-Some.trial ∷ []) _ ∙ (ap (λ l. seen ++ l) (sym c.in-Some.ensures.steps.0) ∙ c.loop-trial.invariant.seen);
+      room = c.record.ensures.room _ c.loop-trial.invariant.room;
+      so_far = rw (length-append seen (c.in-Some.trial ∷ [])) next;
+    }
+
+pub returns-in_err-print_test : goal.returns-in_err-print_test
+returns-in_err-print_test g c =
+    let told = shown g.W.Write.contents in
+    let seen = c.loop-trial.yielded in
+    let suite : Suite _ = suite_with c.args.args.now c.args.trials.items c.args.printer.now c.args.tally.now in
+    let split = ap (λ l. seen ++ l) (sym c.in-Some.ensures.steps.0) ∙ c.loop-trial.invariant.seen in
+    let label = ap label_of c.into_parts-info.ensures.info ∙ label_at-next seen _ suite.trials c.in-Some.trial (length seen) split refl in
+    RowsRun-stopped g.R.Task.gives suite _ _ _ c.from_residual.result c.from_residual.ensures.0
+    (stopped_announcement g.R.Task.gives suite (length seen) _ _ (told c.print_test.new.sink) c.loop-trial.tally c.loop-trial.invariant.so_far c.into_parts-info.result.0 _
+    label (longer seen _ suite.trials c.in-Some.trial split) c.in_err-print_test.ensures)
+
+pub returns-in_err-print_single_outcome : goal.returns-in_err-print_single_outcome
+returns-in_err-print_single_outcome g c =
+    let seen = c.loop-trial.yielded in
+    let suite : Suite _ = suite_with c.args.args.now c.args.trials.items c.args.printer.now c.args.tally.now in
+    let ran = ran-next g.R.Task.gives suite.args seen _ _ suite.trials c.in-Some.trial c.in-Some.ensures.steps.0 c.loop-trial.invariant.seen _ _ _ _ c.into_parts-info.ensures.info c.into_parts-info.ensures.runner c.is_ignored-ignored.ensures c.run_unless-outcome.ensures in
+    RowsRun-stopped g.R.Task.gives suite _ _ _ c.from_residual-in_err-print_single_outcome.result c.from_residual-in_err-print_single_outcome.ensures.0
+    (stopped_outcome g.R.Task.gives suite (length seen) _ _ _ (shown g.W.Write.contents c.print_single_outcome.new.sink) c.loop-trial.tally c.loop-trial.invariant.so_far c.into_parts-info.result.0 _ ran.0 ran.1 _
+    (longer seen _ suite.trials c.in-Some.trial (ap (λ l. seen ++ l) (sym c.in-Some.ensures.steps.0) ∙ c.loop-trial.invariant.seen)) c.in_ok-print_test.ensures c.in_err-print_single_outcome.ensures)
+
+pub run_unless-outcome-requires : goal.run_unless-outcome-requires
+run_unless-outcome-requires g c =
+    let split = ap (λ l. c.loop-trial.yielded ++ l) (sym c.in-Some.ensures.steps.0) ∙ c.loop-trial.invariant.seen in
+    subst g.R.Task.can_run (sym c.into_parts-info.ensures.runner)
+    (All-next (λ t. g.R.Task.can_run (runner_of t)) c.loop-trial.yielded _ c.args.trials.items c.in-Some.trial split c.requires.runnable)
+
+pub record-requires-clause-counts : goal.record-requires-clause-counts
+record-requires-clause-counts g c =
+    let so_far = c.loop-trial.invariant.so_far in
+    let split = ap (λ l. c.loop-trial.yielded ++ l) (sym c.in-Some.ensures.steps.0) ∙ c.loop-trial.invariant.seen in
+    HasRoom-tally c.loop-trial.tally _ _ so_far.tally (omega (arith, count_rows (labels_of c.args.trials.items) so_far.placed, so_far.all, longer c.loop-trial.yielded _ c.args.trials.items c.in-Some.trial split, c.args.trials.ok.0, c.args.trials.small))
+
+pub record-requires-clause-room : goal.record-requires-clause-room
+record-requires-clause-room g c =
+    let so_far = c.loop-trial.invariant.so_far in
+    let split = ap (λ l. c.loop-trial.yielded ++ l) (sym c.in-Some.ensures.steps.0) ∙ c.loop-trial.invariant.seen in
+    HasRoomFor-tally c.loop-trial.tally _ _ (vec_len c.args.trials) so_far.tally c.loop-trial.invariant.room
+    (omega (arith, count_rows (labels_of c.args.trials.items) so_far.placed, so_far.all, longer c.loop-trial.yielded _ c.args.trials.items c.in-Some.trial split, c.args.trials.ok.0))
+
+pub returns : goal.returns
+returns g c =
+    let so_far = c.loop-trial.invariant.so_far in
+    let none : length (into_iter_items c.loop-trial.trial-iterator) ≡ 0 = sym c.loop-trial.trial-iterator.rest.ok.0 ∙ c.in-None.ensures.steps.0 in
+    record {
+      placed = so_far.placed;
+      ordered = so_far.ordered;
+      all = omega (arith, so_far.all, none, length-append c.loop-trial.yielded (into_iter_items c.loop-trial.trial-iterator), ap length c.loop-trial.invariant.seen);
+      own = so_far.own;
+      text = so_far.text;
+      tally = so_far.tally;
+    }

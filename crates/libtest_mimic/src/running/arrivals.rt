@@ -1,0 +1,101 @@
+//! Writes rows as workers tell them.
+ghost use Rattle.std.specs.Prelude.{◌≡◌, ◌-◌, ◌^◌, ◌<◌, All, OnOk, length, map};
+ghost use Rattle.mimic_printer.specs.Report.{row_text, rows_text};
+ghost use Rattle.mimic_printer.specs.Row.{label_of, row_of, rows_at};
+ghost use Rattle.mimic_printer.specs.Sink.{Put, Puts, Shown, Writes, faults_of, shown};
+ghost use Rattle.mimic_trial.specs.Places.{placed_at};
+ghost use Rattle.libtest_mimic.specs.Steps.{told_text};
+
+use crossbeam_channel::Receiver;
+use mimic_pool::{Arrival, Desk};
+use mimic_printer::{Printer, Sink, WriteFault};
+use mimic_trial::{Outcome, TestInfo};
+use std::io::Write;
+use std::sync::Wait;
+
+// Writes the rows of first arrivals as they come, until all workers have ended. What waits is flushed before this waits,
+// so that a row is seen when its trial has ended.
+pub(super) fn write_arrivals<W: Write, T: Wait>(
+    rt: &T,
+    printer: &Printer,
+    infos: &[TestInfo],
+    arrivals: &Receiver<(usize, Outcome)>,
+    desk: &mut Desk,
+    sink: &mut Sink<W>,
+) -> Result<(), WriteFault>
+    requires room { faults_of sink.old < 2 ^ 64 - 1 }
+    requires places { desk.old.places ≡ length infos.now }
+    ensures places { desk.new.places ≡ desk.old.places }
+    ensures told { (base : Shown) → Put base (shown W.contents sink.old) (told_text printer.now infos.now desk.old)
+        → Writes base (shown W.contents sink.new) (told_text printer.now infos.now desk.new) result }
+{
+    for (place, outcome) in arrivals.iter(rt) {
+        write_arrival(printer, infos, desk, place, outcome, sink)?;
+        if arrivals.is_empty() {
+            sink.flush()?;
+        }
+    }
+    Ok(())
+}
+
+// Writes the row of an arrival, where it is the first at its place.
+fn write_arrival<W: Write>(
+    printer: &Printer,
+    infos: &[TestInfo],
+    desk: &mut Desk,
+    place: usize,
+    outcome: Outcome,
+    sink: &mut Sink<W>,
+) -> Result<(), WriteFault>
+    requires room { faults_of sink.old < 2 ^ 64 - 1 }
+    requires places { desk.old.places ≡ length infos.now }
+    ensures places { desk.new.places ≡ desk.old.places }
+    ensures faults { OnOk result (faults_of sink.new ≡ faults_of sink.old) }
+    ensures told { (base : Shown) → Put base (shown W.contents sink.old) (told_text printer.now infos.now desk.old)
+        → Writes base (shown W.contents sink.new) (told_text printer.now infos.now desk.new) result }
+{
+    match desk.arrive(place, outcome) {
+        Arrival::First => {
+            let Some(outcome) = desk.outcome(place) else {
+                unreachable!()
+            };
+            write_row(printer, &infos[place], outcome, sink)
+        }
+        Arrival::Again | Arrival::Stranger => Ok(()),
+    }
+}
+
+// Writes the rows of these places, which no worker told.
+pub(super) fn write_missing<W: Write>(
+    printer: &Printer,
+    infos: &[TestInfo],
+    places: &[usize],
+    outcomes: &[Outcome],
+    sink: &mut Sink<W>,
+) -> Result<(), WriteFault>
+    requires room { faults_of sink.old < 2 ^ 64 - 1 }
+    requires lengths { length infos.now ≡ length outcomes.now }
+    requires places { All (λ place. place < length infos.now) places.now }
+    ensures { Puts W.contents sink.old sink.new
+        (rows_text printer.now (rows_at (map label_of infos.now) (placed_at places.now outcomes.now))) result }
+{
+    for place in places {
+        write_row(printer, &infos[*place], &outcomes[*place], sink)?;
+    }
+    Ok(())
+}
+
+// Writes one row: its announcement and its outcome.
+fn write_row<W: Write>(
+    printer: &Printer,
+    info: &TestInfo,
+    outcome: &Outcome,
+    sink: &mut Sink<W>,
+) -> Result<(), WriteFault>
+    requires { faults_of sink.old < 2 ^ 64 - 1 }
+    ensures { Puts W.contents sink.old sink.new (row_text printer.now (row_of info.now outcome.now)) result }
+{
+    printer.print_test(sink, info)?;
+    printer.print_single_outcome(sink, info, outcome)?;
+    Ok(())
+}

@@ -1,0 +1,66 @@
+//! Runs trials in the calling thread, one after another.
+ghost use Rattle.std.specs.Prelude.{◌≡◌, ◌-◌, ◌^◌, ◌<◌, [], vec_len};
+ghost use Rattle.mimic_trial.specs.Trial.{AllCanRun};
+ghost use Rattle.mimic_printer.specs.Sink.{faults_of, shown};
+ghost use Rattle.libtest_mimic.specs.Steps.{HasCounted, HasRoomFor, RowsRun, WritesReport, suite_with};
+ghost use Rattle.libtest_mimic.specs.Stopwatch.{IsRunning};
+
+use crate::running::summary::write_summary;
+use crate::running::tally::Tally;
+use crate::select::is_ignored;
+use crate::stopwatch::{Clock, Stopwatch};
+use mimic_args::Arguments;
+use mimic_printer::{Printer, Sink, WriteFault};
+use mimic_trial::{Conclusion, Task, Trial, run_unless};
+use std::io::Write;
+
+// Runs the trials in their order, and writes the whole report.
+pub(super) fn write_report<R: Task, W: Write, C: Clock>(
+    printer: &Printer,
+    args: &Arguments,
+    trials: Vec<Trial<R>>,
+    tally: Tally,
+    sink: &mut Sink<W>,
+    watch: &mut Stopwatch<C>,
+) -> Result<Conclusion, WriteFault>
+    requires room { faults_of sink.old < 2 ^ 64 - 1 }
+    requires running { IsRunning watch.old }
+    requires empty { HasCounted tally tally.conclusion.num_filtered_out [] }
+    requires runnable { AllCanRun R.can_run trials.items }
+    requires capacity { HasRoomFor tally (vec_len trials) }
+    ensures { WritesReport R.gives (suite_with args.now trials.items printer.now tally)
+        (shown W.contents sink.old) (shown W.contents sink.new) watch.new result }
+{
+    let mut tally = tally;
+    printer.print_title(sink, trials.len() as u64)?;
+    run_rows(printer, args, trials, &mut tally, sink)?;
+    tally.print_failures(printer, sink)?;
+    write_summary(printer, tally.conclusion(), sink, watch)?;
+    Ok(tally.into_conclusion())
+}
+
+// Runs the trials in their order, and writes the row of each: its announcement before it runs.
+fn run_rows<R: Task, W: Write>(
+    printer: &Printer,
+    args: &Arguments,
+    trials: Vec<Trial<R>>,
+    tally: &mut Tally,
+    sink: &mut Sink<W>,
+) -> Result<(), WriteFault>
+    requires room { faults_of sink.old < 2 ^ 64 - 1 }
+    requires empty { HasCounted tally.old tally.old.conclusion.num_filtered_out [] }
+    requires runnable { AllCanRun R.can_run trials.items }
+    requires capacity { HasRoomFor tally.old (vec_len trials) }
+    ensures { RowsRun R.gives (suite_with args.now trials.items printer.now tally.old)
+        (shown W.contents sink.old) (shown W.contents sink.new) tally.new result }
+{
+    for trial in trials {
+        let ignored = is_ignored(args, &trial);
+        let (info, runner) = trial.into_parts();
+        printer.print_test(sink, &info)?;
+        let outcome = run_unless(ignored, runner, !args.bench);
+        printer.print_single_outcome(sink, &info, &outcome)?;
+        tally.record(info, outcome);
+    }
+    Ok(())
+}

@@ -1,0 +1,226 @@
+//! Runs in worker threads: that workers run at the same time, that rows come as trials end, and runs without a thread.
+use super::reports::NO_TESTS;
+use super::writers::{Limited, ample, stopped_clock};
+use crate::{
+    Arguments, Conclusion, Failed, FormatSetting, Outcome, RunError, Sink, Stopwatch, Task, Trial,
+    run,
+};
+use std::alloc::{AllocError, Global};
+use std::io;
+use std::io::Write;
+use std::sync::{Arc, Wait};
+use std::sync::atomic::{AtomicBool, Ordering};
+use std::test::Fail;
+use std::thread::Threads;
+
+// How often a look for a flag is repeated at most.
+const TURNS: u64 = 100_000_000;
+
+fn is_raised_in_time(flag: &AtomicBool) -> bool {
+    for _ in 0..TURNS {
+        if flag.load(Ordering::SeqCst) {
+            return true;
+        }
+    }
+    false
+}
+
+// Raises its flag, and passes where each of the awaited ones is raised in time; else it fails with the message.
+#[derive(Drop)]
+struct Meets {
+    raised: Arc<AtomicBool>,
+    awaited: Vec<Arc<AtomicBool>>,
+    not_met: String,
+}
+
+impl Task for Meets {
+    fn run(self, _test_mode: bool) -> Outcome {
+        let Meets {
+            raised,
+            awaited,
+            not_met,
+        } = self;
+        raised.store(true, Ordering::SeqCst);
+        for flag in &awaited {
+            if !is_raised_in_time(flag) {
+                return Outcome::Failed(Failed::with_message(not_met));
+            }
+        }
+        Outcome::Passed
+    }
+}
+
+fn new_flag(alloc: Global) -> Result<Arc<AtomicBool>, AllocError> {
+    Ok(Arc::new(alloc, AtomicBool::new(false))?)
+}
+
+// A trial of this name that raises the one flag and awaits the others.
+fn meeting(
+    alloc: Global,
+    name: &str,
+    raised: &Arc<AtomicBool>,
+    awaited: &[&Arc<AtomicBool>],
+) -> Result<Trial<Meets>, AllocError> {
+    let mut flags = Vec::with_capacity(alloc, awaited.len())?;
+    for flag in awaited {
+        flags.push(Arc::try_clone(*flag)?)?;
+    }
+    let runner = Meets {
+        raised: Arc::try_clone(raised)?,
+        awaited: flags,
+        not_met: String::from_str(alloc, "not met")?,
+    };
+    Ok(Trial::new(String::from_str(alloc, name)?, runner))
+}
+
+// So many of three trials `a`, `b`, `c` that all await one another.
+fn that_meet(alloc: Global, count: usize) -> Result<Vec<Trial<Meets>>, AllocError> {
+    let (a, b, c) = (new_flag(alloc)?, new_flag(alloc)?, new_flag(alloc)?);
+    let flags = [&a, &b, &c];
+    let mut trials = Vec::new(alloc);
+    for (name, flag) in ["a", "b", "c"].iter().zip(&flags[..count]) {
+        trials.push(meeting(alloc, name, flag, &flags[..count])?)?;
+    }
+    Ok(trials)
+}
+
+// What a run by so many threads writes and answers.
+fn run_by<T: Threads + Wait + Copy + Drop + Send + 'static>(
+    rt: &T,
+    alloc: Global,
+    threads: usize,
+    format: FormatSetting,
+    tests: Vec<Trial<Meets>>,
+) -> Result<(Conclusion, Limited), RunError> {
+    let mut sink = Sink::new(ample(Vec::new(alloc)));
+    let mut watch = Stopwatch::new(stopped_clock());
+    let mut args = Arguments::new(alloc);
+    args.test_threads = Some(threads);
+    args.format = Some(format);
+    let conclusion = run(rt, alloc, &args, tests, &mut sink, &mut watch, 1, false)?;
+    Ok((conclusion, sink.into_inner()))
+}
+
+// As many workers as there are threads for run at the same time, and a trial without one waits for its turn.
+#[test]
+fn runs_as_many_as_asked(rt: HostRuntime) -> Result<(), Fail> {
+    let alloc = rt.alloc();
+    for (trials, threads) in [(2, 2), (2, 20), (3, 3)] {
+        let (conclusion, _) = run_by(&rt, alloc, threads, FormatSetting::Pretty, that_meet(alloc, trials)?)?;
+        assert_eq!(rt; conclusion.num_passed, trials as u64);
+    }
+    let (_, writer) = run_by(&rt, alloc, 2, FormatSetting::Pretty, that_meet(alloc, 3)?)?;
+    let report = str::from_utf8(&writer.bytes)?;
+    assert!(rt; report.contains("test a ... FAILED\n"));
+    assert!(rt; report.contains("---- a ----\nnot met\n"));
+    Ok(())
+}
+
+// Raises its flag at its third line end.
+#[derive(Drop)]
+struct Raising {
+    line_ends: usize,
+    flag: Arc<AtomicBool>,
+}
+
+impl Write for Raising {
+    fn write(&mut self, buf: &[u8]) -> io::Result<usize> {
+        for byte in buf {
+            self.line_ends = self.line_ends.saturating_add(usize::from(*byte == b'\n'));
+        }
+        if self.line_ends >= 3 {
+            self.flag.store(true, Ordering::SeqCst);
+        }
+        Ok(buf.len())
+    }
+
+    fn flush(&mut self) -> io::Result<()> {
+        Ok(())
+    }
+}
+
+// The one trial awaits that the row of the other is written.
+#[test]
+fn writes_a_row_when_its_trial_has_ended(rt: HostRuntime) -> Result<(), Fail> {
+    let alloc = rt.alloc();
+    let (written, unread) = (new_flag(alloc)?, new_flag(alloc)?);
+    let tests = vec![in alloc;
+        meeting(alloc, "a", &unread, &[])?,
+        meeting(alloc, "b", &unread, &[&written])?,
+    ]?;
+    let mut sink = Sink::new(Raising {
+        line_ends: 0,
+        flag: written,
+    });
+    let mut watch = Stopwatch::new(stopped_clock());
+    let args = Arguments::new(alloc);
+    let conclusion = run(&rt, alloc, &args, tests, &mut sink, &mut watch, 2, false)?;
+    assert_eq!(rt; conclusion.num_passed, 2);
+    Ok(())
+}
+
+const PAIRS: [&str; 2] = [
+    r#"{ "type": "test", "event": "started", "name": "a" }
+{ "type": "test", "name": "a", "event": "ok" }
+{ "type": "test", "event": "started", "name": "b" }
+{ "type": "test", "name": "b", "event": "ok" }
+"#,
+    r#"{ "type": "test", "event": "started", "name": "b" }
+{ "type": "test", "name": "b", "event": "ok" }
+{ "type": "test", "event": "started", "name": "a" }
+{ "type": "test", "name": "a", "event": "ok" }
+"#,
+];
+
+#[test]
+fn keeps_pairs_of_lines_together(rt: HostRuntime) -> Result<(), Fail> {
+    let alloc = rt.alloc();
+    let (_, writer) = run_by(&rt, alloc, 2, FormatSetting::Json, that_meet(alloc, 2)?)?;
+    let lines = str::from_utf8(&writer.bytes)?;
+    let (_, pairs) = lines.split_once('\n').ok_or("one line")?;
+    assert!(rt; pairs.starts_with(PAIRS[0]) || pairs.starts_with(PAIRS[1]));
+    assert_eq!(rt; lines.lines().count(), 6);
+    Ok(())
+}
+
+// Without a thread: no trial, a list, and no trial that is selected. The same trials run by one.
+#[test]
+fn wants_a_thread_for_a_trial(rt: HostRuntime) -> Result<(), Fail> {
+    let alloc = rt.alloc();
+    let mut args = Arguments::new(alloc);
+    args.test_threads = Some(0);
+    let mut sink = Sink::new(ample(Vec::new(alloc)));
+    let mut watch = Stopwatch::new(stopped_clock());
+    let tests = that_meet(alloc, 1)?;
+    let refused = run(&rt, alloc, &args, tests, &mut sink, &mut watch, 4, false).err();
+    assert!(rt; matches!(refused, Some(RunError::ZeroThreads)));
+    assert!(rt; sink.into_inner().bytes.is_empty());
+    assert!(rt; watch.is_running());
+    let (_, writer) = run_by(&rt, alloc, 0, FormatSetting::Pretty, Vec::new(alloc))?;
+    assert!(rt; writer.bytes.as_slice() == NO_TESTS);
+    let (conclusion, _) = run_by(&rt, alloc, 1, FormatSetting::Pretty, that_meet(alloc, 1)?)?;
+    assert_eq!(rt; conclusion.num_passed, 1);
+    args.list = true;
+    let mut sink = Sink::new(ample(Vec::new(alloc)));
+    let mut watch = Stopwatch::new(stopped_clock());
+    run(&rt, alloc, &args, that_meet(alloc, 1)?, &mut sink, &mut watch, 4, false)?;
+    assert!(rt; sink.into_inner().bytes.as_slice() == b"a: test\n".as_slice());
+    Ok(())
+}
+
+// The texts of refusals that only workers meet.
+#[test]
+fn tells_refusals_of_workers(rt: HostRuntime) -> Result<(), Fail> {
+    let alloc = rt.alloc();
+    for (refused, text) in [
+        (RunError::ZeroThreads, "no threads to run trials"),
+        (RunError::Spawn, "cannot start a worker"),
+        (
+            RunError::Arrival { place: 7 },
+            "outcome of trial 7 differs from its worker's answer",
+        ),
+    ] {
+        assert_eq!(rt; format!(in alloc; "{refused}")?.as_str(), text);
+    }
+    Ok(())
+}
