@@ -10,7 +10,12 @@ use Rattle.libtest_mimic.specs.CommandLine.{IsMeaningOf}
 use Rattle.libtest_mimic.specs.Count.{total_of}
 use Rattle.libtest_mimic.specs.Run.{HasAnswer}
 use Rattle.mimic_main.specs.declared.program.Fault.{Fault}
+use Rattle.mimic_main.specs.declared.status.Status.{Status}
 use Rattle.mimic_main.specs.Run.{Ran, GotBeginning}
+
+-- the number that a process ends with whose `main` returns this
+abbrev pub number_of : Status → ℕ
+number_of status = status.number
 
 -- 101 where a trial failed, 0 where none did, 1 where the run was refused: the statuses of the Rust crate, and 1 our own choice
 abbrev pub status_of : Result Conclusion Fault → ℕ

@@ -72,7 +72,7 @@ fn run_one<O: Write + Drop>(
     let mut err: Vec<u8> = Vec::new(alloc);
     let (_, status) = program.harness_run(rt, alloc, line, tests, out, &mut err, StillClock);
     Ok(Left {
-        status,
+        status: status.into_number(),
         err: String::from_utf8(err)?,
     })
 }
@@ -105,7 +105,7 @@ fn writes_help(rt: HostRuntime) -> Result<(), Fail> {
     let out: Vec<u8> = Vec::new(alloc);
     let mut err: Vec<u8> = Vec::new(alloc);
     let (out, status) = PLAIN.harness_run(&rt, alloc, Err(help), tests, out, &mut err, StillClock);
-    assert_eq!(rt; status, 0);
+    assert_eq!(rt; status.into_number(), 0);
     assert!(rt; out.as_slice() == b"help\n".as_slice());
     assert!(rt; err.is_empty());
     Ok(())
@@ -182,7 +182,7 @@ fn shows_what_is_running(rt: HostRuntime) -> Result<(), Fail> {
             &mut err,
             StillClock,
         );
-        assert_eq!(rt; status, 0);
+        assert_eq!(rt; status.into_number(), 0);
     }
     Ok(())
 }
@@ -234,7 +234,8 @@ fn tells_faults(rt: HostRuntime) -> Result<(), Fail> {
 #[test]
 fn tells_why_there_was_no_run(rt: HostRuntime) -> Result<(), Fail> {
     let mut err: Vec<u8> = Vec::new(rt.alloc());
-    assert_eq!(rt; TELLING.refuse(RunError::OutOfMemory, &mut err), 1);
+    let status = TELLING.refuse(RunError::OutOfMemory, &mut err);
+    assert_eq!(rt; status.into_number(), 1);
     assert!(rt; err.as_slice() == b"telling: out of memory\n".as_slice());
     Ok(())
 }
@@ -249,7 +250,7 @@ fn colours_as_the_program_says(rt: HostRuntime) -> Result<(), Fail> {
         let out: Vec<u8> = Vec::new(alloc);
         let mut err: Vec<u8> = Vec::new(alloc);
         let (out, status) = program.harness_run(&rt, alloc, line, tests, out, &mut err, StillClock);
-        assert_eq!(rt; status, 0);
+        assert_eq!(rt; status.into_number(), 0);
         assert_eq!(rt;
             String::from_utf8(out)?.as_str().contains("\u{1b}[32mok"),
             is_coloured
