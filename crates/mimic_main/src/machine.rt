@@ -1,14 +1,16 @@
 //! A whole program on the machine.
 ghost use Rattle.std.specs.Prelude.{◌≡◌, Bool, IfOk, OnErr, true};
 ghost use Rattle.libtest_mimic.specs.Trial.{AllCanRun};
-ghost use Rattle.mimic_main.specs.Ended.{EndsByLine, number_of};
+ghost use Rattle.mimic_main.specs.Ended.{EndsByLine, EndsSo, number_of};
 
 use crate::clock::MonotonicClock;
 use crate::colours::shows_colours;
 use crate::program::Program;
 use crate::status::Status;
 use libtest_mimic::{Arguments, RunError, Task, Trial};
-use std::rt::{Stderr, Stdout};
+use std::fs::Files;
+use std::io::{IsTerminal, Write};
+use std::rt::{Clock, Env, Stderr, Stdout};
 
 /// Runs or lists the trials as the program's command line asks, and returns what its `main` is to return.
 ///
@@ -25,10 +27,36 @@ pub fn run_program<R: Task>(
     ensures refused { OnErr tests (number_of result ≡ 1) }
 {
     let out: Stdout = rt.stdout();
-    let program = telling(name, shows_colours(rt, &out));
+    let mut err: Stderr = rt.stderr();
+    let (_, status) = run_program_on(rt, rt, rt, name, tests, out, &mut err);
+    status
+}
+
+// Likewise on a machine whose parts are handed in.
+pub(crate) fn run_program_on<
+    F: Files,
+    V: Env + AllocGlobal,
+    K: Clock,
+    R: Task,
+    O: Write + IsTerminal,
+    E: Write,
+>(
+    files: &F,
+    env: &V,
+    readings: &K,
+    name: &str,
+    tests: Result<Vec<Trial<R>>, RunError>,
+    out: O,
+    err: &mut E,
+) -> (O, Status)
+    requires { IfOk tests (λ made. AllCanRun R.can_run made.items) }
+    ensures made { IfOk tests (λ made. (auto : Bool) × EndsSo R.gives auto made.items (O.contents out) (O.contents result.0) (number_of result.1)) }
+    ensures refused { OnErr tests ((number_of result.1 ≡ 1) × (result.0 ≡ out)) }
+{
+    let program = telling(name, shows_colours(env, &out));
     match tests {
-        Ok(tests) => program.run(rt, tests),
-        Err(error) => program.end(rt, Err(error)),
+        Ok(tests) => program.run_on(files, env, readings, tests, out, err),
+        Err(error) => (out, program.refuse(error, err)),
     }
 }
 
@@ -52,13 +80,29 @@ impl Program<'_> {
         requires { AllCanRun R.can_run tests.items }
         ensures { EndsByLine R.gives self.now.auto_colours tests.items (number_of result) }
     {
-        let alloc = rt.alloc();
-        let line = Arguments::from_args(rt, alloc);
-        let clock = MonotonicClock::new(rt);
         let out: Stdout = rt.stdout();
         let mut err: Stderr = rt.stderr();
-        let (_, status) = self.harness_run(rt, alloc, line, tests, out, &mut err, clock);
+        let (_, status) = self.run_on(rt, rt, rt, tests, out, &mut err);
         status
+    }
+
+    // Likewise on a machine whose parts are handed in.
+    fn run_on<F: Files, V: Env + AllocGlobal, K: Clock, R: Task, O: Write, E: Write>(
+        &self,
+        files: &F,
+        env: &V,
+        readings: &K,
+        tests: Vec<Trial<R>>,
+        out: O,
+        err: &mut E,
+    ) -> (O, Status)
+        requires { AllCanRun R.can_run tests.items }
+        ensures { EndsSo R.gives self.now.auto_colours tests.items (O.contents out) (O.contents result.0) (number_of result.1) }
+    {
+        let alloc = env.alloc();
+        let line = Arguments::from_args(env, alloc);
+        let clock = MonotonicClock::new(readings);
+        self.harness_run(files, alloc, line, tests, out, err, clock)
     }
 
     /// What `main` is to return where making the trials may be refused: what their run answered, or 1 after the refusal

@@ -1,5 +1,9 @@
 //! What a program tells, and the status that it ends with.
-use crate::{Program, StillClock, shows_colours};
+ghost use Rattle.std.specs.Io.{WritesAtMost};
+
+use super::clocks::clock_of;
+use crate::machine::run_program_on;
+use crate::{Program, StillClock};
 use libtest_mimic::{
     Arguments, ArgumentsError, Failed, FormatSetting, Outcome, RunError, Task, Trial,
 };
@@ -10,6 +14,7 @@ use std::rt::Env;
 use std::sync::Arc;
 use std::sync::atomic::{AtomicU64, Ordering};
 use std::test::Fail;
+use std::time::Duration;
 
 const PLAIN: Program<'static> = Program {
     name: "plain",
@@ -259,7 +264,7 @@ fn colours_as_the_program_says(rt: HostRuntime) -> Result<(), Fail> {
     Ok(())
 }
 
-// An environment whose one variable is so.
+// An environment of a line without options, whose one variable is so.
 #[derive(Drop)]
 struct OneVariable {
     name: &'static str,
@@ -267,20 +272,18 @@ struct OneVariable {
 }
 
 impl Env for OneVariable {
-    fn arg(&self, _i: usize, _buf: &mut [u8]) -> Result<usize, FillError> {
-        Err(FillError::NotPresent)
+    fn arg(&self, i: usize, buf: &mut [u8]) -> Result<usize, FillError> {
+        if i > 0 {
+            return Err(FillError::NotPresent);
+        }
+        fill("program", buf)
     }
 
     fn var(&self, name: &str, buf: &mut [u8]) -> Result<usize, FillError> {
-        let value = self.value.as_bytes();
         if name != self.name {
             return Err(FillError::NotPresent);
         }
-        if value.len() > buf.len() {
-            return Err(FillError::TooLong);
-        }
-        buf[..value.len()].copy_from_slice(value);
-        Ok(value.len())
+        fill(self.value, buf)
     }
 
     fn var_at(&self, _i: usize, _buf: &mut [u8]) -> Result<usize, FillError> {
@@ -288,20 +291,48 @@ impl Env for OneVariable {
     }
 }
 
-#[derive(Drop)]
-struct Terminal {
-    is_one: bool,
+// Copies the text to the front of the buffer.
+fn fill(text: &str, buf: &mut [u8]) -> Result<usize, FillError>
+    ensures { WritesAtMost result buf.new }
+{
+    let bytes = text.as_bytes();
+    if bytes.len() > buf.len() {
+        return Err(FillError::TooLong);
+    }
+    buf[..bytes.len()].copy_from_slice(bytes);
+    Ok(bytes.len())
 }
 
-impl IsTerminal for Terminal {
+// An output in memory.
+#[derive(Drop)]
+struct Screen {
+    is_terminal: bool,
+    bytes: Vec<u8>,
+}
+
+impl IsTerminal for Screen {
     fn is_terminal(&self) -> bool {
-        self.is_one
+        self.is_terminal
     }
 }
 
+impl Write for Screen {
+    fn write(&mut self, buf: &[u8]) -> io::Result<usize> {
+        self.bytes.extend_from_slice(buf)?;
+        Ok(buf.len())
+    }
+
+    fn flush(&mut self) -> io::Result<()> {
+        Ok(())
+    }
+}
+
+// A program on machines of known parts: colours on a terminal where `NO_COLOR` is unset or empty, and the time that their
+// clock measures.
 #[test]
-fn shows_colours_on_a_terminal(rt: HostRuntime) -> Result<(), Fail> {
-    for (name, value, is_one, shown) in [
+fn heeds_its_machine(rt: HostRuntime) -> Result<(), Fail> {
+    let alloc = rt.alloc();
+    for (name, value, is_terminal, is_coloured) in [
         ("TERM", "xterm", true, true),
         ("TERM", "xterm", false, false),
         ("NO_COLOR", "1", true, false),
@@ -309,12 +340,34 @@ fn shows_colours_on_a_terminal(rt: HostRuntime) -> Result<(), Fail> {
         ("NO_COLOR", "", true, true),
         ("NO_COLOR", "", false, false),
     ] {
-        let env = OneVariable { name, value };
+        let env = (OneVariable { name, value }, alloc);
+        let start = Some(Duration::from_nanos(700));
+        let stop = Some(Duration::from_nanos(1_500_000_700));
+        let clock = clock_of([start, stop, None, None, None, None]);
+        let tests = vec![in alloc; Trial::new(String::from_str(alloc, "a")?, Pass)]?;
+        let screen = Screen {
+            is_terminal,
+            bytes: Vec::new(alloc),
+        };
+        let mut err: Vec<u8> = Vec::new(alloc);
+        let (screen, status) = run_program_on(
+            &rt,
+            &env,
+            &clock,
+            "program",
+            Ok(tests),
+            screen,
+            &mut err,
+        );
+        assert_eq!(rt; status.into_number(), 0);
+        assert!(rt; err.is_empty());
+        let text = String::from_utf8(screen.bytes)?;
         assert_eq!(rt;
-            shows_colours(&env, &Terminal { is_one }),
-            shown,
+            text.as_str().contains("\u{1b}[32mok"),
+            is_coloured,
             "{name}={value}"
         );
+        assert!(rt; text.as_str().ends_with("; finished in 1.50s\n\n"));
     }
     Ok(())
 }
