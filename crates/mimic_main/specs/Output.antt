@@ -39,6 +39,12 @@ policy_of Pretty = OnFlush
 policy_of Terse = OnLineEnd
 policy_of Json = OnLineEnd
 
--- into a logfile whole blocks are written; else somebody looks on (our own)
+-- a logfile in pretty is to name the trial that hangs, the others get whole blocks (our own)
+abbrev pub policy_in_logfile : FormatSetting → FlushPolicy
+policy_in_logfile Pretty = policy_of Pretty
+policy_in_logfile Terse = WhenFull
+policy_in_logfile Json = WhenFull
+
+-- how a run with these arguments is handed on, into its logfile where it has one
 abbrev pub policy_for : Arguments → FlushPolicy
-policy_for args = if is_some args.logfile then WhenFull else policy_of (format_of args)
+policy_for args = if is_some args.logfile then policy_in_logfile (format_of args) else policy_of (format_of args)

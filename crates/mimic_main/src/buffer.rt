@@ -23,14 +23,18 @@ pub enum FlushPolicy {
 impl FlushPolicy {
     ghost use Rattle.mimic_main.specs.Output.{policy_for, policy_of};
 
-    /// How the output of a run with these arguments is handed on: into a logfile in whole blocks, else by its format.
+    /// How the output of a run with these arguments is handed on: as its format wants, but terse and JSON into a logfile
+    /// in whole blocks.
+    ///
+    /// So a logfile in pretty names the trial that hangs.
     pub fn of_run(args: &Arguments) -> FlushPolicy
         ensures { result ≡ policy_for args.now }
     {
-        if args.logfile.is_some() {
-            FlushPolicy::WhenFull
-        } else {
-            FlushPolicy::of_format(args.format_used())
+        match args.format_used() {
+            FormatSetting::Terse | FormatSetting::Json if args.logfile.is_some() => {
+                FlushPolicy::WhenFull
+            }
+            format => FlushPolicy::of_format(format),
         }
     }
 

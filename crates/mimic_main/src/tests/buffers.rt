@@ -113,16 +113,29 @@ fn takes_no_memory_after_reserve(rt: HostRuntime) -> Result<(), Fail> {
 #[test]
 fn chooses_by_logfile_and_format(rt: HostRuntime) -> Result<(), Fail> {
     let alloc = rt.alloc();
-    for (format, policy) in [
-        (FormatSetting::Pretty, FlushPolicy::OnFlush),
-        (FormatSetting::Terse, FlushPolicy::OnLineEnd),
-        (FormatSetting::Json, FlushPolicy::OnLineEnd),
-    ] {
+    let rows = [
+        (
+            FormatSetting::Pretty,
+            FlushPolicy::OnFlush,
+            FlushPolicy::OnFlush,
+        ),
+        (
+            FormatSetting::Terse,
+            FlushPolicy::OnLineEnd,
+            FlushPolicy::WhenFull,
+        ),
+        (
+            FormatSetting::Json,
+            FlushPolicy::OnLineEnd,
+            FlushPolicy::WhenFull,
+        ),
+    ];
+    for (format, policy, in_logfile) in rows {
         let mut args = Arguments::new(alloc);
         args.format = Some(format);
         assert!(rt; FlushPolicy::of_run(&args) == policy);
         args.logfile = Some(String::from_str(alloc, "log")?);
-        assert!(rt; FlushPolicy::of_run(&args) == FlushPolicy::WhenFull);
+        assert!(rt; FlushPolicy::of_run(&args) == in_logfile);
     }
     Ok(())
 }

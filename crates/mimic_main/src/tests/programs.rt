@@ -8,13 +8,11 @@ use libtest_mimic::{
     Arguments, ArgumentsError, Failed, FormatSetting, Outcome, RunError, Task, Trial,
 };
 use std::env::FillError;
-use std::io;
 use std::io::{ErrorKind, IsTerminal, Write};
 use std::rt::Env;
-use std::sync::Arc;
-use std::sync::atomic::{AtomicU64, Ordering};
 use std::test::Fail;
 use std::time::Duration;
+use std::{fs, io};
 
 const PLAIN: Program<'static> = Program {
     name: "plain",
@@ -116,79 +114,59 @@ fn writes_help(rt: HostRuntime) -> Result<(), Fail> {
     Ok(())
 }
 
-// Counts the bytes that it was given.
-#[derive(Drop)]
-struct Counting {
-    bytes: Arc<AtomicU64>,
-}
-
-impl Write for Counting {
-    fn write(&mut self, buf: &[u8]) -> io::Result<usize> {
-        self.bytes.fetch_add(buf.len() as u64, Ordering::SeqCst);
-        Ok(buf.len())
-    }
-
-    fn flush(&mut self) -> io::Result<()> {
-        Ok(())
-    }
-}
-
-// A test that passes where so many bytes are out when it runs.
+// A test that passes where the file at the path holds this text when it runs.
 #[derive(Drop)]
 struct Looks {
-    bytes: Arc<AtomicU64>,
-    expected: usize,
+    rt: HostRuntime,
+    path: &'static str,
+    expected: &'static str,
 }
 
 impl Task for Looks {
     fn run(self, _test_mode: bool) -> Outcome {
-        if self.bytes.load(Ordering::SeqCst) == self.expected as u64 {
-            Outcome::Passed
-        } else {
-            Outcome::Failed(Failed::without_message())
+        match fs::read(&self.rt, self.path) {
+            Ok(bytes) if bytes.as_slice() == self.expected.as_bytes() => Outcome::Passed,
+            _ => Outcome::Failed(Failed::without_message()),
         }
     }
 }
 
-// What is out when a test runs: in each format all that was written before, and nothing where a logfile has it.
+// What is out when a test runs, to somebody who looks on and in a logfile.
 #[test]
 fn shows_what_is_running(rt: HostRuntime) -> Result<(), Fail> {
     let alloc = rt.alloc();
-    let rows: [(FormatSetting, Option<&str>, &str); 4] = [
-        (FormatSetting::Pretty, None, "\nrunning 1 test\ntest a ... "),
-        (FormatSetting::Terse, None, "\nrunning 1 test\n"),
+    let path = "/tmp/mimic_main_shows_what_is_running";
+    let rows: [(FormatSetting, bool, &str); 6] = [
+        (
+            FormatSetting::Pretty,
+            false,
+            "\nrunning 1 test\ntest a ... ",
+        ),
+        (FormatSetting::Pretty, true, "\nrunning 1 test\ntest a ... "),
+        (FormatSetting::Terse, false, "\nrunning 1 test\n"),
+        (FormatSetting::Terse, true, ""),
         (
             FormatSetting::Json,
-            None,
+            false,
             "{ \"type\": \"suite\", \"event\": \"started\", \"test_count\": 1 }\n\
              { \"type\": \"test\", \"event\": \"started\", \"name\": \"a\" }\n",
         ),
-        (FormatSetting::Pretty, Some("/dev/null"), ""),
+        (FormatSetting::Json, true, ""),
     ];
-    for (format, logfile, text) in rows {
+    for (format, is_logged, expected) in rows {
         let mut args = Arguments::new(alloc);
         args.format = Some(format);
-        if let Some(path) = logfile {
+        if is_logged {
             args.logfile = Some(String::from_str(alloc, path)?);
         }
-        let bytes = Arc::new(alloc, AtomicU64::new(0))?;
-        let looks = Looks {
-            bytes: Arc::try_clone(&bytes)?,
-            expected: text.len(),
-        };
+        let out = fs::create(&rt, if is_logged { "/dev/null" } else { path })?;
+        let looks = Looks { rt, path, expected };
         let tests = vec![in alloc; Trial::new(String::from_str(alloc, "a")?, looks)]?;
         let mut err: Vec<u8> = Vec::new(alloc);
-        let (_, status) = PLAIN.harness_run(
-            &rt,
-            alloc,
-            Ok(args),
-            tests,
-            Counting { bytes },
-            &mut err,
-            StillClock,
-        );
-        assert_eq!(rt; status.into_number(), 0);
+        let (_, status) = PLAIN.harness_run(&rt, alloc, Ok(args), tests, out, &mut err, StillClock);
+        assert_eq!(rt; status.into_number(), 0, "{format:?} {is_logged}");
     }
+    fs::remove_file(&rt, path)?;
     Ok(())
 }
 
