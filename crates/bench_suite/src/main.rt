@@ -167,7 +167,6 @@ fn run_tests<R: Task>(
 }
 
 // The time since the clock read this.
-fn since(start: u64, clock: MonotonicClock<'_, HostRuntime>) -> Duration {
-    let mut clock = clock;
+fn since(start: u64, mut clock: MonotonicClock<'_, HostRuntime>) -> Duration {
     Duration::from_nanos(clock.now().saturating_sub(start))
 }

@@ -6,8 +6,8 @@ ghost use Rattle.mimic_main.specs.Ended.{number_of};
 use std::io::Eprint;
 use std::process::{ExitCode, Termination};
 
-/// The exit status of a program, which its `main` is to return. This crate alone makes one, and nobody can drop it: what
-/// a call answered is what the process ends with.
+/// The exit status of a program, which its `main` is to return. This crate alone can make one, and it can't be dropped, so
+/// the process ends with what a call returned.
 #[derive(Debug, PartialEq, Eq)]
 pub struct Status {
     number: u8,
