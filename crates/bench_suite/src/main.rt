@@ -15,45 +15,28 @@ mod measured;
 ghost use Rattle.libtest_mimic.specs.Trial.{AllCanRun};
 
 use asked::{Asked, Runners};
-use libtest_mimic::{Arguments, Failed, Outcome, RunError, Task, Trial};
+use libtest_mimic::{ArgumentsError, Clock, Failed, Outcome, RunError, Task, Trial};
 use measured::Measured;
-use mimic_main::{FlushPolicy, Output, StillClock, run_into};
+use mimic_main::{MonotonicClock, Program, Status, StillClock};
 use std::alloc::Global;
-use std::io::Write;
-use std::process::ExitCode;
-use std::time::{Duration, Instant};
-use std::{fs, io};
-use thiserror::Error;
+use std::rt::{Stderr, Stdout};
+use std::time::Duration;
 
-const FAULT: u8 = 1;
-
-const REFUSED_LINE: u8 = 2;
+const BENCH_SUITE: Program<'static> = Program {
+    name: "bench_suite",
+    auto_colours: false,
+    tells_causes: true,
+};
 
 // What a failing test says.
 const MESSAGE: &str = "the left side is not equal to the right!";
 
-// Why nothing, or not all, was measured.
-#[derive(Debug, Drop, Error)]
-pub(crate) enum Fault {
-    #[error("usage: bench_suite N pretty|terse|json THREADS [fail_every K] [captures 1] [boxes 0] [logfile PATH]")]
-    Usage,
-    #[error("{0}")]
-    Run(#[from] RunError),
-    #[error("{0}")]
-    System(#[from] io::Error),
-}
-
-fn main(rt: HostRuntime) -> ExitCode {
-    match bench(&rt) {
-        Ok(code) => code,
-        Err(fault) => {
-            let _ = eprintln!(rt; "bench_suite: {fault}");
-            ExitCode::from(match fault {
-                Fault::Usage => REFUSED_LINE,
-                _ => FAULT,
-            })
-        }
-    }
+fn main(rt: HostRuntime) -> Status {
+    let ended = match Asked::from_words(&rt) {
+        Ok(asked) => measure(&rt, &asked),
+        Err(error) => Ok(refuse(&rt, error)),
+    };
+    BENCH_SUITE.end(&rt, ended)
 }
 
 // The tests as boxed closures. This is a macro since boxed closures are to be made by the function that hands them in.
@@ -114,60 +97,76 @@ fn failure(alloc: Global) -> Failed {
     }
 }
 
-fn bench(rt: &HostRuntime) -> Result<ExitCode, Fault> {
-    let asked = Asked::from_words(rt)?;
-    let args = asked.arguments(rt.alloc())?;
-    match &args.logfile {
-        Some(path) => measure(rt, &asked, &args, fs::create(rt, path.as_str())?),
-        None => measure(rt, &asked, &args, rt.stdout()),
-    }
+// Tells why the words ask for nothing.
+fn refuse(rt: &HostRuntime, error: ArgumentsError) -> Status {
+    let alloc = rt.alloc();
+    let none: Vec<Trial<Unit>> = Vec::new(alloc);
+    let out: Stdout = rt.stdout();
+    let mut err: Stderr = rt.stderr();
+    let (_, status) = BENCH_SUITE.harness_run(
+        rt,
+        alloc,
+        Err(error),
+        none,
+        out,
+        &mut err,
+        StillClock,
+    );
+    status
 }
 
-// Makes the tests and runs them into the writer, tells what that took, and answers the exit status.
-fn measure<W: Write + Drop>(
-    rt: &HostRuntime,
-    asked: &Asked,
-    args: &Arguments,
-    writer: W,
-) -> Result<ExitCode, Fault> {
+// Makes the tests and runs them, and tells what that took.
+fn measure(rt: &HostRuntime, asked: &Asked) -> Result<Status, RunError> {
     let alloc = rt.alloc();
-    // Made before the tests: where it lies behind them in memory, to free it makes the allocator go over all that the
-    // tests have given back.
-    let mut output = Output::new(alloc, FlushPolicy::of_run(args), writer);
-    output.reserve().map_err(RunError::from)?;
-    let start = Instant::now(rt)?;
+    let mut clock = MonotonicClock::new(rt);
+    let start = clock.now();
     match asked.runners {
         Runners::Boxes | Runners::Captures => {
             let tests = boxed_tests!(alloc, asked);
-            run_tests(rt, asked, args, start.elapsed(rt)?, tests, output)
+            run_tests(rt, asked, since(start, clock), tests)
         }
         Runners::Units => {
             let tests = unit_tests(alloc, asked.count)?;
-            run_tests(rt, asked, args, start.elapsed(rt)?, tests, output)
+            run_tests(rt, asked, since(start, clock), tests)
         }
     }
 }
 
 // Runs the tests, which it took so long to make, and tells what that took.
-fn run_tests<R: Task, W: Write + Drop>(
+fn run_tests<R: Task>(
     rt: &HostRuntime,
     asked: &Asked,
-    args: &Arguments,
     made: Duration,
     tests: Vec<Trial<R>>,
-    output: Output<W>,
-) -> Result<ExitCode, Fault>
+) -> Result<Status, RunError>
     requires { AllCanRun R.can_run tests.items }
 {
-    let start = Instant::now(rt)?;
-    let conclusion = run_into(rt.alloc(), args, tests, output, StillClock, false).1?;
-    let ran = start.elapsed(rt)?;
+    let alloc = rt.alloc();
+    let args = asked.arguments(alloc)?;
+    let out: Stdout = rt.stdout();
+    let mut err: Stderr = rt.stderr();
+    let mut clock = MonotonicClock::new(rt);
+    let start = clock.now();
+    let (_, status) = BENCH_SUITE.harness_run(
+        rt,
+        alloc,
+        Ok(args),
+        tests,
+        out,
+        &mut err,
+        StillClock,
+    );
     let measured = Measured {
         asked,
         made,
-        ran,
-        peak: measured::peak(rt)?,
+        ran: since(start, clock),
+        peak: measured::peak(rt),
     };
-    eprintln!(rt; "{measured}")?;
-    Ok(conclusion.exit_code())
+    let _ = eprintln!(rt; "{measured}");
+    Ok(status)
+}
+
+// The time since the clock read this.
+fn since(start: u64, mut clock: MonotonicClock<'_, HostRuntime>) -> Duration {
+    Duration::from_nanos(clock.now().saturating_sub(start))
 }

@@ -2,9 +2,8 @@
 #![tactic(auto)]
 
 use libtest_mimic::{Failed, Outcome, RunError, Task, Trial};
-use mimic_main::run_program;
+use mimic_main::{Status, run_program};
 use std::alloc::Global;
-use std::process::ExitCode;
 
 // A trial's runner: two numbers, and what their sum is said to be.
 #[derive(Drop)]
@@ -33,6 +32,6 @@ fn sums(alloc: Global) -> Result<Vec<Trial<Sum>>, RunError> {
     Ok(trials)
 }
 
-fn main(rt: HostRuntime) -> ExitCode {
+fn main(rt: HostRuntime) -> Status {
     run_program(&rt, "example", sums(rt.alloc()))
 }

@@ -6,9 +6,8 @@ mod mixed_bag;
 mod tests;
 
 use libtest_mimic::{Failed, Measurement, RunError, Trial};
-use mimic_main::Program;
+use mimic_main::{Program, Status};
 use mixed_bag::{Answer, MIXED_BAG, benchmark_answer, mixed_bag_trials, test_answer};
-use std::process::ExitCode;
 
 pub(crate) const HARNESS: Program<'static> = Program {
     name: "harness",
@@ -16,11 +15,11 @@ pub(crate) const HARNESS: Program<'static> = Program {
     tells_causes: false,
 };
 
-fn main(rt: HostRuntime) -> ExitCode {
+fn main(rt: HostRuntime) -> Status {
     HARNESS.end(&rt, run_mixed_bag(&rt))
 }
 
-fn run_mixed_bag(rt: &HostRuntime) -> Result<ExitCode, RunError> {
+fn run_mixed_bag(rt: &HostRuntime) -> Result<Status, RunError> {
     let alloc = rt.alloc();
     let trials = mixed_bag_trials!(alloc);
     Ok(HARNESS.run(rt, trials))

@@ -63,7 +63,7 @@ fn run_only(rt: &HostRuntime, asked: &[&str]) -> Result<Left, Fail> {
     let line = Arguments::from_iter(alloc, words.as_slice());
     let (out, status) = HARNESS.harness_run(rt, alloc, line, trials, out, &mut err, StillClock);
     Ok(Left {
-        status,
+        status: status.into_number(),
         out: String::from_utf8(out)?,
         err: String::from_utf8(err)?,
     })
@@ -378,7 +378,7 @@ fn tells_why_a_line_gave_nothing(rt: HostRuntime) -> Result<(), Fail> {
             &mut err,
             StillClock,
         );
-        assert_eq!(rt; answered, status);
+        assert_eq!(rt; answered.into_number(), status);
         assert!(rt; out.is_empty());
         assert!(rt; err.as_slice() == text);
     }
@@ -467,7 +467,7 @@ fn refuses_words_that_are_no_text(rt: HostRuntime) -> Result<(), Fail> {
         let (out, answered) = HARNESS.harness_run(
             &rt, alloc, line, trials, out, &mut err, StillClock,
         );
-        assert_eq!(rt; answered, status);
+        assert_eq!(rt; answered.into_number(), status);
         assert!(rt; out.as_slice() == on_out.as_bytes());
         assert!(rt; err.as_slice() == on_err.as_bytes());
     }
@@ -512,7 +512,7 @@ fn tells_of_a_full_output(rt: HostRuntime) -> Result<(), Fail> {
         let (_, answered) = HARNESS.harness_run(
             &rt, alloc, line, trials, out, &mut err, StillClock,
         );
-        assert_eq!(rt; answered, status);
+        assert_eq!(rt; answered.into_number(), status);
         let text: &[u8] = if status == 1 {
             b"harness: cannot write the report\n"
         } else {

@@ -1,11 +1,12 @@
 //! Reads arguments from a command line.
-ghost use Rattle.std.specs.Prelude.{IsFalse, ◌≡◌, ◌<◌, IfOk, IsTrue, List, length, map};
+ghost use Rattle.std.specs.Prelude.{IsFalse, ◌≡◌, ◌<◌, IfErr, IfOk, IsTrue, List, length, map};
 ghost use Rattle.clap.specs.Values.{kind_of};
 ghost use Rattle.clap.specs.Words.{Text};
 ghost use Rattle.clap.specs.declared.error.kind.ErrorKind.TheVariants as Kind;
 ghost use Rattle.clap.specs.declared.builder.value_parser.ValueParser.{ValueParser};
 ghost use Rattle.std.specs.IoError.{error_kind};
 ghost use Rattle.std.specs.declared.io.ErrorKind.TheVariants as IoKind;
+ghost use Rattle.mimic_args.specs.declared.error.ArgumentsError.TheVariants.{OutOfMemory};
 ghost use Rattle.mimic_args.specs.CommandLine.{IsToldAs, AreReaders, IsMeaningOf, harness_options, options_of};
 ghost use Rattle.mimic_args.specs.Matched.{AreAccepted, IsFreeOfConflicts, IsReadFrom, entries_of};
 
@@ -20,6 +21,7 @@ use clap::error::ErrorKind;
 use clap::{ArgMatches, Command};
 use std::alloc::{AllocError, Global};
 use std::convert::AsStr;
+use std::env::Args;
 use std::rt::Env;
 use std::{env, io};
 
@@ -97,7 +99,15 @@ impl Arguments {
     ) -> Result<Arguments, ArgumentsError>
         ensures { IfOk result (λ a. (line : List Text) × IsMeaningOf line a) }
     {
-        let args = match env::args(rt) {
+        Arguments::from_read(alloc, env::args(rt))
+    }
+
+    // The arguments that the words give, where they could be read.
+    fn from_read(alloc: Global, read: io::Result<Args>) -> Result<Arguments, ArgumentsError>
+        ensures meaning { IfOk result (λ a. (line : List Text) × IsMeaningOf line a) }
+        ensures memory { IfErr read (λ error. error_kind error ≡ IoKind.OutOfMemory → result ≡ Err OutOfMemory) }
+    {
+        let args = match read {
             Ok(args) => args,
             Err(error) => return Err(unread(alloc, &error)?),
         };

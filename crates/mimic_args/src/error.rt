@@ -1,4 +1,7 @@
 //! Why a command line gives no arguments.
+ghost use Rattle.std.specs.Prelude.{◌≡◌};
+ghost use Rattle.mimic_args.specs.declared.error.ArgumentsError.TheVariants.{OutOfMemory};
+
 use std::alloc::AllocError;
 use thiserror::Error;
 
@@ -17,6 +20,8 @@ pub enum ArgumentsError {
 }
 
 impl From<AllocError> for ArgumentsError {
+    ghost from_gives = { λ _ error. error ≡ OutOfMemory };
+
     fn from(_error: AllocError) -> ArgumentsError {
         ArgumentsError::OutOfMemory
     }

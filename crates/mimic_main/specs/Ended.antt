@@ -10,7 +10,12 @@ use Rattle.libtest_mimic.specs.CommandLine.{IsMeaningOf}
 use Rattle.libtest_mimic.specs.Count.{total_of}
 use Rattle.libtest_mimic.specs.Run.{HasAnswer}
 use Rattle.mimic_main.specs.declared.program.Fault.{Fault}
+use Rattle.mimic_main.specs.declared.status.Status.{Status}
 use Rattle.mimic_main.specs.Run.{Ran, GotBeginning}
+
+-- the number that a process ends with whose `main` returns this
+abbrev pub number_of : Status → ℕ
+number_of status = status.number
 
 -- 101 where a trial failed, 0 where none did, 1 where the run was refused: the statuses of the Rust crate, and 1 our own choice
 abbrev pub status_of : Result Conclusion Fault → ℕ
@@ -43,7 +48,10 @@ module _ {R : Type 0} (gives : Gives R) where
   Ended auto (Ok args) trials old got status = RanLine args auto trials old got status
   Ended auto (Err error) trials old got status = status ≡ status_without error
 
+  -- the status and what the output has got are those of a program as it reads some command line
+  abbrev pub EndsSo : Bool → List (Trial R) → Option (List ℕ) → Option (List ℕ) → ℕ → Type 0
+  EndsSo auto trials old got status = (line : Result Arguments ArgumentsError) × IsReadLine line × Ended auto line trials old got status
+
   -- the status is that of a program as it reads some command line, whatever its output holds
   abbrev pub EndsByLine : Bool → List (Trial R) → ℕ → Type 0
-  EndsByLine auto trials status =
-      (line : Result Arguments ArgumentsError) × IsReadLine line × (old : Option (List ℕ)) × (got : Option (List ℕ)) × Ended auto line trials old got status
+  EndsByLine auto trials status = (old : Option (List ℕ)) × (got : Option (List ℕ)) × EndsSo auto trials old got status

@@ -1,5 +1,5 @@
 -- What a buffered output was given, what of it waits, and when it is handed on.
-use Rattle.std.specs.Prelude.{ℕ, List, Option, if◌then◌else◌, is_some}
+use Rattle.std.specs.Prelude.{◌≡◌, ℕ, Bool, true, List, Option, Result, IsErr, if◌then◌else◌, is_some}
 use Rattle.std.specs.Io.KnownBytes.{Keeps, append_known}
 use Rattle.mimic_args.specs.declared.Arguments.{Arguments}
 use Rattle.mimic_args.specs.declared.FormatSetting.{FormatSetting}
@@ -10,15 +10,23 @@ use Rattle.mimic_main.specs.declared.buffer.FlushPolicy.{FlushPolicy}
 use Rattle.mimic_main.specs.declared.buffer.FlushPolicy.TheVariants.{OnFlush, OnLineEnd, WhenFull}
 
 -- the bytes that wait to be handed on
-abbrev pub waiting_of : {W : Type 0} → Output W → List ℕ
+abbrev pub waiting_of : {W A : Type 0} → Output W A → List ℕ
 waiting_of output = output.waiting.items
 
 -- when an output hands its bytes on
-abbrev pub flushes_by : {W : Type 0} → Output W → FlushPolicy
+abbrev pub flushes_by : {W A : Type 0} → Output W A → FlushPolicy
 flushes_by output = output.policy
 
+-- a fault was met
+abbrev pub has_stopped : {W A : Type 0} → Output W A → Bool
+has_stopped output = output.has_failed
+
+-- after a fault a call fails, and nothing is asked of the writer
+abbrev pub StaysStopped : {W A X E : Type 0} → Output W A → Output W A → Result X E → Type 0
+StaysStopped old new result = has_stopped old ≡ true → IsErr result × (new.writer ≡ old.writer) × (has_stopped new ≡ true)
+
 -- the bytes of the writer behind and then those that wait in the buffer, where they are known
-abbrev pub told_of : {W : Type 0} → (W → Option (List ℕ)) → Output W → Option (List ℕ)
+abbrev pub told_of : {W A : Type 0} → (W → Option (List ℕ)) → Output W A → Option (List ℕ)
 told_of contents output = append_known (contents output.writer) (waiting_of output)
 
 -- known bytes are those that the writer got, and then some rest
@@ -31,6 +39,12 @@ policy_of Pretty = OnFlush
 policy_of Terse = OnLineEnd
 policy_of Json = OnLineEnd
 
--- into a logfile whole blocks are written; else somebody looks on (our own)
+-- a logfile in pretty is to name the trial that hangs, the others get whole blocks (our own)
+abbrev pub policy_in_logfile : FormatSetting → FlushPolicy
+policy_in_logfile Pretty = policy_of Pretty
+policy_in_logfile Terse = WhenFull
+policy_in_logfile Json = WhenFull
+
+-- how a run with these arguments is handed on, into its logfile where it has one
 abbrev pub policy_for : Arguments → FlushPolicy
-policy_for args = if is_some args.logfile then WhenFull else policy_of (format_of args)
+policy_for args = if is_some args.logfile then policy_in_logfile (format_of args) else policy_of (format_of args)

@@ -1,11 +1,11 @@
 //! The buffer between a report and the system.
-ghost use Rattle.std.specs.Prelude.{◌≡◌, ◌≤◌, ◌-◌, ℕ, [], drop, length, take, OnOk};
+ghost use Rattle.std.specs.Prelude.{◌≡◌, ◌≤◌, ◌-◌, ◌++◌, ℕ, [], drop, false, length, take, true, IsErr, OnErr, OnOk};
 ghost use Rattle.std.specs.Io.{WritesAtMost};
 ghost use Rattle.std.specs.Io.KnownBytes.{Appends, Keeps, WriteAppends};
-ghost use Rattle.mimic_main.specs.Output.{HandsOn, flushes_by, told_of, waiting_of};
+ghost use Rattle.mimic_main.specs.Output.{HandsOn, StaysStopped, flushes_by, has_stopped, told_of, waiting_of};
 
 use libtest_mimic::{Arguments, FormatSetting};
-use std::alloc::{AllocError, Global};
+use std::alloc::{AllocError, Allocator, Global};
 use std::io;
 use std::io::{ErrorKind, Write};
 
@@ -23,14 +23,18 @@ pub enum FlushPolicy {
 impl FlushPolicy {
     ghost use Rattle.mimic_main.specs.Output.{policy_for, policy_of};
 
-    /// How the output of a run with these arguments is handed on: into a logfile in whole blocks, else by its format.
+    /// How the output of a run with these arguments is handed on: as its format wants, but terse and JSON into a logfile
+    /// in whole blocks.
+    ///
+    /// So a logfile in pretty names the trial that hangs.
     pub fn of_run(args: &Arguments) -> FlushPolicy
         ensures { result ≡ policy_for args.now }
     {
-        if args.logfile.is_some() {
-            FlushPolicy::WhenFull
-        } else {
-            FlushPolicy::of_format(args.format_used())
+        match args.format_used() {
+            FormatSetting::Terse | FormatSetting::Json if args.logfile.is_some() => {
+                FlushPolicy::WhenFull
+            }
+            format => FlushPolicy::of_format(format),
         }
     }
 
@@ -53,22 +57,24 @@ const BLOCK: usize = 8192;
 
 /// A buffered writer. What waits in one that is dropped and not finished is lost.
 ///
-/// A fault is told by the call that had it. After one nothing more is handed on, and every later call fails.
+/// A fault, which may be a refused allocation, is told by the call that had it. After one nothing more is handed on, and
+/// every later call fails.
 #[derive(Drop)]
-pub struct Output<W: Write> {
+pub struct Output<W: Write, A: Allocator = Global> {
     writer: W,
-    waiting: Vec<u8>,
+    waiting: Vec<u8, A>,
     policy: FlushPolicy,
     has_failed: bool,
     // The fault behind the front of a text that was taken. The next call tells it.
     untold: Option<io::Error>,
 }
 
-impl<W: Write> Output<W> {
+impl<W: Write, A: Allocator> Output<W, A> {
     /// An empty buffer, which has no room yet.
-    pub fn new(alloc: Global, policy: FlushPolicy, writer: W) -> Self
+    pub fn new(alloc: A, policy: FlushPolicy, writer: W) -> Self
         ensures bytes { told_of W.contents result ≡ W.contents writer }
         ensures policy { flushes_by result ≡ policy }
+        ensures runs { has_stopped result ≡ false }
     {
         Output {
             writer,
@@ -83,6 +89,7 @@ impl<W: Write> Output<W> {
     pub fn reserve(&mut self) -> Result<(), AllocError>
         ensures bytes { told_of W.contents self.new ≡ told_of W.contents self.old }
         ensures policy { flushes_by self.new ≡ flushes_by self.old }
+        ensures stopped { has_stopped self.new ≡ has_stopped self.old }
     {
         self.waiting.reserve(BLOCK)
     }
@@ -91,6 +98,7 @@ impl<W: Write> Output<W> {
     pub fn finish(mut self) -> (W, io::Result<()>)
         ensures whole { OnOk result.1 (Keeps (told_of W.contents self) (W.contents result.0)) }
         ensures beginning { HandsOn (told_of W.contents self) (W.contents result.0) }
+        ensures stopped { has_stopped self ≡ true → IsErr result.1 × (W.contents result.0 ≡ W.contents self.writer) }
     {
         let finished = self.hand_on_and_flush();
         let Output {
@@ -109,6 +117,8 @@ impl<W: Write> Output<W> {
         ensures empty { OnOk result (waiting_of self.new ≡ []) }
         ensures front { (n : ℕ) × (n ≤ length (waiting_of self.old)) × (waiting_of self.new ≡ drop n (waiting_of self.old))
             × Appends (W.contents self.old.writer) (W.contents self.new.writer) (take n (waiting_of self.old)) }
+        ensures stops { OnErr result (has_stopped self.new ≡ true) }
+        ensures stopped { StaysStopped self.old self.new result }
     {
         if self.has_failed {
             return Err(self.earlier_fault());
@@ -129,6 +139,7 @@ impl<W: Write> Output<W> {
         ensures bytes { told_of W.contents self.new ≡ told_of W.contents self.old }
         ensures waiting { waiting_of self.new ≡ waiting_of self.old }
         ensures writer { self.new.writer ≡ self.old.writer }
+        ensures stopped { has_stopped self.new ≡ has_stopped self.old }
     {
         match self.untold.take() {
             Some(error) => error,
@@ -139,6 +150,8 @@ impl<W: Write> Output<W> {
     fn hand_on_and_flush(&mut self) -> io::Result<()>
         ensures bytes { Keeps (told_of W.contents self.old) (told_of W.contents self.new) }
         ensures empty { OnOk result (waiting_of self.new ≡ []) }
+        ensures stops { OnErr result (has_stopped self.new ≡ true) }
+        ensures stopped { StaysStopped self.old self.new result }
     {
         self.hand_on()?;
         let flushed = self.writer.flush();
@@ -151,6 +164,7 @@ impl<W: Write> Output<W> {
     fn write_through(&mut self, text: &[u8]) -> io::Result<usize>
         ensures bound { WritesAtMost result text.now }
         ensures bytes { WriteAppends (told_of W.contents self.old) (told_of W.contents self.new) result text.now }
+        ensures stops { OnErr result (has_stopped self.new ≡ true) }
     {
         if !self.waiting.is_empty() && self.has_room(text.len()) {
             return self.write_together(text);
@@ -165,8 +179,9 @@ impl<W: Write> Output<W> {
     fn write_together(&mut self, text: &[u8]) -> io::Result<usize>
         ensures bound { WritesAtMost result text.now }
         ensures bytes { WriteAppends (told_of W.contents self.old) (told_of W.contents self.new) result text.now }
+        ensures stops { OnErr result (has_stopped self.new ≡ true) }
     {
-        self.waiting.extend_from_slice(text)?;
+        self.keep(text)?;
         let fault = self.hand_on().err();
         let taken = take_back(&mut self.waiting, text.len());
         match fault {
@@ -178,6 +193,20 @@ impl<W: Write> Output<W> {
         }
     }
 
+    // Lets the text wait, too.
+    fn keep(&mut self, text: &[u8]) -> Result<(), AllocError>
+        ensures kept { OnOk result (waiting_of self.new ≡ waiting_of self.old ++ text.now) }
+        ensures left { OnErr result (waiting_of self.new ≡ waiting_of self.old) }
+        ensures writer { self.new.writer ≡ self.old.writer }
+        ensures stops { OnErr result (has_stopped self.new ≡ true) }
+    {
+        if let Err(error) = self.waiting.extend_from_slice(text) {
+            self.has_failed = true;
+            return Err(error);
+        }
+        Ok(())
+    }
+
     // Whether so many bytes more can wait.
     fn has_room(&self, count: usize) -> bool {
         count <= BLOCK.saturating_sub(self.waiting.len())
@@ -185,7 +214,7 @@ impl<W: Write> Output<W> {
 }
 
 // Takes so many bytes back from the end of what waits, and returns how many of them wait no longer.
-fn take_back(waiting: &mut Vec<u8>, count: usize) -> usize
+fn take_back<A: Allocator>(waiting: &mut Vec<u8, A>, count: usize) -> usize
     ensures waiting { waiting.new.items ≡ take (length waiting.old.items - count) waiting.old.items }
     ensures taken { result ≡ count - length waiting.old.items }
 {
@@ -194,10 +223,15 @@ fn take_back(waiting: &mut Vec<u8>, count: usize) -> usize
     count.saturating_sub(left)
 }
 
-impl<W: Write> Write for Output<W> {
+impl<W: Write, A: Allocator> Write for Output<W, A> {
     ghost contents = { told_of W.contents };
 
-    fn write(&mut self, buf: &[u8]) -> io::Result<usize> {
+    fn write(&mut self, buf: &[u8]) -> io::Result<usize>
+        ensures bound { WritesAtMost result buf.now }
+        ensures bytes { WriteAppends (told_of W.contents self.old) (told_of W.contents self.new) result buf.now }
+        ensures stops { OnErr result (has_stopped self.new ≡ true) }
+        ensures stopped { StaysStopped self.old self.new result }
+    {
         if self.has_failed {
             return Err(self.earlier_fault());
         }
@@ -209,11 +243,15 @@ impl<W: Write> Write for Output<W> {
         if !self.has_room(buf.len()) {
             self.hand_on()?;
         }
-        self.waiting.extend_from_slice(buf)?;
+        self.keep(buf)?;
         Ok(buf.len())
     }
 
-    fn flush(&mut self) -> io::Result<()> {
+    fn flush(&mut self) -> io::Result<()>
+        ensures bytes { Keeps (told_of W.contents self.old) (told_of W.contents self.new) }
+        ensures stops { OnErr result (has_stopped self.new ≡ true) }
+        ensures stopped { StaysStopped self.old self.new result }
+    {
         match self.policy {
             FlushPolicy::OnFlush | FlushPolicy::OnLineEnd => self.hand_on_and_flush()?,
             FlushPolicy::WhenFull if self.has_failed => return Err(self.earlier_fault()),

@@ -8,6 +8,7 @@ mod colours;
 mod machine;
 mod program;
 mod run;
+mod status;
 
 pub use buffer::{FlushPolicy, Output};
 pub use clock::{MonotonicClock, StillClock};
@@ -15,6 +16,7 @@ pub use colours::shows_colours;
 pub use machine::run_program;
 pub use program::Program;
 pub use run::run_into;
+pub use status::Status;
 
 #[cfg(test)]
 mod tests;

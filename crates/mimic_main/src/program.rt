@@ -3,26 +3,18 @@ ghost use Rattle.std.specs.Prelude.{◌≡◌, false, IfOk, IsNone, OnErr, vec_l
 ghost use Rattle.libtest_mimic.specs.Count.{total_of};
 ghost use Rattle.libtest_mimic.specs.Run.{HasAnswer};
 ghost use Rattle.libtest_mimic.specs.Trial.{AllCanRun};
-ghost use Rattle.mimic_main.specs.Ended.{Ended, status_of, status_without};
+ghost use Rattle.mimic_main.specs.Ended.{Ended, number_of, status_of, status_without};
 ghost use Rattle.mimic_main.specs.declared.program.Fault.TheVariants.{Run};
 ghost use Rattle.mimic_main.specs.Run.{GotBeginning, Ran};
 
 use crate::buffer::{FlushPolicy, Output};
 use crate::run::run_into;
+use crate::status::Status;
 use libtest_mimic::{Arguments, ArgumentsError, Clock, Conclusion, RunError, Task, Trial};
 use std::alloc::Global;
 use std::fs::Files;
 use std::io::Write;
 use std::{fs, io};
-
-// The exit statuses.
-const SUCCESS: u8 = 0;
-
-const CANNOT_RUN: u8 = 1;
-
-const REFUSED_LINE: u8 = 2;
-
-const TRIALS_FAILED: u8 = 101;
 
 // Why no report, or only a part of one, was written.
 #[derive(Debug, Drop)]
@@ -58,9 +50,9 @@ impl Program<'_> {
         out: O,
         err: &mut E,
         clock: C,
-    ) -> (O, u8)
+    ) -> (O, Status)
         requires { AllCanRun R.can_run tests.items }
-        ensures { Ended R.gives self.now.auto_colours line tests.items (O.contents out) (O.contents result.0) result.1 }
+        ensures { Ended R.gives self.now.auto_colours line tests.items (O.contents out) (O.contents result.0) (number_of result.1) }
     {
         match line {
             Ok(args) => {
@@ -89,15 +81,15 @@ impl Program<'_> {
         ran: Result<Conclusion, Fault>,
         logfile: Option<&String>,
         err: &mut E,
-    ) -> u8
-        ensures { result ≡ status_of ran }
+    ) -> Status
+        ensures { number_of result ≡ status_of ran }
     {
         match ran {
-            Ok(conclusion) if conclusion.has_failed() => TRIALS_FAILED,
-            Ok(_) => SUCCESS,
+            Ok(conclusion) if conclusion.has_failed() => Status::TRIALS_FAILED,
+            Ok(_) => Status::SUCCESS,
             Err(fault) => {
                 self.tell(&fault, logfile, err);
-                CANNOT_RUN
+                Status::CANNOT_RUN
             }
         }
     }
@@ -108,30 +100,30 @@ impl Program<'_> {
         error: ArgumentsError,
         out: &mut O,
         err: &mut E,
-    ) -> u8
-        ensures { result ≡ status_without error }
+    ) -> Status
+        ensures { number_of result ≡ status_without error }
     {
         match error {
             ArgumentsError::OutOfMemory => self.refuse(RunError::OutOfMemory, err),
             ArgumentsError::Help(text) => {
                 let _ = out.write_all(text.as_bytes());
-                SUCCESS
+                Status::SUCCESS
             }
             ArgumentsError::Refused(text) => {
                 // The texts of `clap` end with a line end, and others do not.
                 let _ = writeln!(err, "{}", text.as_str().trim_end());
-                REFUSED_LINE
+                Status::REFUSED_LINE
             }
         }
     }
 
     /// Tells why there was no run, in one line on `err`, and returns the exit status 1. A fault in writing changes
     /// nothing.
-    pub fn refuse<E: Write>(&self, error: RunError, err: &mut E) -> u8
-        ensures { result ≡ 1 }
+    pub fn refuse<E: Write>(&self, error: RunError, err: &mut E) -> Status
+        ensures { number_of result ≡ 1 }
     {
         self.tell(&Fault::Run(error), None, err);
-        CANNOT_RUN
+        Status::CANNOT_RUN
     }
 
     // Tells a fault in one line, where it can be written.

@@ -1,6 +1,7 @@
 //! When a buffer hands its bytes on.
 use crate::{FlushPolicy, Output};
 use libtest_mimic::{Arguments, FormatSetting};
+use linked_list_allocator::LocalHeap;
 use std::io;
 use std::io::Write;
 use std::test::Fail;
@@ -84,19 +85,57 @@ fn hands_on_whole_lines(rt: HostRuntime) -> Result<(), Fail> {
     Ok(())
 }
 
+// A heap that has no more room. After `reserve` that refuses no write of less than a block; without it the write fails, and
+// so does each later call, though there is room again.
+#[test]
+fn takes_no_memory_after_reserve(rt: HostRuntime) -> Result<(), Fail> {
+    let heap = LocalHeap::new(rt.alloc(), 16384)?;
+    for is_reserved in [true, false] {
+        let writer = Marked {
+            len: 0,
+            marks: Vec::new(rt.alloc()),
+        };
+        let mut output = Output::new(&heap, FlushPolicy::WhenFull, writer);
+        if is_reserved {
+            output.reserve()?;
+        }
+        let rest: Vec<u8, &LocalHeap> = Vec::with_capacity(&heap, heap.free())?;
+        assert_eq!(rt; output.write_all(&[0; 8000]).is_ok(), is_reserved);
+        drop(rest);
+        assert_eq!(rt; output.write_all(b"a").is_ok(), is_reserved);
+        let (writer, finished) = output.finish();
+        assert_eq!(rt; finished.is_ok(), is_reserved);
+        assert_eq!(rt; writer.len, if is_reserved { 8001 } else { 0 });
+    }
+    Ok(())
+}
+
 #[test]
 fn chooses_by_logfile_and_format(rt: HostRuntime) -> Result<(), Fail> {
     let alloc = rt.alloc();
-    for (format, policy) in [
-        (FormatSetting::Pretty, FlushPolicy::OnFlush),
-        (FormatSetting::Terse, FlushPolicy::OnLineEnd),
-        (FormatSetting::Json, FlushPolicy::OnLineEnd),
-    ] {
+    let rows = [
+        (
+            FormatSetting::Pretty,
+            FlushPolicy::OnFlush,
+            FlushPolicy::OnFlush,
+        ),
+        (
+            FormatSetting::Terse,
+            FlushPolicy::OnLineEnd,
+            FlushPolicy::WhenFull,
+        ),
+        (
+            FormatSetting::Json,
+            FlushPolicy::OnLineEnd,
+            FlushPolicy::WhenFull,
+        ),
+    ];
+    for (format, policy, in_logfile) in rows {
         let mut args = Arguments::new(alloc);
         args.format = Some(format);
         assert!(rt; FlushPolicy::of_run(&args) == policy);
         args.logfile = Some(String::from_str(alloc, "log")?);
-        assert!(rt; FlushPolicy::of_run(&args) == FlushPolicy::WhenFull);
+        assert!(rt; FlushPolicy::of_run(&args) == in_logfile);
     }
     Ok(())
 }

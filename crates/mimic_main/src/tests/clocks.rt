@@ -9,7 +9,7 @@ use std::time::Duration;
 
 // Reads these durations one after another. `None` is a reading that fails, as are all after the last one.
 #[derive(Drop)]
-struct Known {
+pub(crate) struct Known {
     count: Cell<usize>,
     readings: [Option<Duration>; 6],
 }
@@ -29,7 +29,7 @@ impl std::rt::Clock for Known {
     }
 }
 
-fn clock_of(readings: [Option<Duration>; 6]) -> Known {
+pub(crate) fn clock_of(readings: [Option<Duration>; 6]) -> Known {
     Known {
         count: Cell::new(0),
         readings,

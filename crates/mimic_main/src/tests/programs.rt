@@ -1,15 +1,18 @@
 //! What a program tells, and the status that it ends with.
-use crate::{Program, StillClock, shows_colours};
+ghost use Rattle.std.specs.Io.{WritesAtMost};
+
+use super::clocks::clock_of;
+use crate::machine::run_program_on;
+use crate::{Program, StillClock};
 use libtest_mimic::{
     Arguments, ArgumentsError, Failed, FormatSetting, Outcome, RunError, Task, Trial,
 };
 use std::env::FillError;
-use std::io;
 use std::io::{ErrorKind, IsTerminal, Write};
 use std::rt::Env;
-use std::sync::Arc;
-use std::sync::atomic::{AtomicU64, Ordering};
 use std::test::Fail;
+use std::time::Duration;
+use std::{fs, io};
 
 const PLAIN: Program<'static> = Program {
     name: "plain",
@@ -72,7 +75,7 @@ fn run_one<O: Write + Drop>(
     let mut err: Vec<u8> = Vec::new(alloc);
     let (_, status) = program.harness_run(rt, alloc, line, tests, out, &mut err, StillClock);
     Ok(Left {
-        status,
+        status: status.into_number(),
         err: String::from_utf8(err)?,
     })
 }
@@ -105,85 +108,65 @@ fn writes_help(rt: HostRuntime) -> Result<(), Fail> {
     let out: Vec<u8> = Vec::new(alloc);
     let mut err: Vec<u8> = Vec::new(alloc);
     let (out, status) = PLAIN.harness_run(&rt, alloc, Err(help), tests, out, &mut err, StillClock);
-    assert_eq!(rt; status, 0);
+    assert_eq!(rt; status.into_number(), 0);
     assert!(rt; out.as_slice() == b"help\n".as_slice());
     assert!(rt; err.is_empty());
     Ok(())
 }
 
-// Counts the bytes that it was given.
-#[derive(Drop)]
-struct Counting {
-    bytes: Arc<AtomicU64>,
-}
-
-impl Write for Counting {
-    fn write(&mut self, buf: &[u8]) -> io::Result<usize> {
-        self.bytes.fetch_add(buf.len() as u64, Ordering::SeqCst);
-        Ok(buf.len())
-    }
-
-    fn flush(&mut self) -> io::Result<()> {
-        Ok(())
-    }
-}
-
-// A test that passes where so many bytes are out when it runs.
+// A test that passes where the file at the path holds this text when it runs.
 #[derive(Drop)]
 struct Looks {
-    bytes: Arc<AtomicU64>,
-    expected: usize,
+    rt: HostRuntime,
+    path: &'static str,
+    expected: &'static str,
 }
 
 impl Task for Looks {
     fn run(self, _test_mode: bool) -> Outcome {
-        if self.bytes.load(Ordering::SeqCst) == self.expected as u64 {
-            Outcome::Passed
-        } else {
-            Outcome::Failed(Failed::without_message())
+        match fs::read(&self.rt, self.path) {
+            Ok(bytes) if bytes.as_slice() == self.expected.as_bytes() => Outcome::Passed,
+            _ => Outcome::Failed(Failed::without_message()),
         }
     }
 }
 
-// What is out when a test runs: in each format all that was written before, and nothing where a logfile has it.
+// What is out when a test runs, to somebody who looks on and in a logfile.
 #[test]
 fn shows_what_is_running(rt: HostRuntime) -> Result<(), Fail> {
     let alloc = rt.alloc();
-    let rows: [(FormatSetting, Option<&str>, &str); 4] = [
-        (FormatSetting::Pretty, None, "\nrunning 1 test\ntest a ... "),
-        (FormatSetting::Terse, None, "\nrunning 1 test\n"),
+    let path = "/tmp/mimic_main_shows_what_is_running";
+    let rows: [(FormatSetting, bool, &str); 6] = [
+        (
+            FormatSetting::Pretty,
+            false,
+            "\nrunning 1 test\ntest a ... ",
+        ),
+        (FormatSetting::Pretty, true, "\nrunning 1 test\ntest a ... "),
+        (FormatSetting::Terse, false, "\nrunning 1 test\n"),
+        (FormatSetting::Terse, true, ""),
         (
             FormatSetting::Json,
-            None,
+            false,
             "{ \"type\": \"suite\", \"event\": \"started\", \"test_count\": 1 }\n\
              { \"type\": \"test\", \"event\": \"started\", \"name\": \"a\" }\n",
         ),
-        (FormatSetting::Pretty, Some("/dev/null"), ""),
+        (FormatSetting::Json, true, ""),
     ];
-    for (format, logfile, text) in rows {
+    for (format, is_logged, expected) in rows {
         let mut args = Arguments::new(alloc);
         args.format = Some(format);
-        if let Some(path) = logfile {
+        if is_logged {
             args.logfile = Some(String::from_str(alloc, path)?);
         }
-        let bytes = Arc::new(alloc, AtomicU64::new(0))?;
-        let looks = Looks {
-            bytes: Arc::try_clone(&bytes)?,
-            expected: text.len(),
-        };
+        let out = fs::create(&rt, if is_logged { "/dev/null" } else { path })?;
+        let looks = Looks { rt, path, expected };
         let tests = vec![in alloc; Trial::new(String::from_str(alloc, "a")?, looks)]?;
         let mut err: Vec<u8> = Vec::new(alloc);
-        let (_, status) = PLAIN.harness_run(
-            &rt,
-            alloc,
-            Ok(args),
-            tests,
-            Counting { bytes },
-            &mut err,
-            StillClock,
-        );
-        assert_eq!(rt; status, 0);
+        let (_, status) = PLAIN.harness_run(&rt, alloc, Ok(args), tests, out, &mut err, StillClock);
+        assert_eq!(rt; status.into_number(), 0, "{format:?} {is_logged}");
     }
+    fs::remove_file(&rt, path)?;
     Ok(())
 }
 
@@ -234,7 +217,8 @@ fn tells_faults(rt: HostRuntime) -> Result<(), Fail> {
 #[test]
 fn tells_why_there_was_no_run(rt: HostRuntime) -> Result<(), Fail> {
     let mut err: Vec<u8> = Vec::new(rt.alloc());
-    assert_eq!(rt; TELLING.refuse(RunError::OutOfMemory, &mut err), 1);
+    let status = TELLING.refuse(RunError::OutOfMemory, &mut err);
+    assert_eq!(rt; status.into_number(), 1);
     assert!(rt; err.as_slice() == b"telling: out of memory\n".as_slice());
     Ok(())
 }
@@ -249,7 +233,7 @@ fn colours_as_the_program_says(rt: HostRuntime) -> Result<(), Fail> {
         let out: Vec<u8> = Vec::new(alloc);
         let mut err: Vec<u8> = Vec::new(alloc);
         let (out, status) = program.harness_run(&rt, alloc, line, tests, out, &mut err, StillClock);
-        assert_eq!(rt; status, 0);
+        assert_eq!(rt; status.into_number(), 0);
         assert_eq!(rt;
             String::from_utf8(out)?.as_str().contains("\u{1b}[32mok"),
             is_coloured
@@ -258,7 +242,7 @@ fn colours_as_the_program_says(rt: HostRuntime) -> Result<(), Fail> {
     Ok(())
 }
 
-// An environment whose one variable is so.
+// An environment of a line without options, whose one variable is so.
 #[derive(Drop)]
 struct OneVariable {
     name: &'static str,
@@ -266,20 +250,18 @@ struct OneVariable {
 }
 
 impl Env for OneVariable {
-    fn arg(&self, _i: usize, _buf: &mut [u8]) -> Result<usize, FillError> {
-        Err(FillError::NotPresent)
+    fn arg(&self, i: usize, buf: &mut [u8]) -> Result<usize, FillError> {
+        if i > 0 {
+            return Err(FillError::NotPresent);
+        }
+        fill("program", buf)
     }
 
     fn var(&self, name: &str, buf: &mut [u8]) -> Result<usize, FillError> {
-        let value = self.value.as_bytes();
         if name != self.name {
             return Err(FillError::NotPresent);
         }
-        if value.len() > buf.len() {
-            return Err(FillError::TooLong);
-        }
-        buf[..value.len()].copy_from_slice(value);
-        Ok(value.len())
+        fill(self.value, buf)
     }
 
     fn var_at(&self, _i: usize, _buf: &mut [u8]) -> Result<usize, FillError> {
@@ -287,20 +269,48 @@ impl Env for OneVariable {
     }
 }
 
-#[derive(Drop)]
-struct Terminal {
-    is_one: bool,
+// Copies the text to the front of the buffer.
+fn fill(text: &str, buf: &mut [u8]) -> Result<usize, FillError>
+    ensures { WritesAtMost result buf.new }
+{
+    let bytes = text.as_bytes();
+    if bytes.len() > buf.len() {
+        return Err(FillError::TooLong);
+    }
+    buf[..bytes.len()].copy_from_slice(bytes);
+    Ok(bytes.len())
 }
 
-impl IsTerminal for Terminal {
+// An output in memory.
+#[derive(Drop)]
+struct Screen {
+    is_terminal: bool,
+    bytes: Vec<u8>,
+}
+
+impl IsTerminal for Screen {
     fn is_terminal(&self) -> bool {
-        self.is_one
+        self.is_terminal
     }
 }
 
+impl Write for Screen {
+    fn write(&mut self, buf: &[u8]) -> io::Result<usize> {
+        self.bytes.extend_from_slice(buf)?;
+        Ok(buf.len())
+    }
+
+    fn flush(&mut self) -> io::Result<()> {
+        Ok(())
+    }
+}
+
+// A program on machines of known parts: colours on a terminal where `NO_COLOR` is unset or empty, and the time that their
+// clock measures.
 #[test]
-fn shows_colours_on_a_terminal(rt: HostRuntime) -> Result<(), Fail> {
-    for (name, value, is_one, shown) in [
+fn heeds_its_machine(rt: HostRuntime) -> Result<(), Fail> {
+    let alloc = rt.alloc();
+    for (name, value, is_terminal, is_coloured) in [
         ("TERM", "xterm", true, true),
         ("TERM", "xterm", false, false),
         ("NO_COLOR", "1", true, false),
@@ -308,12 +318,34 @@ fn shows_colours_on_a_terminal(rt: HostRuntime) -> Result<(), Fail> {
         ("NO_COLOR", "", true, true),
         ("NO_COLOR", "", false, false),
     ] {
-        let env = OneVariable { name, value };
+        let env = (OneVariable { name, value }, alloc);
+        let start = Some(Duration::from_nanos(700));
+        let stop = Some(Duration::from_nanos(1_500_000_700));
+        let clock = clock_of([start, stop, None, None, None, None]);
+        let tests = vec![in alloc; Trial::new(String::from_str(alloc, "a")?, Pass)]?;
+        let screen = Screen {
+            is_terminal,
+            bytes: Vec::new(alloc),
+        };
+        let mut err: Vec<u8> = Vec::new(alloc);
+        let (screen, status) = run_program_on(
+            &rt,
+            &env,
+            &clock,
+            "program",
+            Ok(tests),
+            screen,
+            &mut err,
+        );
+        assert_eq!(rt; status.into_number(), 0);
+        assert!(rt; err.is_empty());
+        let text = String::from_utf8(screen.bytes)?;
         assert_eq!(rt;
-            shows_colours(&env, &Terminal { is_one }),
-            shown,
+            text.as_str().contains("\u{1b}[32mok"),
+            is_coloured,
             "{name}={value}"
         );
+        assert!(rt; text.as_str().ends_with("; finished in 1.50s\n\n"));
     }
     Ok(())
 }

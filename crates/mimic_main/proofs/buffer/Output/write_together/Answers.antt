@@ -10,7 +10,8 @@ returns-in_default-clause-bytes g c =
     let waited = c.args.self.now.waiting.items in
     let text = c.args.text.now in
     let left = c.hand_on.new.self.waiting.items in
-    let front = rw c.in_ok-extend_from_slice.ensures.items at c.hand_on.ensures.front in
+    let handed = rw c.in_ok-keep.ensures.kept at c.hand_on.ensures.front in
+    let front = rw c.keep.ensures.writer at handed in
     let P : List ℕ → Type 0 = λ l. Appends (append_known before waited) (append_known after l) (take c.take_back-taken.result text) in
     let Q : ℕ → Type 0 = λ n. Appends (append_known before waited) (append_known after (take (length left - length text) left)) (take n text) in
     subst P (sym c.take_back-taken.ensures.waiting) (subst Q (sym c.take_back-taken.ensures.taken) (taken-back before after waited text left front.0 front.1 front.2 front.3))

@@ -1,0 +1,41 @@
+//! The status that a program ends with.
+ghost use Rattle.std.specs.Prelude.{◌≡◌};
+ghost use Rattle.std.specs.Process.{exit_status};
+ghost use Rattle.mimic_main.specs.Ended.{number_of};
+
+use std::io::Eprint;
+use std::process::{ExitCode, Termination};
+
+/// The exit status of a program, which its `main` is to return. This crate alone can make one, and it can't be dropped, so
+/// the process ends with what a call returned.
+#[derive(Debug, PartialEq, Eq)]
+pub struct Status {
+    number: u8,
+}
+
+impl Status {
+    // No trial failed, or help was asked for.
+    pub(crate) const SUCCESS: Status = Status { number: 0 };
+
+    pub(crate) const CANNOT_RUN: Status = Status { number: 1 };
+
+    pub(crate) const REFUSED_LINE: Status = Status { number: 2 };
+
+    pub(crate) const TRIALS_FAILED: Status = Status { number: 101 };
+
+    /// The number, for a program that ends in a way of its own.
+    pub fn into_number(self) -> u8
+        ensures { result ≡ number_of self }
+    {
+        let Status { number } = self;
+        number
+    }
+}
+
+impl Termination for Status {
+    fn report<R: Eprint>(self, _rt: &R) -> ExitCode
+        ensures { exit_status result ≡ number_of self }
+    {
+        ExitCode::from(self.into_number())
+    }
+}
