@@ -51,7 +51,8 @@ abbrev pub text_so_far : Next → State → List ℕ
 text_so_far title_next s = []
 text_so_far row_next s = title_and s
 text_so_far (outcome_next name) s = title_and s ++ json_announcement name
-text_so_far (nothing_next filtered_out nanos) s = title_and s ++ json_summary (counts_of (map (λ entry. entry.outcome) s.entries) filtered_out) nanos
+text_so_far (nothing_next filtered_out nanos) s =
+    title_and s ++ json_summary (counts_of (map (λ entry. entry.outcome) s.entries) filtered_out) nanos
 
 -- the lines that were read, one after another
 abbrev pub state_text : State → List ℕ
@@ -62,7 +63,8 @@ abbrev pub FitsNext : Next → State → Type 0
 FitsNext title_next s = s.entries ≡ []
 FitsNext row_next s = length s.entries ≤ s.announced
 FitsNext (outcome_next name) s = (length s.entries < s.announced) × IsUtf8 name
-FitsNext (nothing_next filtered_out nanos) s = (length s.entries ≡ s.announced) × (filtered_out < 2 ^ 64) × (nanos < 2 ^ 64)
+FitsNext (nothing_next filtered_out nanos) s =
+    (length s.entries ≡ s.announced) × (filtered_out < 2 ^ 64) × (nanos < 2 ^ 64)
 
 -- names and messages are text, and numbers are below 2^64
 pub record Fits (s : State) : Type 0 where

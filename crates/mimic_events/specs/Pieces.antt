@@ -30,7 +30,8 @@ pub record Leads (from : State) (text : List ℕ) (to : State) (rest : List ℕ)
 
 -- whatever follows what was read: where its front leads from the start goes on from here, or led here
 abbrev pub IsOnlyWay : State → Type 0
-IsOnlyWay s = (more : List ℕ) (t : State) (after : List ℕ) → Leads start (state_text s ++ more) t after → Leads s more t after ⊎ Leads t after s more
+IsOnlyWay s = (more : List ℕ) (t : State) (after : List ℕ) → Leads start (state_text s ++ more) t after
+    → Leads s more t after ⊎ Leads t after s more
 
 -- what is known between two pieces
 pub record Known (s : State) (rest : List ℕ) (stuck : Bool) : Type 0 where
