@@ -1,6 +1,7 @@
 pub mod Digits
 pub mod EndedLines
 pub mod Escapes
+pub mod FewRows
 pub mod FirstLines
 pub mod Fronts
 pub mod Machine

@@ -1,41 +1,12 @@
 -- Steps over one line: the text that a step reads, and what it keeps.
-use Rattle.std.proofs.Common.{◌≡◌, ℕ, ◌<◌, ◌≤◌, ◌^◌, List, [], ◌∷◌, ◌++◌, length, IsUtf8, refl, sym, ap, subst, ◌∙◌, append_assoc, append-nil, arith, ◌⊎◌, inl, inr, Some, true}
+use Rattle.std.proofs.Common.{◌≡◌, ℕ, ◌<◌, ◌≤◌, ◌^◌, List, [], ◌∷◌, ◌++◌, length, refl, sym, ap, subst, ◌∙◌, append_assoc, append-nil, arith, ◌⊎◌, inl, inr, Some, true}
 use Rattle.std.specs.List.{concat, flat_map, AllByRecursion}
 use Rattle.std.proofs.lemmas.List.{length-append}
 use Rattle.std.proofs.lemmas.List.Concat.{flat_map-append}
 use Rattle.std.proofs.lemmas.List.Folds.{concat-append}
-use Rattle.mimic_trial.specs.Count.{counts_of}
-use Rattle.mimic_printer.specs.Json.{Entry, FitsEntry, entry_lines, json_title, json_announcement, json_outcome, json_summary}
-use Rattle.mimic_events.specs.Machine.{Announces, Ends, LeadsFrom, Next, State, Step, Takes, title_next, row_next, outcome_next, nothing_next}
+use Rattle.mimic_printer.specs.Json.{Entry, FitsEntry, entry_lines, json_announcement, json_outcome}
+use Rattle.mimic_events.specs.Machine.{Announces, Ends, Fits, FitsNext, LeadsFrom, Next, State, Step, Takes, state_text, text_so_far, title_and, title_next, row_next, outcome_next, nothing_next}
 use Rattle.mimic_events.specs.Reading.{Decodes, IsSummary}
-use Rattle.mimic_events.proofs.Summaries.{outcomes}
-
--- ---- the text that was read
-
-abbrev pub title_and : State → List ℕ
-title_and s = json_title s.announced ++ concat (flat_map entry_lines s.entries)
-
-abbrev pub text_so_far : Next → State → List ℕ
-text_so_far title_next s = []
-text_so_far row_next s = title_and s
-text_so_far (outcome_next name) s = title_and s ++ json_announcement name
-text_so_far (nothing_next filtered_out nanos) s = title_and s ++ json_summary (counts_of (outcomes s.entries) filtered_out) nanos
-
-abbrev pub state_text : State → List ℕ
-state_text s = text_so_far s.next s
-
--- no more rows than the title announced, and a name that is text
-abbrev pub FitsNext : Next → State → Type 0
-FitsNext title_next s = s.entries ≡ []
-FitsNext row_next s = length s.entries ≤ s.announced
-FitsNext (outcome_next name) s = (length s.entries < s.announced) × IsUtf8 name
-FitsNext (nothing_next filtered_out nanos) s = (length s.entries ≡ s.announced) × (filtered_out < 2 ^ 64) × (nanos < 2 ^ 64)
-
--- names and messages are text, and numbers are below 2^64
-pub record Fits (s : State) : Type 0 where
-  pub announced : s.announced < 2 ^ 64
-  pub entries : AllByRecursion FitsEntry s.entries
-  pub next : FitsNext s.next s
 
 -- ---- a step
 

@@ -1,132 +1,207 @@
--- What is known between two lines of a reading, and the one report of its bytes.
-use Rattle.std.proofs.Common.{◌≡◌, ◌≢◌, ℕ, ◌+◌, ◌<◌, ◌≤◌, ◌^◌, List, [], ◌∷◌, ◌++◌, length, Option, Some, None, refl, sym, ap, subst, ◌∙◌, append_assoc, append-nil, inl, inr, arith}
+-- What is known of the bytes that were read: the one report that they may be, and the rows that have ended.
+use Rattle.std.proofs.Common.{◌≡◌, ◌≢◌, ◌⊎◌, ℕ, ◌+◌, ◌<◌, ◌≤◌, ◌^◌, List, [], ◌∷◌, ◌++◌, Bool, true, false, length, Option, Some, None, Result, Ok, Err, OnOk, cond, is_ok, refl, sym, ap, subst, ◌∙◌, append_assoc, append-nil, inl, inr, arith}
 use Rattle.std.specs.List.{flat_map, concat, AllByRecursion}
 use Rattle.std.proofs.lemmas.List.{length-append}
 use Rattle.std.proofs.lemmas.List.Folds.{concat-append}
 use Rattle.mimic_trial.specs.Count.{counts_of}
-use Rattle.mimic_printer.specs.Json.{Entry, Contents, FitsEntry, IsJsonReport, conclusion_of, entry_lines, report_lines, json_title, json_announcement, json_outcome, json_summary, json_report}
-use Rattle.mimic_printer.proofs.JsonLines.{announcement_line, lines_each}
+use Rattle.mimic_printer.specs.Json.{Entry, Contents, FitsEntry, IsJsonReport, conclusion_of, entry_lines, report_lines, json_announcement, json_title, json_summary, json_report}
+use Rattle.mimic_printer.proofs.JsonLines.{each_append, lines_each, no_end-append, rows_each, title_line}
 use Rattle.mimic_events.specs.Contents.{Spells}
+use Rattle.mimic_events.specs.Feed.{AreEnded, BeginsWith}
 use Rattle.mimic_events.specs.Reading.{Decodes}
-use Rattle.mimic_events.specs.Machine.{HasNoEnd, IsLine, IsReadOut, State, Step, row_next, outcome_next, nothing_next, start}
-use Rattle.mimic_events.proofs.WholeLines.{line_some, no_line, one_line}
-use Rattle.mimic_events.proofs.Machine.{Fits, state_text, step_keeps}
+use Rattle.mimic_events.specs.Machine.{Fits, FitsNext, HasNoEnd, IsLine, IsReadOut, LeadsFrom, Next, Runs, State, Step, title_next, row_next, outcome_next, nothing_next, start, state_text, text_so_far}
+use Rattle.mimic_events.specs.Pieces.{IsOnlyWay, IsUnread, Known, Leads}
+use Rattle.mimic_events.proofs.FewRows.{few_rows}
+use Rattle.mimic_events.proofs.WholeLines.{no_line, one_line}
+use Rattle.mimic_events.proofs.Machine.{step_keeps}
 use Rattle.mimic_events.proofs.Summaries.{outcomes}
 
--- the lines lead from one state to the other
-abbrev pub Runs : State → List (List ℕ) → State → Type 0
-Runs s [] t = s ≡ t
-Runs s (line ∷ lines) t = (next : State) × Step s line next × Runs next lines t
+-- ---- runs over lines
 
--- the state behind the summary of these contents
-abbrev pub over : Contents → State
-over c = record { next = nothing_next c.filtered_out c.nanos; announced = length c.entries; entries = c.entries }
+runs_append : (p q : List (List ℕ)) (s t u : State) → Runs s p t → Runs t q u → Runs s (p ++ q) u
+runs_append [] q s t u a b = subst (λ (x : State). Runs x q u) (sym a) b
+runs_append (l ∷ p) q s t u a b = (a.0, a.1, runs_append p q a.0 t u a.2 b)
 
--- the bytes that are left are lines that lead to these contents
-pub record Remains (s : State) (rest : List ℕ) (c : Contents) : Type 0 where
-  pub lines : List (List ℕ)
-  pub each : AllByRecursion IsLine lines
-  pub run : Runs s lines (over c)
-  pub parts : rest ≡ concat lines
-
--- what is known between two lines: the text that was read, and where each report of the bytes goes on
-pub record Known (bytes : List ℕ) (s : State) (rest : List ℕ) : Type 0 where
-  pub text : bytes ≡ state_text s ++ rest
-  pub fits : Fits s
-  pub left : (c : Contents) → IsJsonReport bytes c → Remains s rest c
-
--- ---- before the title
-
--- each row has a byte at least
-rows_long : (es : List Entry) → length es ≤ length (concat (flat_map entry_lines es))
-rows_long [] = omega arith
-rows_long (e ∷ es) =
-    let a : List ℕ = json_announcement e.name in
-    let o : List ℕ = json_outcome e.name e.outcome in
-    let some : 0 < length a = line_some a (announcement_line e.name) in
-    let rest : List ℕ = concat (flat_map entry_lines es) in
-    omega (arith, some, rows_long es, length-append a (o ++ rest), length-append o rest)
-
-report_long : (c : Contents) → length c.entries ≤ length (json_report c)
-unfolding json_report
-report_long c =
-    let rows : List (List ℕ) = flat_map entry_lines c.entries in
-    let last : List (List ℕ) = json_summary (conclusion_of c) c.nanos ∷ [] in
-    let title : List ℕ = json_title (length c.entries) in
-    omega (arith, rows_long c.entries, length-append title (concat (rows ++ last)), ap length (concat-append rows last), length-append (concat rows) (concat last))
-
--- the lines of rows and of their summary lead behind it
-rows_run : (old es : List Entry) (n x t : ℕ) → length old + length es ≡ n → AllByRecursion FitsEntry es → x < 2 ^ 64 → t < 2 ^ 64
-    → Runs (record { next = row_next; announced = n; entries = old }) (flat_map entry_lines es ++ json_summary (counts_of (outcomes (old ++ es)) x) t ∷ [])
-    (record { next = nothing_next x t; announced = n; entries = old ++ es })
-rows_run old [] n x t all fits small short = rw append-nil (record { next = nothing_next x t; announced = n; entries = old }, inr (omega (arith, all), (x, t), (small, short, refl), refl), refl)
-rows_run old (e ∷ es) n x t all fits small short =
-    let rest = rows_run (old ++ e ∷ []) es n x t (omega (arith, all, length-append old (e ∷ []))) fits.1 small short in (
+-- the lines of rows lead behind them
+rows_run : (n : ℕ) (old es : List Entry) → length old + length es ≤ n → AllByRecursion FitsEntry es
+    → Runs (record { next = row_next; announced = n; entries = old }) (flat_map entry_lines es) (record { next = row_next; announced = n; entries = old ++ es })
+rows_run n old [] le fits = rw append-nil refl
+rows_run n old (e ∷ es) le fits =
+    let rest = rows_run n (old ++ e ∷ []) es (omega (arith, le, length-append old (e ∷ []))) fits.1 in (
       record { next = outcome_next e.name; announced = n; entries = old },
-      inl (omega (arith, all), e.name, (fits.0.name, refl), refl),
+      inl (omega (arith, le), e.name, (fits.0.name, refl), refl),
       (record { next = row_next; announced = n; entries = old ++ e ∷ [] }, (e.outcome, (fits.0.outcome, refl), refl), rw append_assoc at rest),
     )
 
-pub begins : (bytes : List ℕ) → length bytes < 2 ^ 64 → Known bytes start bytes
-unfolding json_report
-begins bytes small = record {
-  text = refl;
+-- a title and the lines of rows lead behind them
+abbrev behind : ℕ → List Entry → State
+behind n es = record { next = row_next; announced = n; entries = es }
+
+front_run : (n : ℕ) (es : List Entry) → n < 2 ^ 64 → length es ≤ n → AllByRecursion FitsEntry es → Runs start (json_title n ∷ flat_map entry_lines es) (behind n es)
+front_run n es small le fits = (behind n [], (n, (small, refl), refl), rows_run n [] es (omega (arith, le)) fits)
+
+-- rows stay
+longer_from : (next : Next) (s : State) (line : List ℕ) (t : State) → LeadsFrom next s line t → (more : List Entry) × (t.entries ≡ s.entries ++ more)
+longer_from title_next s line t (count, is, e) = ([], ap (λ (u : State). u.entries) e ∙ sym (append-nil s.entries))
+longer_from row_next s line t (inl (more, name, is, e)) = ([], ap (λ (u : State). u.entries) e ∙ sym (append-nil s.entries))
+longer_from row_next s line t (inr (all, numbers, is, e)) = ([], ap (λ (u : State). u.entries) e ∙ sym (append-nil s.entries))
+longer_from (outcome_next name) s line t (outcome, is, e) = (record { name = name; outcome = outcome } ∷ [], ap (λ (u : State). u.entries) e)
+longer_from (nothing_next filtered_out nanos) s line t h = absurd h
+
+longer : (s : State) (lines : List (List ℕ)) (t : State) → Runs s lines t → (more : List Entry) × (t.entries ≡ s.entries ++ more)
+longer s [] t run = ([], ap (λ (u : State). u.entries) (sym run) ∙ sym (append-nil s.entries))
+longer s (l ∷ lines) t (next, step, run) =
+    let one = longer_from s.next s l next step in
+    let rest = longer next lines t run in
+    (one.0 ++ rest.0, rest.1 ∙ ap (λ (es : List Entry). es ++ rest.0) one.1 ∙ append_assoc s.entries one.0 rest.0)
+
+-- ---- before the first line
+
+pub fresh : (s : State) (rest : List ℕ) → s ≡ start → rest ≡ [] → Known s rest false
+fresh s rest e none = subst (λ (u : State). Known u rest false) (sym e) (record {
   fits = record { announced = omega arith; entries = tt; next = refl };
-  left = λ c h.
-      let few : length c.entries < 2 ^ 64 = omega (arith, report_long c, ap length h.text, small) in
-      record {
-        lines = report_lines c;
-        each = lines_each bytes c h few;
-        run = (
-          record { next = row_next; announced = length c.entries; entries = [] },
-          (length c.entries, (few, refl), refl),
-          rows_run [] c.entries (length c.entries) c.filtered_out c.nanos (omega arith) h.entries h.filtered_out h.nanos,
-        );
-        parts = h.text;
-      };
-}
+  way = λ more t after lead. inl lead;
+  unread = subst HasNoEnd (sym none) tt;
+})
 
 -- ---- one more line
 
--- the line at the front is the first of those that are left
-first_left : (s : State) (line rest after : List ℕ) (c : Contents) → IsLine line → rest ≡ line ++ after → Remains s rest c → (next : State) × Step s line next × Remains next after c
-first_left s line rest after c is e h = at h.lines h.each h.run (sym e ∙ h.parts)
+-- what leads on over the line leads on behind it, or led there
+over_line : (s : State) (line : List ℕ) (t u : State) (more after : List ℕ) → IsLine line → Step s line t → ((v : State) → Step s line v → v ≡ t) → Leads s (line ++ more) u after → Leads t more u after ⊎ Leads u after t more
+over_line s line t u more after is step only lead = at lead.lines lead.each lead.run lead.parts
   where
-    at : (lines : List (List ℕ)) → AllByRecursion IsLine lines → Runs s lines (over c) → line ++ after ≡ concat lines → (next : State) × Step s line next × Remains next after c
-    at [] each run f = absurd (omega (arith, line_some line is, ap length f, length-append line after))
-    at (l ∷ lines) each run f =
-        let same = one_line line l after (concat lines) is each.0 f in
-        (run.0, subst (λ (k : List ℕ). Step s k run.0) (sym same.0) run.1, record { lines = lines; each = each.1; run = run.2; parts = same.1 })
+    at : (lines : List (List ℕ)) → AllByRecursion IsLine lines → Runs s lines u → line ++ more ≡ concat lines ++ after → Leads t more u after ⊎ Leads u after t more
+    at [] each run e = inr (record {
+      lines = line ∷ [];
+      each = (is, tt);
+      run = (t, subst (λ (v : State). Step v line t) run step, refl);
+      parts = sym e ∙ ap (λ (x : List ℕ). x ++ more) (sym (append-nil line));
+    })
+    at (l ∷ lines) each run e =
+        let same = one_line line l more (concat lines ++ after) is each.0 (e ∙ append_assoc l (concat lines) after) in
+        let next : run.0 ≡ t = only run.0 (subst (λ (k : List ℕ). Step s k run.0) (sym same.0) run.1) in
+        inl (record { lines = lines; each = each.1; run = subst (λ (v : State). Runs v lines u) next run.2; parts = same.1 })
 
-pub taken : (bytes line rest after : List ℕ) (s t : State) → Known bytes s rest → IsLine line → rest ≡ line ++ after → Step s line t → ((u : State) → Step s line u → u ≡ t) → Known bytes t after
-taken bytes line rest after s t known is parts step only =
+-- what led to the state leads over the line
+led_on : (s : State) (line : List ℕ) (t u : State) (more after : List ℕ) → IsLine line → Step s line t → Leads u after s (line ++ more) → Leads u after t more
+led_on s line t u more after is step lead = record {
+  lines = lead.lines ++ line ∷ [];
+  each = each_append lead.lines (line ∷ []) lead.each (is, tt);
+  run = runs_append lead.lines (line ∷ []) u s t lead.run (t, step, refl);
+  parts = lead.parts ∙ sym (append_assoc (concat lead.lines) line more) ∙ ap (λ (x : List ℕ). x ++ more) (ap (λ (x : List ℕ). concat lead.lines ++ x) (sym (append-nil line)) ∙ sym (concat-append lead.lines (line ∷ [])));
+}
+
+way_on : (s : State) (line : List ℕ) (t : State) → IsOnlyWay s → state_text t ≡ state_text s ++ line → IsLine line → Step s line t → ((v : State) → Step s line v → v ≡ t) → IsOnlyWay t
+way_on s line t way text is step only = λ more u after lead.
+    let moved : state_text t ++ more ≡ state_text s ++ (line ++ more) = ap (λ (x : List ℕ). x ++ more) text ∙ append_assoc (state_text s) line more in
+    elim (way (line ++ more) u after (subst (λ (x : List ℕ). Leads start x u after) moved lead)) [
+      | inl on ↦ over_line s line t u more after is step only on
+      | inr back ↦ inr (led_on s line t u more after is step back)
+    ]
+
+line_with : (rest end : List ℕ) → HasNoEnd rest → IsLine end → IsLine (rest ++ end)
+line_with rest end h is = record {
+  front = rest ++ is.front;
+  parts = ap (λ (x : List ℕ). rest ++ x) is.parts ∙ sym (append_assoc rest is.front (10 ∷ []));
+  whole = no_end-append rest is.front h is.whole;
+}
+
+-- the line belongs there, and nothing is left
+pub taken : (s t : State) (rest end line left : List ℕ) → Known s rest false → IsLine end → line ≡ rest ++ end → Step s line t → ((v : State) → Step s line v → v ≡ t) → left ≡ []
+    → (state_text t ++ left ≡ (state_text s ++ rest) ++ end) × Known t left false
+taken s t rest end line left known last parts step only none =
+    let is : IsLine line = subst IsLine (sym parts) (line_with rest end known.unread last) in
     let keeps = step_keeps s line t known.fits step in
-    record {
-      text = known.text ∙ ap (λ (x : List ℕ). state_text s ++ x) parts ∙ sym (append_assoc (state_text s) line after) ∙ ap (λ (x : List ℕ). x ++ after) (sym keeps.0);
-      fits = keeps.1;
-      left = λ c h. let next = first_left s line rest after c is parts (known.left c h) in subst (λ (u : State). Remains u after c) (only next.0 next.1) next.2;
-    }
+    let text : state_text s ++ line ≡ (state_text s ++ rest) ++ end = ap (λ (x : List ℕ). state_text s ++ x) parts ∙ sym (append_assoc (state_text s) rest end) in (
+      ap (λ (x : List ℕ). state_text t ++ x) none ∙ append-nil (state_text t) ∙ keeps.0 ∙ text,
+      record {
+        fits = keeps.1;
+        way = way_on s line t known.way keeps.0 is step only;
+        unread = subst HasNoEnd (sym none) tt;
+      },
+    )
 
--- where a line leads nowhere, the bytes are no report
-pub refused : (bytes line rest after : List ℕ) (s : State) → Known bytes s rest → IsLine line → rest ≡ line ++ after → ((t : State) → Step s line t → ⊥) → (c : Contents) → IsJsonReport bytes c → ⊥
-refused bytes line rest after s known is parts none c h = let next = first_left s line rest after c is parts (known.left c h) in none next.0 next.1
+-- the line doesn't, and stays
+pub refused : (s t : State) (rest end line left : List ℕ) → Known s rest false → IsLine end → line ≡ rest ++ end → t ≡ s → ((v : State) → Step s line v → ⊥) → left ≡ rest ++ end
+    → (state_text t ++ left ≡ (state_text s ++ rest) ++ end) × Known t left true
+refused s t rest end line left known last parts same none stays =
+    let is : IsLine line = subst IsLine (sym parts) (line_with rest end known.unread last) in
+    subst (λ (u : State). (state_text u ++ left ≡ (state_text s ++ rest) ++ end) × Known u left true) (sym same) (
+      ap (λ (x : List ℕ). state_text s ++ x) stays ∙ sym (append_assoc (state_text s) rest end),
+      record {
+        fits = known.fits;
+        way = known.way;
+        unread = record { line = line; more = []; parts = stays ∙ sym parts ∙ sym (append-nil line); whole = is; nowhere = none };
+      },
+    )
+
+-- ---- a piece with no whole line
+
+more_left : (s : State) (rest piece : List ℕ) (stuck : Bool) → Known s rest stuck → (stuck ≡ false → HasNoEnd piece) → Known s (rest ++ piece) stuck
+more_left s rest piece false known whole = record { fits = known.fits; way = known.way; unread = no_end-append rest piece known.unread (whole refl) }
+more_left s rest piece true known whole = record {
+  fits = known.fits;
+  way = known.way;
+  unread = record {
+    line = known.unread.line;
+    more = known.unread.more ++ piece;
+    parts = ap (λ (x : List ℕ). x ++ piece) known.unread.parts ∙ append_assoc known.unread.line known.unread.more piece;
+    whole = known.unread.whole;
+    nowhere = known.unread.nowhere;
+  };
+}
+
+-- so where the piece could be kept
+pub kept : {T E : Type 0} (r : Result T E) (s : State) (rest piece joined : List ℕ) (stuck : Bool) → Known s rest stuck → (stuck ≡ false → HasNoEnd piece) → joined ≡ cond (is_ok r) (rest ++ piece) rest → OnOk r (Known s joined stuck)
+kept (Ok done) s rest piece joined stuck known whole e = subst (λ (x : List ℕ). Known s x stuck) (sym e) (more_left s rest piece stuck known whole)
+kept (Err fault) s rest piece joined stuck known whole e = tt
 
 -- ---- no more lines
 
--- where something is left that begins with no line, the bytes are no report
-pub unended : (bytes rest : List ℕ) (s : State) → Known bytes s rest → HasNoEnd rest → rest ≢ [] → (c : Contents) → IsJsonReport bytes c → ⊥
-unended bytes rest s known none some c h = let r = known.left c h in at r.lines r.each r.parts
+-- nothing leads on from an unread rest
+ended : (s : State) (rest : List ℕ) (stuck : Bool) (t : State) (after : List ℕ) → IsUnread stuck s rest → Leads s rest t after → (s ≡ t) × (rest ≡ after)
+ended s rest stuck t after unread lead = at stuck unread lead.lines lead.each lead.run lead.parts
   where
-    at : (lines : List (List ℕ)) → AllByRecursion IsLine lines → rest ≡ concat lines → ⊥
-    at [] each e = some e
-    at (l ∷ lines) each e = no_line l (concat lines) rest each.0 none (sym e)
+    at : (b : Bool) → IsUnread b s rest → (lines : List (List ℕ)) → AllByRecursion IsLine lines → Runs s lines t → rest ≡ concat lines ++ after → (s ≡ t) × (rest ≡ after)
+    at b h [] each run e = (run, e)
+    at false h (l ∷ lines) each run e = absurd (no_line l (concat lines ++ after) rest each.0 h (sym (e ∙ append_assoc l (concat lines) after)))
+    at true h (l ∷ lines) each run e =
+        let same = one_line h.line l h.more (concat lines ++ after) h.whole each.0 (sym h.parts ∙ e ∙ append_assoc l (concat lines) after) in
+        absurd (h.nowhere run.0 (subst (λ (k : List ℕ). Step s k run.0) (sym same.0) run.1))
 
-is_over : (s : State) (c : Contents) → Remains s [] c → s ≡ over c
-is_over s c h = at h.lines h.each h.run h.parts
+-- ---- the one report
+
+-- the state behind the summary of these contents
+abbrev over : Contents → State
+over c = record { next = nothing_next c.filtered_out c.nanos; announced = length c.entries; entries = c.entries }
+
+report_leads : (bytes : List ℕ) (c : Contents) → IsJsonReport bytes c → length c.entries < 2 ^ 64 → Leads start bytes (over c) []
+unfolding json_report
+report_leads bytes c h few =
+    let front = front_run (length c.entries) c.entries few (omega arith) h.entries in
+    let last : List ℕ = json_summary (conclusion_of c) c.nanos in
+    record {
+      lines = report_lines c;
+      each = lines_each bytes c h few;
+      run = runs_append (json_title (length c.entries) ∷ flat_map entry_lines c.entries) (last ∷ []) start (behind (length c.entries) c.entries) (over c) front
+          (over c, inr (omega arith, (c.filtered_out, c.nanos), (h.filtered_out, h.nanos, refl), refl), refl);
+      parts = h.text ∙ sym (append-nil (json_report c));
+    }
+
+-- nothing leads on from behind a summary
+last_of_all : (c : Contents) (s : State) (rest : List ℕ) → Leads (over c) [] s rest → (s ≡ over c) × (rest ≡ [])
+last_of_all c s rest lead = at lead.lines lead.run lead.parts
   where
-    at : (lines : List (List ℕ)) → AllByRecursion IsLine lines → Runs s lines (over c) → [] ≡ concat lines → s ≡ over c
-    at [] each run e = run
-    at (l ∷ lines) each run e = absurd (omega (arith, line_some l each.0, ap length e, length-append l (concat lines)))
+    at : (lines : List (List ℕ)) → Runs (over c) lines s → [] ≡ concat lines ++ rest → (s ≡ over c) × (rest ≡ [])
+    at [] run e = (sym run, sym e)
+    at (l ∷ lines) run e = absurd run.1
+
+report_was_read : (s : State) (rest : List ℕ) (stuck : Bool) (c : Contents) → Known s rest stuck → length rest < 2 ^ 64 → IsJsonReport (state_text s ++ rest) c → (s ≡ over c) × (rest ≡ [])
+report_was_read s rest stuck c known short h =
+    elim (known.way rest (over c) [] (report_leads (state_text s ++ rest) c h (few_rows s rest c known.fits short h))) [
+      | inl on ↦ ended s rest stuck (over c) [] known.unread on
+      | inr back ↦ last_of_all c s rest back
+    ]
 
 -- the text of a reading that is over is the report of what was read
 report_read : (c : Contents) → Fits (over c) → IsJsonReport (state_text (over c)) c
@@ -142,20 +217,49 @@ report_read c fits = record {
   nanos = fits.next.2;
 }
 
+-- where something is left, the bytes are no report
+pub no_report : (s : State) (rest : List ℕ) (stuck : Bool) → Known s rest stuck → length rest < 2 ^ 64 → rest ≢ [] → Decodes Spells (state_text s ++ rest) None
+no_report s rest stuck known short some = λ c h. some (report_was_read s rest stuck c known short h).1
+
 -- where nothing is left, the report is what the lines said
-pub the_one_report : (bytes rest : List ℕ) (s : State) (o : Option Contents) → Known bytes s rest → rest ≡ [] → IsReadOut s o → Decodes Spells bytes o
-the_one_report bytes rest s None known none out = λ c h.
-    out c.filtered_out c.nanos (ap (λ (u : State). u.next) (is_over s c (subst (λ (r : List ℕ). Remains s r c) none (known.left c h))))
-the_one_report bytes rest s (Some c) known none out =
+pub the_one_report : (s : State) (rest : List ℕ) (stuck : Bool) (o : Option Contents) → Known s rest stuck → length rest < 2 ^ 64 → rest ≡ [] → IsReadOut s o → Decodes Spells (state_text s ++ rest) o
+the_one_report s rest stuck None known short none out = λ c h.
+    out c.filtered_out c.nanos (ap (λ (u : State). u.next) (report_was_read s rest stuck c known short h).0)
+the_one_report s rest stuck (Some c) known short none out =
     let all : length s.entries ≡ s.announced = (rw out.0 at known.fits.next).0 in
     let here : s ≡ over c = rw (← out.0, ← out.1, all) refl in
-    let whole : bytes ≡ state_text (over c) = known.text ∙ ap (λ (r : List ℕ). state_text s ++ r) none ∙ append-nil (state_text s) ∙ ap state_text here in (
+    let whole : state_text s ++ rest ≡ state_text (over c) = ap (λ (r : List ℕ). state_text s ++ r) none ∙ append-nil (state_text s) ∙ ap state_text here in (
       subst (λ (b : List ℕ). IsJsonReport b c) (sym whole) (report_read c (subst Fits here known.fits)),
       λ v h.
-          let same : over v ≡ over c = sym (is_over s v (subst (λ (r : List ℕ). Remains s r v) none (known.left v h))) ∙ here in
+          let same : over v ≡ over c = sym (report_was_read s rest stuck v known short h).0 ∙ here in
           let next : nothing_next v.filtered_out v.nanos ≡ nothing_next c.filtered_out c.nanos = ap (λ (u : State). u.next) same in
           let x : v.filtered_out ≡ c.filtered_out = cc in
           let t : v.nanos ≡ c.nanos = cc in
           let es : v.entries ≡ c.entries = ap (λ (u : State). u.entries) same in
           rw (← x, ← t, ← es) refl,
     )
+
+-- ---- the rows that have ended
+
+begun : (next : Next) (s : State) (rest : List ℕ) → Fits s → FitsNext next s → (s.entries ≡ []) ⊎ BeginsWith (text_so_far next s ++ rest) s.entries
+begun title_next s rest fits at = inl at
+begun row_next s rest fits at = inr (record { announced = s.announced; rest = rest; number = fits.announced; within = at; fits = fits.entries; parts = simp append_assoc })
+begun (outcome_next name) s rest fits at = inr (record { announced = s.announced; rest = json_announcement name ++ rest; number = fits.announced; within = omega (arith, at.0); fits = fits.entries; parts = simp append_assoc })
+begun (nothing_next filtered_out nanos) s rest fits at = inr (record { announced = s.announced; rest = json_summary (counts_of (outcomes s.entries) filtered_out) nanos ++ rest; number = fits.announced; within = omega (arith, at.0); fits = fits.entries; parts = simp append_assoc })
+
+rows_lead : (bytes : List ℕ) (es : List Entry) (h : BeginsWith bytes es) → Leads start bytes (behind h.announced es) h.rest
+rows_lead bytes es h = record {
+  lines = json_title h.announced ∷ flat_map entry_lines es;
+  each = (title_line h.announced h.number, rows_each es h.fits);
+  run = front_run h.announced es h.number h.within h.fits;
+  parts = h.parts ∙ sym (append_assoc (json_title h.announced) (concat (flat_map entry_lines es)) h.rest);
+}
+
+pub rows_ended : (s : State) (rest : List ℕ) (stuck : Bool) → Known s rest stuck → AreEnded (state_text s ++ rest) s.entries
+rows_ended s rest stuck known = record {
+  begun = begun s.next s rest known.fits known.fits.next;
+  longest = λ others h. elim (known.way rest (behind h.announced others) h.rest (rows_lead (state_text s ++ rest) others h)) [
+    | inl on ↦ ([], ap (λ (u : State). u.entries) (ended s rest stuck (behind h.announced others) h.rest known.unread on).0 ∙ sym (append-nil others))
+    | inr back ↦ longer (behind h.announced others) back.lines s back.run
+  ];
+}

@@ -1,7 +1,9 @@
 -- Reading a report line by line, as a machine: which line may come next, and where it leads. No public clause names these words.
-use Rattle.std.specs.Prelude.{◌≡◌, ◌≢◌, ◌⊎◌, ℕ, ◌<◌, ◌≤◌, List, [], ◌∷◌, ◌++◌, length, map, string_bytes, Bool, true, false, Option, Some, None}
+use Rattle.std.specs.Prelude.{◌≡◌, ◌≢◌, ◌⊎◌, ℕ, ◌<◌, ◌≤◌, ◌^◌, List, [], ◌∷◌, ◌++◌, length, map, string_bytes, Bool, true, false, Option, Some, None, IsUtf8}
+use Rattle.std.specs.List.{AllByRecursion, concat, flat_map}
 use Rattle.mimic_trial.specs.declared.outcome.Outcome.{Outcome}
-use Rattle.mimic_printer.specs.Json.{Entry, Contents}
+use Rattle.mimic_trial.specs.Count.{counts_of}
+use Rattle.mimic_printer.specs.Json.{Entry, Contents, FitsEntry, entry_lines, json_announcement, json_summary, json_title}
 pub use Rattle.mimic_printer.specs.Json.{HasNoEnd, IsLine}
 use Rattle.mimic_events.specs.declared.progress.Stage.{Stage}
 use Rattle.mimic_events.specs.declared.progress.Stage.TheVariants as stage
@@ -38,6 +40,38 @@ next_of (stage.Over filtered_out nanos) = nothing_next filtered_out nanos
 abbrev pub state_of : Progress → State
 state_of p = record { next = next_of p.stage; announced = p.announced; entries = map entry_read p.rows.items }
 
+-- ---- the text that was read
+
+-- the title and the lines of the rows
+abbrev pub title_and : State → List ℕ
+title_and s = json_title s.announced ++ concat (flat_map entry_lines s.entries)
+
+-- the text up to here, by which line comes next
+abbrev pub text_so_far : Next → State → List ℕ
+text_so_far title_next s = []
+text_so_far row_next s = title_and s
+text_so_far (outcome_next name) s = title_and s ++ json_announcement name
+text_so_far (nothing_next filtered_out nanos) s =
+    title_and s ++ json_summary (counts_of (map (λ entry. entry.outcome) s.entries) filtered_out) nanos
+
+-- the lines that were read, one after another
+abbrev pub state_text : State → List ℕ
+state_text s = text_so_far s.next s
+
+-- no more rows than the title announced, and a name that is text
+abbrev pub FitsNext : Next → State → Type 0
+FitsNext title_next s = s.entries ≡ []
+FitsNext row_next s = length s.entries ≤ s.announced
+FitsNext (outcome_next name) s = (length s.entries < s.announced) × IsUtf8 name
+FitsNext (nothing_next filtered_out nanos) s =
+    (length s.entries ≡ s.announced) × (filtered_out < 2 ^ 64) × (nanos < 2 ^ 64)
+
+-- names and messages are text, and numbers are below 2^64
+pub record Fits (s : State) : Type 0 where
+  pub announced : s.announced < 2 ^ 64
+  pub entries : AllByRecursion FitsEntry s.entries
+  pub next : FitsNext s.next s
+
 -- ---- steps
 
 -- not all rows have come, and the line announces one
@@ -67,6 +101,11 @@ Step old line new = LeadsFrom old.next old line new
 abbrev pub Takes : Bool → State → List ℕ → State → Type 0
 Takes true old line new = Step old line new × ((s : State) → Step old line s → s ≡ new)
 Takes false old line new = (new ≡ old) × ((s : State) → Step old line s → ⊥)
+
+-- the lines lead from one state to the other
+abbrev pub Runs : State → List (List ℕ) → State → Type 0
+Runs s [] t = s ≡ t
+Runs s (line ∷ lines) t = (next : State) × Step s line next × Runs next lines t
 
 -- what the lines said, where the summary was the last of them; nothing where it wasn't
 abbrev pub IsReadOut : State → Option Contents → Type 0

@@ -2,15 +2,18 @@
 #![tactic(auto)]
 
 mod counts;
+mod feed;
 mod lines;
 mod numbers;
 mod progress;
 mod quoted;
+mod reading;
 mod report;
 mod strip;
 mod summary;
 
-pub use report::{Report, Row, read_report};
+pub use feed::{Feed, read_report};
+pub use report::{Report, Row};
 
 #[cfg(test)]
 mod tests;

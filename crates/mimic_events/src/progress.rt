@@ -33,8 +33,8 @@ pub(crate) struct Progress {
 }
 
 impl Progress {
-    ghost use Rattle.std.specs.Prelude.{◌≡◌, IfOk, option_map};
-    ghost use Rattle.mimic_events.specs.Contents.{contents_read};
+    ghost use Rattle.std.specs.Prelude.{◌≡◌, IfOk, map, option_map};
+    ghost use Rattle.mimic_events.specs.Contents.{contents_read, entry_read};
     ghost use Rattle.mimic_events.specs.Machine.{IsReadOut, Takes, start, state_of};
 
     // No line was read.
@@ -84,6 +84,13 @@ impl Progress {
             Stage::Over(_, _) => return Ok(false),
         }
         Ok(true)
+    }
+
+    // The rows that have come.
+    pub(crate) fn rows(&self) -> &[Row]
+        ensures { map entry_read result.now ≡ (state_of self.now).entries }
+    {
+        self.rows.as_slice()
     }
 
     // What the lines said, where the summary was the last of them.

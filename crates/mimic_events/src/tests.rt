@@ -1,6 +1,6 @@
 //! What no clause says: that reports are read where memory is ample, and what the definition of a report holds and refuses.
 //! Expected values are worked by hand from the format's rules. The report of a run is read back in `mimic_readback`.
-use crate::{Report, Row, read_report};
+use crate::{Feed, Report, Row, read_report};
 use mimic_trial::{Conclusion, Failed, Measurement, Outcome};
 use std::alloc::Global;
 use std::test::Fail;
@@ -40,10 +40,8 @@ fn failed(alloc: Global, message: &str) -> Result<Outcome, Fail> {
     Ok(Outcome::Failed(Failed::with_message(message)))
 }
 
-#[test]
-fn reads_every_outcome(rt: HostRuntime) -> Result<(), Fail> {
-    let alloc = rt.alloc();
-    let report = read_report(alloc, ALL_SORTS.as_bytes())?.ok_or("no report")?;
+// The report whose text is `ALL_SORTS`.
+fn all_sorts(alloc: Global) -> Result<Report, Fail> {
     let measurement = Measurement {
         avg: u64::MAX,
         variance: 0,
@@ -59,6 +57,27 @@ fn reads_every_outcome(rt: HostRuntime) -> Result<(), Fail> {
         )?,
         row(alloc, "b", Outcome::Measured(measurement))?,
     ]?;
+    Ok(Report {
+        rows,
+        filtered_out: u64::MAX,
+        nanos: 1_500_000_000,
+    })
+}
+
+// What a feed answers of these pieces.
+fn fed(alloc: Global, pieces: &[&[u8]]) -> Result<Option<Report>, Fail> {
+    let mut feed = Feed::new(alloc)?;
+    for piece in pieces {
+        feed.feed(piece)?;
+    }
+    let report = feed.finish()?;
+    Ok(report)
+}
+
+#[test]
+fn reads_every_outcome(rt: HostRuntime) -> Result<(), Fail> {
+    let alloc = rt.alloc();
+    let report = read_report(alloc, ALL_SORTS.as_bytes())?.ok_or("no report")?;
     let counts = Conclusion {
         num_filtered_out: u64::MAX,
         num_passed: 0,
@@ -67,12 +86,63 @@ fn reads_every_outcome(rt: HostRuntime) -> Result<(), Fail> {
         num_measured: 1,
     };
     assert!(rt; report.counts() == counts);
-    let want = Report {
-        rows,
-        filtered_out: u64::MAX,
-        nanos: 1_500_000_000,
-    };
-    assert!(rt; report == want);
+    assert!(rt; report == all_sorts(alloc)?);
+    Ok(())
+}
+
+// Cut in two at each place, so also within numbers, escapes and characters.
+#[test]
+fn reads_two_pieces(rt: HostRuntime) -> Result<(), Fail> {
+    let alloc = rt.alloc();
+    let want = Some(all_sorts(alloc)?);
+    let bytes = ALL_SORTS.as_bytes();
+    for at in 0..=bytes.len() {
+        let (front, back) = bytes.split_at(at);
+        assert!(rt; fed(alloc, &[front, b"", back])? == want, "{at}");
+    }
+    Ok(())
+}
+
+// A row is shown from the end of its outcome's line on, whatever follows, and not before.
+#[test]
+fn shows_rows_as_they_end(rt: HostRuntime) -> Result<(), Fail> {
+    let alloc = rt.alloc();
+    let want = all_sorts(alloc)?;
+    let wrong = altered(alloc, ALL_SORTS, "\"failed\": 3", "\"failed\": 2")?;
+    for (text, is_report) in [(ALL_SORTS, true), (wrong.as_str(), false)] {
+        let mut feed = Feed::new(alloc)?;
+        let mut shown = 0;
+        for (line, then) in text.lines().zip([0, 0, 1, 1, 2, 2, 3, 3, 4, 4, 5, 5]) {
+            for byte in line.as_bytes().chunks(1) {
+                feed.feed(byte)?;
+                assert!(rt; feed.rows() == want.rows.get(..shown), "{line}");
+            }
+            shown = then;
+            feed.feed(b"\n")?;
+            assert!(rt; feed.rows() == want.rows.get(..shown), "{line}");
+        }
+        assert_eq!(rt; shown, 5);
+        let report = feed.finish()?;
+        assert_eq!(rt; report.is_some(), is_report);
+    }
+    Ok(())
+}
+
+#[test]
+fn refuses_other_pieces(rt: HostRuntime) -> Result<(), Fail> {
+    let (all, alloc) = (ALL_SORTS.as_bytes(), rt.alloc());
+    let title = b"{ \"type\": \"suite\", \"event\": \"started\", \"test_count\": 5 }\n";
+    for pieces in [
+        [b"".as_slice(), b""],
+        [b"\n", all],
+        [b"{", all],
+        [title, all],
+        [all, b"\n"],
+        [all, b" "],
+        [all, all],
+    ] {
+        assert!(rt; fed(alloc, &pieces)?.is_none());
+    }
     Ok(())
 }
 

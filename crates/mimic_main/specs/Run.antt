@@ -1,16 +1,14 @@
 -- What a run into a buffered writer answers, and what the writer behind has got.
-use Rattle.std.specs.Prelude.{◌≡◌, ℕ, Bool, List, [], Option, Result, MatchResult, Err, true, false}
+use Rattle.std.specs.Prelude.{◌≡◌, ◌⊎◌, ℕ, Bool, List, Option, Result, Ok, true, false}
 use Rattle.mimic_args.specs.declared.Arguments.{Arguments}
 use Rattle.mimic_trial.specs.declared.trial.Trial.{Trial}
 use Rattle.mimic_trial.specs.declared.outcome.conclusion.Conclusion.{Conclusion}
 use Rattle.libtest_mimic.specs.Stopwatch.{Watched}
 use Rattle.libtest_mimic.specs.declared.running.RunError.{RunError}
-use Rattle.libtest_mimic.specs.Count.{counts_of}
-use Rattle.libtest_mimic.specs.List.{list_text}
 use Rattle.libtest_mimic.specs.Promise.{Gives}
-use Rattle.libtest_mimic.specs.Run.{OnOutOfMemory, OnWriteFault, ReportedInOrder, StartsReport}
-use Rattle.libtest_mimic.specs.Sink.{Put, Shown, Stopped}
-use Rattle.libtest_mimic.specs.Suite.{OfSuite, in_order}
+use Rattle.libtest_mimic.specs.Run.{Lists, Reports}
+use Rattle.libtest_mimic.specs.Sink.{Shown}
+use Rattle.libtest_mimic.specs.Suite.{OfSuite}
 use Rattle.mimic_main.specs.Output.{HandsOn}
 
 -- what a sink over such bytes shows that has counted no fault
@@ -18,27 +16,18 @@ abbrev pub faultless : Option (List ℕ) → Shown
 faultless bytes = record { bytes = bytes; faults = 0 }
 
 module _ {R : Type 0} (gives : Gives R) where
-  -- what a run left that answered, where `auto` says whether it has colours of its own accord: the list of the selected
-  -- trials and five zeros, or a report of them and its counts
-  pub record Answered (args : Arguments) (auto : Bool) (trials : List (Trial R)) (old new : Shown) (c : Conclusion) : Type 0 where
+  -- what a run left, where `auto` says whether it has colours of its own accord: the list of the selected trials where one is
+  -- asked, else their report, or what stands after either was refused
+  pub record Left (args : Arguments) (auto : Bool) (trials : List (Trial R)) (old new : Shown) (result : Result Conclusion RunError) : Type 0 where
     pub watch : Watched
-    pub listed : args.list ≡ true → (c ≡ counts_of [] 0) × OfSuite args auto trials (λ suite. Put old new (list_text suite.trials))
-    pub reported : args.list ≡ false → OfSuite args auto trials (λ suite. ReportedInOrder gives suite old new watch c)
-
-  -- what a run left that was refused: a beginning of the list, a start of a report, or nothing new
-  pub record Refused (args : Arguments) (auto : Bool) (trials : List (Trial R)) (old new : Shown) (e : RunError) : Type 0 where
-    pub watch : Watched
-    pub list_stopped : args.list ≡ true → OnWriteFault (Err e) (OfSuite args auto trials (λ suite. Stopped old new (list_text suite.trials)))
-    pub report_stopped : args.list ≡ false → OnWriteFault (Err e) (OfSuite args auto trials (λ suite. StartsReport gives suite (in_order suite) old new watch))
-    pub memory : OnOutOfMemory (Err e) (new ≡ old)
+    pub listed : args.list ≡ true → OfSuite args auto trials (λ suite. Lists suite old new result)
+    pub reported : args.list ≡ false → OfSuite args auto trials (λ suite. Reports gives 1 suite old new watch result)
 
   -- from old bytes to new ones a run answered so
   abbrev pub Ran : Arguments → Bool → List (Trial R) → Option (List ℕ) → Option (List ℕ) → Conclusion → Type 0
-  Ran args auto trials old new c = Answered args auto trials (faultless old) (faultless new) c
+  Ran args auto trials old new c = Left args auto trials (faultless old) (faultless new) (Ok c)
 
-  -- the writer got a beginning of what some run left in its sink
-  pub record GotBeginning (args : Arguments) (auto : Bool) (trials : List (Trial R)) (old got : Option (List ℕ)) : Type 0 where
-    pub left : Shown
-    pub answer : Result Conclusion RunError
-    pub ran : MatchResult answer (λ c. Answered args auto trials (faultless old) left c) (λ e. Refused args auto trials (faultless old) left e)
-    pub handed : HandsOn left.bytes got
+  -- the writer got a beginning of the bytes that were there, or of what some run left behind them in its sink
+  abbrev pub GotBeginning : Arguments → Bool → List (Trial R) → Option (List ℕ) → Option (List ℕ) → Type 0
+  GotBeginning args auto trials old got =
+      HandsOn old got ⊎ ((left : Shown) × (answer : Result Conclusion RunError) × Left args auto trials (faultless old) left answer × HandsOn left.bytes got)

@@ -79,7 +79,7 @@ line_of (part ∷ parts) h =
     let line = line_of parts h.1 in
     record { front = part ++ line.front; parts = ap (λ (t : List ℕ). part ++ t) line.parts ∙ sym (append_assoc part line.front (10 ∷ [])); whole = no_end-append part line.front h.0 line.whole }
 
-title_line : (n : ℕ) → n < 2 ^ 64 → IsLine (json_title n)
+pub title_line : (n : ℕ) → n < 2 ^ 64 → IsLine (json_title n)
 unfolding json_title
 title_line n h = line_of (title_front ∷ decimal n ∷ []) (by_test title_front refl, (decimal_no_end n h, tt))
 
@@ -135,7 +135,7 @@ pub each_append : (p q : List (List ℕ)) → AllByRecursion IsLine p → AllByR
 each_append [] q a b = b
 each_append (l ∷ p) q a b = (a.0, each_append p q a.1 b)
 
-rows_each : (es : List Entry) → AllByRecursion FitsEntry es → AllByRecursion IsLine (flat_map entry_lines es)
+pub rows_each : (es : List Entry) → AllByRecursion FitsEntry es → AllByRecursion IsLine (flat_map entry_lines es)
 rows_each [] h = tt
 rows_each (e ∷ es) h = (announcement_line e.name, (outcome_line e.name e.outcome h.0.outcome, rows_each es h.1))
 

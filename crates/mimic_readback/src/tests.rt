@@ -3,7 +3,7 @@ use crate::run_to_report;
 use libtest_mimic::{
     Arguments, Clock, Failed, FormatSetting, Measurement, Outcome, Sink, Stopwatch, Trial, run_here,
 };
-use mimic_events::{Report, read_report};
+use mimic_events::{Feed, Report, read_report};
 use std::alloc::{AllocError, Global};
 use std::process::Abort;
 use std::test::Fail;
@@ -180,7 +180,17 @@ fn altered(alloc: Global, report: &str, old: &str, new: &str) -> Result<String, 
     Ok(format!(in alloc; "{front}{new}{back}")?)
 }
 
-// The report of two trials as a run wrote it, and nothing that is written otherwise.
+// What a feed answers of these bytes, one by one.
+fn fed(alloc: Global, bytes: &[u8]) -> Result<Option<Report>, Fail> {
+    let mut feed = Feed::new(alloc)?;
+    for byte in bytes.chunks(1) {
+        feed.feed(byte)?;
+    }
+    let report = feed.finish()?;
+    Ok(report)
+}
+
+// The report of two trials as a run wrote it, and nothing that is written otherwise; also byte by byte.
 #[test]
 fn reads_two_trials_as_they_were_written(rt: HostRuntime) -> Result<(), Fail> {
     let alloc = rt.alloc();
@@ -198,6 +208,7 @@ fn reads_two_trials_as_they_were_written(rt: HostRuntime) -> Result<(), Fail> {
     assert_eq!(rt; report.rows[1].name.as_str(), "failing_test");
     let message = String::from_str(alloc, "Woops")?;
     assert!(rt; report.rows[1].outcome == Outcome::Failed(Failed::with_message(message)));
+    assert!(rt; fed(alloc, written.as_str().as_bytes())? == Some(report));
     for (old, new) in [
         (written.as_str(), ""),
         ("\"exec_time\": 0 }\n", "\"exec_time\": 0 }"),
@@ -213,10 +224,9 @@ fn reads_two_trials_as_they_were_written(rt: HostRuntime) -> Result<(), Fail> {
         ),
     ] {
         let text = altered(alloc, written.as_str(), old, new)?;
-        assert!(rt;
-            read_report(alloc, text.as_str().as_bytes())?.is_none(),
-            "{new} for {old}"
-        );
+        let bytes = text.as_str().as_bytes();
+        assert!(rt; read_report(alloc, bytes)?.is_none(), "{new} for {old}");
+        assert!(rt; fed(alloc, bytes)?.is_none(), "{new} for {old}");
     }
     Ok(())
 }

@@ -14,12 +14,12 @@ put_begins a b text line (Ok done) e p = record { front = text; rest = []; parts
 put_begins a b text line (Err fault) e p = subst (λ l. GetsBeginning a b l) e p.1
 
 -- a report that was read from the input is what the input holds
-pub read_holds : (input : Option (List ℕ)) (bytes now : List ℕ) (o : Option Report) (r : Report) → IfSome input (λ all. bytes ≡ all) → now ≡ bytes → Decodes Spells now (option_map contents_read o) → o ≡ Some r
+pub read_holds : (input : Option (List ℕ)) (bytes : List ℕ) (o : Option Report) (r : Report) → IfSome input (λ all. bytes ≡ all) → Decodes Spells bytes (option_map contents_read o) → o ≡ Some r
     → Holds input (contents_read r)
-read_holds None bytes now o r e f d g = tt
-read_holds (Some all) bytes now o r e f d g =
+read_holds None bytes o r e d g = tt
+read_holds (Some all) bytes o r e d g =
     let found = rw g at d in
-    subst (λ (l : List ℕ). IsJsonReport l (contents_read r)) (f ∙ e) found.0
+    subst (λ (l : List ℕ). IsJsonReport l (contents_read r)) e found.0
 
 -- its line that was put, whole or not, is what a report leaves
 pub put_leaves : {T : Type 0} (input a b : Option (List ℕ)) (contents : Contents) (text : List ℕ) (put : Result T Fault) → Holds input contents → text ≡ report_line contents → PutsText a b text put → Leaves input a b put

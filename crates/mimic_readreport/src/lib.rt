@@ -5,7 +5,7 @@ mod line;
 mod machine;
 mod program;
 
-pub use machine::run_program;
+pub use machine::{Ending, run_program};
 pub use program::readreport_run;
 
 #[cfg(test)]

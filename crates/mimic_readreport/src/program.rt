@@ -4,7 +4,7 @@ ghost use Rattle.mimic_readreport.specs.declared.program.Fault.TheVariants.{OutO
 ghost use Rattle.mimic_readreport.specs.Told.{Ended, IsOfInput, Leaves, PutsText, fault_line};
 
 use crate::line::line_of;
-use mimic_events::read_report;
+use mimic_events::Feed;
 use std::alloc::{AllocError, Global};
 use std::io::{ErrorKind, Read, Write};
 
@@ -12,6 +12,9 @@ use std::io::{ErrorKind, Read, Write};
 const SUCCESS: u8 = 0;
 
 const FAILURE: u8 = 1;
+
+// The most bytes that are read at once.
+const PIECE: usize = 4096;
 
 // Why a report is not told.
 #[derive(Clone, Copy, Debug)]
@@ -59,25 +62,33 @@ pub fn readreport_run<I: Read, O: Write, E: Write>(
 fn tell_report<I: Read, O: Write>(alloc: Global, input: &mut I, out: &mut O) -> Result<(), Fault>
     ensures { Leaves (I.remaining input.old) (O.contents out.old) (O.contents out.new) result }
 {
-    let bytes = read_all(alloc, input)?;
-    let Some(report) = read_report(alloc, bytes.as_slice())? else {
+    let feed = fed(alloc, input)?;
+    let Some(report) = feed.finish()? else {
         return Err(Fault::NoReport);
     };
     let line = line_of(alloc, &report)?;
     put_text(out, line.as_str())
 }
 
-// Reads to the end of the input.
-fn read_all<I: Read>(alloc: Global, input: &mut I) -> Result<Vec<u8>, Fault>
-    ensures read { IfOk result (λ bytes. IfSome (I.remaining input.old) (λ all. bytes.items ≡ all)) }
+// Feeds the input to its end, piece by piece. A read that was interrupted is tried again.
+fn fed<I: Read>(alloc: Global, input: &mut I) -> Result<Feed, Fault>
+    ensures read { IfOk result (λ feed. IfSome (I.remaining input.old) (λ all. feed.bytes ≡ all)) }
     ensures faults { IfErr result IsOfInput }
 {
-    let mut bytes = Vec::new(alloc);
-    match input.read_to_end(&mut bytes) {
-        Ok(_) => Ok(bytes),
-        Err(error) if error.kind() == ErrorKind::OutOfMemory => Err(Fault::OutOfMemory),
-        Err(_) => Err(Fault::Read),
+    let mut feed = Feed::new(alloc)?;
+    let mut piece = [0; PIECE];
+    for _ in 0..u64::MAX {
+        match input.read(&mut piece) {
+            Ok(0) => return Ok(feed),
+            Ok(count) => feed.feed(&piece[..count])?,
+            Err(error) => match error.kind() {
+                ErrorKind::Interrupted => {}
+                ErrorKind::OutOfMemory => return Err(Fault::OutOfMemory),
+                _ => return Err(Fault::Read),
+            },
+        }
     }
+    Err(Fault::Read)
 }
 
 // Writes the text whole and flushes it. What fails is not tried again.

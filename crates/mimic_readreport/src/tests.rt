@@ -37,15 +37,24 @@ fn mixed_report(alloc: Global) -> Result<String, Fail> {
     Ok(report)
 }
 
-// Bytes that come a few at a time; at their end, or after them, a fault.
+// Bytes that come a few at a time, each time after an interruption, to a reader that asks for 4,096 at most. At their
+// end, or after them, a fault.
 #[derive(Drop)]
 struct Input<'a> {
     left: &'a [u8],
     fault: Option<ErrorKind>,
+    interrupted: bool,
 }
 
 impl Read for Input<'_> {
     fn read(&mut self, buf: &mut [u8]) -> io::Result<usize> {
+        if buf.len() > 4096 {
+            return Err(io::Error::from(ErrorKind::InvalidInput));
+        }
+        self.interrupted = !self.interrupted;
+        if self.interrupted {
+            return Err(io::Error::from(ErrorKind::Interrupted));
+        }
         let count = buf.len().min(self.left.len()).min(7);
         if count == 0 && !buf.is_empty() {
             return match self.fault {
@@ -94,7 +103,11 @@ fn run_over(
     room: usize,
     flush_fails: bool,
 ) -> Result<(u8, String, String), Fail> {
-    let mut input = Input { left: bytes, fault };
+    let mut input = Input {
+        left: bytes,
+        fault,
+        interrupted: false,
+    };
     let mut out = Narrow {
         taken: Vec::new(alloc),
         room,

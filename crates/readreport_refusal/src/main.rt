@@ -1,9 +1,8 @@
 //! The program `readreport` once more, for a stored run that ends with another status: its input lacks its last line.
 #![tactic(auto)]
 
-use mimic_readreport::run_program;
-use std::process::ExitCode;
+use mimic_readreport::{Ending, run_program};
 
-fn main(rt: HostRuntime) -> ExitCode {
+fn main(rt: HostRuntime) -> Ending {
     run_program(&rt)
 }

@@ -1,6 +1,6 @@
 use Rattle.libtest_mimic.specs.Sink.{shown}
 use Rattle.mimic_main.specs.Output.{told_of}
-use Rattle.mimic_main.proofs.HandedOn.{GotBeginning-from, HasAnswer-settled, OnErr-from, Ran-settled, shown-new, shown-same}
+use Rattle.mimic_main.proofs.HandedOn.{GotBeginning-from, HasAnswer-settled, OnErr-from, Ran-settled, shown-new}
 use Rattle.mimic_main.proofs.run.run_into.Goals as goal
 
 pub returns-clause-ran : goal.returns-clause-ran
@@ -18,8 +18,7 @@ returns-clause-beginning g c =
     let handed = rw c.into_inner.ensures at c.finish-writer.ensures.beginning in
     let ran = c.run_here-ran.ensures in
     OnErr-from c.settled.result _ (GotBeginning-from g.R.Task.gives c.args.args.now c.args.auto_colours c.args.tests.items (bytes c.args.output) (shown bytes c.new-sink.result) (shown bytes c.run_here-ran.new.sink)
-    (g.W.Write.contents c.finish-writer.result.0) c.run_here-ran.new.watch c.run_here-ran.result first handed ran.listed ran.reported ran.list_stopped ran.report_stopped
-    (shown-same bytes c.new-sink.result c.run_here-ran.new.sink c.run_here-ran.result _ _ _ ran.memory))
+    (g.W.Write.contents c.finish-writer.result.0) c.run_here-ran.new.watch c.run_here-ran.result first handed ran.listed ran.reported)
 
 pub returns-clause-answer : goal.returns-clause-answer
 returns-clause-answer g c = HasAnswer-settled g.R.Task.gives c.args.args.now c.args.auto_colours c.args.tests.items _ c.settled.result c.settled.ensures.answered c.run_here-ran.ensures.answer

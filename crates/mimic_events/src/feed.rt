@@ -1,0 +1,97 @@
+//! Reports, whole and in pieces.
+ghost use Rattle.std.specs.Prelude.{◌≡◌, ◌++◌, [], true, false, IfOk, IsErr, MatchOption, OnErr, OnOk, map, option_map};
+ghost use Rattle.mimic_events.specs.Contents.{Spells, contents_read, entry_read};
+ghost use Rattle.mimic_events.specs.Feed.{AreEnded};
+ghost use Rattle.mimic_events.specs.Reading.{Decodes};
+
+use crate::reading::Reading;
+use crate::report::{Report, Row};
+use std::alloc::{AllocError, Global};
+use std::marker::Model;
+
+/// Reads a report whose bytes come in pieces, cut anywhere. Contracts see the bytes so far, and whether an allocation
+/// failed.
+///
+/// A feed keeps the rows that have ended and the line that has not; and all that follows a line that no report has
+/// there.
+#[derive(Drop)]
+pub struct Feed {
+    alloc: Global,
+    reading: Reading,
+    failed: bool,
+}
+
+impl Model for Feed {
+    ghost use Rattle.std.specs.Prelude.{◌≡◌, false};
+    ghost use Rattle.mimic_events.specs.Feed.{Fed};
+    ghost use Rattle.mimic_events.specs.Pieces.{IsSound, bytes_of};
+
+    ghost Value = { Fed };
+
+    ghost view = { λ f. record { bytes = bytes_of f.reading; failed = f.failed } };
+
+    ghost invariant = { λ f. f.failed ≡ false → IsSound f.reading };
+}
+
+impl Feed {
+    /// A feed that has no bytes yet.
+    pub fn new(alloc: Global) -> Result<Feed, AllocError>
+        ensures { IfOk result (λ feed. feed ≡ record { bytes = []; failed = false }) }
+    {
+        Ok(Feed {
+            alloc,
+            reading: Reading::new(alloc),
+            failed: false,
+        })
+    }
+
+    /// Takes the next piece. Where an allocation fails, this call and all later ones are refused.
+    pub fn feed(&mut self, piece: &[u8]) -> Result<(), AllocError>
+        ensures taken { OnOk result (self.new ≡ record { bytes = self.old.bytes ++ piece.now; failed = false }) }
+        ensures failed { OnErr result (self.new.failed ≡ true) }
+        ensures refused { self.old.failed ≡ true → IsErr result }
+    {
+        if self.failed {
+            return Err(AllocError);
+        }
+        // So it stays where the piece isn't read to its end.
+        self.failed = true;
+        self.reading.read_on(self.alloc, piece)?;
+        self.failed = false;
+        Ok(())
+    }
+
+    /// The rows that have ended so far, each by the line end of its outcome; `None` after a refused piece.
+    pub fn rows(&self) -> Option<&[Row]>
+        ensures { MatchOption result (self.now.failed ≡ true) (λ rows. (self.now.failed ≡ false) × AreEnded self.now.bytes (map entry_read rows.now)) }
+    {
+        if self.failed {
+            return None;
+        }
+        Some(self.reading.rows())
+    }
+
+    /// The report that all bytes are together: `None` where they are none, and `Err` after a refused piece.
+    pub fn finish(self) -> Result<Option<Report>, AllocError>
+        ensures report { IfOk result (λ found. Decodes Spells self.bytes (option_map contents_read found)) }
+        ensures refused { self.failed ≡ true → IsErr result }
+    {
+        if self.failed {
+            return Err(AllocError);
+        }
+        Ok(self.reading.into_report())
+    }
+}
+
+/// Reads a whole report: `None` where the bytes are no report in JSON.
+///
+/// A report has one text only. So a byte more or less, other spaces, other spellings of a text or a number,
+/// and totals that are not those of the rows are all no report.
+pub fn read_report(alloc: Global, bytes: &[u8]) -> Result<Option<Report>, AllocError>
+    // The bytes are the report of what was found and of nothing else; where nothing was found, they are no report.
+    ensures { IfOk result (λ found. Decodes Spells bytes.now (option_map contents_read found)) }
+{
+    let mut feed = Feed::new(alloc)?;
+    feed.feed(bytes)?;
+    feed.finish()
+}
