@@ -17,13 +17,15 @@ ghost use Rattle.libtest_mimic.specs.Trial.{AllCanRun};
 use asked::{Asked, Runners};
 use libtest_mimic::{ArgumentsError, Clock, Failed, Outcome, RunError, Task, Trial};
 use measured::Measured;
-use mimic_main::{MonotonicClock, Program, Status, StillClock};
+use mimic_main::{Machine, MonotonicClock, Program, Status, StillClock};
 use std::alloc::Global;
+use std::io::Eprint;
 use std::rt::{Stderr, Stdout};
 use std::time::Duration;
 
 const BENCH_SUITE: Program<'static> = Program {
     name: "bench_suite",
+    threads: 1,
     auto_colours: false,
     tells_causes: true,
 };
@@ -98,12 +100,13 @@ fn failure(alloc: Global) -> Failed {
 }
 
 // Tells why the words ask for nothing.
-fn refuse(rt: &HostRuntime, error: ArgumentsError) -> Status {
+fn refuse<M: Machine + 'static>(rt: &M, error: ArgumentsError) -> Status {
     let alloc = rt.alloc();
     let none: Vec<Trial<Unit>> = Vec::new(alloc);
     let out: Stdout = rt.stdout();
     let mut err: Stderr = rt.stderr();
     let (_, status) = BENCH_SUITE.harness_run(
+        rt,
         rt,
         alloc,
         Err(error),
@@ -116,7 +119,7 @@ fn refuse(rt: &HostRuntime, error: ArgumentsError) -> Status {
 }
 
 // Makes the tests and runs them, and tells what that took.
-fn measure(rt: &HostRuntime, asked: &Asked) -> Result<Status, RunError> {
+fn measure<M: Machine + Eprint + 'static>(rt: &M, asked: &Asked) -> Result<Status, RunError> {
     let alloc = rt.alloc();
     let mut clock = MonotonicClock::new(rt);
     let start = clock.now();
@@ -133,8 +136,8 @@ fn measure(rt: &HostRuntime, asked: &Asked) -> Result<Status, RunError> {
 }
 
 // Runs the tests, which it took so long to make, and tells what that took.
-fn run_tests<R: Task>(
-    rt: &HostRuntime,
+fn run_tests<M: Machine + Eprint + 'static, R: Task + Send + 'static>(
+    rt: &M,
     asked: &Asked,
     made: Duration,
     tests: Vec<Trial<R>>,
@@ -148,6 +151,7 @@ fn run_tests<R: Task>(
     let mut clock = MonotonicClock::new(rt);
     let start = clock.now();
     let (_, status) = BENCH_SUITE.harness_run(
+        rt,
         rt,
         alloc,
         Ok(args),
@@ -167,6 +171,6 @@ fn run_tests<R: Task>(
 }
 
 // The time since the clock read this.
-fn since(start: u64, mut clock: MonotonicClock<'_, HostRuntime>) -> Duration {
+fn since<K: std::rt::Clock>(start: u64, mut clock: MonotonicClock<'_, K>) -> Duration {
     Duration::from_nanos(clock.now().saturating_sub(start))
 }

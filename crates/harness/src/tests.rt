@@ -4,7 +4,8 @@ use crate::mixed_bag::{Answer, MIXED_BAG, benchmark_answer, mixed_bag_trials, te
 use libtest_mimic::{
     Arguments, ArgumentsError, Failed, Measurement, Sink, Stopwatch, Trial, run_here,
 };
-use mimic_main::StillClock;
+use mimic_main::{Machine, StillClock};
+use std::alloc::{AllocError, Global};
 use std::env::FillError;
 use std::io::Write;
 use std::rt::Env;
@@ -46,14 +47,14 @@ struct Left {
 }
 
 // Runs the trials in one thread, with these words on the command line.
-fn run_words(rt: &HostRuntime, asked: &[&str]) -> Result<Left, Fail> {
+fn run_words<M: Machine + 'static>(rt: &M, asked: &[&str]) -> Result<Left, Fail> {
     let mut words = vec![in rt.alloc(); "--test-threads", "1"]?;
     words.extend_from_slice(asked)?;
     run_only(rt, &words)
 }
 
 // Runs the trials with these words alone on the command line.
-fn run_only(rt: &HostRuntime, asked: &[&str]) -> Result<Left, Fail> {
+fn run_only<M: Machine + 'static>(rt: &M, asked: &[&str]) -> Result<Left, Fail> {
     let alloc = rt.alloc();
     let mut words = vec![in alloc; "harness"]?;
     words.extend_from_slice(asked)?;
@@ -61,7 +62,7 @@ fn run_only(rt: &HostRuntime, asked: &[&str]) -> Result<Left, Fail> {
     let out = Vec::new(alloc);
     let mut err: Vec<u8> = Vec::new(alloc);
     let line = Arguments::from_iter(alloc, words.as_slice());
-    let (out, status) = HARNESS.harness_run(rt, alloc, line, trials, out, &mut err, StillClock);
+    let (out, status) = HARNESS.harness_run(rt, rt, alloc, line, trials, out, &mut err, StillClock);
     Ok(Left {
         status: status.into_number(),
         out: String::from_utf8(out)?,
@@ -115,30 +116,58 @@ fn counts_as_asked(rt: HostRuntime) -> Result<(), Fail> {
         ),
     ];
     for (asked, counts) in rows {
-        let left = run_words(&rt, asked)?;
-        assert!(rt; left.out.as_str().contains(counts), "{asked:?}");
-        let has_failed = !counts.contains("0 failed");
-        assert_eq!(rt; left.status, if has_failed { 101 } else { 0 });
-        assert!(rt; left.err.is_empty());
+        for left in [run_words(&rt, asked)?, run_only(&rt, asked)?] {
+            assert!(rt; left.out.as_str().contains(counts), "{asked:?}");
+            let has_failed = !counts.contains("0 failed");
+            assert_eq!(rt; left.status, if has_failed { 101 } else { 0 });
+            assert!(rt; left.err.is_empty());
+        }
     }
     Ok(())
 }
 
-// `--test-threads` has no effect yet: the counts are the same without it, with 0 and with many.
-#[test]
-fn heeds_no_number_of_threads(rt: HostRuntime) -> Result<(), Fail> {
-    let rows: [&[&str]; 3] = [&[], &["--test-threads", "0"], &["--test-threads", "64"]];
-    for words in rows {
-        let left = run_only(&rt, words)?;
-        assert_eq!(rt; left.status, 101, "{words:?}");
-        assert!(rt;
-            left.out.as_str().contains(
-                " 4 passed; 5 failed; 8 ignored; 0 measured; 0 filtered out;"
-            ),
-            "{words:?}"
-        );
-        assert!(rt; left.err.is_empty(), "{words:?}");
+// The lines of a text in order. In each line its characters are in order too, since a terse report has all its rows in one.
+fn ordered_lines(alloc: Global, text: &str) -> Result<Vec<Vec<u8>>, AllocError> {
+    let mut lines = Vec::new(alloc);
+    for line in text.lines() {
+        let mut bytes = Vec::new(alloc);
+        bytes.extend_from_slice(line.as_bytes())?;
+        bytes.sort_unstable();
+        lines.push(bytes)?;
     }
+    lines.sort_unstable();
+    Ok(lines)
+}
+
+// Whether two reports are the same but for the order of their rows.
+fn are_reordered(alloc: Global, report: &str, other: &str) -> Result<bool, AllocError> {
+    Ok(report.len() == other.len() && ordered_lines(alloc, report)? == ordered_lines(alloc, other)?)
+}
+
+// Each number of threads gives the same rows in some order, and without one there is no run. Without the option there are
+// four.
+#[test]
+fn heeds_the_number_of_threads(rt: HostRuntime) -> Result<(), Fail> {
+    let alloc = rt.alloc();
+    let one = run_words(&rt, &[])?;
+    assert!(rt; are_reordered(alloc, run_only(&rt, &[])?.out.as_str(), one.out.as_str())?);
+    for threads in 1..=20 {
+        let number = format!(in alloc; "{threads}")?;
+        let left = run_only(&rt, &["--test-threads", number.as_str()])?;
+        assert_eq!(rt; left.status, 101, "{threads}");
+        assert!(rt; left.err.is_empty(), "{threads}");
+        assert!(rt;
+            are_reordered(alloc, left.out.as_str(), one.out.as_str())?,
+            "{threads}"
+        );
+    }
+    let none = run_only(&rt, &["--test-threads", "0"])?;
+    assert_eq!(rt; none.status, 1);
+    assert!(rt; none.out.is_empty());
+    assert_eq!(rt; none.err.as_str(), "harness: no threads to run trials\n");
+    let list = run_only(&rt, &["--test-threads", "0", "--list", "a"])?;
+    assert_eq!(rt; list.out.as_str(), LISTED);
+    assert_eq!(rt; list.status, 0);
     Ok(())
 }
 
@@ -221,6 +250,7 @@ struct Answered {
 // What the Rust crate's program of the same trials answered to a fixed choice of words, with times of nothing.
 #[test]
 fn answers_as_the_rust_crate(rt: HostRuntime) -> Result<(), Fail> {
+    let alloc = rt.alloc();
     let answers = [
         Answered {
             asked: &["--bench", "-q", "--color", "always", "--skip", "e"],
@@ -282,6 +312,13 @@ fn answers_as_the_rust_crate(rt: HostRuntime) -> Result<(), Fail> {
     for want in &answers {
         let left = run_words(&rt, want.asked)?;
         assert_eq!(rt; left.out.as_str(), want.out);
+        assert_eq!(rt; left.status, want.status);
+        let left = run_only(&rt, want.asked)?;
+        assert!(rt;
+            are_reordered(alloc, left.out.as_str(), want.out)?,
+            "{}",
+            left.out
+        );
         assert_eq!(rt; left.status, want.status);
     }
     Ok(())
@@ -370,6 +407,7 @@ fn tells_why_a_line_gave_nothing(rt: HostRuntime) -> Result<(), Fail> {
         let out = Vec::new(alloc);
         let mut err: Vec<u8> = Vec::new(alloc);
         let (out, answered) = HARNESS.harness_run(
+            &rt,
             &rt,
             alloc,
             Err(error),
@@ -465,7 +503,7 @@ fn refuses_words_that_are_no_text(rt: HostRuntime) -> Result<(), Fail> {
         let mut err: Vec<u8> = Vec::new(alloc);
         let line = Arguments::from_args(&(RawLine { words }, alloc), alloc);
         let (out, answered) = HARNESS.harness_run(
-            &rt, alloc, line, trials, out, &mut err, StillClock,
+            &rt, &rt, alloc, line, trials, out, &mut err, StillClock,
         );
         assert_eq!(rt; answered.into_number(), status);
         assert!(rt; out.as_slice() == on_out.as_bytes());
@@ -510,7 +548,7 @@ fn tells_of_a_full_output(rt: HostRuntime) -> Result<(), Fail> {
         let mut err: Vec<u8> = Vec::new(alloc);
         let line = Arguments::from_iter(alloc, &words);
         let (_, answered) = HARNESS.harness_run(
-            &rt, alloc, line, trials, out, &mut err, StillClock,
+            &rt, &rt, alloc, line, trials, out, &mut err, StillClock,
         );
         assert_eq!(rt; answered.into_number(), status);
         let text: &[u8] = if status == 1 {

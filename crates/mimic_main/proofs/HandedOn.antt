@@ -10,7 +10,7 @@ use Rattle.mimic_printer.specs.declared.sink.Sink.{Sink}
 use Rattle.libtest_mimic.specs.Stopwatch.{Watched}
 use Rattle.libtest_mimic.specs.declared.running.RunError.{RunError}
 use Rattle.libtest_mimic.specs.Promise.{Gives}
-use Rattle.libtest_mimic.specs.Run.{HasAnswer, Lists, Reports}
+use Rattle.libtest_mimic.specs.Run.{HasAnswer, Lists, Reports, threads_of}
 use Rattle.libtest_mimic.specs.Sink.{Put, Shown, faults_of, shown, writer_of}
 use Rattle.libtest_mimic.specs.Suite.{OfSuite}
 use Rattle.mimic_main.specs.Output.{HandsOn}
@@ -25,8 +25,8 @@ shown-new contents s w e f = ap₂ (λ x n. record { bytes = contents x; faults 
 Put-got : (old : Option (List ℕ)) (new : Shown) (got : Option (List ℕ)) (text : List ℕ) → Keeps new.bytes got → Put (faultless old) new text → Put (faultless old) (faultless got) text
 Put-got old new got text k p = record { appended = Appends-kept old new.bytes got text p.appended k; faults = refl }
 
-module _ {R : Type 0} (gives : Gives R) (args : Arguments) (auto : Bool) (trials : List (Trial R)) where
-  Ran-got : (old : Option (List ℕ)) (new : Shown) (got : Option (List ℕ)) (c : Conclusion) → Keeps new.bytes got → Left gives args auto trials (faultless old) new (Ok c) → Ran gives args auto trials old got c
+module _ {R : Type 0} (gives : Gives R) (default_threads : ℕ) (args : Arguments) (auto : Bool) (trials : List (Trial R)) where
+  Ran-got : (old : Option (List ℕ)) (new : Shown) (got : Option (List ℕ)) (c : Conclusion) → Keeps new.bytes got → Left gives default_threads args auto trials (faultless old) new (Ok c) → Ran gives default_threads args auto trials old got c
   Ran-got old new got c k a = record {
     watch = a.watch;
     listed = λ asked. let l = a.listed asked in (l.0, l.1, (l.2.0, Put-got old new got _ k l.2.1));
@@ -57,20 +57,20 @@ module _ {R : Type 0} (gives : Gives R) (args : Arguments) (auto : Bool) (trials
   -- what a run left behind these bytes, in a sink that had no fault
   left_behind : (old : Option (List ℕ)) (first new : Shown) (watch : Watched) (ran : Result Conclusion RunError) → first ≡ faultless old
       → (args.list ≡ true → OfSuite args auto trials (λ suite. Lists suite first new ran))
-      → (args.list ≡ false → OfSuite args auto trials (λ suite. Reports gives 1 suite first new watch ran))
-      → Left gives args auto trials (faultless old) new ran
+      → (args.list ≡ false → OfSuite args auto trials (λ suite. Reports gives (threads_of args default_threads) suite first new watch ran))
+      → Left gives default_threads args auto trials (faultless old) new ran
   left_behind old first new watch ran e listed reported =
-      subst (λ (s : Shown). Left gives args auto trials s new ran) e (record { watch = watch; listed = listed; reported = reported })
+      subst (λ (s : Shown). Left gives default_threads args auto trials s new ran) e (record { watch = watch; listed = listed; reported = reported })
 
   -- the answer `r`, which is Ok only where the run answered that and its last bytes were handed on
   pub Ran-settled : {T E : Type 0} (old : Option (List ℕ)) (first new : Shown) (got : Option (List ℕ)) (watch : Watched) (ran r : Result Conclusion RunError) (finished : Result T E)
       → first ≡ faultless old → OnOk finished (Keeps new.bytes got) → IfOk r (λ c. ran ≡ Ok c) → (IsOk r → IsOk finished)
       → (args.list ≡ true → OfSuite args auto trials (λ suite. Lists suite first new ran))
-      → (args.list ≡ false → OfSuite args auto trials (λ suite. Reports gives 1 suite first new watch ran))
-      → IfOk r (λ c. Ran gives args auto trials old got c)
+      → (args.list ≡ false → OfSuite args auto trials (λ suite. Reports gives (threads_of args default_threads) suite first new watch ran))
+      → IfOk r (λ c. Ran gives default_threads args auto trials old got c)
   Ran-settled old first new got watch ran (Ok c) finished e k a f listed reported =
       let left = left_behind old first new watch ran e listed reported in
-      Ran-got old new got c (OnOk-here finished _ (f refl) k) (subst (λ x. Left gives args auto trials (faultless old) new x) a left)
+      Ran-got old new got c (OnOk-here finished _ (f refl) k) (subst (λ x. Left gives default_threads args auto trials (faultless old) new x) a left)
   Ran-settled old first new got watch ran (Err x) finished e k a f listed reported = tt
 
   pub HasAnswer-settled : (ran r : Result Conclusion RunError) → IfOk r (λ c. ran ≡ Ok c) → HasAnswer gives args trials ran → IfOk r (λ c. HasAnswer gives args trials (Ok c))
@@ -80,12 +80,12 @@ module _ {R : Type 0} (gives : Gives R) (args : Arguments) (auto : Bool) (trials
   -- a run of which a beginning was handed on
   pub GotBeginning-from : (old : Option (List ℕ)) (first new : Shown) (got : Option (List ℕ)) (watch : Watched) (ran : Result Conclusion RunError) → first ≡ faultless old → HandsOn new.bytes got
       → (args.list ≡ true → OfSuite args auto trials (λ suite. Lists suite first new ran))
-      → (args.list ≡ false → OfSuite args auto trials (λ suite. Reports gives 1 suite first new watch ran))
-      → GotBeginning gives args auto trials old got
+      → (args.list ≡ false → OfSuite args auto trials (λ suite. Reports gives (threads_of args default_threads) suite first new watch ran))
+      → GotBeginning gives default_threads args auto trials old got
   GotBeginning-from old first new got watch ran e handed listed reported = inr (new, ran, left_behind old first new watch ran e listed reported, handed)
 
   -- a run that was refused before it began: its writer got a beginning of the bytes that were there
-  pub GotBeginning-nothing : (old told got reserved : Option (List ℕ)) → told ≡ old → reserved ≡ told → HandsOn reserved got → GotBeginning gives args auto trials old got
+  pub GotBeginning-nothing : (old told got reserved : Option (List ℕ)) → told ≡ old → reserved ≡ told → HandsOn reserved got → GotBeginning gives default_threads args auto trials old got
   GotBeginning-nothing old told got reserved e f handed = let P : Option (List ℕ) → Type 0 = λ bytes. HandsOn bytes got in inl (subst P (f ∙ e) handed)
 
 pub OnErr-from : {T E : Type 0} (r : Result T E) (P : Type 0) → P → OnErr r P

@@ -32,14 +32,14 @@ status_without (Refused text) = 2
 abbrev pub IsReadLine : Result Arguments ArgumentsError → Type 0
 IsReadLine line = IfOk line (λ args. (words : List (List ℕ)) × IsMeaningOf words args)
 
-module _ {R : Type 0} (gives : Gives R) where
+module _ {R : Type 0} (gives : Gives R) (default_threads : ℕ) where
   -- the status is that of an answer whose counts are lawful for these trials; without a logfile it is a run's, and the
   -- output got all of its bytes, or where the answer is a fault a beginning of some run's
   pub record RanLine (args : Arguments) (auto : Bool) (trials : List (Trial R)) (old got : Option (List ℕ)) (status : ℕ) : Type 0 where
     pub answer : Result Conclusion Fault
     pub ended : status ≡ status_of answer
-    pub ran : IsNone args.logfile → IfOk answer (Ran gives args auto trials old got)
-    pub beginning : IsNone args.logfile → OnErr answer (GotBeginning gives args auto trials old got)
+    pub ran : IsNone args.logfile → IfOk answer (Ran gives default_threads args auto trials old got)
+    pub beginning : IsNone args.logfile → OnErr answer (GotBeginning gives default_threads args auto trials old got)
     pub counts : IfOk answer (λ c. HasAnswer gives args trials (Ok c))
     pub adds_up : args.list ≡ false → IfOk answer (λ c. total_of c ≡ length trials)
 

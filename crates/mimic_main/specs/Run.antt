@@ -6,7 +6,7 @@ use Rattle.mimic_trial.specs.declared.outcome.conclusion.Conclusion.{Conclusion}
 use Rattle.libtest_mimic.specs.Stopwatch.{Watched}
 use Rattle.libtest_mimic.specs.declared.running.RunError.{RunError}
 use Rattle.libtest_mimic.specs.Promise.{Gives}
-use Rattle.libtest_mimic.specs.Run.{Lists, Reports}
+use Rattle.libtest_mimic.specs.Run.{Lists, Reports, threads_of}
 use Rattle.libtest_mimic.specs.Sink.{Shown}
 use Rattle.libtest_mimic.specs.Suite.{OfSuite}
 use Rattle.mimic_main.specs.Output.{HandsOn}
@@ -15,13 +15,13 @@ use Rattle.mimic_main.specs.Output.{HandsOn}
 abbrev pub faultless : Option (List ℕ) → Shown
 faultless bytes = record { bytes = bytes; faults = 0 }
 
-module _ {R : Type 0} (gives : Gives R) where
+module _ {R : Type 0} (gives : Gives R) (default_threads : ℕ) where
   -- what a run left, where `auto` says whether it has colours of its own accord: the list of the selected trials where one is
   -- asked, else their report, or what stands after either was refused
   pub record Left (args : Arguments) (auto : Bool) (trials : List (Trial R)) (old new : Shown) (result : Result Conclusion RunError) : Type 0 where
     pub watch : Watched
     pub listed : args.list ≡ true → OfSuite args auto trials (λ suite. Lists suite old new result)
-    pub reported : args.list ≡ false → OfSuite args auto trials (λ suite. Reports gives 1 suite old new watch result)
+    pub reported : args.list ≡ false → OfSuite args auto trials (λ suite. Reports gives (threads_of args default_threads) suite old new watch result)
 
   -- from old bytes to new ones a run answered so
   abbrev pub Ran : Arguments → Bool → List (Trial R) → Option (List ℕ) → Option (List ℕ) → Conclusion → Type 0

@@ -1,5 +1,5 @@
 //! A whole program on the machine.
-ghost use Rattle.std.specs.Prelude.{◌≡◌, Bool, IfOk, OnErr, true};
+ghost use Rattle.std.specs.Prelude.{◌≡◌, ◌≤◌, ℕ, Bool, IfOk, OnErr, true};
 ghost use Rattle.libtest_mimic.specs.Trial.{AllCanRun};
 ghost use Rattle.mimic_main.specs.Ended.{EndsByLine, EndsSo, number_of};
 
@@ -11,36 +11,74 @@ use libtest_mimic::{Arguments, RunError, Task, Trial};
 use std::fs::Files;
 use std::io::{IsTerminal, Write};
 use std::rt::{Clock, Env, Stderr, Stdout};
+use std::sync::Wait;
+use std::thread;
+use std::thread::Threads;
+
+/// The standard streams of a machine.
+pub trait Streams {
+    fn stdout(&self) -> Stdout;
+
+    fn stderr(&self) -> Stderr;
+}
+
+impl Streams for HostRuntime {
+    fn stdout(&self) -> Stdout {
+        HostRuntime::stdout(self)
+    }
+
+    fn stderr(&self) -> Stderr {
+        HostRuntime::stderr(self)
+    }
+}
+
+/// A machine that a program runs on, as `main` is handed one: its line and environment, its memory and files, its clock,
+/// its threads and its streams.
+pub trait Machine: Env
+    + AllocGlobal
+    + Files
+    + Clock
+    + Threads
+    + Wait
+    + Streams
+    + Copy
+    + Drop
+    + Send {}
+
+impl<M: Env + AllocGlobal + Files + Clock + Threads + Wait + Streams + Copy + Drop + Send> Machine
+    for M {}
 
 /// Runs or lists the trials as the program's command line asks, and returns what its `main` is to return.
 ///
-/// The report goes to standard output, in colours where that is a terminal and `NO_COLOR` unset or empty, or into the
-/// logfile. A fault is told on standard error with its cause. Trials that could not be made are told as well, and end
+/// As many threads as the machine can run at once run them, where the line does not say. The report goes to standard
+/// output, in colours where that is a terminal and `NO_COLOR` unset or empty, or into the logfile. A fault is told on standard error with its cause. Trials that could not be made are told as well, and end
 /// the program with status 1.
-pub fn run_program<R: Task>(
-    rt: &HostRuntime,
+pub fn run_program<M: Machine + 'static, R: Task + Send + 'static>(
+    rt: &M,
     name: &str,
     tests: Result<Vec<Trial<R>>, RunError>,
 ) -> Status
     requires { IfOk tests (λ made. AllCanRun R.can_run made.items) }
-    ensures made { IfOk tests (λ made. (auto : Bool) × EndsByLine R.gives auto made.items (number_of result)) }
+    ensures made { IfOk tests (λ made. (threads : ℕ) × (auto : Bool) × EndsByLine R.gives threads auto made.items (number_of result)) }
     ensures refused { OnErr tests (number_of result ≡ 1) }
 {
     let out: Stdout = rt.stdout();
     let mut err: Stderr = rt.stderr();
-    let (_, status) = run_program_on(rt, rt, rt, name, tests, out, &mut err);
+    let (_, status) = run_program_on(rt, rt, rt, rt, name, tests, out, &mut err);
     status
 }
 
 // Likewise on a machine whose parts are handed in.
 pub(crate) fn run_program_on<
+    T: Threads + Wait + Copy + Drop + Send + 'static,
     F: Files,
     V: Env + AllocGlobal,
     K: Clock,
-    R: Task,
+    R: Task + Send + 'static,
     O: Write + IsTerminal,
     E: Write,
 >(
+    rt: &T,
     files: &F,
     env: &V,
     readings: &K,
@@ -50,24 +88,36 @@ pub(crate) fn run_program_on<
     err: &mut E,
 ) -> (O, Status)
     requires { IfOk tests (λ made. AllCanRun R.can_run made.items) }
-    ensures made { IfOk tests (λ made. (auto : Bool) × EndsSo R.gives auto made.items (O.contents out) (O.contents result.0) (number_of result.1)) }
+    ensures made { IfOk tests (λ made. (threads : ℕ) × (auto : Bool) × EndsSo R.gives threads auto made.items (O.contents out) (O.contents result.0) (number_of result.1)) }
     ensures refused { OnErr tests ((number_of result.1 ≡ 1) × (result.0 ≡ out)) }
 {
-    let program = telling(name, shows_colours(env, &out));
+    let program = telling(name, threads_at_once(rt), shows_colours(env, &out));
     match tests {
-        Ok(tests) => program.run_on(files, env, readings, tests, out, err),
+        Ok(tests) => program.run_on(rt, files, env, readings, tests, out, err),
         Err(error) => (out, program.refuse(error, err)),
     }
 }
 
+// How many threads the machine can run at once, and 1 where it does not say.
+fn threads_at_once<T: Threads>(rt: &T) -> usize
+    ensures { 1 ≤ result }
+{
+    match thread::available_parallelism(rt) {
+        Ok(count) => count.get(),
+        Err(_) => 1,
+    }
+}
+
 // A program that tells a fault with its cause.
-fn telling(name: &str, auto_colours: bool) -> Program<'_>
+fn telling(name: &str, threads: usize, auto_colours: bool) -> Program<'_>
     ensures name { result.name.now ≡ name.now }
+    ensures threads { result.threads ≡ threads }
     ensures colours { result.auto_colours ≡ auto_colours }
     ensures causes { result.tells_causes ≡ true }
 {
     Program {
         name,
+        threads,
         auto_colours,
         tells_causes: true,
     }
@@ -76,19 +126,33 @@ fn telling(name: &str, auto_colours: bool) -> Program<'_>
 // Each stream is bound with its type, so that no other is taken for it.
 impl Program<'_> {
     /// Runs or lists the trials as the command line asks, on the standard streams, and returns what `main` is to return.
-    pub fn run<R: Task>(&self, rt: &HostRuntime, tests: Vec<Trial<R>>) -> Status
-        requires { AllCanRun R.can_run tests.items }
-        ensures { EndsByLine R.gives self.now.auto_colours tests.items (number_of result) }
+    pub fn run<M: Machine + 'static, R: Task + Send + 'static>(
+        &self,
+        rt: &M,
+        tests: Vec<Trial<R>>,
+    ) -> Status
+        requires runnable { AllCanRun R.can_run tests.items }
+        requires some_thread { 1 ≤ self.now.threads }
+        ensures { EndsByLine R.gives self.now.threads self.now.auto_colours tests.items (number_of result) }
     {
         let out: Stdout = rt.stdout();
         let mut err: Stderr = rt.stderr();
-        let (_, status) = self.run_on(rt, rt, rt, tests, out, &mut err);
+        let (_, status) = self.run_on(rt, rt, rt, rt, tests, out, &mut err);
         status
     }
 
     // Likewise on a machine whose parts are handed in.
-    fn run_on<F: Files, V: Env + AllocGlobal, K: Clock, R: Task, O: Write, E: Write>(
+    fn run_on<
+        T: Threads + Wait + Copy + Drop + Send + 'static,
+        F: Files,
+        V: Env + AllocGlobal,
+        K: Clock,
+        R: Task + Send + 'static,
+        O: Write,
+        E: Write,
+    >(
         &self,
+        rt: &T,
         files: &F,
         env: &V,
         readings: &K,
@@ -96,18 +160,19 @@ impl Program<'_> {
         out: O,
         err: &mut E,
     ) -> (O, Status)
-        requires { AllCanRun R.can_run tests.items }
-        ensures { EndsSo R.gives self.now.auto_colours tests.items (O.contents out) (O.contents result.0) (number_of result.1) }
+        requires runnable { AllCanRun R.can_run tests.items }
+        requires some_thread { 1 ≤ self.now.threads }
+        ensures { EndsSo R.gives self.now.threads self.now.auto_colours tests.items (O.contents out) (O.contents result.0) (number_of result.1) }
     {
         let alloc = env.alloc();
         let line = Arguments::from_args(env, alloc);
         let clock = MonotonicClock::new(readings);
-        self.harness_run(files, alloc, line, tests, out, err, clock)
+        self.harness_run(rt, files, alloc, line, tests, out, err, clock)
     }
 
     /// What `main` is to return where making the trials may be refused: what their run answered, or 1 after the refusal
     /// is told on standard error.
-    pub fn end(&self, rt: &HostRuntime, ended: Result<Status, RunError>) -> Status
+    pub fn end<M: Streams>(&self, rt: &M, ended: Result<Status, RunError>) -> Status
         ensures ran { IfOk ended (λ status. result ≡ status) }
         ensures refused { OnErr ended (number_of result ≡ 1) }
     {

@@ -1,5 +1,5 @@
 //! A program around a run, but for the machine that it runs on.
-ghost use Rattle.std.specs.Prelude.{◌≡◌, false, IfOk, IsNone, OnErr, vec_len};
+ghost use Rattle.std.specs.Prelude.{◌≡◌, ◌≤◌, false, IfOk, IsNone, OnErr, vec_len};
 ghost use Rattle.libtest_mimic.specs.Count.{total_of};
 ghost use Rattle.libtest_mimic.specs.Run.{HasAnswer};
 ghost use Rattle.libtest_mimic.specs.Trial.{AllCanRun};
@@ -14,6 +14,8 @@ use libtest_mimic::{Arguments, ArgumentsError, Clock, Conclusion, RunError, Task
 use std::alloc::Global;
 use std::fs::Files;
 use std::io::Write;
+use std::sync::Wait;
+use std::thread::Threads;
 use std::{fs, io};
 
 // Why no report, or only a part of one, was written.
@@ -28,6 +30,8 @@ pub(crate) enum Fault {
 pub struct Program<'a> {
     /// Its name, which stands before what it tells of a fault.
     pub name: &'a str,
+    /// How many threads run the trials where the line leaves it open, at least 1.
+    pub threads: usize,
     /// Whether a report has colours where the line leaves it open and no logfile is set.
     pub auto_colours: bool,
     /// Whether a fault is told with its cause: the path of the logfile, and what the system said.
@@ -41,8 +45,16 @@ impl Program<'_> {
     ///
     /// The report or list goes into the logfile, which is made or emptied first; without one it goes to `out`. Help
     /// goes to `out`, and what is refused to `err`; a fault in writing either changes no status.
-    pub fn harness_run<F: Files, R: Task, O: Write, E: Write, C: Clock + Drop>(
+    pub fn harness_run<
+        T: Threads + Wait + Copy + Drop + Send + 'static,
+        F: Files,
+        R: Task + Send + 'static,
+        O: Write,
+        E: Write,
+        C: Clock + Drop,
+    >(
         &self,
+        rt: &T,
         files: &F,
         alloc: Global,
         line: Result<Arguments, ArgumentsError>,
@@ -51,18 +63,21 @@ impl Program<'_> {
         err: &mut E,
         clock: C,
     ) -> (O, Status)
-        requires { AllCanRun R.can_run tests.items }
-        ensures { Ended R.gives self.now.auto_colours line tests.items (O.contents out) (O.contents result.0) (number_of result.1) }
+        requires runnable { AllCanRun R.can_run tests.items }
+        requires some_thread { 1 ≤ self.now.threads }
+        ensures { Ended R.gives self.now.threads self.now.auto_colours line tests.items (O.contents out) (O.contents result.0) (number_of result.1) }
     {
         match line {
             Ok(args) => {
                 let (writer, ran) = run_line(
+                    rt,
                     files,
                     alloc,
                     &args,
                     tests,
                     out,
                     clock,
+                    self.threads,
                     self.auto_colours,
                 );
                 (writer, self.status_of(ran, args.logfile.as_ref(), err))
@@ -144,19 +159,28 @@ impl Program<'_> {
 }
 
 // Runs into the logfile where there is one, else to `out`, which is given back.
-fn run_line<F: Files, R: Task, O: Write, C: Clock + Drop>(
+fn run_line<
+    T: Threads + Wait + Copy + Drop + Send + 'static,
+    F: Files,
+    R: Task + Send + 'static,
+    O: Write,
+    C: Clock + Drop,
+>(
+    rt: &T,
     files: &F,
     alloc: Global,
     args: &Arguments,
     tests: Vec<Trial<R>>,
     out: O,
     clock: C,
+    default_threads: usize,
     auto_colours: bool,
 ) -> (O, Result<Conclusion, Fault>)
-    requires { AllCanRun R.can_run tests.items }
-    ensures ran { IsNone args.now.logfile → IfOk result.1 (λ c. Ran R.gives args.now auto_colours tests.items
+    requires runnable { AllCanRun R.can_run tests.items }
+    requires some_thread { 1 ≤ default_threads }
+    ensures ran { IsNone args.now.logfile → IfOk result.1 (λ c. Ran R.gives default_threads args.now auto_colours tests.items
         (O.contents out) (O.contents result.0) c) }
-    ensures beginning { IsNone args.now.logfile → OnErr result.1 (GotBeginning R.gives args.now auto_colours tests.items
+    ensures beginning { IsNone args.now.logfile → OnErr result.1 (GotBeginning R.gives default_threads args.now auto_colours tests.items
         (O.contents out) (O.contents result.0)) }
     ensures answer { IfOk result.1 (λ c. HasAnswer R.gives args.now tests.items (Ok c)) }
     ensures adds_up { args.now.list ≡ false → IfOk result.1 (λ c. total_of c ≡ vec_len tests) }
@@ -164,54 +188,91 @@ fn run_line<F: Files, R: Task, O: Write, C: Clock + Drop>(
     match &args.logfile {
         Some(path) => {
             let ran = run_into_logfile(
+                rt,
                 files,
                 alloc,
                 args,
                 tests,
                 path.as_str(),
                 clock,
+                default_threads,
                 auto_colours,
             );
             (out, ran)
         }
         None => {
-            let (writer, ran) = run_buffered(alloc, args, tests, out, clock, auto_colours);
+            let (writer, ran) = run_buffered(
+                rt,
+                alloc,
+                args,
+                tests,
+                out,
+                clock,
+                default_threads,
+                auto_colours,
+            );
             (writer, ran.map_err(Fault::Run))
         }
     }
 }
 
 // Runs into the logfile, which is made or emptied first.
-fn run_into_logfile<F: Files, R: Task, C: Clock + Drop>(
+fn run_into_logfile<
+    T: Threads + Wait + Copy + Drop + Send + 'static,
+    F: Files,
+    R: Task + Send + 'static,
+    C: Clock + Drop,
+>(
+    rt: &T,
     files: &F,
     alloc: Global,
     args: &Arguments,
     tests: Vec<Trial<R>>,
     path: &str,
     clock: C,
+    default_threads: usize,
     auto_colours: bool,
 ) -> Result<Conclusion, Fault>
-    requires { AllCanRun R.can_run tests.items }
+    requires runnable { AllCanRun R.can_run tests.items }
+    requires some_thread { 1 ≤ default_threads }
     ensures answer { IfOk result (λ c. HasAnswer R.gives args.now tests.items (Ok c)) }
     ensures adds_up { args.now.list ≡ false → IfOk result (λ c. total_of c ≡ vec_len tests) }
 {
     let file = fs::create(files, path).map_err(Fault::Logfile)?;
-    let conclusion = run_buffered(alloc, args, tests, file, clock, auto_colours).1?;
+    let conclusion = run_buffered(
+        rt,
+        alloc,
+        args,
+        tests,
+        file,
+        clock,
+        default_threads,
+        auto_colours,
+    )
+    .1?;
     Ok(conclusion)
 }
 
 // Runs into the writer through a buffer, and gives the writer back.
-fn run_buffered<R: Task, W: Write, C: Clock + Drop>(
+fn run_buffered<
+    T: Threads + Wait + Copy + Drop + Send + 'static,
+    R: Task + Send + 'static,
+    W: Write,
+    C: Clock + Drop,
+>(
+    rt: &T,
     alloc: Global,
     args: &Arguments,
     tests: Vec<Trial<R>>,
     writer: W,
     clock: C,
+    default_threads: usize,
     auto_colours: bool,
 ) -> (W, Result<Conclusion, RunError>)
-    requires { AllCanRun R.can_run tests.items }
-    ensures ran { IfOk result.1 (λ c. Ran R.gives args.now auto_colours tests.items (W.contents writer) (W.contents result.0) c) }
-    ensures beginning { OnErr result.1 (GotBeginning R.gives args.now auto_colours tests.items (W.contents writer) (W.contents result.0)) }
+    requires runnable { AllCanRun R.can_run tests.items }
+    requires some_thread { 1 ≤ default_threads }
+    ensures ran { IfOk result.1 (λ c. Ran R.gives default_threads args.now auto_colours tests.items (W.contents writer) (W.contents result.0) c) }
+    ensures beginning { OnErr result.1 (GotBeginning R.gives default_threads args.now auto_colours tests.items (W.contents writer) (W.contents result.0)) }
     ensures answer { IfOk result.1 (λ c. HasAnswer R.gives args.now tests.items (Ok c)) }
     ensures adds_up { args.now.list ≡ false → IfOk result.1 (λ c. total_of c ≡ vec_len tests) }
 {
@@ -219,7 +280,16 @@ fn run_buffered<R: Task, W: Write, C: Clock + Drop>(
     if output.reserve().is_err() {
         return (output.finish().0, Err(RunError::OutOfMemory));
     }
-    run_into(alloc, args, tests, output, clock, auto_colours)
+    run_into(
+        rt,
+        alloc,
+        args,
+        tests,
+        output,
+        clock,
+        default_threads,
+        auto_colours,
+    )
 }
 
 impl From<RunError> for Fault {

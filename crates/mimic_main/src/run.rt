@@ -1,5 +1,5 @@
 //! A run into a buffered writer.
-ghost use Rattle.std.specs.Prelude.{◌≡◌, false, IfOk, IsOk, OnErr, vec_len};
+ghost use Rattle.std.specs.Prelude.{◌≡◌, ◌≤◌, false, IfOk, IsOk, OnErr, vec_len};
 ghost use Rattle.libtest_mimic.specs.Count.{total_of};
 ghost use Rattle.libtest_mimic.specs.Run.{HasAnswer};
 ghost use Rattle.libtest_mimic.specs.Trial.{AllCanRun};
@@ -8,35 +8,54 @@ ghost use Rattle.mimic_main.specs.Run.{GotBeginning, Ran};
 
 use crate::buffer::Output;
 use libtest_mimic::{
-    Arguments, Clock, Conclusion, RunError, Sink, Stopwatch, Task, Trial, WriteFault, run_here,
+    Arguments, Clock, Conclusion, RunError, Sink, Stopwatch, Task, Trial, WriteFault, run,
 };
 use std::alloc::Global;
 use std::io;
 use std::io::Write;
+use std::sync::Wait;
+use std::thread::Threads;
 
 /// Runs or lists the trials as the arguments ask, hands on what the buffer holds at the end, and gives the writer back.
 ///
-/// A fault in handing on the last bytes is a fault of the run. `auto_colours` says whether the report has colours where
-/// the arguments leave it open.
-pub fn run_into<R: Task, W: Write, C: Clock + Drop>(
+/// A fault in handing on the last bytes is a fault of the run. `default_threads` is how many threads run the trials, and
+/// `auto_colours` whether the report has colours, where the arguments leave it open.
+pub fn run_into<
+    R: Task + Send + 'static,
+    W: Write,
+    C: Clock + Drop,
+    T: Threads + Wait + Copy + Drop + Send + 'static,
+>(
+    rt: &T,
     alloc: Global,
     args: &Arguments,
     tests: Vec<Trial<R>>,
     output: Output<W>,
     clock: C,
+    default_threads: usize,
     auto_colours: bool,
 ) -> (W, Result<Conclusion, RunError>)
     requires runnable { AllCanRun R.can_run tests.items }
-    ensures ran { IfOk result.1 (λ c. Ran R.gives args.now auto_colours tests.items
+    requires some_thread { 1 ≤ default_threads }
+    ensures ran { IfOk result.1 (λ c. Ran R.gives default_threads args.now auto_colours tests.items
         (told_of W.contents output) (W.contents result.0) c) }
-    ensures beginning { OnErr result.1 (GotBeginning R.gives args.now auto_colours tests.items
+    ensures beginning { OnErr result.1 (GotBeginning R.gives default_threads args.now auto_colours tests.items
         (told_of W.contents output) (W.contents result.0)) }
     ensures answer { IfOk result.1 (λ c. HasAnswer R.gives args.now tests.items (Ok c)) }
     ensures adds_up { args.now.list ≡ false → IfOk result.1 (λ c. total_of c ≡ vec_len tests) }
 {
     let mut sink = Sink::new(output);
     let mut watch = Stopwatch::new(clock);
-    let ran = run_here(alloc, args, tests, &mut sink, &mut watch, auto_colours);
+    let ran = run(
+        rt,
+        alloc,
+        args,
+        tests,
+        &mut sink,
+        &mut watch,
+        default_threads,
+        auto_colours,
+    );
     let (writer, finished) = sink.into_inner().finish();
     (writer, settled(ran, finished))
 }

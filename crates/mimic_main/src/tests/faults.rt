@@ -6,9 +6,10 @@ use libtest_mimic::{
 use std::alloc::Global;
 use std::io;
 use std::io::{ErrorKind, Write};
-use std::sync::Arc;
 use std::sync::atomic::{AtomicBool, AtomicU64, Ordering};
+use std::sync::{Arc, Wait};
 use std::test::Fail;
+use std::thread::Threads;
 
 // What a failing call answers.
 #[derive(Clone, Copy, PartialEq, Eq)]
@@ -116,8 +117,9 @@ struct Left {
     runs_after: u64,
 }
 
-// Runs a test that passes, one that fails with a message of two lines, and one of a long name.
-fn run_three(
+// Runs a test that passes, one that fails with a message of two lines, and one of a long name, in one thread.
+fn run_three<T: Threads + Wait + Copy + Drop + Send + 'static>(
+    rt: &T,
     alloc: Global,
     args: &Arguments,
     policy: FlushPolicy,
@@ -145,7 +147,7 @@ fn run_three(
     }
     let writer = failing_at(alloc, call, fault, has_failed.clone()?);
     let output = Output::new(alloc, policy, writer);
-    let (writer, ran) = run_into(alloc, args, tests, output, StillClock, false);
+    let (writer, ran) = run_into(rt, alloc, args, tests, output, StillClock, 1, false);
     assert_memory(&ran)?;
     Ok(Left {
         is_ok: ran.is_ok(),
@@ -176,15 +178,16 @@ impl Left {
 }
 
 // Where the writer's call of each number fails, the first such run that isn't right, and how many calls a whole run makes.
-fn first_wrong_call(
+fn first_wrong_call<T: Threads + Wait + Copy + Drop + Send + 'static>(
+    rt: &T,
     alloc: Global,
     args: &Arguments,
     policy: FlushPolicy,
     fault: Fault,
 ) -> Result<(Option<u64>, u64), Fail> {
-    let whole = run_three(alloc, args, policy, u64::MAX, fault)?;
+    let whole = run_three(rt, alloc, args, policy, u64::MAX, fault)?;
     for call in 1..100 {
-        let left = run_three(alloc, args, policy, call, fault)?;
+        let left = run_three(rt, alloc, args, policy, call, fault)?;
         if !left.is_right(&whole) {
             return Ok((Some(call), call));
         }
@@ -209,7 +212,7 @@ fn stops_at_each_call(rt: HostRuntime) -> Result<(), Fail> {
             args.list = list;
             for policy in [FlushPolicy::of_format(format), FlushPolicy::WhenFull] {
                 for fault in FAULTS {
-                    let (wrong, calls) = first_wrong_call(rt.alloc(), &args, policy, fault)?;
+                    let (wrong, calls) = first_wrong_call(&rt, rt.alloc(), &args, policy, fault)?;
                     assert!(rt; wrong.is_none(), "{format:?} {policy:?} {wrong:?}");
                     assert!(rt; calls > 0);
                 }

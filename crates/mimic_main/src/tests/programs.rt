@@ -3,7 +3,7 @@ ghost use Rattle.std.specs.Io.{WritesAtMost};
 
 use super::clocks::clock_of;
 use crate::machine::run_program_on;
-use crate::{Program, StillClock};
+use crate::{Machine, Program, StillClock};
 use libtest_mimic::{
     Arguments, ArgumentsError, Failed, FormatSetting, Outcome, RunError, Task, Trial,
 };
@@ -16,12 +16,14 @@ use std::{fs, io};
 
 const PLAIN: Program<'static> = Program {
     name: "plain",
+    threads: 4,
     auto_colours: false,
     tells_causes: false,
 };
 
 const TELLING: Program<'static> = Program {
     name: "telling",
+    threads: 4,
     auto_colours: true,
     tells_causes: true,
 };
@@ -64,8 +66,8 @@ struct Left {
     err: String,
 }
 
-fn run_one<O: Write + Drop>(
-    rt: &HostRuntime,
+fn run_one<M: Machine + 'static, O: Write + Drop>(
+    rt: &M,
     program: &Program<'_>,
     line: Result<Arguments, ArgumentsError>,
     out: O,
@@ -73,7 +75,7 @@ fn run_one<O: Write + Drop>(
     let alloc = rt.alloc();
     let tests = vec![in alloc; Trial::new(String::from_str(alloc, "a")?, Pass)]?;
     let mut err: Vec<u8> = Vec::new(alloc);
-    let (_, status) = program.harness_run(rt, alloc, line, tests, out, &mut err, StillClock);
+    let (_, status) = program.harness_run(rt, rt, alloc, line, tests, out, &mut err, StillClock);
     Ok(Left {
         status: status.into_number(),
         err: String::from_utf8(err)?,
@@ -107,7 +109,16 @@ fn writes_help(rt: HostRuntime) -> Result<(), Fail> {
     let tests: Vec<Trial<Pass>> = Vec::new(alloc);
     let out: Vec<u8> = Vec::new(alloc);
     let mut err: Vec<u8> = Vec::new(alloc);
-    let (out, status) = PLAIN.harness_run(&rt, alloc, Err(help), tests, out, &mut err, StillClock);
+    let (out, status) = PLAIN.harness_run(
+        &rt,
+        &rt,
+        alloc,
+        Err(help),
+        tests,
+        out,
+        &mut err,
+        StillClock,
+    );
     assert_eq!(rt; status.into_number(), 0);
     assert!(rt; out.as_slice() == b"help\n".as_slice());
     assert!(rt; err.is_empty());
@@ -131,7 +142,7 @@ impl Task for Looks {
     }
 }
 
-// What is out when a test runs, to somebody who looks on and in a logfile.
+// What is out when a test runs in one thread, to somebody who looks on and in a logfile.
 #[test]
 fn shows_what_is_running(rt: HostRuntime) -> Result<(), Fail> {
     let alloc = rt.alloc();
@@ -156,6 +167,7 @@ fn shows_what_is_running(rt: HostRuntime) -> Result<(), Fail> {
     for (format, is_logged, expected) in rows {
         let mut args = Arguments::new(alloc);
         args.format = Some(format);
+        args.test_threads = Some(1);
         if is_logged {
             args.logfile = Some(String::from_str(alloc, path)?);
         }
@@ -163,8 +175,79 @@ fn shows_what_is_running(rt: HostRuntime) -> Result<(), Fail> {
         let looks = Looks { rt, path, expected };
         let tests = vec![in alloc; Trial::new(String::from_str(alloc, "a")?, looks)]?;
         let mut err: Vec<u8> = Vec::new(alloc);
-        let (_, status) = PLAIN.harness_run(&rt, alloc, Ok(args), tests, out, &mut err, StillClock);
+        let (_, status) = PLAIN.harness_run(
+            &rt,
+            &rt,
+            alloc,
+            Ok(args),
+            tests,
+            out,
+            &mut err,
+            StillClock,
+        );
         assert_eq!(rt; status.into_number(), 0, "{format:?} {is_logged}");
+    }
+    fs::remove_file(&rt, path)?;
+    Ok(())
+}
+
+// A test that passes once the file at the path holds the awaited text, or at once where none is awaited.
+#[derive(Drop)]
+struct Awaits {
+    rt: HostRuntime,
+    path: &'static str,
+    awaited: Option<&'static str>,
+}
+
+impl Task for Awaits {
+    fn run(self, _test_mode: bool) -> Outcome {
+        let Some(text) = self.awaited else {
+            return Outcome::Passed;
+        };
+        for _ in 0..1_000_000 {
+            if let Ok(bytes) = fs::read(&self.rt, self.path)
+                && let Ok(report) = String::from_utf8(bytes)
+                && report.as_str().contains(text)
+            {
+                return Outcome::Passed;
+            }
+        }
+        Outcome::Failed(Failed::without_message())
+    }
+}
+
+// The row of a trial is out when it has ended, while another one still runs.
+#[test]
+fn shows_what_has_ended(rt: HostRuntime) -> Result<(), Fail> {
+    let alloc = rt.alloc();
+    let path = "/tmp/mimic_main_shows_what_has_ended";
+    for (format, row) in [
+        (FormatSetting::Pretty, "test a ... ok\n"),
+        (FormatSetting::Terse, "\nrunning 2 tests\n."),
+        (
+            FormatSetting::Json,
+            "\"name\": \"a\", \"event\": \"ok\" }\n",
+        ),
+    ] {
+        let mut args = Arguments::new(alloc);
+        args.format = Some(format);
+        let mut tests = Vec::new(alloc);
+        for (name, awaited) in [("a", None), ("b", Some(row))] {
+            tests.push(Trial::new(String::from_str(alloc, name)?, Awaits { rt, path, awaited }))?;
+        }
+        let out = fs::create(&rt, path)?;
+        let mut err: Vec<u8> = Vec::new(alloc);
+        let (_, status) = PLAIN.harness_run(
+            &rt,
+            &rt,
+            alloc,
+            Ok(args),
+            tests,
+            out,
+            &mut err,
+            StillClock,
+        );
+        assert_eq!(rt; status.into_number(), 0, "{format:?}");
     }
     fs::remove_file(&rt, path)?;
     Ok(())
@@ -232,7 +315,9 @@ fn colours_as_the_program_says(rt: HostRuntime) -> Result<(), Fail> {
         let line = Ok(Arguments::new(alloc));
         let out: Vec<u8> = Vec::new(alloc);
         let mut err: Vec<u8> = Vec::new(alloc);
-        let (out, status) = program.harness_run(&rt, alloc, line, tests, out, &mut err, StillClock);
+        let (out, status) = program.harness_run(
+            &rt, &rt, alloc, line, tests, out, &mut err, StillClock,
+        );
         assert_eq!(rt; status.into_number(), 0);
         assert_eq!(rt;
             String::from_utf8(out)?.as_str().contains("\u{1b}[32mok"),
@@ -329,6 +414,7 @@ fn heeds_its_machine(rt: HostRuntime) -> Result<(), Fail> {
         };
         let mut err: Vec<u8> = Vec::new(alloc);
         let (screen, status) = run_program_on(
+            &rt,
             &rt,
             &env,
             &clock,

@@ -8,17 +8,17 @@ returns-clause-ran g c =
     let bytes = told_of g.W.Write.contents in
     let first = shown-new bytes c.new-sink.result c.args.output c.new-sink.ensures.writer c.new-sink.ensures.faults in
     let handed = rw c.into_inner.ensures at c.finish-writer.ensures.whole in
-    Ran-settled g.R.Task.gives c.args.args.now c.args.auto_colours c.args.tests.items (bytes c.args.output) (shown bytes c.new-sink.result) (shown bytes c.run_here-ran.new.sink) (g.W.Write.contents c.finish-writer.result.0) c.run_here-ran.new.watch
-    c.run_here-ran.result c.settled.result c.finish-writer.result.1 first handed c.settled.ensures.answered c.settled.ensures.finished c.run_here-ran.ensures.listed c.run_here-ran.ensures.reported
+    Ran-settled g.R.Task.gives c.args.default_threads c.args.args.now c.args.auto_colours c.args.tests.items (bytes c.args.output) (shown bytes c.new-sink.result) (shown bytes c.run-ran.new.sink) (g.W.Write.contents c.finish-writer.result.0) c.run-ran.new.watch
+    c.run-ran.result c.settled.result c.finish-writer.result.1 first handed c.settled.ensures.answered c.settled.ensures.finished c.run-ran.ensures.listed c.run-ran.ensures.reported
 
 pub returns-clause-beginning : goal.returns-clause-beginning
 returns-clause-beginning g c =
     let bytes = told_of g.W.Write.contents in
     let first = shown-new bytes c.new-sink.result c.args.output c.new-sink.ensures.writer c.new-sink.ensures.faults in
     let handed = rw c.into_inner.ensures at c.finish-writer.ensures.beginning in
-    let ran = c.run_here-ran.ensures in
-    OnErr-from c.settled.result _ (GotBeginning-from g.R.Task.gives c.args.args.now c.args.auto_colours c.args.tests.items (bytes c.args.output) (shown bytes c.new-sink.result) (shown bytes c.run_here-ran.new.sink)
-    (g.W.Write.contents c.finish-writer.result.0) c.run_here-ran.new.watch c.run_here-ran.result first handed ran.listed ran.reported)
+    let ran = c.run-ran.ensures in
+    OnErr-from c.settled.result _ (GotBeginning-from g.R.Task.gives c.args.default_threads c.args.args.now c.args.auto_colours c.args.tests.items (bytes c.args.output) (shown bytes c.new-sink.result) (shown bytes c.run-ran.new.sink)
+    (g.W.Write.contents c.finish-writer.result.0) c.run-ran.new.watch c.run-ran.result first handed ran.listed ran.reported)
 
 pub returns-clause-answer : goal.returns-clause-answer
-returns-clause-answer g c = HasAnswer-settled g.R.Task.gives c.args.args.now c.args.auto_colours c.args.tests.items _ c.settled.result c.settled.ensures.answered c.run_here-ran.ensures.answer
+returns-clause-answer g c = HasAnswer-settled g.R.Task.gives c.args.default_threads c.args.args.now c.args.auto_colours c.args.tests.items _ c.settled.result c.settled.ensures.answered c.run-ran.ensures.answer
