@@ -34,7 +34,7 @@ impl Model for Feed {
 }
 
 impl Feed {
-    /// A feed that has no bytes yet.
+    /// A feed that has no bytes yet. It takes no memory so far; the `Result` leaves room for that.
     pub fn new(alloc: Global) -> Result<Feed, AllocError>
         ensures { IfOk result (λ feed. feed ≡ record { bytes = []; failed = false }) }
     {
