@@ -13,8 +13,8 @@ use mimic_trial::{Outcome, TestInfo};
 use std::io::Write;
 use std::sync::Wait;
 
-// Writes the rows of first arrivals as they come, until all workers have ended. What waits is flushed before this waits,
-// so that a row is seen when its trial has ended.
+// Writes the rows of first arrivals as they come, until all workers have ended. What was written is flushed before this
+// waits, so that the title is seen while the first trials run, and a row when its trial has ended.
 pub(super) fn write_arrivals<W: Write, T: Wait>(
     rt: &T,
     printer: &Printer,
@@ -29,6 +29,7 @@ pub(super) fn write_arrivals<W: Write, T: Wait>(
     ensures told { (base : Shown) → Put base (shown W.contents sink.old) (told_text printer.now infos.now desk.old)
         → Writes base (shown W.contents sink.new) (told_text printer.now infos.now desk.new) result }
 {
+    sink.flush()?;
     for (place, outcome) in arrivals.iter(rt) {
         write_arrival(printer, infos, desk, place, outcome, sink)?;
         if arrivals.is_empty() {

@@ -191,23 +191,20 @@ fn shows_what_is_running(rt: HostRuntime) -> Result<(), Fail> {
     Ok(())
 }
 
-// A test that passes once the file at the path holds the awaited text, or at once where none is awaited.
+// A test that passes once the file at the path holds the awaited text.
 #[derive(Drop)]
 struct Awaits {
     rt: HostRuntime,
     path: &'static str,
-    awaited: Option<&'static str>,
+    awaited: &'static str,
 }
 
 impl Task for Awaits {
     fn run(self, _test_mode: bool) -> Outcome {
-        let Some(text) = self.awaited else {
-            return Outcome::Passed;
-        };
         for _ in 0..1_000_000 {
             if let Ok(bytes) = fs::read(&self.rt, self.path)
                 && let Ok(report) = String::from_utf8(bytes)
-                && report.as_str().contains(text)
+                && report.as_str().contains(self.awaited)
             {
                 return Outcome::Passed;
             }
@@ -216,23 +213,25 @@ impl Task for Awaits {
     }
 }
 
-// The row of a trial is out when it has ended, while another one still runs.
+// The title is out when the trials run, and the row of a trial when it has ended, while another one still runs.
 #[test]
 fn shows_what_has_ended(rt: HostRuntime) -> Result<(), Fail> {
     let alloc = rt.alloc();
     let path = "/tmp/mimic_main_shows_what_has_ended";
-    for (format, row) in [
-        (FormatSetting::Pretty, "test a ... ok\n"),
-        (FormatSetting::Terse, "\nrunning 2 tests\n."),
+    let running = "\nrunning 2 tests\n";
+    for (format, title, row) in [
+        (FormatSetting::Pretty, running, "test a ... ok\n"),
+        (FormatSetting::Terse, running, "\nrunning 2 tests\n."),
         (
             FormatSetting::Json,
+            "\"test_count\": 2 }\n",
             "\"name\": \"a\", \"event\": \"ok\" }\n",
         ),
     ] {
         let mut args = Arguments::new(alloc);
         args.format = Some(format);
         let mut tests = Vec::new(alloc);
-        for (name, awaited) in [("a", None), ("b", Some(row))] {
+        for (name, awaited) in [("a", title), ("b", row)] {
             tests.push(Trial::new(String::from_str(alloc, name)?, Awaits { rt, path, awaited }))?;
         }
         let out = fs::create(&rt, path)?;
