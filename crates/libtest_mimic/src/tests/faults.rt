@@ -7,8 +7,8 @@ use crate::{
 };
 use std::alloc::Global;
 use std::io::ErrorKind;
-use std::sync::{Arc, Wait};
 use std::sync::atomic::{AtomicBool, Ordering};
+use std::sync::{Arc, Wait};
 use std::test::Fail;
 use std::thread::Threads;
 

@@ -8,8 +8,8 @@ use crate::{
 use std::alloc::{AllocError, Global};
 use std::io;
 use std::io::Write;
-use std::sync::{Arc, Wait};
 use std::sync::atomic::{AtomicBool, Ordering};
+use std::sync::{Arc, Wait};
 use std::test::Fail;
 use std::thread::Threads;
 
@@ -73,13 +73,14 @@ fn meeting(
     Ok(Trial::new(String::from_str(alloc, name)?, runner))
 }
 
-// So many of three trials `a`, `b`, `c` that all await one another.
+// So many of three trials `a`, `b`, `c`, but no more than those, that all await one another.
 fn that_meet(alloc: Global, count: usize) -> Result<Vec<Trial<Meets>>, AllocError> {
     let (a, b, c) = (new_flag(alloc)?, new_flag(alloc)?, new_flag(alloc)?);
-    let flags = [&a, &b, &c];
+    let all = [&a, &b, &c];
+    let flags = &all[..count.min(all.len())];
     let mut trials = Vec::new(alloc);
-    for (name, flag) in ["a", "b", "c"].iter().zip(&flags[..count]) {
-        trials.push(meeting(alloc, name, flag, &flags[..count])?)?;
+    for (name, flag) in ["a", "b", "c"].iter().zip(flags) {
+        trials.push(meeting(alloc, name, flag, flags)?)?;
     }
     Ok(trials)
 }
@@ -106,7 +107,13 @@ fn run_by<T: Threads + Wait + Copy + Drop + Send + 'static>(
 fn runs_as_many_as_asked(rt: HostRuntime) -> Result<(), Fail> {
     let alloc = rt.alloc();
     for (trials, threads) in [(2, 2), (2, 20), (3, 3)] {
-        let (conclusion, _) = run_by(&rt, alloc, threads, FormatSetting::Pretty, that_meet(alloc, trials)?)?;
+        let (conclusion, _) = run_by(
+            &rt,
+            alloc,
+            threads,
+            FormatSetting::Pretty,
+            that_meet(alloc, trials)?,
+        )?;
         assert_eq!(rt; conclusion.num_passed, trials as u64);
     }
     let (_, writer) = run_by(&rt, alloc, 2, FormatSetting::Pretty, that_meet(alloc, 3)?)?;
@@ -203,7 +210,16 @@ fn wants_a_thread_for_a_trial(rt: HostRuntime) -> Result<(), Fail> {
     args.list = true;
     let mut sink = Sink::new(ample(Vec::new(alloc)));
     let mut watch = Stopwatch::new(stopped_clock());
-    run(&rt, alloc, &args, that_meet(alloc, 1)?, &mut sink, &mut watch, 4, false)?;
+    run(
+        &rt,
+        alloc,
+        &args,
+        that_meet(alloc, 1)?,
+        &mut sink,
+        &mut watch,
+        4,
+        false,
+    )?;
     assert!(rt; sink.into_inner().bytes.as_slice() == b"a: test\n".as_slice());
     Ok(())
 }
