@@ -55,13 +55,20 @@ fn run_words<M: Machine + 'static>(rt: &M, asked: &[&str]) -> Result<Left, Fail>
 
 // Runs the trials with these words alone on the command line.
 fn run_only<M: Machine + 'static>(rt: &M, asked: &[&str]) -> Result<Left, Fail> {
-    let alloc = rt.alloc();
-    let mut words = vec![in alloc; "harness"]?;
+    let mut words = vec![in rt.alloc(); "harness"]?;
     words.extend_from_slice(asked)?;
+    run_line(rt, Arguments::from_iter(rt.alloc(), words.as_slice()))
+}
+
+// Runs the trials as this line asks.
+fn run_line<M: Machine + 'static>(
+    rt: &M,
+    line: Result<Arguments, ArgumentsError>,
+) -> Result<Left, Fail> {
+    let alloc = rt.alloc();
     let trials = mixed_bag_trials!(alloc);
     let out = Vec::new(alloc);
     let mut err: Vec<u8> = Vec::new(alloc);
-    let line = Arguments::from_iter(alloc, words.as_slice());
     let (out, status) = HARNESS.harness_run(rt, rt, alloc, line, trials, out, &mut err, StillClock);
     Ok(Left {
         status: status.into_number(),
@@ -144,8 +151,7 @@ fn are_reordered(alloc: Global, report: &str, other: &str) -> Result<bool, Alloc
     Ok(report.len() == other.len() && ordered_lines(alloc, report)? == ordered_lines(alloc, other)?)
 }
 
-// Each number of threads gives the same rows in some order, and without one there is no run. Without the option there are
-// four.
+// Each number of threads gives the same rows in some order, as no option does, and without a thread there is no run.
 #[test]
 fn heeds_the_number_of_threads(rt: HostRuntime) -> Result<(), Fail> {
     let alloc = rt.alloc();

@@ -35,9 +35,9 @@ on_error (Err x) error P Q e q = subst Q (sym e) q
 -- whatever was written, it follows what stood there
 pub follows : {E T : Type 0} (a b c : Shown) (s t : List ℕ) (r : Result T E) → Put a b s → Writes b c t r → Follows a c
 follows a b c s t (Ok x) p q =
-    let both = Put-trans s t p q in record { text = s ++ t; appended = both.appended; faults = omega (arith, both.faults); }
+    let both = Put-trans s t p q in record { text = s ++ t; appended = both.appended; faults = omega (arith, both.faults) }
 follows a b c s t (Err e) p q =
-    let both = Put-Stopped s t p q in record { text = both.front; appended = both.appended; faults = omega (arith, both.faults); }
+    let both = Put-Stopped s t p q in record { text = both.front; appended = both.appended; faults = omega (arith, both.faults) }
 
 -- ---- runners that were dealt
 
@@ -55,7 +55,7 @@ module _ {R : Type 0} (P : R → Type 0) where
       let Q : Assigned R → Type 0 = λ item. P item.runner in
       let rest = runnable_share workers w xs (All-tail Q x xs h) in
       elim (x.place % workers == w) as (λ t. All Q (cond t (x ∷ share_of workers w xs) (share_of workers w xs))) [
-        true ↦ All-cons Q x (share_of workers w xs) (All-head Q x xs h) rest
+        | true ↦ All-cons Q x (share_of workers w xs) (All-head Q x xs h) rest
         | false ↦ rest
       ]
 

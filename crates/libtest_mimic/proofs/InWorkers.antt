@@ -66,7 +66,7 @@ module _ {R : Type 0} (gives : Gives R) (suite : Suite R) (rs : List R) (runners
         (places_of (placed_at order outs), all.places, in_some_order, starts_titled gives suite (placed_at order outs) all a b w r (subst P (titled_same order outs) s))
     rows_refused a b w ZeroThreads r h = absurd h
     rows_refused a b w Spawn r h = (several, some, subst (λ (n : ℕ). Put a b (title_text suite.printer n)) count h, r)
-    rows_refused a b w (Arrival place) r h = (several, some, h)
+    rows_refused a b w (Arrival place) r h = (several, some, h, r)
 
     module _ (order : List ℕ) (outs : List Outcome) (gathered : GatheredOf order outs) (a c : Shown) (rows : Put a c (titled_rows suite.printer infos order outs)) where
       all : IsArrangement gives suite.args suite.trials (placed_at order outs)

@@ -37,7 +37,7 @@ use thiserror::Error;
 /// Why a run was refused.
 #[derive(Debug, Drop, Error)]
 pub enum RunError {
-    /// An allocation failed. All of them come before the title: nothing was written.
+    /// An allocation before the title failed: nothing was written.
     #[error("out of memory")]
     OutOfMemory,
     /// A write or a flush failed. A start of the report, or a beginning of the list, was written.
@@ -50,17 +50,17 @@ pub enum RunError {
     #[error("cannot start a worker")]
     Spawn,
     /// An outcome that a worker told differs from what it answered in the end. It is that of the trial at this place
-    /// among the selected ones, counted from 0; where there are several, of the least. What was written is not told.
+    /// among the selected ones, counted from 0; where there are several, of the least. Of what was written nothing is said.
     #[error("outcome of trial {place} differs from its worker's answer")]
     Arrival { place: usize },
 }
 
 /// Runs the selected trials, each once, and writes their report; or writes the list of them, where a list is asked.
 ///
-/// With `test_threads` of the arguments, else with `default_threads`: with one thread trials run in their order in the
-/// calling thread, as `run_here` runs them, and with more in as many workers, but in no more than there are trials.
-/// Their rows are written as they arrive, each when its trial has ended. A row that could not be told is written
-/// after the others.
+/// The number of threads is `test_threads` of the arguments, else `default_threads`. With one, trials run in their order in
+/// the calling thread, as `run_here` runs them. With more, that many workers run them, but never more than there are trials:
+/// their rows are written as they arrive, each when its trial has ended, and a row that could not be told after the others.
+/// With none, a run of a selected trial is refused.
 ///
 /// The answer, the watch, `auto_colours` and ignored trials are as with `run_here`. After a write fault the workers end
 /// their shares, and are joined.
@@ -126,7 +126,7 @@ pub fn run<
     }
 }
 
-// Runs the trials by so many threads and writes their report, beside so many that were filtered out.
+// Runs the trials on so many threads and writes their report, whose summary counts the others as filtered out.
 fn run_by<
     R: Task + Send + 'static,
     W: Write,

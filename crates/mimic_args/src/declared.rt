@@ -91,7 +91,7 @@ pub(super) fn test_threads<'a>(alloc: Global) -> Arg<'a>
     ensures declared { declared_of result ≡ alone threads_rule }
     ensures local { result.global ≡ false }
 {
-    let help = "Number of threads that run tests (no effect yet)";
+    let help = "Number of threads used for running tests in parallel";
     let arg = option(alloc, "test-threads", "THREADS", help);
     arg.value_parser(value_parser!(usize))
 }

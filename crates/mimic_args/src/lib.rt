@@ -68,7 +68,7 @@ pub struct Arguments {
     pub exact: bool,
     /// Ask for the terse format, whatever `format` says.
     pub quiet: bool,
-    /// How many threads are to run trials. It has no effect yet.
+    /// How many threads run the trials; `None` leaves it to the caller of the run. With 0 a run of any trial is refused.
     pub test_threads: Option<usize>,
     /// The path of the file that gets the report. The caller of a run opens it.
     pub logfile: Option<String>,

@@ -33,7 +33,7 @@ told_of contents output = append_known (contents output.writer) (waiting_of outp
 abbrev pub HandsOn : Option (List ℕ) → Option (List ℕ) → Type 0
 HandsOn told got = (rest : List ℕ) × Keeps told (append_known got rest)
 
--- pretty reports are flushed before each trial, the others are not (our own)
+-- a pretty report is handed on at each flush, the others at the end of each line too (our own)
 abbrev pub policy_of : FormatSetting → FlushPolicy
 policy_of Pretty = OnFlush
 policy_of Terse = OnLineEnd

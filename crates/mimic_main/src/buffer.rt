@@ -14,7 +14,7 @@ use std::io::{ErrorKind, Write};
 pub enum FlushPolicy {
     /// At each flush: somebody is looking on, and a flush comes before anything that takes its time.
     OnFlush,
-    /// At the end of each line, and at each flush: somebody is looking on, and no flush comes of itself.
+    /// At the end of each line, and at each flush: somebody is looking on, and a flush need not come.
     OnLineEnd,
     /// At no other time.
     WhenFull,
@@ -26,7 +26,7 @@ impl FlushPolicy {
     /// How the output of a run with these arguments is handed on: as its format wants, but terse and JSON into a logfile
     /// in whole blocks.
     ///
-    /// So a logfile in pretty names the trial that hangs.
+    /// So with one thread a logfile in pretty names the trial that hangs.
     pub fn of_run(args: &Arguments) -> FlushPolicy
         ensures { result ≡ policy_for args.now }
     {
@@ -40,8 +40,8 @@ impl FlushPolicy {
 
     /// How a report in this format is handed on to somebody who looks on.
     ///
-    /// A run flushes a pretty report before each trial, so a row goes out with the announcement that comes directly
-    /// behind it. The lines of other formats go out as they end.
+    /// A run flushes a pretty report at each announcement, so with one thread a row goes out with the announcement that
+    /// comes directly behind it. The lines of other formats go out as they end.
     pub fn of_format(format: FormatSetting) -> FlushPolicy
         ensures { result ≡ policy_of format }
     {

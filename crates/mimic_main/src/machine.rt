@@ -17,8 +17,10 @@ use std::thread::Threads;
 
 /// The standard streams of a machine.
 pub trait Streams {
+    /// Where reports, lists and help go.
     fn stdout(&self) -> Stdout;
 
+    /// Where faults are told.
     fn stderr(&self) -> Stderr;
 }
 
@@ -50,9 +52,9 @@ impl<M: Env + AllocGlobal + Files + Clock + Threads + Wait + Streams + Copy + Dr
 
 /// Runs or lists the trials as the program's command line asks, and returns what its `main` is to return.
 ///
-/// As many threads as the machine can run at once run them, where the line does not say. The report goes to standard
-/// output, in colours where that is a terminal and `NO_COLOR` unset or empty, or into the logfile. A fault is told on standard error with its cause. Trials that could not be made are told as well, and end
-/// the program with status 1.
+/// Where the line does not say how many threads run them, it is as many as the machine can run at once. The report goes to
+/// standard output, in colours where that is a terminal and `NO_COLOR` unset or empty, or into the logfile. A fault is told
+/// on standard error with its cause. Trials that could not be made are told as well, and end the program with status 1.
 pub fn run_program<M: Machine + 'static, R: Task + Send + 'static>(
     rt: &M,
     name: &str,

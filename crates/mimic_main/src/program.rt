@@ -25,7 +25,8 @@ pub(crate) enum Fault {
     Run(RunError),
 }
 
-/// A program that runs a harness: how it tells of faults, and whether its reports have colours.
+/// A program that runs a harness: how many threads run its trials, whether its reports have colours, and how it tells of
+/// faults.
 #[derive(Clone, Copy, Debug, PartialEq, Eq)]
 pub struct Program<'a> {
     /// Its name, which stands before what it tells of a fault.
@@ -40,8 +41,8 @@ pub struct Program<'a> {
 
 impl Program<'_> {
     /// Runs or lists the trials as the line asks, and returns the writer `out` and the exit status: 0 where no trial
-    /// failed or help was asked for, 101 where one failed, 1 where the logfile, an allocation or a write failed, 2 where
-    /// the line was refused.
+    /// failed or help was asked for, 101 where one failed, 1 where the logfile or the run was refused, 2 where the line
+    /// was.
     ///
     /// The report or list goes into the logfile, which is made or emptied first; without one it goes to `out`. Help
     /// goes to `out`, and what is refused to `err`; a fault in writing either changes no status.

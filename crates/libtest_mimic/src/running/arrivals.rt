@@ -13,7 +13,7 @@ use mimic_trial::{Outcome, TestInfo};
 use std::io::Write;
 use std::sync::Wait;
 
-// Writes the rows of first arrivals as they come, until all workers have ended. What was written is flushed before this
+// Writes the rows of first arrivals as they come, until all workers have ended. What was written is flushed before it
 // waits, so that the title is seen while the first trials run, and a row when its trial has ended.
 pub(super) fn write_arrivals<W: Write, T: Wait>(
     rt: &T,

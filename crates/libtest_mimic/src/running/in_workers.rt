@@ -23,8 +23,8 @@ use std::io::Write;
 use std::sync::Wait;
 use std::thread::Threads;
 
-// Runs the trials in so many threads, but in no more than there are trials, and writes their report, beside so many that
-// were filtered out.
+// Runs the trials on so many threads, but on no more than there are trials, and writes their report, whose summary counts
+// the others as filtered out.
 pub(super) fn run_in_workers<
     R: Task + Send + 'static,
     W: Write,
@@ -95,12 +95,8 @@ fn taken_apart<R: Drop>(
 // Runs the tasks in so many workers, and writes the title and the rows: those that arrive, each when it does, and after
 // the workers have been joined those that did not. Returns the order of the rows and the outcome at each place.
 //
-// All memory but that for copies of outcomes is taken before the title.
-fn write_rows<
-    R: Task + Send + 'static,
-    W: Write,
-    T: Threads + Wait + Copy + Drop + Send + 'static,
->(
+// But for copies of messages and the threads themselves, all memory is taken before the title.
+fn write_rows<R: Task + Send + 'static, W: Write, T: Threads + Wait + Copy + Drop + Send + 'static>(
     workers: usize,
     rt: &T,
     alloc: Global,
@@ -118,9 +114,9 @@ fn write_rows<
     requires runnable { All R.can_run runners.items }
     ensures rows { MatchResult result
         (λ rows. Gathered R.gives test_mode (assigned_from 0 runners.items ignored.items) rows.0.items rows.1.items
-            × Put (shown W.contents sink.old) (shown W.contents sink.new) (titled_rows printer.now infos.now rows.0.items rows.1.items))
+        × Put (shown W.contents sink.old) (shown W.contents sink.new) (titled_rows printer.now infos.now rows.0.items rows.1.items))
         (λ e. RowsRefused R.gives test_mode (assigned_from 0 runners.items ignored.items) printer.now infos.now
-            (shown W.contents sink.old) (shown W.contents sink.new) e) }
+        (shown W.contents sink.old) (shown W.contents sink.new) e) }
     ensures unwritten { OnNothingWritten result (sink.new ≡ sink.old) }
 {
     let count = runners.len();
@@ -146,6 +142,7 @@ fn write_rows<
     }
     let told = desk.order().len();
     let order = desk.whole_order(order);
+    // A write fault waits until here, since an outcome that differs is answered in its place.
     written?;
     write_missing(printer, infos, &order[told..], &outcomes, sink)?;
     Ok((order, outcomes))

@@ -21,7 +21,7 @@ Options:
       --exact                   Match filters against whole names only
   -q, --quiet                   Use the terse format
   -Z <FLAG>                     Unstable options (no effect) [possible values: unstable-options]
-      --test-threads <THREADS>  Number of threads that run tests (no effect yet)
+      --test-threads <THREADS>  Number of threads used for running tests in parallel
       --logfile <PATH>          Write the report to the file PATH
       --skip <FILTER>           Skip tests whose full name contains FILTER; may be given many times
       --color <WHEN>            When to use colours [possible values: auto, always, never]

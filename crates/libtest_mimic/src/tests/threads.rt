@@ -102,7 +102,7 @@ fn run_by<T: Threads + Wait + Copy + Drop + Send + 'static>(
     Ok((conclusion, sink.into_inner()))
 }
 
-// As many workers as there are threads for run at the same time, and a trial without one waits for its turn.
+// As many workers as were asked for run at the same time; a trial without one waits its turn.
 #[test]
 fn runs_as_many_as_asked(rt: HostRuntime) -> Result<(), Fail> {
     let alloc = rt.alloc();
@@ -190,7 +190,7 @@ fn keeps_pairs_of_lines_together(rt: HostRuntime) -> Result<(), Fail> {
     Ok(())
 }
 
-// Without a thread: no trial, a list, and no trial that is selected. The same trials run by one.
+// Without a thread: a trial, no trial, and a list. With one the trial runs.
 #[test]
 fn wants_a_thread_for_a_trial(rt: HostRuntime) -> Result<(), Fail> {
     let alloc = rt.alloc();

@@ -1,5 +1,6 @@
 //! What a program tells, and the status that it ends with.
 ghost use Rattle.std.specs.Io.{WritesAtMost};
+ghost use Rattle.std.specs.Prelude.{◌≤◌};
 
 use super::clocks::clock_of;
 use crate::machine::run_program_on;
@@ -71,7 +72,9 @@ fn run_one<M: Machine + 'static, O: Write + Drop>(
     program: &Program<'_>,
     line: Result<Arguments, ArgumentsError>,
     out: O,
-) -> Result<Left, Fail> {
+) -> Result<Left, Fail>
+    requires { 1 ≤ program.now.threads }
+{
     let alloc = rt.alloc();
     let tests = vec![in alloc; Trial::new(String::from_str(alloc, "a")?, Pass)]?;
     let mut err: Vec<u8> = Vec::new(alloc);

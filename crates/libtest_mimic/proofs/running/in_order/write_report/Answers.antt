@@ -56,6 +56,6 @@ returns g c =
       written.placed,
       (λ one. written.ordered),
       subst P (c.conclusion.ensures ∙ sym c.into_conclusion.ensures)
-      (reported _ suite written.placed (arranged_written _ suite _ _ _ written) _ _ _ titled (c.in_ok-print_failures.ensures _ _ written.tally)
-      _ _ summary.nanos _ (c.conclusion.ensures ∙ written.tally.counts) summary.elapsed summary.fits summary.text),
+          (reported _ suite written.placed (arranged_written _ suite _ _ _ written) _ _ _ titled (c.in_ok-print_failures.ensures _ _ written.tally)
+          _ _ summary.nanos _ (c.conclusion.ensures ∙ written.tally.counts) summary.elapsed summary.fits summary.text),
     )

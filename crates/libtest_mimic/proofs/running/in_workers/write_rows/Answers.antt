@@ -38,8 +38,12 @@ returns-in_err-written-clause-rows g c =
     let before = shown g.W.Write.contents c.print_title.new.sink in
     let written = c.in_err-written.ensures.told before (nothing_told c.args.printer.now c.args.infos.now c.in_ok-desk.desk _ c.in_ok-desk.ensures before) in
     on_error c.from_residual-in_err-written.result (Write c.in_err-written.field-0.0) _ _ c.from_residual-in_err-written.ensures.1
-    (inr (c.whole_order-order.result.items, c.join_all-outcomes.result.items, all,
-    stopped_told c.args.printer.now c.args.infos.now c.write_arrivals-written.new.desk _ _ _ c.whole_order-order.ensures.places settled _ _ _ _ (c.len-count.ensures ∙ sym c.requires.infos) c.in_ok-print_title.ensures written))
+    (inr (
+      c.whole_order-order.result.items,
+      c.join_all-outcomes.result.items,
+      all,
+      stopped_told c.args.printer.now c.args.infos.now c.write_arrivals-written.new.desk _ _ _ c.whole_order-order.ensures.places settled _ _ _ _ (c.len-count.ensures ∙ sym c.requires.infos) c.in_ok-print_title.ensures written,
+    ))
 
 pub write_missing-requires-clause-room : goal.write_missing-requires-clause-room
 write_missing-requires-clause-room g c =
@@ -69,8 +73,12 @@ returns-in_err-write_missing-clause-rows g c =
     let P : List ℕ → List Outcome → Type 0 = λ l os. Stopped (shown g.W.Write.contents c.write_arrivals-written.new.sink) (shown g.W.Write.contents c.write_missing.new.sink) (rows_text c.args.printer.now (rows_at (map label_of c.args.infos.now) (placed_at l os))) in
     let missing = subst (λ (l : List ℕ). P l c.join_all-outcomes.result.items) rest (subst (λ (os : List Outcome). P (take (length c.deref-2.result.now - length c.order-told.result.now) (drop (length c.order-told.result.now) c.deref-2.result.now)) os) c.deref-3.ensures.value c.in_err-write_missing.ensures) in
     on_error c.from_residual-in_err-write_missing.result (Write c.in_err-write_missing.field-0.0) _ _ c.from_residual-in_err-write_missing.ensures.1
-    (inr (c.whole_order-order.result.items, c.join_all-outcomes.result.items, all,
-    stopped_missing c.args.printer.now c.args.infos.now c.write_arrivals-written.new.desk _ _ _ c.whole_order-order.ensures.places settled _ _ _ _ (c.len-count.ensures ∙ sym c.requires.infos) c.in_ok-print_title.ensures _ written missing))
+    (inr (
+      c.whole_order-order.result.items,
+      c.join_all-outcomes.result.items,
+      all,
+      stopped_missing c.args.printer.now c.args.infos.now c.write_arrivals-written.new.desk _ _ _ c.whole_order-order.ensures.places settled _ _ _ _ (c.len-count.ensures ∙ sym c.requires.infos) c.in_ok-print_title.ensures _ written missing,
+    ))
 
 pub returns-clause-rows : goal.returns-clause-rows
 returns-clause-rows g c =
