@@ -68,7 +68,7 @@ joined true rows a = refl
 joined false rows a = append-nil rows
 
 -- the first arrivals after one more
-first_more : (n : ℕ) (arrivals : List Placed) (a : Placed) → first_arrivals n (arrivals ++ a ∷ []) ≡ rows_after n (first_arrivals n arrivals) a
+pub first_more : (n : ℕ) (arrivals : List Placed) (a : Placed) → first_arrivals n (arrivals ++ a ∷ []) ≡ rows_after n (first_arrivals n arrivals) a
 unfolding added
 first_more n arrivals a =
     let F = first_arrivals n arrivals in

@@ -1,6 +1,8 @@
 pub mod Dealing
 pub mod Working
 pub mod FirstArrivals
+pub mod Marking
+pub mod Reporting
 pub mod Joining
 pub mod Ordering
 pub mod Seating

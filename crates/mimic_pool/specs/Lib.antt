@@ -5,3 +5,5 @@ pub mod Reports
 pub mod Arrivals
 pub mod Missing
 pub mod Seats
+pub mod Board
+pub mod Marks

@@ -1,7 +1,7 @@
 -- What was told, and how much of it.
 use Rattle.std.specs.Prelude.{ℕ, List}
 use Rattle.mimic_trial.specs.Places.{Placed}
-use Rattle.mimic_pool.specs.declared.channel.ChannelReports.{ChannelReports}
+use Rattle.mimic_pool.specs.declared.board_reports.BoardReports.{BoardReports}
 use Rattle.mimic_pool.specs.declared.memory.MemoryReports.{MemoryReports}
 
 -- the rows that were told into memory, in their order
@@ -17,10 +17,10 @@ abbrev pub refused_into : MemoryReports → ℕ
 refused_into reports = reports.counts.refusals
 
 module _ {R : Type 0} where
-  -- how many rows were told over a channel
-  abbrev pub told_over : ChannelReports R → ℕ
-  told_over reports = reports.counts.told
+  -- how many rows were told to a board
+  abbrev pub told_to : BoardReports R → ℕ
+  told_to reports = reports.counts.told
 
-  -- how many rows a channel refused
-  abbrev pub refused_over : ChannelReports R → ℕ
-  refused_over reports = reports.counts.refusals
+  -- how many rows a board refused
+  abbrev pub refused_to : BoardReports R → ℕ
+  refused_to reports = reports.counts.refusals

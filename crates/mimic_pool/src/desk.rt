@@ -1,5 +1,5 @@
 //! The desk where outcomes arrive from the workers.
-ghost use Rattle.std.specs.Prelude.{◌≡◌, ◌++◌, ◌∷◌, [], ◌↔◌, ◌<◌, ◌≤◌, IfOk, IsTrue, List, MatchResult, OnOk, Some, length, vec_capacity, vec_len, ℕ};
+ghost use Rattle.std.specs.Prelude.{◌≡◌, ◌++◌, ◌∷◌, [], ◌↔◌, ◌<◌, ◌≤◌, IfErr, IfOk, IsTrue, List, MatchResult, OnOk, Some, length, vec_capacity, vec_len, ℕ};
 ghost use Rattle.std.specs.Iterator.{YieldsFirst, item_count};
 ghost use Rattle.std.specs.List.{range_with_len};
 ghost use Rattle.std.specs.List.Sorted.{IsPermutation};
@@ -129,6 +129,7 @@ impl Desk {
             (λ _. (place : ℕ) → AgreesAt self.now.rows joined.now place)
             (λ differs. (¬ AgreesAt self.now.rows joined.now differs) × ((place : ℕ) → place < differs → AgreesAt self.now.rows joined.now place)) }
         ensures rows { OnOk result (self.now.rows ≡ placed_at (places_of self.now.rows) joined.now) }
+        ensures below { IfErr result (λ place. place < self.now.places) }
     {
         first_difference(self.seats.as_slice(), joined)
     }
@@ -163,7 +164,8 @@ impl<'a> Iterator for Missing<'a> {
 // The least place whose seat is taken by another outcome than the joined one.
 fn first_difference(seats: &[Option<Outcome>], joined: &[Outcome]) -> Result<(), usize>
     requires { length joined.now ≡ length seats.now }
-    ensures { MatchResult result
+    ensures below { IfErr result (λ place. place < length seats.now) }
+    ensures found { MatchResult result
         (λ _. (place : ℕ) → SeatAgreesAt seats.now joined.now place)
         (λ differs. (¬ SeatAgreesAt seats.now joined.now differs) × ((place : ℕ) → place < differs → SeatAgreesAt seats.now joined.now place)) }
 {

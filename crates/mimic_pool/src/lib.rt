@@ -1,17 +1,22 @@
 //! What worker threads share out, tell and answer, and what is made of it. A layer of `libtest_mimic`.
 #![tactic(auto)]
 
-mod channel;
+mod board;
+mod board_reports;
 mod desk;
+mod inbox;
 mod memory;
 mod reports;
 mod share;
+mod shared;
 mod start;
 mod threads;
 mod worker;
 
-pub use channel::ChannelReports;
+pub use board::{Board, hands_on_first_reports};
+pub use board_reports::BoardReports;
 pub use desk::{Arrival, Desk, Missing};
+pub use inbox::Inbox;
 pub use memory::MemoryReports;
 pub use reports::{Reports, Untold};
 pub use share::{Share, deal};

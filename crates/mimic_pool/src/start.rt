@@ -3,20 +3,21 @@ ghost use Rattle.std.specs.Prelude.{◌≡◌, ◌≤◌, length, vec_capacity, 
 ghost use Rattle.mimic_pool.specs.Share.{items_of};
 
 use crate::share::Share;
-use crossbeam_channel::Sender;
+use crate::shared::SharedBoard;
 use mimic_trial::{Outcome, Task};
 use std::snapshot::Snapshot;
+use std::sync::Arc;
 use std::thread::Promise;
 
 /// What a worker answers: a place and the outcome there, for each trial of its share.
 pub type Rows = Vec<(usize, Outcome)>;
 
-/// What a worker starts with: its share, room for what it answers, and where it sends its rows.
+/// What a worker starts with: its share, room for what it answers, and the board where it tells its rows.
 #[derive(Drop)]
 pub struct Start<T> {
     pub(crate) share: Share<T>,
     pub(crate) room: Rows,
-    pub(crate) rows: Sender<(usize, Outcome)>,
+    pub(crate) board: Arc<SharedBoard>,
     pub(crate) ghost empty: { vec_len room ≡ 0 },
     pub(crate) ghost fits: { length (items_of share) ≤ vec_capacity room },
 }

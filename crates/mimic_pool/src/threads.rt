@@ -1,15 +1,15 @@
-//! Worker threads, which run the shares and send their rows over a channel.
-ghost use Rattle.std.specs.Prelude.{◌≡◌, ◌≤◌, All, Bool, List, IfOk, IfSome, length, map, vec_capacity, vec_len};
+//! Worker threads, which run the shares and tell their rows to a board.
+ghost use Rattle.std.specs.Prelude.{◌≡◌, ◌≤◌, All, Bool, List, IfOk, IfSome, MatchResult, length, map, take, vec_capacity, vec_len};
 ghost use Rattle.mimic_pool.specs.Answers.{Answers};
 ghost use Rattle.mimic_pool.specs.Joined.{AreOutcomes, AreReadyToJoin, job_of, jobs_of, put_all, shares_of};
 ghost use Rattle.mimic_pool.specs.declared.share.Share.{Share};
 ghost use Rattle.mimic_pool.specs.Share.{AllRunners, assigned_from, items_of};
 
-use crate::channel::ChannelReports;
+use crate::board_reports::BoardReports;
+use crate::inbox::Inbox;
 use crate::share::Share;
 use crate::start::{AnswersShare, Rows, Start};
 use crate::worker::work;
-use crossbeam_channel::Sender;
 use mimic_trial::{Outcome, Task};
 use std::alloc::{AllocError, Global};
 use std::snapshot::Snapshot;
@@ -20,11 +20,12 @@ use std::thread::{PromisedHandle, Threads};
 /// The handles of workers that were started, in the order of their shares.
 pub type Handles<T> = Vec<PromisedHandle<Rows, AnswersShare<T>>>;
 
-/// What each worker starts with, one for each share: room for what it answers, and a sender of its own.
+/// What each worker starts with, one for each share: room for what it answers, and the board of the inbox, which is one
+/// for so many workers.
 pub fn prepare<T: Task>(
     alloc: Global,
     shares: Vec<Share<T>>,
-    rows: Sender<(usize, Outcome)>,
+    inbox: &Inbox,
 ) -> Result<Vec<Start<T>>, AllocError>
     ensures shares { IfOk result (λ starts. shares_of starts.items ≡ shares.items) }
     ensures len { IfOk result (λ starts. vec_len starts ≡ vec_len shares) }
@@ -32,14 +33,14 @@ pub fn prepare<T: Task>(
     let mut starts = Vec::with_capacity(alloc, shares.len())?;
     for share in shares {
         let room = Vec::with_capacity(alloc, share.len())?;
-        let rows = rows.clone()?;
-        starts.push(Start { share, room, rows })?;
+        let board = inbox.board()?;
+        starts.push(Start { share, room, board })?;
     }
     Ok(starts)
 }
 
 /// Starts a worker for each share, and keeps their handles in `handles`, which takes no memory. Where one can't be
-/// started, no further one is, and those that were started are handed back.
+/// started, no further one is, and those that were started, on a front of the shares, are handed back.
 pub fn start_all<T: Task + Send + 'static, R: Threads + Wait + Copy + Drop + Send + 'static>(
     rt: &R,
     alloc: Global,
@@ -50,7 +51,9 @@ pub fn start_all<T: Task + Send + 'static, R: Threads + Wait + Copy + Drop + Sen
     requires runnable { All (λ share. AllRunners T.can_run share) (shares_of starts.items) }
     requires empty { vec_len handles ≡ 0 }
     requires fits { vec_len starts ≤ vec_capacity handles }
-    ensures { IfOk result (λ started. map job_of started.items ≡ jobs_of test_mode (shares_of starts.items)) }
+    ensures { MatchResult result
+        (λ started. map job_of started.items ≡ jobs_of test_mode (shares_of starts.items))
+        (λ started. map job_of started.items ≡ take (vec_len started) (jobs_of test_mode (shares_of starts.items))) }
 {
     for start in starts {
         match start_worker(rt, alloc, start, test_mode) {
@@ -72,7 +75,7 @@ fn start_worker<T: Task + Send + 'static, R: Threads + Wait + Copy + Drop + Send
     ensures share { IfSome result (λ handle. handle.promise.share.value ≡ start.share) }
     ensures mode { IfSome result (λ handle. handle.promise.test_mode ≡ test_mode) }
 {
-    let Start { share, room, rows } = start;
+    let Start { share, room, board } = start;
     let promise = AnswersShare {
         share: Snapshot::of(&share),
         test_mode,
@@ -87,7 +90,7 @@ fn start_worker<T: Task + Send + 'static, R: Threads + Wait + Copy + Drop + Send
             requires fits { length (items_of share) ≤ vec_capacity room }
             ensures { Answers T.gives test_mode (items_of share) result.items }
         {
-            let mut reports = ChannelReports::new(theirs, alloc, rows);
+            let mut reports = BoardReports::new(theirs, alloc, board);
             work(share, test_mode, &mut reports, room)
         },
     );

@@ -1,12 +1,11 @@
-//! Shares and workers, over reports in memory and over a channel.
+//! Shares and workers, over reports in memory and to a board.
 ghost use Rattle.std.specs.Prelude.{All};
 ghost use Rattle.mimic_pool.specs.Share.{AllRunners};
 
 use crate::{
-    Arrival, ChannelReports, Desk, MemoryReports, Reports, Share, Untold, deal, join_all, prepare,
+    Arrival, Desk, Inbox, MemoryReports, Reports, Share, Untold, deal, join_all, prepare,
     start_all, work,
 };
-use crossbeam_channel::bounded;
 use mimic_trial::{Failed, Measurement, Outcome, Runner, Task, TestRunner};
 use std::alloc::{AllocError, Global};
 use std::process::Abort;
@@ -261,32 +260,6 @@ fn tells_when_a_trial_has_ended(rt: HostRuntime) -> Result<(), Fail> {
     Ok(())
 }
 
-// Rows come over the channel in the order in which they were told. Without a receiver they are refused.
-#[test]
-fn tells_over_a_channel(rt: HostRuntime) -> Result<(), Fail> {
-    let alloc = rt.alloc();
-    let (sender, receiver) = bounded(alloc, 2)?;
-    let mut reports = ChannelReports::new(rt, alloc, sender);
-    let woops = Outcome::Failed(Failed::with_message(String::from_str(alloc, "Woops")?));
-    let told = [reports.tell(3, &woops), reports.tell(1, &Outcome::Passed)];
-    if reports.refusals() > 0 {
-        // There was no memory for a copy of the message.
-        assert_eq!(rt; told, [Err(Untold), Ok(())]);
-        assert_eq!(rt; reports.told(), 1);
-        return Err(Fail::from(AllocError));
-    }
-    let mut rows = Vec::new(alloc);
-    for row in receiver.try_iter(&rt) {
-        rows.push(row)?;
-    }
-    assert!(rt; have_rows(&rows, &[(3, woops), (1, Outcome::Passed)]));
-    drop(receiver);
-    assert!(rt; reports.tell(0, &Outcome::Passed).is_err());
-    assert_eq!(rt; reports.told(), 2);
-    assert_eq!(rt; reports.refusals(), 1);
-    Ok(())
-}
-
 // Runs these shares in threads. Answers a desk with what arrived, and what the workers answered when they were joined.
 fn run_in_threads<
     T: Task + Send + 'static,
@@ -294,24 +267,27 @@ fn run_in_threads<
 >(rt: &R, alloc: Global, shares: Vec<Share<T>>, trials: usize) -> Result<(Desk, Vec<Outcome>), Fail>
     requires { All (λ share. AllRunners T.can_run share) shares.items }
 {
-    let (sender, receiver) = bounded(alloc, trials)?;
+    let mut inbox = Inbox::new(alloc, trials, shares.len())?;
     let handles = Vec::with_capacity(alloc, shares.len())?;
     let mut outcomes = Vec::with_capacity(alloc, trials)?;
     for _place in 0..trials {
         outcomes.push(Outcome::Ignored)?;
     }
     let mut desk = Desk::new(alloc, trials)?;
-    let starts = prepare(alloc, shares, sender)?;
+    let starts = prepare(alloc, shares, &inbox)?;
     let Ok(handles) = start_all(rt, alloc, starts, true, handles) else {
         return Err(Fail::new("a worker could not be started"));
     };
-    for (place, outcome) in receiver.iter(rt) {
+    for _ in rt.forever() {
+        let Some((place, outcome)) = inbox.next(rt) else {
+            break;
+        };
         assert_eq!(rt; desk.arrive(place, outcome), Arrival::First);
     }
     Ok((desk, join_all(rt, handles, outcomes)))
 }
 
-// Two workers in threads tell over one channel. What arrives at the desk is what they answer when they are joined.
+// Two workers in threads tell to one board. What arrives at the desk is what they answer when they are joined.
 #[test]
 fn tells_from_threads(rt: HostRuntime) -> Result<(), Fail> {
     let alloc = rt.alloc();

@@ -1,0 +1,5 @@
+use Rattle.mimic_pool.proofs.Marking.{history_shown}
+use Rattle.mimic_pool.proofs.board.Board.taken.Goals as goal
+
+pub returns-clause-history : goal.returns-clause-history
+returns-clause-history c = rw (← c.self.view_is) (history_shown c.self.inside c.self.invariant)

@@ -1,0 +1,196 @@
+//! The board where workers report rows.
+ghost use Rattle.std.specs.Prelude.{◌≡◌, ◌≢◌, ◌++◌, ◌∷◌, [], ◌↔◌, ◌<◌, ◌≤◌, IfErr, IfNone, IfOk, IfSome, IsOk, IsTrue, List, slice_get};
+ghost use Rattle.std.specs.VecDeque.{deque_capacity, deque_items, deque_len};
+ghost use Rattle.mimic_trial.specs.Places.{Placed};
+ghost use Rattle.mimic_pool.specs.Arrivals.{first_arrivals};
+ghost use Rattle.mimic_pool.specs.Board.{Agrees, HandsOnFirstReports, HasHistory, accepts, after_close, after_report, after_take, empty_board};
+ghost use Rattle.mimic_pool.specs.Marks.{is_marked, kept_after, kept_of, mark_of, outcome_by, weight_of};
+
+use mimic_trial::Outcome;
+use std::alloc::{AllocError, Global};
+use std::collections::VecDeque;
+use std::marker::Model;
+
+// What a board keeps for a place: most outcomes are told by the mark alone.
+#[derive(Clone, Copy)]
+pub(crate) enum Mark {
+    // Nothing was reported.
+    Free,
+    // The outcome is `Passed`.
+    Passed,
+    // The outcome is `Ignored`.
+    Ignored,
+    // The outcome lies with the kept ones, until it is taken.
+    Kept,
+}
+
+/// Rows that workers reported, each a place and the outcome there, and how many of the workers have closed. Contracts see
+/// both, and which rows wait to be taken.
+///
+/// A report of a place is accepted once. The rows are taken in the order of their reports.
+#[derive(Drop)]
+pub struct Board {
+    marks: Vec<Mark>,
+    order: Vec<usize>,
+    // Of the rows that wait, the outcomes that a mark can't tell, in their order.
+    kept: VecDeque<Outcome>,
+    taken: usize,
+    workers: usize,
+    closed: usize,
+}
+
+impl Model for Board {
+    ghost use Rattle.mimic_pool.specs.Board.{Posted};
+    ghost use Rattle.mimic_pool.specs.Marks.{IsBoard, posted};
+
+    ghost Value = { Posted };
+
+    ghost view = { posted };
+
+    ghost invariant = { IsBoard };
+}
+
+impl Board {
+    /// A board of `n` places for so many workers. Nothing was reported, and no worker has closed. All of its memory is taken
+    /// here.
+    pub fn new(alloc: Global, n: usize, workers: usize) -> Result<Board, AllocError>
+        ensures empty { IfOk result (λ board. board ≡ empty_board n workers) }
+        ensures agrees { IfOk result (λ board. Agrees board []) }
+    {
+        let mut marks = Vec::with_capacity(alloc, n)?;
+        let order = Vec::with_capacity(alloc, n)?;
+        let kept = VecDeque::with_capacity(alloc, n)?;
+        for _place in 0..n {
+            marks.push(Mark::Free)?;
+        }
+        Ok(Board {
+            marks,
+            order,
+            kept,
+            taken: 0,
+            workers,
+            closed: 0,
+        })
+    }
+
+    /// Accepts the first report of a place of the board: the row waits behind the others. Any other report is handed back,
+    /// and changes nothing.
+    pub fn report(&mut self, place: usize, outcome: Outcome) -> Result<(), Outcome>
+        ensures accepted { IsOk result ↔ IsTrue (accepts self.old place) }
+        ensures handed_back { IfErr result (λ back. back ≡ outcome) }
+        ensures board { self.new ≡ after_report self.old (place, outcome) }
+        ensures agrees { (reports : List Placed) → Agrees self.old reports → Agrees self.new (reports ++ (place, outcome) ∷ []) }
+    {
+        if place >= self.marks.len() {
+            return Err(outcome);
+        }
+        let Mark::Free = self.marks[place] else {
+            return Err(outcome);
+        };
+        self.marks[place] = marked(outcome, &mut self.kept);
+        self.order.push_reserved(place);
+        Ok(())
+    }
+
+    /// Takes the row that waits longest, if one does.
+    pub fn take(&mut self) -> Option<(usize, Outcome)>
+        ensures none { IfNone result ((self.old.waiting ≡ []) × (self.new ≡ self.old)) }
+        ensures some { IfSome result (λ row. self.old.waiting ≡ row ∷ self.new.waiting) }
+        ensures board { self.new ≡ after_take self.old }
+        ensures agrees { (reports : List Placed) → Agrees self.old reports → Agrees self.new reports }
+        ensures row { (reports : List Placed) → Agrees self.old reports → result ≡ slice_get (first_arrivals self.old.places reports) self.old.taken }
+    {
+        if self.taken >= self.order.len() {
+            return None;
+        }
+        let place = self.order[self.taken];
+        let outcome = unmarked(self.marks[place], &mut self.kept);
+        self.taken += 1;
+        Some((place, outcome))
+    }
+
+    /// Closes one more worker. Where all have closed, nothing changes.
+    pub fn close_one(&mut self)
+        ensures board { self.new ≡ after_close self.old }
+        ensures agrees { (reports : List Placed) → Agrees self.old reports → Agrees self.new reports }
+    {
+        if self.closed < self.workers {
+            self.closed += 1;
+        }
+    }
+
+    /// Whether all workers have closed.
+    pub fn all_closed(&self) -> bool
+        ensures { IsTrue result ↔ (self.now.closed ≡ self.now.workers) }
+    {
+        self.closed == self.workers
+    }
+
+    /// Whether a row waits to be taken.
+    pub fn has_waiting(&self) -> bool
+        ensures { IsTrue result ↔ (self.now.waiting ≢ []) }
+    {
+        self.taken < self.order.len()
+    }
+
+    /// All places that were reported, in the order of their reports.
+    pub fn order(&self) -> &[usize]
+        ensures order { result.now ≡ self.now.order }
+        ensures history { HasHistory self.now }
+    {
+        self.order.as_slice()
+    }
+
+    /// How many of them were taken.
+    pub fn taken(&self) -> usize
+        ensures taken { result ≡ self.now.taken }
+        ensures history { HasHistory self.now }
+    {
+        self.taken
+    }
+}
+
+// The mark of the outcome, which is kept where its mark can't tell it.
+fn marked(outcome: Outcome, kept: &mut VecDeque<Outcome>) -> Mark
+    requires { deque_len kept.old < deque_capacity kept.old }
+    ensures mark { result ≡ mark_of outcome }
+    ensures kept { deque_items kept.new ≡ deque_items kept.old ++ kept_of outcome }
+    ensures room { deque_capacity kept.new ≡ deque_capacity kept.old }
+{
+    match outcome {
+        Outcome::Passed => Mark::Passed,
+        Outcome::Ignored => Mark::Ignored,
+        Outcome::Failed(_) | Outcome::Measured(_) => {
+            kept.push_back_reserved(outcome);
+            Mark::Kept
+        }
+    }
+}
+
+// The outcome of the mark, which is taken out of the kept ones where it lies there.
+fn unmarked(mark: Mark, kept: &mut VecDeque<Outcome>) -> Outcome
+    requires marked { IsTrue (is_marked mark) }
+    requires kept { weight_of mark ≤ deque_len kept.old }
+    ensures outcome { result ≡ outcome_by mark (deque_items kept.old) }
+    ensures kept { deque_items kept.new ≡ kept_after mark (deque_items kept.old) }
+    ensures room { deque_capacity kept.new ≡ deque_capacity kept.old }
+{
+    match mark {
+        Mark::Passed => Outcome::Passed,
+        Mark::Ignored => Outcome::Ignored,
+        Mark::Kept => {
+            let Some(outcome) = kept.pop_front() else {
+                unreachable!()
+            };
+            outcome
+        }
+        Mark::Free => unreachable!(),
+    }
+}
+
+/// Whatever calls workers and the taking thread make on a board, in whatever order: the rows that were taken, and behind
+/// them those that still wait, are of each place the first report, in the order of the reports. So no row that was accepted
+/// is lost, doubled, changed or overtaken.
+pub fn hands_on_first_reports()
+    ensures law { HandsOnFirstReports }
+{}

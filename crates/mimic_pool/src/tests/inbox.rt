@@ -1,0 +1,185 @@
+//! A board under its lock: workers that report, and a thread that takes.
+ghost use Rattle.std.specs.Prelude.{All};
+ghost use Rattle.mimic_pool.specs.Share.{AllRunners};
+
+use crate::{Inbox, Reports, Share, Untold, deal, join_all, prepare, start_all};
+use mimic_trial::{Failed, Measurement, Outcome, Task};
+use std::alloc::{AllocError, Global};
+use std::sync::atomic::{AtomicU64, Ordering};
+use std::sync::{Arc, Wait};
+use std::test::Fail;
+use std::thread;
+use std::thread::Threads;
+
+fn numbered(number: u64) -> Outcome {
+    Outcome::Measured(Measurement {
+        avg: number,
+        variance: 0,
+    })
+}
+
+#[test]
+fn refuses_what_the_board_hands_back(rt: HostRuntime) -> Result<(), Fail> {
+    let mut inbox = Inbox::new(rt.alloc(), 2, 1)?;
+    let mut reports = inbox.reports(rt, rt.alloc())?;
+    assert_eq!(rt; reports.tell(1, &Outcome::Passed), Ok(()));
+    assert_eq!(rt; reports.tell(1, &Outcome::Ignored), Err(Untold));
+    assert_eq!(rt; reports.tell(2, &Outcome::Passed), Err(Untold));
+    assert_eq!(rt; reports.told(), 1);
+    assert_eq!(rt; reports.refusals(), 2);
+    assert!(rt; !inbox.is_idle(&rt));
+    assert!(rt; inbox.next(&rt) == Some((1, Outcome::Passed)));
+    assert!(rt; inbox.is_idle(&rt));
+    Ok(())
+}
+
+// A copy that can't be made is refused, and another row is told after it.
+#[test]
+fn refuses_what_it_cannot_copy(rt: HostRuntime) -> Result<(), Fail> {
+    let woops = Failed::with_message(String::from_str(rt.alloc(), "Woops")?);
+    let woops = Outcome::Failed(woops);
+    let mut inbox = Inbox::new(rt.alloc(), 2, 1)?;
+    let mut reports = inbox.reports(rt, rt.alloc())?;
+    let told = reports.tell(0, &woops);
+    assert_eq!(rt; reports.tell(1, &Outcome::Passed), Ok(()));
+    if told.is_ok() {
+        assert!(rt; inbox.next(&rt) == Some((0, woops)));
+    } else {
+        assert_eq!(rt; reports.refusals(), 1);
+    }
+    assert!(rt; inbox.next(&rt) == Some((1, Outcome::Passed)));
+    Ok(())
+}
+
+// The inbox is at its end when all workers have closed and all rows were taken, and not before.
+#[test]
+fn a_worker_closes_when_its_reports_are_dropped(rt: HostRuntime) -> Result<(), Fail> {
+    let mut inbox = Inbox::new(rt.alloc(), 2, 2)?;
+    let silent = inbox.reports(rt, rt.alloc())?;
+    let mut telling = inbox.reports(rt, rt.alloc())?;
+    drop(silent);
+    assert_eq!(rt; telling.tell(0, &Outcome::Passed), Ok(()));
+    assert!(rt; inbox.next(&rt) == Some((0, Outcome::Passed)));
+    assert_eq!(rt; telling.tell(1, &Outcome::Ignored), Ok(()));
+    drop(telling);
+    assert!(rt; inbox.next(&rt) == Some((1, Outcome::Ignored)));
+    assert!(rt; inbox.next(&rt).is_none());
+    assert!(rt; inbox.next(&rt).is_none());
+    Ok(())
+}
+
+// Gives its number once so many rows were taken. Where that doesn't come in time, it fails.
+#[derive(Drop)]
+struct Awaits {
+    taken: Arc<AtomicU64>,
+    rows: u64,
+    number: u64,
+}
+
+impl Task for Awaits {
+    fn run(self, _test_mode: bool) -> Outcome {
+        for _ in 0..10_000_000 {
+            if self.taken.load(Ordering::SeqCst) >= self.rows {
+                return numbered(self.number);
+            }
+            thread::yield_now();
+        }
+        Outcome::Failed(Failed::without_message())
+    }
+}
+
+// Runs the shares of two workers, and gives the rows in the order in which they were taken. `taken` counts them.
+fn rows_taken<T: Task + Send + 'static, R: Threads + Wait + Copy + Drop + Send + 'static>(
+    rt: &R,
+    alloc: Global,
+    shares: Vec<Share<T>>,
+    trials: usize,
+    taken: &AtomicU64,
+) -> Result<Vec<(usize, Outcome)>, Fail>
+    requires { All (λ share. AllRunners T.can_run share) shares.items }
+{
+    let mut inbox = Inbox::new(alloc, trials, 2)?;
+    let handles = Vec::with_capacity(alloc, shares.len())?;
+    let mut rows = Vec::with_capacity(alloc, trials)?;
+    let starts = prepare(alloc, shares, &inbox)?;
+    let Ok(handles) = start_all(rt, alloc, starts, true, handles) else {
+        return Err(Fail::new("a worker could not be started"));
+    };
+    for _ in rt.forever() {
+        let Some(row) = inbox.next(rt) else {
+            break;
+        };
+        rows.push(row)?;
+        taken.fetch_add(1, Ordering::SeqCst);
+    }
+    join_all(rt, handles, Vec::new(alloc));
+    Ok(rows)
+}
+
+// Which rows are to be taken before a task runs.
+#[derive(Clone, Copy)]
+enum Before {
+    None,
+    AllOfLowerPlaces,
+}
+
+// The shares of two workers of so many tasks, each of which gives the number of its place.
+fn shares_of(
+    alloc: Global,
+    trials: usize,
+    before: Before,
+    taken: &Arc<AtomicU64>,
+) -> Result<Vec<Share<Awaits>>, AllocError> {
+    let mut tasks = Vec::with_capacity(alloc, trials)?;
+    for place in 0..trials {
+        let number = place as u64;
+        let rows = match before {
+            Before::None => 0,
+            Before::AllOfLowerPlaces => number,
+        };
+        let taken = Arc::try_clone(taken)?;
+        tasks.push(Awaits {
+            taken,
+            rows,
+            number,
+        })?;
+    }
+    let flags = vec![in alloc; false; tasks.len()]?;
+    deal(alloc, tasks, flags, 2)
+}
+
+// Two workers that report as fast as they can: each row comes once, with its own outcome, and those of a worker in order.
+#[test]
+fn two_workers_lose_nothing(rt: HostRuntime) -> Result<(), Fail> {
+    let alloc = rt.alloc();
+    for _round in 0..100 {
+        let taken = Arc::new(alloc, AtomicU64::new(0))?;
+        let shares = shares_of(alloc, 600, Before::None, &taken)?;
+        let rows = rows_taken(&rt, alloc, shares, 600, &taken)?;
+        let mut next = [0, 1];
+        for (place, outcome) in &rows {
+            let worker = place % 2;
+            assert_eq!(rt; *place, next[worker]);
+            assert!(rt; *outcome == numbered(*place as u64));
+            next[worker] = place.saturating_add(2);
+        }
+        assert_eq!(rt; next, [600, 601]);
+    }
+    Ok(())
+}
+
+// Each row is reported when those before it were taken, so the taking thread is asleep then, or about to be. A wake-up
+// that is lost leaves it asleep until the workers close, and the next task fails.
+#[test]
+fn no_wake_up_is_lost(rt: HostRuntime) -> Result<(), Fail> {
+    let alloc = rt.alloc();
+    let taken = Arc::new(alloc, AtomicU64::new(0))?;
+    let shares = shares_of(alloc, 5_000, Before::AllOfLowerPlaces, &taken)?;
+    let rows = rows_taken(&rt, alloc, shares, 5_000, &taken)?;
+    assert_eq!(rt; rows.len(), 5_000);
+    for (number, (place, outcome)) in rows.iter().enumerate() {
+        assert_eq!(rt; *place, number);
+        assert!(rt; *outcome == numbered(number as u64));
+    }
+    Ok(())
+}
