@@ -8,5 +8,7 @@ pub mod Machine
 pub mod NamedLines
 pub mod QuotedTexts
 pub mod Readings
+pub mod RowReaders
 pub mod Summaries
+pub mod Tallies
 pub mod WholeLines

@@ -4,9 +4,10 @@ use Rattle.std.specs.List.{concat, flat_map, AllByRecursion}
 use Rattle.std.proofs.lemmas.List.{length-append}
 use Rattle.std.proofs.lemmas.List.Concat.{flat_map-append}
 use Rattle.std.proofs.lemmas.List.Folds.{concat-append}
+use Rattle.mimic_trial.specs.declared.outcome.Outcome.{Outcome}
 use Rattle.mimic_printer.specs.Json.{Entry, FitsEntry, entry_lines, json_announcement, json_outcome}
 use Rattle.mimic_events.specs.Machine.{Announces, Ends, Fits, FitsNext, LeadsFrom, Next, State, Step, Takes, state_text, text_so_far, title_and, title_next, row_next, outcome_next, nothing_next}
-use Rattle.mimic_events.specs.Reading.{Decodes, IsSummary}
+use Rattle.mimic_events.specs.Reading.{Decodes, IsAnnouncement, IsOutcome, IsSummary, IsTitle}
 
 -- ---- a step
 
@@ -47,6 +48,22 @@ keeps_from (nothing_next filtered_out nanos) old line new few fits at h = absurd
 
 pub step_keeps : (old : State) (line : List ℕ) (new : State) → Fits old → Step old line new → (state_text new ≡ state_text old ++ line) × Fits new
 step_keeps old line new fits step = keeps_from old.next old line new fits.announced fits.entries fits.next step
+
+-- ---- lines that belong where they come
+
+pub takes_title : (s : State) (line : List ℕ) (count : ℕ) → s.next ≡ title_next → Decodes IsTitle line (Some count) → Takes true s line (record s { next = row_next; announced = count })
+takes_title s line count at d = rw at ((count, d.0, refl), λ t h. h.2 ∙ ap (λ (k : ℕ). record s { next = row_next; announced = k }) (d.1 h.0 h.1))
+
+one_name : (s : State) (line name : List ℕ) (t : State) → length s.entries < s.announced → ((u : List ℕ) → IsAnnouncement u line → u ≡ name) → Announces s line t ⊎ Ends s line t → t ≡ record s { next = outcome_next name }
+one_name s line name t more only (inl (less, other, is, e)) = e ∙ ap (λ (u : List ℕ). record s { next = outcome_next u }) (only other is)
+one_name s line name t more only (inr (all, numbers, is, e)) = absurd (omega (arith, more, all))
+
+pub takes_announcement : (s : State) (line name : List ℕ) → s.next ≡ row_next → length s.entries < s.announced → Decodes IsAnnouncement line (Some name) → Takes true s line (record s { next = outcome_next name })
+takes_announcement s line name at more d = rw at (inl (more, name, d.0, refl), λ t h. one_name s line name t more d.1 h)
+
+pub takes_outcome : (s : State) (line name : List ℕ) (outcome : Outcome) → s.next ≡ outcome_next name → Decodes (IsOutcome name) line (Some outcome)
+    → Takes true s line (record s { next = row_next; entries = s.entries ++ record { name = name; outcome = outcome } ∷ [] })
+takes_outcome s line name outcome at d = rw at ((outcome, d.0, refl), λ t h. h.2 ∙ ap (λ (o : Outcome). record s { next = row_next; entries = s.entries ++ record { name = name; outcome = o } ∷ [] }) (d.1 h.0 h.1))
 
 -- ---- where all rows have come
 

@@ -1,16 +1,18 @@
 -- What is known of the bytes that were read: the one report that they may be, and the rows that have ended.
-use Rattle.std.proofs.Common.{◌≡◌, ◌≢◌, ◌⊎◌, ℕ, ◌+◌, ◌<◌, ◌≤◌, ◌^◌, List, [], ◌∷◌, ◌++◌, Bool, true, false, length, Option, Some, None, Result, Ok, Err, OnOk, cond, is_ok, refl, sym, ap, subst, ◌∙◌, append_assoc, append-nil, inl, inr, arith}
+use Rattle.std.proofs.Common.{◌≡◌, ◌≢◌, ◌⊎◌, ℕ, ◌+◌, ◌<◌, ◌≤◌, ◌^◌, List, [], ◌∷◌, ◌++◌, Bool, true, false, length, Option, Some, None, refl, sym, ap, subst, ◌∙◌, append_assoc, append-nil, inl, inr, arith}
 use Rattle.std.specs.List.{flat_map, concat, AllByRecursion}
 use Rattle.std.proofs.lemmas.List.{length-append}
 use Rattle.std.proofs.lemmas.List.Folds.{concat-append}
+use Rattle.mimic_trial.specs.declared.outcome.conclusion.Conclusion.{Conclusion}
 use Rattle.mimic_trial.specs.Count.{counts_of}
 use Rattle.mimic_printer.specs.Json.{Entry, Contents, FitsEntry, IsJsonReport, conclusion_of, entry_lines, report_lines, json_announcement, json_title, json_summary, json_report}
 use Rattle.mimic_printer.proofs.JsonLines.{each_append, lines_each, no_end-append, rows_each, title_line}
-use Rattle.mimic_events.specs.Contents.{Spells}
+use Rattle.mimic_events.specs.Contents.{Spells, totals_of}
 use Rattle.mimic_events.specs.Feed.{AreEnded, BeginsWith}
 use Rattle.mimic_events.specs.Reading.{Decodes}
-use Rattle.mimic_events.specs.Machine.{Fits, FitsNext, HasNoEnd, IsLine, IsReadOut, LeadsFrom, Next, Runs, State, Step, title_next, row_next, outcome_next, nothing_next, start, state_text, text_so_far}
-use Rattle.mimic_events.specs.Pieces.{IsOnlyWay, IsUnread, Known, Leads}
+use Rattle.mimic_events.specs.Machine.{Fits, FitsNext, HasNoEnd, IsLine, LeadsFrom, Next, Runs, State, Step, TellsTotals, title_next, row_next, outcome_next, nothing_next, start, state_text, text_so_far}
+use Rattle.mimic_events.specs.declared.report.Totals.{Totals}
+use Rattle.mimic_events.specs.Pieces.{IsOnlyWay, IsUnread, Known, Leads, SumsUp, report_with}
 use Rattle.mimic_events.proofs.FewRows.{few_rows}
 use Rattle.mimic_events.proofs.WholeLines.{no_line, one_line}
 use Rattle.mimic_events.proofs.Machine.{step_keeps}
@@ -137,7 +139,7 @@ refused s t rest end line left known last parts same none stays =
 
 -- ---- a piece with no whole line
 
-more_left : (s : State) (rest piece : List ℕ) (stuck : Bool) → Known s rest stuck → (stuck ≡ false → HasNoEnd piece) → Known s (rest ++ piece) stuck
+pub more_left : (s : State) (rest piece : List ℕ) (stuck : Bool) → Known s rest stuck → (stuck ≡ false → HasNoEnd piece) → Known s (rest ++ piece) stuck
 more_left s rest piece false known whole = record { fits = known.fits; way = known.way; unread = no_end-append rest piece known.unread (whole refl) }
 more_left s rest piece true known whole = record {
   fits = known.fits;
@@ -150,11 +152,6 @@ more_left s rest piece true known whole = record {
     nowhere = known.unread.nowhere;
   };
 }
-
--- so where the piece could be kept
-pub kept : {T E : Type 0} (r : Result T E) (s : State) (rest piece joined : List ℕ) (stuck : Bool) → Known s rest stuck → (stuck ≡ false → HasNoEnd piece) → joined ≡ cond (is_ok r) (rest ++ piece) rest → OnOk r (Known s joined stuck)
-kept (Ok done) s rest piece joined stuck known whole e = subst (λ (x : List ℕ). Known s x stuck) (sym e) (more_left s rest piece stuck known whole)
-kept (Err fault) s rest piece joined stuck known whole e = tt
 
 -- ---- no more lines
 
@@ -222,22 +219,25 @@ pub no_report : (s : State) (rest : List ℕ) (stuck : Bool) → Known s rest st
 no_report s rest stuck known short some = λ c h. some (report_was_read s rest stuck c known short h).1
 
 -- where nothing is left, the report is what the lines said
-pub the_one_report : (s : State) (rest : List ℕ) (stuck : Bool) (o : Option Contents) → Known s rest stuck → length rest < 2 ^ 64 → rest ≡ [] → IsReadOut s o → Decodes Spells (state_text s ++ rest) o
+pub the_one_report : (s : State) (rest : List ℕ) (stuck : Bool) (o : Option Totals) → Known s rest stuck → length rest < 2 ^ 64 → rest ≡ [] → TellsTotals s o → SumsUp (state_text s ++ rest) s.entries o
 the_one_report s rest stuck None known short none out = λ c h.
     out c.filtered_out c.nanos (ap (λ (u : State). u.next) (report_was_read s rest stuck c known short h).0)
-the_one_report s rest stuck (Some c) known short none out =
+the_one_report s rest stuck (Some t) known short none out =
+    let c : Contents = report_with s.entries t in
     let all : length s.entries ≡ s.announced = (rw out.0 at known.fits.next).0 in
-    let here : s ≡ over c = rw (← out.0, ← out.1, all) refl in
-    let whole : state_text s ++ rest ≡ state_text (over c) = ap (λ (r : List ℕ). state_text s ++ r) none ∙ append-nil (state_text s) ∙ ap state_text here in (
-      subst (λ (b : List ℕ). IsJsonReport b c) (sym whole) (report_read c (subst Fits here known.fits)),
-      λ v h.
-          let same : over v ≡ over c = sym (report_was_read s rest stuck v known short h).0 ∙ here in
-          let next : nothing_next v.filtered_out v.nanos ≡ nothing_next c.filtered_out c.nanos = ap (λ (u : State). u.next) same in
-          let x : v.filtered_out ≡ c.filtered_out = cc in
-          let t : v.nanos ≡ c.nanos = cc in
-          let es : v.entries ≡ c.entries = ap (λ (u : State). u.entries) same in
-          rw (← x, ← t, ← es) refl,
-    )
+    let here : s ≡ over c = rw (← out.0, all) refl in
+    let whole : state_text s ++ rest ≡ state_text (over c) = ap (λ (r : List ℕ). state_text s ++ r) none ∙ append-nil (state_text s) ∙ ap state_text here in
+    let only : (v : Contents) → IsJsonReport (state_text s ++ rest) v → v ≡ c = λ v h.
+    let same : over v ≡ over c = sym (report_was_read s rest stuck v known short h).0 ∙ here in
+    let next : nothing_next v.filtered_out v.nanos ≡ nothing_next c.filtered_out c.nanos = ap (λ (u : State). u.next) same in
+    let x : v.filtered_out ≡ c.filtered_out = cc in
+    let n : v.nanos ≡ c.nanos = cc in
+    let es : v.entries ≡ c.entries = ap (λ (u : State). u.entries) same in
+    rw (← x, ← n, ← es) refl in
+    let rows : t ≡ record { rows = length s.entries; counts = t.counts; nanos = t.nanos } = ap (λ (k : ℕ). record { rows = k; counts = t.counts; nanos = t.nanos }) out.1 in
+    let counts : record { rows = length s.entries; counts = t.counts; nanos = t.nanos } ≡ totals_of c =
+    ap (λ (k : Conclusion). record { rows = length s.entries; counts = k; nanos = t.nanos }) out.2 in
+    ((subst (λ (b : List ℕ). IsJsonReport b c) (sym whole) (report_read c (subst Fits here known.fits)), only), rows ∙ counts)
 
 -- ---- the rows that have ended
 

@@ -1,8 +1,9 @@
 -- What a report that was read back tells, in the words of the reports that are written.
-use Rattle.std.specs.Prelude.{ℕ, List, map, string_bytes}
-use Rattle.mimic_printer.specs.Json.{Entry, Contents, IsJsonReport}
+use Rattle.std.specs.Prelude.{ℕ, List, length, map, string_bytes}
+use Rattle.mimic_printer.specs.Json.{Entry, Contents, IsJsonReport, conclusion_of}
 use Rattle.mimic_events.specs.declared.report.Row.{Row}
 use Rattle.mimic_events.specs.declared.report.Report.{Report}
+use Rattle.mimic_events.specs.declared.report.Totals.{Totals}
 
 -- what a row that was read tells: its name and its outcome
 abbrev pub entry_read : Row → Entry
@@ -11,6 +12,10 @@ entry_read row = record { name = string_bytes row.name; outcome = row.outcome }
 -- what a report that was read tells: the entries of its rows, and its two numbers
 abbrev pub contents_read : Report → Contents
 contents_read r = record { entries = map entry_read r.rows.items; filtered_out = r.filtered_out; nanos = r.nanos }
+
+-- what a report tells in numbers: how many rows, their counts, and the nanoseconds
+abbrev pub totals_of : Contents → Totals
+totals_of c = record { rows = length c.entries; counts = conclusion_of c; nanos = c.nanos }
 
 -- the bytes are the JSON report of these contents
 abbrev pub Spells : Contents → List ℕ → Type 0

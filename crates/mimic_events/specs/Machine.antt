@@ -3,13 +3,17 @@ use Rattle.std.specs.Prelude.{◌≡◌, ◌≢◌, ◌⊎◌, ℕ, ◌<◌, ◌
 use Rattle.std.specs.List.{AllByRecursion, concat, flat_map}
 use Rattle.mimic_trial.specs.declared.outcome.Outcome.{Outcome}
 use Rattle.mimic_trial.specs.Count.{counts_of}
-use Rattle.mimic_printer.specs.Json.{Entry, Contents, FitsEntry, entry_lines, json_announcement, json_summary, json_title}
+use Rattle.mimic_printer.specs.Json.{Entry, FitsEntry, entry_lines, json_announcement, json_summary, json_title}
 pub use Rattle.mimic_printer.specs.Json.{HasNoEnd, IsLine}
-use Rattle.mimic_events.specs.declared.progress.Stage.{Stage}
-use Rattle.mimic_events.specs.declared.progress.Stage.TheVariants as stage
+use Rattle.mimic_events.specs.declared.stage.Stage.{Stage}
+use Rattle.mimic_events.specs.declared.stage.Stage.TheVariants as stage
 use Rattle.mimic_events.specs.declared.progress.Progress.{Progress}
+use Rattle.mimic_events.specs.declared.progress.Taken.{Taken}
+use Rattle.mimic_events.specs.declared.progress.Taken.TheVariants.{Astray, Read}
+use Rattle.mimic_events.specs.declared.report.Row.{Row}
+use Rattle.mimic_events.specs.declared.report.Totals.{Totals}
 use Rattle.mimic_events.specs.Contents.{entry_read}
-use Rattle.mimic_events.specs.Reading.{IsTitle, IsAnnouncement, IsOutcome, IsSummary}
+use Rattle.mimic_events.specs.Reading.{HasCounts, IsTitle, IsAnnouncement, IsOutcome, IsSummary}
 
 -- ---- states between lines
 
@@ -37,8 +41,13 @@ next_of stage.Row = row_next
 next_of (stage.Outcome name) = outcome_next (string_bytes name)
 next_of (stage.Over filtered_out nanos) = nothing_next filtered_out nanos
 
-abbrev pub state_of : Progress → State
-state_of p = record { next = next_of p.stage; announced = p.announced; entries = map entry_read p.rows.items }
+-- the state where these are the rows that have ended: none of them is kept
+abbrev pub state_with : Progress → List Entry → State
+state_with p entries = record { next = next_of p.stage; announced = p.announced; entries = entries }
+
+-- as many rows as these were counted, with their outcomes
+abbrev pub IsCounted : Progress → List Entry → Type 0
+IsCounted p entries = (p.done ≡ length entries) × HasCounts p.counts entries
 
 -- ---- the text that was read
 
@@ -102,12 +111,23 @@ abbrev pub Takes : Bool → State → List ℕ → State → Type 0
 Takes true old line new = Step old line new × ((s : State) → Step old line s → s ≡ new)
 Takes false old line new = (new ≡ old) × ((s : State) → Step old line s → ⊥)
 
+-- the rows with the one that ended, if one did
+abbrev pub with_row : List Entry → Option Row → List Entry
+with_row entries None = entries
+with_row entries (Some row) = entries ++ entry_read row ∷ []
+
+-- the line belonged there, and moved the lines so far behind it; or it didn't, and they stay
+abbrev pub Moves : Progress → List Entry → List ℕ → Progress → Taken → Type 0
+Moves old entries line new Astray = IsCounted new entries × Takes false (state_with old entries) line (state_with new entries)
+Moves old entries line new (Read row) = IsCounted new (with_row entries row) × Takes true (state_with old entries) line (state_with new (with_row entries row))
+
 -- the lines lead from one state to the other
 abbrev pub Runs : State → List (List ℕ) → State → Type 0
 Runs s [] t = s ≡ t
 Runs s (line ∷ lines) t = (next : State) × Step s line next × Runs next lines t
 
 -- what the lines said, where the summary was the last of them; nothing where it wasn't
-abbrev pub IsReadOut : State → Option Contents → Type 0
-IsReadOut s None = (filtered_out nanos : ℕ) → s.next ≢ nothing_next filtered_out nanos
-IsReadOut s (Some c) = (s.next ≡ nothing_next c.filtered_out c.nanos) × (s.entries ≡ c.entries)
+abbrev pub TellsTotals : State → Option Totals → Type 0
+TellsTotals s None = (filtered_out nanos : ℕ) → s.next ≢ nothing_next filtered_out nanos
+TellsTotals s (Some t) = (s.next ≡ nothing_next t.counts.num_filtered_out t.nanos)
+    × (t.rows ≡ length s.entries) × (t.counts ≡ counts_of (map (λ entry. entry.outcome) s.entries) t.counts.num_filtered_out)

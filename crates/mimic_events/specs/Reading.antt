@@ -1,6 +1,7 @@
 -- What readers answer, and what they read.
 use Rattle.std.specs.Prelude.{◌≡◌, ℕ, ◌<◌, ◌^◌, List, map, decimal, Option, Some, None, IsUtf8}
 use Rattle.mimic_trial.specs.declared.outcome.Outcome.{Outcome}
+use Rattle.mimic_trial.specs.declared.outcome.conclusion.Conclusion.{Conclusion}
 use Rattle.mimic_trial.specs.Count.{counts_of}
 use Rattle.mimic_printer.specs.Json.{Entry, json_title, json_announcement, json_outcome, json_summary}
 use Rattle.mimic_trial.specs.Promise.{FitsTypes}
@@ -35,3 +36,7 @@ IsOutcome name outcome line = FitsTypes outcome × (line ≡ json_outcome name o
 abbrev pub IsSummary : List Entry → ℕ × ℕ → List ℕ → Type 0
 IsSummary entries numbers line = (numbers.0 < 2 ^ 64) × (numbers.1 < 2 ^ 64)
     × (line ≡ json_summary (counts_of (map (λ entry. entry.outcome) entries) numbers.0) numbers.1)
+
+-- so many rows have each outcome
+abbrev pub HasCounts : Conclusion → List Entry → Type 0
+HasCounts counts entries = counts ≡ counts_of (map (λ entry. entry.outcome) entries) 0

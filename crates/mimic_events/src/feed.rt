@@ -24,13 +24,13 @@ pub struct Feed {
 impl Model for Feed {
     ghost use Rattle.std.specs.Prelude.{◌≡◌, false};
     ghost use Rattle.mimic_events.specs.Feed.{Fed};
-    ghost use Rattle.mimic_events.specs.Pieces.{IsSound, bytes_of};
+    ghost use Rattle.mimic_events.specs.Pieces.{IsSoundSoFar, bytes_so_far};
 
     ghost Value = { Fed };
 
-    ghost view = { λ f. record { bytes = bytes_of f.reading; failed = f.failed } };
+    ghost view = { λ f. record { bytes = bytes_so_far f.reading; failed = f.failed } };
 
-    ghost invariant = { λ f. f.failed ≡ false → IsSound f.reading };
+    ghost invariant = { λ f. f.failed ≡ false → IsSoundSoFar f.reading };
 }
 
 impl Feed {

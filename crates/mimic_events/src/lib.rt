@@ -9,11 +9,15 @@ mod progress;
 mod quoted;
 mod reading;
 mod report;
+mod row_reader;
+mod stage;
 mod strip;
 mod summary;
+mod tally;
 
 pub use feed::{Feed, read_report};
-pub use report::{Report, Row};
+pub use report::{Report, Row, Totals};
+pub use tally::Tally;
 
 #[cfg(test)]
 mod tests;

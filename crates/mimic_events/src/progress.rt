@@ -1,25 +1,24 @@
 //! How far the lines of a report were read.
-ghost use Rattle.std.specs.Prelude.{◌≡◌, ◌++◌, MatchOption};
-ghost use Rattle.mimic_events.specs.Machine.{IsLine, HasNoEnd};
+ghost use Rattle.std.specs.Prelude.{◌≡◌, ◌+◌, ◌++◌, ◌≤◌, MatchOption};
+ghost use Rattle.mimic_printer.specs.Json.{IsLine, HasNoEnd};
+ghost use Rattle.mimic_trial.specs.Count.{total_of};
+ghost use Rattle.mimic_events.specs.Stages.{begun, most};
 
 use crate::lines::{announced, ended, titled};
-use crate::report::{Report, Row};
+use crate::report::{Row, Totals};
+use crate::stage::Stage;
 use crate::summary::summed;
 use memchr::memchr;
+use mimic_trial::Conclusion;
 use std::alloc::{AllocError, Global};
 use std::mem;
 
-// Which line comes next.
-#[derive(Debug, Drop)]
-enum Stage {
-    // The title.
-    Title,
-    // The announcement of a row, or the summary where all rows have come.
-    Row,
-    // The outcome of the row of this name.
-    Outcome(String),
-    // None: the summary said how many trials were filtered out, and the nanoseconds.
-    Over(u64, u64),
+// What became of a line.
+pub(crate) enum Taken {
+    // It doesn't belong there.
+    Astray,
+    // It was read, and may have ended a row.
+    Read(Option<Row>),
 }
 
 // What the lines so far said.
@@ -28,79 +27,84 @@ pub(crate) struct Progress {
     stage: Stage,
     // The number of rows that the title announced, and 0 before it.
     announced: u64,
-    // The rows that have come.
-    rows: Vec<Row>,
+    // The number of rows that have come, and of each outcome among them.
+    done: u64,
+    counts: Conclusion,
+    ghost counted: { total_of counts ≡ done },
+    ghost within: { done + begun stage ≤ most stage announced },
 }
 
 impl Progress {
-    ghost use Rattle.std.specs.Prelude.{◌≡◌, IfOk, map, option_map};
-    ghost use Rattle.mimic_events.specs.Contents.{contents_read, entry_read};
-    ghost use Rattle.mimic_events.specs.Machine.{IsReadOut, Takes, start, state_of};
+    ghost use Rattle.std.specs.Prelude.{◌≡◌, [], List, IfOk};
+    ghost use Rattle.mimic_printer.specs.Json.{Entry};
+    ghost use Rattle.mimic_events.specs.Machine.{IsCounted, Moves, TellsTotals, start, state_with};
 
     // No line was read.
-    pub(crate) fn new(alloc: Global) -> Self
-        ensures { state_of result ≡ start }
+    pub(crate) fn new() -> Self
+        ensures start { state_with result [] ≡ start }
+        ensures counted { IsCounted result [] }
     {
         Progress {
             stage: Stage::Title,
             announced: 0,
-            rows: Vec::new(alloc),
+            done: 0,
+            counts: Conclusion::empty(0),
         }
     }
 
-    // Takes the next line, and says whether it belongs there. Where it doesn't, nothing changes.
-    pub(crate) fn take_line(&mut self, alloc: Global, line: &[u8]) -> Result<bool, AllocError>
-        ensures { IfOk result (λ taken. Takes taken (state_of self.old) line.now (state_of self.new)) }
+    // Takes the next line, if it belongs there. Where it doesn't, nothing changes.
+    pub(crate) fn take_line(&mut self, alloc: Global, line: &[u8]) -> Result<Taken, AllocError>
+        ensures { IfOk result (λ taken. (entries : List Entry) → IsCounted self.old entries → Moves self.old entries line.now self.new taken) }
     {
-        match &self.stage {
+        let row = match &mut self.stage {
             Stage::Title => {
                 let Some(count) = titled(line) else {
-                    return Ok(false);
+                    return Ok(Taken::Astray);
                 };
                 self.announced = count;
                 self.stage = Stage::Row;
+                None
             }
-            Stage::Row if (self.rows.len() as u64) < self.announced => {
+            Stage::Row if self.done < self.announced => {
                 let Some(name) = announced(alloc, line)? else {
-                    return Ok(false);
+                    return Ok(Taken::Astray);
                 };
                 self.stage = Stage::Outcome(name);
+                None
             }
             Stage::Row => {
-                let Some((filtered_out, nanos)) = summed(&self.rows, line) else {
-                    return Ok(false);
+                let Some((filtered_out, nanos)) = summed(&self.counts, line) else {
+                    return Ok(Taken::Astray);
                 };
                 self.stage = Stage::Over(filtered_out, nanos);
+                None
             }
             Stage::Outcome(name) => {
                 let Some(outcome) = ended(alloc, name.as_str(), line)? else {
-                    return Ok(false);
+                    return Ok(Taken::Astray);
                 };
-                self.rows.reserve(1)?;
-                if let Stage::Outcome(name) = mem::replace(&mut self.stage, Stage::Row) {
-                    self.rows.push(Row { name, outcome })?;
-                }
+                let name = mem::replace(name, String::new(alloc));
+                self.stage = Stage::Row;
+                self.done += 1;
+                self.counts.count(&outcome);
+                Some(Row { name, outcome })
             }
-            Stage::Over(_, _) => return Ok(false),
-        }
-        Ok(true)
+            Stage::Over(_, _) => return Ok(Taken::Astray),
+        };
+        Ok(Taken::Read(row))
     }
 
-    // The rows that have come.
-    pub(crate) fn rows(&self) -> &[Row]
-        ensures { map entry_read result.now ≡ (state_of self.now).entries }
-    {
-        self.rows.as_slice()
-    }
-
-    // What the lines said, where the summary was the last of them.
-    pub(crate) fn into_report(self) -> Option<Report>
-        ensures { IsReadOut (state_of self) (option_map contents_read result) }
+    // What the lines told in numbers, where the summary was the last of them.
+    pub(crate) fn into_totals(self) -> Option<Totals>
+        ensures { (entries : List Entry) → IsCounted self entries → TellsTotals (state_with self entries) result }
     {
         match self.stage {
-            Stage::Over(filtered_out, nanos) => Some(Report {
-                rows: self.rows,
-                filtered_out,
+            Stage::Over(filtered_out, nanos) => Some(Totals {
+                rows: self.done,
+                counts: Conclusion {
+                    num_filtered_out: filtered_out,
+                    ..self.counts
+                },
                 nanos,
             }),
             _ => None,

@@ -33,3 +33,14 @@ impl Report {
         counts_of_rows(&self.rows, self.filtered_out)
     }
 }
+
+/// What a report tells in numbers.
+#[derive(Debug, PartialEq, Eq, Drop)]
+pub struct Totals {
+    /// The number of trials that ran or were ignored.
+    pub rows: u64,
+    /// The number of trials with each outcome, as the harness answered it.
+    pub counts: Conclusion,
+    /// The time that the run took, in nanoseconds.
+    pub nanos: u64,
+}

@@ -1,24 +1,20 @@
 //! The line that ends a report.
-ghost use Rattle.std.specs.Prelude.{◌≡◌, map};
+ghost use Rattle.std.specs.Prelude.{◌≡◌, List};
 ghost use Rattle.std.specs.List.{concat};
-ghost use Rattle.mimic_printer.specs.Json.{json_verdict, summary_front};
-ghost use Rattle.mimic_events.specs.Contents.{entry_read};
+ghost use Rattle.mimic_printer.specs.Json.{Entry, json_verdict, summary_front};
 ghost use Rattle.mimic_events.specs.Steps.{Follows, IsTotals};
-ghost use Rattle.mimic_events.specs.Reading.{Decodes, IsSummary};
+ghost use Rattle.mimic_events.specs.Reading.{Decodes, HasCounts, IsSummary};
 
-use crate::counts::counts_of_rows;
 use crate::numbers::{number_at, seconds};
-use crate::report::Row;
 use crate::strip::{after, after_all, before};
 use itoa::Buffer;
 use mimic_trial::Conclusion;
 
-// The number of trials that were filtered out and the nanoseconds, of a summary line of these rows.
-pub(crate) fn summed(rows: &[Row], line: &[u8]) -> Option<(u64, u64)>
-    ensures { Decodes (IsSummary (map entry_read rows.now)) line.now result }
+// The number of trials that were filtered out and the nanoseconds, of a summary line of so many outcomes.
+pub(crate) fn summed(counts: &Conclusion, line: &[u8]) -> Option<(u64, u64)>
+    ensures { (entries : List Entry) → HasCounts counts.now entries → Decodes (IsSummary entries) line.now result }
 {
-    // How many were filtered out is told behind these counts.
-    totals(after_counts(line, &counts_of_rows(rows, 0))?)
+    totals(after_counts(line, counts)?)
 }
 
 // The number of trials that were filtered out and the nanoseconds, from what follows the counts of outcomes.

@@ -1,8 +1,8 @@
 //! What no clause says: that reports are read where memory is ample, and what the definition of a report holds and refuses.
 //! Expected values are worked by hand from the format's rules. The report of a run is read back in `mimic_readback`.
-use crate::{Feed, Report, Row, read_report};
+use crate::{Feed, Report, Row, Tally, Totals, read_report};
 use mimic_trial::{Conclusion, Failed, Measurement, Outcome};
-use std::alloc::Global;
+use std::alloc::{AllocError, Global};
 use std::test::Fail;
 
 const NO_ROWS: &str = r#"{ "type": "suite", "event": "started", "test_count": 0 }
@@ -74,18 +74,35 @@ fn fed(alloc: Global, pieces: &[&[u8]]) -> Result<Option<Report>, Fail> {
     Ok(report)
 }
 
+// What a tally answers of these pieces.
+fn tallied(alloc: Global, pieces: &[&[u8]]) -> Result<Option<Totals>, Fail> {
+    let mut tally = Tally::new(alloc);
+    for piece in pieces {
+        tally = tally.feed(piece)?;
+    }
+    Ok(tally.finish())
+}
+
+// The numbers of `ALL_SORTS`.
+fn all_totals() -> Totals {
+    Totals {
+        rows: 5,
+        counts: Conclusion {
+            num_filtered_out: u64::MAX,
+            num_passed: 0,
+            num_failed: 3,
+            num_ignored: 1,
+            num_measured: 1,
+        },
+        nanos: 1_500_000_000,
+    }
+}
+
 #[test]
 fn reads_every_outcome(rt: HostRuntime) -> Result<(), Fail> {
     let alloc = rt.alloc();
     let report = read_report(alloc, ALL_SORTS.as_bytes())?.ok_or("no report")?;
-    let counts = Conclusion {
-        num_filtered_out: u64::MAX,
-        num_passed: 0,
-        num_failed: 3,
-        num_ignored: 1,
-        num_measured: 1,
-    };
-    assert!(rt; report.counts() == counts);
+    assert!(rt; report.counts() == all_totals().counts);
     assert!(rt; report == all_sorts(alloc)?);
     Ok(())
 }
@@ -95,10 +112,12 @@ fn reads_every_outcome(rt: HostRuntime) -> Result<(), Fail> {
 fn reads_two_pieces(rt: HostRuntime) -> Result<(), Fail> {
     let alloc = rt.alloc();
     let want = Some(all_sorts(alloc)?);
+    let totals = Some(all_totals());
     let bytes = ALL_SORTS.as_bytes();
     for at in 0..=bytes.len() {
         let (front, back) = bytes.split_at(at);
         assert!(rt; fed(alloc, &[front, b"", back])? == want, "{at}");
+        assert!(rt; tallied(alloc, &[front, b"", back])? == totals, "{at}");
     }
     Ok(())
 }
@@ -128,6 +147,39 @@ fn shows_rows_as_they_end(rt: HostRuntime) -> Result<(), Fail> {
     Ok(())
 }
 
+// Each byte by itself, with the rows so far, or a want of memory at some byte and from then on. Where the Nth
+// allocation fails, for any N, no assertion does.
+#[test]
+fn stays_refused_for_want_of_memory(rt: HostRuntime) -> Result<(), Fail> {
+    let alloc = rt.alloc();
+    let mut feed = Feed::new(alloc)?;
+    let mut is_refused = false;
+    for byte in ALL_SORTS.as_bytes().chunks(1) {
+        let taken = feed.feed(byte);
+        assert!(rt; !(is_refused && taken.is_ok()));
+        is_refused = taken.is_err();
+        assert_eq!(rt; feed.rows().is_none(), is_refused);
+    }
+    match feed.finish() {
+        Ok(report) => assert!(rt; !is_refused && report == Some(all_sorts(alloc)?)),
+        Err(AllocError) => assert!(rt; is_refused),
+    }
+    Ok(())
+}
+
+// The same of a report that is read at once, and of its numbers.
+#[test]
+fn reads_all_or_wants_memory(rt: HostRuntime) -> Result<(), Fail> {
+    let alloc = rt.alloc();
+    if let Ok(report) = read_report(alloc, ALL_SORTS.as_bytes()) {
+        assert!(rt; report == Some(all_sorts(alloc)?));
+    }
+    if let Ok(tally) = Tally::new(alloc).feed(ALL_SORTS.as_bytes()) {
+        assert!(rt; tally.finish() == Some(all_totals()));
+    }
+    Ok(())
+}
+
 #[test]
 fn refuses_other_pieces(rt: HostRuntime) -> Result<(), Fail> {
     let (all, alloc) = (ALL_SORTS.as_bytes(), rt.alloc());
@@ -142,6 +194,7 @@ fn refuses_other_pieces(rt: HostRuntime) -> Result<(), Fail> {
         [all, all],
     ] {
         assert!(rt; fed(alloc, &pieces)?.is_none());
+        assert!(rt; tallied(alloc, &pieces)?.is_none());
     }
     Ok(())
 }

@@ -1,10 +1,10 @@
 -- What a text that was put leaves behind.
-use Rattle.std.proofs.Common.{◌≡◌, ℕ, List, [], Option, Some, None, Result, Ok, Err, IfSome, option_map, sym, subst, ◌∙◌, append-nil}
+use Rattle.std.proofs.Common.{◌≡◌, ℕ, List, [], Option, Some, None, Result, Ok, Err, IfSome, refl, sym, subst, ◌∙◌, append-nil}
 use Rattle.std.specs.Io.KnownBytes.{Appends}
 use Rattle.mimic_printer.specs.Json.{Contents, IsJsonReport}
-use Rattle.mimic_events.specs.declared.report.Report.{Report}
-use Rattle.mimic_events.specs.Contents.{Spells, contents_read}
-use Rattle.mimic_events.specs.Reading.{Decodes}
+use Rattle.mimic_events.specs.declared.report.Totals.{Totals}
+use Rattle.mimic_events.specs.Contents.{totals_of}
+use Rattle.mimic_events.specs.Tally.{SpellsTotals}
 use Rattle.mimic_readreport.specs.declared.program.Fault.{Fault}
 use Rattle.mimic_readreport.specs.Told.{Behind, GetsBeginning, Holds, Leaves, PutsText, report_line}
 
@@ -13,13 +13,15 @@ pub put_begins : {T : Type 0} (a b : Option (List ℕ)) (text line : List ℕ) (
 put_begins a b text line (Ok done) e p = record { front = text; rest = []; parts = sym e ∙ sym (append-nil text); appended = p }
 put_begins a b text line (Err fault) e p = subst (λ l. GetsBeginning a b l) e p.1
 
--- a report that was read from the input is what the input holds
-pub read_holds : (input : Option (List ℕ)) (bytes : List ℕ) (o : Option Report) (r : Report) → IfSome input (λ all. bytes ≡ all) → Decodes Spells bytes (option_map contents_read o) → o ≡ Some r
-    → Holds input (contents_read r)
-read_holds None bytes o r e d g = tt
-read_holds (Some all) bytes o r e d g =
-    let found = rw g at d in
-    subst (λ (l : List ℕ). IsJsonReport l (contents_read r)) e found.0
+-- a report whose numbers were read from the input is what the input holds
+pub read_holds : (input : Option (List ℕ)) (bytes : List ℕ) (c : Contents) → IfSome input (λ all. bytes ≡ all) → IsJsonReport bytes c → Holds input c
+read_holds None bytes c e h = tt
+read_holds (Some all) bytes c e h = subst (λ (l : List ℕ). IsJsonReport l c) e h
+
+-- and bytes that tell no numbers are no report
+pub read_none : (input : Option (List ℕ)) (bytes : List ℕ) → IfSome input (λ all. bytes ≡ all) → ((totals : Totals) → SpellsTotals totals bytes → ⊥) → (c : Contents) → IfSome input (λ all. IsJsonReport all c → ⊥)
+read_none None bytes e none c = tt
+read_none (Some all) bytes e none c = λ h. none (totals_of c) (record { contents = c; spelled = subst (λ (l : List ℕ). IsJsonReport l c) (sym e) h; numbers = refl })
 
 -- its line that was put, whole or not, is what a report leaves
 pub put_leaves : {T : Type 0} (input a b : Option (List ℕ)) (contents : Contents) (text : List ℕ) (put : Result T Fault) → Holds input contents → text ≡ report_line contents → PutsText a b text put → Leaves input a b put

@@ -1,25 +1,24 @@
-//! The line that tells a report.
+//! The line that tells a report in numbers.
 ghost use Rattle.std.specs.Prelude.{◌≡◌, ◌++◌, IfOk, OnOk, string_bytes};
-ghost use Rattle.mimic_events.specs.Contents.{contents_read};
-ghost use Rattle.mimic_readreport.specs.Told.{counted, report_line};
+ghost use Rattle.mimic_readreport.specs.Told.{counted, counts_line};
 
 use itoa::Buffer;
-use mimic_events::Report;
+use mimic_events::Totals;
 use std::alloc::{AllocError, Global};
 
-// The line that tells a report, with its line end, so that it is written at once.
-pub(crate) fn line_of(alloc: Global, report: &Report) -> Result<String, AllocError>
-    ensures { IfOk result (λ line. string_bytes line ≡ report_line (contents_read report.now)) }
+// The line that tells the numbers of a report, with its line end, so that it is written at once.
+pub(crate) fn line_of(alloc: Global, totals: &Totals) -> Result<String, AllocError>
+    ensures { IfOk result (λ line. string_bytes line ≡ counts_line totals.now.rows totals.now.counts totals.now.nanos) }
 {
-    let counts = report.counts();
+    let counts = &totals.counts;
     let mut line = String::new(alloc);
-    put(&mut line, report.rows.len() as u64, " trials: ")?;
+    put(&mut line, totals.rows, " trials: ")?;
     put(&mut line, counts.num_passed, " passed; ")?;
     put(&mut line, counts.num_failed, " failed; ")?;
     put(&mut line, counts.num_ignored, " ignored; ")?;
     put(&mut line, counts.num_measured, " measured; ")?;
     put(&mut line, counts.num_filtered_out, " filtered out; ")?;
-    put(&mut line, report.nanos, " ns\n")?;
+    put(&mut line, totals.nanos, " ns\n")?;
     Ok(line)
 }
 

@@ -1,10 +1,11 @@
 //! The program, but for the machine's input and output.
-ghost use Rattle.std.specs.Prelude.{◌≡◌, IfErr, IfOk, IfSome};
+ghost use Rattle.std.specs.Prelude.{◌≡◌, ℕ, List, IfErr, IfOk, IfSome};
+ghost use Rattle.mimic_events.specs.Tally.{HasRead};
 ghost use Rattle.mimic_readreport.specs.declared.program.Fault.TheVariants.{OutOfMemory};
 ghost use Rattle.mimic_readreport.specs.Told.{Ended, IsOfInput, Leaves, PutsText, fault_line};
 
 use crate::line::line_of;
-use mimic_events::Feed;
+use mimic_events::Tally;
 use std::alloc::{AllocError, Global};
 use std::io::{ErrorKind, Read, Write};
 
@@ -62,25 +63,25 @@ pub fn readreport_run<I: Read, O: Write, E: Write>(
 fn tell_report<I: Read, O: Write>(alloc: Global, input: &mut I, out: &mut O) -> Result<(), Fault>
     ensures { Leaves (I.remaining input.old) (O.contents out.old) (O.contents out.new) result }
 {
-    let feed = fed(alloc, input)?;
-    let Some(report) = feed.finish()? else {
+    let tally = tallied(alloc, input)?;
+    let Some(totals) = tally.finish() else {
         return Err(Fault::NoReport);
     };
-    let line = line_of(alloc, &report)?;
+    let line = line_of(alloc, &totals)?;
     put_text(out, line.as_str())
 }
 
 // Feeds the input to its end, piece by piece. A read that was interrupted is tried again.
-fn fed<I: Read>(alloc: Global, input: &mut I) -> Result<Feed, Fault>
-    ensures read { IfOk result (λ feed. IfSome (I.remaining input.old) (λ all. feed.bytes ≡ all)) }
+fn tallied<I: Read>(alloc: Global, input: &mut I) -> Result<Tally, Fault>
+    ensures read { IfOk result (λ tally. (all : List ℕ) × HasRead tally all × IfSome (I.remaining input.old) (λ bytes. all ≡ bytes)) }
     ensures faults { IfErr result IsOfInput }
 {
-    let mut feed = Feed::new(alloc)?;
+    let mut tally = Tally::new(alloc);
     let mut piece = [0; PIECE];
     for _ in 0..u64::MAX {
         match input.read(&mut piece) {
-            Ok(0) => return Ok(feed),
-            Ok(count) => feed.feed(&piece[..count])?,
+            Ok(0) => return Ok(tally),
+            Ok(count) => tally = tally.feed(&piece[..count])?,
             Err(error) => match error.kind() {
                 ErrorKind::Interrupted => {}
                 ErrorKind::OutOfMemory => return Err(Fault::OutOfMemory),

@@ -1,8 +1,9 @@
 //! The program over memory: its line, its statuses, and what it tells of faults.
 use crate::readreport_run;
+use mimic_faulty::{Fault, FaultyWriter, Place};
 use std::alloc::Global;
 use std::io;
-use std::io::{ErrorKind, Read, Write};
+use std::io::{ErrorKind, Read};
 use std::test::Fail;
 
 const ONE_ROW: &str = r#"{ "type": "suite", "event": "started", "test_count": 1 }
@@ -68,54 +69,21 @@ impl Read for Input<'_> {
     }
 }
 
-// A writer that takes so many bytes, and then fails.
-#[derive(Drop)]
-struct Narrow {
-    taken: Vec<u8>,
-    room: usize,
-    flush_fails: bool,
-}
-
-impl Write for Narrow {
-    fn write(&mut self, buf: &[u8]) -> io::Result<usize> {
-        let count = buf.len().min(self.room);
-        if count == 0 {
-            return Err(io::Error::from(ErrorKind::BrokenPipe));
-        }
-        self.taken.extend_from_slice(&buf[..count])?;
-        self.room -= count;
-        Ok(count)
-    }
-
-    fn flush(&mut self) -> io::Result<()> {
-        if self.flush_fails {
-            return Err(io::Error::from(ErrorKind::BrokenPipe));
-        }
-        Ok(())
-    }
-}
-
 // The status, and what the program left on its two outputs.
 fn run_over(
     alloc: Global,
     bytes: &[u8],
     fault: Option<ErrorKind>,
-    room: usize,
-    flush_fails: bool,
+    mut out: FaultyWriter,
 ) -> Result<(u8, String, String), Fail> {
     let mut input = Input {
         left: bytes,
         fault,
         interrupted: false,
     };
-    let mut out = Narrow {
-        taken: Vec::new(alloc),
-        room,
-        flush_fails,
-    };
     let mut err: Vec<u8> = Vec::new(alloc);
     let status = readreport_run(alloc, &mut input, &mut out, &mut err);
-    let out = String::from_utf8(out.taken)?;
+    let out = String::from_utf8(out.bytes)?;
     let err = String::from_utf8(err)?;
     Ok((status, out, err))
 }
@@ -138,13 +106,8 @@ fn tells_reports(rt: HostRuntime) -> Result<(), Fail> {
             "10 trials: 2 passed; 1 failed; 4 ignored; 3 measured; 16 filtered out; 5 ns\n",
         ),
     ] {
-        let (status, on_out, on_err) = run_over(
-            rt.alloc(),
-            report.as_bytes(),
-            None,
-            usize::MAX,
-            false,
-        )?;
+        let well = FaultyWriter::new(rt.alloc());
+        let (status, on_out, on_err) = run_over(rt.alloc(), report.as_bytes(), None, well)?;
         assert_eq!(rt; status, 0);
         assert_eq!(rt; on_out.as_str(), line);
         assert_eq!(rt; on_err.as_str(), "");
@@ -161,7 +124,8 @@ fn refuses_other_input(rt: HostRuntime) -> Result<(), Fail> {
         &ONE_ROW.as_bytes()[1..],
         &ONE_ROW.as_bytes()[..ONE_ROW.len() - 1],
     ] {
-        let (status, on_out, on_err) = run_over(rt.alloc(), bytes, None, usize::MAX, false)?;
+        let well = FaultyWriter::new(rt.alloc());
+        let (status, on_out, on_err) = run_over(rt.alloc(), bytes, None, well)?;
         assert_eq!(rt; status, 1);
         assert_eq!(rt; on_out.as_str(), "");
         assert_eq!(rt; on_err.as_str(), "not a report\n");
@@ -179,7 +143,8 @@ fn tells_of_faulty_input(rt: HostRuntime) -> Result<(), Fail> {
         (ONE_ROW.len(), ErrorKind::OutOfMemory, "out of memory\n"),
     ] {
         let bytes = &ONE_ROW.as_bytes()[..count];
-        let (status, on_out, on_err) = run_over(rt.alloc(), bytes, Some(kind), usize::MAX, false)?;
+        let well = FaultyWriter::new(rt.alloc());
+        let (status, on_out, on_err) = run_over(rt.alloc(), bytes, Some(kind), well)?;
         assert_eq!(rt; status, 1);
         assert_eq!(rt; on_out.as_str(), "");
         assert_eq!(rt; on_err.as_str(), text);
@@ -190,25 +155,21 @@ fn tells_of_faulty_input(rt: HostRuntime) -> Result<(), Fail> {
 // A beginning of the line may have been written where a write or the flush fails.
 #[test]
 fn tells_of_a_full_output(rt: HostRuntime) -> Result<(), Fail> {
-    for (room, flush_fails, out) in [
-        (0, false, ""),
-        (8, false, "1 trials"),
-        (
-            usize::MAX,
-            true,
-            "1 trials: 0 passed; 0 failed; 0 ignored; 1 measured; 16 filtered out; 1000000005 ns\n",
-        ),
+    let alloc = rt.alloc();
+    let line =
+        "1 trials: 0 passed; 0 failed; 0 ignored; 1 measured; 16 filtered out; 1000000005 ns\n";
+    for (place, out) in [
+        (Place::Byte(0), ""),
+        (Place::Byte(8), "1 trials"),
+        (Place::Flush(1), line),
     ] {
-        let (status, on_out, on_err) = run_over(
-            rt.alloc(),
-            ONE_ROW.as_bytes(),
-            None,
-            room,
-            flush_fails,
-        )?;
-        assert_eq!(rt; status, 1);
-        assert_eq!(rt; on_out.as_str(), out);
-        assert_eq!(rt; on_err.as_str(), "cannot write\n");
+        for fault in Fault::ALL {
+            let writer = FaultyWriter::new(alloc).failing(place, fault);
+            let (status, on_out, on_err) = run_over(alloc, ONE_ROW.as_bytes(), None, writer)?;
+            assert_eq!(rt; status, 1);
+            assert_eq!(rt; on_out.as_str(), out);
+            assert_eq!(rt; on_err.as_str(), "cannot write\n");
+        }
     }
     Ok(())
 }

@@ -1,18 +1,33 @@
-use Rattle.std.proofs.Common.{◌≡◌, ◌≤◌, length, map, refl, ap, arith}
-use Rattle.std.proofs.lemmas.List.{length-map}
-use Rattle.mimic_events.specs.Contents.{entry_read}
-use Rattle.mimic_events.specs.Machine.{next_of, row_next, state_of}
-use Rattle.mimic_events.proofs.Machine.{refuses_summary, takes_summary}
+use Rattle.std.proofs.Common.{◌≡◌, ◌<◌, ◌≤◌, [], ◌∷◌, length, string_bytes, ap, arith}
+use Rattle.std.proofs.lemmas.List.{length-append}
+use Rattle.mimic_events.specs.Machine.{next_of, state_with}
+use Rattle.mimic_events.proofs.Summaries.{counts_more}
+use Rattle.mimic_events.proofs.Machine.{takes_announcement, takes_outcome, takes_summary, takes_title}
 use Rattle.mimic_events.proofs.progress.Progress.take_line.Goals as goal
+use Rattle.mimic_events.proofs.progress.Progress.take_line.Goals.{in-Title+in-Some, in-Row+in_ok-name-in-Row+in-Some-2, in-Row-2+in-Some-summed, in-Outcome+in_ok-outcome-in-Outcome+in-Some-3}
 
-pub returns-in_default-summed : goal.returns-in_default-summed
-returns-in_default-summed c =
-    let here : next_of c.args.self.now.stage ≡ row_next = ap next_of c.in-Row-2.is in
-    let all : c.args.self.now.announced ≤ length (map entry_read c.args.self.now.rows.items) = simp length-map (omega (arith, c.len.ensures, c.if-len-self.false)) in
-    (refl, refuses_summary (state_of c.args.self.now) c.args.line.now here all (rw c.deref.ensures.value at c.in_default-summed.ensures))
-
-pub returns-in-Some-summed : goal.returns-in-Some-summed
-returns-in-Some-summed c =
-    let here : next_of c.args.self.now.stage ≡ row_next = ap next_of c.in-Row-2.is in
-    let all : c.args.self.now.announced ≤ length (map entry_read c.args.self.now.rows.items) = simp length-map (omega (arith, c.len.ensures, c.if-len-self.false)) in
-    takes_summary (state_of c.args.self.now) c.args.line.now (c.in-Some-summed.filtered_out, c.in-Some-summed.nanos) here all (rw c.deref.ensures.value at c.in-Some-summed.ensures)
+pub returns : goal.returns
+returns c = λ entries h. elim c.match-self.branch [
+  | in-Title+in-Some w ↦
+      rw (w.row-is, w.self-is) (h, takes_title (state_with c.args.self.now entries) c.args.line.now w.in-Some.count (ap next_of w.in-Title.is) w.in-Some.ensures)
+  | in-Row+in_ok-name-in-Row+in-Some-2 w ↦
+      let less : length entries < c.args.self.now.announced = omega (arith, h.0, w.if-self.true) in
+      let name = rw w.in-Some-2.is at w.in_ok-name-in-Row.ensures in
+      rw (w.row-is, w.self-is) (h, takes_announcement (state_with c.args.self.now entries) c.args.line.now (string_bytes w.in-Some-2.name) (ap next_of w.in-Row.is) less name)
+  | in-Row-2+in-Some-summed w ↦
+      let all : c.args.self.now.announced ≤ length entries = omega (arith, h.0, w.if-self.false) in
+      rw (w.row-is, w.self-is) (
+        h,
+        takes_summary (state_with c.args.self.now entries) c.args.line.now (w.in-Some-summed.filtered_out, w.in-Some-summed.nanos) (ap next_of w.in-Row-2.is) all
+            (w.in-Some-summed.ensures entries h.1),
+      )
+  | in-Outcome+in_ok-outcome-in-Outcome+in-Some-3 w ↦
+      let outcome = rw w.in-Some-3.is at w.in_ok-outcome-in-Outcome.ensures in
+      let name : w.as_str.result.now ≡ string_bytes w.in-Outcome.name = w.as_str.ensures.value in
+      let ended = rw name at outcome in
+      let more = counts_more entries c.args.self.now.counts (record { name = string_bytes w.in-Outcome.name; outcome = w.in-Some-3.outcome }) h.1 in
+      rw (w.row-is, w.self-is, w.count.ensures, w.replace-name.ensures.value) (
+        (omega (arith, h.0, length-append entries (record { name = string_bytes w.in-Outcome.name; outcome = w.in-Some-3.outcome } ∷ [])), more),
+        takes_outcome (state_with c.args.self.now entries) c.args.line.now (string_bytes w.in-Outcome.name) w.in-Some-3.outcome (ap next_of w.in-Outcome.is) ended,
+      )
+]

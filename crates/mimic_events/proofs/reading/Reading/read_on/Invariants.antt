@@ -1,9 +1,9 @@
 use Rattle.std.proofs.Common.{◌≡◌, ◌++◌, length}
-use Rattle.mimic_events.specs.Pieces.{IsSound, bytes_of}
+use Rattle.mimic_events.specs.Pieces.{IsSoundSoFar, bytes_so_far}
 use Rattle.mimic_events.proofs.reading.Reading.read_on.Given as goal
 
-abbrev pub invariant-loop-end : goal.invariant-loop-end
-invariant-loop-end l = record { bytes : bytes_of l.self ++ l.left ≡ bytes_of l.fn.self ++ l.fn.piece; sound : IsSound l.self }
+abbrev pub invariant-loop-row : goal.invariant-loop-row
+invariant-loop-row l = record { bytes : bytes_so_far l.self ++ l.left ≡ bytes_so_far l.fn.self ++ l.fn.piece; sound : IsSoundSoFar l.self }
 
-abbrev pub decreases-loop-end : goal.decreases-loop-end
-decreases-loop-end l = length l.left
+abbrev pub decreases-loop-row : goal.decreases-loop-row
+decreases-loop-row l = length l.left

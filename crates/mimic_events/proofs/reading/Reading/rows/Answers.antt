@@ -1,9 +1,9 @@
-use Rattle.std.proofs.Common.{sym, subst}
-use Rattle.mimic_events.specs.Feed.{AreEnded}
-use Rattle.mimic_events.specs.Machine.{state_of}
-use Rattle.mimic_events.specs.Pieces.{bytes_of}
+use Rattle.mimic_events.specs.Machine.{state_with}
+use Rattle.mimic_events.specs.Pieces.{rows_so_far}
 use Rattle.mimic_events.proofs.Readings.{rows_ended}
 use Rattle.mimic_events.proofs.reading.Reading.rows.Goals as goal
 
 pub returns : goal.returns
-returns c = subst (AreEnded (bytes_of c.args.self.now)) (sym c.rows.ensures) (rows_ended (state_of c.args.self.now.progress) c.args.self.now.rest.items c.args.self.now.stuck c.requires)
+returns c =
+    let r = c.args.self.now in
+    rw c.as_slice.ensures.value (rows_ended (state_with r.reader.progress (rows_so_far r)) r.reader.rest.items r.reader.stuck c.requires.known)

@@ -1,0 +1,97 @@
+//! Reading the rows of a report one after another, of bytes that come in pieces.
+use crate::progress::{Progress, Taken, first_line};
+use crate::report::{Row, Totals};
+use std::alloc::{AllocError, Global};
+
+// What was read, and what was not. The rows are handed out as they end, and none is kept.
+#[derive(Debug, Drop)]
+pub(crate) struct RowReader {
+    // What the lines that were taken said.
+    progress: Progress,
+    // All that came behind these lines.
+    rest: Vec<u8>,
+    // Whether the rest begins with a line that doesn't belong there. If not, it has no whole line.
+    stuck: bool,
+}
+
+impl RowReader {
+    ghost use Rattle.std.specs.Prelude.{◌≡◌, [], false, List, IfOk, MatchOption, None};
+    ghost use Rattle.mimic_printer.specs.Json.{Entry};
+    ghost use Rattle.mimic_events.specs.Machine.{IsLine};
+    ghost use Rattle.mimic_events.specs.Pieces.{IsSound, ReadsOn, ReadsRow, SumsUp, bytes_of};
+
+    // No bytes came.
+    pub(crate) fn new(alloc: Global) -> Self
+        ensures bytes { bytes_of result [] ≡ [] }
+        ensures sound { IsSound result [] }
+    {
+        RowReader {
+            progress: Progress::new(),
+            rest: Vec::new(alloc),
+            stuck: false,
+        }
+    }
+
+    // Reads the next piece up to the end of a row, and answers that and what follows; or the whole piece, where no row
+    // ends. After an `Err` the reader is of no use.
+    pub(crate) fn next_row<'a>(
+        &mut self,
+        alloc: Global,
+        piece: &'a [u8],
+    ) -> Result<Option<(Row, &'a [u8])>, AllocError>
+        ensures { IfOk result (λ found. MatchOption found (ReadsOn self.old piece.now self.new None) (λ x. ReadsRow self.old piece.now self.new x.0 x.1.now)) }
+    {
+        let mut left = piece;
+        while let Some((end, after)) = first_line(left) {
+            if self.stuck {
+                break;
+            }
+            if let Some(row) = self.end_line(alloc, end)? {
+                return Ok(Some((row, after)));
+            }
+            left = after;
+        }
+        self.rest.extend_from_slice(left)?;
+        Ok(None)
+    }
+
+    // Reads the end of a line, whose beginning is the rest, and answers the row that ended there.
+    fn end_line(&mut self, alloc: Global, end: &[u8]) -> Result<Option<Row>, AllocError>
+        requires open { self.old.stuck ≡ false }
+        requires line { IsLine end.now }
+        ensures { IfOk result (λ row. ReadsOn self.old end.now self.new row) }
+    {
+        if self.rest.is_empty() {
+            // A line that came whole is not copied.
+            return match self.progress.take_line(alloc, end)? {
+                Taken::Read(row) => Ok(row),
+                Taken::Astray => {
+                    self.stuck = true;
+                    self.rest.extend_from_slice(end)?;
+                    Ok(None)
+                }
+            };
+        }
+        self.rest.extend_from_slice(end)?;
+        match self.progress.take_line(alloc, &self.rest)? {
+            Taken::Read(row) => {
+                self.rest.clear();
+                Ok(row)
+            }
+            Taken::Astray => {
+                self.stuck = true;
+                Ok(None)
+            }
+        }
+    }
+
+    // What the summary told, where all bytes are a report.
+    pub(crate) fn into_totals(self) -> Option<Totals>
+        ensures { (entries : List Entry) → IsSound self entries → SumsUp (bytes_of self entries) entries result }
+    {
+        if !self.rest.is_empty() {
+            return None;
+        }
+        self.progress.into_totals()
+    }
+}

@@ -1,0 +1,49 @@
+//! The numbers of a report, with none of its rows.
+ghost use Rattle.std.specs.Prelude.{◌++◌, [], IfOk, List, ℕ};
+ghost use Rattle.mimic_events.specs.Reading.{Decodes};
+ghost use Rattle.mimic_events.specs.Tally.{HasRead, SpellsTotals};
+
+use crate::report::Totals;
+use crate::row_reader::RowReader;
+use std::alloc::{AllocError, Global};
+
+/// Reads a report whose bytes come in pieces, cut anywhere, as a `Feed` does, but for its numbers alone.
+///
+/// It keeps no row: only the line that has not ended, and all that follows a line that no report has there.
+#[derive(Drop)]
+pub struct Tally {
+    alloc: Global,
+    reader: RowReader,
+}
+
+impl Tally {
+    /// A tally of no bytes yet. It takes no memory so far.
+    pub fn new(alloc: Global) -> Tally
+        ensures { HasRead result [] }
+    {
+        Tally {
+            alloc,
+            reader: RowReader::new(alloc),
+        }
+    }
+
+    /// Takes the next piece. Where an allocation fails, nothing is left of the tally.
+    pub fn feed(self, piece: &[u8]) -> Result<Tally, AllocError>
+        ensures { IfOk result (λ tally. (bytes : List ℕ) → HasRead self bytes → HasRead tally (bytes ++ piece.now)) }
+    {
+        let mut tally = self;
+        let mut left = piece;
+        while let Some((row, after)) = tally.reader.next_row(tally.alloc, left)? {
+            drop(row);
+            left = after;
+        }
+        Ok(tally)
+    }
+
+    /// The numbers of the report that all bytes are together: `None` where they are none.
+    pub fn finish(self) -> Option<Totals>
+        ensures { (bytes : List ℕ) → HasRead self bytes → Decodes SpellsTotals bytes result }
+    {
+        self.reader.into_totals()
+    }
+}
