@@ -113,9 +113,10 @@ module _ {R : Type 0} (gives : Gives R) (suite : Suite R) (q : Printer) (same : 
 
   -- a whole report
   pub reported_same : (threads : ℕ) (old new : Shown) (watch : Watched) (c : Conclusion) → ReportedBy gives threads suite old new watch c → ReportedBy gives threads (record suite { printer = q }) old new watch c
-  reported_same threads old new watch c (placed, ordered, r) = (
+  reported_same threads old new watch c (placed, ordered, some, r) = (
     placed,
     ordered,
+    some,
     record {
       arranged = r.arranged;
       nanos = r.nanos;
@@ -150,7 +151,7 @@ module _ {R : Type 0} (gives : Gives R) (suite : Suite R) (q : Printer) (same : 
       → Reports gives threads (record suite { printer = q }) old new watch result
   reports_same threads old new watch (Ok c) h = reported_same threads old new watch c h
   reports_same threads old new watch (Err OutOfMemory) h = h
-  reports_same threads old new watch (Err (Write fault)) (order, whole, ordered, s) = (order, whole, ordered, starts_same order old new watch s)
+  reports_same threads old new watch (Err (Write fault)) (order, whole, ordered, some, s) = (order, whole, ordered, some, starts_same order old new watch s)
   reports_same threads old new watch (Err ZeroThreads) h = h
   reports_same threads old new watch (Err Spawn) (several, some, title, running) =
       (several, some, subst (λ t. Put old new t) (title_same suite.printer q same (length suite.trials)) title, running)

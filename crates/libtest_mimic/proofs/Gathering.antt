@@ -1,5 +1,5 @@
 -- What workers told and answered: the title, the rows that were told, and then those that were missing.
-use Rattle.std.proofs.Common.{◌≡◌, ◌∙◌, ◌⊎◌, inl, inr, ℕ, suc, ◌+◌, ◌-◌, ◌%◌, ◌==◌, ◌≤◌, ◌<◌, Bool, true, false, cond, List, [], ◌∷◌, ◌++◌, Result, Ok, Err, length, length-append, map, drop, take, append_assoc, refl, sym, ap, subst, arith}
+use Rattle.std.proofs.Common.{◌≡◌, ◌∙◌, ℕ, ◌+◌, ◌-◌, ◌%◌, ◌==◌, ◌≤◌, ◌<◌, Bool, true, false, cond, List, [], ◌∷◌, ◌++◌, Result, Ok, Err, length, length-append, map, drop, take, append_assoc, refl, sym, ap, subst, arith}
 use Rattle.std.specs.List.{range_with_len}
 use Rattle.std.specs.List.Sorted.{IsPermutation}
 use Rattle.std.specs.Prelude.{All, IsErrAnd, MatchResult, slice_get}
@@ -35,9 +35,9 @@ on_error (Err x) error P Q e q = subst Q (sym e) q
 -- whatever was written, it follows what stood there
 pub follows : {E T : Type 0} (a b c : Shown) (s t : List ℕ) (r : Result T E) → Put a b s → Writes b c t r → Follows a c
 follows a b c s t (Ok x) p q =
-    let both = Put-trans s t p q in record { text = s ++ t; appended = both.appended; faults = omega (arith, both.faults) }
+    let both = Put-trans s t p q in record { text = s ++ t; appended = both.appended; kept = omega (arith, both.faults); one = omega (arith, both.faults) }
 follows a b c s t (Err e) p q =
-    let both = Put-Stopped s t p q in record { text = both.front; appended = both.appended; faults = omega (arith, both.faults) }
+    let both = Put-Stopped s t p q in record { text = both.front; appended = both.appended; kept = omega (arith, both.faults); one = omega (arith, both.faults) }
 
 -- ---- runners that were dealt
 

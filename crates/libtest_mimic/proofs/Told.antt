@@ -1,7 +1,7 @@
 -- Rows that workers told, in the order in which they came, and rows by place.
-use Rattle.std.proofs.Common.{◌≡◌, ◌∙◌, ℕ, suc, zero, ◌<◌, nat_lt, eqb, not, ◌&&◌, ◌||◌, Bool, true, false, cond, List, [], ◌∷◌, ◌++◌, Option, None, Some, length, map, get_or, refl, sym, ap, append-nil, arith, inl, inr, slice_index_or}
+use Rattle.std.proofs.Common.{◌≡◌, ◌∙◌, ℕ, suc, zero, ◌<◌, nat_lt, not, ◌&&◌, ◌||◌, Bool, true, false, cond, List, [], ◌∷◌, ◌++◌, None, Some, length, map, refl, sym, ap, append-nil, arith, inl, inr, slice_index_or}
 use Rattle.std.specs.List.{flat_map}
-use Rattle.std.specs.Prelude.{slice_get}
+use Rattle.std.specs.Prelude.{All, slice_get}
 use Rattle.std.proofs.lemmas.Bool.Decides.{nat_tests, eqb_tells}
 use Rattle.std.proofs.lemmas.Bool.{eq-eqb}
 use Rattle.std.proofs.lemmas.List.{map-append}
@@ -10,11 +10,10 @@ use Rattle.mimic_trial.specs.declared.outcome.Outcome.{Outcome}
 use Rattle.mimic_trial.specs.declared.trial.TestInfo.{TestInfo}
 use Rattle.mimic_trial.specs.Places.{Placed, placed_at, placed_if}
 use Rattle.mimic_pool.specs.Arrivals.{Arrived, arrival_of, arrived_at, has_come, rows_after}
-use Rattle.mimic_pool.specs.declared.desk.Arrival.{Arrival}
 use Rattle.mimic_pool.specs.declared.desk.Arrival.TheVariants.{First, Again, Stranger}
 use Rattle.mimic_printer.specs.declared.Printer.{Printer}
 use Rattle.mimic_printer.specs.Report.{row_text, rows_text}
-use Rattle.mimic_printer.specs.Row.{Label, PrintedRow, label_at, label_of, row_of, rows_at}
+use Rattle.mimic_printer.specs.Row.{Label, label_at, label_of, row_of, rows_at}
 use Rattle.libtest_mimic.specs.Steps.{told_text}
 
 -- ---- a first arrival
@@ -88,8 +87,15 @@ slice_get-at (x ∷ os) zero o low e = ap (λ y. Some y) (sym e)
 slice_get-at (x ∷ os) (suc p) o low e = slice_get-at os p o (omega arith) e
 
 -- the row at a place, by the info and the outcome that stand there
-pub place_is : (p : Printer) (infos : List TestInfo) (outcomes : List Outcome) (place : ℕ) (info : TestInfo) (o : Outcome) → place < length infos → place < length outcomes
+place_is : (p : Printer) (infos : List TestInfo) (outcomes : List Outcome) (place : ℕ) (info : TestInfo) (o : Outcome) → place < length infos → place < length outcomes
     → info ≡ slice_index_or infos place info → o ≡ slice_index_or outcomes place o → row_text p (row_of info o) ≡ place_text p infos outcomes place
 place_is p infos outcomes place info o low low' e k =
     sym (row_alone p infos place o info (label_at-info infos place info low e))
     ∙ ap (λ x. rows_text p (rows_at (map label_of infos) (placed_if place x))) (sym (slice_get-at outcomes place o low' k))
+
+-- the row at the next one of some places
+pub next_row : (p : Printer) (infos : List TestInfo) (outcomes : List Outcome) (places : List ℕ) (i : ℕ) (info : TestInfo) (o : Outcome) → i < length places
+    → All (λ place. place < length infos) places → length infos ≡ length outcomes → info ≡ slice_index_or infos (slice_index_or places i 0) info → o ≡ slice_index_or outcomes (slice_index_or places i 0) o
+    → row_text p (row_of info o) ≡ place_text p infos outcomes (slice_index_or places i 0)
+next_row p infos outcomes places i info o here below lengths e k =
+    let low : slice_index_or places i 0 < length infos = below i 0 here in place_is p infos outcomes (slice_index_or places i 0) info o low (omega (arith, low, lengths)) e k

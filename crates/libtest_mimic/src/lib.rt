@@ -21,7 +21,7 @@ pub use mimic_trial::{
     BenchRunner, Conclusion, Failed, Measurement, Outcome, Runner, Task, TestInfo, TestRunner,
     Trial, count_rows, run_single,
 };
-pub use running::{RunError, run, run_here};
+pub use running::{RunError, Spawner, run, run_here};
 pub use stopwatch::{Clock, Stopwatch};
 
 #[cfg(test)]

@@ -1,5 +1,6 @@
 //! The parts of a run over worker threads, each of use by itself: shares, what workers tell and answer, and the desk where
 //! outcomes arrive.
 pub use mimic_pool::{
-    Arrival, ChannelReports, Desk, MemoryReports, Missing, Reports, Share, Untold, deal, work,
+    Arrival, Board, BoardReports, Desk, Inbox, MemoryReports, Missing, Reports, Share, Untold,
+    deal, hands_on_first_reports, work,
 };

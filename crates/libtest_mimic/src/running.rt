@@ -1,38 +1,40 @@
 //! Runs trials and writes their report.
-ghost use Rattle.std.specs.Prelude.{◌≡◌, ◌≢◌, ◌-◌, ◌^◌, ◌<◌, ◌≤◌, [], true, false, Err, IfOk, IsFalse, MatchResult, ◌↔◌, length, vec_len};
-ghost use Rattle.mimic_args.specs.Arguments.{colours_of, format_of};
-ghost use Rattle.mimic_printer.specs.List.{list_text};
-ghost use Rattle.mimic_printer.specs.Sink.{Put, faults_of, shown};
-ghost use Rattle.mimic_printer.specs.Widths.{kind_width_of, name_width_of};
-ghost use Rattle.mimic_trial.specs.Count.{counts_of, total_of};
+ghost use Rattle.std.specs.Prelude.{◌≡◌, ◌≢◌, ◌-◌, ◌^◌, ◌<◌, ◌≤◌, [], true, false, Err, IfOk, vec_len};
+ghost use Rattle.mimic_printer.specs.Sink.{faults_of, shown};
+ghost use Rattle.mimic_trial.specs.Count.{total_of};
 ghost use Rattle.mimic_trial.specs.Trial.{AllCanRun};
-ghost use Rattle.mimic_printer.specs.Row.{labels_of};
-ghost use Rattle.libtest_mimic.specs.Run.{HasAnswer, HasLines, ListRefused, Lists, OnNothingWritten, Reports, threads_of};
+ghost use Rattle.libtest_mimic.specs.Run.{HasAnswer, HasLines, Lists, OnNothingWritten, Reports, threads_of};
 ghost use Rattle.libtest_mimic.specs.declared.running.RunError.TheVariants.{ZeroThreads};
-ghost use Rattle.libtest_mimic.specs.Selection.{IsDropped, IsSelection};
-ghost use Rattle.libtest_mimic.specs.Steps.{PrintsAs};
+ghost use Rattle.libtest_mimic.specs.Steps.{selected_suite};
 ghost use Rattle.libtest_mimic.specs.Stopwatch.{IsFresh, IsRunning};
-ghost use Rattle.libtest_mimic.specs.Suite.{OfSuite, filtered_out_of, printer_for, suite_of};
+ghost use Rattle.libtest_mimic.specs.Suite.{OfSuite};
 
 mod arrivals;
 mod in_order;
 mod in_workers;
+mod list;
+mod selected;
 mod summary;
 pub(crate) mod tally;
 
-use crate::select::{drops_nothing, is_filtered_out};
 use crate::stopwatch::{Clock, Stopwatch};
-use in_order::write_report;
+use in_order::run_in_order;
 use in_workers::run_in_workers;
-use mimic_args::{Arguments, FormatSetting};
-use mimic_printer::{Printer, Sink, WriteFault, widths_of_trials};
+use list::write_list;
+use mimic_args::Arguments;
+use mimic_printer::{Sink, WriteFault};
 use mimic_trial::{Conclusion, Task, Trial};
+use selected::{Selected, select};
 use std::alloc::{AllocError, AllocFailed, Global};
 use std::io::Write;
 use std::sync::Wait;
 use std::thread::Threads;
-use tally::Tally;
 use thiserror::Error;
+
+/// What starts worker threads and waits for them, as the handle that `main` gets does.
+pub trait Spawner: Threads + Wait + Copy + Drop + Send {}
+
+impl<T: Threads + Wait + Copy + Drop + Send> Spawner for T {}
 
 /// Why a run was refused.
 #[derive(Debug, Drop, Error)]
@@ -64,12 +66,7 @@ pub enum RunError {
 ///
 /// The answer, the watch, `auto_colours` and ignored trials are as with `run_here`. After a write fault the workers end
 /// their shares, and are joined.
-pub fn run<
-    R: Task + Send + 'static,
-    W: Write,
-    C: Clock,
-    T: Threads + Wait + Copy + Drop + Send + 'static,
->(
+pub fn run<R: Task + Send + 'static, W: Write, C: Clock, T: Spawner + 'static>(
     rt: &T,
     alloc: Global,
     args: &Arguments,
@@ -106,76 +103,37 @@ pub fn run<
     ensures lines { HasLines args.now tests.items (shown W.contents sink.old) (shown W.contents sink.new) result }
 {
     watch.start();
-    let mut selected = tests;
-    let filtered_out = select(args, &mut selected);
     if args.list {
-        write_list(selected.as_slice(), sink)
-    } else {
-        let threads = args.test_threads.unwrap_or(default_threads);
-        run_by(
-            threads,
-            rt,
-            alloc,
-            args,
-            selected,
-            filtered_out,
-            sink,
-            watch,
-            auto_colours,
-        )
+        return write_list(args, tests, sink);
     }
+    let selected = select(args, tests, auto_colours);
+    let threads = args.test_threads.unwrap_or(default_threads);
+    run_with_threads(threads, rt, alloc, selected, sink, watch)
 }
 
-// Runs the trials on so many threads and writes their report, whose summary counts the others as filtered out.
-fn run_by<
-    R: Task + Send + 'static,
-    W: Write,
-    C: Clock,
-    T: Threads + Wait + Copy + Drop + Send + 'static,
->(
+// Runs the trials on so many threads and writes their report.
+fn run_with_threads<R: Task + Send + 'static, W: Write, C: Clock, T: Spawner + 'static>(
     threads: usize,
     rt: &T,
     alloc: Global,
-    args: &Arguments,
-    selected: Vec<Trial<R>>,
-    filtered_out: u64,
+    selected: Selected<'_, R>,
     sink: &mut Sink<W>,
     watch: &mut Stopwatch<C>,
-    auto_colours: bool,
 ) -> Result<Conclusion, RunError>
     requires room { faults_of sink.old < 2 ^ 64 - 1 }
     requires running { IsRunning watch.old }
-    requires runnable { AllCanRun R.can_run selected.items }
-    ensures reported { Reports R.gives threads (suite_of args.now auto_colours selected.items filtered_out)
-        (shown W.contents sink.old) (shown W.contents sink.new) watch.new result }
-    ensures zero_threads { threads ≡ 0 → selected.items ≢ [] → result ≡ Err ZeroThreads }
+    requires runnable { AllCanRun R.can_run selected.trials.items }
+    ensures reported { Reports R.gives threads (selected_suite selected.entry) (shown W.contents sink.old) (shown W.contents sink.new) watch.new result }
+    ensures zero_threads { threads ≡ 0 → selected.entry.trials.items ≢ [] → result ≡ Err ZeroThreads }
     ensures unwritten { OnNothingWritten result (sink.new ≡ sink.old) }
 {
-    if threads == 1 || selected.is_empty() {
-        return run_selected(
-            alloc,
-            args,
-            selected,
-            filtered_out,
-            sink,
-            watch,
-            auto_colours,
-        );
+    if threads == 1 || selected.trials.is_empty() {
+        return run_in_order(alloc, selected, sink, watch);
     }
     if threads == 0 {
         return Err(RunError::ZeroThreads);
     }
-    run_in_workers(
-        threads,
-        rt,
-        alloc,
-        args,
-        selected,
-        filtered_out,
-        sink,
-        watch,
-        auto_colours,
-    )
+    run_in_workers(rt, alloc, selected, threads, sink, watch)
 }
 
 /// Runs the selected trials in their order, each once, in the calling thread, and writes their report;
@@ -216,92 +174,11 @@ pub fn run_here<R: Task, W: Write, C: Clock>(
     ensures lines { HasLines args.now tests.items (shown W.contents sink.old) (shown W.contents sink.new) result }
 {
     watch.start();
-    let mut selected = tests;
-    let filtered_out = select(args, &mut selected);
     if args.list {
-        write_list(selected.as_slice(), sink)
-    } else {
-        run_selected(
-            alloc,
-            args,
-            selected,
-            filtered_out,
-            sink,
-            watch,
-            auto_colours,
-        )
+        return write_list(args, tests, sink);
     }
-}
-
-// Keeps the selected trials alone, and returns how many were dropped.
-fn select<R: Drop>(args: &Arguments, trials: &mut Vec<Trial<R>>) -> u64
-    ensures selection { IsSelection args.now trials.old.items trials.new.items }
-    ensures dropped { result ≡ filtered_out_of trials.old.items trials.new.items }
-{
-    if drops_nothing::<R>(args) {
-        return 0;
-    }
-    let count = trials.len();
-    trials.retain(
-        |trial| -> bool
-            ensures { IsFalse result ↔ IsDropped args.entry.now trial.now }
-        { !is_filtered_out(args, trial) },
-    );
-    (count - trials.len()) as u64
-}
-
-// Writes the list of the trials. Its answer counts nothing.
-fn write_list<R, W: Write>(trials: &[Trial<R>], sink: &mut Sink<W>) -> Result<Conclusion, RunError>
-    requires { faults_of sink.old < 2 ^ 64 - 1 }
-    ensures { MatchResult result
-        (λ c. (c ≡ counts_of [] 0) × Put (shown W.contents sink.old) (shown W.contents sink.new) (list_text trials.now))
-        (λ e. ListRefused (list_text trials.now) (shown W.contents sink.old) (shown W.contents sink.new) e) }
-{
-    Printer::write_list(trials, false, sink)?;
-    sink.flush()?;
-    Ok(Conclusion::empty(0))
-}
-
-// Runs the trials in their order and writes their report, beside so many that were filtered out.
-fn run_selected<R: Task, W: Write, C: Clock>(
-    alloc: Global,
-    args: &Arguments,
-    selected: Vec<Trial<R>>,
-    filtered_out: u64,
-    sink: &mut Sink<W>,
-    watch: &mut Stopwatch<C>,
-    auto_colours: bool,
-) -> Result<Conclusion, RunError>
-    requires room { faults_of sink.old < 2 ^ 64 - 1 }
-    requires running { IsRunning watch.old }
-    requires runnable { AllCanRun R.can_run selected.items }
-    ensures reported { Reports R.gives 1 (suite_of args.now auto_colours selected.items filtered_out)
-        (shown W.contents sink.old) (shown W.contents sink.new) watch.new result }
-    ensures unwritten { OnNothingWritten result (sink.new ≡ sink.old) }
-{
-    let tally = Tally::with_capacity(alloc, selected.len(), filtered_out)?;
-    let printer = printer_for(args, selected.as_slice(), auto_colours);
-    Ok(write_report(&printer, args, selected, tally, sink, watch)?)
-}
-
-// A printer that prints as that of the run does: only in pretty it has columns for these trials.
-fn printer_for<R>(args: &Arguments, trials: &[Trial<R>], auto_colours: bool) -> Printer
-    ensures { PrintsAs result (printer_for args.now auto_colours (labels_of trials.now)) }
-{
-    let format = args.format_used();
-    let (name_width, kind_width) = columns_for(format, trials);
-    Printer::new(format, args.colours(auto_colours), name_width, kind_width)
-}
-
-// How wide its columns are: only pretty has some, so in other formats the trials are not gone over.
-fn columns_for<R>(format: FormatSetting, trials: &[Trial<R>]) -> (usize, usize)
-    ensures names { format ≡ FormatSetting.Pretty → result.0 ≡ name_width_of (labels_of trials.now) }
-    ensures kinds { format ≡ FormatSetting.Pretty → result.1 ≡ kind_width_of (labels_of trials.now) }
-{
-    match format {
-        FormatSetting::Pretty => widths_of_trials(trials),
-        FormatSetting::Terse | FormatSetting::Json => (0, 0),
-    }
+    let selected = select(args, tests, auto_colours);
+    run_in_order(alloc, selected, sink, watch)
 }
 
 impl From<AllocError> for RunError {

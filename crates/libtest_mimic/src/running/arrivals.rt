@@ -6,8 +6,7 @@ ghost use Rattle.mimic_printer.specs.Sink.{Put, Puts, Shown, Writes, faults_of, 
 ghost use Rattle.mimic_trial.specs.Places.{placed_at};
 ghost use Rattle.libtest_mimic.specs.Steps.{told_text};
 
-use crossbeam_channel::Receiver;
-use mimic_pool::{Arrival, Desk};
+use mimic_pool::{Arrival, Desk, Inbox};
 use mimic_printer::{Printer, Sink, WriteFault};
 use mimic_trial::{Outcome, TestInfo};
 use std::io::Write;
@@ -19,7 +18,7 @@ pub(super) fn write_arrivals<W: Write, T: Wait>(
     rt: &T,
     printer: &Printer,
     infos: &[TestInfo],
-    arrivals: &Receiver<(usize, Outcome)>,
+    inbox: &mut Inbox,
     desk: &mut Desk,
     sink: &mut Sink<W>,
 ) -> Result<(), WriteFault>
@@ -30,9 +29,12 @@ pub(super) fn write_arrivals<W: Write, T: Wait>(
         → Writes base (shown W.contents sink.new) (told_text printer.now infos.now desk.new) result }
 {
     sink.flush()?;
-    for (place, outcome) in arrivals.iter(rt) {
+    for _ in rt.forever() {
+        let Some((place, outcome)) = inbox.next(rt) else {
+            break;
+        };
         write_arrival(printer, infos, desk, place, outcome, sink)?;
-        if arrivals.is_empty() {
+        if inbox.is_idle(rt) {
             sink.flush()?;
         }
     }
@@ -74,9 +76,9 @@ pub(super) fn write_missing<W: Write>(
     outcomes: &[Outcome],
     sink: &mut Sink<W>,
 ) -> Result<(), WriteFault>
-    requires room { faults_of sink.old < 2 ^ 64 - 1 }
-    requires lengths { length infos.now ≡ length outcomes.now }
     requires places { All (λ place. place < length infos.now) places.now }
+    requires lengths { length infos.now ≡ length outcomes.now }
+    requires room { faults_of sink.old < 2 ^ 64 - 1 }
     ensures { Puts W.contents sink.old sink.new
         (rows_text printer.now (rows_at (map label_of infos.now) (placed_at places.now outcomes.now))) result }
 {

@@ -2,9 +2,12 @@
 ghost use Rattle.std.specs.Prelude.{◌≡◌, ◌-◌, ◌^◌, ◌<◌, [], vec_len};
 ghost use Rattle.mimic_trial.specs.Trial.{AllCanRun};
 ghost use Rattle.mimic_printer.specs.Sink.{faults_of, shown};
-ghost use Rattle.libtest_mimic.specs.Steps.{HasCounted, HasRoomFor, RowsRun, WritesReport, suite_with};
+ghost use Rattle.libtest_mimic.specs.Run.{OnNothingWritten, Reports};
+ghost use Rattle.libtest_mimic.specs.Steps.{HasCounted, HasRoomFor, RowsRun, WritesReport, selected_suite, suite_with};
 ghost use Rattle.libtest_mimic.specs.Stopwatch.{IsRunning};
 
+use crate::running::RunError;
+use crate::running::selected::Selected;
 use crate::running::summary::write_summary;
 use crate::running::tally::Tally;
 use crate::select::is_ignored;
@@ -12,13 +15,29 @@ use crate::stopwatch::{Clock, Stopwatch};
 use mimic_args::Arguments;
 use mimic_printer::{Printer, Sink, WriteFault};
 use mimic_trial::{Conclusion, Task, Trial, run_unless};
+use std::alloc::Global;
 use std::io::Write;
 
-// Runs the trials in their order, and writes the whole report.
-pub(super) fn write_report<R: Task, W: Write, C: Clock>(
-    printer: &Printer,
-    args: &Arguments,
-    trials: Vec<Trial<R>>,
+// Runs the trials in their order, and writes their report.
+pub(super) fn run_in_order<R: Task, W: Write, C: Clock>(
+    alloc: Global,
+    selected: Selected<'_, R>,
+    sink: &mut Sink<W>,
+    watch: &mut Stopwatch<C>,
+) -> Result<Conclusion, RunError>
+    requires runnable { AllCanRun R.can_run selected.trials.items }
+    requires running { IsRunning watch.old }
+    requires room { faults_of sink.old < 2 ^ 64 - 1 }
+    ensures reported { Reports R.gives 1 (selected_suite selected.entry) (shown W.contents sink.old) (shown W.contents sink.new) watch.new result }
+    ensures unwritten { OnNothingWritten result (sink.new ≡ sink.old) }
+{
+    let tally = Tally::with_capacity(alloc, selected.trials.len(), selected.filtered_out)?;
+    Ok(write_report(selected, tally, sink, watch)?)
+}
+
+// Writes the whole report of the trials, which run in their order, and counts them.
+fn write_report<R: Task, W: Write, C: Clock>(
+    selected: Selected<'_, R>,
     tally: Tally,
     sink: &mut Sink<W>,
     watch: &mut Stopwatch<C>,
@@ -26,16 +45,22 @@ pub(super) fn write_report<R: Task, W: Write, C: Clock>(
     requires room { faults_of sink.old < 2 ^ 64 - 1 }
     requires running { IsRunning watch.old }
     requires empty { HasCounted tally tally.conclusion.num_filtered_out [] }
-    requires runnable { AllCanRun R.can_run trials.items }
-    requires capacity { HasRoomFor tally (vec_len trials) }
-    ensures { WritesReport R.gives (suite_with args.now trials.items printer.now tally)
+    requires runnable { AllCanRun R.can_run selected.trials.items }
+    requires capacity { HasRoomFor tally (vec_len selected.trials) }
+    ensures { WritesReport R.gives (suite_with selected.entry.args.now selected.entry.trials.items selected.entry.printer tally)
         (shown W.contents sink.old) (shown W.contents sink.new) watch.new result }
 {
     let mut tally = tally;
+    let Selected {
+        args,
+        trials,
+        printer,
+        ..
+    } = selected;
     printer.print_title(sink, trials.len() as u64)?;
-    run_rows(printer, args, trials, &mut tally, sink)?;
-    tally.print_failures(printer, sink)?;
-    write_summary(printer, tally.conclusion(), sink, watch)?;
+    run_rows(&printer, args, trials, &mut tally, sink)?;
+    tally.print_failures(&printer, sink)?;
+    write_summary(&printer, tally.conclusion(), sink, watch)?;
     Ok(tally.into_conclusion())
 }
 

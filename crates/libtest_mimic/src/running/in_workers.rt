@@ -1,84 +1,75 @@
 //! Runs trials in worker threads.
 ghost use Rattle.std.specs.Prelude.{◌≡◌, ◌≢◌, ◌-◌, ◌^◌, ◌<◌, ◌≤◌, [], All, IfOk, MatchResult, length, map, not, vec_len};
 ghost use Rattle.mimic_printer.specs.Sink.{Put, faults_of, shown};
-ghost use Rattle.mimic_trial.specs.Trial.{AllCanRun, info_of, runner_of};
+ghost use Rattle.mimic_trial.specs.Trial.{AllCanRun};
 ghost use Rattle.mimic_pool.specs.Share.{assigned_from};
 ghost use Rattle.libtest_mimic.specs.Run.{OnNothingWritten, Reports};
-ghost use Rattle.libtest_mimic.specs.Steps.{AreFlags, Gathered, RowsRefused, titled_rows};
+ghost use Rattle.libtest_mimic.specs.Steps.{AreParts, Gathered, RowsRefused, selected_suite, titled_rows};
 ghost use Rattle.libtest_mimic.specs.Stopwatch.{IsRunning};
-ghost use Rattle.libtest_mimic.specs.Suite.{suite_of};
 
 use crate::running::arrivals::{write_arrivals, write_missing};
+use crate::running::selected::Selected;
 use crate::running::summary::write_summary;
-use crate::running::{RunError, printer_for};
+use crate::running::{RunError, Spawner};
 use crate::select::is_ignored;
 use crate::stopwatch::{Clock, Stopwatch};
-use crossbeam_channel::bounded;
 use mimic_args::Arguments;
-use mimic_pool::{Desk, deal, join_all, prepare, start_all};
+use mimic_pool::{Desk, Inbox, deal, join_all, prepare, start_all};
 use mimic_printer::{Printer, Sink};
 use mimic_trial::{Conclusion, Outcome, Task, TestInfo, Trial, count_rows};
 use std::alloc::{AllocError, Global};
 use std::io::Write;
-use std::sync::Wait;
-use std::thread::Threads;
 
-// Runs the trials on so many threads, but on no more than there are trials, and writes their report, whose summary counts
-// the others as filtered out.
-pub(super) fn run_in_workers<
-    R: Task + Send + 'static,
-    W: Write,
-    C: Clock,
-    T: Threads + Wait + Copy + Drop + Send + 'static,
->(
-    threads: usize,
+// Runs the trials on so many threads, but on no more than there are trials, and writes their report.
+pub(super) fn run_in_workers<R: Task + Send + 'static, W: Write, C: Clock, T: Spawner + 'static>(
     rt: &T,
     alloc: Global,
-    args: &Arguments,
-    selected: Vec<Trial<R>>,
-    filtered_out: u64,
+    selected: Selected<'_, R>,
+    threads: usize,
     sink: &mut Sink<W>,
     watch: &mut Stopwatch<C>,
-    auto_colours: bool,
 ) -> Result<Conclusion, RunError>
-    requires room { faults_of sink.old < 2 ^ 64 - 1 }
-    requires running { IsRunning watch.old }
-    requires runnable { AllCanRun R.can_run selected.items }
     requires several { 2 ≤ threads }
-    requires some { selected.items ≢ [] }
-    ensures reported { Reports R.gives threads (suite_of args.now auto_colours selected.items filtered_out)
-        (shown W.contents sink.old) (shown W.contents sink.new) watch.new result }
+    requires some { selected.trials.items ≢ [] }
+    requires runnable { AllCanRun R.can_run selected.trials.items }
+    requires running { IsRunning watch.old }
+    requires room { faults_of sink.old < 2 ^ 64 - 1 }
+    ensures reported { Reports R.gives threads (selected_suite selected.entry) (shown W.contents sink.old) (shown W.contents sink.new) watch.new result }
     ensures unwritten { OnNothingWritten result (sink.new ≡ sink.old) }
 {
-    let printer = printer_for(args, selected.as_slice(), auto_colours);
-    let workers = threads.min(selected.len());
-    let (infos, runners, ignored) = taken_apart(alloc, args, selected)?;
+    let Selected {
+        args,
+        trials,
+        printer,
+        filtered_out,
+    } = selected;
+    let workers = threads.min(trials.len());
+    let (infos, runners, ignored) = take_apart(alloc, args, trials)?;
+    let infos = infos.as_slice();
     let (order, outcomes) = write_rows(
         workers,
         rt,
         alloc,
         &printer,
-        &infos,
+        infos,
         runners,
         ignored,
         !args.bench,
         sink,
     )?;
-    printer.print_failures(sink, &infos, &order, &outcomes)?;
+    printer.print_failures(sink, infos, &order, &outcomes)?;
     let conclusion = count_rows(&outcomes, filtered_out);
     write_summary(&printer, &conclusion, sink, watch)?;
     Ok(conclusion)
 }
 
 // What is known of each trial, its runner, and whether it is ignored.
-fn taken_apart<R: Drop>(
+fn take_apart<R: Drop>(
     alloc: Global,
     args: &Arguments,
     trials: Vec<Trial<R>>,
 ) -> Result<(Vec<TestInfo>, Vec<R>, Vec<bool>), AllocError>
-    ensures infos { IfOk result (λ apart. apart.0.items ≡ map info_of trials.items) }
-    ensures runners { IfOk result (λ apart. apart.1.items ≡ map runner_of trials.items) }
-    ensures ignored { IfOk result (λ apart. AreFlags args.now trials.items apart.2.items) }
+    ensures { IfOk result (λ parts. AreParts args.now trials.items parts.0.items parts.1.items parts.2.items) }
 {
     let mut infos = Vec::with_capacity(alloc, trials.len())?;
     let mut runners = Vec::with_capacity(alloc, trials.len())?;
@@ -96,7 +87,7 @@ fn taken_apart<R: Drop>(
 // the workers have been joined those that did not. Returns the order of the rows and the outcome at each place.
 //
 // But for copies of messages and the threads themselves, all memory is taken before the title.
-fn write_rows<R: Task + Send + 'static, W: Write, T: Threads + Wait + Copy + Drop + Send + 'static>(
+fn write_rows<R: Task + Send + 'static, W: Write, T: Spawner + 'static>(
     workers: usize,
     rt: &T,
     alloc: Global,
@@ -120,12 +111,12 @@ fn write_rows<R: Task + Send + 'static, W: Write, T: Threads + Wait + Copy + Dro
     ensures unwritten { OnNothingWritten result (sink.new ≡ sink.old) }
 {
     let count = runners.len();
-    let (rows, arrivals) = bounded(alloc, count)?;
+    let mut inbox = Inbox::new(alloc, count, workers)?;
     let shares = deal(alloc, runners, ignored, workers)?;
-    let starts = prepare(alloc, shares, rows)?;
+    let starts = prepare(alloc, shares, &inbox)?;
     let handles = Vec::with_capacity(alloc, starts.len())?;
     let mut desk = Desk::new(alloc, count)?;
-    let outcomes = unset(alloc, count)?;
+    let outcomes = placeholders(alloc, count)?;
     let order = Vec::with_capacity(alloc, count)?;
     printer.print_title(sink, count as u64)?;
     let handles = match start_all(rt, alloc, starts, test_mode, handles) {
@@ -135,7 +126,7 @@ fn write_rows<R: Task + Send + 'static, W: Write, T: Threads + Wait + Copy + Dro
             return Err(RunError::Spawn);
         }
     };
-    let written = write_arrivals(rt, printer, infos, &arrivals, &mut desk, sink);
+    let written = write_arrivals(rt, printer, infos, &mut inbox, &mut desk, sink);
     let outcomes = join_all(rt, handles, outcomes);
     if let Err(place) = desk.settle(&outcomes) {
         return Err(RunError::Arrival { place });
@@ -149,7 +140,7 @@ fn write_rows<R: Task + Send + 'static, W: Write, T: Threads + Wait + Copy + Dro
 }
 
 // As many outcomes, each of which stands for one that a worker will answer.
-fn unset(alloc: Global, count: usize) -> Result<Vec<Outcome>, AllocError>
+fn placeholders(alloc: Global, count: usize) -> Result<Vec<Outcome>, AllocError>
     ensures { IfOk result (λ outcomes. vec_len outcomes ≡ count) }
 {
     let mut outcomes = Vec::with_capacity(alloc, count)?;

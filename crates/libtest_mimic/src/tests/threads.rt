@@ -190,7 +190,50 @@ fn keeps_pairs_of_lines_together(rt: HostRuntime) -> Result<(), Fail> {
     Ok(())
 }
 
-// Without a thread: a trial, no trial, and a list. With one the trial runs.
+// Passes where its number is even, and else fails.
+#[derive(Drop)]
+struct Numbered {
+    number: u64,
+}
+
+impl Task for Numbered {
+    fn run(self, _test_mode: bool) -> Outcome {
+        if self.number % 2 == 0 {
+            Outcome::Passed
+        } else {
+            Outcome::Failed(Failed::without_message())
+        }
+    }
+}
+
+// Each of many trials is counted once, and has its two lines, whatever the number of threads.
+#[test]
+fn counts_each_of_many(rt: HostRuntime) -> Result<(), Fail> {
+    let alloc = rt.alloc();
+    let mut args = Arguments::new(alloc);
+    args.format = Some(FormatSetting::Json);
+    for threads in [1, 2, 4, 16] {
+        let mut tests = Vec::with_capacity(alloc, 10_000)?;
+        for number in 0..10_000 {
+            let name = format!(in alloc; "{number:05}")?;
+            let ignored = number % 10 == 5;
+            tests.push(Trial::new(name, Numbered { number }).with_ignored_flag(ignored))?;
+        }
+        let mut sink = Sink::new(ample(Vec::new(alloc)));
+        let mut watch = Stopwatch::new(stopped_clock());
+        let conclusion = run(
+            &rt, alloc, &args, tests, &mut sink, &mut watch, threads, false,
+        )?;
+        assert_eq!(rt; conclusion.num_passed, 5_000);
+        assert_eq!(rt; conclusion.num_failed, 4_000);
+        assert_eq!(rt; conclusion.num_ignored, 1_000);
+        let writer = sink.into_inner();
+        assert_eq!(rt; str::from_utf8(&writer.bytes)?.lines().count(), 20_002);
+    }
+    Ok(())
+}
+
+// Without a thread: a trial, no trial, a trial that is filtered out, and a list. With one the trial runs.
 #[test]
 fn wants_a_thread_for_a_trial(rt: HostRuntime) -> Result<(), Fail> {
     let alloc = rt.alloc();
@@ -207,6 +250,13 @@ fn wants_a_thread_for_a_trial(rt: HostRuntime) -> Result<(), Fail> {
     assert!(rt; writer.bytes.as_slice() == NO_TESTS);
     let (conclusion, _) = run_by(&rt, alloc, 1, FormatSetting::Pretty, that_meet(alloc, 1)?)?;
     assert_eq!(rt; conclusion.num_passed, 1);
+    args.filter = Some(String::from_str(alloc, "z")?);
+    let mut sink = Sink::new(ample(Vec::new(alloc)));
+    let mut watch = Stopwatch::new(stopped_clock());
+    let tests = that_meet(alloc, 1)?;
+    let conclusion = run(&rt, alloc, &args, tests, &mut sink, &mut watch, 4, false)?;
+    assert_eq!(rt; conclusion.num_filtered_out, 1);
+    args.filter = None;
     args.list = true;
     let mut sink = Sink::new(ample(Vec::new(alloc)));
     let mut watch = Stopwatch::new(stopped_clock());

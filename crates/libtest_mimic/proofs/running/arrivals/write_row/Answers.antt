@@ -1,6 +1,6 @@
 use Rattle.mimic_printer.specs.Report.{row_text}
 use Rattle.mimic_printer.specs.Row.{row_of}
-use Rattle.mimic_printer.proofs.Appending.{Put-trans, Put-Stopped, Puts-stopped, Stopped-more}
+use Rattle.mimic_printer.proofs.Appending.{Put-Stopped, Puts-stopped, Stopped-more}
 use Rattle.libtest_mimic.proofs.running.arrivals.write_row.Goals as goal
 
 pub returns-in_err-print_test : goal.returns-in_err-print_test

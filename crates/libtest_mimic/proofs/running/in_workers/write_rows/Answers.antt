@@ -24,7 +24,8 @@ pub returns-in-Err-settle-clause-rows : goal.returns-in-Err-settle-clause-rows
 returns-in-Err-settle-clause-rows g c =
     let before = shown g.W.Write.contents c.print_title.new.sink in
     let written = c.write_arrivals-written.ensures.told before (nothing_told c.args.printer.now c.args.infos.now c.in_ok-desk.desk _ c.in_ok-desk.ensures before) in
-    follows _ _ _ _ _ c.write_arrivals-written.result c.in_ok-print_title.ensures written
+    let places : c.write_arrivals-written.new.desk.places ≡ length c.args.infos.now = c.write_arrivals-written.ensures.places ∙ ap (λ d. d.places) c.in_ok-desk.ensures ∙ c.len-count.ensures ∙ sym c.requires.infos in
+    (subst (λ (n : ℕ). c.in-Err-settle.place < n) places c.in-Err-settle.ensures.below, follows _ _ _ _ _ c.write_arrivals-written.result c.in_ok-print_title.ensures written)
 
 pub returns-in_err-written-clause-rows : goal.returns-in_err-written-clause-rows
 returns-in_err-written-clause-rows g c =

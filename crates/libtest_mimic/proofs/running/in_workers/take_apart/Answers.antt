@@ -3,7 +3,7 @@ use Rattle.std.proofs.lemmas.List.{map-append}
 use Rattle.mimic_trial.specs.Trial.{info_of, runner_of}
 use Rattle.libtest_mimic.specs.Steps.{AreFlags}
 use Rattle.libtest_mimic.proofs.Arranged.{flags_push}
-use Rattle.libtest_mimic.proofs.running.in_workers.taken_apart.Goals as goal
+use Rattle.libtest_mimic.proofs.running.in_workers.take_apart.Goals as goal
 
 pub loop-trial-preserved : goal.loop-trial-preserved
 loop-trial-preserved g c =

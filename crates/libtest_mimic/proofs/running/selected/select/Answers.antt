@@ -1,0 +1,8 @@
+use Rattle.mimic_trial.specs.Trial.{runner_of}
+use Rattle.libtest_mimic.specs.Selection.{IsDropped}
+use Rattle.libtest_mimic.proofs.Selecting.{All-LeavesOut}
+use Rattle.libtest_mimic.proofs.running.selected.select.Goals as goal
+
+pub returns-clause-runnable : goal.returns-clause-runnable
+returns-clause-runnable g c all =
+    All-LeavesOut (λ t. IsDropped c.args.args.now t) (λ t. g.R.Task.can_run (runner_of t)) c.args.tests.items _ c.drop_others-filtered_out.ensures.selection all
