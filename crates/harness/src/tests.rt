@@ -4,10 +4,10 @@ use crate::mixed_bag::{Answer, MIXED_BAG, benchmark_answer, mixed_bag_trials, te
 use libtest_mimic::{
     Arguments, ArgumentsError, Failed, Measurement, Sink, Stopwatch, Trial, run_here,
 };
+use mimic_faulty::{Fault, FaultyWriter, Place};
 use mimic_main::{Machine, StillClock};
 use std::alloc::{AllocError, Global};
 use std::env::FillError;
-use std::io::Write;
 use std::rt::Env;
 use std::test::Fail;
 use std::{fs, io};
@@ -174,51 +174,22 @@ fn heeds_the_number_of_threads(rt: HostRuntime) -> Result<(), Fail> {
     let list = run_only(&rt, &["--test-threads", "0", "--list", "a"])?;
     assert_eq!(rt; list.out.as_str(), LISTED);
     assert_eq!(rt; list.status, 0);
+    let empty = run_only(&rt, &["--test-threads", "0", "zebra"])?;
+    assert_eq!(rt; empty.out.as_str(), NONE_SELECTED);
+    assert_eq!(rt; empty.status, 0);
     Ok(())
 }
 
+const NONE_SELECTED: &str =
+    "\nrunning 0 tests\n\ntest result: ok. 0 passed; 0 failed; 0 ignored; 0 measured; 17 filtered out; finished in 0.00s\n\n";
+
 // All benchmarks measured, ignored ones too, with their numbers and messages, and each test ignored.
-const MEASURED: &str = r#"{ "type": "suite", "event": "started", "test_count": 17 }
-{ "type": "test", "event": "started", "name": "cat" }
-{ "type": "test", "name": "cat", "event": "ignored" }
-{ "type": "test", "event": "started", "name": "\"ups\"" }
-{ "type": "test", "name": "\"ups\"", "event": "ignored" }
-{ "type": "test", "event": "started", "name": "dog" }
-{ "type": "test", "name": "dog", "event": "ignored" }
-{ "type": "test", "event": "started", "name": "fox" }
-{ "type": "test", "name": "fox", "event": "ignored" }
-{ "type": "test", "event": "started", "name": "bunny" }
-{ "type": "test", "name": "bunny", "event": "ignored" }
-{ "type": "test", "event": "started", "name": "frog" }
-{ "type": "test", "name": "frog", "event": "ignored" }
-{ "type": "test", "event": "started", "name": "owl" }
-{ "type": "test", "name": "owl", "event": "ignored" }
-{ "type": "test", "event": "started", "name": "fly" }
-{ "type": "test", "name": "fly", "event": "ignored" }
-{ "type": "test", "event": "started", "name": "bear" }
-{ "type": "test", "name": "bear", "event": "ignored" }
-{ "type": "test", "event": "started", "name": "red" }
-{ "type": "bench", "name": "red", "median": 32, "deviation": 3 }
-{ "type": "test", "event": "started", "name": "blue" }
-{ "type": "test", "name": "blue", "event": "failed", "stdout": "Error: \"sky fell down\"\n" }
-{ "type": "test", "event": "started", "name": "yellow" }
-{ "type": "bench", "name": "yellow", "median": 64, "deviation": 4 }
-{ "type": "test", "event": "started", "name": "green" }
-{ "type": "test", "name": "green", "event": "failed", "stdout": "Error: \"was poisoned\"\n" }
-{ "type": "test", "event": "started", "name": "purple" }
-{ "type": "bench", "name": "purple", "median": 100, "deviation": 5 }
-{ "type": "test", "event": "started", "name": "cyan" }
-{ "type": "test", "name": "cyan", "event": "failed", "stdout": "Error: \"not creative enough\"\n" }
-{ "type": "test", "event": "started", "name": "orange" }
-{ "type": "bench", "name": "orange", "median": 17, "deviation": 6 }
-{ "type": "test", "event": "started", "name": "pink" }
-{ "type": "test", "name": "pink", "event": "failed", "stdout": "Error: \"bad\"\n" }
-{ "type": "suite", "event": "failed", "passed": 0, "failed": 4, "ignored": 9, "measured": 4, "filtered_out": 0, "exec_time": 0 }
-"#;
+const MEASURED: &str =
+    "\nrunning 17 tests\ntest          cat    ... ignored\ntest          \"ups\"  ... ignored\ntest          dog    ... ignored\ntest [apple]  fox    ... ignored\ntest [apple]  bunny  ... ignored\ntest          frog   ... ignored\ntest          owl    ... ignored\ntest [banana] fly    ... ignored\ntest [banana] bear   ... ignored\ntest          red    ... bench:          32 ns/iter (+/- 3)\ntest          blue   ... FAILED\ntest [kiwi]   yellow ... bench:          64 ns/iter (+/- 4)\ntest [kiwi]   green  ... FAILED\ntest          purple ... bench:         100 ns/iter (+/- 5)\ntest          cyan   ... FAILED\ntest [banana] orange ... bench:          17 ns/iter (+/- 6)\ntest [banana] pink   ... FAILED\n\nfailures:\n\n---- blue ----\nsky fell down\n\n---- green ----\nwas poisoned\n\n---- cyan ----\nnot creative enough\n\n---- pink ----\nbad\n\n\nfailures:\n    blue\n    green\n    cyan\n    pink\n\ntest result: FAILED. 0 passed; 4 failed; 9 ignored; 4 measured; 0 filtered out; finished in 0.00s\n\n";
 
 #[test]
 fn measures_ignored_benchmarks(rt: HostRuntime) -> Result<(), Fail> {
-    let left = run_words(&rt, &["--bench", "--include-ignored", "--format", "json"])?;
+    let left = run_words(&rt, &["--bench", "--include-ignored"])?;
     assert_eq!(rt; left.out.as_str(), MEASURED);
     assert_eq!(rt; left.status, 101);
     assert!(rt; left.err.is_empty());
@@ -518,27 +489,6 @@ fn refuses_words_that_are_no_text(rt: HostRuntime) -> Result<(), Fail> {
     Ok(())
 }
 
-// Takes so many bytes, and then fails.
-#[derive(Drop)]
-struct Narrow {
-    room: usize,
-}
-
-impl Write for Narrow {
-    fn write(&mut self, buf: &[u8]) -> io::Result<usize> {
-        let count = buf.len().min(self.room);
-        if count == 0 {
-            return Err(io::Error::from(io::ErrorKind::BrokenPipe));
-        }
-        self.room -= count;
-        Ok(count)
-    }
-
-    fn flush(&mut self) -> io::Result<()> {
-        Ok(())
-    }
-}
-
 // A report and a list fail where there is no room for them, help does not.
 #[test]
 fn tells_of_a_full_output(rt: HostRuntime) -> Result<(), Fail> {
@@ -550,7 +500,10 @@ fn tells_of_a_full_output(rt: HostRuntime) -> Result<(), Fail> {
         (["harness", "--list", "--help"], 0, 0),
     ] {
         let trials = mixed_bag_trials!(alloc);
-        let out = Narrow { room };
+        let full = Fault::Error(io::ErrorKind::BrokenPipe);
+        let out = FaultyWriter::new(alloc)
+            .failing(Place::Byte(room), full)
+            .for_ever();
         let mut err: Vec<u8> = Vec::new(alloc);
         let line = Arguments::from_iter(alloc, &words);
         let (_, answered) = HARNESS.harness_run(

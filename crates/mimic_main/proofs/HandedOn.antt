@@ -32,12 +32,13 @@ module _ {R : Type 0} (gives : Gives R) (default_threads : ℕ) (args : Argument
     listed = λ asked. let l = a.listed asked in (l.0, l.1, (l.2.0, Put-got old new got _ k l.2.1));
     reported = λ unlisted.
         let o = a.reported unlisted in
-        let r = o.2.2 in (
+        let r = o.2.3 in (
           o.0,
           o.1,
           (
             o.2.0,
             o.2.1,
+            o.2.2,
             record {
               arranged = r.arranged;
               nanos = r.nanos;

@@ -70,17 +70,14 @@ impl Program<'_> {
     {
         match line {
             Ok(args) => {
-                let (writer, ran) = run_line(
-                    rt,
-                    files,
+                let job = Job {
                     alloc,
-                    &args,
                     tests,
-                    out,
                     clock,
-                    self.threads,
-                    self.auto_colours,
-                );
+                    default_threads: self.threads,
+                    auto_colours: self.auto_colours,
+                };
+                let (writer, ran) = job.run(rt, &args, out, files);
                 (writer, self.status_of(ran, args.logfile.as_ref(), err))
             }
             Err(error) => {
@@ -159,138 +156,93 @@ impl Program<'_> {
     }
 }
 
-// Runs into the logfile where there is one, else to `out`, which is given back.
-fn run_line<
-    T: Threads + Wait + Copy + Drop + Send + 'static,
-    F: Files,
-    R: Task + Send + 'static,
-    O: Write,
-    C: Clock + Drop,
->(
-    rt: &T,
-    files: &F,
+// A run of these trials, but for what it is asked for and where its bytes go.
+#[derive(Drop)]
+struct Job<R, C> {
     alloc: Global,
-    args: &Arguments,
     tests: Vec<Trial<R>>,
-    out: O,
     clock: C,
     default_threads: usize,
     auto_colours: bool,
-) -> (O, Result<Conclusion, Fault>)
-    requires runnable { AllCanRun R.can_run tests.items }
-    requires some_thread { 1 ≤ default_threads }
-    ensures ran { IsNone args.now.logfile → IfOk result.1 (λ c. Ran R.gives default_threads args.now auto_colours tests.items
-        (O.contents out) (O.contents result.0) c) }
-    ensures beginning { IsNone args.now.logfile → OnErr result.1 (GotBeginning R.gives default_threads args.now auto_colours tests.items
-        (O.contents out) (O.contents result.0)) }
-    ensures answer { IfOk result.1 (λ c. HasAnswer R.gives args.now tests.items (Ok c)) }
-    ensures adds_up { args.now.list ≡ false → IfOk result.1 (λ c. total_of c ≡ vec_len tests) }
-{
-    match &args.logfile {
-        Some(path) => {
-            let ran = run_into_logfile(
-                rt,
-                files,
-                alloc,
-                args,
-                tests,
-                path.as_str(),
-                clock,
-                default_threads,
-                auto_colours,
-            );
-            (out, ran)
-        }
-        None => {
-            let (writer, ran) = run_buffered(
-                rt,
-                alloc,
-                args,
-                tests,
-                out,
-                clock,
-                default_threads,
-                auto_colours,
-            );
-            (writer, ran.map_err(Fault::Run))
-        }
-    }
 }
 
-// Runs into the logfile, which is made or emptied first.
-fn run_into_logfile<
-    T: Threads + Wait + Copy + Drop + Send + 'static,
-    F: Files,
-    R: Task + Send + 'static,
-    C: Clock + Drop,
->(
-    rt: &T,
-    files: &F,
-    alloc: Global,
-    args: &Arguments,
-    tests: Vec<Trial<R>>,
-    path: &str,
-    clock: C,
-    default_threads: usize,
-    auto_colours: bool,
-) -> Result<Conclusion, Fault>
-    requires runnable { AllCanRun R.can_run tests.items }
-    requires some_thread { 1 ≤ default_threads }
-    ensures answer { IfOk result (λ c. HasAnswer R.gives args.now tests.items (Ok c)) }
-    ensures adds_up { args.now.list ≡ false → IfOk result (λ c. total_of c ≡ vec_len tests) }
-{
-    let file = fs::create(files, path).map_err(Fault::Logfile)?;
-    let conclusion = run_buffered(
-        rt,
-        alloc,
-        args,
-        tests,
-        file,
-        clock,
-        default_threads,
-        auto_colours,
-    )
-    .1?;
-    Ok(conclusion)
-}
-
-// Runs into the writer through a buffer, and gives the writer back.
-fn run_buffered<
-    T: Threads + Wait + Copy + Drop + Send + 'static,
-    R: Task + Send + 'static,
-    W: Write,
-    C: Clock + Drop,
->(
-    rt: &T,
-    alloc: Global,
-    args: &Arguments,
-    tests: Vec<Trial<R>>,
-    writer: W,
-    clock: C,
-    default_threads: usize,
-    auto_colours: bool,
-) -> (W, Result<Conclusion, RunError>)
-    requires runnable { AllCanRun R.can_run tests.items }
-    requires some_thread { 1 ≤ default_threads }
-    ensures ran { IfOk result.1 (λ c. Ran R.gives default_threads args.now auto_colours tests.items (W.contents writer) (W.contents result.0) c) }
-    ensures beginning { OnErr result.1 (GotBeginning R.gives default_threads args.now auto_colours tests.items (W.contents writer) (W.contents result.0)) }
-    ensures answer { IfOk result.1 (λ c. HasAnswer R.gives args.now tests.items (Ok c)) }
-    ensures adds_up { args.now.list ≡ false → IfOk result.1 (λ c. total_of c ≡ vec_len tests) }
-{
-    let mut output = Output::new(alloc, FlushPolicy::of_run(args), writer);
-    if output.reserve().is_err() {
-        return (output.finish().0, Err(RunError::OutOfMemory));
+impl<R: Task + Send + 'static, C: Clock + Drop> Job<R, C> {
+    // Runs into the logfile where there is one, else to `out`, which is given back.
+    fn run<T: Threads + Wait + Copy + Drop + Send + 'static, F: Files, O: Write>(
+        self,
+        rt: &T,
+        args: &Arguments,
+        out: O,
+        files: &F,
+    ) -> (O, Result<Conclusion, Fault>)
+        requires runnable { AllCanRun R.can_run self.tests.items }
+        requires some_thread { 1 ≤ self.default_threads }
+        ensures ran { IsNone args.now.logfile → IfOk result.1 (λ c. Ran R.gives self.default_threads args.now self.auto_colours self.tests.items
+            (O.contents out) (O.contents result.0) c) }
+        ensures beginning { IsNone args.now.logfile → OnErr result.1 (GotBeginning R.gives self.default_threads args.now self.auto_colours self.tests.items
+            (O.contents out) (O.contents result.0)) }
+        ensures answer { IfOk result.1 (λ c. HasAnswer R.gives args.now self.tests.items (Ok c)) }
+        ensures adds_up { args.now.list ≡ false → IfOk result.1 (λ c. total_of c ≡ vec_len self.tests) }
+    {
+        match &args.logfile {
+            Some(path) => {
+                let ran = self.run_into_logfile(rt, args, files, path.as_str());
+                (out, ran)
+            }
+            None => {
+                let (writer, ran) = self.run_buffered(rt, args, out);
+                (writer, ran.map_err(Fault::Run))
+            }
+        }
     }
-    run_into(
-        rt,
-        alloc,
-        args,
-        tests,
-        output,
-        clock,
-        default_threads,
-        auto_colours,
-    )
+
+    // Runs into the logfile, which is made or emptied first.
+    fn run_into_logfile<T: Threads + Wait + Copy + Drop + Send + 'static, F: Files>(
+        self,
+        rt: &T,
+        args: &Arguments,
+        files: &F,
+        path: &str,
+    ) -> Result<Conclusion, Fault>
+        requires runnable { AllCanRun R.can_run self.tests.items }
+        requires some_thread { 1 ≤ self.default_threads }
+        ensures answer { IfOk result (λ c. HasAnswer R.gives args.now self.tests.items (Ok c)) }
+        ensures adds_up { args.now.list ≡ false → IfOk result (λ c. total_of c ≡ vec_len self.tests) }
+    {
+        let file = fs::create(files, path).map_err(Fault::Logfile)?;
+        let conclusion = self.run_buffered(rt, args, file).1?;
+        Ok(conclusion)
+    }
+
+    // Runs into the writer through a buffer, and gives the writer back.
+    fn run_buffered<T: Threads + Wait + Copy + Drop + Send + 'static, W: Write>(
+        self,
+        rt: &T,
+        args: &Arguments,
+        writer: W,
+    ) -> (W, Result<Conclusion, RunError>)
+        requires runnable { AllCanRun R.can_run self.tests.items }
+        requires some_thread { 1 ≤ self.default_threads }
+        ensures ran { IfOk result.1 (λ c. Ran R.gives self.default_threads args.now self.auto_colours self.tests.items (W.contents writer) (W.contents result.0) c) }
+        ensures beginning { OnErr result.1 (GotBeginning R.gives self.default_threads args.now self.auto_colours self.tests.items (W.contents writer) (W.contents result.0)) }
+        ensures answer { IfOk result.1 (λ c. HasAnswer R.gives args.now self.tests.items (Ok c)) }
+        ensures adds_up { args.now.list ≡ false → IfOk result.1 (λ c. total_of c ≡ vec_len self.tests) }
+    {
+        let mut output = Output::new(self.alloc, FlushPolicy::of_run(args), writer);
+        if output.reserve().is_err() {
+            return (output.finish().0, Err(RunError::OutOfMemory));
+        }
+        run_into(
+            rt,
+            self.alloc,
+            args,
+            self.tests,
+            output,
+            self.clock,
+            self.default_threads,
+            self.auto_colours,
+        )
+    }
 }
 
 impl From<RunError> for Fault {

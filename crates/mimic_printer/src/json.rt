@@ -49,29 +49,25 @@ pub(super) fn put_outcome<'a, W: Write>(
     ensures { Puts W.contents sink.old sink.new (json_outcome name.now outcome.now) result }
 {
     match outcome {
-        Outcome::Passed => put_event(sink, name, "\", \"event\": \"ok\" }\n"),
-        Outcome::Ignored => put_event(sink, name, "\", \"event\": \"ignored\" }\n"),
+        Outcome::Passed => put_word(sink, name, "\", \"event\": \"ok\" }\n"),
+        Outcome::Ignored => put_word(sink, name, "\", \"event\": \"ignored\" }\n"),
         Outcome::Measured(measurement) => put_measurement(sink, name, measurement),
         Outcome::Failed(failed) => match failed.message() {
-            None => put_event(sink, name, "\", \"event\": \"failed\" }\n"),
+            None => put_word(sink, name, "\", \"event\": \"failed\" }\n"),
             Some(message) => put_failure(sink, name, message),
         },
     }
 }
 
 // Writes the line of an outcome that is told in a word: all before the name, the name, and all behind it.
-fn put_event<'a, W: Write>(
-    sink: &mut Sink<W>,
-    name: &'a str,
-    rest: &'a str,
-) -> Result<(), WriteFault>
+fn put_word<'a, W: Write>(sink: &mut Sink<W>, name: &'a str, end: &'a str) -> Result<(), WriteFault>
     requires { faults_of sink.old < 2 ^ 64 - 1 }
-    ensures { Puts W.contents sink.old sink.new (concat (outcome_front false ∷ escaped name.now ∷ rest.now ∷ [])) result }
+    ensures { Puts W.contents sink.old sink.new (concat (outcome_front false ∷ escaped name.now ∷ end.now ∷ [])) result }
 {
     let pieces = [
         Piece::Text("{ \"type\": \"test\", \"name\": \""),
         Piece::Escaped(name),
-        Piece::Text(rest),
+        Piece::Text(end),
     ];
     put_pieces(sink, &pieces)
 }

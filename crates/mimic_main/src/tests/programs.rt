@@ -1,6 +1,7 @@
 //! What a program tells, and the status that it ends with.
 ghost use Rattle.std.specs.Io.{WritesAtMost};
 ghost use Rattle.std.specs.Prelude.{◌≤◌};
+ghost use Rattle.libtest_mimic.specs.Trial.{AllCanRun};
 
 use super::clocks::clock_of;
 use crate::machine::run_program_on;
@@ -8,12 +9,16 @@ use crate::{Machine, Program, StillClock};
 use libtest_mimic::{
     Arguments, ArgumentsError, Failed, FormatSetting, Outcome, RunError, Task, Trial,
 };
+use mimic_faulty::{Fault, FaultyWriter, Place};
+use std::alloc::Global;
 use std::env::FillError;
 use std::io::{ErrorKind, IsTerminal, Write};
 use std::rt::Env;
+use std::sync::Arc;
+use std::sync::atomic::{AtomicUsize, Ordering};
 use std::test::Fail;
 use std::time::Duration;
-use std::{fs, io};
+use std::{fs, io, thread};
 
 const PLAIN: Program<'static> = Program {
     name: "plain",
@@ -39,50 +44,52 @@ impl Task for Pass {
     }
 }
 
-// Takes so many bytes, and then fails.
-#[derive(Drop)]
-struct Narrow {
-    room: usize,
+// Takes two bytes, and then fails.
+fn narrow(alloc: Global) -> FaultyWriter {
+    let full = Fault::Error(ErrorKind::StorageFull);
+    FaultyWriter::new(alloc)
+        .failing(Place::Byte(2), full)
+        .for_ever()
 }
 
-impl Write for Narrow {
-    fn write(&mut self, buf: &[u8]) -> io::Result<usize> {
-        let count = buf.len().min(self.room);
-        if count == 0 {
-            return Err(io::Error::from(ErrorKind::StorageFull));
-        }
-        self.room -= count;
-        Ok(count)
-    }
-
-    fn flush(&mut self) -> io::Result<()> {
-        Ok(())
-    }
-}
-
-// What a program leaves that runs one test.
+// What a program leaves.
 #[derive(Drop)]
-struct Left {
-    status: u8,
+struct Left<O> {
+    out: O,
     err: String,
+    status: u8,
 }
 
+fn run_tests<M: Machine + 'static, R: Task + Send + 'static, O: Write + Drop>(
+    rt: &M,
+    program: &Program<'_>,
+    line: Result<Arguments, ArgumentsError>,
+    tests: Vec<Trial<R>>,
+    out: O,
+) -> Result<Left<O>, Fail>
+    requires runnable { AllCanRun R.can_run tests.items }
+    requires some_thread { 1 ≤ program.now.threads }
+{
+    let alloc = rt.alloc();
+    let mut err: Vec<u8> = Vec::new(alloc);
+    let (out, status) = program.harness_run(rt, rt, alloc, line, tests, out, &mut err, StillClock);
+    let status = status.into_number();
+    let err = String::from_utf8(err)?;
+    Ok(Left { out, err, status })
+}
+
+// Runs one test, which passes.
 fn run_one<M: Machine + 'static, O: Write + Drop>(
     rt: &M,
     program: &Program<'_>,
     line: Result<Arguments, ArgumentsError>,
     out: O,
-) -> Result<Left, Fail>
+) -> Result<Left<O>, Fail>
     requires { 1 ≤ program.now.threads }
 {
     let alloc = rt.alloc();
     let tests = vec![in alloc; Trial::new(String::from_str(alloc, "a")?, Pass)]?;
-    let mut err: Vec<u8> = Vec::new(alloc);
-    let (_, status) = program.harness_run(rt, rt, alloc, line, tests, out, &mut err, StillClock);
-    Ok(Left {
-        status: status.into_number(),
-        err: String::from_utf8(err)?,
-    })
+    run_tests(rt, program, line, tests, out)
 }
 
 // Lines that gave no arguments, the status, and what is told on standard error.
@@ -97,7 +104,7 @@ fn tells_why_a_line_gave_nothing(rt: HostRuntime) -> Result<(), Fail> {
         (ArgumentsError::OutOfMemory, 1, "plain: out of memory\n"),
     ];
     for (error, status, text) in rows {
-        let left = run_one(&rt, &PLAIN, Err(error), Narrow { room: 2 })?;
+        let left = run_one(&rt, &PLAIN, Err(error), narrow(alloc))?;
         assert_eq!(rt; left.status, status);
         assert_eq!(rt; left.err.as_str(), text);
     }
@@ -109,22 +116,11 @@ fn tells_why_a_line_gave_nothing(rt: HostRuntime) -> Result<(), Fail> {
 fn writes_help(rt: HostRuntime) -> Result<(), Fail> {
     let alloc = rt.alloc();
     let help = ArgumentsError::Help(String::from_str(alloc, "help\n")?);
-    let tests: Vec<Trial<Pass>> = Vec::new(alloc);
     let out: Vec<u8> = Vec::new(alloc);
-    let mut err: Vec<u8> = Vec::new(alloc);
-    let (out, status) = PLAIN.harness_run(
-        &rt,
-        &rt,
-        alloc,
-        Err(help),
-        tests,
-        out,
-        &mut err,
-        StillClock,
-    );
-    assert_eq!(rt; status.into_number(), 0);
-    assert!(rt; out.as_slice() == b"help\n".as_slice());
-    assert!(rt; err.is_empty());
+    let left = run_one(&rt, &PLAIN, Err(help), out)?;
+    assert_eq!(rt; left.status, 0);
+    assert!(rt; left.out.as_slice() == b"help\n".as_slice());
+    assert!(rt; left.err.is_empty());
     Ok(())
 }
 
@@ -177,18 +173,8 @@ fn shows_what_is_running(rt: HostRuntime) -> Result<(), Fail> {
         let out = fs::create(&rt, if is_logged { "/dev/null" } else { path })?;
         let looks = Looks { rt, path, expected };
         let tests = vec![in alloc; Trial::new(String::from_str(alloc, "a")?, looks)]?;
-        let mut err: Vec<u8> = Vec::new(alloc);
-        let (_, status) = PLAIN.harness_run(
-            &rt,
-            &rt,
-            alloc,
-            Ok(args),
-            tests,
-            out,
-            &mut err,
-            StillClock,
-        );
-        assert_eq!(rt; status.into_number(), 0, "{format:?} {is_logged}");
+        let left = run_tests(&rt, &PLAIN, Ok(args), tests, out)?;
+        assert_eq!(rt; left.status, 0, "{format:?} {is_logged}");
     }
     fs::remove_file(&rt, path)?;
     Ok(())
@@ -238,18 +224,8 @@ fn shows_what_has_ended(rt: HostRuntime) -> Result<(), Fail> {
             tests.push(Trial::new(String::from_str(alloc, name)?, Awaits { rt, path, awaited }))?;
         }
         let out = fs::create(&rt, path)?;
-        let mut err: Vec<u8> = Vec::new(alloc);
-        let (_, status) = PLAIN.harness_run(
-            &rt,
-            &rt,
-            alloc,
-            Ok(args),
-            tests,
-            out,
-            &mut err,
-            StillClock,
-        );
-        assert_eq!(rt; status.into_number(), 0, "{format:?}");
+        let left = run_tests(&rt, &PLAIN, Ok(args), tests, out)?;
+        assert_eq!(rt; left.status, 0, "{format:?}");
     }
     fs::remove_file(&rt, path)?;
     Ok(())
@@ -292,9 +268,78 @@ fn tells_faults(rt: HostRuntime) -> Result<(), Fail> {
         if let Some(path) = logfile {
             args.logfile = Some(String::from_str(alloc, path)?);
         }
-        let left = run_one(&rt, program, Ok(args), Narrow { room: 2 })?;
+        let left = run_one(&rt, program, Ok(args), narrow(alloc))?;
         assert_eq!(rt; left.status, 1);
         assert_eq!(rt; left.err.as_str(), text);
+    }
+    Ok(())
+}
+
+// A report of two tests that passed, in this order.
+fn report_of(alloc: Global, names: [&str; 2]) -> Result<String, Fail> {
+    let title = "{ \"type\": \"suite\", \"event\": \"started\", \"test_count\": 2 }\n";
+    let mut report = String::from_str(alloc, title)?;
+    for name in names {
+        let row = format!(in alloc;
+            "{{ \"type\": \"test\", \"event\": \"started\", \"name\": \"{name}\" }}\n\
+             {{ \"type\": \"test\", \"name\": \"{name}\", \"event\": \"ok\" }}\n"
+        )?;
+        report.push_str(row.as_str())?;
+    }
+    report.push_str(
+        "{ \"type\": \"suite\", \"event\": \"ok\", \"passed\": 2, \"failed\": 0, \"ignored\": 0, \"measured\": 0, \"filtered_out\": 0, \"exec_time\": 0 }\n",
+    )?;
+    Ok(report)
+}
+
+// Runs two tests that pass, by so many threads.
+fn run_two<M: Machine + 'static>(
+    rt: &M,
+    threads: usize,
+    out: FaultyWriter,
+) -> Result<Left<FaultyWriter>, Fail> {
+    let alloc = rt.alloc();
+    let mut args = Arguments::new(alloc);
+    args.format = Some(FormatSetting::Json);
+    args.test_threads = Some(threads);
+    let tests = vec![in alloc;
+        Trial::new(String::from_str(alloc, "a")?, Pass),
+        Trial::new(String::from_str(alloc, "b")?, Pass),
+    ]?;
+    run_tests(rt, &PLAIN, Ok(args), tests, out)
+}
+
+// A report into a writer that fails once: a beginning stands, nothing more is asked for, and the program tells it. How many
+// flushes there are is for the threads to say.
+#[test]
+fn ends_at_a_fault(rt: HostRuntime) -> Result<(), Fail> {
+    let alloc = rt.alloc();
+    let new = FaultyWriter::new;
+    let report = report_of(alloc, ["a", "b"])?;
+    let reordered = report_of(alloc, ["b", "a"])?;
+    for threads in [1, 2] {
+        assert_eq!(rt;
+            run_two(&rt, threads, new(alloc).taking(1))?.out.bytes.len(),
+            report.len()
+        );
+        let whole = run_two(&rt, threads, new(alloc))?;
+        assert_eq!(rt; whole.out.bytes.len(), report.len());
+        for place in whole.out.places(alloc)? {
+            for fault in Fault::ALL {
+                let left = run_two(&rt, threads, new(alloc).failing(place, fault))?;
+                let bytes = left.out.bytes.as_slice();
+                assert!(rt;
+                    report.as_bytes().starts_with(bytes) || reordered.as_bytes().starts_with(bytes)
+                );
+                assert!(rt;
+                    !matches!(place, Place::Byte(count) if count != bytes.len()),
+                    "{place:?}"
+                );
+                assert_eq!(rt; left.out.calls_after, 0, "{place:?}");
+                assert_eq!(rt; left.status, u8::from(left.out.has_failed), "{place:?}");
+                assert_eq!(rt; left.err.is_empty(), left.status == 0, "{place:?}");
+            }
+        }
     }
     Ok(())
 }
@@ -313,16 +358,13 @@ fn tells_why_there_was_no_run(rt: HostRuntime) -> Result<(), Fail> {
 fn colours_as_the_program_says(rt: HostRuntime) -> Result<(), Fail> {
     let alloc = rt.alloc();
     for (program, is_coloured) in [(&PLAIN, false), (&TELLING, true)] {
-        let tests = vec![in alloc; Trial::new(String::from_str(alloc, "a")?, Pass)]?;
-        let line = Ok(Arguments::new(alloc));
         let out: Vec<u8> = Vec::new(alloc);
-        let mut err: Vec<u8> = Vec::new(alloc);
-        let (out, status) = program.harness_run(
-            &rt, &rt, alloc, line, tests, out, &mut err, StillClock,
-        );
-        assert_eq!(rt; status.into_number(), 0);
+        let left = run_one(&rt, program, Ok(Arguments::new(alloc)), out)?;
+        assert_eq!(rt; left.status, 0);
         assert_eq!(rt;
-            String::from_utf8(out)?.as_str().contains("\u{1b}[32mok"),
+            String::from_utf8(left.out)?
+                .as_str()
+                .contains("\u{1b}[32mok"),
             is_coloured
         );
     }
@@ -392,6 +434,39 @@ impl Write for Screen {
     }
 }
 
+// Runs the tests on a machine whose environment has this variable, and whose clock measures one second and a half.
+fn run_on_machine<M: Machine + 'static, R: Task + Send + 'static>(
+    rt: &M,
+    name: &'static str,
+    value: &'static str,
+    is_terminal: bool,
+    tests: Vec<Trial<R>>,
+) -> Result<Left<Screen>, Fail>
+    requires { AllCanRun R.can_run tests.items }
+{
+    let alloc = rt.alloc();
+    let env = (OneVariable { name, value }, alloc);
+    let start = Some(Duration::from_nanos(700));
+    let stop = Some(Duration::from_nanos(1_500_000_700));
+    let clock = clock_of([start, stop, None, None, None, None]);
+    let bytes = Vec::new(alloc);
+    let screen = Screen { is_terminal, bytes };
+    let mut err: Vec<u8> = Vec::new(alloc);
+    let (out, status) = run_program_on(
+        rt,
+        rt,
+        &env,
+        &clock,
+        "program",
+        Ok(tests),
+        screen,
+        &mut err,
+    );
+    let status = status.into_number();
+    let err = String::from_utf8(err)?;
+    Ok(Left { out, err, status })
+}
+
 // A program on machines of known parts: colours on a terminal where `NO_COLOR` is unset or empty, and the time that their
 // clock measures.
 #[test]
@@ -405,29 +480,11 @@ fn heeds_its_machine(rt: HostRuntime) -> Result<(), Fail> {
         ("NO_COLOR", "", true, true),
         ("NO_COLOR", "", false, false),
     ] {
-        let env = (OneVariable { name, value }, alloc);
-        let start = Some(Duration::from_nanos(700));
-        let stop = Some(Duration::from_nanos(1_500_000_700));
-        let clock = clock_of([start, stop, None, None, None, None]);
         let tests = vec![in alloc; Trial::new(String::from_str(alloc, "a")?, Pass)]?;
-        let screen = Screen {
-            is_terminal,
-            bytes: Vec::new(alloc),
-        };
-        let mut err: Vec<u8> = Vec::new(alloc);
-        let (screen, status) = run_program_on(
-            &rt,
-            &rt,
-            &env,
-            &clock,
-            "program",
-            Ok(tests),
-            screen,
-            &mut err,
-        );
-        assert_eq!(rt; status.into_number(), 0);
-        assert!(rt; err.is_empty());
-        let text = String::from_utf8(screen.bytes)?;
+        let left = run_on_machine(&rt, name, value, is_terminal, tests)?;
+        assert_eq!(rt; left.status, 0);
+        assert!(rt; left.err.is_empty());
+        let text = String::from_utf8(left.out.bytes)?;
         assert_eq!(rt;
             text.as_str().contains("\u{1b}[32mok"),
             is_coloured,
@@ -435,5 +492,40 @@ fn heeds_its_machine(rt: HostRuntime) -> Result<(), Fail> {
         );
         assert!(rt; text.as_str().ends_with("; finished in 1.50s\n\n"));
     }
+    Ok(())
+}
+
+// A test that passes once so many of them run.
+#[derive(Drop)]
+struct Meets {
+    running: Arc<AtomicUsize>,
+    awaited: usize,
+}
+
+impl Task for Meets {
+    fn run(self, _test_mode: bool) -> Outcome {
+        self.running.fetch_add(1, Ordering::SeqCst);
+        for _ in 0..100_000_000 {
+            if self.running.load(Ordering::SeqCst) >= self.awaited {
+                return Outcome::Passed;
+            }
+        }
+        Outcome::Failed(Failed::without_message())
+    }
+}
+
+// Where the line leaves it open, as many tests run at once as the machine can run.
+#[test]
+fn runs_in_the_threads_of_its_machine(rt: HostRuntime) -> Result<(), Fail> {
+    let alloc = rt.alloc();
+    let awaited = thread::available_parallelism(&rt)?.get();
+    let running = Arc::new(alloc, AtomicUsize::new(0))?;
+    let mut tests = Vec::new(alloc);
+    for number in 0..awaited {
+        let running = running.clone()?;
+        tests.push(Trial::new(format!(in alloc; "{number}")?, Meets { running, awaited }))?;
+    }
+    let left = run_on_machine(&rt, "TERM", "xterm", false, tests)?;
+    assert_eq!(rt; left.status, 0);
     Ok(())
 }

@@ -1,5 +1,0 @@
-use Rattle.mimic_main.proofs.HandedOn.{GotBeginning-nothing}
-use Rattle.mimic_main.proofs.program.run_buffered.Goals as goal
-
-pub returns-then-is_err-clause-beginning : goal.returns-then-is_err-clause-beginning
-returns-then-is_err-clause-beginning g c = GotBeginning-nothing g.R.Task.gives c.args.default_threads c.args.args.now c.args.auto_colours c.args.tests.items _ _ _ _ c.new-output.ensures.bytes c.reserve.ensures.bytes c.finish.ensures.beginning
