@@ -77,10 +77,10 @@ fn run_line<M: Machine + 'static>(
     })
 }
 
-// Words, and the line of counts of their report: those of the Rust crate's example of the same trials.
+// Words, and the line of counts of their report: with one filter those of the Rust crate's example of the same trials.
 #[test]
 fn counts_as_asked(rt: HostRuntime) -> Result<(), Fail> {
-    let rows: [(&[&str], &str); 10] = [
+    let rows: [(&[&str], &str); 13] = [
         (
             &[],
             "4 passed; 5 failed; 8 ignored; 0 measured; 0 filtered out",
@@ -120,6 +120,18 @@ fn counts_as_asked(rt: HostRuntime) -> Result<(), Fail> {
         (
             &["--include-ignored", "--skip", "g", "--test", "o"],
             "1 passed; 1 failed; 1 ignored; 0 measured; 14 filtered out",
+        ),
+        (
+            &["c", "o"],
+            "3 passed; 1 failed; 4 ignored; 0 measured; 9 filtered out",
+        ),
+        (
+            &["c", "o", "--skip", "o"],
+            "1 passed; 0 failed; 1 ignored; 0 measured; 15 filtered out",
+        ),
+        (
+            &["cat", "owl"],
+            "1 passed; 0 failed; 1 ignored; 0 measured; 15 filtered out",
         ),
     ];
     for (asked, counts) in rows {
@@ -318,10 +330,16 @@ fn reports_in_json(rt: HostRuntime) -> Result<(), Fail> {
     Ok(())
 }
 
+const LISTED_BY_TWO: &str =
+    "cat: test\ndog: test\n[apple] fox: test\nfrog: test\nowl: test\n[kiwi] yellow: bench\ncyan: bench\n[banana] orange: bench\n";
+
+const ALL_LISTED: &str =
+    "cat: test\n\"ups\": test\ndog: test\n[apple] fox: test\n[apple] bunny: test\nfrog: test\nowl: test\n[banana] fly: test\n[banana] bear: test\nred: bench\nblue: bench\n[kiwi] yellow: bench\n[kiwi] green: bench\npurple: bench\ncyan: bench\n[banana] orange: bench\n[banana] pink: bench\n";
+
 // Words, and the list that they give.
 #[test]
 fn lists_as_asked(rt: HostRuntime) -> Result<(), Fail> {
-    let rows: [(&[&str], &str); 5] = [
+    let rows: [(&[&str], &str); 9] = [
         (&["--list", "a"], LISTED),
         (
             &["--list", "--ignored"],
@@ -329,6 +347,13 @@ fn lists_as_asked(rt: HostRuntime) -> Result<(), Fail> {
         ),
         (&["--list", "--exact", "[apple] fox"], "[apple] fox: test\n"),
         (&["--list", "--exact", "fly"], "[banana] fly: test\n"),
+        (
+            &["--list", "--exact", "fly", "[apple] fox"],
+            "[apple] fox: test\n[banana] fly: test\n",
+        ),
+        (&["--list", "zzz", ""], ALL_LISTED),
+        (&["--list", "c", "o"], LISTED_BY_TWO),
+        (&["--list", "o", "c"], LISTED_BY_TWO),
         (
             &[
                 "--list",

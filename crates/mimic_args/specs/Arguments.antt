@@ -21,7 +21,7 @@ setting_colours Never unset = false
 abbrev pub colours_of : Arguments → Bool → Bool
 colours_of args auto = setting_colours (unwrap_or args.color Auto) (auto && is_none args.logfile)
 
--- each flag is false, each option is not set, and nothing is skipped
+-- each flag is false, each option is not set, and there is no filter and nothing is skipped
 pub record AsksNothing (args : Arguments) : Type 0 where
   pub include_ignored : args.include_ignored ≡ false
   pub ignored : args.ignored ≡ false
@@ -38,7 +38,7 @@ pub record AsksNothing (args : Arguments) : Type 0 where
   pub skip : args.skip.items ≡ []
   pub color : args.color ≡ None
   pub format : args.format ≡ None
-  pub filter : args.filter ≡ None
+  pub filter : args.filter.items ≡ []
 
 -- the fields are the same, texts by their bytes
 pub record HasSameFields (old new : Arguments) : Type 0 where
@@ -57,4 +57,4 @@ pub record HasSameFields (old new : Arguments) : Type 0 where
   pub skip : map string_bytes new.skip.items ≡ map string_bytes old.skip.items
   pub color : new.color ≡ old.color
   pub format : new.format ≡ old.format
-  pub filter : option_map string_bytes new.filter ≡ option_map string_bytes old.filter
+  pub filter : map string_bytes new.filter.items ≡ map string_bytes old.filter.items

@@ -71,9 +71,9 @@ threads_rule = record (option_rule (codes "test-threads")) { parser = Some (vp.U
 abbrev pub skip_rule : Rule
 skip_rule = record (option_rule (codes "skip")) { action = Some Append }
 
--- the one word that is no option
+-- the words that are no option, as many as there are (our own: the Rust crate takes one)
 abbrev pub filter_rule : Rule
-filter_rule = record (new_rule (codes "filter")) { value_names = 1 }
+filter_rule = record (new_rule (codes "filter")) { value_names = 1; action = Some Append }
 
 -- the flags: `test` excludes `bench`, and `quiet`, also `-q`, excludes `format` (the Rust crate's)
 abbrev pub flag_options : Options

@@ -86,7 +86,7 @@ pub record IsReadFrom (f : List Row) (a : Arguments) : Type 0 where
   pub skip : map string_bytes a.skip.items ≡ texts_of f (codes "skip")
   pub color : a.color ≡ option_and_then (named color_name colors) (first_text f (codes "color"))
   pub format : a.format ≡ option_and_then (named format_name formats) (first_text f (codes "format"))
-  pub filter : option_map string_bytes a.filter ≡ first_text f (codes "filter")
+  pub filter : map string_bytes a.filter.items ≡ texts_of f (codes "filter")
 
 -- each value that has a reader was accepted: the field is absent only where no value was given
 pub record AreAccepted (f : List Row) (a : Arguments) : Type 0 where

@@ -64,7 +64,7 @@ impl Arguments {
             skip: texts_of(alloc, matches, "skip")?,
             color: color_of(matches),
             format: format_of(matches),
-            filter: text_of(alloc, matches, "filter")?,
+            filter: texts_of(alloc, matches, "filter")?,
         })
     }
 

@@ -132,8 +132,9 @@ pub(super) fn filter<'a>(alloc: Global) -> Arg<'a>
     ensures declared { declared_of result ≡ alone filter_rule }
     ensures local { result.global ≡ false }
 {
-    let help = "Run only tests whose full name, `[kind] name`, contains FILTER";
-    Arg::new(alloc, "filter").value_name("FILTER").help(help)
+    let help = "Run only tests whose full name, `[kind] name`, contains FILTER, or one of several";
+    let arg = Arg::new(alloc, "filter").value_name("FILTER").help(help);
+    arg.action(ArgAction::Append)
 }
 
 // The argument, whose value is to be one of the names.

@@ -64,7 +64,7 @@ pub struct Arguments {
     pub show_output: bool,
     /// Has no effect.
     pub unstable_flags: Option<UnstableFlags>,
-    /// The filter and the skip patterns match where they are the name or the full name, and not its parts.
+    /// Filters and skip patterns match where they are the name or the full name, and not its parts.
     pub exact: bool,
     /// Ask for the terse format, whatever `format` says.
     pub quiet: bool,
@@ -78,14 +78,14 @@ pub struct Arguments {
     pub color: Option<ColorSetting>,
     /// How the report is written.
     pub format: Option<FormatSetting>,
-    /// The pattern of the trials that are run.
-    pub filter: Option<String>,
+    /// Patterns, one of which the trials match that are run; with none, all are.
+    pub filter: Vec<String>,
 }
 
 impl Arguments {
     ghost use Rattle.mimic_args.specs.Arguments.{format_of, colours_of, AsksNothing, HasSameFields};
 
-    /// Asks for nothing: each flag is false, each option `None`, and no pattern is skipped.
+    /// Asks for nothing: each flag is false, each option `None`, and there is no filter or skip pattern.
     pub fn new(alloc: Global) -> Self
         ensures { AsksNothing result }
     {
@@ -105,7 +105,7 @@ impl Arguments {
             skip: Vec::new(alloc),
             color: None,
             format: None,
-            filter: None,
+            filter: Vec::new(alloc),
         }
     }
 
@@ -129,7 +129,7 @@ impl Arguments {
             skip: all_copied(alloc, self.skip.as_slice())?,
             color: self.color,
             format: self.format,
-            filter: copied(alloc, self.filter.as_ref())?,
+            filter: all_copied(alloc, self.filter.as_slice())?,
         })
     }
 

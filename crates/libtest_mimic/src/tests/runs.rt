@@ -129,7 +129,7 @@ fn ignores_benchmarks_of_a_test_run(rt: HostRuntime) -> Result<(), Fail> {
     let mut args = Arguments::new(alloc);
     args.test = true;
     args.ignored = true;
-    args.filter = Some(String::from_str(alloc, "o")?);
+    args.filter.push(String::from_str(alloc, "o")?)?;
     let (_, writer) = run_ample(alloc, &args, tests)?;
     assert!(rt; writer.bytes.as_slice() == IGNORED_ORANGE);
     assert!(rt; ran.load(Ordering::SeqCst));

@@ -57,37 +57,43 @@ fn searches_long_names(rt: HostRuntime) -> Result<(), Fail> {
     Ok(())
 }
 
-// The filter, two skip patterns (none where they are empty), `exact`, `ignored`, and whether the trial
-// `ab` is dropped.
+// Filters, skip patterns, `exact`, `ignored`, and whether the trial `ab` is dropped.
 #[test]
 fn drops_trials(rt: HostRuntime) -> Result<(), Fail> {
     let alloc = rt.alloc();
     let trial = test_trial!(alloc, "ab", || Ok(()));
-    let rows = [
-        (None, "", "", false, false, false),
-        (Some("b"), "", "", false, false, false),
-        (Some("c"), "", "", false, false, true),
-        (Some("b"), "", "", true, false, true),
-        (Some("ab"), "", "", true, false, false),
-        (None, "c", "a", false, false, true),
-        (None, "c", "a", true, false, false),
-        (None, "c", "ab", true, false, true),
-        (Some("ab"), "b", "", false, false, true),
-        (Some("ab"), "c", "", false, true, true),
+    let rows: [(&[&str], &[&str], bool, bool, bool); 15] = [
+        (&[], &[], false, false, false),
+        (&["b"], &[], false, false, false),
+        (&["c"], &[], false, false, true),
+        (&["b"], &[], true, false, true),
+        (&["ab"], &[], true, false, false),
+        (&["c", "b"], &[], false, false, false),
+        (&["b", "c"], &[], false, false, false),
+        (&["c", "d"], &[], false, false, true),
+        (&["c", ""], &[], false, false, false),
+        (&["b", "a", "ab"], &[], true, false, false),
+        (&[], &["c", "a"], false, false, true),
+        (&[], &["c", "a"], true, false, false),
+        (&[], &["c", "ab"], true, false, true),
+        (&["c", "ab"], &["b"], false, false, true),
+        (&["ab"], &["c"], false, true, true),
     ];
-    for (filter, first, second, exact, ignored, want) in rows {
+    for (filters, skips, exact, ignored, want) in rows {
         let mut args = Arguments::new(alloc);
-        if let Some(filter) = filter {
-            args.filter = Some(String::from_str(alloc, filter)?);
+        for pattern in filters {
+            args.filter.push(String::from_str(alloc, pattern)?)?;
         }
-        for pattern in [first, second] {
-            if !pattern.is_empty() {
-                args.skip.push(String::from_str(alloc, pattern)?)?;
-            }
+        for pattern in skips {
+            args.skip.push(String::from_str(alloc, pattern)?)?;
         }
         args.exact = exact;
         args.ignored = ignored;
-        assert_eq!(rt; is_filtered_out(&args, &trial), want);
+        assert_eq!(rt;
+            is_filtered_out(&args, &trial),
+            want,
+            "{filters:?} {skips:?} {exact}"
+        );
     }
     Ok(())
 }
@@ -122,7 +128,7 @@ pub(super) fn selecting(
     let mut args = Arguments::new(alloc);
     args.exact = exact;
     if let Some(filter) = filter {
-        args.filter = Some(String::from_str(alloc, filter)?);
+        args.filter.push(String::from_str(alloc, filter)?)?;
     }
     if let Some(skip) = skip {
         args.skip.push(String::from_str(alloc, skip)?)?;

@@ -250,13 +250,13 @@ fn wants_a_thread_for_a_trial(rt: HostRuntime) -> Result<(), Fail> {
     assert!(rt; writer.bytes.as_slice() == NO_TESTS);
     let (conclusion, _) = run_by(&rt, alloc, 1, FormatSetting::Pretty, that_meet(alloc, 1)?)?;
     assert_eq!(rt; conclusion.num_passed, 1);
-    args.filter = Some(String::from_str(alloc, "z")?);
+    args.filter.push(String::from_str(alloc, "z")?)?;
     let mut sink = Sink::new(ample(Vec::new(alloc)));
     let mut watch = Stopwatch::new(stopped_clock());
     let tests = that_meet(alloc, 1)?;
     let conclusion = run(&rt, alloc, &args, tests, &mut sink, &mut watch, 4, false)?;
     assert_eq!(rt; conclusion.num_filtered_out, 1);
-    args.filter = None;
+    args.filter.clear();
     args.list = true;
     let mut sink = Sink::new(ample(Vec::new(alloc)));
     let mut watch = Stopwatch::new(stopped_clock());

@@ -3,7 +3,7 @@ use Rattle.std.specs.Prelude.{string_bytes}
 use Rattle.std.proofs.lemmas.List.{take_all}
 use Rattle.std.proofs.lemmas.List.Elements.{All-more}
 use Rattle.libtest_mimic.specs.Selection.{MatchesTrial}
-use Rattle.libtest_mimic.proofs.select.is_skipped.Goals as goal
+use Rattle.libtest_mimic.proofs.select.matches_one.Goals as goal
 
 pub returns-then-matches_trial : goal.returns-then-matches_trial
 returns-then-matches_trial g c =
