@@ -16,12 +16,13 @@ pub mod text;
 pub use mimic_args::{
     Arguments, ArgumentsError, ColorSetting, FormatSetting, UnknownFormat, UnstableFlags,
 };
+pub use mimic_pool::Spawner;
 pub use mimic_printer::{Sink, WriteFault};
 pub use mimic_trial::{
     BenchRunner, Conclusion, Failed, Measurement, Outcome, Runner, Task, TestInfo, TestRunner,
     Trial, count_rows, run_single,
 };
-pub use running::{RunError, Spawner, run, run_here};
+pub use running::{RunError, run, run_here};
 pub use stopwatch::{Clock, Stopwatch};
 
 #[cfg(test)]

@@ -22,19 +22,13 @@ use in_order::run_in_order;
 use in_workers::run_in_workers;
 use list::write_list;
 use mimic_args::Arguments;
+use mimic_pool::Spawner;
 use mimic_printer::{Sink, WriteFault};
 use mimic_trial::{Conclusion, Task, Trial};
 use selected::{Selected, select};
 use std::alloc::{AllocError, AllocFailed, Global};
 use std::io::Write;
-use std::sync::Wait;
-use std::thread::Threads;
 use thiserror::Error;
-
-/// What starts worker threads and waits for them, as the handle that `main` gets does.
-pub trait Spawner: Threads + Wait + Copy + Drop + Send {}
-
-impl<T: Threads + Wait + Copy + Drop + Send> Spawner for T {}
 
 /// Why a run was refused.
 #[derive(Debug, Drop, Error)]

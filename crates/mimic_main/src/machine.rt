@@ -7,11 +7,10 @@ use crate::clock::MonotonicClock;
 use crate::colours::shows_colours;
 use crate::program::Program;
 use crate::status::Status;
-use libtest_mimic::{Arguments, RunError, Task, Trial};
+use libtest_mimic::{Arguments, RunError, Spawner, Task, Trial};
 use std::fs::Files;
 use std::io::{IsTerminal, Write};
 use std::rt::{Clock, Env, Stderr, Stdout};
-use std::sync::Wait;
 use std::thread;
 use std::thread::Threads;
 
@@ -36,19 +35,9 @@ impl Streams for HostRuntime {
 
 /// A machine that a program runs on, as `main` is handed one: its line and environment, its memory and files, its clock,
 /// its threads and its streams.
-pub trait Machine: Env
-    + AllocGlobal
-    + Files
-    + Clock
-    + Threads
-    + Wait
-    + Streams
-    + Copy
-    + Drop
-    + Send {}
+pub trait Machine: Env + AllocGlobal + Files + Clock + Streams + Spawner {}
 
-impl<M: Env + AllocGlobal + Files + Clock + Threads + Wait + Streams + Copy + Drop + Send> Machine
-    for M {}
+impl<M: Env + AllocGlobal + Files + Clock + Streams + Spawner> Machine for M {}
 
 /// Runs or lists the trials as the program's command line asks, and returns what its `main` is to return.
 ///
@@ -72,7 +61,7 @@ pub fn run_program<M: Machine + 'static, R: Task + Send + 'static>(
 
 // Likewise on a machine whose parts are handed in.
 pub(crate) fn run_program_on<
-    T: Threads + Wait + Copy + Drop + Send + 'static,
+    T: Spawner + 'static,
     F: Files,
     V: Env + AllocGlobal,
     K: Clock,
@@ -145,7 +134,7 @@ impl Program<'_> {
 
     // Likewise on a machine whose parts are handed in.
     fn run_on<
-        T: Threads + Wait + Copy + Drop + Send + 'static,
+        T: Spawner + 'static,
         F: Files,
         V: Env + AllocGlobal,
         K: Clock,

@@ -10,12 +10,10 @@ ghost use Rattle.mimic_main.specs.Run.{GotBeginning, Ran};
 use crate::buffer::{FlushPolicy, Output};
 use crate::run::run_into;
 use crate::status::Status;
-use libtest_mimic::{Arguments, ArgumentsError, Clock, Conclusion, RunError, Task, Trial};
+use libtest_mimic::{Arguments, ArgumentsError, Clock, Conclusion, RunError, Spawner, Task, Trial};
 use std::alloc::Global;
 use std::fs::Files;
 use std::io::Write;
-use std::sync::Wait;
-use std::thread::Threads;
 use std::{fs, io};
 
 // Why no report, or only a part of one, was written.
@@ -47,7 +45,7 @@ impl Program<'_> {
     /// The report or list goes into the logfile, which is made or emptied first; without one it goes to `out`. Help
     /// goes to `out`, and what is refused to `err`; a fault in writing either changes no status.
     pub fn harness_run<
-        T: Threads + Wait + Copy + Drop + Send + 'static,
+        T: Spawner + 'static,
         F: Files,
         R: Task + Send + 'static,
         O: Write,
@@ -168,7 +166,7 @@ struct Job<R, C> {
 
 impl<R: Task + Send + 'static, C: Clock + Drop> Job<R, C> {
     // Runs into the logfile where there is one, else to `out`, which is given back.
-    fn run<T: Threads + Wait + Copy + Drop + Send + 'static, F: Files, O: Write>(
+    fn run<T: Spawner + 'static, F: Files, O: Write>(
         self,
         rt: &T,
         args: &Arguments,
@@ -197,7 +195,7 @@ impl<R: Task + Send + 'static, C: Clock + Drop> Job<R, C> {
     }
 
     // Runs into the logfile, which is made or emptied first.
-    fn run_into_logfile<T: Threads + Wait + Copy + Drop + Send + 'static, F: Files>(
+    fn run_into_logfile<T: Spawner + 'static, F: Files>(
         self,
         rt: &T,
         args: &Arguments,
@@ -215,7 +213,7 @@ impl<R: Task + Send + 'static, C: Clock + Drop> Job<R, C> {
     }
 
     // Runs into the writer through a buffer, and gives the writer back.
-    fn run_buffered<T: Threads + Wait + Copy + Drop + Send + 'static, W: Write>(
+    fn run_buffered<T: Spawner + 'static, W: Write>(
         self,
         rt: &T,
         args: &Arguments,

@@ -8,24 +8,17 @@ ghost use Rattle.mimic_main.specs.Run.{GotBeginning, Ran};
 
 use crate::buffer::Output;
 use libtest_mimic::{
-    Arguments, Clock, Conclusion, RunError, Sink, Stopwatch, Task, Trial, WriteFault, run,
+    Arguments, Clock, Conclusion, RunError, Sink, Spawner, Stopwatch, Task, Trial, WriteFault, run,
 };
 use std::alloc::Global;
 use std::io;
 use std::io::Write;
-use std::sync::Wait;
-use std::thread::Threads;
 
 /// Runs or lists the trials as the arguments ask, hands on what the buffer holds at the end, and gives the writer back.
 ///
 /// A fault in handing on the last bytes is a fault of the run. `default_threads` is how many threads run the trials, and
 /// `auto_colours` whether the report has colours, where the arguments leave it open.
-pub fn run_into<
-    R: Task + Send + 'static,
-    W: Write,
-    C: Clock + Drop,
-    T: Threads + Wait + Copy + Drop + Send + 'static,
->(
+pub fn run_into<R: Task + Send + 'static, W: Write, C: Clock + Drop, T: Spawner + 'static>(
     rt: &T,
     alloc: Global,
     args: &Arguments,

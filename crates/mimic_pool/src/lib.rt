@@ -21,7 +21,7 @@ pub use memory::MemoryReports;
 pub use reports::{Reports, Untold};
 pub use share::{Share, deal};
 pub use start::{AnswersShare, Rows, Start};
-pub use threads::{Handles, join_all, prepare, start_all};
+pub use threads::{Handles, Spawner, join_all, prepare, start_all};
 pub use worker::work;
 
 #[cfg(test)]

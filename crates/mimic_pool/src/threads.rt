@@ -17,6 +17,11 @@ use std::sync::Wait;
 use std::thread;
 use std::thread::{PromisedHandle, Threads};
 
+/// What starts worker threads and waits for them, as the handle that `main` gets does.
+pub trait Spawner: Threads + Wait + Copy + Drop + Send {}
+
+impl<T: Threads + Wait + Copy + Drop + Send> Spawner for T {}
+
 /// The handles of workers that were started, in the order of their shares.
 pub type Handles<T> = Vec<PromisedHandle<Rows, AnswersShare<T>>>;
 
@@ -41,7 +46,7 @@ pub fn prepare<T: Task>(
 
 /// Starts a worker for each share, and keeps their handles in `handles`, which takes no memory. Where one can't be
 /// started, no further one is, and those that were started, on a front of the shares, are handed back.
-pub fn start_all<T: Task + Send + 'static, R: Threads + Wait + Copy + Drop + Send + 'static>(
+pub fn start_all<T: Task + Send + 'static, R: Spawner + 'static>(
     rt: &R,
     alloc: Global,
     starts: Vec<Start<T>>,
@@ -65,7 +70,7 @@ pub fn start_all<T: Task + Send + 'static, R: Threads + Wait + Copy + Drop + Sen
 }
 
 // Starts one worker. `None` where no thread can be made.
-fn start_worker<T: Task + Send + 'static, R: Threads + Wait + Copy + Drop + Send + 'static>(
+fn start_worker<T: Task + Send + 'static, R: Spawner + 'static>(
     rt: &R,
     alloc: Global,
     start: Start<T>,

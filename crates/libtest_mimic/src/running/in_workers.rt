@@ -7,14 +7,14 @@ ghost use Rattle.libtest_mimic.specs.Run.{OnNothingWritten, Reports};
 ghost use Rattle.libtest_mimic.specs.Steps.{AreParts, Gathered, RowsRefused, selected_suite, titled_rows};
 ghost use Rattle.libtest_mimic.specs.Stopwatch.{IsRunning};
 
+use crate::running::RunError;
 use crate::running::arrivals::{write_arrivals, write_missing};
 use crate::running::selected::Selected;
 use crate::running::summary::write_summary;
-use crate::running::{RunError, Spawner};
 use crate::select::is_ignored;
 use crate::stopwatch::{Clock, Stopwatch};
 use mimic_args::Arguments;
-use mimic_pool::{Desk, Inbox, deal, join_all, prepare, start_all};
+use mimic_pool::{Desk, Inbox, Spawner, deal, join_all, prepare, start_all};
 use mimic_printer::{Printer, Sink};
 use mimic_trial::{Conclusion, Outcome, Task, TestInfo, Trial, count_rows};
 use std::alloc::{AllocError, Global};
