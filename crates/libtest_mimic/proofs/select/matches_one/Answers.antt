@@ -1,4 +1,4 @@
-use Rattle.std.proofs.Common.{arith, rules, ◌∙◌, ap, length, sym}
+use Rattle.std.proofs.Common.{arith, rules, sym}
 use Rattle.std.specs.Prelude.{string_bytes}
 use Rattle.std.proofs.lemmas.List.{take_all}
 use Rattle.std.proofs.lemmas.List.Elements.{All-more}
@@ -7,13 +7,12 @@ use Rattle.libtest_mimic.proofs.select.matches_one.Goals as goal
 
 pub returns-then-matches_trial : goal.returns-then-matches_trial
 returns-then-matches_trial g c =
-    let same = c.deref-pattern-items.ensures.value in
     let found = c.matches_trial.ensures.0 (search rules) in (
       (λ _. (
         c.loop-pattern.pattern-index,
         c.pattern-item.result,
-        omega (arith, ap length same),
-        sym (rw same at c.pattern-item.is),
+        omega arith,
+        sym c.pattern-item.is,
         rw c.as_str.ensures.value at found,
       )),
       (λ _. search rules),
@@ -22,14 +21,13 @@ returns-then-matches_trial g c =
 pub loop-pattern-preserved : goal.loop-pattern-preserved
 loop-pattern-preserved g c =
     let matched = rw (c.as_str.ensures.value, c.pattern-item.is) at c.matches_trial.ensures in
-    All-more (λ s. ¬ MatchesTrial c.args.args.now c.args.trial.now (string_bytes s)) c.deref-pattern-items.result.now
+    All-more (λ s. ¬ MatchesTrial c.args.args.now c.args.trial.now (string_bytes s)) c.args.patterns.now
     c.loop-pattern.pattern-index c.pattern-item.result c.loop-pattern-test.true c.loop-pattern.invariant
     (λ m. let yes = matched.1 m in let no = rw c.if-matches_trial.false at yes in cc)
 
 pub returns : goal.returns
 returns g c =
-    let same = c.deref-pattern-items.ensures.value in
-    let whole = take_all c.loop-pattern.pattern-index c.deref-pattern-items.result.now (omega arith) ∙ same in
+    let whole = take_all c.loop-pattern.pattern-index c.args.patterns.now (omega arith) in
     let none = rw whole at c.loop-pattern.invariant in (
       (λ t. cc),
       (λ h.

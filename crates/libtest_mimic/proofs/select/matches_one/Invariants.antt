@@ -4,4 +4,4 @@ use Rattle.libtest_mimic.specs.Selection.{MatchesTrial}
 use Rattle.libtest_mimic.proofs.select.matches_one.Given as goal
 
 abbrev pub invariant-loop-pattern : goal.invariant-loop-pattern
-invariant-loop-pattern g l = All (λ s. ¬ MatchesTrial l.args l.trial (string_bytes s)) (take l.pattern-index l.pattern-items)
+invariant-loop-pattern g l = All (λ s. ¬ MatchesTrial l.args l.trial (string_bytes s)) (take l.pattern-index l.patterns)
