@@ -7,14 +7,13 @@ use Rattle.mimic_trial.specs.declared.outcome.Outcome.TheVariants.{Passed, Faile
 use Rattle.mimic_trial.specs.Count.{is_measured}
 use Rattle.mimic_text.specs.Escape.{escaped}
 use Rattle.mimic_printer.specs.Row.{Label}
-use Rattle.mimic_printer.specs.Json.{deviation_key, json_end, json_outcome, median_key, outcome_front}
-use Rattle.mimic_events.specs.Steps.{ReadsNumber, IsFailure, IsTail, kind_field, tail}
+use Rattle.mimic_printer.specs.Json.{deviation_key, json_end, json_outcome, kind_field, median_key, outcome_front}
+use Rattle.mimic_events.specs.Steps.{ReadsNumber, IsFailure, IsTail, tail}
 use Rattle.mimic_events.specs.Reading.{Decodes, IsOutcome}
-use Rattle.mimic_events.proofs.NamedLines.{behind_name}
 
 outcome_is : (label : Label) (o : Outcome) → json_outcome label o ≡ outcome_front (is_measured o) ++ (escaped label.name ++ 34 ∷ (kind_field label.kind ++ tail o))
 unfolding json_outcome
-outcome_is label o = ap (λ (x : List ℕ). outcome_front (is_measured o) ++ (escaped label.name ++ x)) (behind_name label.kind (tail o))
+outcome_is label o = refl
 
 abbrev pub measured : ℕ → ℕ → Outcome
 measured avg variance = Measured (record { avg = avg; variance = variance })

@@ -9,8 +9,8 @@ use Rattle.std.proofs.lemmas.List.{append_cancel_left, append_cancel_right}
 use Rattle.mimic_trial.specs.declared.outcome.Outcome.TheVariants.{Failed}
 use Rattle.mimic_text.specs.Escape.{escape, escaped}
 use Rattle.mimic_printer.specs.Row.{Label}
-use Rattle.mimic_printer.specs.Json.{announcement_front, event_field, json_announcement, json_end, json_title, kind_key, stdout_key, title_front}
-use Rattle.mimic_events.specs.Steps.{Follows, ReadsQuoted, ReadsNamed, ReadsNumber, IsFailure, IsKind, kind_field, kind_front, tail}
+use Rattle.mimic_printer.specs.Json.{announcement_front, event_field, json_announcement, json_end, json_title, kind_field, kind_key, stdout_key, title_front}
+use Rattle.mimic_events.specs.Steps.{Follows, ReadsQuoted, ReadsNamed, ReadsNumber, IsFailure, IsKind, tail}
 use Rattle.mimic_events.specs.Reading.{Decodes, IsAnnouncement, IsTitle}
 use Rattle.mimic_events.proofs.Fronts.{Follows-then, Follows-stop}
 
@@ -22,14 +22,8 @@ named_some front line rest (Some x) e h =
 -- ---- the kind
 
 -- a kind that isn't empty stands in quotes
-quoted_kind : (b : ℕ) (kind rest : List ℕ) → kind_field (b ∷ kind) ++ rest ≡ kind_front ++ (escaped (b ∷ kind) ++ 34 ∷ rest)
-quoted_kind b kind rest = ap (λ (x : List ℕ). kind_front ++ x) (append_assoc (escaped (b ∷ kind)) (34 ∷ []) rest)
-
--- behind a name come its closing quote and the field of the kind
-pub behind_name : (kind rest : List ℕ) → kind_key kind ++ (escaped kind ++ 34 ∷ rest) ≡ 34 ∷ (kind_field kind ++ rest)
-unfolding escaped
-behind_name [] rest = refl
-behind_name (b ∷ kind) rest = ap (λ (x : List ℕ). 34 ∷ x) (sym (quoted_kind b kind rest))
+quoted_kind : (b : ℕ) (kind rest : List ℕ) → kind_field (b ∷ kind) ++ rest ≡ kind_key ++ (escaped (b ∷ kind) ++ 34 ∷ rest)
+quoted_kind b kind rest = ap (λ (x : List ℕ). kind_key ++ x) (append_assoc (escaped (b ∷ kind)) (34 ∷ []) rest)
 
 no_kind : (v : List ℕ) → kind_field v ++ json_end ≡ json_end → v ≡ []
 no_kind [] e = refl
@@ -40,12 +34,12 @@ pub kind_empty : (text : List ℕ) → text ≡ json_end → Decodes IsKind text
 kind_empty text e = ((IsUtf8-nil, e), λ v h. no_kind v (sym h.1 ∙ e))
 
 -- and where it doesn't, the kind stands in quotes
-pub kind_spelled : (text v : List ℕ) → text ≢ json_end → IsKind v text → (v ≢ []) × (text ≡ kind_front ++ (escaped v ++ 34 ∷ json_end))
+pub kind_spelled : (text v : List ℕ) → text ≢ json_end → IsKind v text → (v ≢ []) × (text ≡ kind_key ++ (escaped v ++ 34 ∷ json_end))
 kind_spelled text [] more h = absurd (more h.1)
 kind_spelled text (b ∷ v) more h = ((λ e. cc), h.1 ∙ quoted_kind b v json_end)
 
 -- the text in quotes is the kind
-pub kind_some : (text kind : List ℕ) (o : Option (List ℕ)) → text ≢ json_end → kind ≢ [] → ReadsNamed kind_front text (Some (kind, json_end))
+pub kind_some : (text kind : List ℕ) (o : Option (List ℕ)) → text ≢ json_end → kind ≢ [] → ReadsNamed kind_key text (Some (kind, json_end))
     → MatchOption o (IsUtf8 kind → ⊥) (λ t. (t ≡ kind) × IsUtf8 kind) → Decodes IsKind text o
 kind_some text kind None more some h t = λ v f. t (subst IsUtf8 (h.1 v json_end (kind_spelled text v more f).1).0 f.0)
 kind_some text [] (Some t) more some h u = absurd (some refl)
@@ -74,13 +68,13 @@ label_stop front name kind line h =
 pub kind_nothing : (kind : List ℕ) (rest : Bor (List ℕ)) → kind ≡ [] → Follows (kind_field kind) rest.now (Some rest)
 kind_nothing kind rest e = rw e refl
 
-pub kind_then : (kind rest : List ℕ) (o : Option (Bor (List ℕ))) → kind ≢ [] → Follows (kind_front ++ (escaped kind ++ 34 ∷ [])) rest o → Follows (kind_field kind) rest o
+pub kind_then : (kind rest : List ℕ) (o : Option (Bor (List ℕ))) → kind ≢ [] → Follows (kind_key ++ (escaped kind ++ 34 ∷ [])) rest o → Follows (kind_field kind) rest o
 kind_then [] rest o some h = absurd (some refl)
 kind_then (b ∷ kind) rest o some h = h
 
 pub announcement_is : (label : Label) → json_announcement label ≡ announcement_front ++ (escaped label.name ++ 34 ∷ (kind_field label.kind ++ json_end))
 unfolding json_announcement
-announcement_is label = ap (λ (x : List ℕ). announcement_front ++ (escaped label.name ++ x)) (behind_name label.kind json_end)
+announcement_is label = refl
 
 -- the kind of an announcement by what follows its name
 pub announced_kind : (line name rest : List ℕ) (v : Label) → ReadsNamed announcement_front line (Some (name, rest)) → IsAnnouncement v line → (v.name ≡ name) × IsKind v.kind rest

@@ -1,12 +1,12 @@
 -- What the private readers of parts of a line promise one another. No public clause names these words.
-use Rattle.std.specs.Prelude.{◌≡◌, ◌≢◌, ℕ, ◌+◌, ◌-◌, ◌<◌, ◌≤◌, ◌^◌, ◌==◌, nat_lt, if◌then◌else◌, Bool, List, [], ◌∷◌, ◌++◌, codes, decimal, Option, Some, None, IsUtf8}
+use Rattle.std.specs.Prelude.{◌≡◌, ◌≢◌, ℕ, ◌+◌, ◌-◌, ◌<◌, ◌≤◌, ◌^◌, ◌==◌, nat_lt, if◌then◌else◌, Bool, List, [], ◌∷◌, ◌++◌, decimal, Option, Some, None, IsUtf8}
 use Rattle.std.specs.Borrow.{Bor}
 use Rattle.std.specs.Str.Parse.{AllDigits}
 use Rattle.mimic_trial.specs.declared.outcome.Outcome.{Outcome}
 use Rattle.mimic_trial.specs.declared.outcome.Outcome.TheVariants.{Failed}
 use Rattle.mimic_trial.specs.Count.{is_measured}
 use Rattle.mimic_text.specs.Escape.{escape, escaped}
-use Rattle.mimic_printer.specs.Json.{json_end, json_line, outcome_fields, time_key}
+use Rattle.mimic_printer.specs.Json.{json_end, json_line, kind_field, outcome_fields, time_key}
 use Rattle.mimic_text.specs.Seconds.{exact_seconds}
 use Rattle.mimic_trial.specs.Promise.{FitsTypes}
 
@@ -91,15 +91,6 @@ ReadsNumber bytes (Some found) = (found.0 < 2 ^ 64) × (bytes ≡ decimal found.
     × ((n : ℕ) (rest : List ℕ) → n < 2 ^ 64 → EndsNumber rest → bytes ≡ decimal n ++ rest → (n ≡ found.0) × (rest ≡ found.1))
 
 -- ---- lines
-
--- what stands before a kind, behind the closing quote of the name
-abbrev pub kind_front : List ℕ
-kind_front = codes ", \"kind\": \""
-
--- what stands between that quote and the other fields: the kind, if it isn't empty
-abbrev pub kind_field : List ℕ → List ℕ
-kind_field [] = []
-kind_field (b ∷ bs) = kind_front ++ (escaped (b ∷ bs) ++ 34 ∷ [])
 
 -- the text is what follows the name and its closing quote in the announcement of a trial of this kind
 abbrev pub IsKind : List ℕ → List ℕ → Type 0

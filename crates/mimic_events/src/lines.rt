@@ -2,7 +2,8 @@
 ghost use Rattle.std.specs.Prelude.{◌≡◌, ◌≢◌, ◌∷◌, ◌++◌, ℕ, List, IfOk, MatchOption, IsUtf8, codes, option_map, string_bytes, true, false};
 ghost use Rattle.mimic_text.specs.Escape.{escaped};
 ghost use Rattle.mimic_events.specs.Contents.{label_read};
-ghost use Rattle.mimic_events.specs.Steps.{Follows, IsFailure, IsKind, IsTail, kind_field};
+ghost use Rattle.mimic_printer.specs.Json.{kind_field};
+ghost use Rattle.mimic_events.specs.Steps.{Follows, IsFailure, IsKind, IsTail};
 ghost use Rattle.mimic_events.specs.Reading.{Decodes, IsTitle, IsAnnouncement, IsOutcome};
 
 use crate::numbers::number_at;

@@ -19,7 +19,7 @@ use Rattle.mimic_text.proofs.Bounded.{all_below, one_below}
 use Rattle.mimic_text.proofs.Escapes.{escape-high}
 use Rattle.mimic_text.proofs.ExactSeconds.{seconds_exact}
 use Rattle.mimic_printer.specs.Row.{Label}
-use Rattle.mimic_printer.specs.Json.{Contents, Entry, FitsEntry, HasNoEnd, IsJsonReport, IsLine, announcement_front, conclusion_of, deviation_key, entry_lines, event_field, json_announcement, json_line, json_outcome, json_report, json_summary, json_title, json_trial, json_verdict, kind_key, line_ends, report_lines, median_key, number_field, outcome_fields, outcome_front, stdout_key, summary_front, time_key, title_front}
+use Rattle.mimic_printer.specs.Json.{Contents, Entry, FitsEntry, HasNoEnd, IsJsonReport, IsLine, announcement_front, conclusion_of, deviation_key, entry_lines, event_field, json_announcement, json_line, json_outcome, json_report, json_summary, json_title, json_trial, json_verdict, kind_field, kind_key, line_ends, report_lines, median_key, number_field, outcome_fields, outcome_front, stdout_key, summary_front, time_key, title_front}
 
 -- ---- texts in which no line ends
 
@@ -84,14 +84,22 @@ pub title_line : (n : ℕ) → n < 2 ^ 64 → IsLine (json_title n)
 unfolding json_title
 title_line n h = line_of (title_front ∷ decimal n ∷ []) (by_test title_front refl, (decimal_no_end n h, tt))
 
-key_no_end : (kind : List ℕ) → HasNoEnd (kind_key kind)
-key_no_end [] = tt
-key_no_end (b ∷ kind) = by_test (kind_key (b ∷ kind)) refl
+kind_no_end : (kind : List ℕ) → HasNoEnd (kind_field kind)
+kind_no_end [] = tt
+kind_no_end (b ∷ kind) =
+    no_end-append kind_key (escaped (b ∷ kind) ++ codes "\"") (by_test kind_key refl)
+    (no_end-append (escaped (b ∷ kind)) (codes "\"") (escaped_no_end (b ∷ kind)) (by_test (codes "\"") refl))
+
+-- what stands between a name and its kind makes a field of the kind
+pub kind_then : (before kind rest : List ℕ) → before ++ (escaped kind ++ codes "\"") ≡ codes "\"" ++ kind_field kind → before ++ (escaped kind ++ 34 ∷ rest) ≡ 34 ∷ (kind_field kind ++ rest)
+kind_then before kind rest e =
+    sym (append_assoc before (escaped kind ++ codes "\"") rest ∙ ap (λ (x : List ℕ). before ++ x) (append_assoc (escaped kind) (codes "\"") rest))
+    ∙ ap (λ (x : List ℕ). x ++ rest) e
 
 trial_line : (front : List ℕ) (label : Label) (fields : List (List ℕ)) → HasNoEnd front → AllByRecursion HasNoEnd fields → IsLine (json_trial front label fields)
 trial_line front label fields clean all =
-    line_of (front ∷ escaped label.name ∷ kind_key label.kind ∷ escaped label.kind ∷ codes "\"" ∷ fields)
-    (clean, (escaped_no_end label.name, (key_no_end label.kind, (escaped_no_end label.kind, (by_test (codes "\"") refl, all)))))
+    line_of (front ∷ escaped label.name ∷ codes "\"" ∷ kind_field label.kind ∷ fields)
+    (clean, (escaped_no_end label.name, (by_test (codes "\"") refl, (kind_no_end label.kind, all))))
 
 pub announcement_line : (label : Label) → IsLine (json_announcement label)
 unfolding json_announcement

@@ -59,14 +59,18 @@ deviation_key = codes ", \"deviation\": "
 
 -- ---- the lines of a trial
 
--- what stands between a name and its kind; an empty kind has no field (our own: the Rust crate writes no kind)
-abbrev pub kind_key : List ℕ → List ℕ
-kind_key [] = []
-kind_key (b ∷ bs) = codes "\", \"kind\": \""
+-- what stands before a kind
+abbrev pub kind_key : List ℕ
+kind_key = codes ", \"kind\": \""
 
--- the line of a trial: its front up to the name, the name, the kind if there is one, the closing quote, and the fields behind it
+-- the field that tells a kind, and nothing for an empty one (our own: the Rust crate writes no kind)
+abbrev pub kind_field : List ℕ → List ℕ
+kind_field [] = []
+kind_field (b ∷ bs) = concat (kind_key ∷ escaped (b ∷ bs) ∷ codes "\"" ∷ [])
+
+-- the line of a trial: its front up to the name, the name and the closing quote, and the fields behind it, the kind's first
 abbrev pub json_trial : List ℕ → Label → List (List ℕ) → List ℕ
-json_trial front label fields = json_line (front ∷ escaped label.name ∷ kind_key label.kind ∷ escaped label.kind ∷ codes "\"" ∷ fields)
+json_trial front label fields = json_line (front ∷ escaped label.name ∷ codes "\"" ∷ kind_field label.kind ∷ fields)
 
 -- what stands before the name in an announcement
 abbrev pub announcement_front : List ℕ

@@ -1,7 +1,7 @@
 //! The lines of a report in JSON.
-ghost use Rattle.std.specs.Prelude.{◌≡◌, ◌-◌, ◌^◌, ◌<◌, ◌∷◌, [], Some, false};
+ghost use Rattle.std.specs.Prelude.{◌≡◌, ◌-◌, ◌^◌, ◌<◌, ◌∷◌, ◌++◌, [], Some, codes, false};
 ghost use Rattle.std.specs.List.{concat};
-ghost use Rattle.mimic_printer.specs.Json.{json_announcement, json_outcome, json_summary, json_title, json_verdict, kind_key, outcome_front};
+ghost use Rattle.mimic_printer.specs.Json.{json_announcement, json_outcome, json_summary, json_title, json_verdict, kind_field, outcome_front};
 ghost use Rattle.mimic_printer.specs.Sink.{Puts, faults_of};
 ghost use Rattle.mimic_text.specs.Escape.{escaped};
 ghost use Rattle.mimic_trial.specs.declared.outcome.Outcome.TheVariants.{Failed, Measured};
@@ -38,7 +38,7 @@ pub(super) fn put_announcement<'a, W: Write>(
     let pieces = [
         Piece::Text("{ \"type\": \"test\", \"event\": \"started\", \"name\": \""),
         Piece::Escaped(name),
-        Piece::Text(kind_key(kind)),
+        Piece::Text(before_kind(kind)),
         Piece::Escaped(kind),
         Piece::Text("\" }\n"),
     ];
@@ -56,11 +56,11 @@ pub(super) fn put_outcome<'a, W: Write>(
     ensures { Puts W.contents sink.old sink.new (json_outcome (record { kind = kind.now; name = name.now }) outcome.now) result }
 {
     match outcome {
-        Outcome::Passed => put_word(sink, name, kind, "\", \"event\": \"ok\" }\n"),
-        Outcome::Ignored => put_word(sink, name, kind, "\", \"event\": \"ignored\" }\n"),
+        Outcome::Passed => put_word(sink, name, kind, ", \"event\": \"ok\" }\n"),
+        Outcome::Ignored => put_word(sink, name, kind, ", \"event\": \"ignored\" }\n"),
         Outcome::Measured(measurement) => put_measurement(sink, name, kind, measurement),
         Outcome::Failed(failed) => match failed.message() {
-            None => put_word(sink, name, kind, "\", \"event\": \"failed\" }\n"),
+            None => put_word(sink, name, kind, ", \"event\": \"failed\" }\n"),
             Some(message) => put_failure(sink, name, kind, message),
         },
     }
@@ -75,13 +75,14 @@ fn put_word<'a, W: Write>(
 ) -> Result<(), WriteFault>
     requires { faults_of sink.old < 2 ^ 64 - 1 }
     ensures { Puts W.contents sink.old sink.new
-        (concat (outcome_front false ∷ escaped name.now ∷ kind_key kind.now ∷ escaped kind.now ∷ end.now ∷ [])) result }
+        (concat (outcome_front false ∷ escaped name.now ∷ codes "\"" ∷ kind_field kind.now ∷ end.now ∷ [])) result }
 {
     let pieces = [
         Piece::Text("{ \"type\": \"test\", \"name\": \""),
         Piece::Escaped(name),
-        Piece::Text(kind_key(kind)),
+        Piece::Text(before_kind(kind)),
         Piece::Escaped(kind),
+        Piece::Text("\""),
         Piece::Text(end),
     ];
     put_pieces(sink, &pieces)
@@ -101,7 +102,7 @@ fn put_failure<'a, W: Write>(
     let pieces = [
         Piece::Text("{ \"type\": \"test\", \"name\": \""),
         Piece::Escaped(name),
-        Piece::Text(kind_key(kind)),
+        Piece::Text(before_kind(kind)),
         Piece::Escaped(kind),
         Piece::Text("\", \"event\": \"failed\", \"stdout\": \"Error: \\\""),
         Piece::Escaped(message),
@@ -124,7 +125,7 @@ fn put_measurement<'a, W: Write>(
     let pieces = [
         Piece::Text("{ \"type\": \"bench\", \"name\": \""),
         Piece::Escaped(name),
-        Piece::Text(kind_key(kind)),
+        Piece::Text(before_kind(kind)),
         Piece::Escaped(kind),
         Piece::Text("\", \"median\": "),
         Piece::Number(measurement.avg),
@@ -135,9 +136,10 @@ fn put_measurement<'a, W: Write>(
     put_pieces(sink, &pieces)
 }
 
-// What stands between a name and its kind: nothing, where that is empty.
-fn kind_key(kind: &str) -> &'static str
-    ensures { result.now ≡ kind_key kind.now }
+// What stands between a name and its kind, behind which comes a closing quote: nothing, where the kind is empty.
+#[tactic(auto, unfolding(mimic_text::specs::Escape::escaped))]
+fn before_kind(kind: &str) -> &'static str
+    ensures { result.now ++ (escaped kind.now ++ codes "\"") ≡ codes "\"" ++ kind_field kind.now }
 {
     if kind.is_empty() {
         ""
