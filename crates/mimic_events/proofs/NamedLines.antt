@@ -1,9 +1,8 @@
--- Lines with a name in quotes, the title, and the message of a failure.
-use Rattle.std.proofs.Common.{◌≡◌, ◌≢◌, ℕ, List, [], ◌∷◌, ◌++◌, Option, Some, None, Result, Ok, Err, IsOk, IfOk, MatchOption, Bor, Vec, String, string_bytes, option_map, IsUtf8, codes, decimal, arith, get_or, refl, sym, ap, ap₂, subst, ◌∙◌, append_assoc}
+-- Lines with a name in quotes and a kind, the title, and the message of a failure.
+use Rattle.std.proofs.Common.{◌≡◌, ◌≢◌, ℕ, List, [], ◌∷◌, ◌++◌, Option, Some, None, Result, Ok, Err, IsOk, IfOk, MatchOption, Bor, Vec, String, string_bytes, option_map, IsUtf8, codes, decimal, arith, refl, sym, ap, ap₂, subst, ◌∙◌, append_assoc}
 use Rattle.std.specs.Result.{result_ok}
 use Rattle.std.specs.String.{string_vec}
-use Rattle.std.proofs.lemmas.Bool.{eqb-false}
-use Rattle.std.proofs.lemmas.Str.{IsUtf8-nil, IsUtf8-string_bytes}
+use Rattle.std.proofs.lemmas.Str.{IsUtf8-string_bytes}
 use Rattle.std.proofs.lemmas.List.Concat.{flat_map-append}
 use Rattle.std.proofs.lemmas.List.{append_cancel_left, append_cancel_right}
 use Rattle.mimic_trial.specs.declared.outcome.Outcome.TheVariants.{Failed}
@@ -25,15 +24,7 @@ named_some front line rest (Some x) e h =
 quoted_kind : (b : ℕ) (kind rest : List ℕ) → kind_field (b ∷ kind) ++ rest ≡ kind_key ++ (escaped (b ∷ kind) ++ 34 ∷ rest)
 quoted_kind b kind rest = ap (λ (x : List ℕ). kind_key ++ x) (append_assoc (escaped (b ∷ kind)) (34 ∷ []) rest)
 
-no_kind : (v : List ℕ) → kind_field v ++ json_end ≡ json_end → v ≡ []
-no_kind [] e = refl
-no_kind (b ∷ v) e = absurd (eqb-false 44 32 refl (ap (λ (x : List ℕ). get_or x 0 0) e))
-
--- where the line ends behind the name, the kind is empty
-pub kind_empty : (text : List ℕ) → text ≡ json_end → Decodes IsKind text (Some [])
-kind_empty text e = ((IsUtf8-nil, e), λ v h. no_kind v (sym h.1 ∙ e))
-
--- and where it doesn't, the kind stands in quotes
+-- where the line doesn't end behind the name, the kind stands in quotes
 pub kind_spelled : (text v : List ℕ) → text ≢ json_end → IsKind v text → (v ≢ []) × (text ≡ kind_key ++ (escaped v ++ 34 ∷ json_end))
 kind_spelled text [] more h = absurd (more h.1)
 kind_spelled text (b ∷ v) more h = ((λ e. cc), h.1 ∙ quoted_kind b v json_end)
@@ -65,9 +56,6 @@ label_stop front name kind line h =
     subst (λ (x : List ℕ). Follows x line None) (label_front front name kind) (Follows-stop (front ++ (escaped name ++ 34 ∷ [])) (kind_field kind) line h)
 
 -- behind the kind
-pub kind_nothing : (kind : List ℕ) (rest : Bor (List ℕ)) → kind ≡ [] → Follows (kind_field kind) rest.now (Some rest)
-kind_nothing kind rest e = rw e refl
-
 pub kind_then : (kind rest : List ℕ) (o : Option (Bor (List ℕ))) → kind ≢ [] → Follows (kind_key ++ (escaped kind ++ 34 ∷ [])) rest o → Follows (kind_field kind) rest o
 kind_then [] rest o some h = absurd (some refl)
 kind_then (b ∷ kind) rest o some h = h

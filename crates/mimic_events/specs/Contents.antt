@@ -13,7 +13,10 @@ label_read label = record { kind = string_bytes label.kind; name = string_bytes 
 
 -- what a row that was read tells: its name, its kind and its outcome
 abbrev pub entry_read : Row → Entry
-entry_read row = record { label = record { kind = string_bytes row.kind; name = string_bytes row.name }; outcome = row.outcome }
+entry_read row = record {
+  label = record { kind = string_bytes row.kind; name = string_bytes row.name };
+  outcome = row.outcome;
+}
 
 -- what a report that was read tells: the entries of its rows, and its two numbers
 abbrev pub contents_read : Report → Contents

@@ -18,8 +18,8 @@ use Rattle.mimic_events.specs.Reading.{HasCounts, IsTitle, IsAnnouncement, IsOut
 
 -- ---- states between lines
 
--- which line comes next: the title; a row's announcement or the summary; the outcome of the trial with this label; none, since the
--- summary has said how many trials were filtered out, and the nanoseconds
+-- which line comes next: the title; a row's announcement or the summary; the outcome of the trial that was announced; none,
+-- since the summary has said how many trials were filtered out, and the nanoseconds
 pub data Next : Type 0 where
   title_next : Next
   row_next : Next

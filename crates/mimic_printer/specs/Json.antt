@@ -68,7 +68,7 @@ abbrev pub kind_field : List ℕ → List ℕ
 kind_field [] = []
 kind_field (b ∷ bs) = concat (kind_key ∷ escaped (b ∷ bs) ∷ codes "\"" ∷ [])
 
--- the line of a trial: its front up to the name, the name and the closing quote, and the fields behind it, the kind's first
+-- the line of a trial: its front up to the name, the name and the closing quote, the kind, and the other fields
 abbrev pub json_trial : List ℕ → Label → List (List ℕ) → List ℕ
 json_trial front label fields = json_line (front ∷ escaped label.name ∷ codes "\"" ∷ kind_field label.kind ∷ fields)
 
