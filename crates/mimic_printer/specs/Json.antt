@@ -41,6 +41,15 @@ json_line parts = concat (parts ++ json_end ∷ [])
 abbrev pub number_field : List ℕ → ℕ → List ℕ
 number_field key number = key ++ decimal number
 
+-- what stands before a kind
+abbrev pub kind_key : List ℕ
+kind_key = codes ", \"kind\": \""
+
+-- the field that tells a kind, and nothing for an empty one (our own: the Rust crate writes no kind)
+abbrev pub kind_field : List ℕ → List ℕ
+kind_field [] = []
+kind_field (b ∷ bs) = concat (kind_key ∷ escaped (b ∷ bs) ∷ codes "\"" ∷ [])
+
 -- the field that tells an outcome in a word
 abbrev pub event_field : List ℕ → List ℕ
 event_field word = concat (codes ", \"event\": \"" ∷ word ∷ codes "\"" ∷ [])
@@ -58,15 +67,6 @@ abbrev pub deviation_key : List ℕ
 deviation_key = codes ", \"deviation\": "
 
 -- ---- the lines of a trial
-
--- what stands before a kind
-abbrev pub kind_key : List ℕ
-kind_key = codes ", \"kind\": \""
-
--- the field that tells a kind, and nothing for an empty one (our own: the Rust crate writes no kind)
-abbrev pub kind_field : List ℕ → List ℕ
-kind_field [] = []
-kind_field (b ∷ bs) = concat (kind_key ∷ escaped (b ∷ bs) ∷ codes "\"" ∷ [])
 
 -- the line of a trial: its front up to the name, the name and the closing quote, the kind, and the other fields
 abbrev pub json_trial : List ℕ → Label → List (List ℕ) → List ℕ
