@@ -313,6 +313,25 @@ fn answers_as_the_rust_crate(rt: HostRuntime) -> Result<(), Fail> {
     Ok(())
 }
 
+const FLY: &str = r#"{ "type": "suite", "event": "started", "test_count": 1 }
+{ "type": "test", "event": "started", "name": "fly", "kind": "banana" }
+{ "type": "test", "name": "fly", "kind": "banana", "event": "ignored" }
+{ "type": "suite", "event": "ok", "passed": 0, "failed": 0, "ignored": 1, "measured": 0, "filtered_out": 16, "exec_time": 0 }
+"#;
+
+// A trial of some kind, which the Rust crate's program shows without it.
+#[test]
+fn reports_a_kind_in_json(rt: HostRuntime) -> Result<(), Fail> {
+    for left in [
+        run_words(&rt, &["--format", "json", "fly"])?,
+        run_only(&rt, &["--format", "json", "fly"])?,
+    ] {
+        assert_eq!(rt; left.out.as_str(), FLY);
+        assert_eq!(rt; left.status, 0);
+    }
+    Ok(())
+}
+
 // Two lines for each of the 17 trials, and two more, each of which ends with a line end.
 #[test]
 fn reports_in_json(rt: HostRuntime) -> Result<(), Fail> {

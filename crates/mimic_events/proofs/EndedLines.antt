@@ -1,18 +1,19 @@
 -- The lines of outcomes.
-use Rattle.std.proofs.Common.{◌≡◌, ◌≢◌, ℕ, List, ◌∷◌, ◌++◌, Bool, true, false, Option, Some, None, option_map, decimal, refl, sym, ap, subst, ◌∙◌, append_assoc, [], get_or, arith, ◌<◌, ◌^◌}
+use Rattle.std.proofs.Common.{◌≡◌, ◌≢◌, ℕ, List, ◌∷◌, ◌++◌, Bool, true, false, Option, Some, None, option_map, decimal, refl, sym, ap, subst, ◌∙◌, append_assoc, get_or, arith, ◌<◌, ◌^◌}
 use Rattle.std.proofs.lemmas.Bool.{eqb-false}
 use Rattle.std.proofs.lemmas.List.{append_cancel_left}
 use Rattle.mimic_trial.specs.declared.outcome.Outcome.{Outcome}
 use Rattle.mimic_trial.specs.declared.outcome.Outcome.TheVariants.{Passed, Failed, Ignored, Measured}
 use Rattle.mimic_trial.specs.Count.{is_measured}
 use Rattle.mimic_text.specs.Escape.{escaped}
-use Rattle.mimic_printer.specs.Json.{deviation_key, json_end, json_outcome, median_key, outcome_front}
+use Rattle.mimic_printer.specs.Row.{Label}
+use Rattle.mimic_printer.specs.Json.{deviation_key, json_end, json_outcome, kind_field, median_key, outcome_front}
 use Rattle.mimic_events.specs.Steps.{ReadsNumber, IsFailure, IsTail, tail}
 use Rattle.mimic_events.specs.Reading.{Decodes, IsOutcome}
 
-pub outcome_is : (name : List ℕ) (o : Outcome) → json_outcome name o ≡ outcome_front (is_measured o) ++ (escaped name ++ 34 ∷ tail o)
+outcome_is : (label : Label) (o : Outcome) → json_outcome label o ≡ outcome_front (is_measured o) ++ (escaped label.name ++ 34 ∷ (kind_field label.kind ++ tail o))
 unfolding json_outcome
-outcome_is name o = refl
+outcome_is label o = refl
 
 abbrev pub measured : ℕ → ℕ → Outcome
 measured avg variance = Measured (record { avg = avg; variance = variance })
@@ -23,29 +24,35 @@ apart false false x y e = refl
 apart true false x y e = absurd (eqb-false 98 116 refl (ap (λ (z : List ℕ). get_or z 11 0) e))
 apart false true x y e = absurd (eqb-false 116 98 refl (ap (λ (z : List ℕ). get_or z 11 0) e))
 
--- the front of the line of an outcome, with the name and its closing quote
-abbrev pub named : Bool → List ℕ → List ℕ
-named b name = outcome_front b ++ (escaped name ++ 34 ∷ [])
+-- the front of the line of an outcome, with the name and the kind
+abbrev pub named : Bool → Label → List ℕ
+named b label = outcome_front b ++ (escaped label.name ++ 34 ∷ kind_field label.kind)
 
-regrouped : (b : Bool) (name rest : List ℕ) → named b name ++ rest ≡ outcome_front b ++ (escaped name ++ 34 ∷ rest)
-regrouped b name rest = append_assoc (outcome_front b) (escaped name ++ 34 ∷ []) rest ∙ ap (λ (x : List ℕ). outcome_front b ++ x) (append_assoc (escaped name) (34 ∷ []) rest)
+-- what follows the front in such a line
+abbrev followed : Label → List ℕ → List ℕ
+followed label rest = escaped label.name ++ 34 ∷ (kind_field label.kind ++ rest)
+
+regrouped : (b : Bool) (label : Label) (rest : List ℕ) → named b label ++ rest ≡ outcome_front b ++ followed label rest
+regrouped b label rest =
+    append_assoc (outcome_front b) (escaped label.name ++ 34 ∷ kind_field label.kind) rest
+    ∙ ap (λ (x : List ℕ). outcome_front b ++ x) (append_assoc (escaped label.name) (34 ∷ kind_field label.kind) rest)
 
 -- a line of an outcome is read apart so
-given : (b : Bool) (line name rest : List ℕ) (v : Outcome) → line ≡ named b name ++ rest → IsOutcome name v line → (is_measured v ≡ b) × (tail v ≡ rest)
-given b line name rest v h f =
-    let e : line ≡ named (is_measured v) name ++ tail v = f.1 ∙ outcome_is name v ∙ sym (regrouped (is_measured v) name (tail v)) in
-    let same : is_measured v ≡ b = apart (is_measured v) b (escaped name ++ 34 ∷ tail v) (escaped name ++ 34 ∷ rest) (sym (regrouped (is_measured v) name (tail v)) ∙ sym e ∙ h ∙ regrouped b name rest) in
-    (same, append_cancel_left (named b name) (tail v) rest (sym (subst (λ (c : Bool). line ≡ named c name ++ tail v) same e) ∙ h))
+given : (b : Bool) (line : List ℕ) (label : Label) (rest : List ℕ) (v : Outcome) → line ≡ named b label ++ rest → IsOutcome label v line → (is_measured v ≡ b) × (tail v ≡ rest)
+given b line label rest v h f =
+    let e : line ≡ named (is_measured v) label ++ tail v = f.1 ∙ outcome_is label v ∙ sym (regrouped (is_measured v) label (tail v)) in
+    let same : is_measured v ≡ b = apart (is_measured v) b (followed label (tail v)) (followed label rest) (sym (regrouped (is_measured v) label (tail v)) ∙ sym e ∙ h ∙ regrouped b label rest) in
+    (same, append_cancel_left (named b label) (tail v) rest (sym (subst (λ (c : Bool). line ≡ named c label ++ tail v) same e) ∙ h))
 
-pub ended_some : (b : Bool) (line name rest : List ℕ) (o : Option Outcome) → line ≡ named b name ++ rest → Decodes (IsTail b) rest o → Decodes (IsOutcome name) line o
-ended_some b line name rest None h d = λ v f. let g = given b line name rest v h f in d v (g.0, f.0, sym g.1)
-ended_some b line name rest (Some e) h d =
-    ((d.0.1, h ∙ regrouped b name rest ∙ rw (d.0.2, ← d.0.0) refl ∙ sym (outcome_is name e)), λ v f. let g = given b line name rest v h f in d.1 v (g.0, f.0, sym g.1))
+pub ended_some : (b : Bool) (line : List ℕ) (label : Label) (rest : List ℕ) (o : Option Outcome) → line ≡ named b label ++ rest → Decodes (IsTail b) rest o → Decodes (IsOutcome label) line o
+ended_some b line label rest None h d = λ v f. let g = given b line label rest v h f in d v (g.0, f.0, sym g.1)
+ended_some b line label rest (Some e) h d =
+    ((d.0.1, h ∙ regrouped b label rest ∙ rw (d.0.2, ← d.0.0) refl ∙ sym (outcome_is label e)), λ v f. let g = given b line label rest v h f in d.1 v (g.0, f.0, sym g.1))
 
-pub ended_none : (line name : List ℕ) (v : Outcome) → ((rest : List ℕ) → line ≢ named true name ++ rest) → ((rest : List ℕ) → line ≢ named false name ++ rest) → IsOutcome name v line → ⊥
-ended_none line name v bench test f = at (is_measured v) (f.1 ∙ outcome_is name v ∙ sym (regrouped (is_measured v) name (tail v)))
+pub ended_none : (line : List ℕ) (label : Label) (v : Outcome) → ((rest : List ℕ) → line ≢ named true label ++ rest) → ((rest : List ℕ) → line ≢ named false label ++ rest) → IsOutcome label v line → ⊥
+ended_none line label v bench test f = at (is_measured v) (f.1 ∙ outcome_is label v ∙ sym (regrouped (is_measured v) label (tail v)))
   where
-    at : (b : Bool) → line ≡ named b name ++ tail v → ⊥
+    at : (b : Bool) → line ≡ named b label ++ tail v → ⊥
     at true e = bench (tail v) e
     at false e = test (tail v) e
 

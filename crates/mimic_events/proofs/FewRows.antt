@@ -25,9 +25,9 @@ use Rattle.mimic_events.proofs.WholeLines.{line_some}
 rows_long : (es : List Entry) → length es ≤ length (concat (flat_map entry_lines es))
 rows_long [] = omega arith
 rows_long (e ∷ es) =
-    let a : List ℕ = json_announcement e.name in
-    let o : List ℕ = json_outcome e.name e.outcome in
-    let some : 0 < length a = line_some a (announcement_line e.name) in
+    let a : List ℕ = json_announcement e.label in
+    let o : List ℕ = json_outcome e.label e.outcome in
+    let some : 0 < length a = line_some a (announcement_line e.label) in
     let rest : List ℕ = concat (flat_map entry_lines es) in
     omega (arith, some, rows_long es, length-append a (o ++ rest), length-append o rest)
 
@@ -94,7 +94,7 @@ behind_title s line rest c small e =
 few_from : (next : Next) (s : State) (rest : List ℕ) (c : Contents) → s.announced < 2 ^ 64 → length rest < 2 ^ 64 → text_so_far next s ++ rest ≡ json_report c → length c.entries < 2 ^ 64
 few_from title_next s rest c small short e = omega (arith, report_long c, ap length e, short)
 few_from row_next s rest c small short e = behind_title s [] rest c small (ap (λ (x : List ℕ). x ++ rest) (append-nil (title_and s)) ∙ e)
-few_from (outcome_next name) s rest c small short e = behind_title s (json_announcement name) rest c small e
+few_from (outcome_next label) s rest c small short e = behind_title s (json_announcement label) rest c small e
 few_from (nothing_next filtered_out nanos) s rest c small short e = behind_title s (json_summary (counts_of (outcomes s.entries) filtered_out) nanos) rest c small e
 
 pub few_rows : (s : State) (rest : List ℕ) (c : Contents) → Fits s → length rest < 2 ^ 64 → IsJsonReport (state_text s ++ rest) c → length c.entries < 2 ^ 64

@@ -30,8 +30,8 @@ rows_run : (n : ℕ) (old es : List Entry) → length old + length es ≤ n → 
 rows_run n old [] le fits = rw append-nil refl
 rows_run n old (e ∷ es) le fits =
     let rest = rows_run n (old ++ e ∷ []) es (omega (arith, le, length-append old (e ∷ []))) fits.1 in (
-      record { next = outcome_next e.name; announced = n; entries = old },
-      inl (omega (arith, le), e.name, (fits.0.name, refl), refl),
+      record { next = outcome_next e.label; announced = n; entries = old },
+      inl (omega (arith, le), e.label, (fits.0.label, refl), refl),
       (record { next = row_next; announced = n; entries = old ++ e ∷ [] }, (e.outcome, (fits.0.outcome, refl), refl), rw append_assoc at rest),
     )
 
@@ -45,9 +45,9 @@ front_run n es small le fits = (behind n [], (n, (small, refl), refl), rows_run 
 -- rows stay
 longer_from : (next : Next) (s : State) (line : List ℕ) (t : State) → LeadsFrom next s line t → (more : List Entry) × (t.entries ≡ s.entries ++ more)
 longer_from title_next s line t (count, is, e) = ([], ap (λ (u : State). u.entries) e ∙ sym (append-nil s.entries))
-longer_from row_next s line t (inl (more, name, is, e)) = ([], ap (λ (u : State). u.entries) e ∙ sym (append-nil s.entries))
+longer_from row_next s line t (inl (more, label, is, e)) = ([], ap (λ (u : State). u.entries) e ∙ sym (append-nil s.entries))
 longer_from row_next s line t (inr (all, numbers, is, e)) = ([], ap (λ (u : State). u.entries) e ∙ sym (append-nil s.entries))
-longer_from (outcome_next name) s line t (outcome, is, e) = (record { name = name; outcome = outcome } ∷ [], ap (λ (u : State). u.entries) e)
+longer_from (outcome_next label) s line t (outcome, is, e) = (record { label = label; outcome = outcome } ∷ [], ap (λ (u : State). u.entries) e)
 longer_from (nothing_next filtered_out nanos) s line t h = absurd h
 
 longer : (s : State) (lines : List (List ℕ)) (t : State) → Runs s lines t → (more : List Entry) × (t.entries ≡ s.entries ++ more)
@@ -244,7 +244,7 @@ the_one_report s rest stuck (Some t) known short none out =
 begun : (next : Next) (s : State) (rest : List ℕ) → Fits s → FitsNext next s → (s.entries ≡ []) ⊎ BeginsWith (text_so_far next s ++ rest) s.entries
 begun title_next s rest fits at = inl at
 begun row_next s rest fits at = inr (record { announced = s.announced; rest = rest; number = fits.announced; within = at; fits = fits.entries; parts = simp append_assoc })
-begun (outcome_next name) s rest fits at = inr (record { announced = s.announced; rest = json_announcement name ++ rest; number = fits.announced; within = omega (arith, at.0); fits = fits.entries; parts = simp append_assoc })
+begun (outcome_next label) s rest fits at = inr (record { announced = s.announced; rest = json_announcement label ++ rest; number = fits.announced; within = omega (arith, at.0); fits = fits.entries; parts = simp append_assoc })
 begun (nothing_next filtered_out nanos) s rest fits at = inr (record { announced = s.announced; rest = json_summary (counts_of (outcomes s.entries) filtered_out) nanos ++ rest; number = fits.announced; within = omega (arith, at.0); fits = fits.entries; parts = simp append_assoc })
 
 rows_lead : (bytes : List ℕ) (es : List Entry) (h : BeginsWith bytes es) → Leads start bytes (behind h.announced es) h.rest

@@ -1,13 +1,22 @@
 -- What a report that was read back tells, in the words of the reports that are written.
 use Rattle.std.specs.Prelude.{ℕ, List, length, map, string_bytes}
 use Rattle.mimic_printer.specs.Json.{Entry, Contents, IsJsonReport, conclusion_of}
+use Rattle.mimic_printer.specs.Row.{Label}
+use Rattle.mimic_events.specs.declared.lines.Label.{Label as LabelRead}
 use Rattle.mimic_events.specs.declared.report.Row.{Row}
 use Rattle.mimic_events.specs.declared.report.Report.{Report}
 use Rattle.mimic_events.specs.declared.report.Totals.{Totals}
 
--- what a row that was read tells: its name and its outcome
+-- what an announcement that was read tells: a name and a kind
+abbrev pub label_read : LabelRead → Label
+label_read label = record { kind = string_bytes label.kind; name = string_bytes label.name }
+
+-- what a row that was read tells: its name, its kind and its outcome
 abbrev pub entry_read : Row → Entry
-entry_read row = record { name = string_bytes row.name; outcome = row.outcome }
+entry_read row = record {
+  label = record { kind = string_bytes row.kind; name = string_bytes row.name };
+  outcome = row.outcome;
+}
 
 -- what a report that was read tells: the entries of its rows, and its two numbers
 abbrev pub contents_read : Report → Contents

@@ -1,9 +1,10 @@
 -- Reading a report line by line, as a machine: which line may come next, and where it leads. No public clause names these words.
-use Rattle.std.specs.Prelude.{◌≡◌, ◌≢◌, ◌⊎◌, ℕ, ◌<◌, ◌≤◌, ◌^◌, List, [], ◌∷◌, ◌++◌, length, map, string_bytes, Bool, true, false, Option, Some, None, IsUtf8}
+use Rattle.std.specs.Prelude.{◌≡◌, ◌≢◌, ◌⊎◌, ℕ, ◌<◌, ◌≤◌, ◌^◌, List, [], ◌∷◌, ◌++◌, length, map, Bool, true, false, Option, Some, None}
 use Rattle.std.specs.List.{AllByRecursion, concat, flat_map}
 use Rattle.mimic_trial.specs.declared.outcome.Outcome.{Outcome}
 use Rattle.mimic_trial.specs.Count.{counts_of}
-use Rattle.mimic_printer.specs.Json.{Entry, FitsEntry, entry_lines, json_announcement, json_summary, json_title}
+use Rattle.mimic_printer.specs.Row.{Label}
+use Rattle.mimic_printer.specs.Json.{Entry, FitsEntry, FitsLabel, entry_lines, json_announcement, json_summary, json_title}
 pub use Rattle.mimic_printer.specs.Json.{HasNoEnd, IsLine}
 use Rattle.mimic_events.specs.declared.stage.Stage.{Stage}
 use Rattle.mimic_events.specs.declared.stage.Stage.TheVariants as stage
@@ -12,17 +13,17 @@ use Rattle.mimic_events.specs.declared.progress.Taken.{Taken}
 use Rattle.mimic_events.specs.declared.progress.Taken.TheVariants.{Astray, Read}
 use Rattle.mimic_events.specs.declared.report.Row.{Row}
 use Rattle.mimic_events.specs.declared.report.Totals.{Totals}
-use Rattle.mimic_events.specs.Contents.{entry_read}
+use Rattle.mimic_events.specs.Contents.{entry_read, label_read}
 use Rattle.mimic_events.specs.Reading.{HasCounts, IsTitle, IsAnnouncement, IsOutcome, IsSummary}
 
 -- ---- states between lines
 
--- which line comes next: the title; a row's announcement or the summary; the outcome of the row of this name; none, since the
--- summary has said how many trials were filtered out, and the nanoseconds
+-- which line comes next: the title; a row's announcement or the summary; the outcome of the trial that was announced; none,
+-- since the summary has said how many trials were filtered out, and the nanoseconds
 pub data Next : Type 0 where
   title_next : Next
   row_next : Next
-  outcome_next : List ℕ → Next
+  outcome_next : Label → Next
   nothing_next : ℕ → ℕ → Next
 
 -- which line comes next, how many rows the title announced, and the rows that have ended
@@ -38,7 +39,7 @@ start = record { next = title_next; announced = 0; entries = [] }
 abbrev pub next_of : Stage → Next
 next_of stage.Title = title_next
 next_of stage.Row = row_next
-next_of (stage.Outcome name) = outcome_next (string_bytes name)
+next_of (stage.Outcome label) = outcome_next (label_read label)
 next_of (stage.Over filtered_out nanos) = nothing_next filtered_out nanos
 
 -- the state where these are the rows that have ended: none of them is kept
@@ -59,7 +60,7 @@ title_and s = json_title s.announced ++ concat (flat_map entry_lines s.entries)
 abbrev pub text_so_far : Next → State → List ℕ
 text_so_far title_next s = []
 text_so_far row_next s = title_and s
-text_so_far (outcome_next name) s = title_and s ++ json_announcement name
+text_so_far (outcome_next label) s = title_and s ++ json_announcement label
 text_so_far (nothing_next filtered_out nanos) s =
     title_and s ++ json_summary (counts_of (map (λ entry. entry.outcome) s.entries) filtered_out) nanos
 
@@ -67,15 +68,15 @@ text_so_far (nothing_next filtered_out nanos) s =
 abbrev pub state_text : State → List ℕ
 state_text s = text_so_far s.next s
 
--- no more rows than the title announced, and a name that is text
+-- no more rows than the title announced, and a label of texts
 abbrev pub FitsNext : Next → State → Type 0
 FitsNext title_next s = s.entries ≡ []
 FitsNext row_next s = length s.entries ≤ s.announced
-FitsNext (outcome_next name) s = (length s.entries < s.announced) × IsUtf8 name
+FitsNext (outcome_next label) s = (length s.entries < s.announced) × FitsLabel label
 FitsNext (nothing_next filtered_out nanos) s =
     (length s.entries ≡ s.announced) × (filtered_out < 2 ^ 64) × (nanos < 2 ^ 64)
 
--- names and messages are text, and numbers are below 2^64
+-- names, kinds and messages are text, and numbers are below 2^64
 pub record Fits (s : State) : Type 0 where
   pub announced : s.announced < 2 ^ 64
   pub entries : AllByRecursion FitsEntry s.entries
@@ -86,7 +87,7 @@ pub record Fits (s : State) : Type 0 where
 -- not all rows have come, and the line announces one
 abbrev pub Announces : State → List ℕ → State → Type 0
 Announces old line new = (length old.entries < old.announced)
-    × (name : List ℕ) × IsAnnouncement name line × (new ≡ record old { next = outcome_next name })
+    × (label : Label) × IsAnnouncement label line × (new ≡ record old { next = outcome_next label })
 
 -- all rows have come, and the line is their summary
 abbrev pub Ends : State → List ℕ → State → Type 0
@@ -97,9 +98,9 @@ Ends old line new = (old.announced ≤ length old.entries)
 abbrev pub LeadsFrom : Next → State → List ℕ → State → Type 0
 LeadsFrom title_next old line new = (count : ℕ) × IsTitle count line × (new ≡ record old { next = row_next; announced = count })
 LeadsFrom row_next old line new = Announces old line new ⊎ Ends old line new
-LeadsFrom (outcome_next name) old line new =
-    (outcome : Outcome) × IsOutcome name outcome line
-    × (new ≡ record old { next = row_next; entries = old.entries ++ record { name = name; outcome = outcome } ∷ [] })
+LeadsFrom (outcome_next label) old line new =
+    (outcome : Outcome) × IsOutcome label outcome line
+    × (new ≡ record old { next = row_next; entries = old.entries ++ record { label = label; outcome = outcome } ∷ [] })
 LeadsFrom (nothing_next filtered_out nanos) old line new = ⊥
 
 -- the line leads from one state to the other

@@ -1,9 +1,10 @@
 -- What readers answer, and what they read.
-use Rattle.std.specs.Prelude.{◌≡◌, ℕ, ◌<◌, ◌^◌, List, map, decimal, Option, Some, None, IsUtf8}
+use Rattle.std.specs.Prelude.{◌≡◌, ℕ, ◌<◌, ◌^◌, List, map, decimal, Option, Some, None}
 use Rattle.mimic_trial.specs.declared.outcome.Outcome.{Outcome}
 use Rattle.mimic_trial.specs.declared.outcome.conclusion.Conclusion.{Conclusion}
 use Rattle.mimic_trial.specs.Count.{counts_of}
-use Rattle.mimic_printer.specs.Json.{Entry, json_title, json_announcement, json_outcome, json_summary}
+use Rattle.mimic_printer.specs.Json.{Entry, FitsLabel, json_title, json_announcement, json_outcome, json_summary}
+use Rattle.mimic_printer.specs.Row.{Label}
 use Rattle.mimic_trial.specs.Promise.{FitsTypes}
 use Rattle.mimic_text.specs.Seconds.{exact_seconds}
 
@@ -24,13 +25,13 @@ IsSeconds nanos text = (nanos < 2 ^ 64) × (text ≡ exact_seconds nanos)
 abbrev pub IsTitle : ℕ → List ℕ → Type 0
 IsTitle count line = (count < 2 ^ 64) × (line ≡ json_title count)
 
--- the line announces the trial of this name
-abbrev pub IsAnnouncement : List ℕ → List ℕ → Type 0
-IsAnnouncement name line = IsUtf8 name × (line ≡ json_announcement name)
+-- the line announces the trial of this name and kind
+abbrev pub IsAnnouncement : Label → List ℕ → Type 0
+IsAnnouncement label line = FitsLabel label × (line ≡ json_announcement label)
 
--- the line says this outcome of the trial of this name
-abbrev pub IsOutcome : List ℕ → Outcome → List ℕ → Type 0
-IsOutcome name outcome line = FitsTypes outcome × (line ≡ json_outcome name outcome)
+-- the line says this outcome of the trial of this name and kind
+abbrev pub IsOutcome : Label → Outcome → List ℕ → Type 0
+IsOutcome label outcome line = FitsTypes outcome × (line ≡ json_outcome label outcome)
 
 -- the line ends a report of these rows, with so many trials filtered out and so many nanoseconds
 abbrev pub IsSummary : List Entry → ℕ × ℕ → List ℕ → Type 0

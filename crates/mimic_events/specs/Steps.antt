@@ -6,7 +6,7 @@ use Rattle.mimic_trial.specs.declared.outcome.Outcome.{Outcome}
 use Rattle.mimic_trial.specs.declared.outcome.Outcome.TheVariants.{Failed}
 use Rattle.mimic_trial.specs.Count.{is_measured}
 use Rattle.mimic_text.specs.Escape.{escape, escaped}
-use Rattle.mimic_printer.specs.Json.{json_line, outcome_fields, time_key}
+use Rattle.mimic_printer.specs.Json.{json_end, json_line, kind_field, outcome_fields, time_key}
 use Rattle.mimic_text.specs.Seconds.{exact_seconds}
 use Rattle.mimic_trial.specs.Promise.{FitsTypes}
 
@@ -92,7 +92,11 @@ ReadsNumber bytes (Some found) = (found.0 < 2 ^ 64) × (bytes ≡ decimal found.
 
 -- ---- lines
 
--- what follows the name and its closing quote in the line of an outcome
+-- the text is what follows the name and its closing quote in the announcement of a trial of this kind
+abbrev pub IsKind : List ℕ → List ℕ → Type 0
+IsKind kind text = IsUtf8 kind × (text ≡ kind_field kind ++ json_end)
+
+-- what follows the name and the kind in the line of an outcome
 abbrev pub tail : Outcome → List ℕ
 tail outcome = json_line (outcome_fields outcome)
 
@@ -100,7 +104,7 @@ tail outcome = json_line (outcome_fields outcome)
 abbrev pub IsTail : Bool → Outcome → List ℕ → Type 0
 IsTail measured outcome text = (is_measured outcome ≡ measured) × FitsTypes outcome × (text ≡ tail outcome)
 
--- what follows the name where it failed with this message
+-- what follows them where it failed with this message
 abbrev pub IsFailure : List ℕ → List ℕ → Type 0
 IsFailure message text = IsUtf8 message × (text ≡ tail (Failed (Some message)))
 

@@ -1,6 +1,9 @@
 //! The lines of a report, each with its line end.
-ghost use Rattle.std.specs.Prelude.{◌≡◌, ◌≢◌, ◌++◌, ℕ, List, IfOk, MatchOption, IsUtf8, codes, option_map, string_bytes, true, false};
-ghost use Rattle.mimic_events.specs.Steps.{IsFailure, IsTail};
+ghost use Rattle.std.specs.Prelude.{◌≡◌, ◌≢◌, ◌∷◌, ◌++◌, ℕ, List, IfOk, MatchOption, IsUtf8, codes, option_map, string_bytes, true, false};
+ghost use Rattle.mimic_text.specs.Escape.{escaped};
+ghost use Rattle.mimic_events.specs.Contents.{label_read};
+ghost use Rattle.mimic_printer.specs.Json.{kind_field};
+ghost use Rattle.mimic_events.specs.Steps.{Follows, IsFailure, IsKind, IsTail};
 ghost use Rattle.mimic_events.specs.Reading.{Decodes, IsTitle, IsAnnouncement, IsOutcome};
 
 use crate::numbers::number_at;
@@ -8,6 +11,13 @@ use crate::quoted::{after_quoted, quoted_after};
 use crate::strip::{after, before};
 use mimic_trial::{Failed, Measurement, Outcome};
 use std::alloc::{AllocError, Global};
+
+// What is shown of a trial.
+#[derive(Debug, Drop)]
+pub(crate) struct Label {
+    pub(crate) name: String,
+    pub(crate) kind: String,
+}
 
 // The number of rows that a title line says.
 pub(crate) fn titled(line: &[u8]) -> Option<u64>
@@ -23,25 +33,51 @@ pub(crate) fn titled(line: &[u8]) -> Option<u64>
     }
 }
 
-// The name that a line announces.
-pub(crate) fn announced(alloc: Global, line: &[u8]) -> Result<Option<String>, AllocError>
-    ensures { IfOk result (λ name. Decodes IsAnnouncement line.now (option_map string_bytes name)) }
+// The trial that a line announces.
+pub(crate) fn announced(alloc: Global, line: &[u8]) -> Result<Option<Label>, AllocError>
+    ensures { IfOk result (λ label. Decodes IsAnnouncement line.now (option_map label_read label)) }
 {
     let front = br#"{ "type": "test", "event": "started", "name": ""#;
-    match quoted_after(alloc, line, front)? {
-        Some((name, end)) if end == b" }\n".as_slice() => Ok(text_of(name)),
-        _ => Ok(None),
+    let Some((name, rest)) = quoted_after(alloc, line, front)? else {
+        return Ok(None);
+    };
+    let Some(kind) = kind_of(alloc, rest)? else {
+        return Ok(None);
+    };
+    match text_of(name) {
+        Some(name) => Ok(Some(Label { name, kind })),
+        None => Ok(None),
     }
 }
 
-// The outcome that a line says of this name.
-pub(crate) fn ended(alloc: Global, name: &str, line: &[u8]) -> Result<Option<Outcome>, AllocError>
-    ensures { IfOk result (λ outcome. Decodes (IsOutcome name.now) line.now outcome) }
+// The kind of a trial, from what follows the name in its announcement.
+fn kind_of(alloc: Global, rest: &[u8]) -> Result<Option<String>, AllocError>
+    ensures { IfOk result (λ kind. Decodes IsKind rest.now (option_map string_bytes kind)) }
 {
-    if let Some(rest) = after_quoted(line, br#"{ "type": "bench", "name": ""#, name) {
+    if rest == b" }\n".as_slice() {
+        return Ok(Some(String::new(alloc)));
+    }
+    let Some((kind, end)) = quoted_after(alloc, rest, br#", "kind": ""#)? else {
+        return Ok(None);
+    };
+    if kind.is_empty() || end != b" }\n".as_slice() {
+        return Ok(None);
+    }
+    Ok(text_of(kind))
+}
+
+// The outcome that a line says of this trial.
+pub(crate) fn ended(
+    alloc: Global,
+    label: &Label,
+    line: &[u8],
+) -> Result<Option<Outcome>, AllocError>
+    ensures { IfOk result (λ outcome. Decodes (IsOutcome (label_read label.now)) line.now outcome) }
+{
+    if let Some(rest) = after_label(line, br#"{ "type": "bench", "name": ""#, label) {
         return Ok(measured(rest));
     }
-    match after_quoted(line, br#"{ "type": "test", "name": ""#, name) {
+    match after_label(line, br#"{ "type": "test", "name": ""#, label) {
         Some(rest) => {
             let outcome = tested(alloc, rest)?;
             Ok(outcome)
@@ -50,7 +86,18 @@ pub(crate) fn ended(alloc: Global, name: &str, line: &[u8]) -> Result<Option<Out
     }
 }
 
-// The outcome of a measured trial, from what follows the name.
+// What follows the name and the kind of this trial behind this front, which ends with the name's opening quote.
+fn after_label<'a>(line: &'a [u8], front: &[u8], label: &Label) -> Option<&'a [u8]>
+    ensures { Follows (front.now ++ (escaped (string_bytes label.now.name) ++ 34 ∷ kind_field (string_bytes label.now.kind))) line.now result }
+{
+    let rest = after_quoted(line, front, label.name.as_str())?;
+    if label.kind.is_empty() {
+        return Some(rest);
+    }
+    after_quoted(rest, br#", "kind": ""#, label.kind.as_str())
+}
+
+// The outcome of a measured trial, from what follows the name and the kind.
 fn measured(rest: &[u8]) -> Option<Outcome>
     ensures { Decodes (IsTail true) rest.now result }
 {
@@ -63,7 +110,7 @@ fn measured(rest: &[u8]) -> Option<Outcome>
     }
 }
 
-// The outcome of a trial that was not measured, from what follows the name.
+// The outcome of a trial that was not measured, from what follows the name and the kind.
 fn tested(alloc: Global, rest: &[u8]) -> Result<Option<Outcome>, AllocError>
     ensures { IfOk result (λ outcome. Decodes (IsTail false) rest.now outcome) }
 {
@@ -82,7 +129,7 @@ fn tested(alloc: Global, rest: &[u8]) -> Result<Option<Outcome>, AllocError>
     }
 }
 
-// The message of a failure, from what follows the name.
+// The message of a failure, from what follows the name and the kind.
 fn failure(alloc: Global, rest: &[u8]) -> Result<Option<String>, AllocError>
     ensures { IfOk result (λ message. Decodes IsFailure rest.now (option_map string_bytes message)) }
 {

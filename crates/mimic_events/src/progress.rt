@@ -66,10 +66,10 @@ impl Progress {
                 None
             }
             Stage::Row if self.done < self.announced => {
-                let Some(name) = announced(alloc, line)? else {
+                let Some(label) = announced(alloc, line)? else {
                     return Ok(Taken::Astray);
                 };
-                self.stage = Stage::Outcome(name);
+                self.stage = Stage::Outcome(label);
                 None
             }
             Stage::Row => {
@@ -79,15 +79,20 @@ impl Progress {
                 self.stage = Stage::Over(filtered_out, nanos);
                 None
             }
-            Stage::Outcome(name) => {
-                let Some(outcome) = ended(alloc, name.as_str(), line)? else {
+            Stage::Outcome(label) => {
+                let Some(outcome) = ended(alloc, label, line)? else {
                     return Ok(Taken::Astray);
                 };
-                let name = mem::replace(name, String::new(alloc));
+                let name = mem::replace(&mut label.name, String::new(alloc));
+                let kind = mem::replace(&mut label.kind, String::new(alloc));
                 self.stage = Stage::Row;
                 self.done += 1;
                 self.counts.count(&outcome);
-                Some(Row { name, outcome })
+                Some(Row {
+                    name,
+                    kind,
+                    outcome,
+                })
             }
             Stage::Over(_, _) => return Ok(Taken::Astray),
         };

@@ -10,6 +10,8 @@ use mimic_trial::{Conclusion, Outcome};
 pub struct Row {
     /// The trial's name, without its kind.
     pub name: String,
+    /// The trial's kind, which may be empty.
+    pub kind: String,
     /// What became of the trial.
     pub outcome: Outcome,
 }

@@ -1,4 +1,5 @@
 //! Which line of a report comes next.
+use crate::lines::Label;
 
 // Which line comes next.
 #[derive(Debug, Drop)]
@@ -7,8 +8,8 @@ pub(crate) enum Stage {
     Title,
     // The announcement of a row, or the summary where all rows have come.
     Row,
-    // The outcome of the row of this name.
-    Outcome(String),
+    // The outcome of the trial that was announced.
+    Outcome(Label),
     // None: the summary said how many trials were filtered out, and the nanoseconds.
     Over(u64, u64),
 }

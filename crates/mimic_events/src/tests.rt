@@ -3,6 +3,7 @@
 use crate::{Feed, Report, Row, Tally, Totals, read_report};
 use mimic_trial::{Conclusion, Failed, Measurement, Outcome};
 use std::alloc::{AllocError, Global};
+use std::process::Abort;
 use std::test::Fail;
 
 const NO_ROWS: &str = r#"{ "type": "suite", "event": "started", "test_count": 0 }
@@ -30,9 +31,13 @@ fn altered(alloc: Global, report: &str, old: &str, new: &str) -> Result<String, 
     Ok(format!(in alloc; "{front}{new}{back}")?)
 }
 
+// Without a kind.
 fn row(alloc: Global, name: &str, outcome: Outcome) -> Result<Row, Fail> {
-    let name = String::from_str(alloc, name)?;
-    Ok(Row { name, outcome })
+    Ok(Row {
+        name: String::from_str(alloc, name)?,
+        kind: String::new(alloc),
+        outcome,
+    })
 }
 
 fn failed(alloc: Global, message: &str) -> Result<Outcome, Fail> {
@@ -285,6 +290,84 @@ fn refuses_other_texts(rt: HostRuntime) -> Result<(), Fail> {
             "{new} for {old}"
         );
     }
+    Ok(())
+}
+
+// A report of one ignored trial, with these fields for its name and its kind in its two lines.
+fn ignored_trial(alloc: Global, first: &str, second: &str) -> Result<String, Fail> {
+    Ok(format!(in alloc;
+        "{{ \"type\": \"suite\", \"event\": \"started\", \"test_count\": 1 }}
+{{ \"type\": \"test\", \"event\": \"started\", {first} }}
+{{ \"type\": \"test\", {second}, \"event\": \"ignored\" }}
+{{ \"type\": \"suite\", \"event\": \"ok\", \"passed\": 0, \"failed\": 0, \"ignored\": 1, \"measured\": 0, \"filtered_out\": 16, \"exec_time\": 0 }}
+"
+    )?)
+}
+
+// Fields that both lines of a trial have, and the name and the kind that they tell.
+#[test]
+fn reads_kinds(rt: HostRuntime) -> Result<(), Fail> {
+    let alloc = rt.alloc();
+    for (fields, name, kind) in [
+        (r#""name": "fly", "kind": "banana""#, "fly", "banana"),
+        (r#""name": "fly""#, "fly", ""),
+        (r#""name": "a", "kind": "b""#, "a", "b"),
+        (r#""name": "a\", \"kind\": \"b""#, "a\", \"kind\": \"b", ""),
+        (
+            r#""name": "", "kind": "\"\\\n\u0001/é\"""#,
+            "",
+            "\"\\\n\u{1}/\u{e9}\"",
+        ),
+    ] {
+        let text = ignored_trial(alloc, fields, fields)?;
+        let bytes = text.as_str().as_bytes();
+        let report = read_report(alloc, bytes)?.ok_or("no report")?;
+        assert_eq!(rt; (report.rows.len(), report.filtered_out), (1, 16));
+        assert_eq!(rt; report.rows[0].name.as_str(), name);
+        assert_eq!(rt; report.rows[0].kind.as_str(), kind);
+        assert!(rt; report.rows[0].outcome == Outcome::Ignored);
+        let mut feed = Feed::new(alloc)?;
+        for byte in bytes.chunks(1) {
+            feed.feed(byte)?;
+        }
+        assert!(rt; feed.finish()? == Some(report), "{fields}");
+    }
+    Ok(())
+}
+
+// Fields of the two lines of a trial that make no report.
+#[test]
+fn refuses_other_kinds(rt: HostRuntime) -> Result<(), Fail> {
+    let alloc = rt.alloc();
+    let (bare, with_kind) = (r#""name": "fly""#, r#""name": "fly", "kind": "banana""#);
+    for (first, second) in [
+        (with_kind, bare),
+        (bare, with_kind),
+        (with_kind, r#""name": "fly", "kind": "bananas""#),
+        (with_kind, r#""name": "bee", "kind": "banana""#),
+        (with_kind, r#""kind": "banana", "name": "fly""#),
+        (r#""name": "fly", "kind": """#, bare),
+        (bare, r#""name": "fly", "kind": """#),
+    ] {
+        check_no_report(&rt, alloc, first, second)?;
+    }
+    for both in [
+        r#""name": "fly", "kind": """#,
+        r#""kind": "banana", "name": "fly""#,
+        r#""name": "fly", "kind": "\u0062""#,
+        r#""name": "fly", "kind": "b", "kind": "b""#,
+        r#""name": "fly", "kind": "b"#,
+    ] {
+        check_no_report(&rt, alloc, both, both)?;
+    }
+    Ok(())
+}
+
+fn check_no_report(rt: &impl Abort, alloc: Global, first: &str, second: &str) -> Result<(), Fail> {
+    let text = ignored_trial(alloc, first, second)?;
+    let bytes = text.as_str().as_bytes();
+    assert!(rt; read_report(alloc, bytes)?.is_none(), "{first}, {second}");
+    assert!(rt; tallied(alloc, &[bytes])?.is_none(), "{first}, {second}");
     Ok(())
 }
 

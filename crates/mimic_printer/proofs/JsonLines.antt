@@ -18,7 +18,8 @@ use Rattle.mimic_text.specs.Seconds.{IsRest, exact_seconds}
 use Rattle.mimic_text.proofs.Bounded.{all_below, one_below}
 use Rattle.mimic_text.proofs.Escapes.{escape-high}
 use Rattle.mimic_text.proofs.ExactSeconds.{seconds_exact}
-use Rattle.mimic_printer.specs.Json.{Contents, Entry, FitsEntry, HasNoEnd, IsJsonReport, IsLine, announcement_front, conclusion_of, deviation_key, entry_lines, event_field, json_announcement, json_line, json_outcome, json_report, json_summary, json_title, json_trial, json_verdict, line_ends, report_lines, median_key, number_field, outcome_fields, outcome_front, stdout_key, summary_front, time_key, title_front}
+use Rattle.mimic_printer.specs.Row.{Label}
+use Rattle.mimic_printer.specs.Json.{Contents, Entry, FitsEntry, HasNoEnd, IsJsonReport, IsLine, announcement_front, conclusion_of, deviation_key, entry_lines, event_field, json_announcement, json_line, json_outcome, json_report, json_summary, json_title, json_trial, json_verdict, kind_field, kind_key, line_ends, report_lines, median_key, number_field, outcome_fields, outcome_front, stdout_key, summary_front, time_key, title_front}
 
 -- ---- texts in which no line ends
 
@@ -83,12 +84,26 @@ pub title_line : (n : ℕ) → n < 2 ^ 64 → IsLine (json_title n)
 unfolding json_title
 title_line n h = line_of (title_front ∷ decimal n ∷ []) (by_test title_front refl, (decimal_no_end n h, tt))
 
-trial_line : (front name : List ℕ) (fields : List (List ℕ)) → HasNoEnd front → AllByRecursion HasNoEnd fields → IsLine (json_trial front name fields)
-trial_line front name fields clean all = line_of (front ∷ escaped name ∷ codes "\"" ∷ fields) (clean, (escaped_no_end name, (by_test (codes "\"") refl, all)))
+kind_no_end : (kind : List ℕ) → HasNoEnd (kind_field kind)
+kind_no_end [] = tt
+kind_no_end (b ∷ kind) =
+    no_end-append kind_key (escaped (b ∷ kind) ++ codes "\"") (by_test kind_key refl)
+    (no_end-append (escaped (b ∷ kind)) (codes "\"") (escaped_no_end (b ∷ kind)) (by_test (codes "\"") refl))
 
-pub announcement_line : (name : List ℕ) → IsLine (json_announcement name)
+-- what stands between a name and its kind makes a field of the kind
+pub kind_then : (before kind rest : List ℕ) → before ++ (escaped kind ++ codes "\"") ≡ codes "\"" ++ kind_field kind → before ++ (escaped kind ++ 34 ∷ rest) ≡ 34 ∷ (kind_field kind ++ rest)
+kind_then before kind rest e =
+    sym (append_assoc before (escaped kind ++ codes "\"") rest ∙ ap (λ (x : List ℕ). before ++ x) (append_assoc (escaped kind) (codes "\"") rest))
+    ∙ ap (λ (x : List ℕ). x ++ rest) e
+
+trial_line : (front : List ℕ) (label : Label) (fields : List (List ℕ)) → HasNoEnd front → AllByRecursion HasNoEnd fields → IsLine (json_trial front label fields)
+trial_line front label fields clean all =
+    line_of (front ∷ escaped label.name ∷ codes "\"" ∷ kind_field label.kind ∷ fields)
+    (clean, (escaped_no_end label.name, (by_test (codes "\"") refl, (kind_no_end label.kind, all))))
+
+pub announcement_line : (label : Label) → IsLine (json_announcement label)
 unfolding json_announcement
-announcement_line name = trial_line announcement_front name [] (by_test announcement_front refl) tt
+announcement_line label = trial_line announcement_front label [] (by_test announcement_front refl) tt
 
 front_no_end : (measured : Bool) → HasNoEnd (outcome_front measured)
 front_no_end true = by_test (outcome_front true) refl
@@ -101,9 +116,9 @@ fields_no_end (Failed (Some message)) h = (by_test (event_field (codes "failed")
 fields_no_end Ignored h = (by_test (event_field (codes "ignored")) refl, tt)
 fields_no_end (Measured m) h = (number_no_end median_key m.avg refl h.0, (number_no_end deviation_key m.variance refl h.1, tt))
 
-outcome_line : (name : List ℕ) (o : Outcome) → FitsTypes o → IsLine (json_outcome name o)
+outcome_line : (label : Label) (o : Outcome) → FitsTypes o → IsLine (json_outcome label o)
 unfolding json_outcome
-outcome_line name o h = trial_line (outcome_front (is_measured o)) name (outcome_fields o) (front_no_end (is_measured o)) (fields_no_end o h)
+outcome_line label o h = trial_line (outcome_front (is_measured o)) label (outcome_fields o) (front_no_end (is_measured o)) (fields_no_end o h)
 
 summary_line : (os : List Outcome) (filtered_out nanos : ℕ) → length os < 2 ^ 64 → filtered_out < 2 ^ 64 → nanos < 2 ^ 64 → IsLine (json_summary (counts_of os filtered_out) nanos)
 unfolding json_summary
@@ -137,7 +152,7 @@ each_append (l ∷ p) q a b = (a.0, each_append p q a.1 b)
 
 pub rows_each : (es : List Entry) → AllByRecursion FitsEntry es → AllByRecursion IsLine (flat_map entry_lines es)
 rows_each [] h = tt
-rows_each (e ∷ es) h = (announcement_line e.name, (outcome_line e.name e.outcome h.0.outcome, rows_each es h.1))
+rows_each (e ∷ es) h = (announcement_line e.label, (outcome_line e.label e.outcome h.0.outcome, rows_each es h.1))
 
 -- each line of a report is one line
 pub lines_each : (bytes : List ℕ) (c : Contents) → IsJsonReport bytes c → length c.entries < 2 ^ 64 → AllByRecursion IsLine (report_lines c)

@@ -8,7 +8,7 @@ use Rattle.mimic_trial.specs.declared.outcome.conclusion.Conclusion.{Conclusion}
 use Rattle.mimic_trial.specs.Count.{counts_of, is_measured}
 use Rattle.mimic_text.specs.Escape.{escaped}
 use Rattle.mimic_trial.specs.Promise.{FitsTypes}
-use Rattle.mimic_printer.specs.Row.{PrintedRow}
+use Rattle.mimic_printer.specs.Row.{Label, PrintedRow}
 use Rattle.mimic_text.specs.Seconds.{exact_seconds}
 
 -- ---- lines of a text (our own words)
@@ -41,6 +41,15 @@ json_line parts = concat (parts ++ json_end ∷ [])
 abbrev pub number_field : List ℕ → ℕ → List ℕ
 number_field key number = key ++ decimal number
 
+-- what stands before a kind
+abbrev pub kind_key : List ℕ
+kind_key = codes ", \"kind\": \""
+
+-- the field that tells a kind, and nothing for an empty one (our own: the Rust crate writes no kind)
+abbrev pub kind_field : List ℕ → List ℕ
+kind_field [] = []
+kind_field (b ∷ bs) = concat (kind_key ∷ escaped (b ∷ bs) ∷ codes "\"" ∷ [])
+
 -- the field that tells an outcome in a word
 abbrev pub event_field : List ℕ → List ℕ
 event_field word = concat (codes ", \"event\": \"" ∷ word ∷ codes "\"" ∷ [])
@@ -59,9 +68,9 @@ deviation_key = codes ", \"deviation\": "
 
 -- ---- the lines of a trial
 
--- the line of a trial: its front up to the name, the name and the closing quote, and the fields behind it
-abbrev pub json_trial : List ℕ → List ℕ → List (List ℕ) → List ℕ
-json_trial front name fields = json_line (front ∷ escaped name ∷ codes "\"" ∷ fields)
+-- the line of a trial: its front up to the name, the name and the closing quote, the kind, and the other fields
+abbrev pub json_trial : List ℕ → Label → List (List ℕ) → List ℕ
+json_trial front label fields = json_line (front ∷ escaped label.name ∷ codes "\"" ∷ kind_field label.kind ∷ fields)
 
 -- what stands before the name in an announcement
 abbrev pub announcement_front : List ℕ
@@ -80,13 +89,13 @@ outcome_fields (Failed (Some message)) = event_field (codes "failed") ∷ stdout
 outcome_fields Ignored = event_field (codes "ignored") ∷ []
 outcome_fields (Measured m) = number_field median_key m.avg ∷ number_field deviation_key m.variance ∷ []
 
--- the line that announces a trial, by its name
-unfoldable pub json_announcement : List ℕ → List ℕ
-json_announcement name = json_trial announcement_front name []
+-- the line that announces a trial, by its name and its kind
+unfoldable pub json_announcement : Label → List ℕ
+json_announcement label = json_trial announcement_front label []
 
 -- the line of an outcome
-unfoldable pub json_outcome : List ℕ → Outcome → List ℕ
-json_outcome name outcome = json_trial (outcome_front (is_measured outcome)) name (outcome_fields outcome)
+unfoldable pub json_outcome : Label → Outcome → List ℕ
+json_outcome label outcome = json_trial (outcome_front (is_measured outcome)) label (outcome_fields outcome)
 
 -- ---- the lines around them
 
@@ -119,17 +128,13 @@ json_summary c nanos = json_line (summary_front c ++ decimal c.num_filtered_out 
 
 -- ---- the whole
 
--- what a report in JSON tells of a trial: its name, without the kind, and its outcome
-pub record Entry : Type 0 where
-  pub name : List ℕ
-  pub outcome : Outcome
-
-abbrev pub entry_of : PrintedRow → Entry
-entry_of row = record { name = row.label.name; outcome = row.outcome }
+-- what a report in JSON tells of a trial: its name, its kind and its outcome, all that a row has
+abbrev pub Entry : Type 0
+Entry = PrintedRow
 
 -- the two lines of an entry
 abbrev pub entry_lines : Entry → List (List ℕ)
-entry_lines entry = json_announcement entry.name ∷ json_outcome entry.name entry.outcome ∷ []
+entry_lines entry = json_announcement entry.label ∷ json_outcome entry.label entry.outcome ∷ []
 
 -- what a report in JSON tells: its entries, how many trials were filtered out, and the nanoseconds that the run took
 pub record Contents : Type 0 where
@@ -148,12 +153,17 @@ report_lines c = json_title (length c.entries) ∷ (flat_map entry_lines c.entri
 unfoldable pub json_report : Contents → List ℕ
 json_report c = concat (report_lines c)
 
--- the name is a text, and the outcome fits its types
+-- name and kind are texts
+pub record FitsLabel (label : Label) : Type 0 where
+  pub name : IsUtf8 label.name
+  pub kind : IsUtf8 label.kind
+
+-- name and kind are texts, and the outcome fits its types
 pub record FitsEntry (entry : Entry) : Type 0 where
-  pub name : IsUtf8 entry.name
+  pub label : FitsLabel entry.label
   pub outcome : FitsTypes entry.outcome
 
--- the bytes are the JSON report of these contents: names and messages are texts, and numbers are below 2^64
+-- the bytes are the JSON report of these contents: names, kinds and messages are texts, and numbers are below 2^64
 pub record IsJsonReport (bytes : List ℕ) (c : Contents) : Type 0 where
   pub text : bytes ≡ json_report c
   pub entries : AllByRecursion FitsEntry c.entries

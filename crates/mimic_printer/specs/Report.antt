@@ -53,7 +53,7 @@ pretty_announcement p l = concat (codes "test " ∷ padded p.kind_width (kind_pa
 abbrev pub announcement_in : FormatSetting → Printer → Label → List ℕ
 announcement_in Pretty p l = pretty_announcement p l
 announcement_in Terse p l = []
-announcement_in Json p l = json_announcement l.name
+announcement_in Json p l = json_announcement l
 
 abbrev pub announcement_text : Printer → Label → List ℕ
 announcement_text p l = announcement_in p.format p l
@@ -89,7 +89,7 @@ terse_outcome p (Measured m) = outcome_line p (Measured m)
 abbrev pub outcome_in : FormatSetting → Printer → Label → Outcome → List ℕ
 outcome_in Pretty p l o = outcome_line p o
 outcome_in Terse p l o = terse_outcome p o
-outcome_in Json p l o = json_outcome l.name o
+outcome_in Json p l o = json_outcome l o
 
 abbrev pub outcome_text : Printer → Label → Outcome → List ℕ
 outcome_text p l o = outcome_in p.format p l o

@@ -1,7 +1,7 @@
 //! The lines of a report in JSON.
-ghost use Rattle.std.specs.Prelude.{◌≡◌, ◌-◌, ◌^◌, ◌<◌, ◌∷◌, [], Some, false};
+ghost use Rattle.std.specs.Prelude.{◌≡◌, ◌-◌, ◌^◌, ◌<◌, ◌∷◌, ◌++◌, [], Some, codes, false};
 ghost use Rattle.std.specs.List.{concat};
-ghost use Rattle.mimic_printer.specs.Json.{json_announcement, json_outcome, json_summary, json_title, json_verdict, outcome_front};
+ghost use Rattle.mimic_printer.specs.Json.{json_announcement, json_outcome, json_summary, json_title, json_verdict, kind_field, outcome_front};
 ghost use Rattle.mimic_printer.specs.Sink.{Puts, faults_of};
 ghost use Rattle.mimic_text.specs.Escape.{escaped};
 ghost use Rattle.mimic_trial.specs.declared.outcome.Outcome.TheVariants.{Failed, Measured};
@@ -27,13 +27,19 @@ pub(super) fn put_title<W: Write>(sink: &mut Sink<W>, num_tests: u64) -> Result<
 
 // Writes the line that announces a trial.
 #[tactic(auto, unfolding(crate::specs::Json::json_announcement))]
-pub(super) fn put_announcement<W: Write>(sink: &mut Sink<W>, name: &str) -> Result<(), WriteFault>
+pub(super) fn put_announcement<'a, W: Write>(
+    sink: &mut Sink<W>,
+    name: &'a str,
+    kind: &'a str,
+) -> Result<(), WriteFault>
     requires { faults_of sink.old < 2 ^ 64 - 1 }
-    ensures { Puts W.contents sink.old sink.new (json_announcement name.now) result }
+    ensures { Puts W.contents sink.old sink.new (json_announcement (record { kind = kind.now; name = name.now })) result }
 {
     let pieces = [
         Piece::Text("{ \"type\": \"test\", \"event\": \"started\", \"name\": \""),
         Piece::Escaped(name),
+        Piece::Text(before_kind(kind)),
+        Piece::Escaped(kind),
         Piece::Text("\" }\n"),
     ];
     put_pieces(sink, &pieces)
@@ -43,30 +49,40 @@ pub(super) fn put_announcement<W: Write>(sink: &mut Sink<W>, name: &str) -> Resu
 pub(super) fn put_outcome<'a, W: Write>(
     sink: &mut Sink<W>,
     name: &'a str,
+    kind: &'a str,
     outcome: &'a Outcome,
 ) -> Result<(), WriteFault>
     requires { faults_of sink.old < 2 ^ 64 - 1 }
-    ensures { Puts W.contents sink.old sink.new (json_outcome name.now outcome.now) result }
+    ensures { Puts W.contents sink.old sink.new (json_outcome (record { kind = kind.now; name = name.now }) outcome.now) result }
 {
     match outcome {
-        Outcome::Passed => put_word(sink, name, "\", \"event\": \"ok\" }\n"),
-        Outcome::Ignored => put_word(sink, name, "\", \"event\": \"ignored\" }\n"),
-        Outcome::Measured(measurement) => put_measurement(sink, name, measurement),
+        Outcome::Passed => put_word(sink, name, kind, ", \"event\": \"ok\" }\n"),
+        Outcome::Ignored => put_word(sink, name, kind, ", \"event\": \"ignored\" }\n"),
+        Outcome::Measured(measurement) => put_measurement(sink, name, kind, measurement),
         Outcome::Failed(failed) => match failed.message() {
-            None => put_word(sink, name, "\", \"event\": \"failed\" }\n"),
-            Some(message) => put_failure(sink, name, message),
+            None => put_word(sink, name, kind, ", \"event\": \"failed\" }\n"),
+            Some(message) => put_failure(sink, name, kind, message),
         },
     }
 }
 
-// Writes the line of an outcome that is told in a word: all before the name, the name, and all behind it.
-fn put_word<'a, W: Write>(sink: &mut Sink<W>, name: &'a str, end: &'a str) -> Result<(), WriteFault>
+// Writes the line of an outcome that is told in a word: all before the name, name and kind, and all behind them.
+fn put_word<'a, W: Write>(
+    sink: &mut Sink<W>,
+    name: &'a str,
+    kind: &'a str,
+    end: &'a str,
+) -> Result<(), WriteFault>
     requires { faults_of sink.old < 2 ^ 64 - 1 }
-    ensures { Puts W.contents sink.old sink.new (concat (outcome_front false ∷ escaped name.now ∷ end.now ∷ [])) result }
+    ensures { Puts W.contents sink.old sink.new
+        (concat (outcome_front false ∷ escaped name.now ∷ codes "\"" ∷ kind_field kind.now ∷ end.now ∷ [])) result }
 {
     let pieces = [
         Piece::Text("{ \"type\": \"test\", \"name\": \""),
         Piece::Escaped(name),
+        Piece::Text(before_kind(kind)),
+        Piece::Escaped(kind),
+        Piece::Text("\""),
         Piece::Text(end),
     ];
     put_pieces(sink, &pieces)
@@ -76,14 +92,18 @@ fn put_word<'a, W: Write>(sink: &mut Sink<W>, name: &'a str, end: &'a str) -> Re
 fn put_failure<'a, W: Write>(
     sink: &mut Sink<W>,
     name: &'a str,
+    kind: &'a str,
     message: &'a str,
 ) -> Result<(), WriteFault>
     requires { faults_of sink.old < 2 ^ 64 - 1 }
-    ensures { Puts W.contents sink.old sink.new (json_outcome name.now (Failed (Some message.now))) result }
+    ensures { Puts W.contents sink.old sink.new
+        (json_outcome (record { kind = kind.now; name = name.now }) (Failed (Some message.now))) result }
 {
     let pieces = [
         Piece::Text("{ \"type\": \"test\", \"name\": \""),
         Piece::Escaped(name),
+        Piece::Text(before_kind(kind)),
+        Piece::Escaped(kind),
         Piece::Text("\", \"event\": \"failed\", \"stdout\": \"Error: \\\""),
         Piece::Escaped(message),
         Piece::Text("\\\"\\n\" }\n"),
@@ -92,17 +112,21 @@ fn put_failure<'a, W: Write>(
 }
 
 #[tactic(auto, unfolding(crate::specs::Json::json_outcome))]
-fn put_measurement<W: Write>(
+fn put_measurement<'a, W: Write>(
     sink: &mut Sink<W>,
-    name: &str,
+    name: &'a str,
+    kind: &'a str,
     measurement: &Measurement,
 ) -> Result<(), WriteFault>
     requires { faults_of sink.old < 2 ^ 64 - 1 }
-    ensures { Puts W.contents sink.old sink.new (json_outcome name.now (Measured measurement.now)) result }
+    ensures { Puts W.contents sink.old sink.new
+        (json_outcome (record { kind = kind.now; name = name.now }) (Measured measurement.now)) result }
 {
     let pieces = [
         Piece::Text("{ \"type\": \"bench\", \"name\": \""),
         Piece::Escaped(name),
+        Piece::Text(before_kind(kind)),
+        Piece::Escaped(kind),
         Piece::Text("\", \"median\": "),
         Piece::Number(measurement.avg),
         Piece::Text(", \"deviation\": "),
@@ -110,6 +134,18 @@ fn put_measurement<W: Write>(
         Piece::Text(" }\n"),
     ];
     put_pieces(sink, &pieces)
+}
+
+// What stands between a name and its kind, behind which comes a closing quote: nothing, where the kind is empty.
+#[tactic(auto, unfolding(mimic_text::specs::Escape::escaped))]
+fn before_kind(kind: &str) -> &'static str
+    ensures { result.now ++ (escaped kind.now ++ codes "\"") ≡ codes "\"" ++ kind_field kind.now }
+{
+    if kind.is_empty() {
+        ""
+    } else {
+        "\", \"kind\": \""
+    }
 }
 
 // Writes the line that ends a report.

@@ -29,25 +29,25 @@ enum Answer {
 
 use Answer::{Benchmark, Test};
 
-// Names, whether they are ignored, and answers.
-static TRIALS: [(&str, bool, Answer); 17] = [
-    ("cat", false, Test(None)),
-    ("\"ups\"", false, Test(Some("failed to parse \"abc\""))),
-    ("dog", false, Test(Some("was not a good boy"))),
-    ("fox", false, Test(None)),
-    ("bunny", false, Test(Some("jumped too high"))),
-    ("frog", true, Test(None)),
-    ("owl", true, Test(Some("broke neck"))),
-    ("fly", true, Test(None)),
-    ("bear", true, Test(Some("no honey"))),
-    ("red", false, Benchmark(Ok((32, 3)))),
-    ("blue", false, Benchmark(Err("sky fell down"))),
-    ("yellow", false, Benchmark(Ok((64, 4)))),
-    ("green", false, Benchmark(Err("was poisoned"))),
-    ("purple", true, Benchmark(Ok((100, 5)))),
-    ("cyan", true, Benchmark(Err("not creative enough"))),
-    ("orange", true, Benchmark(Ok((17, 6)))),
-    ("pink", true, Benchmark(Err("bad"))),
+// Names, whether they are ignored, answers, and kinds.
+static TRIALS: [(&str, bool, Answer, &str); 17] = [
+    ("cat", false, Test(None), ""),
+    ("\"ups\"", false, Test(Some("failed to parse \"abc\"")), ""),
+    ("dog", false, Test(Some("was not a good boy")), ""),
+    ("fox", false, Test(None), "apple"),
+    ("bunny", false, Test(Some("jumped too high")), "apple"),
+    ("frog", true, Test(None), ""),
+    ("owl", true, Test(Some("broke neck")), ""),
+    ("fly", true, Test(None), "banana"),
+    ("bear", true, Test(Some("no honey")), "banana"),
+    ("red", false, Benchmark(Ok((32, 3))), ""),
+    ("blue", false, Benchmark(Err("sky fell down")), ""),
+    ("yellow", false, Benchmark(Ok((64, 4))), "kiwi"),
+    ("green", false, Benchmark(Err("was poisoned")), "kiwi"),
+    ("purple", true, Benchmark(Ok((100, 5))), ""),
+    ("cyan", true, Benchmark(Err("not creative enough")), ""),
+    ("orange", true, Benchmark(Ok((17, 6))), "banana"),
+    ("pink", true, Benchmark(Err("bad")), "banana"),
 ];
 
 fn test_answer(
@@ -84,17 +84,32 @@ fn outcome_of(alloc: Global, answer: Answer, bench: bool) -> Result<Outcome, All
 }
 
 // One test that passes and one that fails.
-static TWO_TRIALS: [(&str, bool, Answer); 2] = [
-    ("succeeding_test", false, Test(None)),
-    ("failing_test", false, Test(Some("Woops"))),
+static TWO_TRIALS: [(&str, bool, Answer, &str); 2] = [
+    ("succeeding_test", false, Test(None), ""),
+    ("failing_test", false, Test(Some("Woops")), ""),
 ];
+
+// A name that ends as a name with a kind does, and a name with that kind.
+static ALIKE: [(&str, bool, Answer, &str); 2] = [
+    ("a\", \"kind\": \"b", false, Test(None), ""),
+    ("a", false, Test(None), "b"),
+];
+
+const ALIKE_REPORT: &str = r#"{ "type": "suite", "event": "started", "test_count": 2 }
+{ "type": "test", "event": "started", "name": "a\", \"kind\": \"b" }
+{ "type": "test", "name": "a\", \"kind\": \"b", "event": "ok" }
+{ "type": "test", "event": "started", "name": "a", "kind": "b" }
+{ "type": "test", "name": "a", "kind": "b", "event": "ok" }
+{ "type": "suite", "event": "ok", "passed": 2, "failed": 0, "ignored": 0, "measured": 0, "filtered_out": 0, "exec_time": 0 }
+"#;
 
 // The trials of a table. This is a macro since boxed closures are to be made by the function that hands them in.
 macro_rules! trials {
     ($alloc:expr, $table:expr) => {{
         let mut trials = Vec::new($alloc);
-        for (name, is_ignored, answer) in &$table {
+        for (name, is_ignored, answer, kind) in &$table {
             let name = String::from_str($alloc, name)?;
+            let kind = String::from_str($alloc, kind)?;
             let trial = match answer {
                 Test(message) => {
                     let answer = test_answer($alloc, *message)?;
@@ -108,7 +123,7 @@ macro_rules! trials {
                     Trial::bench(name, runner)
                 }
             };
-            trials.push(trial.with_ignored_flag(*is_ignored))?;
+            trials.push(trial.with_kind(kind).with_ignored_flag(*is_ignored))?;
         }
         trials
     }};
@@ -136,13 +151,14 @@ fn check_report(rt: &impl Abort, alloc: Global, report: &Report, bench: bool) ->
     assert_eq!(rt; report.filtered_out, 0);
     assert_eq!(rt; report.nanos, 1_500_000_000);
     assert_eq!(rt; report.rows.len(), TRIALS.len());
-    for (row, (name, is_ignored, answer)) in report.rows.iter().zip(&TRIALS) {
+    for (row, (name, is_ignored, answer, kind)) in report.rows.iter().zip(&TRIALS) {
         let outcome = if *is_ignored {
             Outcome::Ignored
         } else {
             outcome_of(alloc, *answer, bench)?
         };
         assert_eq!(rt; row.name.as_str(), *name);
+        assert_eq!(rt; row.kind.as_str(), *kind);
         assert!(rt; row.outcome == outcome, "{name}");
     }
     Ok(())
@@ -228,5 +244,21 @@ fn reads_two_trials_as_they_were_written(rt: HostRuntime) -> Result<(), Fail> {
         assert!(rt; read_report(alloc, bytes)?.is_none(), "{new} for {old}");
         assert!(rt; fed(alloc, bytes)?.is_none(), "{new} for {old}");
     }
+    Ok(())
+}
+
+// No name is taken for a kind.
+#[test]
+fn tells_names_from_kinds(rt: HostRuntime) -> Result<(), Fail> {
+    let alloc = rt.alloc();
+    let args = json_arguments(alloc);
+    let (_, bytes) = written!(alloc, &args, ALIKE, 1_500_000_000);
+    assert!(rt; bytes.as_slice() == ALIKE_REPORT.as_bytes());
+    let report = read_report(alloc, bytes.as_slice())?.ok_or("no report")?;
+    assert_eq!(rt; report.rows.len(), 2);
+    for (row, (name, _, _, kind)) in report.rows.iter().zip(&ALIKE) {
+        assert_eq!(rt; (row.name.as_str(), row.kind.as_str()), (*name, *kind));
+    }
+    assert!(rt; fed(alloc, bytes.as_slice())? == Some(report));
     Ok(())
 }

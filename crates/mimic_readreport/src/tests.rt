@@ -12,6 +12,12 @@ const ONE_ROW: &str = r#"{ "type": "suite", "event": "started", "test_count": 1 
 { "type": "suite", "event": "ok", "passed": 0, "failed": 0, "ignored": 0, "measured": 1, "filtered_out": 16, "exec_time": 1.000000005 }
 "#;
 
+const FLY: &str = r#"{ "type": "suite", "event": "started", "test_count": 1 }
+{ "type": "test", "event": "started", "name": "fly", "kind": "banana" }
+{ "type": "test", "name": "fly", "kind": "banana", "event": "ignored" }
+{ "type": "suite", "event": "ok", "passed": 0, "failed": 0, "ignored": 1, "measured": 0, "filtered_out": 16, "exec_time": 0 }
+"#;
+
 const NO_ROWS: &str = r#"{ "type": "suite", "event": "started", "test_count": 0 }
 { "type": "suite", "event": "ok", "passed": 0, "failed": 0, "ignored": 0, "measured": 0, "filtered_out": 0, "exec_time": 0 }
 "#;
@@ -88,7 +94,7 @@ fn run_over(
     Ok((status, out, err))
 }
 
-// Of no rows, of one, and of ten, with seven different numbers.
+// Of no rows, of one, of one with a kind, and of ten, with seven different numbers.
 #[test]
 fn tells_reports(rt: HostRuntime) -> Result<(), Fail> {
     let mixed = mixed_report(rt.alloc())?;
@@ -100,6 +106,10 @@ fn tells_reports(rt: HostRuntime) -> Result<(), Fail> {
         (
             ONE_ROW,
             "1 trials: 0 passed; 0 failed; 0 ignored; 1 measured; 16 filtered out; 1000000005 ns\n",
+        ),
+        (
+            FLY,
+            "1 trials: 0 passed; 0 failed; 1 ignored; 0 measured; 16 filtered out; 0 ns\n",
         ),
         (
             mixed.as_str(),

@@ -379,18 +379,18 @@ fn pads_kinds_by_characters(rt: HostRuntime) -> Result<(), Fail> {
     Ok(())
 }
 
-// A benchmark in JSON: its announcement, what was measured, and the same ignored. The kind is not shown.
+// A benchmark in JSON: its announcement, what was measured, and the same ignored, each with its kind.
 #[test]
 fn reports_benchmarks_in_json(rt: HostRuntime) -> Result<(), Fail> {
     let alloc = rt.alloc();
     for (test, line) in [
         (
             false,
-            "{ \"type\": \"bench\", \"name\": \"b\", \"median\": 1234567, \"deviation\": 89 }\n",
+            "{ \"type\": \"bench\", \"name\": \"b\", \"kind\": \"a\\\\b\", \"median\": 1234567, \"deviation\": 89 }\n",
         ),
         (
             true,
-            "{ \"type\": \"test\", \"name\": \"b\", \"event\": \"ignored\" }\n",
+            "{ \"type\": \"test\", \"name\": \"b\", \"kind\": \"a\\\\b\", \"event\": \"ignored\" }\n",
         ),
     ] {
         let runner = |_mode: bool| {
@@ -400,7 +400,7 @@ fn reports_benchmarks_in_json(rt: HostRuntime) -> Result<(), Fail> {
             }))
         };
         let tests = vec![in alloc;
-            bench_trial!(alloc, "b", runner).with_kind(String::from_str(alloc, "kind")?),
+            bench_trial!(alloc, "b", runner).with_kind(String::from_str(alloc, "a\\b")?),
         ]?;
         let mut args = Arguments::new(alloc);
         args.test = test;
@@ -409,10 +409,9 @@ fn reports_benchmarks_in_json(rt: HostRuntime) -> Result<(), Fail> {
         let (_, writer) = run_ample(alloc, &args, tests)?;
         let text = String::from_utf8(writer.bytes)?;
         let rest = text.as_str().strip_prefix(
-            "{ \"type\": \"suite\", \"event\": \"started\", \"test_count\": 1 }\n{ \"type\": \"test\", \"event\": \"started\", \"name\": \"b\" }\n",
+            "{ \"type\": \"suite\", \"event\": \"started\", \"test_count\": 1 }\n{ \"type\": \"test\", \"event\": \"started\", \"name\": \"b\", \"kind\": \"a\\\\b\" }\n",
         );
         assert!(rt; rest.is_some_and(|rest| rest.starts_with(line)));
-        assert!(rt; !text.as_str().contains("kind"));
     }
     Ok(())
 }
