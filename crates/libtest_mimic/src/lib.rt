@@ -23,6 +23,3 @@ pub use mimic_trial::{
 };
 pub use running::{RunError, Spawner, run, run_here};
 pub use stopwatch::{Clock, Stopwatch};
-
-#[cfg(test)]
-mod tests;
