@@ -1,0 +1,276 @@
+//! Runs in worker threads: that workers run at the same time, that rows come as trials end, and runs without a thread.
+use super::runs::Still;
+use libtest_mimic::{
+    Arguments, Conclusion, Failed, FormatSetting, Outcome, RunError, Sink, Spawner, Stopwatch,
+    Task, Trial, run,
+};
+use std::alloc::{AllocError, Global};
+use std::io;
+use std::io::Write;
+use std::sync::Arc;
+use std::sync::atomic::{AtomicBool, Ordering};
+use std::test::Fail;
+
+// How often a look for a flag is repeated at most.
+const TURNS: u64 = 100_000_000;
+
+fn is_raised_in_time(flag: &AtomicBool) -> bool {
+    for _ in 0..TURNS {
+        if flag.load(Ordering::SeqCst) {
+            return true;
+        }
+    }
+    false
+}
+
+// Raises its flag, and passes where each of the awaited ones is raised in time; else it fails with the message.
+#[derive(Drop)]
+struct Meets {
+    raised: Arc<AtomicBool>,
+    awaited: Vec<Arc<AtomicBool>>,
+    not_met: String,
+}
+
+impl Task for Meets {
+    fn run(self, _test_mode: bool) -> Outcome {
+        let Meets {
+            raised,
+            awaited,
+            not_met,
+        } = self;
+        raised.store(true, Ordering::SeqCst);
+        for flag in &awaited {
+            if !is_raised_in_time(flag) {
+                return Outcome::Failed(Failed::with_message(not_met));
+            }
+        }
+        Outcome::Passed
+    }
+}
+
+fn new_flag(alloc: Global) -> Result<Arc<AtomicBool>, AllocError> {
+    Ok(Arc::new(alloc, AtomicBool::new(false))?)
+}
+
+// A trial of this name that raises the one flag and awaits the others.
+fn meeting(
+    alloc: Global,
+    name: &str,
+    raised: &Arc<AtomicBool>,
+    awaited: &[&Arc<AtomicBool>],
+) -> Result<Trial<Meets>, AllocError> {
+    let mut flags = Vec::with_capacity(alloc, awaited.len())?;
+    for flag in awaited {
+        flags.push(Arc::try_clone(*flag)?)?;
+    }
+    let runner = Meets {
+        raised: Arc::try_clone(raised)?,
+        awaited: flags,
+        not_met: String::from_str(alloc, "not met")?,
+    };
+    Ok(Trial::new(String::from_str(alloc, name)?, runner))
+}
+
+// So many of three trials `a`, `b`, `c`, but no more than those, that all await one another.
+fn that_meet(alloc: Global, count: usize) -> Result<Vec<Trial<Meets>>, AllocError> {
+    let (a, b, c) = (new_flag(alloc)?, new_flag(alloc)?, new_flag(alloc)?);
+    let all = [&a, &b, &c];
+    let flags = &all[..count.min(all.len())];
+    let mut trials = Vec::new(alloc);
+    for (name, flag) in ["a", "b", "c"].iter().zip(flags) {
+        trials.push(meeting(alloc, name, flag, flags)?)?;
+    }
+    Ok(trials)
+}
+
+// What a run by so many threads writes and answers.
+fn run_by<T: Spawner + 'static>(
+    rt: &T,
+    alloc: Global,
+    threads: usize,
+    format: FormatSetting,
+    tests: Vec<Trial<Meets>>,
+) -> Result<(Conclusion, Vec<u8>), RunError> {
+    let mut sink = Sink::new(Vec::new(alloc));
+    let mut watch = Stopwatch::new(Still);
+    let mut args = Arguments::new(alloc);
+    args.test_threads = Some(threads);
+    args.format = Some(format);
+    let conclusion = run(rt, alloc, &args, tests, &mut sink, &mut watch, 1, false)?;
+    Ok((conclusion, sink.into_inner()))
+}
+
+// As many workers as were asked for run at the same time; a trial without one waits its turn.
+#[test]
+fn runs_as_many_as_asked(rt: HostRuntime) -> Result<(), Fail> {
+    let alloc = rt.alloc();
+    for (trials, threads) in [(2, 2), (2, 20), (2, usize::MAX), (3, 3)] {
+        let (conclusion, _) = run_by(
+            &rt,
+            alloc,
+            threads,
+            FormatSetting::Pretty,
+            that_meet(alloc, trials)?,
+        )?;
+        assert_eq!(rt; conclusion.num_passed, trials as u64);
+    }
+    let (_, bytes) = run_by(&rt, alloc, 2, FormatSetting::Pretty, that_meet(alloc, 3)?)?;
+    let report = str::from_utf8(&bytes)?;
+    assert!(rt; report.contains("test a ... FAILED\n"));
+    assert!(rt; report.contains("---- a ----\nnot met\n"));
+    Ok(())
+}
+
+// Raises its flag at its third line end.
+#[derive(Drop)]
+struct Raising {
+    line_ends: usize,
+    flag: Arc<AtomicBool>,
+}
+
+impl Write for Raising {
+    fn write(&mut self, buf: &[u8]) -> io::Result<usize> {
+        for byte in buf {
+            self.line_ends = self.line_ends.saturating_add(usize::from(*byte == b'\n'));
+        }
+        if self.line_ends >= 3 {
+            self.flag.store(true, Ordering::SeqCst);
+        }
+        Ok(buf.len())
+    }
+
+    fn flush(&mut self) -> io::Result<()> {
+        Ok(())
+    }
+}
+
+// The one trial awaits that the row of the other is written.
+#[test]
+fn writes_a_row_when_its_trial_has_ended(rt: HostRuntime) -> Result<(), Fail> {
+    let alloc = rt.alloc();
+    let (written, unread) = (new_flag(alloc)?, new_flag(alloc)?);
+    let tests = vec![in alloc;
+        meeting(alloc, "a", &unread, &[])?,
+        meeting(alloc, "b", &unread, &[&written])?,
+    ]?;
+    let mut sink = Sink::new(Raising {
+        line_ends: 0,
+        flag: written,
+    });
+    let mut watch = Stopwatch::new(Still);
+    let args = Arguments::new(alloc);
+    let conclusion = run(&rt, alloc, &args, tests, &mut sink, &mut watch, 2, false)?;
+    assert_eq!(rt; conclusion.num_passed, 2);
+    Ok(())
+}
+
+const PAIRS: [&str; 2] = [
+    r#"{ "type": "test", "event": "started", "name": "a" }
+{ "type": "test", "name": "a", "event": "ok" }
+{ "type": "test", "event": "started", "name": "b" }
+{ "type": "test", "name": "b", "event": "ok" }
+"#,
+    r#"{ "type": "test", "event": "started", "name": "b" }
+{ "type": "test", "name": "b", "event": "ok" }
+{ "type": "test", "event": "started", "name": "a" }
+{ "type": "test", "name": "a", "event": "ok" }
+"#,
+];
+
+#[test]
+fn keeps_pairs_of_lines_together(rt: HostRuntime) -> Result<(), Fail> {
+    let alloc = rt.alloc();
+    let (_, bytes) = run_by(&rt, alloc, 2, FormatSetting::Json, that_meet(alloc, 2)?)?;
+    let lines = str::from_utf8(&bytes)?;
+    let (_, pairs) = lines.split_once('\n').ok_or("one line")?;
+    assert!(rt; pairs.starts_with(PAIRS[0]) || pairs.starts_with(PAIRS[1]));
+    assert_eq!(rt; lines.lines().count(), 6);
+    Ok(())
+}
+
+// Passes where its number is even, and else fails.
+#[derive(Drop)]
+struct Numbered {
+    number: u64,
+}
+
+impl Task for Numbered {
+    fn run(self, _test_mode: bool) -> Outcome {
+        if self.number % 2 == 0 {
+            Outcome::Passed
+        } else {
+            Outcome::Failed(Failed::without_message())
+        }
+    }
+}
+
+// Each of many trials is counted once, and has its two lines, whatever the number of threads.
+#[test]
+fn counts_each_of_many(rt: HostRuntime) -> Result<(), Fail> {
+    let alloc = rt.alloc();
+    let mut args = Arguments::new(alloc);
+    args.format = Some(FormatSetting::Json);
+    for threads in [1, 2, 4, 16] {
+        let mut tests = Vec::with_capacity(alloc, 10_000)?;
+        for number in 0..10_000 {
+            let name = format!(in alloc; "{number:05}")?;
+            let ignored = number % 10 == 5;
+            tests.push(Trial::new(name, Numbered { number }).with_ignored_flag(ignored))?;
+        }
+        let mut sink = Sink::new(Vec::new(alloc));
+        let mut watch = Stopwatch::new(Still);
+        let conclusion = run(
+            &rt, alloc, &args, tests, &mut sink, &mut watch, threads, false,
+        )?;
+        assert_eq!(rt; conclusion.num_passed, 5_000);
+        assert_eq!(rt; conclusion.num_failed, 4_000);
+        assert_eq!(rt; conclusion.num_ignored, 1_000);
+        let bytes = sink.into_inner();
+        assert_eq!(rt; str::from_utf8(&bytes)?.lines().count(), 20_002);
+    }
+    Ok(())
+}
+
+const NO_TESTS: &[u8] =
+    b"\nrunning 0 tests\n\ntest result: ok. 0 passed; 0 failed; 0 ignored; 0 measured; 0 filtered out; finished in 0.00s\n\n";
+
+// Without a thread: a trial, no trial, a trial that is filtered out, and a list. With one the trial runs.
+#[test]
+fn wants_a_thread_for_a_trial(rt: HostRuntime) -> Result<(), Fail> {
+    let alloc = rt.alloc();
+    let mut args = Arguments::new(alloc);
+    args.test_threads = Some(0);
+    let mut sink = Sink::new(Vec::new(alloc));
+    let mut watch = Stopwatch::new(Still);
+    let tests = that_meet(alloc, 1)?;
+    let refused = run(&rt, alloc, &args, tests, &mut sink, &mut watch, 4, false).err();
+    assert!(rt; matches!(refused, Some(RunError::ZeroThreads)));
+    assert!(rt; sink.into_inner().is_empty());
+    assert!(rt; watch.is_running());
+    let (_, bytes) = run_by(&rt, alloc, 0, FormatSetting::Pretty, Vec::new(alloc))?;
+    assert!(rt; bytes.as_slice() == NO_TESTS);
+    let (conclusion, _) = run_by(&rt, alloc, 1, FormatSetting::Pretty, that_meet(alloc, 1)?)?;
+    assert_eq!(rt; conclusion.num_passed, 1);
+    args.filter = Some(String::from_str(alloc, "z")?);
+    let mut sink = Sink::new(Vec::new(alloc));
+    let mut watch = Stopwatch::new(Still);
+    let tests = that_meet(alloc, 1)?;
+    let conclusion = run(&rt, alloc, &args, tests, &mut sink, &mut watch, 4, false)?;
+    assert_eq!(rt; conclusion.num_filtered_out, 1);
+    args.filter = None;
+    args.list = true;
+    let mut sink = Sink::new(Vec::new(alloc));
+    let mut watch = Stopwatch::new(Still);
+    run(
+        &rt,
+        alloc,
+        &args,
+        that_meet(alloc, 1)?,
+        &mut sink,
+        &mut watch,
+        4,
+        false,
+    )?;
+    assert!(rt; sink.into_inner().as_slice() == b"a: test\n".as_slice());
+    Ok(())
+}
