@@ -24,6 +24,3 @@ pub use mimic_trial::{
 };
 pub use running::{RunError, run, run_here};
 pub use stopwatch::{Clock, Stopwatch};
-
-#[cfg(test)]
-mod tests;

@@ -156,3 +156,6 @@ impl Arguments {
         }
     }
 }
+
+#[cfg(test)]
+mod tests;

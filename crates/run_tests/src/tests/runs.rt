@@ -1,10 +1,9 @@
 //! Runs of selected trials and of benchmarks, and lists.
+use super::in_memory::run_ample;
 use super::selection::selecting;
-use super::writers::{Full, run_ample, stopped_clock, with_room};
 use super::{bench_trial, test_trial};
-use crate::{
-    Arguments, ColorSetting, Conclusion, Failed, FormatSetting, Measurement, RunError, Sink,
-    Stopwatch, Trial, run_here,
+use libtest_mimic::{
+    Arguments, ColorSetting, Conclusion, Failed, FormatSetting, Measurement, Trial,
 };
 use std::sync::Arc;
 use std::sync::atomic::{AtomicBool, Ordering};
@@ -176,36 +175,6 @@ fn selects_by_patterns(rt: HostRuntime) -> Result<(), Fail> {
                 writer.bytes.as_slice()
                     == b"\nrunning 0 tests\n\ntest result: ok. 0 passed; 0 failed; 0 ignored; 0 measured; 3 filtered out; finished in 0.00s\n\n".as_slice()
             );
-        }
-    }
-    Ok(())
-}
-
-// A list into a writer of which one write fails, in each way after each number of bytes, and which is well again.
-#[test]
-fn stops_a_list_at_each_byte(rt: HostRuntime) -> Result<(), Fail> {
-    let alloc = rt.alloc();
-    let list = b"[a] b: test\nc: bench\n";
-    for full in Full::ALL {
-        for room in 0..=list.len() {
-            let tests = vec![in alloc;
-                test_trial!(alloc, "b", || Ok(())).with_kind(String::from_str(alloc, "a")?),
-                bench_trial!(alloc, "c", |_mode: bool| Ok(None)),
-            ]?;
-            let mut args = Arguments::new(alloc);
-            args.list = true;
-            let mut sink = Sink::new(with_room(Vec::new(alloc), room, 3, full));
-            let mut watch = Stopwatch::new(stopped_clock());
-            match run_here(alloc, &args, tests, &mut sink, &mut watch, false) {
-                Ok(_) => assert!(rt; room == list.len()),
-                Err(RunError::Write(fault)) => assert!(rt; full.is_told_as(&fault)),
-                Err(_) => assert!(rt; false),
-            }
-            assert!(rt; watch.is_running());
-            assert_eq!(rt; sink.faults(), u64::from(room < list.len()));
-            let writer = sink.into_inner();
-            assert!(rt; writer.bytes.as_slice() == &list[..room]);
-            assert_eq!(rt; writer.calls_after, 0);
         }
     }
     Ok(())

@@ -1,8 +1,8 @@
 //! Which patterns match, and which trials are dropped and ignored.
+use super::in_memory::run_ample;
 use super::test_trial;
-use super::writers::run_ample;
-use crate::select::{is_filtered_out, is_ignored, matches};
-use crate::{Arguments, Failed, Trial};
+use libtest_mimic::select::{is_filtered_out, is_ignored, matches};
+use libtest_mimic::{Arguments, Failed, Trial};
 use std::alloc::{AllocError, Global};
 use std::test::Fail;
 

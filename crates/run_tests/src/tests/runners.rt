@@ -2,8 +2,8 @@
 ghost use Rattle.std.specs.Prelude.{◌≡◌, ◌+◌, ◌==◌, IfOk, None, if◌then◌else◌};
 ghost use Rattle.mimic_trial.specs.declared.outcome.Outcome.TheVariants.{Failed as AFailed, Passed as APassed};
 
-use super::writers::run_ample;
-use crate::{Arguments, Conclusion, Failed, Measurement, Outcome, Task, TestInfo, Trial};
+use super::in_memory::run_ample;
+use libtest_mimic::{Arguments, Conclusion, Failed, Measurement, Outcome, Task, TestInfo, Trial};
 use std::alloc::{AllocError, Global};
 use std::test::Fail;
 

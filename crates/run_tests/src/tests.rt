@@ -1,16 +1,10 @@
-//! What no clause says: whole reports as texts, flushes, which runners were called, and calls one by one.
+//! What no clause says: whole reports as texts, flushes, and which runners were called.
 //! Expected texts are worked by hand from the format's rules, and those of the Rust crate.
-mod calls;
-mod command_lines;
-mod faults;
-mod lists;
+mod in_memory;
 mod reports;
 mod runners;
 mod runs;
 mod selection;
-mod texts;
-mod threads;
-mod writers;
 
 // A test of this name over the closure.
 macro_rules! test_trial {

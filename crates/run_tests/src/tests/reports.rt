@@ -1,7 +1,7 @@
 //! Whole reports over memory.
+use super::in_memory::{Raised, Times, run_ample};
 use super::test_trial;
-use super::writers::{Raised, Times, ample, run_ample};
-use crate::{
+use libtest_mimic::{
     Arguments, ColorSetting, Conclusion, Failed, FormatSetting, Sink, Stopwatch, Trial, run_here,
 };
 use std::process::ExitCode;
@@ -9,17 +9,16 @@ use std::sync::Arc;
 use std::sync::atomic::{AtomicU64, Ordering};
 use std::test::Fail;
 
-pub(super) const TWO_TESTS: &[u8] =
+const TWO_TESTS: &[u8] =
     b"\nrunning 2 tests\ntest succeeding_test ... ok\ntest failing_test    ... FAILED\n\nfailures:\n\n---- failing_test ----\nWoops\n\n\nfailures:\n    failing_test\n\ntest result: FAILED. 1 passed; 1 failed; 0 ignored; 0 measured; 0 filtered out; finished in 0.00s\n\n";
 
-pub(super) const TWO_TESTS_TERSE: &[u8] =
+const TWO_TESTS_TERSE: &[u8] =
     b"\nrunning 2 tests\n.F\nfailures:\n\n---- failing_test ----\nWoops\n\n\nfailures:\n    failing_test\n\ntest result: FAILED. 1 passed; 1 failed; 0 ignored; 0 measured; 0 filtered out; finished in 0.00s\n\n";
 
 const TWO_TESTS_COLOURED: &[u8] =
     b"\nrunning 2 tests\ntest succeeding_test ... \x1b[32mok\x1b[0m\ntest failing_test    ... \x1b[31mFAILED\x1b[0m\n\nfailures:\n\n---- failing_test ----\nWoops\n\n\nfailures:\n    failing_test\n\ntest result: \x1b[31mFAILED\x1b[0m. 1 passed; 1 failed; 0 ignored; 0 measured; 0 filtered out; finished in 0.00s\n\n";
 
-pub(super) const TWO_TESTS_JSON: &[u8] =
-    br#"{ "type": "suite", "event": "started", "test_count": 2 }
+const TWO_TESTS_JSON: &[u8] = br#"{ "type": "suite", "event": "started", "test_count": 2 }
 { "type": "test", "event": "started", "name": "succeeding_test" }
 { "type": "test", "name": "succeeding_test", "event": "ok" }
 { "type": "test", "event": "started", "name": "failing_test" }
@@ -27,7 +26,7 @@ pub(super) const TWO_TESTS_JSON: &[u8] =
 { "type": "suite", "event": "failed", "passed": 1, "failed": 1, "ignored": 0, "measured": 0, "filtered_out": 0, "exec_time": 0 }
 "#;
 
-pub(super) const NO_TESTS: &[u8] =
+const NO_TESTS: &[u8] =
     b"\nrunning 0 tests\n\ntest result: ok. 0 passed; 0 failed; 0 ignored; 0 measured; 0 filtered out; finished in 0.00s\n\n";
 
 const NO_MESSAGES: &[u8] =
@@ -137,7 +136,7 @@ fn tells_the_time(rt: HostRuntime) -> Result<(), Fail> {
         for (format, end) in [(FormatSetting::Pretty, pretty), (FormatSetting::Json, json)] {
             let mut args = Arguments::new(alloc);
             args.format = Some(format);
-            let mut sink = Sink::new(ample(Vec::new(alloc)));
+            let mut sink = Sink::new(Vec::new(alloc));
             let mut watch = Stopwatch::new(Times { first, second });
             assert!(rt; watch.is_fresh());
             run_here(
@@ -149,7 +148,7 @@ fn tells_the_time(rt: HostRuntime) -> Result<(), Fail> {
                 false,
             )?;
             assert_eq!(rt; watch.elapsed(), Some(second.saturating_sub(first)));
-            assert!(rt; sink.into_inner().bytes.ends_with(end));
+            assert!(rt; sink.into_inner().ends_with(end));
         }
     }
     Ok(())
@@ -174,11 +173,11 @@ fn times_the_trials(rt: HostRuntime) -> Result<(), Fail> {
         ]?;
         let mut args = Arguments::new(alloc);
         args.format = Some(format);
-        let mut sink = Sink::new(ample(Vec::new(alloc)));
+        let mut sink = Sink::new(Vec::new(alloc));
         let mut watch = Stopwatch::new(Raised { nanos });
         run_here(alloc, &args, tests, &mut sink, &mut watch, false)?;
         assert_eq!(rt; watch.elapsed(), Some(1_500_000_000));
-        assert!(rt; sink.into_inner().bytes.ends_with(end));
+        assert!(rt; sink.into_inner().ends_with(end));
     }
     Ok(())
 }

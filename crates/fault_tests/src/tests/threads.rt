@@ -1,17 +1,15 @@
 //! Runs in worker threads: that workers run at the same time, that rows come as trials end, and runs without a thread.
-use super::reports::NO_TESTS;
-use super::writers::{Limited, ample, stopped_clock};
-use crate::{
-    Arguments, Conclusion, Failed, FormatSetting, Outcome, RunError, Sink, Stopwatch, Task, Trial,
-    run,
+use super::runs::Still;
+use libtest_mimic::{
+    Arguments, Conclusion, Failed, FormatSetting, Outcome, RunError, Sink, Spawner, Stopwatch,
+    Task, Trial, run,
 };
 use std::alloc::{AllocError, Global};
 use std::io;
 use std::io::Write;
+use std::sync::Arc;
 use std::sync::atomic::{AtomicBool, Ordering};
-use std::sync::{Arc, Wait};
 use std::test::Fail;
-use std::thread::Threads;
 
 // How often a look for a flag is repeated at most.
 const TURNS: u64 = 100_000_000;
@@ -86,15 +84,15 @@ fn that_meet(alloc: Global, count: usize) -> Result<Vec<Trial<Meets>>, AllocErro
 }
 
 // What a run by so many threads writes and answers.
-fn run_by<T: Threads + Wait + Copy + Drop + Send + 'static>(
+fn run_by<T: Spawner + 'static>(
     rt: &T,
     alloc: Global,
     threads: usize,
     format: FormatSetting,
     tests: Vec<Trial<Meets>>,
-) -> Result<(Conclusion, Limited), RunError> {
-    let mut sink = Sink::new(ample(Vec::new(alloc)));
-    let mut watch = Stopwatch::new(stopped_clock());
+) -> Result<(Conclusion, Vec<u8>), RunError> {
+    let mut sink = Sink::new(Vec::new(alloc));
+    let mut watch = Stopwatch::new(Still);
     let mut args = Arguments::new(alloc);
     args.test_threads = Some(threads);
     args.format = Some(format);
@@ -106,7 +104,7 @@ fn run_by<T: Threads + Wait + Copy + Drop + Send + 'static>(
 #[test]
 fn runs_as_many_as_asked(rt: HostRuntime) -> Result<(), Fail> {
     let alloc = rt.alloc();
-    for (trials, threads) in [(2, 2), (2, 20), (3, 3)] {
+    for (trials, threads) in [(2, 2), (2, 20), (2, usize::MAX), (3, 3)] {
         let (conclusion, _) = run_by(
             &rt,
             alloc,
@@ -116,8 +114,8 @@ fn runs_as_many_as_asked(rt: HostRuntime) -> Result<(), Fail> {
         )?;
         assert_eq!(rt; conclusion.num_passed, trials as u64);
     }
-    let (_, writer) = run_by(&rt, alloc, 2, FormatSetting::Pretty, that_meet(alloc, 3)?)?;
-    let report = str::from_utf8(&writer.bytes)?;
+    let (_, bytes) = run_by(&rt, alloc, 2, FormatSetting::Pretty, that_meet(alloc, 3)?)?;
+    let report = str::from_utf8(&bytes)?;
     assert!(rt; report.contains("test a ... FAILED\n"));
     assert!(rt; report.contains("---- a ----\nnot met\n"));
     Ok(())
@@ -159,7 +157,7 @@ fn writes_a_row_when_its_trial_has_ended(rt: HostRuntime) -> Result<(), Fail> {
         line_ends: 0,
         flag: written,
     });
-    let mut watch = Stopwatch::new(stopped_clock());
+    let mut watch = Stopwatch::new(Still);
     let args = Arguments::new(alloc);
     let conclusion = run(&rt, alloc, &args, tests, &mut sink, &mut watch, 2, false)?;
     assert_eq!(rt; conclusion.num_passed, 2);
@@ -182,8 +180,8 @@ const PAIRS: [&str; 2] = [
 #[test]
 fn keeps_pairs_of_lines_together(rt: HostRuntime) -> Result<(), Fail> {
     let alloc = rt.alloc();
-    let (_, writer) = run_by(&rt, alloc, 2, FormatSetting::Json, that_meet(alloc, 2)?)?;
-    let lines = str::from_utf8(&writer.bytes)?;
+    let (_, bytes) = run_by(&rt, alloc, 2, FormatSetting::Json, that_meet(alloc, 2)?)?;
+    let lines = str::from_utf8(&bytes)?;
     let (_, pairs) = lines.split_once('\n').ok_or("one line")?;
     assert!(rt; pairs.starts_with(PAIRS[0]) || pairs.starts_with(PAIRS[1]));
     assert_eq!(rt; lines.lines().count(), 6);
@@ -219,19 +217,22 @@ fn counts_each_of_many(rt: HostRuntime) -> Result<(), Fail> {
             let ignored = number % 10 == 5;
             tests.push(Trial::new(name, Numbered { number }).with_ignored_flag(ignored))?;
         }
-        let mut sink = Sink::new(ample(Vec::new(alloc)));
-        let mut watch = Stopwatch::new(stopped_clock());
+        let mut sink = Sink::new(Vec::new(alloc));
+        let mut watch = Stopwatch::new(Still);
         let conclusion = run(
             &rt, alloc, &args, tests, &mut sink, &mut watch, threads, false,
         )?;
         assert_eq!(rt; conclusion.num_passed, 5_000);
         assert_eq!(rt; conclusion.num_failed, 4_000);
         assert_eq!(rt; conclusion.num_ignored, 1_000);
-        let writer = sink.into_inner();
-        assert_eq!(rt; str::from_utf8(&writer.bytes)?.lines().count(), 20_002);
+        let bytes = sink.into_inner();
+        assert_eq!(rt; str::from_utf8(&bytes)?.lines().count(), 20_002);
     }
     Ok(())
 }
+
+const NO_TESTS: &[u8] =
+    b"\nrunning 0 tests\n\ntest result: ok. 0 passed; 0 failed; 0 ignored; 0 measured; 0 filtered out; finished in 0.00s\n\n";
 
 // Without a thread: a trial, no trial, a trial that is filtered out, and a list. With one the trial runs.
 #[test]
@@ -239,27 +240,27 @@ fn wants_a_thread_for_a_trial(rt: HostRuntime) -> Result<(), Fail> {
     let alloc = rt.alloc();
     let mut args = Arguments::new(alloc);
     args.test_threads = Some(0);
-    let mut sink = Sink::new(ample(Vec::new(alloc)));
-    let mut watch = Stopwatch::new(stopped_clock());
+    let mut sink = Sink::new(Vec::new(alloc));
+    let mut watch = Stopwatch::new(Still);
     let tests = that_meet(alloc, 1)?;
     let refused = run(&rt, alloc, &args, tests, &mut sink, &mut watch, 4, false).err();
     assert!(rt; matches!(refused, Some(RunError::ZeroThreads)));
-    assert!(rt; sink.into_inner().bytes.is_empty());
+    assert!(rt; sink.into_inner().is_empty());
     assert!(rt; watch.is_running());
-    let (_, writer) = run_by(&rt, alloc, 0, FormatSetting::Pretty, Vec::new(alloc))?;
-    assert!(rt; writer.bytes.as_slice() == NO_TESTS);
+    let (_, bytes) = run_by(&rt, alloc, 0, FormatSetting::Pretty, Vec::new(alloc))?;
+    assert!(rt; bytes.as_slice() == NO_TESTS);
     let (conclusion, _) = run_by(&rt, alloc, 1, FormatSetting::Pretty, that_meet(alloc, 1)?)?;
     assert_eq!(rt; conclusion.num_passed, 1);
     args.filter.push(String::from_str(alloc, "z")?)?;
-    let mut sink = Sink::new(ample(Vec::new(alloc)));
-    let mut watch = Stopwatch::new(stopped_clock());
+    let mut sink = Sink::new(Vec::new(alloc));
+    let mut watch = Stopwatch::new(Still);
     let tests = that_meet(alloc, 1)?;
     let conclusion = run(&rt, alloc, &args, tests, &mut sink, &mut watch, 4, false)?;
     assert_eq!(rt; conclusion.num_filtered_out, 1);
     args.filter.clear();
     args.list = true;
-    let mut sink = Sink::new(ample(Vec::new(alloc)));
-    let mut watch = Stopwatch::new(stopped_clock());
+    let mut sink = Sink::new(Vec::new(alloc));
+    let mut watch = Stopwatch::new(Still);
     run(
         &rt,
         alloc,
@@ -270,23 +271,6 @@ fn wants_a_thread_for_a_trial(rt: HostRuntime) -> Result<(), Fail> {
         4,
         false,
     )?;
-    assert!(rt; sink.into_inner().bytes.as_slice() == b"a: test\n".as_slice());
-    Ok(())
-}
-
-// The texts of refusals that only workers meet.
-#[test]
-fn tells_refusals_of_workers(rt: HostRuntime) -> Result<(), Fail> {
-    let alloc = rt.alloc();
-    for (refused, text) in [
-        (RunError::ZeroThreads, "no threads to run trials"),
-        (RunError::Spawn, "cannot start a worker"),
-        (
-            RunError::Arrival { place: 7 },
-            "outcome of trial 7 differs from its worker's answer",
-        ),
-    ] {
-        assert_eq!(rt; format!(in alloc; "{refused}")?.as_str(), text);
-    }
+    assert!(rt; sink.into_inner().as_slice() == b"a: test\n".as_slice());
     Ok(())
 }

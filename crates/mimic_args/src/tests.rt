@@ -256,3 +256,28 @@ fn shows_help(rt: HostRuntime) -> Result<(), Fail> {
     }
     Ok(())
 }
+
+// The setting, whether the caller says so, whether there is a logfile, and whether a report has colours.
+#[test]
+fn settles_colours(rt: HostRuntime) -> Result<(), Fail> {
+    let alloc = rt.alloc();
+    let rows = [
+        (Some(ColorSetting::Always), false, true, true),
+        (Some(ColorSetting::Auto), true, true, false),
+        (None, true, false, true),
+        (Some(ColorSetting::Never), true, false, false),
+    ];
+    for (color, auto, has_logfile, want) in rows {
+        let mut args = Arguments::new(alloc);
+        args.color = color;
+        if has_logfile {
+            args.logfile = Some(String::from_str(alloc, "log")?);
+        }
+        assert_eq!(rt; args.colours(auto), want);
+    }
+    let mut args = Arguments::new(alloc);
+    assert!(rt; args.format_used() == FormatSetting::Pretty);
+    args.quiet = true;
+    assert!(rt; args.format_used() == FormatSetting::Terse);
+    Ok(())
+}

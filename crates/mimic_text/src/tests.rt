@@ -1,0 +1,74 @@
+//! Numbers and characters as texts. Expected values are worked by hand from the format's rules.
+use crate::{escape_char, exact_seconds, fmt_with_thousand_sep, hundredths, thousands};
+use std::test::Fail;
+
+#[test]
+fn rounds_to_hundredths(rt: HostRuntime) {
+    let vectors = [
+        (0, (0, 0)),
+        (4_999_999, (0, 0)),
+        (5_000_000, (0, 1)),
+        (995_000_000, (1, 0)),
+        (1_500_000_000, (1, 50)),
+        (u64::MAX, (18_446_744_073, 71)),
+    ];
+    for (nanos, want) in vectors {
+        assert_eq!(rt; hundredths(nanos), want, "{nanos}");
+    }
+}
+
+#[test]
+fn groups_thousands(rt: HostRuntime) -> Result<(), Fail> {
+    let vectors = [
+        (0, "0"),
+        (999, "999"),
+        (1000, "1,000"),
+        (1_000_001, "1,000,001"),
+        (u64::MAX, "18,446,744,073,709,551,615"),
+    ];
+    for (number, want) in vectors {
+        assert_eq!(rt; thousands(number, &mut [0; 26]), want);
+        assert_eq!(rt; fmt_with_thousand_sep(rt.alloc(), number)?.as_str(), want);
+    }
+    Ok(())
+}
+
+#[test]
+fn escapes_characters(rt: HostRuntime) {
+    let vectors = [
+        ('"', "\\\""),
+        ('\\', "\\\\"),
+        ('\u{8}', "\\b"),
+        ('\t', "\\t"),
+        ('\n', "\\n"),
+        ('\u{c}', "\\f"),
+        ('\r', "\\r"),
+        ('\u{0}', "\\u0000"),
+        ('\u{b}', "\\u000b"),
+        ('\u{1f}', "\\u001f"),
+        (' ', " "),
+        ('/', "/"),
+        ('\u{7f}', "\u{7f}"),
+        ('\u{e9}', "\u{e9}"),
+        ('\u{1f600}', "\u{1f600}"),
+    ];
+    for (character, want) in vectors {
+        assert_eq!(rt; escape_char(character).as_str(), want);
+    }
+}
+
+#[test]
+fn tells_exact_seconds(rt: HostRuntime) {
+    let vectors = [
+        (0, "0"),
+        (1, "0.000000001"),
+        (4_999_999, "0.004999999"),
+        (1_000_000_000, "1"),
+        (1_500_000_000, "1.5"),
+        (10_000_000_000, "10"),
+        (u64::MAX, "18446744073.709551615"),
+    ];
+    for (nanos, want) in vectors {
+        assert_eq!(rt; exact_seconds(nanos, &mut [b'x'; 32]), want);
+    }
+}

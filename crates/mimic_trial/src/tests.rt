@@ -1,0 +1,158 @@
+//! Trials, outcomes and counts: calls one by one, with what no run shows of them.
+use crate::{
+    BenchRunner, Conclusion, Failed, Measurement, Outcome, Runner, Trial, count_rows, run_single,
+};
+use std::fmt;
+use std::process::ExitCode;
+use std::test::Fail;
+
+#[test]
+fn gives_properties(rt: HostRuntime) -> Result<(), Fail> {
+    let alloc = rt.alloc();
+    let runner: Box<dyn FnOnce() -> Result<(), Failed> + Send> = Box::new(alloc, || Ok(()))?;
+    let trial = Trial::test(String::from_str(alloc, "a")?, runner);
+    assert_eq!(rt; trial.name(), "a");
+    assert_eq!(rt; trial.kind(), "");
+    assert!(rt; !trial.has_ignored_flag());
+    assert!(rt; trial.is_test());
+    assert!(rt; !trial.is_bench());
+    Ok(())
+}
+
+// A benchmark's answer in both modes: with a measurement, and without one.
+#[test]
+fn runs_benchmarks(rt: HostRuntime) -> Result<(), Fail> {
+    let alloc = rt.alloc();
+    for (test_mode, measures) in [(true, true), (true, false), (false, true), (false, false)] {
+        let boxed: Box<dyn FnOnce(bool) -> Result<Option<Measurement>, Failed> + Send> = Box::new(
+            alloc,
+            move |_mode: bool| Ok(measures.then_some(Measurement {
+                avg: 32,
+                variance: 3,
+            })),
+        )?;
+        let outcome = run_single(Runner::Bench(BenchRunner::new(boxed)), test_mode);
+        match (test_mode, measures) {
+            (true, _) => assert!(rt; outcome == Outcome::Passed),
+            (false, true) => assert!(rt;
+                outcome
+                    == Outcome::Measured(Measurement {
+                        avg: 32,
+                        variance: 3,
+                    })
+            ),
+            (false, false) => match &outcome {
+                Outcome::Failed(failed) => {
+                    assert_eq!(rt;
+                        failed.message(),
+                        Some("bench runner returned `Ok(None)` in bench mode")
+                    );
+                }
+                _ => assert!(rt; false),
+            },
+        }
+    }
+    Ok(())
+}
+
+// A failure with a message, the message kept without memory, and the others.
+#[test]
+fn copies_outcomes(rt: HostRuntime) -> Result<(), Fail> {
+    let alloc = rt.alloc();
+    let woops = Failed::with_message(String::from_str(alloc, "Woops")?);
+    let copy = woops.try_clone(alloc)?;
+    assert!(rt; copy == woops);
+    assert_eq!(rt; copy.message(), Some("Woops"));
+    let measures_nothing: Box<dyn FnOnce(bool) -> Result<Option<Measurement>, Failed> + Send> =
+        Box::new(alloc, |_mode: bool| Ok(None))?;
+    let not_measured = run_single(Runner::Bench(BenchRunner::new(measures_nothing)), false);
+    let outcomes = [
+        Outcome::Passed,
+        Outcome::Failed(woops),
+        Outcome::Failed(Failed::without_message()),
+        not_measured,
+        Outcome::Ignored,
+        Outcome::Measured(Measurement {
+            avg: 32,
+            variance: 3,
+        }),
+    ];
+    for outcome in &outcomes {
+        assert!(rt; outcome.try_clone(alloc)? == *outcome);
+    }
+    Ok(())
+}
+
+#[test]
+fn counts_outcomes(rt: HostRuntime) {
+    let outcomes = [
+        Outcome::Ignored,
+        Outcome::Failed(Failed::without_message()),
+        Outcome::Ignored,
+        Outcome::Measured(Measurement {
+            avg: 1,
+            variance: 0,
+        }),
+        Outcome::Failed(Failed::without_message()),
+        Outcome::Ignored,
+    ];
+    let conclusion = count_rows(&outcomes, 7);
+    assert_eq!(rt;
+        conclusion,
+        Conclusion {
+            num_filtered_out: 7,
+            num_passed: 0,
+            num_failed: 2,
+            num_ignored: 3,
+            num_measured: 1,
+        }
+    );
+    assert!(rt; conclusion.exit_code() == ExitCode::from(101));
+    assert!(rt; count_rows(&[], 7).exit_code() == ExitCode::SUCCESS);
+}
+
+#[test]
+fn shows_values(rt: HostRuntime) -> Result<(), Fail> {
+    let alloc = rt.alloc();
+    let trial = Trial::new(String::from_str(alloc, "a")?, ());
+    assert_eq!(rt;
+        format!(in alloc; "{trial:?}")?.as_str(),
+        "Test { runner: <runner>, name: \"a\", kind: \"\", is_ignored: false, is_bench: false }"
+    );
+    let kept = Failed::with_message(String::from_str(alloc, "x")?);
+    let texts = [
+        (
+            format!(in alloc; "{kept:?}")?,
+            "Failed { msg: Some(\"x\") }",
+        ),
+        (
+            format!(in alloc; "{:?}", Failed::without_message())?,
+            "Failed { msg: None }",
+        ),
+    ];
+    for (text, want) in &texts {
+        assert_eq!(rt; text.as_str(), *want);
+    }
+    let failed = Failed::with_message(String::from_str(alloc, "x")?);
+    assert_eq!(rt; failed.message(), Some("x"));
+    assert!(rt; failed != Failed::without_message());
+    assert!(rt; Failed::without_message() == Failed::without_message());
+    Ok(())
+}
+
+// Displays nothing, and fails.
+struct Mute;
+
+impl fmt::Display for Mute {
+    fn fmt<W: fmt::Write>(&self, _f: &mut fmt::Formatter<W>) -> fmt::Result {
+        Err(fmt::Error)
+    }
+}
+
+#[test]
+fn keeps_what_is_displayed(rt: HostRuntime) -> Result<(), Fail> {
+    assert_eq!(rt; Failed::from_display(rt.alloc(), &7)?.message(), Some("7"));
+    assert_eq!(rt; Failed::from_display(rt.alloc(), &"")?.message(), Some(""));
+    assert!(rt; Failed::from_display(rt.alloc(), &Mute).is_err());
+    Ok(())
+}
