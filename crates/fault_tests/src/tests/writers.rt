@@ -182,21 +182,26 @@ fn begin_one(texts: &[Vec<u8>; 2], bytes: &[u8]) -> bool {
 #[test]
 fn stops_workers_at_each_byte(rt: HostRuntime) -> Result<(), Fail> {
     let alloc = rt.alloc();
-    for (report, fault) in [
-        (PRETTY, Fault::TakesNone),
-        (TERSE, FULL),
-        (JSON_OF_PASSING, FULL),
+    for (report, most) in [
+        (PRETTY, 1),
+        (PRETTY, usize::MAX),
+        (TERSE, 1),
+        (JSON_OF_PASSING, usize::MAX),
     ] {
         let texts = texts(&rt, alloc, report)?;
-        for room in 0..=report.len {
-            let writer = FaultyWriter::new(alloc).failing(Place::Byte(room), fault);
-            let (left, ran) = run_two(&rt, alloc, report, Some(2), writer)?;
-            let fault = (room < report.len).then_some(fault);
-            assert!(rt; left.is_stopped_by(fault), "at {room}");
-            assert_eq!(rt; left.writer.bytes.len(), room);
-            assert!(rt; begin_one(&texts, &left.writer.bytes), "at {room}");
-            assert_eq!(rt; left.is_running, room < report.summary_at, "at {room}");
-            assert_eq!(rt; ran, [room >= report.rows_at[0]; 2], "at {room}");
+        for fault in Fault::ALL {
+            for room in 0..=report.len {
+                let writer = FaultyWriter::new(alloc)
+                    .taking(most)
+                    .failing(Place::Byte(room), fault);
+                let (left, ran) = run_two(&rt, alloc, report, Some(2), writer)?;
+                let fault = (room < report.len).then_some(fault);
+                assert!(rt; left.is_stopped_by(fault), "at {room}");
+                assert_eq!(rt; left.writer.bytes.len(), room);
+                assert!(rt; begin_one(&texts, &left.writer.bytes), "at {room}");
+                assert_eq!(rt; left.is_running, room < report.summary_at, "at {room}");
+                assert_eq!(rt; ran, [room >= report.rows_at[0]; 2], "at {room}");
+            }
         }
     }
     Ok(())
