@@ -2,4 +2,5 @@
 mod board;
 mod desk;
 mod inbox;
+mod losses;
 mod workers;

@@ -1,7 +1,7 @@
 //! Wants of memory: what may be answered where the Nth allocation fails, for any N. `bench/refuse_memory` makes each fail in
 //! turn. All that is handed in is made beforehand; where that fails, a test says nothing.
-use super::runs::{Left, Marks, asking, marking, run_into};
-use libtest_mimic::{Arguments, ArgumentsError, Failed, FormatSetting, Outcome, RunError, Trial};
+use super::runs::{Left, Marks, asking, marking, outcome_with, run_into};
+use libtest_mimic::{Arguments, ArgumentsError, FormatSetting, Outcome, RunError, Trial};
 use mimic_events::{Feed, Report, read_report};
 use mimic_faulty::FaultyWriter;
 use std::alloc::{AllocError, Global};
@@ -24,14 +24,9 @@ fn joined(alloc: Global, order: [usize; 4]) -> Result<Vec<u8>, Fail> {
     Ok(bytes)
 }
 
-fn woops(alloc: Global) -> Result<Outcome, AllocError> {
-    let message = String::from_str(alloc, "Woops")?;
-    Ok(Outcome::Failed(Failed::with_message(message)))
-}
-
 fn two_tests(alloc: Global) -> Result<Vec<Trial<Marks>>, AllocError> {
     let (first, _) = marking(alloc, "a", Outcome::Passed)?;
-    let (second, _) = marking(alloc, "b", woops(alloc)?)?;
+    let (second, _) = marking(alloc, "b", outcome_with(alloc, Some("Woops"))?)?;
     let tests = vec![in alloc; first, second]?;
     Ok(tests)
 }
@@ -111,7 +106,10 @@ fn has_rows(report: &Report, rows: &[(&str, Outcome)]) -> bool {
 fn reads_whole_or_wants_memory(rt: HostRuntime) -> Result<(), Fail> {
     let alloc = rt.alloc();
     let bytes = joined(alloc, [0, 1, 2, 3])?;
-    let rows = [("a", Outcome::Passed), ("b", woops(alloc)?)];
+    let rows = [
+        ("a", Outcome::Passed),
+        ("b", outcome_with(alloc, Some("Woops"))?),
+    ];
     if let Ok(report) = read_report(alloc, &bytes) {
         assert!(rt; report.is_some_and(|report| has_rows(&report, &rows)));
     }
@@ -123,7 +121,10 @@ fn reads_whole_or_wants_memory(rt: HostRuntime) -> Result<(), Fail> {
 fn feeds_whole_or_wants_memory(rt: HostRuntime) -> Result<(), Fail> {
     let alloc = rt.alloc();
     let bytes = joined(alloc, [0, 1, 2, 3])?;
-    let rows = [("a", Outcome::Passed), ("b", woops(alloc)?)];
+    let rows = [
+        ("a", Outcome::Passed),
+        ("b", outcome_with(alloc, Some("Woops"))?),
+    ];
     let mut feed = Feed::new(alloc)?;
     let mut is_refused = false;
     for byte in bytes.chunks(1) {

@@ -2,8 +2,8 @@
 ghost use Rattle.mimic_trial.specs.Trial.{AllCanRun};
 
 use libtest_mimic::{
-    Arguments, Clock, Conclusion, FormatSetting, Outcome, RunError, Sink, Spawner, Stopwatch, Task,
-    Trial, WriteFault, run, run_here,
+    Arguments, Clock, Conclusion, Failed, FormatSetting, Outcome, RunError, Sink, Spawner,
+    Stopwatch, Task, Trial, WriteFault, run, run_here,
 };
 use mimic_faulty::{Fault, FaultyWriter};
 use std::alloc::{AllocError, Global};
@@ -32,6 +32,17 @@ impl Task for Marks {
         let Marks { ran, outcome } = self;
         ran.store(true, Ordering::SeqCst);
         outcome
+    }
+}
+
+// A failure with the message, or else a pass.
+pub(super) fn outcome_with(alloc: Global, message: Option<&str>) -> Result<Outcome, AllocError> {
+    match message {
+        Some(message) => {
+            let message = String::from_str(alloc, message)?;
+            Ok(Outcome::Failed(Failed::with_message(message)))
+        }
+        None => Ok(Outcome::Passed),
     }
 }
 

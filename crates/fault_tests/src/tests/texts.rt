@@ -1,6 +1,6 @@
 //! Names and messages that look like other parts of a report: what is written of them, and what is read back.
-use super::runs::{asking, marking, run_into};
-use libtest_mimic::{Failed, FormatSetting, Outcome};
+use super::runs::{asking, marking, outcome_with, run_into};
+use libtest_mimic::{FormatSetting, Outcome};
 use mimic_events::{Feed, Report, read_report};
 use mimic_faulty::FaultyWriter;
 use std::alloc::{AllocError, Global};
@@ -91,16 +91,6 @@ fn four_lines(alloc: Global, vector: Vector) -> Result<String, AllocError> {
     Ok(text)
 }
 
-fn outcome_of(alloc: Global, vector: Vector) -> Result<Outcome, AllocError> {
-    match vector.message {
-        Some(message) => {
-            let message = String::from_str(alloc, message)?;
-            Ok(Outcome::Failed(Failed::with_message(message)))
-        }
-        None => Ok(Outcome::Passed),
-    }
-}
-
 // What a feed answers of these bytes, one by one.
 fn fed(alloc: Global, bytes: &[u8]) -> Result<Option<Report>, AllocError> {
     let mut feed = Feed::new(alloc)?;
@@ -117,7 +107,7 @@ fn reads_back_hostile_texts(rt: HostRuntime) -> Result<(), Fail> {
     assert_eq!(rt; (CONTROLS.len(), CONTROLS_WRITTEN.len()), (32, 172));
     for vector in VECTORS {
         for threads in [None, Some(2)] {
-            let outcome = outcome_of(alloc, vector)?;
+            let outcome = outcome_with(alloc, vector.message)?;
             let (trial, _) = marking(alloc, vector.name, outcome.try_clone(alloc)?)?;
             let args = asking(alloc, FormatSetting::Json, threads);
             let tests = vec![in alloc; trial]?;

@@ -1,6 +1,6 @@
 //! Writers that fail: what they hold then, what is answered, and which runners were called.
-use super::runs::{Left, Marks, asking, marking, run_into};
-use libtest_mimic::{Failed, FormatSetting, Outcome, Sink, Spawner, Trial, WriteFault};
+use super::runs::{Left, Marks, asking, marking, outcome_with, run_into};
+use libtest_mimic::{FormatSetting, Outcome, Sink, Spawner, Trial, WriteFault};
 use mimic_faulty::{Fault, FaultyWriter, Place};
 use std::alloc::{AllocError, Global};
 use std::io::ErrorKind;
@@ -64,23 +64,13 @@ const JSON_OF_PASSING: Report = Report {
     len: 380,
 };
 
-// The outcome of the second test.
-fn second_outcome(alloc: Global, message: Option<&str>) -> Result<Outcome, AllocError> {
-    match message {
-        Some(message) => Ok(Outcome::Failed(Failed::with_message(String::from_str(
-            alloc, message,
-        )?))),
-        None => Ok(Outcome::Passed),
-    }
-}
-
 fn two_tests(
     alloc: Global,
     report: Report,
 ) -> Result<(Vec<Trial<Marks>>, [Arc<AtomicBool>; 2]), AllocError> {
     let [first, second] = report.names;
     let (first, first_ran) = marking(alloc, first, Outcome::Passed)?;
-    let outcome = second_outcome(alloc, report.message)?;
+    let outcome = outcome_with(alloc, report.message)?;
     let (second, second_ran) = marking(alloc, second, outcome)?;
     let tests = vec![in alloc; first, second]?;
     Ok((tests, [first_ran, second_ran]))
@@ -192,21 +182,26 @@ fn begin_one(texts: &[Vec<u8>; 2], bytes: &[u8]) -> bool {
 #[test]
 fn stops_workers_at_each_byte(rt: HostRuntime) -> Result<(), Fail> {
     let alloc = rt.alloc();
-    for (report, fault) in [
-        (PRETTY, Fault::TakesNone),
-        (TERSE, FULL),
-        (JSON_OF_PASSING, FULL),
+    for (report, most) in [
+        (PRETTY, 1),
+        (PRETTY, usize::MAX),
+        (TERSE, 1),
+        (JSON_OF_PASSING, usize::MAX),
     ] {
         let texts = texts(&rt, alloc, report)?;
-        for room in 0..=report.len {
-            let writer = FaultyWriter::new(alloc).failing(Place::Byte(room), fault);
-            let (left, ran) = run_two(&rt, alloc, report, Some(2), writer)?;
-            let fault = (room < report.len).then_some(fault);
-            assert!(rt; left.is_stopped_by(fault), "at {room}");
-            assert_eq!(rt; left.writer.bytes.len(), room);
-            assert!(rt; begin_one(&texts, &left.writer.bytes), "at {room}");
-            assert_eq!(rt; left.is_running, room < report.summary_at, "at {room}");
-            assert_eq!(rt; ran, [room >= report.rows_at[0]; 2], "at {room}");
+        for fault in Fault::ALL {
+            for room in 0..=report.len {
+                let writer = FaultyWriter::new(alloc)
+                    .taking(most)
+                    .failing(Place::Byte(room), fault);
+                let (left, ran) = run_two(&rt, alloc, report, Some(2), writer)?;
+                let fault = (room < report.len).then_some(fault);
+                assert!(rt; left.is_stopped_by(fault), "at {room}");
+                assert_eq!(rt; left.writer.bytes.len(), room);
+                assert!(rt; begin_one(&texts, &left.writer.bytes), "at {room}");
+                assert_eq!(rt; left.is_running, room < report.summary_at, "at {room}");
+                assert_eq!(rt; ran, [room >= report.rows_at[0]; 2], "at {room}");
+            }
         }
     }
     Ok(())

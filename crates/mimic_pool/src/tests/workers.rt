@@ -16,7 +16,7 @@ use std::thread::Threads;
 
 // A runner that is the outcome which it gives.
 #[derive(Drop)]
-struct Becomes(Outcome);
+pub(super) struct Becomes(pub(super) Outcome);
 
 impl Task for Becomes {
     fn run(self, _test_mode: bool) -> Outcome {
@@ -54,7 +54,10 @@ fn deals_by_remainders(rt: HostRuntime) -> Result<(), Fail> {
 }
 
 // The shares of two workers of these runners at the places 0, 1, .. None is ignored but the last one.
-fn shares_of_five(alloc: Global, runners: [Becomes; 5]) -> Result<Vec<Share<Becomes>>, AllocError> {
+pub(super) fn shares_of_five(
+    alloc: Global,
+    runners: [Becomes; 5],
+) -> Result<Vec<Share<Becomes>>, AllocError> {
     let [first, second, third, fourth, fifth] = runners;
     let runners = vec![in alloc; first, second, third, fourth, fifth]?;
     deal(

@@ -1,0 +1,127 @@
+//! A desk that gets a list with losses, repeats and strangers.
+ghost use Rattle.std.specs.Prelude.{◌≡◌};
+
+use super::workers::{Becomes, shares_of_five};
+use crate::{Arrival, Desk, Reports, Untold, work};
+use mimic_trial::{Measurement, Outcome};
+use std::alloc::{AllocError, Global};
+use std::test::Fail;
+
+// Leaves out every second row, tells each other one twice, and behind it the same of a place that is none.
+#[derive(Drop)]
+struct Losing {
+    told: u64,
+    places: usize,
+    arrivals: Vec<(usize, Outcome)>,
+    alloc: Global,
+}
+
+impl Losing {
+    fn send(&mut self, place: usize, outcome: &Outcome) -> Result<(), AllocError>
+        ensures { self.new.told ≡ self.old.told }
+    {
+        let copy = outcome.try_clone(self.alloc)?;
+        self.arrivals.push((place, copy))?;
+        Ok(())
+    }
+}
+
+impl Reports for Losing {
+    ghost told_of = { λ reports. reports.told };
+
+    ghost refused_by = { λ _. 0 };
+
+    fn tell(&mut self, place: usize, outcome: &Outcome) -> Result<(), Untold> {
+        self.told += 1;
+        if self.told % 2 == 1 {
+            let _ = self.send(place, outcome);
+            let _ = self.send(place, outcome);
+            let _ = self.send(self.places, outcome);
+        }
+        Ok(())
+    }
+
+    fn refusals(&self) -> u64 {
+        0
+    }
+
+    fn told(&self) -> u64 {
+        self.told
+    }
+}
+
+// What the runner at this place gives.
+fn measured(place: usize) -> Outcome {
+    Outcome::Measured(Measurement {
+        avg: place as u64,
+        variance: 0,
+    })
+}
+
+// Lets the next row come to the desk, if there is one. The list stands backwards, so the next is its last.
+fn next_arrives(desk: &mut Desk, list: &mut Vec<(usize, Outcome)>) -> Option<Arrival>
+    ensures { desk.new.places ≡ desk.old.places }
+{
+    match list.pop() {
+        Some((place, outcome)) => Some(desk.arrive(place, outcome)),
+        None => None,
+    }
+}
+
+// What a desk says of the three rows that stand in the list for one that was told.
+const THREE: [Option<Arrival>; 3] = [
+    Some(Arrival::First),
+    Some(Arrival::Again),
+    Some(Arrival::Stranger),
+];
+
+fn three_arrive(desk: &mut Desk, list: &mut Vec<(usize, Outcome)>) -> [Option<Arrival>; 3]
+    ensures { desk.new.places ≡ desk.old.places }
+{
+    let first = next_arrives(desk, list);
+    let second = next_arrives(desk, list);
+    [first, second, next_arrives(desk, list)]
+}
+
+// Of two workers' rows 0, 2, 4 and 1, 3 the list has 0, 4 and 1, each twice with a stranger behind. The desk keeps those, the
+// others are missing, and it agrees with what the workers answer.
+#[test]
+fn settles_a_list_with_losses(rt: HostRuntime) -> Result<(), Fail> {
+    let alloc = rt.alloc();
+    let runners = [0, 1, 2, 3, 4].map(|place| Becomes(measured(place)));
+    let mut list = Vec::new(alloc);
+    for share in shares_of_five(alloc, runners)? {
+        let room = Vec::with_capacity(alloc, share.len())?;
+        let mut reports = Losing {
+            told: 0,
+            places: 5,
+            arrivals: Vec::new(alloc),
+            alloc,
+        };
+        work(share, false, &mut reports, room);
+        for row in reports.arrivals {
+            list.push(row)?;
+        }
+    }
+    let mut desk = Desk::new(alloc, 5)?;
+    list.reverse();
+    assert_eq!(rt; three_arrive(&mut desk, &mut list), THREE);
+    assert_eq!(rt; three_arrive(&mut desk, &mut list), THREE);
+    assert_eq!(rt; three_arrive(&mut desk, &mut list), THREE);
+    assert!(rt; list.is_empty());
+    assert_eq!(rt; desk.order(), [0, 4, 1].as_slice());
+    let room = Vec::with_capacity(alloc, 5)?;
+    assert_eq!(rt;
+        desk.whole_order(room).as_slice(),
+        [0, 4, 1, 2, 3].as_slice()
+    );
+    let joined = [
+        measured(0),
+        measured(1),
+        measured(2),
+        measured(3),
+        Outcome::Ignored,
+    ];
+    assert_eq!(rt; desk.settle(&joined), Ok(()));
+    Ok(())
+}
