@@ -10,8 +10,8 @@ pub returns-then-not-is_empty : goal.returns-then-not-is_empty
 returns-then-not-is_empty g c =
     let found = rw c.deref.ensures.value at c.matches_one.ensures in
     let some : c.args.args.now.filter.items ≢ [] = λ none.
-        let zero : vec_len c.args.args.now.filter ≡ 0 = sym c.deref.ensures.len ∙ ap length c.deref.ensures.value ∙ ap length none in
-        let empty = rw zero at c.if-not-is_empty.ensures in cc in (
+    let zero : vec_len c.args.args.now.filter ≡ 0 = sym c.deref.ensures.len ∙ ap length c.deref.ensures.value ∙ ap length none in
+    let empty = rw zero at c.if-not-is_empty.ensures in cc in (
       (λ no. (some, λ m. not_both c.matches_one.result no (found.1 m))),
       (λ missed. search rules),
     )
