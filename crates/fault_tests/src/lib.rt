@@ -1,4 +1,4 @@
-//! Tests of runs in which something goes wrong: texts, writers, memory, threads. There is no code but these.
+//! Tests of faults, refused memory, hostile texts and worker threads. There is no code but these.
 #![tactic(auto)]
 
 #[cfg(test)]

@@ -15,7 +15,7 @@ use std::{fs, io};
 const TWO_TESTS: &[u8] =
     b"\nrunning 2 tests\ntest succeeding_test ... ok\ntest failing_test    ... FAILED\n\nfailures:\n\n---- failing_test ----\nWoops\n\n\nfailures:\n    failing_test\n\ntest result: FAILED. 1 passed; 1 failed; 0 ignored; 0 measured; 0 filtered out; finished in 0.00s\n\n";
 
-// A harness of one's own, which the README shows.
+// A harness of one's own, to which the README links.
 #[test]
 fn runs_two_tests(rt: HostRuntime) -> Result<(), Fail> {
     let alloc = rt.alloc();
@@ -77,7 +77,7 @@ fn run_line<M: Machine + 'static>(
     })
 }
 
-// Words, and the line of counts of their report: with one filter those of the Rust crate's example of the same trials.
+// Words, and the line of counts of their report: with one filter or none those of the Rust crate's example of the same trials.
 #[test]
 fn counts_as_asked(rt: HostRuntime) -> Result<(), Fail> {
     let rows: [(&[&str], &str); 13] = [

@@ -46,7 +46,7 @@ pub enum RunError {
     #[error("cannot start a worker")]
     Spawn,
     /// An outcome that a worker told differs from what it answered in the end. It is that of the trial at this place
-    /// among the selected ones, counted from 0; where there are several, of the least. Of what was written nothing is said.
+    /// among the selected ones, counted from 0. Of what was written nothing is said.
     #[error("outcome of trial {place} differs from its worker's answer")]
     Arrival { place: usize },
 }

@@ -88,7 +88,7 @@ flag_options = plus (plus (plus (plus (plus (plus (plus (plus (plus (new_app (co
     (alone (flag_rule (codes "exact"))))
     (excluding (alone (record (flag_rule (codes "quiet")) { short = Some 113 })) (codes "format"))
 
--- all options, by the readers of the values of `-Z`, `--color` and `--format` (the Rust crate's)
+-- all options, by the readers of the values of `-Z`, `--color` and `--format` (the Rust crate's, but for several filters)
 abbrev pub harness_options : ValueParser → ValueParser → ValueParser → Options
 harness_options unstable color format = plus (plus (plus (plus (plus (plus (plus flag_options
     (read_by unstable (alone unstable_rule)))

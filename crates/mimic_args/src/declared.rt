@@ -25,7 +25,7 @@ pub(super) fn with_flags<'a>(alloc: Global) -> Result<Command<'a>, AllocError>
     let list = "List tests and benchmarks, and run none";
     let nocapture = "Print output of tests at once (no effect: it is never held back)";
     let show_output = "Print output of tests that pass (no effect: it is never held back)";
-    let exact = "Match filters against whole names only";
+    let exact = "Match each FILTER exactly, not as a part of a full name";
     let test = excluded(flag(alloc, "test", test), "bench")?;
     let quiet = flag(alloc, "quiet", "Use the terse format").short('q');
     let quiet = excluded(quiet, "format")?;
@@ -108,7 +108,7 @@ pub(super) fn skip<'a>(alloc: Global) -> Arg<'a>
     ensures declared { declared_of result ≡ alone skip_rule }
     ensures local { result.global ≡ false }
 {
-    let help = "Skip tests whose full name contains FILTER; may be given many times";
+    let help = "Skip tests that match FILTER; may be given many times";
     option(alloc, "skip", "FILTER", help).action(ArgAction::Append)
 }
 
@@ -132,7 +132,7 @@ pub(super) fn filter<'a>(alloc: Global) -> Arg<'a>
     ensures declared { declared_of result ≡ alone filter_rule }
     ensures local { result.global ≡ false }
 {
-    let help = "Run only tests whose full name, `[kind] name`, contains FILTER, or one of several";
+    let help = "Run only tests whose full name, `[kind] name`, contains one of the FILTERs";
     let arg = Arg::new(alloc, "filter").value_name("FILTER").help(help);
     arg.action(ArgAction::Append)
 }

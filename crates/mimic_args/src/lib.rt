@@ -78,7 +78,7 @@ pub struct Arguments {
     pub color: Option<ColorSetting>,
     /// How the report is written.
     pub format: Option<FormatSetting>,
-    /// Patterns, one of which the trials match that are run; with none, all are.
+    /// Patterns. Where there are some, a trial that none of them matches is left out.
     pub filter: Vec<String>,
 }
 

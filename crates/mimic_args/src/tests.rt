@@ -8,7 +8,7 @@ use std::test::Fail;
 const HELP: &str = "Usage: harness [OPTIONS] [FILTER]...
 
 Arguments:
-  [FILTER]...  Run only tests whose full name, `[kind] name`, contains FILTER, or one of several
+  [FILTER]...  Run only tests whose full name, `[kind] name`, contains one of the FILTERs
 
 Options:
       --include-ignored         Run ignored tests as well
@@ -18,12 +18,12 @@ Options:
       --list                    List tests and benchmarks, and run none
       --nocapture               Print output of tests at once (no effect: it is never held back)
       --show-output             Print output of tests that pass (no effect: it is never held back)
-      --exact                   Match filters against whole names only
+      --exact                   Match each FILTER exactly, not as a part of a full name
   -q, --quiet                   Use the terse format
   -Z <FLAG>                     Unstable options (no effect) [possible values: unstable-options]
       --test-threads <THREADS>  Number of threads used for running tests in parallel
       --logfile <PATH>          Write the report to the file PATH
-      --skip <FILTER>           Skip tests whose full name contains FILTER; may be given many times
+      --skip <FILTER>           Skip tests that match FILTER; may be given many times
       --color <WHEN>            When to use colours [possible values: auto, always, never]
       --format <FORMAT>         How to write the report [possible values: pretty, terse, json]
   -h, --help                    Print help

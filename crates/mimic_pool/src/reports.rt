@@ -51,7 +51,7 @@ impl Counts {
         }
     }
 
-    // Counts one more row: as told, where it was kept or sent, else as refused.
+    // Counts one more row: as told, where it was kept or reported, else as refused.
     pub(crate) fn count<E: Drop>(&mut self, row: Result<(), E>) -> Result<(), Untold>
         requires room { (self.old.told < u64.MAX) × (self.old.refusals < u64.MAX) }
         ensures same { IsOk result ↔ IsOk row }

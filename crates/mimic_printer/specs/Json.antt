@@ -1,5 +1,5 @@
--- The report in JSON: one object on each line. Its lines, names and spaces are the Rust crate's; the spelling of texts and of
--- seconds is our own, so that each report has one text.
+-- The report in JSON: one object on each line. Its lines, names and spaces are the Rust crate's, but for the field of a kind; the
+-- spelling of texts and of seconds is our own, so that each report has one text.
 use Rattle.std.specs.Prelude.{◌≡◌, ◌≢◌, ℕ, ◌<◌, ◌^◌, Bool, true, false, nat_lt, if◌then◌else◌, List, [], ◌∷◌, ◌++◌, length, map, codes, count_by, decimal, ◌==◌, None, Some, IsUtf8}
 use Rattle.std.specs.List.{AllByRecursion, concat, flat_map}
 use Rattle.mimic_trial.specs.declared.outcome.Outcome.{Outcome}
@@ -142,6 +142,7 @@ pub record Contents : Type 0 where
   pub filtered_out : ℕ
   pub nanos : ℕ
 
+-- the counts that a report tells
 abbrev pub conclusion_of : Contents → Conclusion
 conclusion_of c = counts_of (map (λ entry. entry.outcome) c.entries) c.filtered_out
 

@@ -66,7 +66,7 @@ pub(super) fn put_outcome<'a, W: Write>(
     }
 }
 
-// Writes the line of an outcome that is told in a word: all before the name, name and kind, and all behind them.
+// Writes the line of an outcome that is one word. `end` is what follows the kind, or the name where that is empty.
 fn put_word<'a, W: Write>(
     sink: &mut Sink<W>,
     name: &'a str,

@@ -1,4 +1,4 @@
-//! Tests of whole runs, over memory: reports, lists, selection, runners. There is no code but these.
+//! Tests of selection, and of whole runs over memory: reports, lists, runners. There is no code but these.
 #![tactic(auto)]
 
 #[cfg(test)]

@@ -1,4 +1,4 @@
-//! What no clause says: whole reports as texts, flushes, and which runners were called.
+//! What no clause says: whole reports as texts, flushes, and which runners were called; and rows of selection.
 //! Expected texts are worked by hand from the format's rules, and those of the Rust crate.
 mod in_memory;
 mod reports;

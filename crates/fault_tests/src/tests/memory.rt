@@ -1,5 +1,5 @@
-//! Wants of memory: what may be answered where the Nth allocation fails, for any N. `bench/refuse_memory` makes each fail in
-//! turn. All that is handed in is made beforehand; where that fails, a test says nothing.
+//! Refused memory: what may be answered where the Nth allocation fails, for any N. `bench/refuse_memory` makes each fail in
+//! turn; without it none does, and a test shows the answer with ample memory alone. All that is handed in is made beforehand; where that fails, a test says nothing.
 use super::runs::{Left, Marks, asking, marking, outcome_with, run_into};
 use libtest_mimic::{Arguments, ArgumentsError, FormatSetting, Outcome, RunError, Trial};
 use mimic_events::{Feed, Report, read_report};

@@ -204,7 +204,7 @@ impl Task for Numbered {
     }
 }
 
-// Each of many trials is counted once, and has its two lines, whatever the number of threads.
+// Each of many trials is counted once, and the report has two lines for each, whatever the number of threads.
 #[test]
 fn counts_each_of_many(rt: HostRuntime) -> Result<(), Fail> {
     let alloc = rt.alloc();

@@ -17,7 +17,7 @@ struct Losing {
 }
 
 impl Losing {
-    fn send(&mut self, place: usize, outcome: &Outcome) -> Result<(), AllocError>
+    fn keep(&mut self, place: usize, outcome: &Outcome) -> Result<(), AllocError>
         ensures { self.new.told ≡ self.old.told }
     {
         let copy = outcome.try_clone(self.alloc)?;
@@ -34,9 +34,9 @@ impl Reports for Losing {
     fn tell(&mut self, place: usize, outcome: &Outcome) -> Result<(), Untold> {
         self.told += 1;
         if self.told % 2 == 1 {
-            let _ = self.send(place, outcome);
-            let _ = self.send(place, outcome);
-            let _ = self.send(self.places, outcome);
+            let _ = self.keep(place, outcome);
+            let _ = self.keep(place, outcome);
+            let _ = self.keep(self.places, outcome);
         }
         Ok(())
     }
