@@ -11,7 +11,7 @@ use std::test::Fail;
 const PARTS: [&[u8]; 4] = [
     b"{ \"type\": \"suite\", \"event\": \"started\", \"test_count\": 2 }\n",
     b"{ \"type\": \"test\", \"event\": \"started\", \"name\": \"a\" }\n{ \"type\": \"test\", \"name\": \"a\", \"event\": \"ok\" }\n",
-    b"{ \"type\": \"test\", \"event\": \"started\", \"name\": \"b\" }\n{ \"type\": \"test\", \"name\": \"b\", \"event\": \"failed\", \"stdout\": \"Error: \\\"Woops\\\"\\n\" }\n",
+    b"{ \"type\": \"test\", \"event\": \"started\", \"name\": \"b\", \"kind\": \"k\" }\n{ \"type\": \"test\", \"name\": \"b\", \"kind\": \"k\", \"event\": \"failed\", \"stdout\": \"Error: \\\"Woops\\\"\\n\" }\n",
     b"{ \"type\": \"suite\", \"event\": \"failed\", \"passed\": 1, \"failed\": 1, \"ignored\": 0, \"measured\": 0, \"filtered_out\": 0, \"exec_time\": 0 }\n",
 ];
 
@@ -27,7 +27,8 @@ fn joined(alloc: Global, order: [usize; 4]) -> Result<Vec<u8>, Fail> {
 fn two_tests(alloc: Global) -> Result<Vec<Trial<Marks>>, AllocError> {
     let (first, _) = marking(alloc, "a", Outcome::Passed)?;
     let (second, _) = marking(alloc, "b", outcome_with(alloc, Some("Woops"))?)?;
-    let tests = vec![in alloc; first, second]?;
+    let kind = String::from_str(alloc, "k")?;
+    let tests = vec![in alloc; first, second.with_kind(kind)]?;
     Ok(tests)
 }
 
@@ -74,7 +75,7 @@ fn wants_no_memory_for_a_list(rt: HostRuntime) -> Result<(), Fail> {
         args.list = true;
         let left = run_into(&rt, alloc, &args, two_tests(alloc)?, roomy(alloc)?);
         assert!(rt; left.is_stopped_by(None), "{threads:?}");
-        assert!(rt; left.writer.bytes.as_slice() == b"a: test\nb: test\n".as_slice());
+        assert!(rt; left.writer.bytes.as_slice() == b"a: test\n[k] b: test\n".as_slice());
         args.list = false;
         args.skip.push(String::new(alloc))?;
         let left = run_into(&rt, alloc, &args, two_tests(alloc)?, roomy(alloc)?);
@@ -96,10 +97,12 @@ fn wants_no_memory_for_a_list(rt: HostRuntime) -> Result<(), Fail> {
     Ok(())
 }
 
-fn has_rows(report: &Report, rows: &[(&str, Outcome)]) -> bool {
+fn has_rows(report: &Report, rows: &[(&str, &str, Outcome)]) -> bool {
     let mut found = report.rows.iter().zip(rows);
     report.rows.len() == rows.len()
-        && found.all(|(row, (name, outcome))| row.name.as_str() == *name && row.outcome == *outcome)
+        && found.all(|(row, (name, kind, outcome))| {
+            row.name.as_str() == *name && row.kind.as_str() == *kind && row.outcome == *outcome
+        })
 }
 
 #[test]
@@ -107,8 +110,8 @@ fn reads_whole_or_wants_memory(rt: HostRuntime) -> Result<(), Fail> {
     let alloc = rt.alloc();
     let bytes = joined(alloc, [0, 1, 2, 3])?;
     let rows = [
-        ("a", Outcome::Passed),
-        ("b", outcome_with(alloc, Some("Woops"))?),
+        ("a", "", Outcome::Passed),
+        ("b", "k", outcome_with(alloc, Some("Woops"))?),
     ];
     if let Ok(report) = read_report(alloc, &bytes) {
         assert!(rt; report.is_some_and(|report| has_rows(&report, &rows)));
@@ -122,8 +125,8 @@ fn feeds_whole_or_wants_memory(rt: HostRuntime) -> Result<(), Fail> {
     let alloc = rt.alloc();
     let bytes = joined(alloc, [0, 1, 2, 3])?;
     let rows = [
-        ("a", Outcome::Passed),
-        ("b", outcome_with(alloc, Some("Woops"))?),
+        ("a", "", Outcome::Passed),
+        ("b", "k", outcome_with(alloc, Some("Woops"))?),
     ];
     let mut feed = Feed::new(alloc)?;
     let mut is_refused = false;
@@ -156,6 +159,7 @@ fn reads_a_line_or_wants_memory(rt: HostRuntime) -> Result<(), Fail> {
     match &Arguments::from_iter(alloc, &words) {
         Ok(args) => {
             assert!(rt; args.skip.len() == 1 && args.skip[0].as_str() == "a");
+            assert!(rt; args.filter.len() == 1 && args.filter[0].as_str() == "b");
             assert!(rt; args.format == Some(FormatSetting::Json));
             assert!(rt;
                 args.logfile
