@@ -57,43 +57,44 @@ fn searches_long_names(rt: HostRuntime) -> Result<(), Fail> {
     Ok(())
 }
 
-// Filters, skip patterns, `exact`, `ignored`, and whether the trial `ab` is dropped.
+// Two filters, two skip patterns (none where they are empty), `exact`, `ignored`, and whether the trial `ab` is dropped.
 #[test]
 fn drops_trials(rt: HostRuntime) -> Result<(), Fail> {
     let alloc = rt.alloc();
     let trial = test_trial!(alloc, "ab", || Ok(()));
-    let rows: [(&[&str], &[&str], bool, bool, bool); 15] = [
-        (&[], &[], false, false, false),
-        (&["b"], &[], false, false, false),
-        (&["c"], &[], false, false, true),
-        (&["b"], &[], true, false, true),
-        (&["ab"], &[], true, false, false),
-        (&["c", "b"], &[], false, false, false),
-        (&["b", "c"], &[], false, false, false),
-        (&["c", "d"], &[], false, false, true),
-        (&["c", ""], &[], false, false, false),
-        (&["b", "a", "ab"], &[], true, false, false),
-        (&[], &["c", "a"], false, false, true),
-        (&[], &["c", "a"], true, false, false),
-        (&[], &["c", "ab"], true, false, true),
-        (&["c", "ab"], &["b"], false, false, true),
-        (&["ab"], &["c"], false, true, true),
+    let rows = [
+        (None, None, "", "", false, false, false),
+        (Some("b"), None, "", "", false, false, false),
+        (Some("c"), None, "", "", false, false, true),
+        (Some("b"), None, "", "", true, false, true),
+        (Some("ab"), None, "", "", true, false, false),
+        (Some("c"), Some("b"), "", "", false, false, false),
+        (Some("b"), Some("c"), "", "", false, false, false),
+        (Some("c"), Some("d"), "", "", false, false, true),
+        (Some("c"), Some(""), "", "", false, false, false),
+        (Some("a"), Some("ab"), "", "", true, false, false),
+        (None, None, "c", "a", false, false, true),
+        (None, None, "c", "a", true, false, false),
+        (None, None, "c", "ab", true, false, true),
+        (Some("c"), Some("ab"), "b", "", false, false, true),
+        (Some("ab"), None, "c", "", false, true, true),
     ];
-    for (filters, skips, exact, ignored, want) in rows {
+    for (first, second, skip, other_skip, exact, ignored, want) in rows {
         let mut args = Arguments::new(alloc);
-        for pattern in filters {
-            args.filter.push(String::from_str(alloc, pattern)?)?;
+        if let Some(first) = first {
+            args.filter.push(String::from_str(alloc, first)?)?;
         }
-        for pattern in skips {
-            args.skip.push(String::from_str(alloc, pattern)?)?;
+        if let Some(second) = second {
+            args.filter.push(String::from_str(alloc, second)?)?;
+        }
+        for pattern in [skip, other_skip] {
+            if !pattern.is_empty() {
+                args.skip.push(String::from_str(alloc, pattern)?)?;
+            }
         }
         args.exact = exact;
         args.ignored = ignored;
-        assert_eq!(rt;
-            is_filtered_out(&args, &trial),
-            want,
-            "{filters:?} {skips:?} {exact}"
-        );
+        assert_eq!(rt; is_filtered_out(&args, &trial), want);
     }
     Ok(())
 }
