@@ -5,6 +5,7 @@
 #![tactic(auto)]
 
 pub mod args;
+mod checks;
 pub mod outcome;
 pub mod pool;
 pub mod printer;
@@ -14,12 +15,12 @@ mod stopwatch;
 pub mod text;
 
 pub use mimic_args::{
-    Arguments, ArgumentsError, ColorSetting, FormatSetting, UnknownFormat, UnstableFlags,
+    Arguments, ArgumentsError, ColorSetting, FormatSetting, Line, UnknownFormat, UnstableFlags,
 };
 pub use mimic_pool::Spawner;
 pub use mimic_printer::{Sink, WriteFault};
 pub use mimic_trial::{
-    BenchRunner, Conclusion, Failed, Measurement, Outcome, Runner, Task, TestInfo, TestRunner,
+    BenchRunner, Case, Conclusion, Failed, Measurement, Outcome, Runner, Task, TestInfo, TestRunner,
     Trial, count_rows, run_single,
 };
 pub use running::{RunError, run, run_here};

@@ -1,5 +1,5 @@
 //! Reads arguments from a command line.
-ghost use Rattle.std.specs.Prelude.{IsFalse, ◌≡◌, ◌<◌, IfErr, IfOk, IsTrue, List, length, map};
+ghost use Rattle.std.specs.Prelude.{IsFalse, ◌≡◌, ◌<◌, IfErr, IfOk, IsTrue, List, length, map, vec_len};
 ghost use Rattle.clap.specs.Values.{kind_of};
 ghost use Rattle.clap.specs.Words.{Text};
 ghost use Rattle.clap.specs.declared.error.kind.ErrorKind.TheVariants as Kind;
@@ -107,16 +107,25 @@ impl Arguments {
         ensures meaning { IfOk result (λ a. (line : List Text) × IsMeaningOf line a) }
         ensures memory { IfErr read (λ error. error_kind error ≡ IoKind.OutOfMemory → result ≡ Err OutOfMemory) }
     {
-        let args = match read {
-            Ok(args) => args,
-            Err(error) => return Err(unread(alloc, &error)?),
-        };
-        let words: Vec<String> = args.collect(alloc)?;
-        if words.is_empty() {
-            return Err(refused_with(alloc, "cannot read the arguments")?);
-        }
+        let words = words_of(alloc, read)?;
         Arguments::from_iter(alloc, words.as_slice())
     }
+}
+
+// The words of a line, where they could be read: the program's name, and what stands behind it.
+pub(crate) fn words_of(alloc: Global, read: io::Result<Args>) -> Result<Vec<String>, ArgumentsError>
+    ensures some { IfOk result (λ words. 0 < vec_len words) }
+    ensures memory { IfErr read (λ error. error_kind error ≡ IoKind.OutOfMemory → result ≡ Err OutOfMemory) }
+{
+    let args = match read {
+        Ok(args) => args,
+        Err(error) => return Err(unread(alloc, &error)?),
+    };
+    let words: Vec<String> = args.collect(alloc)?;
+    if words.is_empty() {
+        return Err(refused_with(alloc, "cannot read the arguments")?);
+    }
+    Ok(words)
 }
 
 // Whether each value was accepted by its reader: the field is absent only where no value was given.

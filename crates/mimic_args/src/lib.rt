@@ -8,10 +8,12 @@ mod copies;
 mod declared;
 mod error;
 mod formats;
+mod line;
 mod matched;
 
 use copies::{all_copied, copied};
 pub use error::{ArgumentsError, UnknownFormat};
+pub use line::Line;
 use std::alloc::{AllocError, Global};
 
 /// When a report has colours.

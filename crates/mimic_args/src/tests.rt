@@ -1,6 +1,8 @@
 //! Command lines, as words after the program's name, and what they give. What is refused is as in the Rust crate, and
 //! help has the same options in our own words.
-use crate::{Arguments, ArgumentsError, ColorSetting, FormatSetting, UnknownFormat, UnstableFlags};
+use crate::{
+    Arguments, ArgumentsError, ColorSetting, FormatSetting, Line, UnknownFormat, UnstableFlags,
+};
 use std::test::Fail;
 
 // Worked by hand: after two spaces, how an option is written, in as many columns as the longest and two more, and then
@@ -279,5 +281,39 @@ fn settles_colours(rt: HostRuntime) -> Result<(), Fail> {
     assert!(rt; args.format_used() == FormatSetting::Pretty);
     args.quiet = true;
     assert!(rt; args.format_used() == FormatSetting::Terse);
+    Ok(())
+}
+
+// A line by its words, those of its own, each with a blank behind it, and the filter that it gives, if its options were read.
+const LINES: [(&str, &str, Option<&str>); 7] = [
+    ("program", "", Some("")),
+    ("program a b", "a b ", Some("")),
+    ("program a --", "a ", Some("")),
+    ("program a -- b", "a ", Some("b")),
+    ("program -- b", "", Some("b")),
+    ("program a -- -- --list", "a ", Some("--list")),
+    ("program --list -- --nope", "--list ", None),
+];
+
+#[test]
+fn reads_words_of_its_own(rt: HostRuntime) -> Result<(), Fail> {
+    let alloc = rt.alloc();
+    for (text, own, filter) in LINES {
+        let words: Vec<&str> = text.split(' ').collect(alloc)?;
+        let Line { own: mine, options } = Line::from_iter(alloc, words.as_slice())?;
+        let mut told = String::new(alloc);
+        for word in &mine {
+            told.push_str(word.as_str())?;
+            told.push(' ')?;
+        }
+        assert_eq!(rt; told.as_str(), own);
+        match options {
+            Ok(args) => {
+                let first = args.filter.first().map_or("", String::as_str);
+                assert_eq!(rt; Some(first), filter);
+            }
+            Err(_error) => assert!(rt; filter.is_none()),
+        }
+    }
     Ok(())
 }

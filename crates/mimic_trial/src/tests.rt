@@ -1,6 +1,7 @@
 //! Trials, outcomes and counts: calls one by one, with what no run shows of them.
 use crate::{
-    BenchRunner, Conclusion, Failed, Measurement, Outcome, Runner, Trial, count_rows, run_single,
+    BenchRunner, Conclusion, Failed, Measurement, Outcome, Runner, Task, Trial, count_rows,
+    run_single,
 };
 use std::fmt;
 use std::process::ExitCode;
@@ -154,5 +155,53 @@ fn keeps_what_is_displayed(rt: HostRuntime) -> Result<(), Fail> {
     assert_eq!(rt; Failed::from_display(rt.alloc(), &7)?.message(), Some("7"));
     assert_eq!(rt; Failed::from_display(rt.alloc(), &"")?.message(), Some(""));
     assert!(rt; Failed::from_display(rt.alloc(), &Mute).is_err());
+    Ok(())
+}
+
+// What a check's failure says, where its reason can be displayed and where not.
+#[test]
+fn fails_because_of_what_it_says(rt: HostRuntime) -> Result<(), Fail> {
+    let alloc = rt.alloc();
+    assert_eq!(rt; Failed::because(alloc, &7).message(), Some("7"));
+    assert_eq!(rt; Failed::because(alloc, &Mute).message(), None);
+    assert!(rt; Failed::unless(alloc, true, &"wrong").is_ok());
+    assert!(rt; Failed::unless_equal(alloc, &"a", &"a").is_ok());
+    let rows: [(Result<(), Failed>, Option<&str>); 3] = [
+        (Failed::unless(alloc, false, &"wrong"), Some("wrong")),
+        (Failed::unless(alloc, false, &Mute), None),
+        (
+            Failed::unless_equal(alloc, &"a", &"b"),
+            Some("assertion `left == right` failed\n  left: \"a\"\n right: \"b\""),
+        ),
+    ];
+    for (checked, message) in rows {
+        match checked {
+            Ok(()) => assert!(rt; false),
+            Err(failed) => assert_eq!(rt; failed.message(), message),
+        }
+    }
+    Ok(())
+}
+
+// Cases of one check, of which the second fails.
+#[test]
+fn makes_tests_of_cases(rt: HostRuntime) -> Result<(), Fail> {
+    let alloc = rt.alloc();
+    let cases = vec![in alloc; ("one", 1), ("two", 2), ("three", 3)]?;
+    let tests = Trial::of_cases(alloc, cases, move |number| {
+        Failed::unless(alloc, number != 2, &number)
+    })?;
+    let mut rows = [("one", None), ("two", Some("2")), ("three", None)].into_iter();
+    for test in tests {
+        let (info, case) = test.into_parts();
+        let row = rows.next();
+        assert_eq!(rt; row.map(|(name, _)| name), Some(info.name.as_str()));
+        let message = match case.run(true) {
+            Outcome::Failed(failed) => failed.message().map(|text| text.len()),
+            _ => None,
+        };
+        assert_eq!(rt; row.and_then(|(_, message)| message.map(str::len)), message);
+    }
+    assert!(rt; rows.next().is_none());
     Ok(())
 }

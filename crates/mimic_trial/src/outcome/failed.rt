@@ -1,6 +1,7 @@
 //! Why a trial failed.
-ghost use Rattle.std.specs.Prelude.{◌≡◌, ◌↔◌, Some, None, IsSome, IsTrue, IfSome, IfOk, IsUtf8, string_bytes};
+ghost use Rattle.std.specs.Prelude.{◌≡◌, ◌↔◌, Some, None, IsSome, IsTrue, IfSome, IfErr, IfOk, IsUtf8, string_bytes};
 ghost use Rattle.std.specs.Option.{option_copied};
+ghost use Rattle.std.specs.Result.{is_ok};
 ghost use Rattle.std.specs.Cmp.Rules.{comparing};
 ghost use Rattle.std.proofs.Common.{rules};
 ghost use Rattle.mimic_trial.specs.Failed.{not_measured_text, same_text};
@@ -8,7 +9,7 @@ ghost use Rattle.mimic_trial.specs.Failed.{not_measured_text, same_text};
 use crate::outcome::Outcome;
 use std::alloc::{AllocError, Global};
 use std::fmt;
-use std::fmt::Display;
+use std::fmt::{Debug, Display};
 use std::marker::Model;
 
 /// The failure of a trial, with a message or without one. Contracts see it as an optional text.
@@ -62,6 +63,40 @@ impl Failed {
         ensures kept { IfOk result (λ f. IfSome (M.output message.now) (λ text. f ≡ Some text)) }
     {
         Ok(Failed::with_message(message.to_string(alloc)?))
+    }
+
+    /// Likewise where an answer without a failure can't be used, as at the end of a runner: where an allocation failed,
+    /// or the value's own `Display`, the failure has no message.
+    pub fn because<M: Display>(alloc: Global, reason: &M) -> Self
+        ensures { IfSome result (λ text. IfSome (M.output reason.now) (λ shown. text ≡ shown)) }
+    {
+        Failed::from_display(alloc, reason).unwrap_or(Failed::without_message())
+    }
+
+    /// `Ok` where the condition holds, else the failure because of what the value displays.
+    pub fn unless<M: Display>(alloc: Global, condition: bool, reason: &M) -> Result<(), Self>
+        ensures passed { is_ok result ≡ condition }
+        ensures failed { IfErr result (λ f. IfSome f (λ text. IfSome (M.output reason.now) (λ shown. text ≡ shown))) }
+    {
+        if condition {
+            Ok(())
+        } else {
+            Err(Failed::because(alloc, reason))
+        }
+    }
+
+    /// `Ok` where both values are equal, else a failure that shows both, in the words of `assert_eq!`.
+    pub fn unless_equal<T: PartialEq + Debug>(
+        alloc: Global,
+        left: &T,
+        right: &T,
+    ) -> Result<(), Self>
+        ensures { is_ok result ≡ T.eq left.now right.now }
+    {
+        let reason = format_args!(
+            "assertion `left == right` failed\n  left: {left:?}\n right: {right:?}"
+        );
+        Failed::unless(alloc, left == right, &reason)
     }
 
     /// An equal failure. An `Err` is the allocator's word that there was no memory for its message.

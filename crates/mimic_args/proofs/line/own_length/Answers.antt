@@ -1,0 +1,28 @@
+use Rattle.std.proofs.Common.{rules, arith, ◌≡◌, ◌∙◌, ◌≤◌, ap, inl, inr, subst, sym, get_or, map}
+use Rattle.std.proofs.Math.Nat.{eq-or-lt_of_le}
+use Rattle.std.proofs.lemmas.List.{get_or-map, length-map}
+use Rattle.std.specs.Prelude.{◌≢◌}
+use Rattle.mimic_args.specs.Line.{separator}
+use Rattle.mimic_args.proofs.line.own_length.Goals as goal
+
+pub returns-then-eq : goal.returns-then-eq
+returns-then-eq g c =
+    let at : get_or (map g.S.AsStr.text c.args.words.now) c.loop-own.own separator ≡ c.as_str.result.now =
+    get_or-map g.S.AsStr.text c.args.words.now c.loop-own.own c.index-words-own.result separator (search (rules, c.loop-own-test.true)) ∙ (ap g.S.AsStr.text (sym c.index-words-own.is) ∙ sym c.as_str.ensures) in
+    let same : c.as_str.result.now ≡ separator = search (rules, c.if-eq.ensures) in
+    record {
+      within = omega (arith, length-map c.args.words.now g.S.AsStr.text, c.loop-own-test.true);
+      others = c.loop-own.invariant;
+      ended = at ∙ same;
+    }
+
+pub loop-own-preserved : goal.loop-own-preserved
+loop-own-preserved g c = λ k lt.
+    let at : get_or (map g.S.AsStr.text c.args.words.now) c.loop-own.own separator ≡ c.as_str.result.now =
+    get_or-map g.S.AsStr.text c.args.words.now c.loop-own.own c.index-words-own.result separator (search (rules, c.loop-own-test.true)) ∙ (ap g.S.AsStr.text (sym c.index-words-own.is) ∙ sym c.as_str.ensures) in
+    let other : c.as_str.result.now ≢ separator = search (rules, c.if-eq.ensures) in
+    let within : k ≤ c.loop-own.own = omega (arith, lt) in
+    elim (eq-or-lt_of_le within) [
+      | inl same ↦ subst (λ j. get_or (map g.S.AsStr.text c.args.words.now) j separator ≢ separator) (sym same) (λ e. other (sym at ∙ e))
+      | inr less ↦ c.loop-own.invariant k less
+    ]
