@@ -1,3 +1,4 @@
+pub mod Cases
 pub mod HandedOn
 pub mod Mapped
 pub mod TakenBack

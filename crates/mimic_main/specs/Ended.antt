@@ -1,10 +1,12 @@
 -- How the program ends: its exit status, and what its output has got then.
-use Rattle.std.specs.Prelude.{◌≡◌, ℕ, Bool, List, length, Option, IsNone, false, if◌then◌else◌, Result, Ok, Err, IfOk, OnErr, nat_lt}
+use Rattle.std.specs.Prelude.{◌≡◌, ◌⊎◌, ℕ, Bool, List, length, Option, IsNone, false, if◌then◌else◌, Result, Ok, Err, IfOk, OnErr, nat_lt}
 use Rattle.mimic_args.specs.declared.Arguments.{Arguments}
 use Rattle.mimic_args.specs.declared.error.ArgumentsError.{ArgumentsError}
 use Rattle.mimic_args.specs.declared.error.ArgumentsError.TheVariants.{OutOfMemory, Help, Refused}
 use Rattle.mimic_trial.specs.declared.trial.Trial.{Trial}
 use Rattle.mimic_trial.specs.Promise.{Gives}
+use Rattle.mimic_trial.specs.Case.{AreTestsOf, OutcomesOf}
+use Rattle.mimic_trial.specs.declared.case.Case.{Case}
 use Rattle.mimic_trial.specs.declared.outcome.conclusion.Conclusion.{Conclusion}
 use Rattle.libtest_mimic.specs.CommandLine.{IsMeaningOf}
 use Rattle.libtest_mimic.specs.Count.{total_of}
@@ -48,10 +50,17 @@ module _ {R : Type 0} (gives : Gives R) (default_threads : ℕ) where
   Ended auto (Ok args) trials old got status = RanLine args auto trials old got status
   Ended auto (Err error) trials old got status = status ≡ status_without error
 
-  -- the status and what the output has got are those of a program as it reads some command line
-  abbrev pub EndsSo : Bool → List (Trial R) → Option (List ℕ) → Option (List ℕ) → ℕ → Type 0
-  EndsSo auto trials old got status = (line : Result Arguments ArgumentsError) × IsReadLine line × Ended auto line trials old got status
+  -- the status is that of a program for this line, whatever its output holds
+  abbrev pub EndsAfter : Bool → Result Arguments ArgumentsError → List (Trial R) → ℕ → Type 0
+  EndsAfter auto line trials status = (old : Option (List ℕ)) × (got : Option (List ℕ)) × Ended auto line trials old got status
 
-  -- the status is that of a program as it reads some command line, whatever its output holds
+  -- the status is that of a program as it reads some command line
   abbrev pub EndsByLine : Bool → List (Trial R) → ℕ → Type 0
-  EndsByLine auto trials status = (old : Option (List ℕ)) × (got : Option (List ℕ)) × EndsSo auto trials old got status
+  EndsByLine auto trials status = (line : Result Arguments ArgumentsError) × IsReadLine line × EndsAfter auto line trials status
+
+-- the status is that of a program over tests of these cases, as it reads some command line; or it is 1, where there was no memory
+-- for the tests (our own)
+abbrev pub EndsOver : {N I F : Type 0} → (N → List ℕ) → (F → I → Result (Unit {0}) (Option (List ℕ)) → Type 0) → F → List (N × I) → ℕ → Type 0
+EndsOver {I = I} {F = F} text returns check cases status = ((trials : List (Trial (Case I F))) × AreTestsOf text check cases trials
+    × ((threads : ℕ) × (auto : Bool) × EndsByLine (OutcomesOf returns) threads auto trials status))
+    ⊎ (status ≡ 1)

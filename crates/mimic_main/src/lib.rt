@@ -13,7 +13,7 @@ mod status;
 pub use buffer::{FlushPolicy, Output};
 pub use clock::{MonotonicClock, StillClock};
 pub use colours::shows_colours;
-pub use machine::{Machine, Streams, run_program};
+pub use machine::{Machine, Streams, run_cases, run_line, run_program};
 pub use program::Program;
 pub use run::run_into;
 pub use status::Status;

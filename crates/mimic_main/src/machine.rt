@@ -1,13 +1,17 @@
 //! A whole program on the machine.
-ghost use Rattle.std.specs.Prelude.{◌≡◌, ◌≤◌, ℕ, Bool, IfOk, OnErr, true};
+ghost use Rattle.std.specs.Prelude.{◌≡◌, ◌≤◌, ℕ, All, Bool, IfOk, OnErr, false, true};
+ghost use Rattle.std.specs.Result.{is_ok};
 ghost use Rattle.libtest_mimic.specs.Trial.{AllCanRun};
-ghost use Rattle.mimic_main.specs.Ended.{EndsByLine, EndsSo, number_of};
+ghost use Rattle.mimic_trial.specs.Case.{AreTestsOf};
+ghost use Rattle.mimic_main.specs.Ended.{EndsAfter, EndsByLine, EndsOver, Ended, number_of};
 
 use crate::clock::MonotonicClock;
 use crate::colours::shows_colours;
 use crate::program::Program;
 use crate::status::Status;
-use libtest_mimic::{Arguments, RunError, Spawner, Task, Trial};
+use libtest_mimic::{Arguments, ArgumentsError, Case, Failed, RunError, Spawner, Task, Trial};
+use std::alloc::Global;
+use std::convert::AsStr;
 use std::fs::Files;
 use std::io::{IsTerminal, Write};
 use std::rt::{Clock, Env, Stderr, Stdout};
@@ -53,14 +57,66 @@ pub fn run_program<M: Machine + 'static, R: Task + Send + 'static>(
     ensures made { IfOk tests (λ made. (threads : ℕ) × (auto : Bool) × EndsByLine R.gives threads auto made.items (number_of result)) }
     ensures refused { OnErr tests (number_of result ≡ 1) }
 {
+    run_line(rt, name, Arguments::from_args(rt, rt.alloc()), tests)
+}
+
+/// Likewise for a line that was read already, as by a program with words of its own ([`Line`](crate::Line)).
+pub fn run_line<M: Machine + 'static, R: Task + Send + 'static>(
+    rt: &M,
+    name: &str,
+    line: Result<Arguments, ArgumentsError>,
+    tests: Result<Vec<Trial<R>>, RunError>,
+) -> Status
+    requires { IfOk tests (λ made. AllCanRun R.can_run made.items) }
+    ensures made { IfOk tests (λ made. (threads : ℕ) × (auto : Bool) × EndsAfter R.gives threads auto line made.items (number_of result)) }
+    ensures refused { OnErr tests (number_of result ≡ 1) }
+{
     let out: Stdout = rt.stdout();
     let mut err: Stderr = rt.stderr();
-    let (_, status) = run_program_on(rt, rt, rt, rt, name, tests, out, &mut err);
+    let (_, status) = run_line_on(rt, rt, rt, rt, name, line, tests, out, &mut err);
     status
 }
 
-// Likewise on a machine whose parts are handed in.
-pub(crate) fn run_program_on<
+/// Likewise for the program's command line, over cases of one check: each is its name and its input, and passes where the
+/// check returns `Ok`.
+pub fn run_cases<
+    M: Machine + 'static,
+    N: AsStr + Drop,
+    I: Drop + Send + 'static,
+    F: FnOnce(I) -> Result<(), Failed> + Copy + Drop + Send + 'static,
+    X: Into<RunError>,
+>(rt: &M, name: &str, cases: Result<Vec<(N, I)>, X>, check: F) -> Status
+    requires { IfOk cases (λ made. All (λ case. F.pre check case.1) made.items) }
+    ensures made { IfOk cases (λ made. EndsOver N.text F.post check made.items (number_of result)) }
+    ensures refused { OnErr cases (number_of result ≡ 1) }
+{
+    run_program(rt, name, trials_of(rt.alloc(), cases, check))
+}
+
+// The trials of the cases, if these could be made.
+fn trials_of<
+    N: AsStr + Drop,
+    I: Drop,
+    F: FnOnce(I) -> Result<(), Failed> + Copy + Drop,
+    X: Into<RunError>,
+>(
+    alloc: Global,
+    cases: Result<Vec<(N, I)>, X>,
+    check: F,
+) -> Result<Vec<Trial<Case<I, F>>>, RunError>
+    requires { IfOk cases (λ made. All (λ case. F.pre check case.1) made.items) }
+    ensures tests { IfOk result (λ tests. IfOk cases (λ made. AreTestsOf N.text check made.items tests.items)) }
+    ensures runnable { IfOk result (λ tests. AllCanRun (λ case. F.pre case.check case.input) tests.items) }
+    ensures refused { OnErr cases (is_ok result ≡ false) }
+{
+    match cases {
+        Ok(cases) => Ok(Trial::of_cases(alloc, cases, check)?),
+        Err(error) => Err(error.into()),
+    }
+}
+
+// A line on a machine whose parts are handed in.
+pub(crate) fn run_line_on<
     T: Spawner + 'static,
     F: Files,
     V: Env + AllocGlobal,
@@ -74,17 +130,21 @@ pub(crate) fn run_program_on<
     env: &V,
     readings: &K,
     name: &str,
+    line: Result<Arguments, ArgumentsError>,
     tests: Result<Vec<Trial<R>>, RunError>,
     out: O,
     err: &mut E,
 ) -> (O, Status)
     requires { IfOk tests (λ made. AllCanRun R.can_run made.items) }
-    ensures made { IfOk tests (λ made. (threads : ℕ) × (auto : Bool) × EndsSo R.gives threads auto made.items (O.contents out) (O.contents result.0) (number_of result.1)) }
+    ensures made { IfOk tests (λ made. (threads : ℕ) × (auto : Bool) × Ended R.gives threads auto line made.items (O.contents out) (O.contents result.0) (number_of result.1)) }
     ensures refused { OnErr tests ((number_of result.1 ≡ 1) × (result.0 ≡ out)) }
 {
     let program = telling(name, threads_at_once(rt), shows_colours(env, &out));
     match tests {
-        Ok(tests) => program.run_on(rt, files, env, readings, tests, out, err),
+        Ok(tests) => {
+            let clock = MonotonicClock::new(readings);
+            program.harness_run(rt, files, env.alloc(), line, tests, out, err, clock)
+        }
         Err(error) => (out, program.refuse(error, err)),
     }
 }
@@ -128,37 +188,10 @@ impl Program<'_> {
     {
         let out: Stdout = rt.stdout();
         let mut err: Stderr = rt.stderr();
-        let (_, status) = self.run_on(rt, rt, rt, rt, tests, out, &mut err);
+        let line = Arguments::from_args(rt, rt.alloc());
+        let clock = MonotonicClock::new(rt);
+        let (_, status) = self.harness_run(rt, rt, rt.alloc(), line, tests, out, &mut err, clock);
         status
-    }
-
-    // Likewise on a machine whose parts are handed in.
-    fn run_on<
-        T: Spawner + 'static,
-        F: Files,
-        V: Env + AllocGlobal,
-        K: Clock,
-        R: Task + Send + 'static,
-        O: Write,
-        E: Write,
-    >(
-        &self,
-        rt: &T,
-        files: &F,
-        env: &V,
-        readings: &K,
-        tests: Vec<Trial<R>>,
-        out: O,
-        err: &mut E,
-    ) -> (O, Status)
-        requires runnable { AllCanRun R.can_run tests.items }
-        requires some_thread { 1 ≤ self.now.threads }
-        ensures { EndsSo R.gives self.now.threads self.now.auto_colours tests.items (O.contents out) (O.contents result.0) (number_of result.1) }
-    {
-        let alloc = env.alloc();
-        let line = Arguments::from_args(env, alloc);
-        let clock = MonotonicClock::new(readings);
-        self.harness_run(rt, files, alloc, line, tests, out, err, clock)
     }
 
     /// What `main` is to return where making the trials may be refused: what their run answered, or 1 after the refusal

@@ -4,7 +4,7 @@ ghost use Rattle.std.specs.Prelude.{◌≤◌};
 ghost use Rattle.libtest_mimic.specs.Trial.{AllCanRun};
 
 use super::clocks::clock_of;
-use crate::machine::run_program_on;
+use crate::machine::run_line_on;
 use crate::{Machine, Program, StillClock};
 use libtest_mimic::{
     Arguments, ArgumentsError, Failed, FormatSetting, Outcome, RunError, Task, Trial,
@@ -452,12 +452,13 @@ fn run_on_machine<M: Machine + 'static, R: Task + Send + 'static>(
     let bytes = Vec::new(alloc);
     let screen = Screen { is_terminal, bytes };
     let mut err: Vec<u8> = Vec::new(alloc);
-    let (out, status) = run_program_on(
+    let (out, status) = run_line_on(
         rt,
         rt,
         &env,
         &clock,
         "program",
+        Arguments::from_args(&env, alloc),
         Ok(tests),
         screen,
         &mut err,
