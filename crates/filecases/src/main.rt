@@ -1,0 +1,52 @@
+//! Tests one function against files: `NAME.in` holds what it is given, and `NAME.out` what it must answer.
+//!
+//! To test a function of your own, copy this crate and exchange the body of `answer`.
+#![tactic(auto)]
+
+mod case;
+mod folders;
+#[cfg(test)]
+mod tests;
+
+use folders::trials_below;
+use libtest_mimic::{Arguments, ArgumentsError, Line};
+use mimic_main::{Status, run_line};
+use std::alloc::{AllocError, Global};
+
+const USAGE: &str = "\
+usage: filecases DIR.. [-- OPTIONS]
+
+Runs a trial for each pair NAME.in and NAME.out below the folders.
+`filecases -- --help` shows the options.
+";
+
+// The function under test. Its error may be any that can be shown.
+pub(crate) fn answer(alloc: Global, input: &str) -> Result<String, AllocError> {
+    input.to_uppercase(alloc)
+}
+
+fn main(rt: HostRuntime) -> Status {
+    let alloc = rt.alloc();
+    let (options, trials) = match asked(alloc, Line::from_args(&rt, alloc)) {
+        Ok((options, folders)) => (Ok(options), trials_below(rt, folders.as_slice())),
+        Err(error) => (Err(error), Ok(Vec::new(alloc))),
+    };
+    run_line(&rt, "filecases", options, trials)
+}
+
+// The options and the folders that the line names; or help, or why the line is refused.
+fn asked(alloc: Global, line: Line) -> Result<(Arguments, Vec<String>), ArgumentsError> {
+    let options = line.options?;
+    let folders = line.own;
+    let usage = String::from_str(alloc, USAGE)?;
+    if folders
+        .iter()
+        .any(|word| matches!(word.as_str(), "--help" | "-h"))
+    {
+        Err(ArgumentsError::Help(usage))
+    } else if folders.is_empty() || folders.iter().any(|word| word.starts_with('-')) {
+        Err(ArgumentsError::Refused(usage))
+    } else {
+        Ok((options, folders))
+    }
+}
