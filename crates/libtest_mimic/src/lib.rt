@@ -20,8 +20,8 @@ pub use mimic_args::{
 pub use mimic_pool::Spawner;
 pub use mimic_printer::{Sink, WriteFault};
 pub use mimic_trial::{
-    BenchRunner, Case, Conclusion, Failed, Measurement, Outcome, Runner, Task, TestInfo, TestRunner,
-    Trial, count_rows, run_single,
+    BenchRunner, Case, Conclusion, Failed, Measurement, Outcome, Runner, Task, TestInfo,
+    TestRunner, Trial, count_rows, run_single,
 };
 pub use running::{RunError, run, run_here};
 pub use stopwatch::{Clock, Stopwatch};
