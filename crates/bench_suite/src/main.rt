@@ -1,8 +1,9 @@
 //! Measures a run of many trivial tests:
-//! `bench_suite N FORMAT THREADS [fail_every K] [captures 1] [boxes 0] [logfile PATH]`
+//! `bench_suite N FORMAT THREADS [fail_every K] [captures 1] [work K] [boxes 0] [logfile PATH]`
 //!
 //! The tests are `test_000000` and so on; every K-th fails. Each is a boxed closure: with `captures 1` one that holds
-//! its test's number, as a closure over a path would. With `boxes 0` each is a value of no size, and none may fail.
+//! its test's number, as a closure over a path would, and with `work K` it goes through K thousand rounds from it. With
+//! `boxes 0` each is a value of no size, and none may fail.
 //!
 //! The report goes to standard output or the logfile. Its own time is that of a clock that stands still, so that the
 //! same words always give the same report. What was measured goes to standard error: how long making the tests and
@@ -11,6 +12,8 @@
 
 mod asked;
 mod measured;
+#[cfg(test)]
+mod tests;
 
 ghost use Rattle.libtest_mimic.specs.Trial.{AllCanRun};
 
@@ -50,8 +53,9 @@ macro_rules! boxed_tests {
             let runner: Box<dyn FnOnce() -> Result<(), Failed> + Send> = if fails {
                 let alloc = $alloc;
                 Box::new($alloc, move || Err(failure(alloc))).map_err(RunError::from)?
-            } else if $asked.runners == Runners::Captures {
-                Box::new($alloc, move || passes(i)).map_err(RunError::from)?
+            } else if $asked.runners == Runners::Captures || $asked.work > 0 {
+                let work = $asked.work;
+                Box::new($alloc, move || works(i, work)).map_err(RunError::from)?
             } else {
                 Box::new($alloc, || Ok(())).map_err(RunError::from)?
             };
@@ -61,9 +65,15 @@ macro_rules! boxed_tests {
     }};
 }
 
-// What a test does with its number, of which there is none so great.
-fn passes(number: usize) -> Result<(), Failed> {
-    if number == usize::MAX {
+// Goes through so many thousand rounds of xorshift64 from the test's number, none of which ends in 0.
+fn works(number: usize, work: u64) -> Result<(), Failed> {
+    let mut state = (number as u64).wrapping_add(1);
+    for _ in 0..work.saturating_mul(1000) {
+        state ^= state << 13;
+        state ^= state >> 7;
+        state ^= state << 17;
+    }
+    if state == 0 {
         Err(Failed::without_message())
     } else {
         Ok(())

@@ -19,17 +19,13 @@ pub(crate) enum FileCase<M> {
 
 impl<M: Files + AllocGlobal + Drop> Task for FileCase<M> {
     fn run(self, _test_mode: bool) -> Outcome {
-        let checked = match self {
+        match self {
             FileCase::Pair {
                 rt,
                 input,
                 expected,
-            } => check(&rt, &input, &expected),
-            FileCase::Fault(message) => Err(Failed::with_message(message)),
-        };
-        match checked {
-            Ok(()) => Outcome::Passed,
-            Err(failed) => Outcome::Failed(failed),
+            } => check(&rt, &input, &expected).into(),
+            FileCase::Fault(message) => Outcome::Failed(Failed::with_message(message)),
         }
     }
 }

@@ -9,7 +9,7 @@ mod folders;
 mod tests;
 
 use folders::trials_below;
-use libtest_mimic::{Arguments, ArgumentsError, Line};
+use libtest_mimic::Line;
 use mimic_main::{Status, run_line};
 use std::alloc::{AllocError, Global};
 
@@ -27,26 +27,10 @@ pub(crate) fn answer(alloc: Global, input: &str) -> Result<String, AllocError> {
 
 fn main(rt: HostRuntime) -> Status {
     let alloc = rt.alloc();
-    let (options, trials) = match asked(alloc, Line::from_args(&rt, alloc)) {
+    let line = Line::from_args(&rt, alloc);
+    let (options, trials) = match line.into_operands(alloc, 1..=usize::MAX, USAGE) {
         Ok((options, folders)) => (Ok(options), trials_below(rt, folders.as_slice())),
         Err(error) => (Err(error), Ok(Vec::new(alloc))),
     };
     run_line(&rt, "filecases", options, trials)
-}
-
-// The options and the folders that the line names; or help, or why the line is refused.
-fn asked(alloc: Global, line: Line) -> Result<(Arguments, Vec<String>), ArgumentsError> {
-    let options = line.options?;
-    let folders = line.own;
-    let usage = String::from_str(alloc, USAGE)?;
-    if folders
-        .iter()
-        .any(|word| matches!(word.as_str(), "--help" | "-h"))
-    {
-        Err(ArgumentsError::Help(usage))
-    } else if folders.is_empty() || folders.iter().any(|word| word.starts_with('-')) {
-        Err(ArgumentsError::Refused(usage))
-    } else {
-        Ok((options, folders))
-    }
 }

@@ -8,6 +8,8 @@ use mimic_faulty::{Fault, FaultyWriter, Place};
 use mimic_main::{Machine, StillClock};
 use std::alloc::{AllocError, Global};
 use std::env::FillError;
+use std::io::Eprint;
+use std::process::{ExitCode, Termination};
 use std::rt::Env;
 use std::test::Fail;
 use std::{fs, io};
@@ -41,27 +43,27 @@ fn runs_two_tests(rt: HostRuntime) -> Result<(), Fail> {
 // What a run of the 17 trials leaves.
 #[derive(Drop)]
 struct Left {
-    status: u8,
+    status: ExitCode,
     out: String,
     err: String,
 }
 
 // Runs the trials in one thread, with these words on the command line.
-fn run_words<M: Machine + 'static>(rt: &M, asked: &[&str]) -> Result<Left, Fail> {
+fn run_words<M: Machine + Eprint + 'static>(rt: &M, asked: &[&str]) -> Result<Left, Fail> {
     let mut words = vec![in rt.alloc(); "--test-threads", "1"]?;
     words.extend_from_slice(asked)?;
     run_only(rt, &words)
 }
 
 // Runs the trials with these words alone on the command line.
-fn run_only<M: Machine + 'static>(rt: &M, asked: &[&str]) -> Result<Left, Fail> {
+fn run_only<M: Machine + Eprint + 'static>(rt: &M, asked: &[&str]) -> Result<Left, Fail> {
     let mut words = vec![in rt.alloc(); "harness"]?;
     words.extend_from_slice(asked)?;
     run_line(rt, Arguments::from_iter(rt.alloc(), words.as_slice()))
 }
 
 // Runs the trials as this line asks.
-fn run_line<M: Machine + 'static>(
+fn run_line<M: Machine + Eprint + 'static>(
     rt: &M,
     line: Result<Arguments, ArgumentsError>,
 ) -> Result<Left, Fail> {
@@ -71,7 +73,7 @@ fn run_line<M: Machine + 'static>(
     let mut err: Vec<u8> = Vec::new(alloc);
     let (out, status) = HARNESS.harness_run(rt, rt, alloc, line, trials, out, &mut err, StillClock);
     Ok(Left {
-        status: status.into_number(),
+        status: status.report(rt),
         out: String::from_utf8(out)?,
         err: String::from_utf8(err)?,
     })
@@ -138,7 +140,10 @@ fn counts_as_asked(rt: HostRuntime) -> Result<(), Fail> {
         for left in [run_words(&rt, asked)?, run_only(&rt, asked)?] {
             assert!(rt; left.out.as_str().contains(counts), "{asked:?}");
             let has_failed = !counts.contains("0 failed");
-            assert_eq!(rt; left.status, if has_failed { 101 } else { 0 });
+            assert_eq!(rt;
+                left.status,
+                ExitCode::from(if has_failed { 101 } else { 0 })
+            );
             assert!(rt; left.err.is_empty());
         }
     }
@@ -172,7 +177,7 @@ fn heeds_the_number_of_threads(rt: HostRuntime) -> Result<(), Fail> {
     for threads in 1..=20 {
         let number = format!(in alloc; "{threads}")?;
         let left = run_only(&rt, &["--test-threads", number.as_str()])?;
-        assert_eq!(rt; left.status, 101, "{threads}");
+        assert_eq!(rt; left.status, ExitCode::from(101), "{threads}");
         assert!(rt; left.err.is_empty(), "{threads}");
         assert!(rt;
             are_reordered(alloc, left.out.as_str(), one.out.as_str())?,
@@ -180,15 +185,15 @@ fn heeds_the_number_of_threads(rt: HostRuntime) -> Result<(), Fail> {
         );
     }
     let none = run_only(&rt, &["--test-threads", "0"])?;
-    assert_eq!(rt; none.status, 1);
+    assert_eq!(rt; none.status, ExitCode::from(1));
     assert!(rt; none.out.is_empty());
     assert_eq!(rt; none.err.as_str(), "harness: no threads to run trials\n");
     let list = run_only(&rt, &["--test-threads", "0", "--list", "a"])?;
     assert_eq!(rt; list.out.as_str(), LISTED);
-    assert_eq!(rt; list.status, 0);
+    assert_eq!(rt; list.status, ExitCode::from(0));
     let empty = run_only(&rt, &["--test-threads", "0", "zebra"])?;
     assert_eq!(rt; empty.out.as_str(), NONE_SELECTED);
-    assert_eq!(rt; empty.status, 0);
+    assert_eq!(rt; empty.status, ExitCode::from(0));
     Ok(())
 }
 
@@ -203,7 +208,7 @@ const MEASURED: &str =
 fn measures_ignored_benchmarks(rt: HostRuntime) -> Result<(), Fail> {
     let left = run_words(&rt, &["--bench", "--include-ignored"])?;
     assert_eq!(rt; left.out.as_str(), MEASURED);
-    assert_eq!(rt; left.status, 101);
+    assert_eq!(rt; left.status, ExitCode::from(101));
     assert!(rt; left.err.is_empty());
     Ok(())
 }
@@ -301,14 +306,14 @@ fn answers_as_the_rust_crate(rt: HostRuntime) -> Result<(), Fail> {
     for want in &answers {
         let left = run_words(&rt, want.asked)?;
         assert_eq!(rt; left.out.as_str(), want.out);
-        assert_eq!(rt; left.status, want.status);
+        assert_eq!(rt; left.status, ExitCode::from(want.status));
         let left = run_only(&rt, want.asked)?;
         assert!(rt;
             are_reordered(alloc, left.out.as_str(), want.out)?,
             "{}",
             left.out
         );
-        assert_eq!(rt; left.status, want.status);
+        assert_eq!(rt; left.status, ExitCode::from(want.status));
     }
     Ok(())
 }
@@ -327,7 +332,7 @@ fn reports_a_kind_in_json(rt: HostRuntime) -> Result<(), Fail> {
         run_only(&rt, &["--format", "json", "fly"])?,
     ] {
         assert_eq!(rt; left.out.as_str(), FLY);
-        assert_eq!(rt; left.status, 0);
+        assert_eq!(rt; left.status, ExitCode::from(0));
     }
     Ok(())
 }
@@ -336,7 +341,7 @@ fn reports_a_kind_in_json(rt: HostRuntime) -> Result<(), Fail> {
 #[test]
 fn reports_in_json(rt: HostRuntime) -> Result<(), Fail> {
     let left = run_words(&rt, &["--format", "json", "--color", "always"])?;
-    assert_eq!(rt; left.status, 101);
+    assert_eq!(rt; left.status, ExitCode::from(101));
     let out = left.out.as_str();
     assert!(rt; out.ends_with("}\n"));
     assert_eq!(rt; out.lines().count(), 36);
@@ -388,7 +393,7 @@ fn lists_as_asked(rt: HostRuntime) -> Result<(), Fail> {
     for (words, list) in rows {
         let left = run_words(&rt, words)?;
         assert_eq!(rt; left.out.as_str(), list);
-        assert_eq!(rt; left.status, 0);
+        assert_eq!(rt; left.status, ExitCode::from(0));
     }
     Ok(())
 }
@@ -402,13 +407,13 @@ fn refuses_lines(rt: HostRuntime) -> Result<(), Fail> {
     ];
     for words in rows {
         let left = run_words(&rt, words)?;
-        assert_eq!(rt; left.status, 2);
+        assert_eq!(rt; left.status, ExitCode::from(2));
         assert!(rt; left.out.is_empty());
         assert!(rt; left.err.as_str().starts_with("error: "));
         assert!(rt; left.err.as_str().ends_with("\n"));
     }
     let left = run_words(&rt, &["--help"])?;
-    assert_eq!(rt; left.status, 0);
+    assert_eq!(rt; left.status, ExitCode::from(0));
     assert!(rt; left.out.as_str().ends_with("\n"));
     assert!(rt; left.err.is_empty());
     Ok(())
@@ -437,7 +442,7 @@ fn tells_why_a_line_gave_nothing(rt: HostRuntime) -> Result<(), Fail> {
             &mut err,
             StillClock,
         );
-        assert_eq!(rt; answered.into_number(), status);
+        assert_eq!(rt; answered.report(&rt), ExitCode::from(status));
         assert!(rt; out.is_empty());
         assert!(rt; err.as_slice() == text);
     }
@@ -457,11 +462,11 @@ fn writes_a_logfile(rt: HostRuntime) -> Result<(), Fail> {
     let left = run_words(&rt, &["--list", "a", option.as_str()])?;
     let written = fs::read(&rt, path)?;
     fs::remove_file(&rt, path)?;
-    assert_eq!(rt; left.status, 0);
+    assert_eq!(rt; left.status, ExitCode::from(0));
     assert!(rt; left.out.is_empty());
     assert!(rt; written.as_slice() == LISTED.as_bytes());
     let left = run_words(&rt, &["--logfile", "/nowhere/to/be/found"])?;
-    assert_eq!(rt; left.status, 1);
+    assert_eq!(rt; left.status, ExitCode::from(1));
     assert!(rt; left.out.is_empty());
     assert_eq!(rt; left.err.as_str(), "harness: cannot create the logfile\n");
     Ok(())
@@ -526,7 +531,7 @@ fn refuses_words_that_are_no_text(rt: HostRuntime) -> Result<(), Fail> {
         let (out, answered) = HARNESS.harness_run(
             &rt, &rt, alloc, line, trials, out, &mut err, StillClock,
         );
-        assert_eq!(rt; answered.into_number(), status);
+        assert_eq!(rt; answered.report(&rt), ExitCode::from(status));
         assert!(rt; out.as_slice() == on_out.as_bytes());
         assert!(rt; err.as_slice() == on_err.as_bytes());
     }
@@ -553,7 +558,7 @@ fn tells_of_a_full_output(rt: HostRuntime) -> Result<(), Fail> {
         let (_, answered) = HARNESS.harness_run(
             &rt, &rt, alloc, line, trials, out, &mut err, StillClock,
         );
-        assert_eq!(rt; answered.into_number(), status);
+        assert_eq!(rt; answered.report(&rt), ExitCode::from(status));
         let text: &[u8] = if status == 1 {
             b"harness: cannot write the report\n"
         } else {

@@ -28,24 +28,35 @@ pub(crate) enum JsonFile<M> {
     Fault(String),
 }
 
-/// A trial for each file of the folder, by name. A folder that can't be read is a trial that fails.
+/// A trial for each file of the folders, by name. A folder that can't be read is a trial that fails.
 pub(crate) fn trials_in<M: Files + AllocGlobal + Copy + Drop>(
     rt: M,
-    folder: &String,
+    folders: &[String],
 ) -> Result<Vec<Trial<JsonFile<M>>>, RunError> {
     let alloc = rt.alloc();
     let mut trials = Vec::new(alloc);
-    match names_in(&rt, folder) {
-        Ok(names) => {
-            for name in names {
-                if let Some(expectation) = Expectation::of(name.as_str()) {
-                    trials.push(trial(rt, folder, name, expectation)?)?;
-                }
+    for folder in folders {
+        match names_in(&rt, folder) {
+            Ok(names) => trials.append(&mut trials_of(rt, folder, names)?)?,
+            Err(error) => {
+                let message = format!(in alloc; "cannot read the folder {folder}: {error}")?;
+                trials.push(Trial::new(folder.clone()?, JsonFile::Fault(message)))?;
             }
         }
-        Err(error) => {
-            let message = format!(in alloc; "cannot read the folder {folder}: {error}")?;
-            trials.push(Trial::new(folder.clone()?, JsonFile::Fault(message)))?;
+    }
+    Ok(trials)
+}
+
+// A trial for each of the names that is of a test.
+fn trials_of<M: Files + AllocGlobal + Copy + Drop>(
+    rt: M,
+    folder: &String,
+    names: Vec<String>,
+) -> Result<Vec<Trial<JsonFile<M>>>, RunError> {
+    let mut trials = Vec::new(rt.alloc());
+    for name in names {
+        if let Some(expectation) = Expectation::of(name.as_str()) {
+            trials.push(trial(rt, folder, name, expectation)?)?;
         }
     }
     Ok(trials)
@@ -100,17 +111,13 @@ impl Expectation {
 
 impl<M: Files + AllocGlobal + Drop> Task for JsonFile<M> {
     fn run(self, _test_mode: bool) -> Outcome {
-        let checked = match self {
+        match self {
             JsonFile::Text {
                 rt,
                 path,
                 expectation,
-            } => check(&rt, &path, expectation),
-            JsonFile::Fault(message) => Err(Failed::with_message(message)),
-        };
-        match checked {
-            Ok(()) => Outcome::Passed,
-            Err(failed) => Outcome::Failed(failed),
+            } => check(&rt, &path, expectation).into(),
+            JsonFile::Fault(message) => Outcome::Failed(Failed::with_message(message)),
         }
     }
 }

@@ -1,7 +1,10 @@
 -- A command line with words of the program's own.
-use Rattle.std.specs.Prelude.{◌≡◌, ◌≢◌, ◌≤◌, ◌<◌, ◌+◌, ◌++◌, ℕ, List, codes, drop, get_or, IfOk, length, map, string_bytes, take}
+use Rattle.std.specs.Prelude.{◌≡◌, ◌≢◌, ◌≤◌, ◌<◌, ◌+◌, ◌++◌, ◌⊎◌, ℕ, Bool, List, None, Some, codes, drop, get_or, IfOk, length, map, nat_eq, string_bytes, take}
+use Rattle.std.specs.List.{find}
 use Rattle.clap.specs.Walk.{Text}
 use Rattle.mimic_args.specs.CommandLine.{IsMeaningOf}
+use Rattle.mimic_args.specs.declared.error.ArgumentsError.{ArgumentsError}
+use Rattle.mimic_args.specs.declared.error.ArgumentsError.TheVariants.{OutOfMemory, Help, Refused}
 use Rattle.mimic_args.specs.declared.line.Line.{Line}
 
 -- what ends a program's own words (our own)
@@ -21,3 +24,28 @@ pub record IsLine (words : List Text) (line : Line) : Type 0 where
   pub is_own : IsOwnLength (drop 1 words) own_length
   pub own : map string_bytes line.own.items ≡ take own_length (drop 1 words)
   pub options : IfOk line.options (IsMeaningOf (take 1 words ++ drop (own_length + 1) (drop 1 words)))
+
+-- the program's own words on a line
+abbrev pub own_words : Line → List Text
+own_words line = map string_bytes line.own.items
+
+-- a word is an option: it begins with a hyphen (our own)
+abbrev pub is_option : Text → Bool
+is_option word = nat_eq (get_or word 0 0) 45
+
+-- the first option among the words asks for help (our own)
+abbrev pub AsksForHelp : List Text → Type 0
+AsksForHelp words = (find is_option words ≡ Some (codes "--help")) ⊎ (find is_option words ≡ Some (codes "-h"))
+
+-- the words are operands, from the least to the most that are taken, and no option is among them (our own)
+pub record AreOperands (least most : ℕ) (words : List Text) : Type 0 where
+  pub no_option : find is_option words ≡ None
+  pub enough : least ≤ length words
+  pub no_more : length words ≤ most
+
+-- why words are not taken for operands: an allocation failed, or the usage is shown, since help was asked for or since
+-- they are none (our own)
+abbrev pub RefusesOperands : Text → ℕ → ℕ → List Text → ArgumentsError → Type 0
+RefusesOperands usage least most words OutOfMemory = Unit {0}
+RefusesOperands usage least most words (Help text) = (string_bytes text ≡ usage) × AsksForHelp words
+RefusesOperands usage least most words (Refused text) = (string_bytes text ≡ usage) × (AsksForHelp words → ⊥) × (AreOperands least most words → ⊥)

@@ -5,6 +5,7 @@ ghost use Rattle.clap.specs.Words.{Text};
 ghost use Rattle.clap.specs.declared.error.kind.ErrorKind.TheVariants as Kind;
 ghost use Rattle.clap.specs.declared.builder.value_parser.ValueParser.{ValueParser};
 ghost use Rattle.std.specs.IoError.{error_kind};
+ghost use Rattle.std.specs.Vec.Iter.{into_iter_len};
 ghost use Rattle.std.specs.declared.io.ErrorKind.TheVariants as IoKind;
 ghost use Rattle.mimic_args.specs.declared.error.ArgumentsError.TheVariants.{OutOfMemory};
 ghost use Rattle.mimic_args.specs.CommandLine.{IsToldAs, AreReaders, IsMeaningOf, harness_options, options_of};
@@ -116,6 +117,7 @@ impl Arguments {
 pub(crate) fn words_of(alloc: Global, read: io::Result<Args>) -> Result<Vec<String>, ArgumentsError>
     ensures some { IfOk result (λ words. 0 < vec_len words) }
     ensures memory { IfErr read (λ error. error_kind error ≡ IoKind.OutOfMemory → result ≡ Err OutOfMemory) }
+    ensures read { IfOk read (λ words. 0 < into_iter_len words → IfErr result (λ error. error ≡ OutOfMemory)) }
 {
     let args = match read {
         Ok(args) => args,

@@ -1,4 +1,17 @@
 //! What is asked of a run: its arguments, and the command line that they are read from. A layer of `libtest_mimic`.
+//!
+//! ```rust
+//! use mimic_args::{Arguments, Line};
+//!
+//! let words = ["program", "--test-threads=2", "--skip", "slow", "sort"];
+//! let args = Arguments::from_iter(alloc, &words)?;
+//! assert_eq!(rt; args.test_threads, Some(2));
+//! assert_eq!(rt; args.skip.first().map(String::as_str), Some("slow"));
+//! assert_eq!(rt; args.filter.first().map(String::as_str), Some("sort"));
+//! let line = Line::from_iter(alloc, &["program", "cases", "--", "--list"])?;
+//! assert_eq!(rt; line.own.first().map(String::as_str), Some("cases"));
+//! assert!(rt; line.options?.list);
+//! ```
 #![tactic(auto)]
 
 ghost use Rattle.std.specs.Prelude.{◌≡◌, IfOk};

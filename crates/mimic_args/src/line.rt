@@ -1,7 +1,9 @@
 //! A command line with words of the program's own.
-ghost use Rattle.std.specs.Prelude.{◌<◌, IfOk, List, length, map};
+ghost use Rattle.std.specs.Prelude.{◌≡◌, ◌<◌, IfErr, IfOk, List, length, map, option_map, string_bytes};
+ghost use Rattle.std.specs.List.{find};
+ghost use Rattle.std.specs.Range.{range_inclusive_end, range_inclusive_start};
 ghost use Rattle.clap.specs.Words.{Text};
-ghost use Rattle.mimic_args.specs.Line.{IsLine, IsOwnLength};
+ghost use Rattle.mimic_args.specs.Line.{AreOperands, IsLine, IsOwnLength, RefusesOperands, is_option, own_words};
 
 use crate::command_line::words_of;
 use crate::copies::all_copied;
@@ -9,6 +11,7 @@ use crate::{Arguments, ArgumentsError};
 use std::alloc::{AllocError, Global};
 use std::convert::AsStr;
 use std::env::Args;
+use std::ops::RangeInclusive;
 use std::rt::Env;
 use std::{env, io};
 
@@ -53,12 +56,56 @@ impl Line {
         }
     }
 
+    /// What the options ask for, and the program's own words where they are as many operands as it takes.
+    ///
+    /// The first of them that begins with `-` asks for help, as `--help` or `-h`, or refuses the line: both errors have
+    /// the text `usage`, and so has the refusal of too few or too many operands. Where the options gave an error, that is
+    /// returned before any of these.
+    pub fn into_operands(
+        self,
+        alloc: Global,
+        count: RangeInclusive<usize>,
+        usage: &str,
+    ) -> Result<(Arguments, Vec<String>), ArgumentsError>
+        ensures taken { IfOk result (λ r. (self.options ≡ Ok r.0) × (r.1 ≡ self.own)
+            × AreOperands (range_inclusive_start count) (range_inclusive_end count) (own_words self)) }
+        ensures options { IfErr self.options (λ error. result ≡ Err error) }
+        ensures refused { IfOk self.options (λ _. IfErr result (RefusesOperands usage.now (range_inclusive_start count) (range_inclusive_end count) (own_words self))) }
+    {
+        let Line { own, options } = self;
+        let options = options?;
+        let usage = String::from_str(alloc, usage)?;
+        match first_option(&own) {
+            Some(option) if option == "--help" || option == "-h" => {
+                Err(ArgumentsError::Help(usage))
+            }
+            None if *count.start() <= own.len() && own.len() <= *count.end() => Ok((options, own)),
+            _ => Err(ArgumentsError::Refused(usage)),
+        }
+    }
+
     fn from_read(alloc: Global, read: io::Result<Args>) -> Result<Line, ArgumentsError>
         ensures { IfOk result (λ line. (words : List Text) × IsLine words line) }
     {
         let words = words_of(alloc, read)?;
         Ok(Line::from_iter(alloc, words.as_slice())?)
     }
+}
+
+// The first of the words that begins with a hyphen.
+fn first_option(words: &[String]) -> Option<&str>
+    ensures { option_map (λ word. word.now) result ≡ find is_option (map string_bytes words.now) }
+{
+    words
+        .iter()
+        .map(String::as_str)
+        .find(|word| is_option(word))
+}
+
+fn is_option(word: &str) -> bool
+    ensures { result ≡ is_option word.now }
+{
+    word.starts_with('-')
 }
 
 // How many words stand before the first `--`.

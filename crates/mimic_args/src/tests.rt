@@ -317,3 +317,69 @@ fn reads_words_of_its_own(rt: HostRuntime) -> Result<(), Fail> {
     }
     Ok(())
 }
+
+const USAGE: &str = "usage: program FILE..\n";
+
+// What a program of one or two operands makes of a line.
+#[derive(Clone, Copy)]
+enum Took {
+    Operands(usize),
+    Help,
+    Refused,
+    // By its options: the text is theirs, not the usage.
+    Options,
+}
+
+// Lines, and what a program that takes one or two operands makes of them.
+const OPERANDS: [(&str, Took); 12] = [
+    ("program", Took::Refused),
+    ("program a", Took::Operands(1)),
+    ("program a b -- --list", Took::Operands(2)),
+    ("program a b c", Took::Refused),
+    ("program --help", Took::Help),
+    ("program -h", Took::Help),
+    ("program a --help b c -- --list", Took::Help),
+    ("program --help -x", Took::Help),
+    ("program -x --help", Took::Refused),
+    ("program -", Took::Refused),
+    ("program a -- --nope", Took::Options),
+    ("program --help -- --nope", Took::Options),
+];
+
+#[test]
+fn takes_operands(rt: HostRuntime) -> Result<(), Fail> {
+    let alloc = rt.alloc();
+    for (text, took) in OPERANDS {
+        let words: Vec<&str> = text.split(' ').collect(alloc)?;
+        let line = Line::from_iter(alloc, words.as_slice())?;
+        match (line.into_operands(alloc, 1..=2, USAGE), took) {
+            (Ok((args, operands)), Took::Operands(count)) => {
+                assert_eq!(rt; operands.len(), count, "{text}");
+                assert_eq!(rt; args.list, count == 2, "{text}");
+            }
+            (Err(ArgumentsError::Help(usage)), Took::Help)
+            | (Err(ArgumentsError::Refused(usage)), Took::Refused) => {
+                assert_eq!(rt; usage.as_str(), USAGE, "{text}");
+            }
+            (Err(ArgumentsError::Refused(told)), Took::Options) => {
+                assert!(rt; told.as_str() != USAGE, "{text}");
+            }
+            _ => assert!(rt; false, "{text}"),
+        }
+    }
+    Ok(())
+}
+
+#[test]
+fn first_page(rt: HostRuntime) -> Result<(), Fail> {
+    let alloc = rt.alloc();
+    let words = ["program", "--test-threads=2", "--skip", "slow", "sort"];
+    let args = Arguments::from_iter(alloc, &words)?;
+    assert_eq!(rt; args.test_threads, Some(2));
+    assert_eq!(rt; args.skip.first().map(String::as_str), Some("slow"));
+    assert_eq!(rt; args.filter.first().map(String::as_str), Some("sort"));
+    let line = Line::from_iter(alloc, &["program", "cases", "--", "--list"])?;
+    assert_eq!(rt; line.own.first().map(String::as_str), Some("cases"));
+    assert!(rt; line.options?.list);
+    Ok(())
+}

@@ -400,3 +400,26 @@ fn takes_no_room_for_rows_that_do_not_come(rt: HostRuntime) -> Result<(), Fail> 
     }
     Ok(())
 }
+
+const ONE_ROW: &str = r#"{ "type": "suite", "event": "started", "test_count": 1 }
+{ "type": "test", "event": "started", "name": "fly", "kind": "banana" }
+{ "type": "test", "name": "fly", "kind": "banana", "event": "ok" }
+{ "type": "suite", "event": "ok", "passed": 1, "failed": 0, "ignored": 0, "measured": 0, "filtered_out": 16, "exec_time": 0.5 }
+"#;
+
+#[test]
+fn first_page(rt: HostRuntime) -> Result<(), Fail> {
+    let alloc = rt.alloc();
+    let mut feed = Feed::new(alloc)?;
+    for line in ONE_ROW.split_inclusive('\n') {
+        feed.feed(line.as_bytes())?;
+    }
+    for row in feed.rows().unwrap_or(&[]) {
+        assert_eq!(rt; (row.kind.as_str(), row.name.as_str()), ("banana", "fly"));
+        assert!(rt; row.outcome == Outcome::Passed);
+    }
+    let report = feed.finish()?.ok_or("no report")?;
+    assert_eq!(rt; report.counts().num_passed, 1);
+    assert_eq!(rt; (report.filtered_out, report.nanos), (16, 500_000_000));
+    Ok(())
+}

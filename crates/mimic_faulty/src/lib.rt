@@ -1,4 +1,17 @@
 //! A writer for tests, over memory: it takes as many bytes a call as a test says, and fails where the test wants it to.
+//!
+//! ```rust
+//! use mimic_faulty::{Fault, FaultyWriter, Place};
+//! use std::io::{ErrorKind, Write};
+//!
+//! let full = Fault::Error(ErrorKind::StorageFull);
+//! let mut writer = FaultyWriter::new(rt.alloc()).failing(Place::Byte(3), full);
+//! assert!(rt; writer.write_all(b"ab").is_ok());
+//! assert!(rt; writer.write_all(b"cd").is_err());
+//! assert!(rt; writer.bytes.as_slice() == b"abc".as_slice());
+//! assert!(rt; writer.has_failed);
+//! assert_eq!(rt; writer.calls_after, 0);
+//! ```
 #![tactic(auto)]
 
 ghost use Rattle.std.specs.Prelude.{◌≡◌, ◌≤◌, ◌+◌, [], Some, false, length, true, IfOk, OnErr};

@@ -109,3 +109,14 @@ fn names_each_place(rt: HostRuntime) -> Result<(), Fail> {
     );
     Ok(())
 }
+
+#[test]
+fn first_page(rt: HostRuntime) {
+    let full = Fault::Error(ErrorKind::StorageFull);
+    let mut writer = FaultyWriter::new(rt.alloc()).failing(Place::Byte(3), full);
+    assert!(rt; writer.write_all(b"ab").is_ok());
+    assert!(rt; writer.write_all(b"cd").is_err());
+    assert!(rt; writer.bytes.as_slice() == b"abc".as_slice());
+    assert!(rt; writer.has_failed);
+    assert_eq!(rt; writer.calls_after, 0);
+}

@@ -1,6 +1,7 @@
 //! A whole program on the machine.
 ghost use Rattle.std.specs.Prelude.{◌≡◌, ◌≤◌, ℕ, All, Bool, IfOk, OnErr, false, true};
 ghost use Rattle.std.specs.Result.{is_ok};
+ghost use Rattle.std.specs.NonZero.{non_zero_usize_get};
 ghost use Rattle.libtest_mimic.specs.Trial.{AllCanRun};
 ghost use Rattle.mimic_trial.specs.Case.{AreTestsOf};
 ghost use Rattle.mimic_main.specs.Ended.{EndsAfter, EndsByLine, EndsOver, Ended, number_of};
@@ -14,9 +15,10 @@ use std::alloc::Global;
 use std::convert::AsStr;
 use std::fs::Files;
 use std::io::{IsTerminal, Write};
+use std::num::NonZeroUsize;
 use std::rt::{Clock, Env, Stderr, Stdout};
-use std::thread;
 use std::thread::Threads;
+use std::{io, thread};
 
 /// The standard streams of a machine.
 pub trait Streams {
@@ -141,10 +143,7 @@ pub(crate) fn run_line_on<
 {
     let program = telling(name, threads_at_once(rt), shows_colours(env, &out));
     match tests {
-        Ok(tests) => {
-            let clock = MonotonicClock::new(readings);
-            program.harness_run(rt, files, env.alloc(), line, tests, out, err, clock)
-        }
+        Ok(tests) => program.run_on(rt, files, env.alloc(), readings, line, tests, out, err),
         Err(error) => (out, program.refuse(error, err)),
     }
 }
@@ -153,7 +152,16 @@ pub(crate) fn run_line_on<
 fn threads_at_once<T: Threads>(rt: &T) -> usize
     ensures { 1 ≤ result }
 {
-    match thread::available_parallelism(rt) {
+    told_or_one(thread::available_parallelism(rt))
+}
+
+// The count that was told, and 1 where none was.
+fn told_or_one(told: io::Result<NonZeroUsize>) -> usize
+    ensures some { 1 ≤ result }
+    ensures told { IfOk told (λ count. result ≡ non_zero_usize_get count) }
+    ensures untold { OnErr told (result ≡ 1) }
+{
+    match told {
         Ok(count) => count.get(),
         Err(_) => 1,
     }
@@ -189,9 +197,35 @@ impl Program<'_> {
         let out: Stdout = rt.stdout();
         let mut err: Stderr = rt.stderr();
         let line = Arguments::from_args(rt, rt.alloc());
-        let clock = MonotonicClock::new(rt);
-        let (_, status) = self.harness_run(rt, rt, rt.alloc(), line, tests, out, &mut err, clock);
+        let (_, status) = self.run_on(rt, rt, rt.alloc(), rt, line, tests, out, &mut err);
         status
+    }
+
+    // A run by the machine's clock, whose readings are handed in as its other parts are.
+    fn run_on<
+        T: Spawner + 'static,
+        F: Files,
+        K: Clock,
+        R: Task + Send + 'static,
+        O: Write,
+        E: Write,
+    >(
+        &self,
+        rt: &T,
+        files: &F,
+        alloc: Global,
+        readings: &K,
+        line: Result<Arguments, ArgumentsError>,
+        tests: Vec<Trial<R>>,
+        out: O,
+        err: &mut E,
+    ) -> (O, Status)
+        requires runnable { AllCanRun R.can_run tests.items }
+        requires some_thread { 1 ≤ self.now.threads }
+        ensures { Ended R.gives self.now.threads self.now.auto_colours line tests.items (O.contents out) (O.contents result.0) (number_of result.1) }
+    {
+        let clock = MonotonicClock::new(readings);
+        self.harness_run(rt, files, alloc, line, tests, out, err, clock)
     }
 
     /// What `main` is to return where making the trials may be refused: what their run answered, or 1 after the refusal

@@ -227,8 +227,8 @@ impl<R: Task + Send + 'static, C: Clock + Drop> Job<R, C> {
         ensures adds_up { args.now.list ≡ false → IfOk result.1 (λ c. total_of c ≡ vec_len self.tests) }
     {
         let mut output = Output::new(self.alloc, FlushPolicy::of_run(args), writer);
-        if output.reserve().is_err() {
-            return (output.finish().0, Err(RunError::OutOfMemory));
+        if let Err(refused) = output.reserve() {
+            return (output.finish().0, Err(RunError::from(refused)));
         }
         run_into(
             rt,

@@ -1,5 +1,7 @@
 //! A run into a buffered writer.
-ghost use Rattle.std.specs.Prelude.{◌≡◌, ◌≤◌, false, IfOk, IsOk, OnErr, vec_len};
+ghost use Rattle.std.specs.Prelude.{◌≡◌, ◌≤◌, false, IfErr, IfOk, IsOk, OnErr, vec_len};
+ghost use Rattle.mimic_printer.specs.declared.sink.WriteFault.TheVariants.{Error};
+ghost use Rattle.libtest_mimic.specs.declared.running.RunError.TheVariants.{Write};
 ghost use Rattle.libtest_mimic.specs.Count.{total_of};
 ghost use Rattle.libtest_mimic.specs.Run.{HasAnswer};
 ghost use Rattle.libtest_mimic.specs.Trial.{AllCanRun};
@@ -60,6 +62,8 @@ fn settled(
 ) -> Result<Conclusion, RunError>
     ensures answered { IfOk result (λ c. ran ≡ Ok c) }
     ensures finished { IsOk result → IsOk finished }
+    ensures refused { IfErr ran (λ fault. result ≡ Err fault) }
+    ensures cause { IsOk ran → IfErr finished (λ error. result ≡ Err (Write (Error error))) }
 {
     let conclusion = ran?;
     match finished {

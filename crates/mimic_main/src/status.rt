@@ -6,8 +6,8 @@ ghost use Rattle.mimic_main.specs.Ended.{number_of};
 use std::io::Eprint;
 use std::process::{ExitCode, Termination};
 
-/// The exit status of a program, which its `main` is to return. This crate alone can make one, and it can't be dropped, so
-/// the process ends with what a call returned.
+/// The exit status of a program, which its `main` is to return. This crate alone can make one and take one apart, and the
+/// compiler refuses a program that lets one go.
 #[derive(Debug, PartialEq, Eq)]
 pub struct Status {
     number: u8,
@@ -23,8 +23,8 @@ impl Status {
 
     pub(crate) const TRIALS_FAILED: Status = Status { number: 101 };
 
-    /// The number, for a program that ends in a way of its own.
-    pub fn into_number(self) -> u8
+    // Outside of this crate the number is seen by `report` alone.
+    pub(crate) fn into_number(self) -> u8
         ensures { result ≡ number_of self }
     {
         let Status { number } = self;

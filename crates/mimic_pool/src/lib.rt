@@ -1,4 +1,18 @@
 //! What worker threads share out, tell and answer, and what is made of it. A layer of `libtest_mimic`.
+//!
+//! ```rust
+//! use mimic_pool::{Arrival, Desk};
+//! use mimic_trial::Outcome;
+//!
+//! let mut desk = Desk::new(alloc, 3)?;
+//! assert_eq!(rt; desk.arrive(2, Outcome::Passed), Arrival::First);
+//! assert_eq!(rt; desk.arrive(2, Outcome::Ignored), Arrival::Again);
+//! assert_eq!(rt; desk.arrive(0, Outcome::Passed), Arrival::First);
+//! assert_eq!(rt; desk.order(), [2, 0].as_slice());
+//! assert_eq!(rt; desk.missing().next(), Some(1));
+//! let joined = [Outcome::Passed, Outcome::Ignored, Outcome::Passed];
+//! assert_eq!(rt; desk.settle(&joined), Ok(()));
+//! ```
 #![tactic(auto)]
 
 mod board;

@@ -142,3 +142,21 @@ fn prints_outcomes(rt: HostRuntime) -> Result<(), Fail> {
     }
     Ok(())
 }
+
+#[test]
+fn first_page(rt: HostRuntime) -> Result<(), Fail> {
+    let alloc = rt.alloc();
+    let trial = Trial::new(String::from_str(alloc, "sum")?, ());
+    let printer = Printer::new(FormatSetting::Pretty, false, 3, 0);
+    let mut sink = Sink::new(Vec::new(alloc));
+    assert!(rt; printer.print_title(&mut sink, 1).is_ok());
+    assert!(rt; printer.print_test(&mut sink, trial.info()).is_ok());
+    assert!(rt;
+        printer
+            .print_single_outcome(&mut sink, trial.info(), &Outcome::Passed)
+            .is_ok()
+    );
+    let text = String::from_utf8(sink.into_inner())?;
+    assert_eq!(rt; text.as_str(), "\nrunning 1 test\ntest sum ... ok\n");
+    Ok(())
+}

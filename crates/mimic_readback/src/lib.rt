@@ -1,4 +1,22 @@
 //! Runs trials and reads back what the run wrote.
+//!
+//! With an allocator and any `Clock` at hand:
+//!
+//! ```rust
+//! use libtest_mimic::{Arguments, Failed, FormatSetting, Stopwatch, Trial};
+//! use mimic_readback::run_to_report;
+//!
+//! let cases = vec![in alloc; ("one", 1), ("two", 2)]?;
+//! let tests = Trial::of_cases(alloc, cases, move |number| {
+//!     Failed::unless(alloc, number < 2, &"too large")
+//! })?;
+//! let mut args = Arguments::new(alloc);
+//! args.format = Some(FormatSetting::Json);
+//! let mut watch = Stopwatch::new(clock);
+//! let (counts, report) = run_to_report(alloc, &args, tests, &mut watch)?;
+//! assert!(rt; report.counts() == counts);
+//! assert_eq!(rt; report.rows.len(), 2);
+//! ```
 #![tactic(auto)]
 
 ghost use Rattle.std.specs.Prelude.{◌≡◌, false, IfOk};

@@ -262,3 +262,20 @@ fn tells_names_from_kinds(rt: HostRuntime) -> Result<(), Fail> {
     assert!(rt; fed(alloc, bytes.as_slice())? == Some(report));
     Ok(())
 }
+
+#[test]
+fn first_page(rt: HostRuntime) -> Result<(), Fail> {
+    let alloc = rt.alloc();
+    let clock = Steps { next: 0 };
+    let cases = vec![in alloc; ("one", 1), ("two", 2)]?;
+    let tests = Trial::of_cases(alloc, cases, move |number| {
+        Failed::unless(alloc, number < 2, &"too large")
+    })?;
+    let mut args = Arguments::new(alloc);
+    args.format = Some(FormatSetting::Json);
+    let mut watch = Stopwatch::new(clock);
+    let (counts, report) = run_to_report(alloc, &args, tests, &mut watch)?;
+    assert!(rt; report.counts() == counts);
+    assert_eq!(rt; report.rows.len(), 2);
+    Ok(())
+}

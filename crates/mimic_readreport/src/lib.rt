@@ -1,4 +1,12 @@
 //! A program that tells a report in JSON in one line, for those that run it.
+//!
+//! ```rust
+//! use mimic_readreport::{Ending, run_program};
+//!
+//! fn main(rt: HostRuntime) -> Ending {
+//!     run_program(&rt)
+//! }
+//! ```
 #![tactic(auto)]
 
 mod line;

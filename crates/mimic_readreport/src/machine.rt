@@ -7,8 +7,9 @@ use crate::program::readreport_run;
 use std::io::Eprint;
 use std::process::{ExitCode, Termination};
 
-/// How a run ended. Only `run_program` makes one, so a `main` that returns it returns what that call returned.
-#[derive(Debug, Drop)]
+/// How a run ended, which a `main` is to return. `run_program` alone makes one, and the compiler refuses a program that lets
+/// one go.
+#[derive(Debug)]
 pub struct Ending {
     status: u8,
 }
@@ -17,7 +18,8 @@ impl Termination for Ending {
     fn report<R: Eprint>(self, _rt: &R) -> ExitCode
         ensures { exit_status result ≡ self.status }
     {
-        ExitCode::from(self.status)
+        let Ending { status } = self;
+        ExitCode::from(status)
     }
 }
 

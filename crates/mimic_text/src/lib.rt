@@ -1,4 +1,16 @@
 //! The small texts of reports: grouped numbers, seconds, and texts in JSON. A layer of `libtest_mimic`.
+//!
+//! ```rust
+//! use mimic_text::{brackets, escape_char, exact_seconds, hundredths, thousands};
+//!
+//! assert_eq!(rt; thousands(1_234_567, &mut [0; 26]), "1,234,567");
+//! assert_eq!(rt; hundredths(1_499_999_999), (1, 50));
+//! assert_eq!(rt; exact_seconds(1_500_000_000, &mut [0; 32]), "1.5");
+//! assert_eq!(rt; escape_char('\n').as_str(), "\\n");
+//! let (opening, closing) = brackets("unit");
+//! assert_eq!(rt; opening, "[");
+//! assert_eq!(rt; closing, "] ");
+//! ```
 #![tactic(auto)]
 
 ghost use Rattle.std.specs.Prelude.{◌≡◌, ◌≢◌, ◌≤◌, ◌++◌, [], IfOk, codes, length, take, decimal, string_bytes};

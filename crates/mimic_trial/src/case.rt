@@ -25,10 +25,7 @@ impl<D: Drop, F: FnOnce(D) -> Result<(), Failed> + Drop> Task for Case<D, F> {
 
     fn run(self, _test_mode: bool) -> Outcome {
         let check = self.check;
-        match check(self.input) {
-            Ok(()) => Outcome::Passed,
-            Err(failed) => failed.into_outcome(),
-        }
+        check(self.input).into()
     }
 }
 

@@ -69,6 +69,20 @@ impl Eq for Outcome {
     ghost laws = { decided same_outcome outcome_decides };
 }
 
+/// What becomes of a test by its answer: it passed where that is `Ok`, and else failed so.
+impl From<Result<(), Failed>> for Outcome {
+    ghost use Rattle.mimic_trial.specs.Promise.{outcome_of_test};
+
+    ghost from_gives = { λ answer o. o ≡ outcome_of_test answer };
+
+    fn from(answer: Result<(), Failed>) -> Outcome {
+        match answer {
+            Ok(()) => Outcome::Passed,
+            Err(failed) => failed.into_outcome(),
+        }
+    }
+}
+
 /// Calls the runner once, and returns the outcome of its answer.
 ///
 /// A test's `Ok` has the outcome `Passed`, and every `Err` the outcome `Failed`. In test mode a
@@ -79,10 +93,7 @@ pub fn run_single(runner: Runner, test_mode: bool) -> Outcome
     ensures fits { FitsTypes result }
 {
     match runner {
-        Runner::Test(test) => match test.call() {
-            Ok(()) => Outcome::Passed,
-            Err(failed) => failed.into_outcome(),
-        },
+        Runner::Test(test) => test.call().into(),
         Runner::Bench(bench) => match bench.call(test_mode) {
             Ok(_) if test_mode => Outcome::Passed,
             Ok(Some(measured)) => Outcome::Measured(measured),

@@ -43,10 +43,7 @@ impl<F: FnOnce() -> Result<(), Failed> + Drop> Task for F {
     ghost gives = { λ test _ o. (answer : _) × F.post test answer × (o ≡ outcome_of_test answer) };
 
     fn run(self, _test_mode: bool) -> Outcome {
-        match self() {
-            Ok(()) => Outcome::Passed,
-            Err(failed) => failed.into_outcome(),
-        }
+        self().into()
     }
 }
 

@@ -205,3 +205,21 @@ fn makes_tests_of_cases(rt: HostRuntime) -> Result<(), Fail> {
     assert!(rt; rows.next().is_none());
     Ok(())
 }
+
+#[test]
+fn first_page(rt: HostRuntime) -> Result<(), Fail> {
+    let alloc = rt.alloc();
+    let cases = vec![in alloc; ("one", 1), ("two", 2)]?;
+    let tests = Trial::of_cases(alloc, cases, move |number| {
+        Failed::unless(alloc, number < 2, &"too large")
+    })?;
+    let mut outcomes = Vec::new(alloc);
+    for test in tests {
+        let (_info, task) = test.into_parts();
+        outcomes.push(task.run(true))?;
+    }
+    let counts = count_rows(&outcomes, 0);
+    assert_eq!(rt; (counts.num_passed, counts.num_failed), (1, 1));
+    assert!(rt; counts.has_failed());
+    Ok(())
+}

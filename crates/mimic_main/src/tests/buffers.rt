@@ -2,15 +2,27 @@
 use crate::{FlushPolicy, Output};
 use libtest_mimic::{Arguments, FormatSetting};
 use linked_list_allocator::LocalHeap;
+use std::alloc::Global;
 use std::io;
 use std::io::Write;
 use std::test::Fail;
 
-// Keeps how many bytes it has got after each write.
+// Keeps how many bytes it has got after each write, and counts flushes.
 #[derive(Drop)]
 struct Marked {
     len: usize,
     marks: Vec<usize>,
+    flushes: usize,
+}
+
+impl Marked {
+    fn new(alloc: Global) -> Marked {
+        Marked {
+            len: 0,
+            marks: Vec::new(alloc),
+            flushes: 0,
+        }
+    }
 }
 
 impl Write for Marked {
@@ -21,30 +33,27 @@ impl Write for Marked {
     }
 
     fn flush(&mut self) -> io::Result<()> {
+        self.flushes = self.flushes.saturating_add(1);
         Ok(())
     }
 }
 
 // An output over an empty one.
 fn marking(rt: &HostRuntime, policy: FlushPolicy) -> Result<Output<Marked>, Fail> {
-    let writer = Marked {
-        len: 0,
-        marks: Vec::new(rt.alloc()),
-    };
-    let mut output = Output::new(rt.alloc(), policy, writer);
+    let mut output = Output::new(rt.alloc(), policy, Marked::new(rt.alloc()));
     output.reserve()?;
     Ok(output)
 }
 
-// Two bytes and a flush, a line of two bytes, and one byte more.
+// Two bytes and a flush, a line of two bytes, and one byte more. Whoever is flushed flushes the writer, and so does the end.
 #[test]
 fn hands_on_as_asked(rt: HostRuntime) -> Result<(), Fail> {
-    let rows: [(FlushPolicy, &[usize]); 3] = [
-        (FlushPolicy::OnFlush, &[2, 5]),
-        (FlushPolicy::OnLineEnd, &[2, 4, 5]),
-        (FlushPolicy::WhenFull, &[5]),
+    let rows: [(FlushPolicy, &[usize], usize); 3] = [
+        (FlushPolicy::OnFlush, &[2, 5], 2),
+        (FlushPolicy::OnLineEnd, &[2, 4, 5], 2),
+        (FlushPolicy::WhenFull, &[5], 1),
     ];
-    for (policy, marks) in rows {
+    for (policy, marks, flushes) in rows {
         let mut output = marking(&rt, policy)?;
         output.write_all(b"ab")?;
         output.flush()?;
@@ -53,6 +62,7 @@ fn hands_on_as_asked(rt: HostRuntime) -> Result<(), Fail> {
         let (writer, finished) = output.finish();
         finished?;
         assert!(rt; writer.marks.as_slice() == marks);
+        assert_eq!(rt; writer.flushes, flushes, "{policy:?}");
     }
     Ok(())
 }
@@ -91,11 +101,7 @@ fn hands_on_whole_lines(rt: HostRuntime) -> Result<(), Fail> {
 fn takes_no_memory_after_reserve(rt: HostRuntime) -> Result<(), Fail> {
     let heap = LocalHeap::new(rt.alloc(), 16384)?;
     for is_reserved in [true, false] {
-        let writer = Marked {
-            len: 0,
-            marks: Vec::new(rt.alloc()),
-        };
-        let mut output = Output::new(&heap, FlushPolicy::WhenFull, writer);
+        let mut output = Output::new(&heap, FlushPolicy::WhenFull, Marked::new(rt.alloc()));
         if is_reserved {
             output.reserve()?;
         }

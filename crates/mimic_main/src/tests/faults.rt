@@ -6,7 +6,7 @@ use libtest_mimic::{
 use mimic_faulty::{Fault, FaultyWriter, Place};
 use std::alloc::Global;
 use std::io;
-use std::io::Write;
+use std::io::{ErrorKind, Write};
 use std::sync::atomic::{AtomicBool, AtomicU64, Ordering};
 use std::sync::{Arc, Wait};
 use std::test::Fail;
@@ -181,8 +181,8 @@ fn fails_after_a_fault(rt: HostRuntime) -> Result<(), Fail> {
     Ok(())
 }
 
-// A piece through a sink and a buffer, where the writer fails once: the call that had the fault tells it, and each later
-// one fails without asking the writer.
+// A piece through a sink and a buffer, where the writer fails once: the call that had the fault tells what it was, and each
+// later one fails without asking the writer.
 #[test]
 fn tells_a_fault_at_its_call(rt: HostRuntime) -> Result<(), Fail> {
     let alloc = rt.alloc();
@@ -195,8 +195,14 @@ fn tells_a_fault_at_its_call(rt: HostRuntime) -> Result<(), Fail> {
         let writer = FaultyWriter::new(alloc).failing(place, fault);
         let mut sink = Sink::new(Output::new(alloc, FlushPolicy::OnLineEnd, writer));
         assert!(rt; sink.put(b"waits").is_ok());
-        let told = sink.put(b" and goes out\n");
-        assert!(rt; matches!(told, Err(WriteFault::Error(_))));
+        let kind = match fault {
+            Fault::Error(kind) => kind,
+            Fault::TakesNone => ErrorKind::WriteZero,
+        };
+        match sink.put(b" and goes out\n") {
+            Err(WriteFault::Error(error)) => assert!(rt; error.kind() == kind),
+            _ => assert!(rt; false),
+        }
         assert!(rt; sink.put(b"a").is_err());
         assert!(rt; sink.put(b"a\n").is_err());
         assert!(rt; sink.flush().is_err());

@@ -172,3 +172,17 @@ fn shows_each_short_list(rt: HostRuntime) -> Result<(), Fail> {
     }
     Ok(())
 }
+
+#[test]
+fn first_page(rt: HostRuntime) -> Result<(), Fail> {
+    let alloc = rt.alloc();
+    let mut desk = Desk::new(alloc, 3)?;
+    assert_eq!(rt; desk.arrive(2, Outcome::Passed), Arrival::First);
+    assert_eq!(rt; desk.arrive(2, Outcome::Ignored), Arrival::Again);
+    assert_eq!(rt; desk.arrive(0, Outcome::Passed), Arrival::First);
+    assert_eq!(rt; desk.order(), [2, 0].as_slice());
+    assert_eq!(rt; desk.missing().next(), Some(1));
+    let joined = [Outcome::Passed, Outcome::Ignored, Outcome::Passed];
+    assert_eq!(rt; desk.settle(&joined), Ok(()));
+    Ok(())
+}
