@@ -62,16 +62,18 @@ fn entries<M: Files + AllocGlobal + Copy + Drop>(rt: &M, folder: &Place) -> io::
     for entry in fs::read_dir(rt, folder.path.as_str())? {
         let entry = entry?;
         let path = entry.path();
+        // What has a case's name is taken for one, so that the system is asked for few types: a folder of that name is a test
+        // that fails.
+        if let Some("in" | "out") = path.extension() {
+            let path = path.with_extension(alloc, "")?.into_string();
+            let kind = folder.kind.clone()?;
+            found.push(Entry::Case(Place { path, kind }))?;
         // The type is that of the entry itself: no link to a folder is followed, so that the walk can't go in circles.
-        if entry.file_type()?.is_dir() {
+        } else if entry.file_type()?.is_dir() {
             let kind = Path::new(folder.kind.as_str()).join(alloc, entry.file_name())?;
             let path = path.to_path_buf(alloc)?.into_string();
             let kind = kind.into_string();
             found.push(Entry::Folder(Place { path, kind }))?;
-        } else if let Some("in" | "out") = path.extension() {
-            let path = path.with_extension(alloc, "")?.into_string();
-            let kind = folder.kind.clone()?;
-            found.push(Entry::Case(Place { path, kind }))?;
         }
     }
     found.sort_unstable();

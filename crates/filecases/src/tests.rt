@@ -3,8 +3,8 @@ use crate::case::first_difference;
 use crate::folders::trials_below;
 use libtest_mimic::{Outcome, Task};
 use std::alloc::AllocError;
-use std::fs;
 use std::test::Fail;
+use std::{env, fs};
 
 // Two texts, and what is said of their first difference.
 const DIFFERENCES: [(&str, &str, &str); 5] = [
@@ -55,8 +55,6 @@ fn equal_texts_do_not_differ(rt: HostRuntime) {
     }
 }
 
-const FOLDER: &str = "/tmp/filecases_finds_and_runs_cases";
-
 // Files in the folder, and what they hold.
 const FILES: [(&str, &[u8]); 11] = [
     ("words/umlaut.in", b"\xc3\xa4"),
@@ -101,11 +99,12 @@ const CASES: [(&str, &str, Option<&str>); 6] = [
 #[test]
 fn finds_and_runs_cases(rt: HostRuntime) -> Result<(), Fail> {
     let alloc = rt.alloc();
-    fs::create_dir_all(&rt, format!(in alloc; "{FOLDER}/words")?.as_str())?;
+    let folder = env::temp_dir(&rt)?.join(alloc, "filecases")?.into_string();
+    fs::create_dir_all(&rt, format!(in alloc; "{folder}/words")?.as_str())?;
     for (file, bytes) in FILES {
-        fs::write(&rt, format!(in alloc; "{FOLDER}/{file}")?.as_str(), bytes)?;
+        fs::write(&rt, format!(in alloc; "{folder}/{file}")?.as_str(), bytes)?;
     }
-    let trials = trials_below(rt, &[String::from_str(alloc, FOLDER)?])?;
+    let trials = trials_below(rt, &[folder.clone()?])?;
     let mut cases = CASES.into_iter();
     for trial in trials {
         let (info, case) = trial.into_parts();
@@ -122,14 +121,14 @@ fn finds_and_runs_cases(rt: HostRuntime) -> Result<(), Fail> {
                 let message = failed
                     .message()
                     .unwrap_or_default()
-                    .replace(alloc, FOLDER, "")?;
+                    .replace(alloc, folder.as_str(), "")?;
                 assert_eq!(rt; message.as_str(), said);
             }
             _ => assert!(rt; false),
         }
     }
     assert!(rt; cases.next().is_none());
-    fs::remove_dir_all(&rt, FOLDER)?;
+    fs::remove_dir_all(&rt, folder.as_str())?;
     Ok(())
 }
 

@@ -1,10 +1,8 @@
 //! Which files of a folder are tests, and what becomes of them.
 use crate::suite::trials_in;
 use libtest_mimic::{Outcome, Task};
-use std::fs;
 use std::test::Fail;
-
-const FOLDER: &str = "/tmp/jsonsuite_judges_the_parser";
+use std::{env, fs};
 
 // Files in the folder, and what they hold.
 const FILES: [(&str, &[u8]); 8] = [
@@ -36,11 +34,12 @@ const TESTS: [(&str, bool, Option<(&str, &str)>); 6] = [
 #[test]
 fn judges_the_parser(rt: HostRuntime) -> Result<(), Fail> {
     let alloc = rt.alloc();
-    fs::create_dir_all(&rt, FOLDER)?;
+    let folder = env::temp_dir(&rt)?.join(alloc, "jsonsuite")?.into_string();
+    fs::create_dir_all(&rt, folder.as_str())?;
     for (file, bytes) in FILES {
-        fs::write(&rt, format!(in alloc; "{FOLDER}/{file}")?.as_str(), bytes)?;
+        fs::write(&rt, format!(in alloc; "{folder}/{file}")?.as_str(), bytes)?;
     }
-    let trials = trials_in(rt, &[String::from_str(alloc, FOLDER)?])?;
+    let trials = trials_in(rt, &[folder.clone()?])?;
     let mut tests = TESTS.into_iter();
     for trial in trials {
         let (info, file) = trial.into_parts();
@@ -57,7 +56,7 @@ fn judges_the_parser(rt: HostRuntime) -> Result<(), Fail> {
                 let message = failed
                     .message()
                     .unwrap_or_default()
-                    .replace(alloc, FOLDER, "")?;
+                    .replace(alloc, folder.as_str(), "")?;
                 assert!(rt; message.as_str().starts_with(front));
                 assert!(rt; message.as_str().ends_with(end));
             }
@@ -65,7 +64,7 @@ fn judges_the_parser(rt: HostRuntime) -> Result<(), Fail> {
         }
     }
     assert!(rt; tests.next().is_none());
-    fs::remove_dir_all(&rt, FOLDER)?;
+    fs::remove_dir_all(&rt, folder.as_str())?;
     Ok(())
 }
 
