@@ -1,5 +1,5 @@
 //! The lines of a report in JSON.
-ghost use Rattle.std.specs.Prelude.{◌≡◌, ◌-◌, ◌^◌, ◌<◌, ◌∷◌, ◌++◌, [], Some, codes, false};
+ghost use Rattle.std.specs.Prelude.{◌≡◌, ◌-◌, ◌^◌, ◌<◌, ◌∷◌, ◌++◌, [], Some, codes, drop, false, take};
 ghost use Rattle.std.specs.List.{concat};
 ghost use Rattle.mimic_printer.specs.Json.{json_announcement, json_outcome, json_summary, json_title, json_verdict, kind_field, outcome_front};
 ghost use Rattle.mimic_printer.specs.Sink.{Puts, faults_of};
@@ -35,14 +35,8 @@ pub(super) fn put_announcement<'a, W: Write>(
     requires { faults_of sink.old < 2 ^ 64 - 1 }
     ensures { Puts W.contents sink.old sink.new (json_announcement (record { kind = kind.now; name = name.now })) result }
 {
-    let pieces = [
-        Piece::Text("{ \"type\": \"test\", \"event\": \"started\", \"name\": \""),
-        Piece::Escaped(name),
-        Piece::Text(before_kind(kind)),
-        Piece::Escaped(kind),
-        Piece::Text("\" }\n"),
-    ];
-    put_pieces(sink, &pieces)
+    let front = "{ \"type\": \"test\", \"event\": \"started\", \"name\": \"";
+    put_line(sink, front, name, kind, "\" }\n")
 }
 
 // Writes the line of an outcome.
@@ -56,36 +50,58 @@ pub(super) fn put_outcome<'a, W: Write>(
     ensures { Puts W.contents sink.old sink.new (json_outcome (record { kind = kind.now; name = name.now }) outcome.now) result }
 {
     match outcome {
-        Outcome::Passed => put_word(sink, name, kind, ", \"event\": \"ok\" }\n"),
-        Outcome::Ignored => put_word(sink, name, kind, ", \"event\": \"ignored\" }\n"),
+        Outcome::Passed => put_word(sink, name, kind, "\", \"event\": \"ok\" }\n"),
+        Outcome::Ignored => put_word(sink, name, kind, "\", \"event\": \"ignored\" }\n"),
         Outcome::Measured(measurement) => put_measurement(sink, name, kind, measurement),
         Outcome::Failed(failed) => match failed.message() {
-            None => put_word(sink, name, kind, ", \"event\": \"failed\" }\n"),
+            None => put_word(sink, name, kind, "\", \"event\": \"failed\" }\n"),
             Some(message) => put_failure(sink, name, kind, message),
         },
     }
 }
 
-// Writes the line of an outcome that is one word. `end` is what follows the kind, or the name where that is empty.
+// Writes the line of an outcome that is one word. `end` begins with the quote behind the name or the kind.
 fn put_word<'a, W: Write>(
     sink: &mut Sink<W>,
     name: &'a str,
     kind: &'a str,
     end: &'a str,
 ) -> Result<(), WriteFault>
-    requires { faults_of sink.old < 2 ^ 64 - 1 }
+    requires faults { faults_of sink.old < 2 ^ 64 - 1 }
+    requires quote { take 1 end.now ≡ codes "\"" }
     ensures { Puts W.contents sink.old sink.new
-        (concat (outcome_front false ∷ escaped name.now ∷ codes "\"" ∷ kind_field kind.now ∷ end.now ∷ [])) result }
+        (concat (outcome_front false ∷ escaped name.now ∷ codes "\"" ∷ kind_field kind.now ∷ drop 1 end.now ∷ [])) result }
 {
-    let pieces = [
-        Piece::Text("{ \"type\": \"test\", \"name\": \""),
-        Piece::Escaped(name),
-        Piece::Text(before_kind(kind)),
-        Piece::Escaped(kind),
-        Piece::Text("\""),
-        Piece::Text(end),
-    ];
-    put_pieces(sink, &pieces)
+    put_line(sink, "{ \"type\": \"test\", \"name\": \"", name, kind, end)
+}
+
+// Writes the line of a trial: its front up to the name, and its end, which begins with the quote behind the name or the kind.
+fn put_line<'a, W: Write>(
+    sink: &mut Sink<W>,
+    front: &'a str,
+    name: &'a str,
+    kind: &'a str,
+    end: &'a str,
+) -> Result<(), WriteFault>
+    requires faults { faults_of sink.old < 2 ^ 64 - 1 }
+    requires quote { take 1 end.now ≡ codes "\"" }
+    ensures { Puts W.contents sink.old sink.new
+        (concat (front.now ∷ escaped name.now ∷ codes "\"" ∷ kind_field kind.now ∷ drop 1 end.now ∷ [])) result }
+{
+    // Most trials have no kind, and each piece takes its time.
+    if kind.is_empty() {
+        let pieces = [Piece::Text(front), Piece::Escaped(name), Piece::Text(end)];
+        put_pieces(sink, &pieces)
+    } else {
+        let pieces = [
+            Piece::Text(front),
+            Piece::Escaped(name),
+            Piece::Text("\", \"kind\": \""),
+            Piece::Escaped(kind),
+            Piece::Text(end),
+        ];
+        put_pieces(sink, &pieces)
+    }
 }
 
 #[tactic(auto, unfolding(crate::specs::Json::json_outcome))]
