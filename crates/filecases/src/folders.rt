@@ -68,8 +68,8 @@ fn entries<M: Files + AllocGlobal + Copy + Drop>(rt: &M, folder: &Place) -> io::
             let path = path.with_extension(alloc, "")?.into_string();
             let kind = folder.kind.clone()?;
             found.push(Entry::Case(Place { path, kind }))?;
-        // The type is that of the entry itself: no link to a folder is followed, so that the walk can't go in circles.
         } else if entry.file_type()?.is_dir() {
+            // The type is that of the entry itself: no link to a folder is followed, so that the walk can't go in circles.
             let kind = Path::new(folder.kind.as_str()).join(alloc, entry.file_name())?;
             let path = path.to_path_buf(alloc)?.into_string();
             let kind = kind.into_string();
