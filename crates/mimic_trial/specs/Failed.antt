@@ -2,16 +2,17 @@
 use Rattle.std.specs.Prelude.{ℕ, Bool, true, false, List, Option, None, Some, codes, string_bytes, nat_eq}
 use lib.Pointwise.{pointwise}
 use Rattle.mimic_trial.specs.declared.outcome.failed.Message.{Message}
-use Rattle.mimic_trial.specs.declared.outcome.failed.Message.TheVariants.{Owned, NotMeasured}
+use Rattle.mimic_trial.specs.declared.outcome.failed.Message.TheVariants.{Nothing, NotMeasured, Text}
 
 -- the message of a benchmark that answered `Ok(None)` in bench mode (the Rust crate's)
 abbrev pub not_measured_text : List ℕ
 not_measured_text = codes "bench runner returned `Ok(None)` in bench mode"
 
 -- the text of a message, whichever way it is kept
-abbrev pub message_text : Message → List ℕ
-message_text (Owned s) = string_bytes s
-message_text NotMeasured = not_measured_text
+abbrev pub message_text : Message → Option (List ℕ)
+message_text Nothing = None
+message_text NotMeasured = Some not_measured_text
+message_text (Text s) = Some (string_bytes s)
 
 -- two optional texts are the same
 abbrev pub same_text : Option (List ℕ) → Option (List ℕ) → Bool

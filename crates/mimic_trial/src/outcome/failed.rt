@@ -15,27 +15,28 @@ use std::marker::Model;
 /// The failure of a trial, with a message or without one. Contracts see it as an optional text.
 #[derive(Drop)]
 pub struct Failed {
-    message: Option<Message>,
+    message: Message,
 }
 
-// A message, or the one message that is kept without memory.
+// What a failure tells. One text is kept without memory.
 #[derive(Drop)]
 enum Message {
-    Owned(String),
+    Nothing,
     NotMeasured,
+    Text(String),
 }
 
 const NOT_MEASURED: &str = "bench runner returned `Ok(None)` in bench mode";
 
 impl Model for Failed {
-    ghost use Rattle.std.specs.Prelude.{ℕ, List, Option, option_map, IfSome, IsUtf8};
+    ghost use Rattle.std.specs.Prelude.{ℕ, List, Option, IfSome, IsUtf8};
     ghost use Rattle.mimic_trial.specs.Failed.{message_text};
 
     ghost Value = { Option (List ℕ) };
 
-    ghost view = { λ f. option_map message_text f.message };
+    ghost view = { λ f. message_text f.message };
 
-    ghost invariant = { λ f. IfSome (option_map message_text f.message) IsUtf8 };
+    ghost invariant = { λ f. IfSome (message_text f.message) IsUtf8 };
 }
 
 impl Failed {
@@ -43,7 +44,9 @@ impl Failed {
     pub fn without_message() -> Self
         ensures { result ≡ None }
     {
-        Failed { message: None }
+        Failed {
+            message: Message::Nothing,
+        }
     }
 
     /// A failure with this message, which may be empty.
@@ -51,7 +54,7 @@ impl Failed {
         ensures { result ≡ Some (string_bytes message) }
     {
         Failed {
-            message: Some(Message::Owned(message)),
+            message: Message::Text(message),
         }
     }
 
@@ -104,12 +107,12 @@ impl Failed {
         ensures { IfOk result (λ f. f ≡ self.now) }
     {
         match &self.message {
-            Some(Message::Owned(message)) => {
+            Message::Text(message) => {
                 let copy = String::from_str(alloc, message.as_str())?;
                 Ok(Failed::with_message(copy))
             }
-            Some(Message::NotMeasured) => Ok(Failed::not_measured()),
-            None => Ok(Failed::without_message()),
+            Message::NotMeasured => Ok(Failed::not_measured()),
+            Message::Nothing => Ok(Failed::without_message()),
         }
     }
 
@@ -118,7 +121,7 @@ impl Failed {
         ensures { result ≡ Some not_measured_text }
     {
         Failed {
-            message: Some(Message::NotMeasured),
+            message: Message::NotMeasured,
         }
     }
 
@@ -136,9 +139,9 @@ impl Failed {
         ensures { option_copied result ≡ self.now }
     {
         match &self.message {
-            Some(Message::Owned(message)) => Some(message.as_str()),
-            Some(Message::NotMeasured) => Some(NOT_MEASURED),
-            None => None,
+            Message::Text(message) => Some(message.as_str()),
+            Message::NotMeasured => Some(NOT_MEASURED),
+            Message::Nothing => None,
         }
     }
 }
