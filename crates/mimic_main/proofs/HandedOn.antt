@@ -1,5 +1,5 @@
 -- What a run left in its sink, said of the bytes that were handed on.
-use Rattle.std.proofs.Common.{◌≡◌, ℕ, Bool, List, Option, Result, Ok, Err, true, false, inl, inr, refl, ap₂, subst, ◌∙◌, IfOk, OnOk, OnErr, IsOk}
+use Rattle.std.proofs.Common.{◌≡◌, ℕ, Bool, List, Option, Result, Ok, Err, true, false, refl, ap₂, subst, IfOk, OnOk, OnErr, IsOk}
 use Rattle.std.proofs.lemmas.Bool.{false≢true}
 use Rattle.std.proofs.KnownBytes.{Appends-kept}
 use Rattle.std.specs.Io.KnownBytes.{Keeps}
@@ -83,11 +83,7 @@ module _ {R : Type 0} (gives : Gives R) (default_threads : ℕ) (args : Argument
       → (args.list ≡ true → OfSuite args auto trials (λ suite. Lists suite first new ran))
       → (args.list ≡ false → OfSuite args auto trials (λ suite. Reports gives (threads_of args default_threads) suite first new watch ran))
       → GotBeginning gives default_threads args auto trials old got
-  GotBeginning-from old first new got watch ran e handed listed reported = inr (new, ran, left_behind old first new watch ran e listed reported, handed)
-
-  -- a run that was refused before it began: its writer got a beginning of the bytes that were there
-  pub GotBeginning-nothing : (old told got reserved : Option (List ℕ)) → told ≡ old → reserved ≡ told → HandsOn reserved got → GotBeginning gives default_threads args auto trials old got
-  GotBeginning-nothing old told got reserved e f handed = let P : Option (List ℕ) → Type 0 = λ bytes. HandsOn bytes got in inl (subst P (f ∙ e) handed)
+  GotBeginning-from old first new got watch ran e handed listed reported = (new, ran, left_behind old first new watch ran e listed reported, handed)
 
 pub OnErr-from : {T E : Type 0} (r : Result T E) (P : Type 0) → P → OnErr r P
 OnErr-from (Ok x) P p = tt

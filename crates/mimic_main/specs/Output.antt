@@ -10,23 +10,23 @@ use Rattle.mimic_main.specs.declared.buffer.FlushPolicy.{FlushPolicy}
 use Rattle.mimic_main.specs.declared.buffer.FlushPolicy.TheVariants.{OnFlush, OnLineEnd, WhenFull}
 
 -- the bytes that wait to be handed on
-abbrev pub waiting_of : {W A : Type 0} → Output W A → List ℕ
+abbrev pub waiting_of : {W : Type 0} → Output W → List ℕ
 waiting_of output = output.waiting.items
 
 -- when an output hands its bytes on
-abbrev pub flushes_by : {W A : Type 0} → Output W A → FlushPolicy
+abbrev pub flushes_by : {W : Type 0} → Output W → FlushPolicy
 flushes_by output = output.policy
 
 -- a fault was met
-abbrev pub has_stopped : {W A : Type 0} → Output W A → Bool
+abbrev pub has_stopped : {W : Type 0} → Output W → Bool
 has_stopped output = output.has_failed
 
 -- after a fault a call fails, and nothing is asked of the writer
-abbrev pub StaysStopped : {W A X E : Type 0} → Output W A → Output W A → Result X E → Type 0
+abbrev pub StaysStopped : {W X E : Type 0} → Output W → Output W → Result X E → Type 0
 StaysStopped old new result = has_stopped old ≡ true → IsErr result × (new.writer ≡ old.writer) × (has_stopped new ≡ true)
 
 -- the bytes of the writer behind and then those that wait in the buffer, where they are known
-abbrev pub told_of : {W A : Type 0} → (W → Option (List ℕ)) → Output W A → Option (List ℕ)
+abbrev pub told_of : {W : Type 0} → (W → Option (List ℕ)) → Output W → Option (List ℕ)
 told_of contents output = append_known (contents output.writer) (waiting_of output)
 
 -- known bytes are those that the writer got, and then some rest

@@ -1,5 +1,5 @@
 -- What a run into a buffered writer answers, and what the writer behind has got.
-use Rattle.std.specs.Prelude.{◌≡◌, ◌⊎◌, ℕ, Bool, List, Option, Result, Ok, true, false}
+use Rattle.std.specs.Prelude.{◌≡◌, ℕ, Bool, List, Option, Result, Ok, true, false}
 use Rattle.mimic_args.specs.declared.Arguments.{Arguments}
 use Rattle.mimic_trial.specs.declared.trial.Trial.{Trial}
 use Rattle.mimic_trial.specs.declared.outcome.conclusion.Conclusion.{Conclusion}
@@ -27,7 +27,7 @@ module _ {R : Type 0} (gives : Gives R) (default_threads : ℕ) where
   abbrev pub Ran : Arguments → Bool → List (Trial R) → Option (List ℕ) → Option (List ℕ) → Conclusion → Type 0
   Ran args auto trials old new c = Left args auto trials (faultless old) (faultless new) (Ok c)
 
-  -- the writer got a beginning of the bytes that were there, or of what some run left behind them in its sink
+  -- the writer got a beginning of the bytes that were there and of what some run left behind them in its sink
   abbrev pub GotBeginning : Arguments → Bool → List (Trial R) → Option (List ℕ) → Option (List ℕ) → Type 0
   GotBeginning args auto trials old got =
-      HandsOn old got ⊎ ((left : Shown) × (answer : Result Conclusion RunError) × Left args auto trials (faultless old) left answer × HandsOn left.bytes got)
+      (left : Shown) × (answer : Result Conclusion RunError) × Left args auto trials (faultless old) left answer × HandsOn left.bytes got

@@ -1,11 +1,12 @@
 //! The buffer between a report and the system.
-ghost use Rattle.std.specs.Prelude.{◌≡◌, ◌≤◌, ◌-◌, ◌++◌, ℕ, [], drop, false, length, take, true, IsErr, OnErr, OnOk};
+ghost use Rattle.std.specs.Prelude.{◌≡◌, ◌↔◌, ◌+◌, ◌≤◌, ◌-◌, ◌++◌, ℕ, [], drop, false, length, take, true, IsErr, IsTrue, OnErr, OnOk};
 ghost use Rattle.std.specs.Io.{WritesAtMost};
 ghost use Rattle.std.specs.Io.KnownBytes.{Appends, Keeps, WriteAppends};
 ghost use Rattle.mimic_main.specs.Output.{HandsOn, StaysStopped, flushes_by, has_stopped, told_of, waiting_of};
+ghost use Rattle.mimic_main.specs.declared.buffer.TheConstants.{BLOCK};
 
+use arrayvec::ArrayVec;
 use libtest_mimic::{Arguments, FormatSetting};
-use std::alloc::{AllocError, Allocator, Global};
 use std::io;
 use std::io::{ErrorKind, Write};
 
@@ -55,43 +56,33 @@ impl FlushPolicy {
 // So many bytes wait at most.
 const BLOCK: usize = 8192;
 
-/// A buffered writer. What waits in one that is dropped and not finished is lost.
+/// A buffered writer, which takes no memory. What waits in one that is dropped and not finished is lost.
 ///
-/// A fault, which may be a refused allocation, is told by the call that had it. After one nothing more is handed on, and
-/// every later call fails.
+/// A fault is told by the call that had it. After one nothing more is handed on, and every later call fails.
 #[derive(Drop)]
-pub struct Output<W: Write, A: Allocator = Global> {
+pub struct Output<W: Write> {
     writer: W,
-    waiting: Vec<u8, A>,
+    waiting: ArrayVec<u8, BLOCK>,
     policy: FlushPolicy,
     has_failed: bool,
     // The fault behind the front of a text that was taken. The next call tells it.
     untold: Option<io::Error>,
 }
 
-impl<W: Write, A: Allocator> Output<W, A> {
-    /// An empty buffer, which has no room yet.
-    pub fn new(alloc: A, policy: FlushPolicy, writer: W) -> Self
+impl<W: Write> Output<W> {
+    /// An empty buffer.
+    pub fn new(policy: FlushPolicy, writer: W) -> Self
         ensures bytes { told_of W.contents result ≡ W.contents writer }
         ensures policy { flushes_by result ≡ policy }
         ensures runs { has_stopped result ≡ false }
     {
         Output {
             writer,
-            waiting: Vec::new(alloc),
+            waiting: ArrayVec::new(),
             policy,
             has_failed: false,
             untold: None,
         }
-    }
-
-    /// Makes room for a whole block, so that no later call takes memory.
-    pub fn reserve(&mut self) -> Result<(), AllocError>
-        ensures bytes { told_of W.contents self.new ≡ told_of W.contents self.old }
-        ensures policy { flushes_by self.new ≡ flushes_by self.old }
-        ensures stopped { has_stopped self.new ≡ has_stopped self.old }
-    {
-        self.waiting.reserve(BLOCK)
     }
 
     /// Hands on what is left, flushes the writer and gives it back. With a fault it has got a beginning of all bytes.
@@ -177,11 +168,12 @@ impl<W: Write, A: Allocator> Output<W, A> {
 
     // Hands on what waits and the text at once.
     fn write_together(&mut self, text: &[u8]) -> io::Result<usize>
+        requires { length (waiting_of self.old) + length text.now ≤ BLOCK }
         ensures bound { WritesAtMost result text.now }
         ensures bytes { WriteAppends (told_of W.contents self.old) (told_of W.contents self.new) result text.now }
         ensures stops { OnErr result (has_stopped self.new ≡ true) }
     {
-        self.keep(text)?;
+        self.keep(text);
         let fault = self.hand_on().err();
         let taken = take_back(&mut self.waiting, text.len());
         match fault {
@@ -194,27 +186,27 @@ impl<W: Write, A: Allocator> Output<W, A> {
     }
 
     // Lets the text wait, too.
-    fn keep(&mut self, text: &[u8]) -> Result<(), AllocError>
-        ensures kept { OnOk result (waiting_of self.new ≡ waiting_of self.old ++ text.now) }
-        ensures left { OnErr result (waiting_of self.new ≡ waiting_of self.old) }
+    fn keep(&mut self, text: &[u8])
+        requires { length (waiting_of self.old) + length text.now ≤ BLOCK }
+        ensures kept { waiting_of self.new ≡ waiting_of self.old ++ text.now }
         ensures writer { self.new.writer ≡ self.old.writer }
-        ensures stops { OnErr result (has_stopped self.new ≡ true) }
+        ensures runs { has_stopped self.new ≡ has_stopped self.old }
     {
-        if let Err(error) = self.waiting.extend_from_slice(text) {
-            self.has_failed = true;
-            return Err(error);
-        }
-        Ok(())
+        let Ok(()) = self.waiting.try_extend_from_slice(text) else {
+            unreachable!()
+        };
     }
 
     // Whether so many bytes more can wait.
-    fn has_room(&self, count: usize) -> bool {
-        count <= BLOCK.saturating_sub(self.waiting.len())
+    fn has_room(&self, count: usize) -> bool
+        ensures { IsTrue result ↔ (length (waiting_of self.now) + count ≤ BLOCK) }
+    {
+        count <= self.waiting.remaining_capacity()
     }
 }
 
 // Takes so many bytes back from the end of what waits, and returns how many of them wait no longer.
-fn take_back<A: Allocator>(waiting: &mut Vec<u8, A>, count: usize) -> usize
+fn take_back(waiting: &mut ArrayVec<u8, BLOCK>, count: usize) -> usize
     ensures waiting { waiting.new.items ≡ take (length waiting.old.items - count) waiting.old.items }
     ensures taken { result ≡ count - length waiting.old.items }
 {
@@ -223,7 +215,7 @@ fn take_back<A: Allocator>(waiting: &mut Vec<u8, A>, count: usize) -> usize
     count.saturating_sub(left)
 }
 
-impl<W: Write, A: Allocator> Write for Output<W, A> {
+impl<W: Write> Write for Output<W> {
     ghost contents = { told_of W.contents };
 
     fn write(&mut self, buf: &[u8]) -> io::Result<usize>
@@ -243,7 +235,7 @@ impl<W: Write, A: Allocator> Write for Output<W, A> {
         if !self.has_room(buf.len()) {
             self.hand_on()?;
         }
-        self.keep(buf)?;
+        self.keep(buf);
         Ok(buf.len())
     }
 

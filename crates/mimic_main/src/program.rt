@@ -226,10 +226,7 @@ impl<R: Task + Send + 'static, C: Clock + Drop> Job<R, C> {
         ensures answer { IfOk result.1 (λ c. HasAnswer R.gives args.now self.tests.items (Ok c)) }
         ensures adds_up { args.now.list ≡ false → IfOk result.1 (λ c. total_of c ≡ vec_len self.tests) }
     {
-        let mut output = Output::new(self.alloc, FlushPolicy::of_run(args), writer);
-        if let Err(refused) = output.reserve() {
-            return (output.finish().0, Err(RunError::from(refused)));
-        }
+        let output = Output::new(FlushPolicy::of_run(args), writer);
         run_into(
             rt,
             self.alloc,

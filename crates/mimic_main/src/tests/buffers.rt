@@ -1,7 +1,6 @@
 //! When a buffer hands its bytes on.
 use crate::{FlushPolicy, Output};
 use libtest_mimic::{Arguments, FormatSetting};
-use linked_list_allocator::LocalHeap;
 use std::alloc::Global;
 use std::io;
 use std::io::Write;
@@ -39,10 +38,8 @@ impl Write for Marked {
 }
 
 // An output over an empty one.
-fn marking(rt: &HostRuntime, policy: FlushPolicy) -> Result<Output<Marked>, Fail> {
-    let mut output = Output::new(rt.alloc(), policy, Marked::new(rt.alloc()));
-    output.reserve()?;
-    Ok(output)
+fn marking(rt: &HostRuntime, policy: FlushPolicy) -> Output<Marked> {
+    Output::new(policy, Marked::new(rt.alloc()))
 }
 
 // Two bytes and a flush, a line of two bytes, and one byte more. Whoever is flushed flushes the writer, and so does the end.
@@ -54,7 +51,7 @@ fn hands_on_as_asked(rt: HostRuntime) -> Result<(), Fail> {
         (FlushPolicy::WhenFull, &[5], 1),
     ];
     for (policy, marks, flushes) in rows {
-        let mut output = marking(&rt, policy)?;
+        let mut output = marking(&rt, policy);
         output.write_all(b"ab")?;
         output.flush()?;
         output.write_all(b"c\n")?;
@@ -70,7 +67,7 @@ fn hands_on_as_asked(rt: HostRuntime) -> Result<(), Fail> {
 // A whole block waits, what comes behind it begins the next one, and a piece that fills a block by itself never waits.
 #[test]
 fn hands_on_whole_blocks(rt: HostRuntime) -> Result<(), Fail> {
-    let mut output = marking(&rt, FlushPolicy::WhenFull)?;
+    let mut output = marking(&rt, FlushPolicy::WhenFull);
     output.write_all(&[0; 8000])?;
     output.write_all(&[0; 192])?;
     output.write_all(&[0; 1])?;
@@ -85,34 +82,13 @@ fn hands_on_whole_blocks(rt: HostRuntime) -> Result<(), Fail> {
 // A line goes out in one write, whether it comes in one piece or in many.
 #[test]
 fn hands_on_whole_lines(rt: HostRuntime) -> Result<(), Fail> {
-    let mut output = marking(&rt, FlushPolicy::OnLineEnd)?;
+    let mut output = marking(&rt, FlushPolicy::OnLineEnd);
     for piece in ["one piece\n", "many", " pieces", "\n", "\n", "the", " end"] {
         output.write_all(piece.as_bytes())?;
     }
     let (writer, finished) = output.finish();
     finished?;
     assert!(rt; writer.marks.as_slice() == [10, 22, 23, 30].as_slice());
-    Ok(())
-}
-
-// A heap that has no more room. After `reserve` that refuses no write of less than a block; without it the write fails, and
-// so does each later call, though there is room again.
-#[test]
-fn takes_no_memory_after_reserve(rt: HostRuntime) -> Result<(), Fail> {
-    let heap = LocalHeap::new(rt.alloc(), 16384)?;
-    for is_reserved in [true, false] {
-        let mut output = Output::new(&heap, FlushPolicy::WhenFull, Marked::new(rt.alloc()));
-        if is_reserved {
-            output.reserve()?;
-        }
-        let rest: Vec<u8, &LocalHeap> = Vec::with_capacity(&heap, heap.free())?;
-        assert_eq!(rt; output.write_all(&[0; 8000]).is_ok(), is_reserved);
-        drop(rest);
-        assert_eq!(rt; output.write_all(b"a").is_ok(), is_reserved);
-        let (writer, finished) = output.finish();
-        assert_eq!(rt; finished.is_ok(), is_reserved);
-        assert_eq!(rt; writer.len, if is_reserved { 8001 } else { 0 });
-    }
     Ok(())
 }
 

@@ -87,7 +87,7 @@ fn run_three<T: Threads + Wait + Copy + Drop + Send + 'static>(
         tests.push(Trial::new(name, watched))?;
     }
     let telling = Telling { writer, has_failed };
-    let output = Output::new(alloc, policy, telling);
+    let output = Output::new(policy, telling);
     let (telling, ran) = run_into(rt, alloc, args, tests, output, StillClock, 1, false);
     assert_memory(&ran)?;
     Ok(Left {
@@ -170,7 +170,7 @@ fn fails_after_a_fault(rt: HostRuntime) -> Result<(), Fail> {
         FlushPolicy::WhenFull,
     ] {
         let writer = FaultyWriter::new(alloc).failing(Place::Write(1), Fault::ALL[0]);
-        let mut output = Output::new(alloc, policy, writer);
+        let mut output = Output::new(policy, writer);
         assert!(rt; output.write_all(&[0; 8192]).is_err());
         assert!(rt; output.flush().is_err());
         assert!(rt; output.write_all(b"a").is_err());
@@ -193,7 +193,7 @@ fn tells_a_fault_at_its_call(rt: HostRuntime) -> Result<(), Fail> {
         (Place::Byte(10), Fault::ALL[0]),
     ] {
         let writer = FaultyWriter::new(alloc).failing(place, fault);
-        let mut sink = Sink::new(Output::new(alloc, FlushPolicy::OnLineEnd, writer));
+        let mut sink = Sink::new(Output::new(FlushPolicy::OnLineEnd, writer));
         assert!(rt; sink.put(b"waits").is_ok());
         let kind = match fault {
             Fault::Error(kind) => kind,
