@@ -1,23 +1,13 @@
--- Distinct places below n, and then the others, are all of them, each once; and what iterates over both.
-use Rattle.std.proofs.Common.{◌≡◌, ◌∙◌, ℕ, suc, zero, ◌+◌, ◌<◌, ◌≤◌, eqb, Bool, true, false, not, ◌||◌, cond, List, [], ◌∷◌, ◌++◌, filter, refl, sym, ap, subst, inl, inr, arith, Iter}
-use Rattle.std.specs.Iterator.{YieldsFirst}
-use Rattle.std.specs.Iterator.Adapters.{chain_first, chain_first_done, chain_second, chain_second_done, chain_steps, copied_source}
-use Rattle.std.specs.Slice.Iter.{iter_rest}
+-- Distinct places below n, and then the others, are all of them, each once.
+use Rattle.std.proofs.Common.{◌≡◌, ◌∙◌, ℕ, suc, zero, ◌+◌, ◌<◌, ◌≤◌, eqb, Bool, true, false, not, ◌||◌, cond, List, [], ◌∷◌, ◌++◌, filter, refl, sym, ap, subst, inl, inr, arith}
 use Rattle.std.specs.List.{AllByRecursion, list_any, IsDistinct, range_with_len}
 use Rattle.std.specs.List.Sorted.{IsPermutation}
 use Rattle.std.proofs.lemmas.List.Sorted.{IsPermutation-refl, IsPermutation-cons, IsPermutation-middle, IsPermutation-trans, IsPermutation-sym}
-use Rattle.std.proofs.iter.Yields.{copies, fronts}
-use Rattle.std.proofs.lemmas.Iterator.{YieldsList, YieldsList-from_slice}
-use Rattle.std.proofs.lemmas.Iterator.Consumers.{YieldsList-from_chain, YieldsList-from_copied, YieldsList-from_first}
 use Rattle.std.proofs.lemmas.Bool.{eq-eqb}
 use Rattle.std.proofs.lemmas.Bool.Decides.{eqb_tells}
 use Rattle.std.proofs.lemmas.Map.Keys.{IsDistinct-cons, IsDistinct-tail}
 use Rattle.mimic_trial.specs.Places.{Placed, places_of}
 use Rattle.mimic_pool.specs.Arrivals.{has_come}
-use Rattle.mimic_pool.specs.Missing.{missing_items}
-use Rattle.mimic_pool.specs.declared.desk.Missing.{Missing}
-use Rattle.std.specs.declared.iter.Chain.{Chain}
-use Rattle.std.specs.declared.iter.Copied.{Copied}
 
 -- no place of the list is x
 abbrev pub Lacks : ℕ → List ℕ → Type 0
@@ -159,10 +149,3 @@ order_whole n rows missing distinct below is =
     split_whole (places_of rows) (range_with_len 0 n) distinct (distinct_range 0 n) (λ q h. let low = below q h in in_range q 0 n (omega arith) (omega arith)) in
     let P : List ℕ → Type 0 = λ l. IsPermutation (places_of rows ++ l) (range_with_len 0 n) in
     subst P (missing_is rows (range_with_len 0 n) ∙ sym is) (IsPermutation-sym _ _ all)
-
--- an iterator over an order, and then over missing places, gives the places of both
-pub gives_both : (s : Chain (Copied (Iter ℕ)) Missing) (order missing : List ℕ) → iter_rest (copied_source (chain_first s)) ≡ order → missing_items (chain_second s) ≡ missing
-    → chain_first_done s ≡ false → chain_second_done s ≡ false → YieldsList (chain_steps (copies fronts) (YieldsFirst missing_items)) (λ p. p) s (order ++ missing)
-gives_both s order missing front back here there =
-    let last : YieldsList (YieldsFirst missing_items) (λ p. p) (chain_second s) missing = YieldsList-from_first (λ p. p) missing_items missing back in
-    YieldsList-from_chain (YieldsList-from_copied (YieldsList-from_slice order front)) last here there

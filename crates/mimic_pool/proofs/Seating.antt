@@ -11,10 +11,13 @@ use Rattle.std.proofs.lemmas.Map.Keys.{IsDistinct-push}
 use Rattle.std.proofs.lemmas.Map.Steps.{length-le_from_distinct_below}
 use Rattle.std.proofs.lemmas.Bool.Decides.{eqb_tells}
 use Rattle.mimic_trial.specs.declared.outcome.Outcome.{Outcome}
-use Rattle.mimic_trial.specs.Places.{Placed, placed_if}
-use Rattle.mimic_pool.specs.Arrivals.{arrived_at, has_come, missing_of}
+use Rattle.mimic_trial.specs.Places.{Placed, placed_if, places_of}
+use Rattle.mimic_pool.specs.Arrivals.{Arrived, arrived_at, has_come, missing_of}
 use Rattle.mimic_pool.specs.Missing.{free_from}
-use Rattle.mimic_pool.specs.Seats.{seated_at}
+use Rattle.mimic_pool.specs.Seats.{IsSeated, arrived_of, seated_at}
+use Rattle.mimic_pool.specs.declared.desk.Desk.TheInside.{Inside}
+use Rattle.mimic_pool.proofs.Ordering.{order_whole}
+use Rattle.std.specs.List.Sorted.{IsPermutation}
 
 -- each place in the order has a seat that is taken
 AllTaken : List (Option Outcome) → List ℕ → Type 0
@@ -212,3 +215,15 @@ missing_shown seats order taken =
     free_rows (seated_at order seats) 0 seats (λ i low.
     let e : 0 + i ≡ i = omega arith in
     not_some (slice_index_or seats i None) ∙ (ap not (sym (taken i)) ∙ (ap not (sym (has_shown seats order taken i)) ∙ ap (λ p. not (has_come p (seated_at order seats))) (sym e))))
+
+-- the places of what a desk shows, and then those that are missing, are all places, each once
+pub shown_whole : (desk : Inside) (shown : Arrived) → IsSeated desk → arrived_of desk ≡ shown → IsPermutation (places_of shown.rows ++ missing_of shown) (range_with_len 0 shown.places)
+shown_whole desk shown seated is =
+    let seats = desk.seats.items in
+    let order = desk.order.items in
+    let same : order ≡ places_of (seated_at order seats) = order_shown seats order seated.taken in
+    let P : List ℕ → Type 0 = λ l. IsDistinct eqb l in
+    let Q : List ℕ → Type 0 = λ l. (p : ℕ) → list_any (eqb p) l ≡ true → p < length seats in
+    let R : Arrived → Type 0 = λ d. IsPermutation (places_of d.rows ++ missing_of d) (range_with_len 0 d.places) in
+    let whole : R (arrived_of desk) = order_whole (length seats) (seated_at order seats) _ (subst P same seated.distinct) (subst Q same (order_below seats order seated.taken)) refl in
+    subst R is whole

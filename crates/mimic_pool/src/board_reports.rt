@@ -8,10 +8,10 @@ use mimic_trial::Outcome;
 use std::alloc::Global;
 use std::sync::{Arc, Wait};
 
-/// Rows of which copies are reported to a board, by one of its workers. The worker closes when this is dropped, whether or
-/// not its rows were told.
+/// Rows of which copies are reported to a worker's board. The worker closes when this is dropped, whether or not its rows
+/// were told.
 ///
-/// A row is refused where no copy of it can be made, or where the board hands it back.
+/// A row is refused where no copy of it can be made, where its place is another worker's, and where the board hands it back.
 pub struct BoardReports<R: Wait + Drop> {
     rt: R,
     alloc: Global,
@@ -72,6 +72,6 @@ impl<R: Wait + Drop> Drop for BoardReports<R> {
             board,
             counts: _,
         } = self;
-        board.close_one(&rt);
+        board.close(&rt);
     }
 }

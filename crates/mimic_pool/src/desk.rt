@@ -6,7 +6,7 @@ ghost use Rattle.std.specs.List.Sorted.{IsPermutation};
 ghost use Rattle.std.specs.Option.{option_copied};
 ghost use Rattle.mimic_trial.specs.Places.{Placed, placed_at, places_of};
 ghost use Rattle.mimic_pool.specs.Arrivals.{AgreesAt, arrival_of, arrived_at, first_arrivals, missing_of, order_of, rows_after};
-ghost use Rattle.mimic_pool.specs.Missing.{missing_items};
+ghost use Rattle.mimic_pool.specs.Missing.{free_from, missing_items};
 ghost use Rattle.mimic_pool.specs.Seats.{SeatAgreesAt};
 
 use mimic_trial::Outcome;
@@ -101,24 +101,7 @@ impl Desk {
             → places_of self.now.rows ++ missing_items result ≡ order_of self.now.places arrivals }
         ensures whole { IsPermutation (places_of self.now.rows ++ missing_items result) (range_with_len 0 self.now.places) }
     {
-        Missing {
-            seats: self.seats.as_slice(),
-            next: 0,
-        }
-    }
-
-    /// All places in the order of a report: those of `order`, and then those of `missing`. `room` must have room for them;
-    /// no memory is taken.
-    pub fn whole_order(&self, mut room: Vec<usize>) -> Vec<usize>
-        requires empty { vec_len room ≡ 0 }
-        requires fits { self.now.places ≤ vec_capacity room }
-        ensures places { result.items ≡ places_of self.now.rows ++ missing_of self.now }
-        ensures whole { IsPermutation result.items (range_with_len 0 self.now.places) }
-    {
-        for place in self.order().iter().copied().chain(self.missing()) {
-            room.push_reserved(place);
-        }
-        room
+        free_seats(self.seats.as_slice())
     }
 
     /// Compares the first arrivals with the outcomes that workers answered, which stand by place. An `Err` names the
@@ -132,6 +115,18 @@ impl Desk {
         ensures below { IfErr result (λ place. place < self.now.places) }
     {
         first_difference(self.seats.as_slice(), joined)
+    }
+
+    /// All places in the order of a report: those of `order`, and then those of `missing`. No memory is taken.
+    pub fn into_order(self) -> Vec<usize>
+        ensures places { result.items ≡ places_of self.rows ++ missing_of self }
+        ensures whole { IsPermutation result.items (range_with_len 0 self.places) }
+    {
+        let Desk { seats, mut order } = self;
+        for place in free_seats(seats.as_slice()) {
+            order.push_reserved(place);
+        }
+        order
     }
 }
 
@@ -159,6 +154,13 @@ impl<'a> Iterator for Missing<'a> {
         }
         None
     }
+}
+
+// The places of free seats, rising.
+fn free_seats(seats: &[Option<Outcome>]) -> Missing<'_>
+    ensures { missing_items result ≡ free_from 0 seats.now }
+{
+    Missing { seats, next: 0 }
 }
 
 // The least place whose seat is taken by another outcome than the joined one.

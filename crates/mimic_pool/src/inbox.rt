@@ -4,6 +4,7 @@ ghost use Rattle.std.specs.VecDeque.{deque_capacity};
 ghost use Rattle.mimic_pool.specs.Reports.{refused_to, told_to};
 ghost use Rattle.mimic_pool.specs.declared.inbox.TheConstants.{BATCH};
 
+use crate::bell::Bell;
 use crate::board::Board;
 use crate::board_reports::BoardReports;
 use crate::shared::SharedBoard;
@@ -15,54 +16,112 @@ use std::sync::{Arc, Wait};
 // How many rows are taken under one lock at most, so that writing them doesn't ask for it row by row.
 const BATCH: usize = 256;
 
-/// The rows that workers report to a board, in the order of their reports.
+/// The rows that workers report, each to a board of its own. Those of a worker come in the order of their reports, and the
+/// workers take turns.
 ///
 /// One thread takes them: an inbox has no copy, and a row is taken by who may change it. No lock is held when a call is back.
 #[derive(Drop)]
 pub struct Inbox {
-    board: Arc<SharedBoard>,
-    // Rows that were taken from the board, and not yet from the inbox.
+    boards: Vec<Arc<SharedBoard>>,
+    bell: Arc<Bell>,
+    places: usize,
+    workers: usize,
+    // Whose board is looked at first.
+    turn: usize,
+    // Rows that were taken from a board, and not yet from the inbox.
     batch: VecDeque<(usize, Outcome)>,
     ghost room: { BATCH ≤ deque_capacity batch },
 }
 
 impl Inbox {
-    /// An inbox of a new board of `n` places for so many workers. All of its memory is taken here.
+    /// An inbox of `n` places, which are dealt to so many workers as `deal` does it. No worker reports to it yet.
     pub fn new(alloc: Global, n: usize, workers: usize) -> Result<Inbox, AllocError> {
-        let board = Board::new(alloc, n, workers)?;
-        let board = Arc::new(alloc, SharedBoard::new(board))?;
+        let boards = Vec::with_capacity(alloc, workers)?;
+        let bell = Arc::new(alloc, Bell::new())?;
         let batch = VecDeque::with_capacity(alloc, BATCH)?;
-        Ok(Inbox { board, batch })
+        Ok(Inbox {
+            boards,
+            bell,
+            places: n,
+            workers,
+            turn: 0,
+            batch,
+        })
     }
 
-    /// Where one of the workers tells its rows. It closes when it is dropped.
+    /// Where the next worker tells its rows. The worker that is the k-th, from 0, has the places that leave the remainder k
+    /// when they are divided by the number of workers; one beyond that number has none. All memory but that of copies is
+    /// taken here.
     pub fn reports<R: Wait + Drop>(
-        &self,
+        &mut self,
         rt: R,
         alloc: Global,
     ) -> Result<BoardReports<R>, AllocError>
         ensures told { IfOk result (λ reports. told_to reports ≡ 0) }
         ensures refusals { IfOk result (λ reports. refused_to reports ≡ 0) }
     {
-        Ok(BoardReports::new(rt, alloc, self.board()?))
+        Ok(BoardReports::new(rt, alloc, self.board(alloc)?))
     }
 
-    // The board, for one of the workers.
-    pub(crate) fn board(&self) -> Result<Arc<SharedBoard>, AllocError> {
-        Arc::try_clone(&self.board)
+    // The board of the next worker.
+    pub(crate) fn board(&mut self, alloc: Global) -> Result<Arc<SharedBoard>, AllocError> {
+        let worker = self.boards.len();
+        let places = places_of(worker, self.places, self.workers);
+        let board = Board::new(alloc, places, 1)?;
+        let bell = Arc::try_clone(&self.bell)?;
+        let board = SharedBoard::new(board, worker, self.workers, bell);
+        let board = Arc::new(alloc, board)?;
+        self.boards.push(Arc::try_clone(&board)?)?;
+        Ok(board)
     }
 
     /// Takes the next row, and waits while there is none and a worker is still to close. `None` says that all have closed
     /// and every row was taken.
     pub fn next<R: Wait>(&mut self, rt: &R) -> Option<(usize, Outcome)> {
-        if self.batch.is_empty() {
-            self.board.take_waiting(rt, BATCH, &mut self.batch);
+        for _ in rt.forever() {
+            if let Some(row) = self.batch.pop_front() {
+                return Some(row);
+            }
+            let may_come = self.look(rt);
+            if !may_come {
+                break;
+            }
+            if self.batch.is_empty() {
+                self.bell.wait(rt);
+            }
         }
         self.batch.pop_front()
     }
 
+    // Looks at each board once, until one has rows that wait, and takes them. Answers whether more may come.
+    fn look<R: Wait>(&mut self, rt: &R) -> bool {
+        let mut may_come = false;
+        let first = self.turn;
+        for worker in (first..self.boards.len()).chain(0..first) {
+            may_come |= self.look_at(rt, worker);
+        }
+        may_come
+    }
+
+    // Takes rows that wait on this worker's board, unless there are some already. Answers whether more may come.
+    fn look_at<R: Wait>(&mut self, rt: &R, worker: usize) -> bool {
+        let Some(board) = self.boards.get(worker) else {
+            return false;
+        };
+        if !self.batch.is_empty() {
+            return true;
+        }
+        self.turn = worker.wrapping_add(1);
+        board.take_waiting(rt, BATCH, &mut self.batch)
+    }
+
     /// Whether the next row would be waited for, or there is none.
     pub fn is_idle<R: Wait>(&self, rt: &R) -> bool {
-        self.batch.is_empty() && !self.board.has_waiting(rt)
+        self.batch.is_empty() && !self.boards.iter().any(|board| board.has_waiting(rt))
     }
+}
+
+// How many of the places are dealt to this worker.
+fn places_of(worker: usize, places: usize, workers: usize) -> usize {
+    places.saturating_sub(worker).div_ceil(workers.max(1))
 }

@@ -15,6 +15,7 @@
 //! ```
 #![tactic(auto)]
 
+mod bell;
 mod board;
 mod board_reports;
 mod desk;

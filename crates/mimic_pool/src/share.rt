@@ -53,7 +53,7 @@ pub fn deal<T: Drop>(
     ensures len { IfOk result (λ shares. vec_len shares ≡ workers) }
     ensures dealt { IfOk result (λ shares. IsDealt runners.items ignored.items workers shares.items) }
 {
-    let mut shares = empty_shares(alloc, workers)?;
+    let mut shares = empty_shares(alloc, workers, runners.len().div_ceil(workers))?;
     let mut place = 0;
     for runner in runners {
         let item = Assigned {
@@ -68,15 +68,19 @@ pub fn deal<T: Drop>(
     Ok(shares)
 }
 
-// As many empty shares as there are workers.
-fn empty_shares<T: Drop>(alloc: Global, workers: usize) -> Result<Vec<Share<T>>, AllocError>
+// As many empty shares as there are workers, each with room for so many items.
+fn empty_shares<T: Drop>(
+    alloc: Global,
+    workers: usize,
+    room: usize,
+) -> Result<Vec<Share<T>>, AllocError>
     ensures len { IfOk result (λ shares. vec_len shares ≡ workers) }
     ensures empty { IfOk result (λ shares. AreEmpty shares.items) }
 {
     let mut shares = Vec::with_capacity(alloc, workers)?;
     for _worker in 0..workers {
         shares.push(Share {
-            items: Vec::new(alloc),
+            items: Vec::with_capacity(alloc, room)?,
         })?;
     }
     Ok(shares)

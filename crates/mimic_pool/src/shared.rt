@@ -1,30 +1,36 @@
-//! A board under its lock.
+//! The board of a worker, under its lock.
 ghost use Rattle.std.specs.Prelude.{◌≡◌, ◌+◌, ◌≤◌};
 ghost use Rattle.std.specs.VecDeque.{deque_capacity, deque_len};
 
+use crate::bell::Bell;
 use crate::board::Board;
 use mimic_trial::Outcome;
 use std::collections::VecDeque;
-use std::sync::{Condvar, Mutex, Wait};
+use std::sync::{Arc, Mutex, Wait};
 
-// A board that workers share with the one thread that takes their rows.
+// A board that one worker shares with the one thread that takes its rows, so that workers don't wait for one another.
 //
-// No wake-up is lost. The taking thread falls asleep where it saw, under the lock, that no row waits and a worker is still to
-// close, and it lets the lock go by falling asleep. Nothing is taken from then on, so the next row that is accepted finds
-// none waiting, and its report wakes the thread; where no such row comes, the last close does. Reports after that one need
-// not wake it again. A wake-up comes after the lock was let go, so perhaps late, when the thread has taken all by itself:
-// it looks at the board under the lock, and falls asleep again.
+// Of the places, those stand on it that are dealt to the worker: each whose remainder by the number of workers is the
+// worker's number. Its index on the board is the quotient.
+//
+// No wake-up is lost. The taking thread sleeps only where it saw no row on any board, and heard no ring since it began to look.
+// A row that comes where none waits rings when it lies on its board, and so does a close. So either the look found it, or its
+// ring comes after the look began.
 #[derive(Drop)]
 pub(crate) struct SharedBoard {
     board: Mutex<Board>,
-    changed: Condvar,
+    worker: usize,
+    workers: usize,
+    bell: Arc<Bell>,
 }
 
 impl SharedBoard {
-    pub(crate) fn new(board: Board) -> Self {
+    pub(crate) fn new(board: Board, worker: usize, workers: usize, bell: Arc<Bell>) -> Self {
         SharedBoard {
             board: Mutex::new(board),
-            changed: Condvar::new(),
+            worker,
+            workers,
+            bell,
         }
     }
 
@@ -35,52 +41,62 @@ impl SharedBoard {
         place: usize,
         outcome: Outcome,
     ) -> Result<(), Outcome> {
+        let Some(index) = self.index_of(place) else {
+            return Err(outcome);
+        };
         let mut board = self.board.lock(rt);
         let is_first_to_wait = !board.has_waiting();
-        board.report(place, outcome)?;
+        board.report(index, outcome)?;
         drop(board);
         if is_first_to_wait {
-            self.changed.notify_one();
+            self.bell.ring(rt);
         }
         Ok(())
     }
 
-    // Closes one worker.
-    pub(crate) fn close_one<R: Wait>(&self, rt: &R) {
+    // Closes the worker.
+    pub(crate) fn close<R: Wait>(&self, rt: &R) {
         let mut board = self.board.lock(rt);
         board.close_one();
-        let was_last = board.all_closed();
         drop(board);
-        if was_last {
-            self.changed.notify_one();
-        }
+        self.bell.ring(rt);
     }
 
-    // Takes the rows that wait, but no more than `most`, for which there must be room. It waits while there is none and a
-    // worker is still to close.
+    // Takes the rows that wait, but no more than `most`, for which there must be room. Answers whether there may be more.
     pub(crate) fn take_waiting<R: Wait>(
         &self,
         rt: &R,
         most: usize,
         rows: &mut VecDeque<(usize, Outcome)>,
-    )
+    ) -> bool
         requires room { deque_len rows.old + most ≤ deque_capacity rows.old }
         ensures capacity { deque_capacity rows.new ≡ deque_capacity rows.old }
     {
-        let board = self.board.lock(rt);
-        let mut board = self.changed.wait_while(rt, board, |board| {
-            !board.has_waiting() && !board.all_closed()
-        });
+        let mut board = self.board.lock(rt);
         for _ in 0..most {
-            let Some(row) = board.take() else {
-                return;
+            let Some((index, outcome)) = board.take() else {
+                return !board.all_closed();
             };
-            rows.push_back_reserved(row);
+            rows.push_back_reserved((self.place_at(index), outcome));
         }
+        true
     }
 
     // Whether a row waits to be taken.
     pub(crate) fn has_waiting<R: Wait>(&self, rt: &R) -> bool {
         self.board.lock(rt).has_waiting()
+    }
+
+    // The index of the place on this board, where it stands there.
+    fn index_of(&self, place: usize) -> Option<usize> {
+        match place.checked_rem(self.workers) {
+            Some(worker) if worker == self.worker => place.checked_div(self.workers),
+            _ => None,
+        }
+    }
+
+    // The place that has this index. Since the place had one, nothing overflows.
+    fn place_at(&self, index: usize) -> usize {
+        index.wrapping_mul(self.workers).wrapping_add(self.worker)
     }
 }

@@ -25,12 +25,12 @@ impl<T: Threads + Wait + Copy + Drop + Send> Spawner for T {}
 /// The handles of workers that were started, in the order of their shares.
 pub type Handles<T> = Vec<PromisedHandle<Rows, AnswersShare<T>>>;
 
-/// What each worker starts with, one for each share: room for what it answers, and the board of the inbox, which is one
-/// for so many workers.
+/// What each worker starts with, one for each share: room for what it answers, and its board. The inbox is one of as many
+/// places and workers as were dealt, and no worker reports to it yet.
 pub fn prepare<T: Task>(
     alloc: Global,
     shares: Vec<Share<T>>,
-    inbox: &Inbox,
+    inbox: &mut Inbox,
 ) -> Result<Vec<Start<T>>, AllocError>
     ensures shares { IfOk result (λ starts. shares_of starts.items ≡ shares.items) }
     ensures len { IfOk result (λ starts. vec_len starts ≡ vec_len shares) }
@@ -38,7 +38,7 @@ pub fn prepare<T: Task>(
     let mut starts = Vec::with_capacity(alloc, shares.len())?;
     for share in shares {
         let room = Vec::with_capacity(alloc, share.len())?;
-        let board = inbox.board()?;
+        let board = inbox.board(alloc)?;
         starts.push(Start { share, room, board })?;
     }
     Ok(starts)

@@ -1,5 +1,5 @@
 //! Runs trials in worker threads.
-ghost use Rattle.std.specs.Prelude.{◌≡◌, ◌≢◌, ◌-◌, ◌^◌, ◌<◌, ◌≤◌, [], All, IfOk, MatchResult, length, map, not, vec_len};
+ghost use Rattle.std.specs.Prelude.{◌≡◌, ◌≢◌, ◌-◌, ◌^◌, ◌<◌, ◌≤◌, [], All, IfOk, MatchResult, length, map, not, vec_capacity, vec_len};
 ghost use Rattle.mimic_printer.specs.Sink.{Put, faults_of, shown};
 ghost use Rattle.mimic_trial.specs.Trial.{AllCanRun};
 ghost use Rattle.mimic_pool.specs.Share.{assigned_from};
@@ -113,39 +113,40 @@ fn write_rows<R: Task + Send + 'static, W: Write, T: Spawner + 'static>(
     let count = runners.len();
     let mut inbox = Inbox::new(alloc, count, workers)?;
     let shares = deal(alloc, runners, ignored, workers)?;
-    let starts = prepare(alloc, shares, &inbox)?;
+    let starts = prepare(alloc, shares, &mut inbox)?;
     let handles = Vec::with_capacity(alloc, starts.len())?;
     let mut desk = Desk::new(alloc, count)?;
-    let outcomes = placeholders(alloc, count)?;
-    let order = Vec::with_capacity(alloc, count)?;
+    let room = Vec::with_capacity(alloc, count)?;
     printer.print_title(sink, count as u64)?;
     let handles = match start_all(rt, alloc, starts, test_mode, handles) {
         Ok(handles) => handles,
         Err(started) => {
-            join_all(rt, started, outcomes);
+            join_all(rt, started, room);
             return Err(RunError::Spawn);
         }
     };
     let written = write_arrivals(rt, printer, infos, &mut inbox, &mut desk, sink);
-    let outcomes = join_all(rt, handles, outcomes);
+    let outcomes = join_all(rt, handles, placeholders(room, count));
     if let Err(place) = desk.settle(&outcomes) {
         return Err(RunError::Arrival { place });
     }
     let told = desk.order().len();
-    let order = desk.whole_order(order);
+    let order = desk.into_order();
     // A write fault waits until here, since an outcome that differs is answered in its place.
     written?;
     write_missing(printer, infos, &order[told..], &outcomes, sink)?;
     Ok((order, outcomes))
 }
 
-// As many outcomes, each of which stands for one that a worker will answer.
-fn placeholders(alloc: Global, count: usize) -> Result<Vec<Outcome>, AllocError>
-    ensures { IfOk result (λ outcomes. vec_len outcomes ≡ count) }
+// As many outcomes, each of which stands for one that a worker answers. They are put into `room` when the workers have let
+// go what they ran, so the memory of both is never there at once.
+fn placeholders(mut room: Vec<Outcome>, count: usize) -> Vec<Outcome>
+    requires empty { vec_len room ≡ 0 }
+    requires fits { count ≤ vec_capacity room }
+    ensures { vec_len result ≡ count }
 {
-    let mut outcomes = Vec::with_capacity(alloc, count)?;
     for _place in 0..count {
-        outcomes.push(Outcome::Ignored)?;
+        room.push_reserved(Outcome::Ignored);
     }
-    Ok(outcomes)
+    room
 }

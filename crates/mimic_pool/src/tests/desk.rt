@@ -21,12 +21,11 @@ fn keeps_first_arrivals(rt: HostRuntime) -> Result<(), Fail> {
     let mut missing = desk.missing();
     assert_eq!(rt; missing.next(), Some(1));
     assert_eq!(rt; missing.next(), None);
-    let room = Vec::with_capacity(rt.alloc(), 3)?;
-    assert_eq!(rt; desk.whole_order(room).as_slice(), [2, 0, 1].as_slice());
     let joined = [Outcome::Passed, Outcome::Ignored, Outcome::Passed];
     assert_eq!(rt; desk.settle(&joined), Ok(()));
     let joined = [Outcome::Ignored, Outcome::Ignored, Outcome::Passed];
     assert_eq!(rt; desk.settle(&joined), Err(0));
+    assert_eq!(rt; desk.into_order().as_slice(), [2, 0, 1].as_slice());
     Ok(())
 }
 
@@ -103,19 +102,16 @@ fn arrives(desk: &mut Desk, arrivals: &[usize], number: usize) -> Option<Arrival
     }
 }
 
-fn shows(rt: &impl Abort, alloc: Global, desk: &Desk, arrivals: &[usize]) -> Result<(), Fail>
-    requires { desk.now.places ≡ 3 }
-{
+fn shows(rt: &impl Abort, alloc: Global, desk: Desk, arrivals: &[usize]) -> Result<(), Fail> {
     let (mut order, missing) = expected_places(alloc, arrivals)?;
     assert_eq!(rt; desk.order(), order.as_slice());
     assert_eq!(rt; Vec::from_iter(alloc, desk.missing())?, missing);
-    order.extend_from_slice(missing.as_slice())?;
-    let room = Vec::with_capacity(alloc, 3)?;
-    assert_eq!(rt; desk.whole_order(room), order);
     for place in 0..5 {
         let first = first_at(arrivals, place).filter(|_| place < 3);
         assert!(rt; desk.outcome(place) == first.map(outcome_of).as_ref());
     }
+    order.extend_from_slice(missing.as_slice())?;
+    assert_eq!(rt; desk.into_order(), order);
     Ok(())
 }
 
@@ -166,8 +162,8 @@ fn shows_each_short_list(rt: HostRuntime) -> Result<(), Fail> {
                 arrives(&mut desk, &arrivals, 3),
                 expected_answer(&arrivals, 3)
             );
-            shows(&rt, rt.alloc(), &desk, &arrivals)?;
             settles(&rt, &desk, &arrivals);
+            shows(&rt, rt.alloc(), desk, &arrivals)?;
         }
     }
     Ok(())

@@ -33,6 +33,35 @@ fn refuses_what_the_board_hands_back(rt: HostRuntime) -> Result<(), Fail> {
     Ok(())
 }
 
+// A worker tells the places that are dealt to it, and no others. Of three places and two workers, the first has two.
+#[test]
+fn refuses_places_of_others(rt: HostRuntime) -> Result<(), Fail> {
+    let mut inbox = Inbox::new(rt.alloc(), 3, 2)?;
+    let mut first = inbox.reports(rt, rt.alloc())?;
+    let mut second = inbox.reports(rt, rt.alloc())?;
+    let mut third = inbox.reports(rt, rt.alloc())?;
+    for (place, owner) in [
+        (0, Some(0)),
+        (1, Some(1)),
+        (2, Some(0)),
+        (3, None),
+        (4, None),
+        (usize::MAX, None),
+    ] {
+        let told = [
+            first.tell(place, &Outcome::Passed).is_ok(),
+            second.tell(place, &Outcome::Passed).is_ok(),
+            third.tell(place, &Outcome::Passed).is_ok(),
+        ];
+        assert_eq!(rt; told, [owner == Some(0), owner == Some(1), false]);
+        if owner.is_some() {
+            assert!(rt; inbox.next(&rt) == Some((place, Outcome::Passed)));
+        }
+        assert!(rt; inbox.is_idle(&rt));
+    }
+    Ok(())
+}
+
 // A copy that can't be made is refused, and another row is told after it.
 #[test]
 fn refuses_what_it_cannot_copy(rt: HostRuntime) -> Result<(), Fail> {
@@ -54,15 +83,15 @@ fn refuses_what_it_cannot_copy(rt: HostRuntime) -> Result<(), Fail> {
 // The inbox is at its end when all workers have closed and all rows were taken, and not before.
 #[test]
 fn a_worker_closes_when_its_reports_are_dropped(rt: HostRuntime) -> Result<(), Fail> {
-    let mut inbox = Inbox::new(rt.alloc(), 2, 2)?;
+    let mut inbox = Inbox::new(rt.alloc(), 4, 2)?;
     let silent = inbox.reports(rt, rt.alloc())?;
     let mut telling = inbox.reports(rt, rt.alloc())?;
     drop(silent);
-    assert_eq!(rt; telling.tell(0, &Outcome::Passed), Ok(()));
-    assert!(rt; inbox.next(&rt) == Some((0, Outcome::Passed)));
-    assert_eq!(rt; telling.tell(1, &Outcome::Ignored), Ok(()));
+    assert_eq!(rt; telling.tell(1, &Outcome::Passed), Ok(()));
+    assert!(rt; inbox.next(&rt) == Some((1, Outcome::Passed)));
+    assert_eq!(rt; telling.tell(3, &Outcome::Ignored), Ok(()));
     drop(telling);
-    assert!(rt; inbox.next(&rt) == Some((1, Outcome::Ignored)));
+    assert!(rt; inbox.next(&rt) == Some((3, Outcome::Ignored)));
     assert!(rt; inbox.next(&rt).is_none());
     assert!(rt; inbox.next(&rt).is_none());
     Ok(())
@@ -101,7 +130,7 @@ fn rows_taken<T: Task + Send + 'static, R: Threads + Wait + Copy + Drop + Send +
     let mut inbox = Inbox::new(alloc, trials, 2)?;
     let handles = Vec::with_capacity(alloc, shares.len())?;
     let mut rows = Vec::with_capacity(alloc, trials)?;
-    let starts = prepare(alloc, shares, &inbox)?;
+    let starts = prepare(alloc, shares, &mut inbox)?;
     let Ok(handles) = start_all(rt, alloc, starts, true, handles) else {
         return Err(Fail::new("a worker could not be started"));
     };

@@ -277,7 +277,7 @@ fn run_in_threads<
         outcomes.push(Outcome::Ignored)?;
     }
     let mut desk = Desk::new(alloc, trials)?;
-    let starts = prepare(alloc, shares, &inbox)?;
+    let starts = prepare(alloc, shares, &mut inbox)?;
     let Ok(handles) = start_all(rt, alloc, starts, true, handles) else {
         return Err(Fail::new("a worker could not be started"));
     };

@@ -31,19 +31,19 @@ pub returns-in_err-written-clause-rows : goal.returns-in_err-written-clause-rows
 returns-in_err-written-clause-rows g c =
     let same = sym c.args.runners.ok.0 ∙ c.requires.same_length ∙ c.args.ignored.ok.0 in
     let started = c.in-Ok.ensures ∙ ap (jobs_of c.args.test_mode) c.in_ok-starts.ensures.shares in
-    let room = sym c.in_ok-outcomes.outcomes.ok.0 ∙ c.in_ok-outcomes.ensures ∙ c.len-count.ensures ∙ c.args.runners.ok.0 in
+    let room = sym c.placeholders.result.ok.0 ∙ c.placeholders.ensures ∙ c.len-count.ensures ∙ c.args.runners.ok.0 in
     let places = c.write_arrivals-written.ensures.places ∙ ap (λ d. d.places) c.in_ok-desk.ensures ∙ c.len-count.ensures ∙ c.args.runners.ok.0 in
     let all = gathered g.R.Task.gives c.args.test_mode c.args.runners.items c.args.ignored.items same _ _ _ _ _ _ _ c.requires.some_worker (sym c.in_ok-shares.shares.ok.0 ∙ c.in_ok-shares.ensures.len) c.in_ok-shares.ensures.dealt
-    started room (c.join_all-outcomes.ensures.joined _ _ _ _) places c.whole_order-order.ensures.whole in
+    started room (c.join_all-outcomes.ensures.joined _ _ _ _) places c.into_order-order.ensures.whole in
     let settled = c.in_default.ensures.rows ∙ ap (placed_at (places_of c.write_arrivals-written.new.desk.rows)) c.deref.ensures.value in
     let before = shown g.W.Write.contents c.print_title.new.sink in
     let written = c.in_err-written.ensures.told before (nothing_told c.args.printer.now c.args.infos.now c.in_ok-desk.desk _ c.in_ok-desk.ensures before) in
     on_error c.from_residual-in_err-written.result (Write c.in_err-written.field-0.0) _ _ c.from_residual-in_err-written.ensures.1
     (inr (
-      c.whole_order-order.result.items,
+      c.into_order-order.result.items,
       c.join_all-outcomes.result.items,
       all,
-      stopped_told c.args.printer.now c.args.infos.now c.write_arrivals-written.new.desk _ _ _ c.whole_order-order.ensures.places settled _ _ _ _ (c.len-count.ensures ∙ sym c.requires.infos) c.in_ok-print_title.ensures written,
+      stopped_told c.args.printer.now c.args.infos.now c.write_arrivals-written.new.desk _ _ _ c.into_order-order.ensures.places settled _ _ _ _ (c.len-count.ensures ∙ sym c.requires.infos) c.in_ok-print_title.ensures written,
     ))
 
 pub write_missing-requires-clause-room : goal.write_missing-requires-clause-room
@@ -54,47 +54,47 @@ write_missing-requires-clause-room g c =
 
 pub write_missing-requires-clause-places : goal.write_missing-requires-clause-places
 write_missing-requires-clause-places g c =
-    let order = c.deref-2.ensures.value ∙ c.whole_order-order.ensures.places in
+    let order = c.deref-2.ensures.value ∙ c.into_order-order.ensures.places in
     let places : c.write_arrivals-written.new.desk.places ≡ length c.args.infos.now = c.write_arrivals-written.ensures.places ∙ ap (λ d. d.places) c.in_ok-desk.ensures ∙ c.len-count.ensures ∙ sym c.requires.infos in
-    let whole = subst (λ (l : List ℕ). IsPermutation l (range_with_len 0 c.write_arrivals-written.new.desk.places)) (sym c.deref-2.ensures.value) c.whole_order-order.ensures.whole in
+    let whole = subst (λ (l : List ℕ). IsPermutation l (range_with_len 0 c.write_arrivals-written.new.desk.places)) (sym c.deref-2.ensures.value) c.into_order-order.ensures.whole in
     rest_below _ _ c.deref-2.result.now _ _ order (ap length c.order-told.ensures) (subst (λ (n : ℕ). IsPermutation c.deref-2.result.now (range_with_len 0 n)) places whole)
 
 pub returns-in_err-write_missing-clause-rows : goal.returns-in_err-write_missing-clause-rows
 returns-in_err-write_missing-clause-rows g c =
     let same = sym c.args.runners.ok.0 ∙ c.requires.same_length ∙ c.args.ignored.ok.0 in
     let started = c.in-Ok.ensures ∙ ap (jobs_of c.args.test_mode) c.in_ok-starts.ensures.shares in
-    let room = sym c.in_ok-outcomes.outcomes.ok.0 ∙ c.in_ok-outcomes.ensures ∙ c.len-count.ensures ∙ c.args.runners.ok.0 in
+    let room = sym c.placeholders.result.ok.0 ∙ c.placeholders.ensures ∙ c.len-count.ensures ∙ c.args.runners.ok.0 in
     let places = c.write_arrivals-written.ensures.places ∙ ap (λ d. d.places) c.in_ok-desk.ensures ∙ c.len-count.ensures ∙ c.args.runners.ok.0 in
     let all = gathered g.R.Task.gives c.args.test_mode c.args.runners.items c.args.ignored.items same _ _ _ _ _ _ _ c.requires.some_worker (sym c.in_ok-shares.shares.ok.0 ∙ c.in_ok-shares.ensures.len) c.in_ok-shares.ensures.dealt
-    started room (c.join_all-outcomes.ensures.joined _ _ _ _) places c.whole_order-order.ensures.whole in
+    started room (c.join_all-outcomes.ensures.joined _ _ _ _) places c.into_order-order.ensures.whole in
     let settled = c.in_default.ensures.rows ∙ ap (placed_at (places_of c.write_arrivals-written.new.desk.rows)) c.deref.ensures.value in
     let before = shown g.W.Write.contents c.print_title.new.sink in
     let written = c.in_ok-written.ensures.told before (nothing_told c.args.printer.now c.args.infos.now c.in_ok-desk.desk _ c.in_ok-desk.ensures before) in
-    let rest = order_rest _ _ c.deref-2.result.now _ (c.deref-2.ensures.value ∙ c.whole_order-order.ensures.places) (ap length c.order-told.ensures) in
+    let rest = order_rest _ _ c.deref-2.result.now _ (c.deref-2.ensures.value ∙ c.into_order-order.ensures.places) (ap length c.order-told.ensures) in
     let P : List ℕ → List Outcome → Type 0 = λ l os. Stopped (shown g.W.Write.contents c.write_arrivals-written.new.sink) (shown g.W.Write.contents c.write_missing.new.sink) (rows_text c.args.printer.now (rows_at (map label_of c.args.infos.now) (placed_at l os))) in
     let missing = subst (λ (l : List ℕ). P l c.join_all-outcomes.result.items) rest (subst (λ (os : List Outcome). P (take (length c.deref-2.result.now - length c.order-told.result.now) (drop (length c.order-told.result.now) c.deref-2.result.now)) os) c.deref-3.ensures.value c.in_err-write_missing.ensures) in
     on_error c.from_residual-in_err-write_missing.result (Write c.in_err-write_missing.field-0.0) _ _ c.from_residual-in_err-write_missing.ensures.1
     (inr (
-      c.whole_order-order.result.items,
+      c.into_order-order.result.items,
       c.join_all-outcomes.result.items,
       all,
-      stopped_missing c.args.printer.now c.args.infos.now c.write_arrivals-written.new.desk _ _ _ c.whole_order-order.ensures.places settled _ _ _ _ (c.len-count.ensures ∙ sym c.requires.infos) c.in_ok-print_title.ensures _ written missing,
+      stopped_missing c.args.printer.now c.args.infos.now c.write_arrivals-written.new.desk _ _ _ c.into_order-order.ensures.places settled _ _ _ _ (c.len-count.ensures ∙ sym c.requires.infos) c.in_ok-print_title.ensures _ written missing,
     ))
 
 pub returns-clause-rows : goal.returns-clause-rows
 returns-clause-rows g c =
     let same = sym c.args.runners.ok.0 ∙ c.requires.same_length ∙ c.args.ignored.ok.0 in
     let started = c.in-Ok.ensures ∙ ap (jobs_of c.args.test_mode) c.in_ok-starts.ensures.shares in
-    let room = sym c.in_ok-outcomes.outcomes.ok.0 ∙ c.in_ok-outcomes.ensures ∙ c.len-count.ensures ∙ c.args.runners.ok.0 in
+    let room = sym c.placeholders.result.ok.0 ∙ c.placeholders.ensures ∙ c.len-count.ensures ∙ c.args.runners.ok.0 in
     let places = c.write_arrivals-written.ensures.places ∙ ap (λ d. d.places) c.in_ok-desk.ensures ∙ c.len-count.ensures ∙ c.args.runners.ok.0 in
     let all = gathered g.R.Task.gives c.args.test_mode c.args.runners.items c.args.ignored.items same _ _ _ _ _ _ _ c.requires.some_worker (sym c.in_ok-shares.shares.ok.0 ∙ c.in_ok-shares.ensures.len) c.in_ok-shares.ensures.dealt
-    started room (c.join_all-outcomes.ensures.joined _ _ _ _) places c.whole_order-order.ensures.whole in
+    started room (c.join_all-outcomes.ensures.joined _ _ _ _) places c.into_order-order.ensures.whole in
     let settled = c.in_default.ensures.rows ∙ ap (placed_at (places_of c.write_arrivals-written.new.desk.rows)) c.deref.ensures.value in
     let before = shown g.W.Write.contents c.print_title.new.sink in
     let written = c.in_ok-written.ensures.told before (nothing_told c.args.printer.now c.args.infos.now c.in_ok-desk.desk _ c.in_ok-desk.ensures before) in
-    let rest = order_rest _ _ c.deref-2.result.now _ (c.deref-2.ensures.value ∙ c.whole_order-order.ensures.places) (ap length c.order-told.ensures) in
+    let rest = order_rest _ _ c.deref-2.result.now _ (c.deref-2.ensures.value ∙ c.into_order-order.ensures.places) (ap length c.order-told.ensures) in
     let P : List ℕ → List Outcome → Type 0 = λ l os. Put (shown g.W.Write.contents c.write_arrivals-written.new.sink) (shown g.W.Write.contents c.write_missing.new.sink) (rows_text c.args.printer.now (rows_at (map label_of c.args.infos.now) (placed_at l os))) in
     let missing = subst (λ (l : List ℕ). P l c.join_all-outcomes.result.items) rest (subst (λ (os : List Outcome). P (take (length c.deref-2.result.now - length c.order-told.result.now) (drop (length c.order-told.result.now) c.deref-2.result.now)) os) c.deref-3.ensures.value c.in_ok-write_missing.ensures) in (
       all,
-      put_all c.args.printer.now c.args.infos.now c.write_arrivals-written.new.desk _ _ _ c.whole_order-order.ensures.places settled _ _ _ _ (c.len-count.ensures ∙ sym c.requires.infos) c.in_ok-print_title.ensures _ written missing,
+      put_all c.args.printer.now c.args.infos.now c.write_arrivals-written.new.desk _ _ _ c.into_order-order.ensures.places settled _ _ _ _ (c.len-count.ensures ∙ sym c.requires.infos) c.in_ok-print_title.ensures _ written missing,
     )
