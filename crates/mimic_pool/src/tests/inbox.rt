@@ -36,10 +36,6 @@ fn refuses_what_the_board_hands_back(rt: HostRuntime) -> Result<(), Fail> {
 // A worker tells the places that are dealt to it, and no others. Of three places and two workers, the first has two.
 #[test]
 fn refuses_places_of_others(rt: HostRuntime) -> Result<(), Fail> {
-    let mut inbox = Inbox::new(rt.alloc(), 3, 2)?;
-    let mut first = inbox.reports(rt, rt.alloc())?;
-    let mut second = inbox.reports(rt, rt.alloc())?;
-    let mut third = inbox.reports(rt, rt.alloc())?;
     for (place, owner) in [
         (0, Some(0)),
         (1, Some(1)),
@@ -48,6 +44,10 @@ fn refuses_places_of_others(rt: HostRuntime) -> Result<(), Fail> {
         (4, None),
         (usize::MAX, None),
     ] {
+        let mut inbox = Inbox::new(rt.alloc(), 3, 2)?;
+        let mut first = inbox.reports(rt, rt.alloc())?;
+        let mut second = inbox.reports(rt, rt.alloc())?;
+        let mut third = inbox.reports(rt, rt.alloc())?;
         let told = [
             first.tell(place, &Outcome::Passed).is_ok(),
             second.tell(place, &Outcome::Passed).is_ok(),
