@@ -46,9 +46,12 @@ module _ {R : Type 0} (gives : Gives R) (suite : Suite R) (infos : List TestInfo
   arrangement : (order : List ℕ) (outs : List Outcome) → GatheredOf order outs → IsArrangement gives suite.args suite.trials (placed_at order outs)
   arrangement order outs h = arranged gives suite.args suite.trials bs outs order parts.each_flag (of_trials order outs h)
 
-  -- as many runners as flags
-  pub as_many : length rs ≡ length bs
-  as_many = ap length parts.each_runner ∙ length-map suite.trials runner_of ∙ flags_length suite.args suite.trials bs parts.each_flag
+  -- as many runners and flags as infos
+  pub runners_of_infos : length rs ≡ length infos
+  runners_of_infos = ap length parts.each_runner ∙ length-map suite.trials runner_of ∙ sym count
+
+  pub flags_of_infos : length bs ≡ length infos
+  flags_of_infos = sym (flags_length suite.args suite.trials bs parts.each_flag) ∙ sym count
 
   -- title and rows of the infos are those of the trials
   titled_same : (order : List ℕ) (outs : List Outcome)

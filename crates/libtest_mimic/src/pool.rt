@@ -2,5 +2,5 @@
 //! outcomes arrive.
 pub use mimic_pool::{
     Arrival, Board, BoardReports, Desk, Inbox, MemoryReports, Missing, Reports, Share, Untold,
-    deal, hands_on_first_reports, work,
+    deal, deal_next, empty_shares, hands_on_first_reports, work,
 };

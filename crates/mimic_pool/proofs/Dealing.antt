@@ -1,53 +1,68 @@
--- A turn of the loop that deals.
-use Rattle.std.proofs.Common.{◌≡◌, ◌≢◌, ℕ, ◌+◌, ◌%◌, ◌<◌, ◌==◌, Bool, true, false, List, [], ◌∷◌, ◌++◌, length, slice_index_or, slice_set, refl, sym, ◌∙◌, ap, append_assoc, cond, drop, add-one, suc, arith}
+-- One runner more is dealt.
+use Rattle.std.proofs.Common.{◌≡◌, ◌≢◌, ◌∙◌, ℕ, ◌+◌, ◌%◌, ◌<◌, ◌==◌, Bool, true, false, List, [], ◌∷◌, ◌++◌, cond, length, slice_index_or, slice_set, map, suc, zero, refl, sym, ap, arith}
+use Rattle.std.specs.Prelude.{Ok, Err, OnErr, Result}
 use Rattle.std.proofs.lemmas.Grind.{get_or-set_at}
-use Rattle.std.proofs.lemmas.List.{get_or_default, get_or-set_other}
+use Rattle.std.proofs.lemmas.List.{append-nil, get_or_default, get_or-set_other}
+use Rattle.std.proofs.lemmas.List.Elements.{filter-append}
 use Rattle.std.proofs.lemmas.Bool.Decides.{nat_tests}
-use Rattle.std.proofs.Math.Seq.{drop-cons}
 use Rattle.mimic_pool.specs.declared.share.Assigned.{Assigned}
 use Rattle.mimic_pool.specs.declared.share.Share.{Share}
-use Rattle.mimic_pool.specs.Share.{share_of, assigned_from}
+use Rattle.mimic_pool.specs.Share.{IsDealt, assigned_from, items_of, share_of}
+
+-- what holds anyhow holds of a refusal
+pub on_refusal : {T E P : Type 0} (r : Result T E) → P → OnErr r P
+on_refusal (Ok x) p = tt
+on_refusal (Err e) p = p
 
 module _ {X : Type 0} where
-  -- one item is dealt: t says whether it goes to the share w
-  dealt_by : (workers p w : ℕ) (S : List (Share X)) (d : Share X) (new : Share X)
-      (r : X) (b : Bool) (rs : List X) (bs : List Bool)
-      → p % workers < length S
-      → new.items.items ≡ (slice_index_or S (p % workers) d).items.items ++ record { place = p; runner = r; ignored = b } ∷ []
-      → (t : Bool) → (p % workers == w) ≡ t
-      → (slice_index_or (slice_set S (p % workers) new) w d).items.items ++ share_of workers w (assigned_from (p + 1) rs bs)
-      ≡ (slice_index_or S w d).items.items ++ share_of workers w (assigned_from p (r ∷ rs) (b ∷ bs))
-  dealt_by workers p w S d new r b rs bs below is true here =
-      let same : p % workers ≡ w = grind (arith, nat_tests) in
-      let got : slice_index_or (slice_set S (p % workers) new) w d ≡ new = get_or-set_at S (p % workers) w new d (sym same) below in
-      let item : Assigned X = record { place = p; runner = r; ignored = b } in
-      let rest = share_of workers w (assigned_from (p + 1) rs bs) in
-      let old = (slice_index_or S w d).items.items in
-      let is' : new.items.items ≡ old ++ item ∷ [] = is ∙ ap (λ k. (slice_index_or S k d).items.items ++ item ∷ []) same in
-      let step : share_of workers w (assigned_from p (r ∷ rs) (b ∷ bs)) ≡ item ∷ rest = ap (λ t. cond t (item ∷ rest) rest) here in
-      ap (λ s. s.items.items ++ rest) got ∙ (ap (λ xs. xs ++ rest) is' ∙ (append_assoc old (item ∷ []) rest ∙ ap (λ ys. old ++ ys) (sym step)))
-  dealt_by workers p w S d new r b rs bs below is false here =
+  -- a runner more is assigned behind the others
+  assigned_more : (k p : ℕ) (rs : List X) (bs : List Bool) (r : X) (b : Bool) → k + length rs ≡ p → length rs ≡ length bs
+      → assigned_from k (rs ++ r ∷ []) (bs ++ b ∷ []) ≡ assigned_from k rs bs ++ record { place = p; runner = r; ignored = b } ∷ []
+  assigned_more k p [] [] r b at same = ap (λ n. record { place = n; runner = r; ignored = b } ∷ []) (omega (arith, at))
+  assigned_more k p [] (b' ∷ bs) r b at same = absurd (omega (arith, same))
+  assigned_more k p (r' ∷ rs) [] r b at same = absurd (omega (arith, same))
+  assigned_more k p (r' ∷ rs) (b' ∷ bs) r b at same =
+      ap (λ l. record { place = k; runner = r'; ignored = b' } ∷ l) (assigned_more (k + 1) p rs bs r b (omega (arith, at)) (omega (arith, same)))
+
+  -- what the worker w has of all items, where t says whether it gets the last one
+  dealt_by : (workers p w : ℕ) (S : List (Share X)) (d new : Share X) (items : List (Assigned X)) (item : Assigned X)
+      → item.place ≡ p → p % workers < length S
+      → new.items.items ≡ (slice_index_or S (p % workers) d).items.items ++ item ∷ []
+      → items_of (slice_index_or S w d) ≡ share_of workers w items
+      → (t : Bool) → (item.place % workers == w) ≡ t
+      → items_of (slice_index_or (slice_set S (p % workers) new) w d) ≡ share_of workers w (items ++ item ∷ [])
+  dealt_by workers p w S d new items item at below is was true here =
+      let same : w ≡ p % workers = grind (arith, nat_tests) in
+      let got : slice_index_or (slice_set S (p % workers) new) w d ≡ new = get_or-set_at S (p % workers) w new d same below in
+      let old : new.items.items ≡ share_of workers w items ++ item ∷ [] =
+      is ∙ ap (λ k. (slice_index_or S k d).items.items ++ item ∷ []) (sym same) ∙ ap (λ l. l ++ item ∷ []) was in
+      let last : share_of workers w (item ∷ []) ≡ item ∷ [] = ap (λ t. cond t (item ∷ []) []) here in
+      ap items_of got ∙ old ∙ ap (λ l. share_of workers w items ++ l) (sym last)
+      ∙ sym (filter-append (λ i. i.place % workers == w) items (item ∷ []))
+  dealt_by workers p w S d new items item at below is was false here =
       let other : w ≢ p % workers = grind (arith, nat_tests) in
       let got : slice_index_or (slice_set S (p % workers) new) w d ≡ slice_index_or S w d = get_or-set_other S (p % workers) w new d other in
-      let item : Assigned X = record { place = p; runner = r; ignored = b } in
-      let rest = share_of workers w (assigned_from (p + 1) rs bs) in
-      let step : share_of workers w (assigned_from p (r ∷ rs) (b ∷ bs)) ≡ rest = ap (λ t. cond t (item ∷ rest) rest) here in
-      ap (λ s. s.items.items ++ rest) got ∙ ap (λ ys. (slice_index_or S w d).items.items ++ ys) (sym step)
+      let none : share_of workers w (item ∷ []) ≡ [] = ap (λ t. cond t (item ∷ []) []) here in
+      ap items_of got ∙ was ∙ sym (append-nil (share_of workers w items)) ∙ ap (λ l. share_of workers w items ++ l) (sym none)
+      ∙ sym (filter-append (λ i. i.place % workers == w) items (item ∷ []))
 
-  -- a turn of the loop that deals: what stands in a share and what is still to come to it stay together
-  pub deal_step : (workers p w : ℕ) (S : List (Share X)) (d new now : Share X)
-      (r : X) (b : Bool) (rest left : List X) (flags : List Bool) (total : List (Assigned X))
-      → p % workers < length S → p < length flags
-      → now ≡ slice_index_or S (p % workers) now → b ≡ slice_index_or flags p b
+  -- one runner more was dealt
+  pub dealt_more : (workers p at : ℕ) (S : List (Share X)) (now new : Share X) (rs : List X) (bs : List Bool) (r : X) (b : Bool)
+      → at ≡ p % workers → at < length S → now ≡ slice_index_or S at now
       → new.items.items ≡ now.items.items ++ record { place = p; runner = r; ignored = b } ∷ []
-      → left ≡ r ∷ rest
-      → (slice_index_or S w d).items.items ++ share_of workers w (assigned_from p left (drop p flags)) ≡ total
-      → (slice_index_or (slice_set S (p % workers) new) w d).items.items ++ share_of workers w (assigned_from (p + 1) rest (drop (p + 1) flags)) ≡ total
-  deal_step workers p w S d new now r b rest left flags total below in_flags at flag is next was =
-      let more : drop p flags ≡ b ∷ drop (p + 1) flags = rw add-one (drop-cons flags p b in_flags ∙ ap (λ x. x ∷ drop (suc p) flags) (sym flag)) in
-      let old : now ≡ slice_index_or S (p % workers) d = at ∙ get_or_default S (p % workers) now d below in
-      let is' : new.items.items ≡ (slice_index_or S (p % workers) d).items.items ++ record { place = p; runner = r; ignored = b } ∷ [] =
-      is ∙ ap (λ s. s.items.items ++ record { place = p; runner = r; ignored = b } ∷ []) old in
-      dealt_by workers p w S d new r b rest (drop (p + 1) flags) below is' (p % workers == w) refl
-      ∙ (ap (λ xs. (slice_index_or S w d).items.items ++ share_of workers w (assigned_from p xs (b ∷ drop (p + 1) flags))) (sym next)
-      ∙ (ap (λ bs. (slice_index_or S w d).items.items ++ share_of workers w (assigned_from p left bs)) (sym more) ∙ was))
+      → length rs ≡ p → length bs ≡ p
+      → IsDealt rs bs workers S → IsDealt (rs ++ r ∷ []) (bs ++ b ∷ []) workers (slice_set S at new)
+  dealt_more workers p at S now new rs bs r b e below value is runners flags dealt = λ w d low.
+      let item : Assigned X = record { place = p; runner = r; ignored = b } in
+      let last : new.items.items ≡ (slice_index_or S (p % workers) d).items.items ++ item ∷ [] =
+      is ∙ ap (λ s. s.items.items ++ item ∷ []) (value ∙ get_or_default S at now d below) ∙ ap (λ k. (slice_index_or S k d).items.items ++ item ∷ []) e in
+      ap (λ k. items_of (slice_index_or (slice_set S k new) w d)) e
+      ∙ dealt_by workers p w S d new (assigned_from 0 rs bs) item refl (omega (arith, e, below)) last (dealt w d low) (p % workers == w) refl
+      ∙ ap (share_of workers w) (sym (assigned_more 0 p rs bs r b (omega (arith, runners)) (omega (arith, runners, flags))))
+
+  -- a share that was set to one with the same items
+  pub map_kept : (S : List (Share X)) (at : ℕ) (now new : Share X) → at < length S → now ≡ slice_index_or S at now → items_of new ≡ items_of now
+      → map items_of (slice_set S at new) ≡ map items_of S
+  map_kept [] at now new low value is = absurd (omega (arith, low))
+  map_kept (s ∷ S) zero now new low value is = ap (λ l. l ∷ map items_of S) (is ∙ ap items_of value)
+  map_kept (s ∷ S) (suc at) now new low value is = ap (λ l. items_of s ∷ l) (map_kept S at now new (omega (arith, low)) value is)

@@ -1,5 +1,5 @@
 -- Shares: which worker runs which of the trials.
-use Rattle.std.specs.Prelude.{ℕ, ◌≡◌, ◌+◌, ◌%◌, ◌<◌, ◌==◌, All, Bool, List, [], ◌∷◌, filter, length, map, slice_index_or}
+use Rattle.std.specs.Prelude.{ℕ, ◌≡◌, ◌+◌, ◌%◌, ◌<◌, ◌==◌, All, Bool, List, [], ◌∷◌, filter, map, slice_index_or}
 use Rattle.mimic_pool.specs.declared.share.Assigned.{Assigned}
 use Rattle.mimic_pool.specs.declared.share.Share.{Share}
 
@@ -30,7 +30,3 @@ module _ {X : Type 0} where
   abbrev pub IsDealt : List X → List Bool → ℕ → List (Share X) → Type 0
   IsDealt runners flags workers shares =
       (worker : ℕ) (d : Share X) → worker < workers → items_of (slice_index_or shares worker d) ≡ share_of workers worker (assigned_from 0 runners flags)
-
-  -- each of these shares is empty
-  abbrev pub AreEmpty : List (Share X) → Type 0
-  AreEmpty shares = (worker : ℕ) (d : Share X) → worker < length shares → items_of (slice_index_or shares worker d) ≡ []

@@ -34,7 +34,7 @@ pub use desk::{Arrival, Desk, Missing};
 pub use inbox::Inbox;
 pub use memory::MemoryReports;
 pub use reports::{Reports, Untold};
-pub use share::{Share, deal};
+pub use share::{Share, deal, deal_next, empty_shares};
 pub use start::{AnswersShare, Rows, Start};
 pub use threads::{Handles, Spawner, join_all, prepare, start_all};
 pub use worker::work;

@@ -1,6 +1,6 @@
 //! Shares of the trials, one for each worker.
-ghost use Rattle.std.specs.Prelude.{◌≡◌, ◌≤◌, IfOk, length, slice_get, vec_len};
-ghost use Rattle.mimic_pool.specs.Share.{AreEmpty, IsDealt, items_of, places_in};
+ghost use Rattle.std.specs.Prelude.{◌≡◌, ◌≤◌, ◌∷◌, ◌++◌, Bool, IfOk, List, OnErr, OnOk, [], length, map, slice_get, vec_len};
+ghost use Rattle.mimic_pool.specs.Share.{IsDealt, items_of, places_in};
 
 use mimic_trial::Runner;
 use std::alloc::{AllocError, Global};
@@ -53,30 +53,26 @@ pub fn deal<T: Drop>(
     ensures len { IfOk result (λ shares. vec_len shares ≡ workers) }
     ensures dealt { IfOk result (λ shares. IsDealt runners.items ignored.items workers shares.items) }
 {
-    let mut shares = empty_shares(alloc, workers, runners.len().div_ceil(workers))?;
+    let mut shares = empty_shares(alloc, runners.len(), workers)?;
     let mut place = 0;
     for runner in runners {
-        let item = Assigned {
-            place,
-            runner,
-            ignored: ignored[place],
-        };
-        let share = &mut shares[place % workers];
-        share.items.push(item)?;
+        deal_next(&mut shares, place, runner, ignored[place])?;
         place += 1;
     }
     Ok(shares)
 }
 
-// As many empty shares as there are workers, each with room for so many items.
-fn empty_shares<T: Drop>(
+/// The shares of so many workers before anything is dealt to them, with room for `runners` in all.
+pub fn empty_shares<T: Drop>(
     alloc: Global,
+    runners: usize,
     workers: usize,
-    room: usize,
 ) -> Result<Vec<Share<T>>, AllocError>
+    requires some_worker { 1 ≤ workers }
     ensures len { IfOk result (λ shares. vec_len shares ≡ workers) }
-    ensures empty { IfOk result (λ shares. AreEmpty shares.items) }
+    ensures empty { IfOk result (λ shares. IsDealt [] [] workers shares.items) }
 {
+    let room = runners.div_ceil(workers);
     let mut shares = Vec::with_capacity(alloc, workers)?;
     for _worker in 0..workers {
         shares.push(Share {
@@ -84,4 +80,29 @@ fn empty_shares<T: Drop>(
         })?;
     }
     Ok(shares)
+}
+
+/// Deals one runner more, as [`deal`] does: the one at `place`, after those at all places before it. If an allocation
+/// fails, the shares keep what they have, and the runner is dropped.
+pub fn deal_next<T: Drop>(
+    shares: &mut Vec<Share<T>>,
+    place: usize,
+    runner: T,
+    ignored: bool,
+) -> Result<(), AllocError>
+    requires some_worker { 1 ≤ vec_len shares.old }
+    ensures len { vec_len shares.new ≡ vec_len shares.old }
+    ensures dealt { OnOk result ((runners : List T) (flags : List Bool) → length runners ≡ place → length flags ≡ place
+        → IsDealt runners flags (vec_len shares.old) shares.old.items
+        → IsDealt (runners ++ runner ∷ []) (flags ++ ignored ∷ []) (vec_len shares.old) shares.new.items) }
+    ensures refused { OnErr result (map items_of shares.new.items ≡ map items_of shares.old.items) }
+{
+    let item = Assigned {
+        place,
+        runner,
+        ignored,
+    };
+    let worker = place % shares.len();
+    shares[worker].items.push(item)?;
+    Ok(())
 }

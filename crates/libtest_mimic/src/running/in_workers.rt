@@ -1,10 +1,10 @@
 //! Runs trials in worker threads.
-ghost use Rattle.std.specs.Prelude.{◌≡◌, ◌≢◌, ◌-◌, ◌^◌, ◌<◌, ◌≤◌, [], All, IfOk, MatchResult, length, map, not, vec_capacity, vec_len};
+ghost use Rattle.std.specs.Prelude.{◌≡◌, ◌≢◌, ◌-◌, ◌^◌, ◌<◌, ◌≤◌, [], All, Bool, IfOk, List, MatchResult, length, map, not, vec_capacity, vec_len};
 ghost use Rattle.mimic_printer.specs.Sink.{Put, faults_of, shown};
 ghost use Rattle.mimic_trial.specs.Trial.{AllCanRun};
-ghost use Rattle.mimic_pool.specs.Share.{assigned_from};
+ghost use Rattle.mimic_pool.specs.Share.{AllRunners, IsDealt, assigned_from};
 ghost use Rattle.libtest_mimic.specs.Run.{OnNothingWritten, Reports};
-ghost use Rattle.libtest_mimic.specs.Steps.{AreParts, Gathered, RowsRefused, selected_suite, titled_rows};
+ghost use Rattle.libtest_mimic.specs.Steps.{AreDealt, Gathered, RowsRefused, selected_suite, titled_rows};
 ghost use Rattle.libtest_mimic.specs.Stopwatch.{IsRunning};
 
 use crate::running::RunError;
@@ -14,7 +14,9 @@ use crate::running::summary::write_summary;
 use crate::select::is_ignored;
 use crate::stopwatch::{Clock, Stopwatch};
 use mimic_args::Arguments;
-use mimic_pool::{Desk, Inbox, Spawner, deal, join_all, prepare, start_all};
+use mimic_pool::{
+    Desk, Inbox, Share, Spawner, deal_next, empty_shares, join_all, prepare, start_all,
+};
 use mimic_printer::{Printer, Sink};
 use mimic_trial::{Conclusion, Outcome, Task, TestInfo, Trial, count_rows};
 use std::alloc::{AllocError, Global};
@@ -44,75 +46,64 @@ pub(super) fn run_in_workers<R: Task + Send + 'static, W: Write, C: Clock, T: Sp
         filtered_out,
     } = selected;
     let workers = threads.min(trials.len());
-    let (infos, runners, ignored) = take_apart(alloc, args, trials)?;
+    let (infos, shares) = take_apart(alloc, args, trials, workers)?;
     let infos = infos.as_slice();
-    let (order, outcomes) = write_rows(
-        workers,
-        rt,
-        alloc,
-        &printer,
-        infos,
-        runners,
-        ignored,
-        !args.bench,
-        sink,
-    )?;
+    let (order, outcomes) = write_rows(rt, alloc, &printer, infos, shares, !args.bench, sink)?;
     printer.print_failures(sink, infos, &order, &outcomes)?;
     let conclusion = count_rows(&outcomes, filtered_out);
     write_summary(&printer, &conclusion, sink, watch)?;
     Ok(conclusion)
 }
 
-// What is known of each trial, its runner, and whether it is ignored.
+// What is known of each trial, and the runners, dealt out to so many workers.
 fn take_apart<R: Drop>(
     alloc: Global,
     args: &Arguments,
     trials: Vec<Trial<R>>,
-) -> Result<(Vec<TestInfo>, Vec<R>, Vec<bool>), AllocError>
-    ensures { IfOk result (λ parts. AreParts args.now trials.items parts.0.items parts.1.items parts.2.items) }
+    workers: usize,
+) -> Result<(Vec<TestInfo>, Vec<Share<R>>), AllocError>
+    requires some_worker { 1 ≤ workers }
+    ensures dealt { IfOk result (λ parts. AreDealt args.now trials.items parts.0.items parts.1.items) }
+    ensures len { IfOk result (λ parts. vec_len parts.1 ≡ workers) }
 {
     let mut infos = Vec::with_capacity(alloc, trials.len())?;
-    let mut runners = Vec::with_capacity(alloc, trials.len())?;
-    let mut ignored = Vec::with_capacity(alloc, trials.len())?;
+    let mut shares = empty_shares(alloc, trials.len(), workers)?;
     for trial in trials {
-        ignored.push(is_ignored(args, &trial))?;
+        let is_ignored = is_ignored(args, &trial);
         let (info, runner) = trial.into_parts();
+        deal_next(&mut shares, infos.len(), runner, is_ignored)?;
         infos.push(info)?;
-        runners.push(runner)?;
     }
-    Ok((infos, runners, ignored))
+    Ok((infos, shares))
 }
 
-// Runs the tasks in so many workers, and writes the title and the rows: those that arrive, each when it does, and after
-// the workers have been joined those that did not. Returns the order of the rows and the outcome at each place.
+// Runs each share in a worker, and writes the title and the rows: those that arrive, each when it does, and after the
+// workers have been joined those that did not. Returns the order of the rows and the outcome at each place.
 //
 // But for copies of messages and the threads themselves, all memory is taken before the title.
 fn write_rows<R: Task + Send + 'static, W: Write, T: Spawner + 'static>(
-    workers: usize,
     rt: &T,
     alloc: Global,
     printer: &Printer,
     infos: &[TestInfo],
-    runners: Vec<R>,
-    ignored: Vec<bool>,
+    shares: Vec<Share<R>>,
     test_mode: bool,
     sink: &mut Sink<W>,
 ) -> Result<(Vec<usize>, Vec<Outcome>), RunError>
     requires room { faults_of sink.old < 2 ^ 64 - 1 }
-    requires some_worker { 1 ≤ workers }
-    requires same_length { vec_len runners ≡ vec_len ignored }
-    requires infos { length infos.now ≡ vec_len runners }
-    requires runnable { All R.can_run runners.items }
-    ensures rows { MatchResult result
-        (λ rows. Gathered R.gives test_mode (assigned_from 0 runners.items ignored.items) rows.0.items rows.1.items
+    requires some_worker { 1 ≤ vec_len shares }
+    requires runnable { All (λ share. AllRunners R.can_run share) shares.items }
+    ensures rows { (runners : List R) (flags : List Bool) → length runners ≡ length infos.now → length flags ≡ length infos.now
+        → IsDealt runners flags (vec_len shares) shares.items
+        → MatchResult result
+        (λ rows. Gathered R.gives test_mode (assigned_from 0 runners flags) rows.0.items rows.1.items
         × Put (shown W.contents sink.old) (shown W.contents sink.new) (titled_rows printer.now infos.now rows.0.items rows.1.items))
-        (λ e. RowsRefused R.gives test_mode (assigned_from 0 runners.items ignored.items) printer.now infos.now
+        (λ e. RowsRefused R.gives test_mode (assigned_from 0 runners flags) printer.now infos.now
         (shown W.contents sink.old) (shown W.contents sink.new) e) }
     ensures unwritten { OnNothingWritten result (sink.new ≡ sink.old) }
 {
-    let count = runners.len();
-    let mut inbox = Inbox::new(alloc, count, workers)?;
-    let shares = deal(alloc, runners, ignored, workers)?;
+    let count = infos.len();
+    let mut inbox = Inbox::new(alloc, count, shares.len())?;
     let starts = prepare(alloc, shares, &mut inbox)?;
     let handles = Vec::with_capacity(alloc, starts.len())?;
     let mut desk = Desk::new(alloc, count)?;

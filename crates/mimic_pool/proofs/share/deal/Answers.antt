@@ -1,34 +1,24 @@
-use Rattle.std.proofs.Common.{rules, arith, refl}
-use Rattle.std.proofs.lemmas.Nat.{mod_below}
-use Rattle.mimic_pool.proofs.Dealing.{deal_step}
+use Rattle.std.proofs.Common.{◌≡◌, ◌∙◌, ◌+◌, ◌∷◌, ◌++◌, ◌<◌, [], List, Bool, ap, append_assoc, arith, length, length-append, length-take, subst, sym, take}
+use Rattle.std.proofs.lemmas.List.{take_more}
+use Rattle.mimic_pool.specs.Share.{IsDealt}
 use Rattle.mimic_pool.proofs.share.deal.Goals as goal
 
-pub loop-runner-init : goal.loop-runner-init
-loop-runner-init g c = record {
-  dealt = λ w d below.
-      let ok = c.in_ok-shares.shares.ok in
-      let len = c.in_ok-shares.ensures.len in
-      let none = c.in_ok-shares.ensures.empty w d (omega arith) in
-      let all = c.into_iter-runner-iterator.ensures.into_iter_gives.0 in
-      rw (none, all) refl;
-  len = search rules;
-  left = search rules;
-  some_worker = omega arith;
-}
-
 pub loop-runner-preserved : goal.loop-runner-preserved
-loop-runner-preserved g c = record {
-  len = search rules;
-  left = search rules;
-  some_worker = omega arith;
-  dealt = λ w d below.
-      let ok = c.args.ignored.ok in
-      let shares = c.loop-runner.shares.ok in
-      let len = c.loop-runner.invariant.len in
-      let step = c.in-Some.ensures.steps in
-      let left = c.loop-runner.invariant.left in
-      let remainder = mod_below c.loop-runner.place c.args.workers c.loop-runner.invariant.some_worker in
-      deal_step c.args.workers c.loop-runner.place w c.loop-runner.shares.items d _ c.index_mut-share.result.now _ _ _ _ c.args.ignored.items _
-      (omega arith) (omega arith)
-      c.index_mut-share.ensures.value c.index.ensures c.in_ok-push.ensures.items step.0 (c.loop-runner.invariant.dealt w d below);
-}
+loop-runner-preserved g c =
+    let seen = c.loop-runner.yielded in
+    let flags = c.args.ignored.items in
+    let place = c.loop-runner.place in
+    let invariant = c.loop-runner.invariant in
+    let low : place < length flags = omega (arith, invariant.left, c.in-Some.ensures.steps, c.args.ignored.ok.0) in
+    let next : take (place + 1) flags ≡ take place flags ++ c.index.result.now ∷ [] =
+    take_more flags place c.index.result.now low ∙ ap (λ b. take place flags ++ b ∷ []) (sym c.index.ensures) in
+    record {
+      len = c.in_ok-deal_next.ensures.len ∙ invariant.len;
+      seen = append_assoc seen (c.in-Some.runner ∷ []) _ ∙ (ap (λ l. seen ++ l) (sym c.in-Some.ensures.steps.0) ∙ invariant.seen);
+      place = omega (arith, invariant.place, length-append seen (c.in-Some.runner ∷ []));
+      left = omega (arith, invariant.left, c.in-Some.ensures.steps);
+      dealt = subst (λ (l : List Bool). IsDealt (seen ++ c.in-Some.runner ∷ []) l c.args.workers c.deal_next.new.shares.items) (sym next)
+          (subst (λ (n : _). IsDealt (seen ++ c.in-Some.runner ∷ []) (take place flags ++ c.index.result.now ∷ []) n c.deal_next.new.shares.items) invariant.len
+          (c.in_ok-deal_next.ensures.dealt seen (take place flags) (sym invariant.place) (omega (arith, length-take place flags, low))
+          (subst (λ (n : _). IsDealt seen (take place flags) n c.loop-runner.shares.items) (sym invariant.len) invariant.dealt)));
+    }
