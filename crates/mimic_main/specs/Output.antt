@@ -1,13 +1,14 @@
 -- What a buffered output was given, what of it waits, and when it is handed on.
-use Rattle.std.specs.Prelude.{◌≡◌, ℕ, Bool, true, List, Option, Result, IsErr, if◌then◌else◌, is_some}
+use Rattle.std.specs.Prelude.{◌≡◌, ℕ, Bool, true, List, Option, Result, IsErr, if◌then◌else◌, is_some, nat_lt}
 use Rattle.std.specs.Io.KnownBytes.{Keeps, append_known}
 use Rattle.mimic_args.specs.declared.Arguments.{Arguments}
 use Rattle.mimic_args.specs.declared.FormatSetting.{FormatSetting}
 use Rattle.mimic_args.specs.declared.FormatSetting.TheVariants.{Pretty, Terse, Json}
 use Rattle.mimic_args.specs.Arguments.{format_of}
+use Rattle.libtest_mimic.specs.Run.{threads_of}
 use Rattle.mimic_main.specs.declared.buffer.Output.{Output}
 use Rattle.mimic_main.specs.declared.buffer.FlushPolicy.{FlushPolicy}
-use Rattle.mimic_main.specs.declared.buffer.FlushPolicy.TheVariants.{OnFlush, OnLineEnd, WhenFull}
+use Rattle.mimic_main.specs.declared.buffer.FlushPolicy.TheVariants.{OnFlush, OnFlushAfterLine, OnLineEnd, OnSecondLineEnd, WhenFull}
 
 -- the bytes that wait to be handed on
 abbrev pub waiting_of : {W : Type 0} → Output W → List ℕ
@@ -33,18 +34,24 @@ told_of contents output = append_known (contents output.writer) (waiting_of outp
 abbrev pub HandsOn : Option (List ℕ) → Option (List ℕ) → Type 0
 HandsOn told got = (rest : List ℕ) × Keeps told (append_known got rest)
 
--- a pretty report is handed on at each flush, the others at the end of each line too (our own)
-abbrev pub policy_of : FormatSetting → FlushPolicy
-policy_of Pretty = OnFlush
-policy_of Terse = OnLineEnd
-policy_of Json = OnLineEnd
+-- with one thread a pretty report is handed on at each flush, and one in JSON at the end of each second line too, since these
+-- come before a trial runs; with more threads both are where a flush follows a whole line. One in terse is handed on at the
+-- end of each line and at each flush (our own)
+abbrev pub policy_of : FormatSetting → ℕ → FlushPolicy
+policy_of Pretty threads = if nat_lt 1 threads then OnFlushAfterLine else OnFlush
+policy_of Terse threads = OnLineEnd
+policy_of Json threads = if nat_lt 1 threads then OnFlushAfterLine else OnSecondLineEnd
 
 -- a logfile in pretty is to name the trial that hangs, the others get whole blocks (our own)
-abbrev pub policy_in_logfile : FormatSetting → FlushPolicy
-policy_in_logfile Pretty = policy_of Pretty
-policy_in_logfile Terse = WhenFull
-policy_in_logfile Json = WhenFull
+abbrev pub policy_in_logfile : FormatSetting → ℕ → FlushPolicy
+policy_in_logfile Pretty threads = policy_of Pretty threads
+policy_in_logfile Terse threads = WhenFull
+policy_in_logfile Json threads = WhenFull
 
--- how a run with these arguments is handed on, into its logfile where it has one
-abbrev pub policy_for : Arguments → FlushPolicy
-policy_for args = if is_some args.logfile then policy_in_logfile (format_of args) else policy_of (format_of args)
+-- how a run with these arguments is handed on, into its logfile where it has one, by so many threads where the arguments name
+-- no number
+abbrev pub policy_for : Arguments → ℕ → FlushPolicy
+policy_for args default_threads =
+    if is_some args.logfile
+    then policy_in_logfile (format_of args) (threads_of args default_threads)
+    else policy_of (format_of args) (threads_of args default_threads)

@@ -15,8 +15,13 @@ use std::io::{ErrorKind, Write};
 pub enum FlushPolicy {
     /// At each flush: somebody is looking on, and a flush comes before anything that takes its time.
     OnFlush,
+    /// At a flush where a line has ended: somebody is looking on, and a flush amid a line has its rest directly behind it.
+    OnFlushAfterLine,
     /// At the end of each line, and at each flush: somebody is looking on, and a flush need not come.
     OnLineEnd,
+    /// At the end of each second line, and at each flush: somebody is looking on, and behind other lines there is directly a
+    /// further one.
+    OnSecondLineEnd,
     /// At no other time.
     WhenFull,
 }
@@ -24,31 +29,39 @@ pub enum FlushPolicy {
 impl FlushPolicy {
     ghost use Rattle.mimic_main.specs.Output.{policy_for, policy_of};
 
-    /// How the output of a run with these arguments is handed on: as its format wants, but terse and JSON into a logfile
-    /// in whole blocks.
+    /// How the output of a run with these arguments is handed on, by so many threads where they name no number: as its
+    /// format wants, but terse and JSON into a logfile in whole blocks.
     ///
     /// So with one thread a logfile in pretty names the trial that hangs.
-    pub fn of_run(args: &Arguments) -> FlushPolicy
-        ensures { result ≡ policy_for args.now }
+    pub fn of_run(args: &Arguments, default_threads: usize) -> FlushPolicy
+        ensures { result ≡ policy_for args.now default_threads }
     {
         match args.format_used() {
             FormatSetting::Terse | FormatSetting::Json if args.logfile.is_some() => {
                 FlushPolicy::WhenFull
             }
-            format => FlushPolicy::of_format(format),
+            format => {
+                FlushPolicy::of_format(format, args.test_threads.unwrap_or(default_threads))
+            }
         }
     }
 
-    /// How a report in this format is handed on to somebody who looks on.
+    /// How a report in this format, of a run by so many threads, is handed on to somebody who looks on.
     ///
-    /// A run flushes a pretty report at each announcement, so with one thread a row goes out with the announcement that
-    /// comes directly behind it. The lines of other formats go out as they end.
-    pub fn of_format(format: FormatSetting) -> FlushPolicy
-        ensures { result ≡ policy_of format }
+    /// With one thread each announcement goes out before its trial runs, and takes the row before it along: a run flushes at
+    /// one in pretty, and in JSON it is a second line, since the first line of all has none and behind it each trial has two.
+    /// With more threads a row comes when its trial has ended, and a run flushes before it waits for one. The lines of terse
+    /// go out as they end.
+    pub fn of_format(format: FormatSetting, threads: usize) -> FlushPolicy
+        ensures { result ≡ policy_of format threads }
     {
         match format {
+            FormatSetting::Terse => FlushPolicy::OnLineEnd,
+            FormatSetting::Pretty | FormatSetting::Json if threads > 1 => {
+                FlushPolicy::OnFlushAfterLine
+            }
             FormatSetting::Pretty => FlushPolicy::OnFlush,
-            FormatSetting::Terse | FormatSetting::Json => FlushPolicy::OnLineEnd,
+            FormatSetting::Json => FlushPolicy::OnSecondLineEnd,
         }
     }
 }
@@ -64,6 +77,8 @@ pub struct Output<W: Write> {
     writer: W,
     waiting: ArrayVec<u8, BLOCK>,
     policy: FlushPolicy,
+    // An odd number of lines has ended.
+    has_odd_lines: bool,
     has_failed: bool,
     // The fault behind the front of a text that was taken. The next call tells it.
     untold: Option<io::Error>,
@@ -80,6 +95,7 @@ impl<W: Write> Output<W> {
             writer,
             waiting: ArrayVec::new(),
             policy,
+            has_odd_lines: false,
             has_failed: false,
             untold: None,
         }
@@ -96,6 +112,7 @@ impl<W: Write> Output<W> {
             writer,
             waiting: _,
             policy: _,
+            has_odd_lines: _,
             has_failed: _,
             untold: _,
         } = self;
@@ -197,6 +214,24 @@ impl<W: Write> Output<W> {
         };
     }
 
+    // Whether a line goes out where it ends.
+    fn hands_on_lines(&self) -> bool {
+        match self.policy {
+            FlushPolicy::OnLineEnd => true,
+            FlushPolicy::OnSecondLineEnd => self.has_odd_lines,
+            FlushPolicy::OnFlush | FlushPolicy::OnFlushAfterLine | FlushPolicy::WhenFull => false,
+        }
+    }
+
+    // Whether what waits goes out at a flush.
+    fn heeds_flushes(&self) -> bool {
+        match self.policy {
+            FlushPolicy::OnFlush | FlushPolicy::OnLineEnd | FlushPolicy::OnSecondLineEnd => true,
+            FlushPolicy::OnFlushAfterLine => self.waiting.ends_with(b"\n"),
+            FlushPolicy::WhenFull => false,
+        }
+    }
+
     // Whether so many bytes more can wait.
     fn has_room(&self, count: usize) -> bool
         ensures { IsTrue result ↔ (length (waiting_of self.now) + count ≤ BLOCK) }
@@ -227,15 +262,17 @@ impl<W: Write> Write for Output<W> {
         if self.has_failed {
             return Err(self.earlier_fault());
         }
-        let ends = self.policy == FlushPolicy::OnLineEnd && buf.ends_with(b"\n");
-        if ends || buf.len() >= BLOCK {
+        let ends_line = buf.ends_with(b"\n");
+        if buf.len() >= BLOCK || ends_line && self.hands_on_lines() {
             let count = self.write_through(buf)?;
+            self.has_odd_lines ^= ends_line && count == buf.len();
             return Ok(count);
         }
         if !self.has_room(buf.len()) {
             self.hand_on()?;
         }
         self.keep(buf);
+        self.has_odd_lines ^= ends_line;
         Ok(buf.len())
     }
 
@@ -244,10 +281,11 @@ impl<W: Write> Write for Output<W> {
         ensures stops { OnErr result (has_stopped self.new ≡ true) }
         ensures stopped { StaysStopped self.old self.new result }
     {
-        match self.policy {
-            FlushPolicy::OnFlush | FlushPolicy::OnLineEnd => self.hand_on_and_flush()?,
-            FlushPolicy::WhenFull if self.has_failed => return Err(self.earlier_fault()),
-            FlushPolicy::WhenFull => {}
+        if self.has_failed {
+            return Err(self.earlier_fault());
+        }
+        if self.heeds_flushes() {
+            self.hand_on_and_flush()?;
         }
         Ok(())
     }

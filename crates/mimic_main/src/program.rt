@@ -226,7 +226,8 @@ impl<R: Task + Send + 'static, C: Clock + Drop> Job<R, C> {
         ensures answer { IfOk result.1 (λ c. HasAnswer R.gives args.now self.tests.items (Ok c)) }
         ensures adds_up { args.now.list ≡ false → IfOk result.1 (λ c. total_of c ≡ vec_len self.tests) }
     {
-        let output = Output::new(FlushPolicy::of_run(args), writer);
+        let policy = FlushPolicy::of_run(args, self.default_threads);
+        let output = Output::new(policy, writer);
         run_into(
             rt,
             self.alloc,

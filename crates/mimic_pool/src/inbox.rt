@@ -12,6 +12,7 @@ use mimic_trial::Outcome;
 use std::alloc::{AllocError, Global};
 use std::collections::VecDeque;
 use std::sync::{Arc, Wait};
+use std::thread::yield_now;
 
 // How many rows are taken under one lock at most, so that writing them doesn't ask for it row by row.
 const BATCH: usize = 256;
@@ -87,6 +88,8 @@ impl Inbox {
                 break;
             }
             if self.batch.is_empty() {
+                // Where the processors are busy, workers go first, so that it is not woken for each row.
+                yield_now();
                 self.bell.wait(rt);
             }
         }

@@ -6,17 +6,19 @@ use std::io;
 use std::io::Write;
 use std::test::Fail;
 
-// Keeps how many bytes it has got after each write, and counts flushes.
+// Takes so many bytes at most in a write, keeps how many it has got after each one, and counts flushes.
 #[derive(Drop)]
 struct Marked {
+    most: usize,
     len: usize,
     marks: Vec<usize>,
     flushes: usize,
 }
 
 impl Marked {
-    fn new(alloc: Global) -> Marked {
+    fn new(alloc: Global, most: usize) -> Marked {
         Marked {
+            most,
             len: 0,
             marks: Vec::new(alloc),
             flushes: 0,
@@ -26,9 +28,10 @@ impl Marked {
 
 impl Write for Marked {
     fn write(&mut self, buf: &[u8]) -> io::Result<usize> {
-        self.len = self.len.saturating_add(buf.len());
+        let count = buf.len().min(self.most);
+        self.len = self.len.saturating_add(count);
         self.marks.push(self.len)?;
-        Ok(buf.len())
+        Ok(count)
     }
 
     fn flush(&mut self) -> io::Result<()> {
@@ -37,17 +40,19 @@ impl Write for Marked {
     }
 }
 
-// An output over an empty one.
+// An output over an empty one, which takes what it gets.
 fn marking(rt: &HostRuntime, policy: FlushPolicy) -> Output<Marked> {
-    Output::new(policy, Marked::new(rt.alloc()))
+    Output::new(policy, Marked::new(rt.alloc(), usize::MAX))
 }
 
 // Two bytes and a flush, a line of two bytes, and one byte more. Whoever is flushed flushes the writer, and so does the end.
 #[test]
 fn hands_on_as_asked(rt: HostRuntime) -> Result<(), Fail> {
-    let rows: [(FlushPolicy, &[usize], usize); 3] = [
+    let rows: [(FlushPolicy, &[usize], usize); 5] = [
         (FlushPolicy::OnFlush, &[2, 5], 2),
+        (FlushPolicy::OnFlushAfterLine, &[5], 1),
         (FlushPolicy::OnLineEnd, &[2, 4, 5], 2),
+        (FlushPolicy::OnSecondLineEnd, &[2, 5], 2),
         (FlushPolicy::WhenFull, &[5], 1),
     ];
     for (policy, marks, flushes) in rows {
@@ -92,32 +97,86 @@ fn hands_on_whole_lines(rt: HostRuntime) -> Result<(), Fail> {
     Ok(())
 }
 
+// Each second line goes out with the one before it, or by itself where that was flushed.
 #[test]
-fn chooses_by_logfile_and_format(rt: HostRuntime) -> Result<(), Fail> {
+fn hands_on_second_lines(rt: HostRuntime) -> Result<(), Fail> {
+    let mut output = marking(&rt, FlushPolicy::OnSecondLineEnd);
+    for piece in ["title\n", "a\n", "b", "\n", "c\n", "d\n"] {
+        output.write_all(piece.as_bytes())?;
+    }
+    output.flush()?;
+    for piece in ["e\n", "f\n", "end"] {
+        output.write_all(piece.as_bytes())?;
+    }
+    let (writer, finished) = output.finish();
+    finished?;
+    assert!(rt; writer.marks.as_slice() == [8, 12, 14, 16, 21].as_slice());
+    Ok(())
+}
+
+// A line that goes out by itself counts once, though the writer takes a part of it at first.
+#[test]
+fn counts_a_line_once(rt: HostRuntime) -> Result<(), Fail> {
+    let writer = Marked::new(rt.alloc(), 3);
+    let mut output = Output::new(FlushPolicy::OnSecondLineEnd, writer);
+    output.write_all(b"one\n")?;
+    output.flush()?;
+    for line in ["two\n", "abc\n", "def\n"] {
+        output.write_all(line.as_bytes())?;
+    }
+    output.write_all(b"end")?;
+    let (writer, finished) = output.finish();
+    finished?;
+    assert!(rt; writer.marks.as_slice() == [3, 4, 7, 8, 11, 14, 16, 19].as_slice());
+    Ok(())
+}
+
+// A flush amid a line hands nothing on, and one behind a line all that waits.
+#[test]
+fn hands_on_at_flushes_after_lines(rt: HostRuntime) -> Result<(), Fail> {
+    let mut output = marking(&rt, FlushPolicy::OnFlushAfterLine);
+    for piece in ["title\n", "a ... ", "ok\n", "b ... "] {
+        output.write_all(piece.as_bytes())?;
+        output.flush()?;
+    }
+    let (writer, finished) = output.finish();
+    finished?;
+    assert!(rt; writer.marks.as_slice() == [6, 15, 21].as_slice());
+    assert_eq!(rt; writer.flushes, 3);
+    Ok(())
+}
+
+// For each format: with one thread, with two, and into a logfile with one and two.
+#[test]
+fn chooses_by_logfile_threads_and_format(rt: HostRuntime) -> Result<(), Fail> {
     let alloc = rt.alloc();
     let rows = [
         (
             FormatSetting::Pretty,
-            FlushPolicy::OnFlush,
-            FlushPolicy::OnFlush,
+            [FlushPolicy::OnFlush, FlushPolicy::OnFlushAfterLine],
+            [FlushPolicy::OnFlush, FlushPolicy::OnFlushAfterLine],
         ),
         (
             FormatSetting::Terse,
-            FlushPolicy::OnLineEnd,
-            FlushPolicy::WhenFull,
+            [FlushPolicy::OnLineEnd, FlushPolicy::OnLineEnd],
+            [FlushPolicy::WhenFull, FlushPolicy::WhenFull],
         ),
         (
             FormatSetting::Json,
-            FlushPolicy::OnLineEnd,
-            FlushPolicy::WhenFull,
+            [FlushPolicy::OnSecondLineEnd, FlushPolicy::OnFlushAfterLine],
+            [FlushPolicy::WhenFull, FlushPolicy::WhenFull],
         ),
     ];
-    for (format, policy, in_logfile) in rows {
+    for (format, policies, in_logfile) in rows {
         let mut args = Arguments::new(alloc);
         args.format = Some(format);
-        assert!(rt; FlushPolicy::of_run(&args) == policy);
+        assert!(rt; FlushPolicy::of_run(&args, 1) == policies[0]);
+        assert!(rt; FlushPolicy::of_run(&args, 2) == policies[1]);
         args.logfile = Some(String::from_str(alloc, "log")?);
-        assert!(rt; FlushPolicy::of_run(&args) == in_logfile);
+        args.test_threads = Some(1);
+        assert!(rt; FlushPolicy::of_run(&args, 2) == in_logfile[0]);
+        args.test_threads = Some(2);
+        assert!(rt; FlushPolicy::of_run(&args, 1) == in_logfile[1]);
     }
     Ok(())
 }

@@ -146,7 +146,7 @@ fn stops_at_each_place(rt: HostRuntime) -> Result<(), Fail> {
             let mut args = Arguments::new(rt.alloc());
             args.format = Some(format);
             args.list = list;
-            for policy in [FlushPolicy::of_format(format), FlushPolicy::WhenFull] {
+            for policy in [FlushPolicy::of_format(format, 1), FlushPolicy::WhenFull] {
                 for fault in Fault::ALL {
                     let wrong = first_wrong_place(&rt, rt.alloc(), &args, policy, fault)?;
                     assert!(rt;
@@ -166,7 +166,9 @@ fn fails_after_a_fault(rt: HostRuntime) -> Result<(), Fail> {
     let alloc = rt.alloc();
     for policy in [
         FlushPolicy::OnFlush,
+        FlushPolicy::OnFlushAfterLine,
         FlushPolicy::OnLineEnd,
+        FlushPolicy::OnSecondLineEnd,
         FlushPolicy::WhenFull,
     ] {
         let writer = FaultyWriter::new(alloc).failing(Place::Write(1), Fault::ALL[0]);

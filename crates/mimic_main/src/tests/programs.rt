@@ -141,27 +141,30 @@ impl Task for Looks {
     }
 }
 
-// What is out when a test runs in one thread, to somebody who looks on and in a logfile.
+// What is out when the first and the second of two tests run in one thread, to somebody who looks on and in a logfile.
 #[test]
 fn shows_what_is_running(rt: HostRuntime) -> Result<(), Fail> {
     let alloc = rt.alloc();
     let path = "/tmp/mimic_main_shows_what_is_running";
-    let rows: [(FormatSetting, bool, &str); 6] = [
-        (
-            FormatSetting::Pretty,
-            false,
-            "\nrunning 1 test\ntest a ... ",
-        ),
-        (FormatSetting::Pretty, true, "\nrunning 1 test\ntest a ... "),
-        (FormatSetting::Terse, false, "\nrunning 1 test\n"),
-        (FormatSetting::Terse, true, ""),
-        (
-            FormatSetting::Json,
-            false,
-            "{ \"type\": \"suite\", \"event\": \"started\", \"test_count\": 1 }\n\
-             { \"type\": \"test\", \"event\": \"started\", \"name\": \"a\" }\n",
-        ),
-        (FormatSetting::Json, true, ""),
+    let pretty = [
+        "\nrunning 2 tests\ntest a ... ",
+        "\nrunning 2 tests\ntest a ... ok\ntest b ... ",
+    ];
+    let json = [
+        "{ \"type\": \"suite\", \"event\": \"started\", \"test_count\": 2 }\n\
+         { \"type\": \"test\", \"event\": \"started\", \"name\": \"a\" }\n",
+        "{ \"type\": \"suite\", \"event\": \"started\", \"test_count\": 2 }\n\
+         { \"type\": \"test\", \"event\": \"started\", \"name\": \"a\" }\n\
+         { \"type\": \"test\", \"name\": \"a\", \"event\": \"ok\" }\n\
+         { \"type\": \"test\", \"event\": \"started\", \"name\": \"b\" }\n",
+    ];
+    let rows: [(FormatSetting, bool, [&str; 2]); 6] = [
+        (FormatSetting::Pretty, false, pretty),
+        (FormatSetting::Pretty, true, pretty),
+        (FormatSetting::Terse, false, ["\nrunning 2 tests\n"; 2]),
+        (FormatSetting::Terse, true, [""; 2]),
+        (FormatSetting::Json, false, json),
+        (FormatSetting::Json, true, [""; 2]),
     ];
     for (format, is_logged, expected) in rows {
         let mut args = Arguments::new(alloc);
@@ -171,8 +174,10 @@ fn shows_what_is_running(rt: HostRuntime) -> Result<(), Fail> {
             args.logfile = Some(String::from_str(alloc, path)?);
         }
         let out = fs::create(&rt, if is_logged { "/dev/null" } else { path })?;
-        let looks = Looks { rt, path, expected };
-        let tests = vec![in alloc; Trial::new(String::from_str(alloc, "a")?, looks)]?;
+        let mut tests = Vec::new(alloc);
+        for (name, expected) in ["a", "b"].into_iter().zip(expected) {
+            tests.push(Trial::new(String::from_str(alloc, name)?, Looks { rt, path, expected }))?;
+        }
         let left = run_tests(&rt, &PLAIN, Ok(args), tests, out)?;
         assert_eq!(rt; left.status, 0, "{format:?} {is_logged}");
     }
