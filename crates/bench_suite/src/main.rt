@@ -1,9 +1,9 @@
 //! Measures a run of many trivial tests:
-//! `bench_suite N FORMAT THREADS [fail_every K] [captures 1] [work K] [boxes 0] [logfile PATH]`
+//! `bench_suite N FORMAT THREADS [fail_every K] [captures 1] [work K] [boxes 0] [wait MS] [logfile PATH]`
 //!
 //! The tests are `test_000000` and so on; every K-th fails. Each is a boxed closure: with `captures 1` one that holds
 //! its test's number, as a closure over a path would, and with `work K` it goes through K thousand rounds from it. With
-//! `boxes 0` each is a value of no size, and none may fail.
+//! `boxes 0` each is a value of no size, and with `wait MS` one that waits so many milliseconds; none of these may fail.
 //!
 //! The report goes to standard output or the logfile. Its own time is that of a clock that stands still, so that the
 //! same words always give the same report. What was measured goes to standard error: how long making the tests and
@@ -24,6 +24,7 @@ use mimic_main::{Machine, MonotonicClock, Program, Status, StillClock};
 use std::alloc::Global;
 use std::io::Eprint;
 use std::rt::{Stderr, Stdout};
+use std::thread;
 use std::time::Duration;
 
 const BENCH_SUITE: Program<'static> = Program {
@@ -98,6 +99,37 @@ fn unit_tests(alloc: Global, count: usize) -> Result<Vec<Trial<Unit>>, RunError>
     Ok(tests)
 }
 
+// A test that waits, and passes then.
+#[derive(Drop)]
+struct Waiting<M> {
+    machine: M,
+    time: Duration,
+}
+
+impl<M: std::rt::Clock + Drop> Task for Waiting<M> {
+    fn run(self, _test_mode: bool) -> Outcome {
+        thread::sleep(&self.machine, self.time);
+        Outcome::Passed
+    }
+}
+
+fn waiting_tests<M: Machine>(
+    rt: &M,
+    count: usize,
+    millis: u64,
+) -> Result<Vec<Trial<Waiting<M>>>, RunError> {
+    let alloc = rt.alloc();
+    let mut tests = Vec::new(alloc);
+    for i in 0..count {
+        let waiting = Waiting {
+            machine: *rt,
+            time: Duration::from_millis(millis),
+        };
+        tests.push(Trial::new(test_name(alloc, i)?, waiting))?;
+    }
+    Ok(tests)
+}
+
 fn test_name(alloc: Global, number: usize) -> Result<String, RunError> {
     Ok(format!(in alloc; "test_{number:06}")?)
 }
@@ -140,6 +172,10 @@ fn measure<M: Machine + Eprint + 'static>(rt: &M, asked: &Asked) -> Result<Statu
         }
         Runners::Units => {
             let tests = unit_tests(alloc, asked.count)?;
+            run_tests(rt, asked, since(start, clock), tests)
+        }
+        Runners::Waits(millis) => {
+            let tests = waiting_tests(rt, asked.count, millis)?;
             run_tests(rt, asked, since(start, clock), tests)
         }
     }

@@ -3,12 +3,13 @@ use crate::asked::{Asked, Runners};
 use std::test::Fail;
 
 // Words behind the name, and the failing tests, the work, the runners and the logfile that they ask for.
-const ASKED: [(&str, usize, u64, Runners, Option<&str>); 6] = [
+const ASKED: [(&str, usize, u64, Runners, Option<&str>); 7] = [
     ("", 0, 0, Runners::Boxes, None),
     (" fail_every 3", 3, 0, Runners::Boxes, None),
     (" captures 1", 0, 0, Runners::Captures, None),
     (" work 10", 0, 10, Runners::Boxes, None),
     (" boxes 0 logfile log", 0, 0, Runners::Units, Some("log")),
+    (" wait 100", 0, 0, Runners::Waits(100), None),
     (
         " logfile log work 2 captures 1 fail_every 5",
         5,
@@ -19,7 +20,7 @@ const ASKED: [(&str, usize, u64, Runners, Option<&str>); 6] = [
 ];
 
 // Words that ask for nothing.
-const REFUSED: [&str; 9] = [
+const REFUSED: [&str; 11] = [
     "bench_suite",
     "bench_suite 7 terse",
     "bench_suite 7 dots 2",
@@ -29,6 +30,8 @@ const REFUSED: [&str; 9] = [
     "bench_suite 7 terse 2 boxes 1",
     "bench_suite 7 terse 2 boxes 0 fail_every 2",
     "bench_suite 7 terse 2 work 1 boxes 0",
+    "bench_suite 7 terse 2 wait soon",
+    "bench_suite 7 terse 2 wait 5 fail_every 2",
 ];
 
 #[test]

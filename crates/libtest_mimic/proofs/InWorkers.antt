@@ -14,7 +14,8 @@ use Rattle.mimic_trial.specs.Count.{counts_of}
 use Rattle.mimic_trial.specs.Places.{placed_at, places_of}
 use Rattle.mimic_trial.specs.Promise.{Gives}
 use Rattle.mimic_trial.specs.Trial.{info_of, runner_of}
-use Rattle.mimic_pool.specs.Share.{assigned_from}
+use Rattle.mimic_pool.specs.declared.share.Share.{Share}
+use Rattle.mimic_pool.specs.Share.{IsDealt, assigned_from}
 use Rattle.mimic_printer.specs.declared.sink.WriteFault.{WriteFault}
 use Rattle.mimic_printer.specs.Report.{failures_text, rows_text, summary_text, title_text}
 use Rattle.mimic_printer.specs.Row.{PrintedRow, label_of, labels_of, outcomes_of, rows_at}
@@ -47,11 +48,17 @@ module _ {R : Type 0} (gives : Gives R) (suite : Suite R) (infos : List TestInfo
   arrangement order outs h = arranged gives suite.args suite.trials bs outs order parts.each_flag (of_trials order outs h)
 
   -- as many runners and flags as infos
-  pub runners_of_infos : length rs ≡ length infos
+  runners_of_infos : length rs ≡ length infos
   runners_of_infos = ap length parts.each_runner ∙ length-map suite.trials runner_of ∙ sym count
 
-  pub flags_of_infos : length bs ≡ length infos
+  flags_of_infos : length bs ≡ length infos
   flags_of_infos = sym (flags_length suite.args suite.trials bs parts.each_flag) ∙ sym count
+
+  -- what is said of all runners and flags that these shares were dealt from is said of those of the trials
+  pub of_dealt : {P : List R → List Bool → Type 0} (workers : ℕ) (shares : List (Share R)) → workers ≡ length shares → IsDealt rs bs (length shares) shares
+      → ((rs' : List R) (bs' : List Bool) → length rs' ≡ length infos → length bs' ≡ length infos → IsDealt rs' bs' workers shares → P rs' bs') → P rs bs
+  of_dealt workers shares count dealt said =
+      said rs bs runners_of_infos flags_of_infos (subst (λ (n : ℕ). IsDealt rs bs n shares) (sym count) dealt)
 
   -- title and rows of the infos are those of the trials
   titled_same : (order : List ℕ) (outs : List Outcome)

@@ -141,8 +141,7 @@ impl<W: Write> Output<W> {
         handed
     }
 
-    // The fault that was not told yet, else that there was one. It is kept out of the way of a write that is well.
-    #[inline(never)]
+    // The fault that was not told yet, else that there was one.
     fn earlier_fault(&mut self) -> io::Error
         ensures bytes { told_of W.contents self.new ≡ told_of W.contents self.old }
         ensures waiting { waiting_of self.new ≡ waiting_of self.old }
@@ -167,8 +166,30 @@ impl<W: Write> Output<W> {
         flushed
     }
 
-    // Hands on what waits and then the text, in one write where both fit into a block and the writer takes them at once.
+    // Writes a text that doesn't just wait behind the others. A fault is large: what may tell one is kept out of the way of
+    // such texts.
     #[inline(never)]
+    fn write_out(&mut self, text: &[u8], ends_line: bool) -> io::Result<usize>
+        ensures bound { WritesAtMost result text.now }
+        ensures bytes { WriteAppends (told_of W.contents self.old) (told_of W.contents self.new) result text.now }
+        ensures stops { OnErr result (has_stopped self.new ≡ true) }
+        ensures stopped { StaysStopped self.old self.new result }
+    {
+        if self.has_failed {
+            return Err(self.earlier_fault());
+        }
+        if text.len() >= BLOCK || ends_line && self.hands_on_lines() {
+            let count = self.write_through(text)?;
+            self.has_odd_lines ^= ends_line && count == text.len();
+            return Ok(count);
+        }
+        self.hand_on()?;
+        self.keep(text);
+        self.has_odd_lines ^= ends_line;
+        Ok(text.len())
+    }
+
+    // Hands on what waits and then the text, in one write where both fit into a block and the writer takes them at once.
     fn write_through(&mut self, text: &[u8]) -> io::Result<usize>
         ensures bound { WritesAtMost result text.now }
         ensures bytes { WriteAppends (told_of W.contents self.old) (told_of W.contents self.new) result text.now }
@@ -259,17 +280,10 @@ impl<W: Write> Write for Output<W> {
         ensures stops { OnErr result (has_stopped self.new ≡ true) }
         ensures stopped { StaysStopped self.old self.new result }
     {
-        if self.has_failed {
-            return Err(self.earlier_fault());
-        }
         let ends_line = buf.ends_with(b"\n");
-        if buf.len() >= BLOCK || ends_line && self.hands_on_lines() {
-            let count = self.write_through(buf)?;
-            self.has_odd_lines ^= ends_line && count == buf.len();
-            return Ok(count);
-        }
-        if !self.has_room(buf.len()) {
-            self.hand_on()?;
+        let goes_out = buf.len() >= BLOCK || ends_line && self.hands_on_lines();
+        if self.has_failed || goes_out || !self.has_room(buf.len()) {
+            return self.write_out(buf, ends_line);
         }
         self.keep(buf);
         self.has_odd_lines ^= ends_line;
@@ -281,10 +295,7 @@ impl<W: Write> Write for Output<W> {
         ensures stops { OnErr result (has_stopped self.new ≡ true) }
         ensures stopped { StaysStopped self.old self.new result }
     {
-        if self.has_failed {
-            return Err(self.earlier_fault());
-        }
-        if self.heeds_flushes() {
+        if self.has_failed || self.heeds_flushes() {
             self.hand_on_and_flush()?;
         }
         Ok(())

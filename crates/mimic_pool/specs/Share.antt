@@ -1,5 +1,5 @@
 -- Shares: which worker runs which of the trials.
-use Rattle.std.specs.Prelude.{ℕ, ◌≡◌, ◌+◌, ◌%◌, ◌<◌, ◌==◌, All, Bool, List, [], ◌∷◌, filter, map, slice_index_or}
+use Rattle.std.specs.Prelude.{ℕ, ◌≡◌, ◌+◌, ◌%◌, ◌<◌, ◌≤◌, ◌==◌, All, Bool, List, [], ◌∷◌, filter, map, slice_index_or, vec_capacity}
 use Rattle.mimic_pool.specs.declared.share.Assigned.{Assigned}
 use Rattle.mimic_pool.specs.declared.share.Share.{Share}
 
@@ -11,6 +11,10 @@ module _ {X : Type 0} where
   -- the places of a share, in its order
   abbrev pub places_in : Share X → List ℕ
   places_in share = map (λ item. item.place) (items_of share)
+
+  -- a share has room for so many runners
+  abbrev pub HasRoom : ℕ → Share X → Type 0
+  HasRoom runners share = runners ≤ vec_capacity share.items
 
   -- this holds of each runner of a share
   abbrev pub AllRunners : (X → Type 0) → Share X → Type 0

@@ -123,6 +123,10 @@ impl Desk {
         ensures whole { IsPermutation result.items (range_with_len 0 self.places) }
     {
         let Desk { seats, mut order } = self;
+        // Mostly all have come, and the seats need not be gone over.
+        if order.len() == seats.len() {
+            return order;
+        }
         for place in free_seats(seats.as_slice()) {
             order.push_reserved(place);
         }

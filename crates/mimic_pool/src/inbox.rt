@@ -7,7 +7,7 @@ ghost use Rattle.mimic_pool.specs.declared.inbox.TheConstants.{BATCH};
 use crate::bell::Bell;
 use crate::board::Board;
 use crate::board_reports::BoardReports;
-use crate::shared::SharedBoard;
+use crate::shared::{Found, SharedBoard};
 use mimic_trial::Outcome;
 use std::alloc::{AllocError, Global};
 use std::collections::VecDeque;
@@ -83,44 +83,51 @@ impl Inbox {
             if let Some(row) = self.batch.pop_front() {
                 return Some(row);
             }
-            let may_come = self.look(rt);
-            if !may_come {
-                break;
-            }
-            if self.batch.is_empty() {
-                // Where the processors are busy, workers go first, so that it is not woken for each row.
-                yield_now();
-                self.bell.wait(rt);
+            match self.look() {
+                Found::Rows => {}
+                Found::Occupied => yield_now(),
+                Found::Nothing => self.bell.wait(rt),
+                Found::End => break,
             }
         }
         self.batch.pop_front()
     }
 
-    // Looks at each board once, until one has rows that wait, and takes them. Answers whether more may come.
-    fn look<R: Wait>(&mut self, rt: &R) -> bool {
-        let mut may_come = false;
+    // Looks at each board once, until one has rows that wait, and takes them.
+    fn look(&mut self) -> Found {
+        let mut found = Found::End;
         let first = self.turn;
         for worker in (first..self.boards.len()).chain(0..first) {
-            may_come |= self.look_at(rt, worker);
+            found = found.min(self.look_at(worker));
         }
-        may_come
+        found
     }
 
-    // Takes rows that wait on this worker's board, unless there are some already. Answers whether more may come.
-    fn look_at<R: Wait>(&mut self, rt: &R, worker: usize) -> bool {
+    // Takes rows that wait on this worker's board, unless there are some already.
+    fn look_at(&mut self, worker: usize) -> Found {
         let Some(board) = self.boards.get(worker) else {
-            return false;
+            return Found::End;
         };
         if !self.batch.is_empty() {
-            return true;
+            return Found::Rows;
         }
         self.turn = worker.wrapping_add(1);
-        board.take_waiting(rt, BATCH, &mut self.batch)
+        board.take_waiting(BATCH, &mut self.batch)
     }
 
-    /// Whether the next row would be waited for, or there is none.
-    pub fn is_idle<R: Wait>(&self, rt: &R) -> bool {
-        self.batch.is_empty() && !self.boards.iter().any(|board| board.has_waiting(rt))
+    /// Whether the next row would be waited for, or there is none. Where all processors are busy, workers go first, so that
+    /// this is so less often.
+    pub fn is_idle(&self) -> bool {
+        if !self.batch.is_empty() || self.has_waiting() {
+            return false;
+        }
+        yield_now();
+        !self.has_waiting()
+    }
+
+    // Whether a row waits on some board.
+    fn has_waiting(&self) -> bool {
+        self.boards.iter().any(|board| board.has_waiting())
     }
 }
 

@@ -1,6 +1,7 @@
 //! Shares of the trials, one for each worker.
-ghost use Rattle.std.specs.Prelude.{◌≡◌, ◌≤◌, ◌∷◌, ◌++◌, Bool, IfOk, List, OnErr, OnOk, [], length, map, slice_get, vec_len};
-ghost use Rattle.mimic_pool.specs.Share.{IsDealt, items_of, places_in};
+ghost use Rattle.std.specs.Prelude.{◌≡◌, ◌≤◌, ◌∷◌, ◌++◌, All, Bool, IfOk, List, OnErr, OnOk, [], length, map, slice_get, vec_len};
+ghost use Rattle.std.specs.Int.{div_ceil};
+ghost use Rattle.mimic_pool.specs.Share.{HasRoom, IsDealt, items_of, places_in};
 
 use mimic_trial::Runner;
 use std::alloc::{AllocError, Global};
@@ -62,7 +63,7 @@ pub fn deal<T: Drop>(
     Ok(shares)
 }
 
-/// The shares of so many workers before anything is dealt to them, with room for `runners` in all.
+/// The shares of so many workers before anything is dealt to them. Each has room for its part of so many runners.
 pub fn empty_shares<T: Drop>(
     alloc: Global,
     runners: usize,
@@ -71,6 +72,7 @@ pub fn empty_shares<T: Drop>(
     requires some_worker { 1 ≤ workers }
     ensures len { IfOk result (λ shares. vec_len shares ≡ workers) }
     ensures empty { IfOk result (λ shares. IsDealt [] [] workers shares.items) }
+    ensures room { IfOk result (λ shares. All (HasRoom (div_ceil runners workers)) shares.items) }
 {
     let room = runners.div_ceil(workers);
     let mut shares = Vec::with_capacity(alloc, workers)?;

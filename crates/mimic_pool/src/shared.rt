@@ -6,19 +6,35 @@ use crate::bell::Bell;
 use crate::board::Board;
 use mimic_trial::Outcome;
 use std::collections::VecDeque;
+use std::sync::atomic::{AtomicBool, Ordering};
 use std::sync::{Arc, Mutex, Wait};
+
+// What a look at a worker's board found, from what is to be heeded most.
+#[derive(Clone, Copy, PartialEq, Eq, PartialOrd, Ord)]
+pub(crate) enum Found {
+    // Rows, which were taken.
+    Rows,
+    // Its worker was at it, so that nothing is known.
+    Occupied,
+    // No row yet.
+    Nothing,
+    // No row, and none comes any more.
+    End,
+}
 
 // A board that one worker shares with the one thread that takes its rows, so that workers don't wait for one another.
 //
 // Of the places, those stand on it that are dealt to the worker: each whose remainder by the number of workers is the
 // worker's number. Its index on the board is the quotient.
 //
-// No wake-up is lost. The taking thread sleeps only where it saw no row on any board, and heard no ring since it began to look.
-// A row that comes where none waits rings when it lies on its board, and so does a close. So either the look found it, or its
-// ring comes after the look began.
+// No wake-up is lost. The taking thread sleeps only where it saw all boards and no row on any, and heard no ring since it began
+// to look. A row that comes where none waits rings when it lies on its board, and so does a close. So either the look found it,
+// or its ring comes after the look began.
 #[derive(Drop)]
 pub(crate) struct SharedBoard {
     board: Mutex<Board>,
+    // Whether a row waits, as it was when the lock was last given up.
+    has_waiting: AtomicBool,
     worker: usize,
     workers: usize,
     bell: Arc<Bell>,
@@ -28,6 +44,7 @@ impl SharedBoard {
     pub(crate) fn new(board: Board, worker: usize, workers: usize, bell: Arc<Bell>) -> Self {
         SharedBoard {
             board: Mutex::new(board),
+            has_waiting: AtomicBool::new(false),
             worker,
             workers,
             bell,
@@ -47,8 +64,9 @@ impl SharedBoard {
         let mut board = self.board.lock(rt);
         let is_first_to_wait = !board.has_waiting();
         board.report(index, outcome)?;
-        drop(board);
         if is_first_to_wait {
+            self.has_waiting.store(true, Ordering::SeqCst);
+            drop(board);
             self.bell.ring(rt);
         }
         Ok(())
@@ -62,29 +80,35 @@ impl SharedBoard {
         self.bell.ring(rt);
     }
 
-    // Takes the rows that wait, but no more than `most`, for which there must be room. Answers whether there may be more.
-    pub(crate) fn take_waiting<R: Wait>(
-        &self,
-        rt: &R,
-        most: usize,
-        rows: &mut VecDeque<(usize, Outcome)>,
-    ) -> bool
+    // Takes the rows that wait, but no more than `most`, for which there must be room. It never waits for the worker.
+    pub(crate) fn take_waiting(&self, most: usize, rows: &mut VecDeque<(usize, Outcome)>) -> Found
         requires room { deque_len rows.old + most ≤ deque_capacity rows.old }
         ensures capacity { deque_capacity rows.new ≡ deque_capacity rows.old }
     {
-        let mut board = self.board.lock(rt);
+        let Some(mut board) = self.board.try_lock() else {
+            return Found::Occupied;
+        };
+        if !board.has_waiting() {
+            return if board.all_closed() {
+                Found::End
+            } else {
+                Found::Nothing
+            };
+        }
         for _ in 0..most {
             let Some((index, outcome)) = board.take() else {
-                return !board.all_closed();
+                break;
             };
             rows.push_back_reserved((self.place_at(index), outcome));
         }
-        true
+        self.has_waiting
+            .store(board.has_waiting(), Ordering::SeqCst);
+        Found::Rows
     }
 
     // Whether a row waits to be taken.
-    pub(crate) fn has_waiting<R: Wait>(&self, rt: &R) -> bool {
-        self.board.lock(rt).has_waiting()
+    pub(crate) fn has_waiting(&self) -> bool {
+        self.has_waiting.load(Ordering::SeqCst)
     }
 
     // The index of the place on this board, where it stands there.

@@ -93,6 +93,8 @@ pub(super) fn put_outcome<W: Write>(
             ];
             put_pieces(sink, &pieces)?;
         }
+        // Most rows end so, and need not be gathered.
+        Outcome::Passed if !printer.colour => sink.put(b"ok\n")?,
         _ => put_pieces(sink, &[start, word, end, Piece::Text("\n")])?,
     }
     Ok(())

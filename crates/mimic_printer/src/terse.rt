@@ -1,6 +1,7 @@
 //! Outcomes in terse: a mark each, and no announcement. All else is as in pretty.
-ghost use Rattle.std.specs.Prelude.{◌≡◌, ◌-◌, ◌^◌, ◌<◌};
-ghost use Rattle.mimic_printer.specs.Report.{outcome_mark, terse_outcome};
+ghost use Rattle.std.specs.Prelude.{◌≡◌, ◌-◌, ◌^◌, ◌<◌, IfNone, IfSome};
+ghost use Rattle.mimic_printer.specs.declared.Printer.{Printer};
+ghost use Rattle.mimic_printer.specs.Report.{outcome_line, outcome_mark, terse_outcome};
 ghost use Rattle.mimic_printer.specs.Sink.{Puts, faults_of};
 
 use crate::colour::{colour_end, colour_start};
@@ -21,13 +22,24 @@ pub(super) fn put_outcome<W: Write>(
     requires { faults_of sink.old < 2 ^ 64 - 1 }
     ensures { Puts W.contents sink.old sink.new (terse_outcome printer.now outcome.now) result }
 {
-    match outcome {
-        Outcome::Passed => put_mark(sink, printer, outcome, ".")?,
-        Outcome::Failed(_) => put_mark(sink, printer, outcome, "F")?,
-        Outcome::Ignored => put_mark(sink, printer, outcome, "i")?,
-        Outcome::Measured(_) => pretty::put_outcome(sink, printer, outcome)?,
+    match mark(outcome) {
+        Some(mark) => put_mark(sink, printer, outcome, mark)?,
+        None => pretty::put_outcome(sink, printer, outcome)?,
     }
     Ok(())
+}
+
+// The mark of an outcome. A measurement has none, but its whole line.
+fn mark(outcome: &Outcome) -> Option<&'static str>
+    ensures mark { IfSome result (λ mark. (p : Printer) → terse_outcome p outcome.now ≡ outcome_mark p outcome.now mark.now) }
+    ensures line { IfNone result ((p : Printer) → terse_outcome p outcome.now ≡ outcome_line p outcome.now) }
+{
+    match outcome {
+        Outcome::Passed => Some("."),
+        Outcome::Failed(_) => Some("F"),
+        Outcome::Ignored => Some("i"),
+        Outcome::Measured(_) => None,
+    }
 }
 
 #[tactic(auto, unfolding(crate::specs::Report::outcome_mark))]

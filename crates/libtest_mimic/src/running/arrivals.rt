@@ -34,7 +34,7 @@ pub(super) fn write_arrivals<W: Write, T: Wait>(
             break;
         };
         write_arrival(printer, infos, desk, place, outcome, sink)?;
-        if inbox.is_idle(rt) {
+        if inbox.is_idle() {
             sink.flush()?;
         }
     }

@@ -27,9 +27,9 @@ fn refuses_what_the_board_hands_back(rt: HostRuntime) -> Result<(), Fail> {
     assert_eq!(rt; reports.tell(2, &Outcome::Passed), Err(Untold));
     assert_eq!(rt; reports.told(), 1);
     assert_eq!(rt; reports.refusals(), 2);
-    assert!(rt; !inbox.is_idle(&rt));
+    assert!(rt; !inbox.is_idle());
     assert!(rt; inbox.next(&rt) == Some((1, Outcome::Passed)));
-    assert!(rt; inbox.is_idle(&rt));
+    assert!(rt; inbox.is_idle());
     Ok(())
 }
 
@@ -57,7 +57,7 @@ fn refuses_places_of_others(rt: HostRuntime) -> Result<(), Fail> {
         if owner.is_some() {
             assert!(rt; inbox.next(&rt) == Some((place, Outcome::Passed)));
         }
-        assert!(rt; inbox.is_idle(&rt));
+        assert!(rt; inbox.is_idle());
     }
     Ok(())
 }

@@ -1,7 +1,7 @@
-use Rattle.std.proofs.Common.{◌∙◌, ◌++◌, ◌∷◌, [], ℕ, List, ap, ap₂, append-nil, append_assoc, arith, length, subst, sym}
+use Rattle.std.proofs.Common.{◌≡◌, ◌∙◌, ◌++◌, ◌∷◌, [], ℕ, List, ap, ap₂, append-nil, append_assoc, arith, length, subst, sym}
 use Rattle.std.specs.List.{range_with_len}
 use Rattle.std.specs.List.Sorted.{IsPermutation}
-use Rattle.std.proofs.lemmas.List.{length-append}
+use Rattle.std.proofs.lemmas.List.{length-append, nil_from_length}
 use Rattle.std.proofs.lemmas.List.FromFn.{length-range_with_len}
 use Rattle.std.proofs.lemmas.List.Sorted.{length_permutation}
 use Rattle.mimic_trial.specs.Places.{places_of}
@@ -9,6 +9,32 @@ use Rattle.mimic_pool.specs.Arrivals.{missing_of}
 use Rattle.mimic_pool.specs.Missing.{free_from, missing_items}
 use Rattle.mimic_pool.proofs.Seating.{missing_shown, order_shown, shown_whole}
 use Rattle.mimic_pool.proofs.desk.Desk.into_order.Goals as goal
+
+-- where the order is as long as there are places, none is missing
+pub returns-then-len-clause-places : goal.returns-then-len-clause-places
+returns-then-len-clause-places c =
+    let order = order_shown c.self.inside.seats.items c.self.inside.order.items c.self.invariant.taken ∙ ap (λ desk. places_of desk.rows) c.self.view_is in
+    let all = length_permutation _ _ (shown_whole c.self.inside c.args.self c.self.invariant c.self.view_is) in
+    let none : missing_of c.args.self ≡ [] =
+    nil_from_length _ (omega (
+      arith,
+      all,
+      length-append (places_of c.args.self.rows) (missing_of c.args.self),
+      length-range_with_len 0 c.args.self.places,
+      ap length order,
+      c.if-len.true,
+      c.len.ensures,
+      c.len-2.ensures,
+      c.self.inside.order.ok.0,
+      c.self.inside.seats.ok.0,
+      ap (λ desk. desk.places) c.self.view_is,
+    )) in
+    order ∙ sym (ap (λ l. places_of c.args.self.rows ++ l) none ∙ append-nil (places_of c.args.self.rows))
+
+pub returns-then-len-clause-whole : goal.returns-then-len-clause-whole
+returns-then-len-clause-whole c =
+    let P : List ℕ → Type 0 = λ l. IsPermutation l (range_with_len 0 c.args.self.places) in
+    subst P (sym (returns-then-len-clause-places c)) (shown_whole c.self.inside c.args.self c.self.invariant c.self.view_is)
 
 pub loop-place-init : goal.loop-place-init
 loop-place-init c =
