@@ -166,8 +166,8 @@ impl<W: Write> Output<W> {
         flushed
     }
 
-    // Writes a text that doesn't just wait behind the others. A fault is large: what may tell one is kept out of the way of
-    // such texts.
+    // Writes a text that goes out, finds no room, or comes after a fault. A fault is large, so that this is kept out of the
+    // way of texts that just wait.
     #[inline(never)]
     fn write_out(&mut self, text: &[u8], ends_line: bool) -> io::Result<usize>
         ensures bound { WritesAtMost result text.now }

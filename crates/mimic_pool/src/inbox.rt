@@ -85,7 +85,7 @@ impl Inbox {
             }
             match self.look() {
                 Found::Rows => {}
-                Found::Occupied => yield_now(),
+                Found::Held => yield_now(),
                 Found::Nothing => self.bell.wait(rt),
                 Found::End => break,
             }
@@ -115,8 +115,8 @@ impl Inbox {
         board.take_waiting(BATCH, &mut self.batch)
     }
 
-    /// Whether the next row would be waited for, or there is none. Where all processors are busy, workers go first, so that
-    /// this is so less often.
+    /// Whether the next row would be waited for, or there is none. Before it says so it lets other threads run, since on a
+    /// busy machine a worker may be about to report.
     pub fn is_idle(&self) -> bool {
         if !self.batch.is_empty() || self.has_waiting() {
             return false;

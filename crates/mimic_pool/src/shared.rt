@@ -9,13 +9,13 @@ use std::collections::VecDeque;
 use std::sync::atomic::{AtomicBool, Ordering};
 use std::sync::{Arc, Mutex, Wait};
 
-// What a look at a worker's board found, from what is to be heeded most.
+// What a look at a board found. Of the looks at several boards, the least one counts.
 #[derive(Clone, Copy, PartialEq, Eq, PartialOrd, Ord)]
 pub(crate) enum Found {
     // Rows, which were taken.
     Rows,
-    // Its worker was at it, so that nothing is known.
-    Occupied,
+    // Its worker held it, so that nothing is known.
+    Held,
     // No row yet.
     Nothing,
     // No row, and none comes any more.
@@ -86,7 +86,7 @@ impl SharedBoard {
         ensures capacity { deque_capacity rows.new ≡ deque_capacity rows.old }
     {
         let Some(mut board) = self.board.try_lock() else {
-            return Found::Occupied;
+            return Found::Held;
         };
         if !board.has_waiting() {
             return if board.all_closed() {
