@@ -99,6 +99,9 @@ fn settles_a_list_with_losses(rt: HostRuntime) -> Result<(), Fail> {
             alloc,
         };
         work(share, false, &mut reports, room);
+        if reports.arrivals.len() as u64 != reports.told.div_ceil(2).saturating_mul(3) {
+            return Err(Fail::new("no memory for an arrival"));
+        }
         for row in reports.arrivals {
             list.push(row)?;
         }
