@@ -5,6 +5,7 @@ ghost use Rattle.mimic_pool.specs.Share.{AllRunners};
 use crate::{Inbox, Reports, Share, Untold, deal, join_all, prepare, start_all};
 use mimic_trial::{Failed, Measurement, Outcome, Task};
 use std::alloc::{AllocError, Global};
+use std::process::Abort;
 use std::sync::atomic::{AtomicU64, Ordering};
 use std::sync::{Arc, Wait};
 use std::test::Fail;
@@ -97,7 +98,7 @@ fn a_worker_closes_when_its_reports_are_dropped(rt: HostRuntime) -> Result<(), F
     Ok(())
 }
 
-// Gives its number once so many rows were taken. Where that doesn't come in time, it fails.
+// Gives its number once so many rows were taken. Where that doesn't come in time, it fails, and lets no other wait.
 #[derive(Drop)]
 struct Awaits {
     taken: Arc<AtomicU64>,
@@ -113,6 +114,7 @@ impl Task for Awaits {
             }
             thread::yield_now();
         }
+        self.taken.store(u64::MAX / 2, Ordering::SeqCst);
         Outcome::Failed(Failed::without_message())
     }
 }
@@ -145,26 +147,20 @@ fn rows_taken<T: Task + Send + 'static, R: Threads + Wait + Copy + Drop + Send +
     Ok(rows)
 }
 
-// Which rows are to be taken before a task runs.
-#[derive(Clone, Copy)]
-enum Before {
-    None,
-    AllOfLowerPlaces,
-}
-
-// The shares of two workers of so many tasks, each of which gives the number of its place.
+// The shares of two workers of so many tasks, each of which gives the number of its place. Before a task at a multiple of `step`
+// runs, as many rows are to be taken as there are lower places.
 fn shares_of(
     alloc: Global,
     trials: usize,
-    before: Before,
+    step: usize,
     taken: &Arc<AtomicU64>,
 ) -> Result<Vec<Share<Awaits>>, AllocError> {
     let mut tasks = Vec::with_capacity(alloc, trials)?;
     for place in 0..trials {
         let number = place as u64;
-        let rows = match before {
-            Before::None => 0,
-            Before::AllOfLowerPlaces => number,
+        let rows = match place.checked_rem(step) {
+            Some(0) => number,
+            _ => 0,
         };
         let taken = Arc::try_clone(taken)?;
         tasks.push(Awaits {
@@ -177,38 +173,43 @@ fn shares_of(
     deal(alloc, tasks, flags, 2)
 }
 
-// Two workers that report as fast as they can: each row comes once, with its own outcome, and those of a worker in order.
+// Each row comes once, with its own outcome, and those of a worker in order.
+fn check_rows<R: Threads + Wait + Abort + Copy + Drop + Send + 'static>(
+    rt: &R,
+    alloc: Global,
+    trials: usize,
+    step: usize,
+) -> Result<(), Fail> {
+    let taken = Arc::new(alloc, AtomicU64::new(0))?;
+    let shares = shares_of(alloc, trials, step, &taken)?;
+    let rows = rows_taken(rt, alloc, shares, trials, &taken)?;
+    let mut next = [0, 1];
+    for (place, outcome) in &rows {
+        let worker = place % 2;
+        assert_eq!(rt; *place, next[worker]);
+        assert!(rt; *outcome == numbered(*place as u64));
+        next[worker] = place.saturating_add(2);
+    }
+    assert_eq!(rt; next, [trials, trials.saturating_add(1)]);
+    Ok(())
+}
+
+// Two workers report as fast as they can.
 #[test]
 fn two_workers_lose_nothing(rt: HostRuntime) -> Result<(), Fail> {
-    let alloc = rt.alloc();
     for _round in 0..100 {
-        let taken = Arc::new(alloc, AtomicU64::new(0))?;
-        let shares = shares_of(alloc, 600, Before::None, &taken)?;
-        let rows = rows_taken(&rt, alloc, shares, 600, &taken)?;
-        let mut next = [0, 1];
-        for (place, outcome) in &rows {
-            let worker = place % 2;
-            assert_eq!(rt; *place, next[worker]);
-            assert!(rt; *outcome == numbered(*place as u64));
-            next[worker] = place.saturating_add(2);
-        }
-        assert_eq!(rt; next, [600, 601]);
+        check_rows(&rt, rt.alloc(), 600, 600)?;
     }
     Ok(())
 }
 
-// Each row is reported when those before it were taken, so the taking thread is asleep then, or about to be. A wake-up
-// that is lost leaves it asleep until the workers close, and the next task fails.
+// A task awaits the rows before it, so the taking thread is asleep when it ends, or about to be: each task, each of one worker
+// while the other one reports as fast as it can, or each third. A wake-up that is lost leaves that thread asleep while rows
+// wait, and so does a board that its worker held and that isn't looked at again. Then a task fails.
 #[test]
 fn no_wake_up_is_lost(rt: HostRuntime) -> Result<(), Fail> {
-    let alloc = rt.alloc();
-    let taken = Arc::new(alloc, AtomicU64::new(0))?;
-    let shares = shares_of(alloc, 5_000, Before::AllOfLowerPlaces, &taken)?;
-    let rows = rows_taken(&rt, alloc, shares, 5_000, &taken)?;
-    assert_eq!(rt; rows.len(), 5_000);
-    for (number, (place, outcome)) in rows.iter().enumerate() {
-        assert_eq!(rt; *place, number);
-        assert!(rt; *outcome == numbered(number as u64));
+    for step in [1, 2, 3] {
+        check_rows(&rt, rt.alloc(), 6_000, step)?;
     }
     Ok(())
 }
