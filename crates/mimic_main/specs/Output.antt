@@ -1,5 +1,6 @@
 -- What a buffered output was given, what of it waits, and when it is handed on.
-use Rattle.std.specs.Prelude.{◌≡◌, ℕ, Bool, true, List, Option, Result, IsErr, if◌then◌else◌, is_some, nat_lt}
+use Rattle.std.specs.Prelude.{◌≡◌, ◌+◌, ◌<◌, ◌≤◌, ◌&&◌, ℕ, Bool, true, false, not, List, [], ◌∷◌, length, Option, Result, IsErr, if◌then◌else◌, is_some, nat_lt, nat_eq}
+use Rattle.std.specs.List.{ends_with}
 use Rattle.std.specs.Io.KnownBytes.{Keeps, append_known}
 use Rattle.mimic_args.specs.declared.Arguments.{Arguments}
 use Rattle.mimic_args.specs.declared.FormatSetting.{FormatSetting}
@@ -8,6 +9,7 @@ use Rattle.mimic_args.specs.Arguments.{format_of}
 use Rattle.libtest_mimic.specs.Run.{threads_of}
 use Rattle.mimic_main.specs.declared.buffer.Output.{Output}
 use Rattle.mimic_main.specs.declared.buffer.FlushPolicy.{FlushPolicy}
+use Rattle.mimic_main.specs.declared.buffer.TheConstants.{BLOCK}
 use Rattle.mimic_main.specs.declared.buffer.FlushPolicy.TheVariants.{OnFlush, OnFlushAfterLine, OnLineEnd, OnSecondLineEnd, WhenFull}
 
 -- the bytes that wait to be handed on
@@ -33,6 +35,52 @@ told_of contents output = append_known (contents output.writer) (waiting_of outp
 -- known bytes are those that the writer got, and then some rest
 abbrev pub HandsOn : Option (List ℕ) → Option (List ℕ) → Type 0
 HandsOn told got = (rest : List ℕ) × Keeps told (append_known got rest)
+
+-- a text ends a line where its last byte is a newline
+abbrev pub ends_line : List ℕ → Bool
+ends_line text = ends_with nat_eq text (10 ∷ [])
+
+-- an odd number of lines was written
+abbrev pub has_odd_lines : {W : Type 0} → Output W → Bool
+has_odd_lines output = output.has_odd_lines
+
+-- a line counts when it was written to its end, and a front of one does not
+pub record CountsLine {W : Type 0} (old new : Output W) (text : List ℕ) (ends : Bool) (count : ℕ) : Type 0 where
+  pub whole : count ≡ length text → has_odd_lines new ≡ (if ends then not (has_odd_lines old) else has_odd_lines old)
+  pub front : count < length text → has_odd_lines new ≡ has_odd_lines old
+
+-- the policy is as it was, and so is what it goes by
+pub record SamePolicy {W : Type 0} (old new : Output W) : Type 0 where
+  pub policy : flushes_by new ≡ flushes_by old
+  pub lines : has_odd_lines new ≡ has_odd_lines old
+
+-- by this policy a line is handed on where it ends, behind an odd number of lines or not (our own)
+abbrev pub heeds_line : FlushPolicy → Bool → Bool
+heeds_line OnFlush odd = false
+heeds_line OnFlushAfterLine odd = false
+heeds_line OnLineEnd odd = true
+heeds_line OnSecondLineEnd odd = odd
+heeds_line WhenFull odd = false
+
+-- by this policy these bytes, which wait, are handed on at a flush (our own)
+abbrev pub heeds_flush : FlushPolicy → List ℕ → Bool
+heeds_flush OnFlush waiting = true
+heeds_flush OnFlushAfterLine waiting = ends_line waiting
+heeds_flush OnLineEnd waiting = true
+heeds_flush OnSecondLineEnd waiting = true
+heeds_flush WhenFull waiting = false
+
+-- the output hands on what waits and this text when it is written
+abbrev pub goes_out : {W : Type 0} → Output W → List ℕ → Bool
+goes_out output text = ends_line text && heeds_line (flushes_by output) (has_odd_lines output)
+
+-- the output hands on what waits when it is flushed
+abbrev pub goes_out_flushed : {W : Type 0} → Output W → Bool
+goes_out_flushed output = heeds_flush (flushes_by output) (waiting_of output)
+
+-- this text can wait, too
+abbrev pub HasRoom : {W : Type 0} → Output W → List ℕ → Type 0
+HasRoom output text = (length text < BLOCK) × (length (waiting_of output) + length text ≤ BLOCK)
 
 -- with one thread a pretty report is handed on at each flush, and one in JSON at the end of each second line too, since these
 -- come before a trial runs; with more threads both are where a flush follows a whole line. One in terse is handed on at the

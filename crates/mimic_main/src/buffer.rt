@@ -1,8 +1,8 @@
 //! The buffer between a report and the system.
-ghost use Rattle.std.specs.Prelude.{◌≡◌, ◌↔◌, ◌+◌, ◌≤◌, ◌-◌, ◌++◌, ℕ, [], drop, false, length, take, true, IsErr, IsTrue, OnErr, OnOk};
+ghost use Rattle.std.specs.Prelude.{◌≡◌, ◌↔◌, ◌+◌, ◌<◌, ◌≤◌, ◌-◌, ◌++◌, ℕ, [], drop, false, length, take, true, IfOk, IsErr, IsTrue, OnErr, OnOk};
 ghost use Rattle.std.specs.Io.{WritesAtMost};
 ghost use Rattle.std.specs.Io.KnownBytes.{Appends, Keeps, WriteAppends};
-ghost use Rattle.mimic_main.specs.Output.{HandsOn, StaysStopped, flushes_by, has_stopped, told_of, waiting_of};
+ghost use Rattle.mimic_main.specs.Output.{CountsLine, HandsOn, HasRoom, SamePolicy, StaysStopped, ends_line, flushes_by, goes_out, goes_out_flushed, has_odd_lines, has_stopped, heeds_line, told_of, waiting_of};
 ghost use Rattle.mimic_main.specs.declared.buffer.TheConstants.{BLOCK};
 
 use arrayvec::ArrayVec;
@@ -89,6 +89,7 @@ impl<W: Write> Output<W> {
     pub fn new(policy: FlushPolicy, writer: W) -> Self
         ensures bytes { told_of W.contents result ≡ W.contents writer }
         ensures policy { flushes_by result ≡ policy }
+        ensures lines { has_odd_lines result ≡ false }
         ensures runs { has_stopped result ≡ false }
     {
         Output {
@@ -125,6 +126,7 @@ impl<W: Write> Output<W> {
         ensures empty { OnOk result (waiting_of self.new ≡ []) }
         ensures front { (n : ℕ) × (n ≤ length (waiting_of self.old)) × (waiting_of self.new ≡ drop n (waiting_of self.old))
             × Appends (W.contents self.old.writer) (W.contents self.new.writer) (take n (waiting_of self.old)) }
+        ensures same { SamePolicy self.old self.new }
         ensures stops { OnErr result (has_stopped self.new ≡ true) }
         ensures stopped { StaysStopped self.old self.new result }
     {
@@ -146,6 +148,7 @@ impl<W: Write> Output<W> {
         ensures bytes { told_of W.contents self.new ≡ told_of W.contents self.old }
         ensures waiting { waiting_of self.new ≡ waiting_of self.old }
         ensures writer { self.new.writer ≡ self.old.writer }
+        ensures same { SamePolicy self.old self.new }
         ensures stopped { has_stopped self.new ≡ has_stopped self.old }
     {
         match self.untold.take() {
@@ -157,6 +160,7 @@ impl<W: Write> Output<W> {
     fn hand_on_and_flush(&mut self) -> io::Result<()>
         ensures bytes { Keeps (told_of W.contents self.old) (told_of W.contents self.new) }
         ensures empty { OnOk result (waiting_of self.new ≡ []) }
+        ensures same { SamePolicy self.old self.new }
         ensures stops { OnErr result (has_stopped self.new ≡ true) }
         ensures stopped { StaysStopped self.old self.new result }
     {
@@ -172,13 +176,17 @@ impl<W: Write> Output<W> {
     fn write_out(&mut self, text: &[u8], ends_line: bool) -> io::Result<usize>
         ensures bound { WritesAtMost result text.now }
         ensures bytes { WriteAppends (told_of W.contents self.old) (told_of W.contents self.new) result text.now }
+        ensures policy { flushes_by self.new ≡ flushes_by self.old }
+        ensures lines { IfOk result (CountsLine self.old self.new text.now ends_line) }
+        ensures out { ends_line ≡ true → heeds_line (flushes_by self.old) (has_odd_lines self.old) ≡ true
+            → OnOk result (waiting_of self.new ≡ []) }
         ensures stops { OnErr result (has_stopped self.new ≡ true) }
         ensures stopped { StaysStopped self.old self.new result }
     {
         if self.has_failed {
             return Err(self.earlier_fault());
         }
-        if text.len() >= BLOCK || ends_line && self.hands_on_lines() {
+        if text.len() >= BLOCK || ends_line && self.heeds_line() {
             let count = self.write_through(text)?;
             self.has_odd_lines ^= ends_line && count == text.len();
             return Ok(count);
@@ -193,6 +201,8 @@ impl<W: Write> Output<W> {
     fn write_through(&mut self, text: &[u8]) -> io::Result<usize>
         ensures bound { WritesAtMost result text.now }
         ensures bytes { WriteAppends (told_of W.contents self.old) (told_of W.contents self.new) result text.now }
+        ensures empty { OnOk result (waiting_of self.new ≡ []) }
+        ensures same { SamePolicy self.old self.new }
         ensures stops { OnErr result (has_stopped self.new ≡ true) }
     {
         if !self.waiting.is_empty() && self.has_room(text.len()) {
@@ -209,6 +219,8 @@ impl<W: Write> Output<W> {
         requires { length (waiting_of self.old) + length text.now ≤ BLOCK }
         ensures bound { WritesAtMost result text.now }
         ensures bytes { WriteAppends (told_of W.contents self.old) (told_of W.contents self.new) result text.now }
+        ensures empty { OnOk result (waiting_of self.new ≡ []) }
+        ensures same { SamePolicy self.old self.new }
         ensures stops { OnErr result (has_stopped self.new ≡ true) }
     {
         self.keep(text);
@@ -228,6 +240,7 @@ impl<W: Write> Output<W> {
         requires { length (waiting_of self.old) + length text.now ≤ BLOCK }
         ensures kept { waiting_of self.new ≡ waiting_of self.old ++ text.now }
         ensures writer { self.new.writer ≡ self.old.writer }
+        ensures same { SamePolicy self.old self.new }
         ensures runs { has_stopped self.new ≡ has_stopped self.old }
     {
         let Ok(()) = self.waiting.try_extend_from_slice(text) else {
@@ -236,7 +249,9 @@ impl<W: Write> Output<W> {
     }
 
     // Whether a line goes out where it ends.
-    fn hands_on_lines(&self) -> bool {
+    fn heeds_line(&self) -> bool
+        ensures { result ≡ heeds_line (flushes_by self.now) (has_odd_lines self.now) }
+    {
         match self.policy {
             FlushPolicy::OnLineEnd => true,
             FlushPolicy::OnSecondLineEnd => self.has_odd_lines,
@@ -245,7 +260,9 @@ impl<W: Write> Output<W> {
     }
 
     // Whether what waits goes out at a flush.
-    fn heeds_flushes(&self) -> bool {
+    fn heeds_flush(&self) -> bool
+        ensures { result ≡ goes_out_flushed self.now }
+    {
         match self.policy {
             FlushPolicy::OnFlush | FlushPolicy::OnLineEnd | FlushPolicy::OnSecondLineEnd => true,
             FlushPolicy::OnFlushAfterLine => self.waiting.ends_with(b"\n"),
@@ -277,11 +294,15 @@ impl<W: Write> Write for Output<W> {
     fn write(&mut self, buf: &[u8]) -> io::Result<usize>
         ensures bound { WritesAtMost result buf.now }
         ensures bytes { WriteAppends (told_of W.contents self.old) (told_of W.contents self.new) result buf.now }
+        ensures policy { flushes_by self.new ≡ flushes_by self.old }
+        ensures lines { IfOk result (CountsLine self.old self.new buf.now (ends_line buf.now)) }
+        ensures out { goes_out self.old buf.now ≡ true → OnOk result (waiting_of self.new ≡ []) }
+        ensures waits { goes_out self.old buf.now ≡ false → HasRoom self.old buf.now → OnOk result (self.new.writer ≡ self.old.writer) }
         ensures stops { OnErr result (has_stopped self.new ≡ true) }
         ensures stopped { StaysStopped self.old self.new result }
     {
         let ends_line = buf.ends_with(b"\n");
-        let goes_out = buf.len() >= BLOCK || ends_line && self.hands_on_lines();
+        let goes_out = buf.len() >= BLOCK || ends_line && self.heeds_line();
         if self.has_failed || goes_out || !self.has_room(buf.len()) {
             return self.write_out(buf, ends_line);
         }
@@ -292,10 +313,13 @@ impl<W: Write> Write for Output<W> {
 
     fn flush(&mut self) -> io::Result<()>
         ensures bytes { Keeps (told_of W.contents self.old) (told_of W.contents self.new) }
+        ensures same { SamePolicy self.old self.new }
+        ensures out { goes_out_flushed self.old ≡ true → OnOk result (waiting_of self.new ≡ []) }
+        ensures waits { goes_out_flushed self.old ≡ false → OnOk result (self.new.writer ≡ self.old.writer) }
         ensures stops { OnErr result (has_stopped self.new ≡ true) }
         ensures stopped { StaysStopped self.old self.new result }
     {
-        if self.has_failed || self.heeds_flushes() {
+        if self.has_failed || self.heeds_flush() {
             self.hand_on_and_flush()?;
         }
         Ok(())
