@@ -24,7 +24,7 @@ flushes_by output = output.policy
 abbrev pub has_stopped : {W : Type 0} → Output W → Bool
 has_stopped output = output.has_failed
 
--- after a fault a call fails, and nothing is asked of the writer
+-- after a fault a call fails, and leaves the writer as it was
 abbrev pub StaysStopped : {W X E : Type 0} → Output W → Output W → Result X E → Type 0
 StaysStopped old new result = has_stopped old ≡ true → IsErr result × (new.writer ≡ old.writer) × (has_stopped new ≡ true)
 
@@ -40,11 +40,11 @@ HandsOn told got = (rest : List ℕ) × Keeps told (append_known got rest)
 abbrev pub ends_line : List ℕ → Bool
 ends_line text = ends_with nat_eq text (10 ∷ [])
 
--- an odd number of lines was written
+-- an odd number of texts that end a line was taken whole
 abbrev pub has_odd_lines : {W : Type 0} → Output W → Bool
 has_odd_lines output = output.has_odd_lines
 
--- a line counts when it was written to its end, and a front of one does not
+-- a text that ends a line counts when it was taken whole, and a front of it does not
 pub record CountsLine {W : Type 0} (old new : Output W) (text : List ℕ) (ends : Bool) (count : ℕ) : Type 0 where
   pub whole : count ≡ length text → has_odd_lines new ≡ (if ends then not (has_odd_lines old) else has_odd_lines old)
   pub front : count < length text → has_odd_lines new ≡ has_odd_lines old
@@ -54,7 +54,7 @@ pub record SamePolicy {W : Type 0} (old new : Output W) : Type 0 where
   pub policy : flushes_by new ≡ flushes_by old
   pub lines : has_odd_lines new ≡ has_odd_lines old
 
--- by this policy a line is handed on where it ends, behind an odd number of lines or not (our own)
+-- by this policy a text that ends a line is handed on, behind an odd number of such texts or not (our own)
 abbrev pub heeds_line : FlushPolicy → Bool → Bool
 heeds_line OnFlush odd = false
 heeds_line OnFlushAfterLine odd = false
@@ -70,17 +70,13 @@ heeds_flush OnLineEnd waiting = true
 heeds_flush OnSecondLineEnd waiting = true
 heeds_flush WhenFull waiting = false
 
--- the output hands on what waits and this text when it is written
+-- by its policy the output hands on this text, and what waits
 abbrev pub goes_out : {W : Type 0} → Output W → List ℕ → Bool
 goes_out output text = ends_line text && heeds_line (flushes_by output) (has_odd_lines output)
 
--- the output hands on what waits when it is flushed
-abbrev pub goes_out_flushed : {W : Type 0} → Output W → Bool
-goes_out_flushed output = heeds_flush (flushes_by output) (waiting_of output)
-
--- this text can wait, too
-abbrev pub HasRoom : {W : Type 0} → Output W → List ℕ → Type 0
-HasRoom output text = (length text < BLOCK) × (length (waiting_of output) + length text ≤ BLOCK)
+-- so many bytes can wait, too
+abbrev pub HasRoom : {W : Type 0} → Output W → ℕ → Type 0
+HasRoom output count = (count < BLOCK) × (length (waiting_of output) + count ≤ BLOCK)
 
 -- with one thread a pretty report is handed on at each flush, and one in JSON at the end of each second line too, since these
 -- come before a trial runs; with more threads both are where a flush follows a whole line. One in terse is handed on at the
@@ -90,7 +86,7 @@ policy_of Pretty threads = if nat_lt 1 threads then OnFlushAfterLine else OnFlus
 policy_of Terse threads = OnLineEnd
 policy_of Json threads = if nat_lt 1 threads then OnFlushAfterLine else OnSecondLineEnd
 
--- a logfile in pretty is to name the trial that hangs, the others get whole blocks (our own)
+-- a logfile in pretty goes as a terminal, so with one thread it names the trial that hangs; others when there is no room (our own)
 abbrev pub policy_in_logfile : FormatSetting → ℕ → FlushPolicy
 policy_in_logfile Pretty threads = policy_of Pretty threads
 policy_in_logfile Terse threads = WhenFull

@@ -2,7 +2,7 @@
 ghost use Rattle.std.specs.Prelude.{◌≡◌, ◌↔◌, ◌+◌, ◌<◌, ◌≤◌, ◌-◌, ◌++◌, ℕ, [], drop, false, length, take, true, IfOk, IsErr, IsTrue, OnErr, OnOk};
 ghost use Rattle.std.specs.Io.{WritesAtMost};
 ghost use Rattle.std.specs.Io.KnownBytes.{Appends, Keeps, WriteAppends};
-ghost use Rattle.mimic_main.specs.Output.{CountsLine, HandsOn, HasRoom, SamePolicy, StaysStopped, ends_line, flushes_by, goes_out, goes_out_flushed, has_odd_lines, has_stopped, heeds_line, told_of, waiting_of};
+ghost use Rattle.mimic_main.specs.Output.{CountsLine, HandsOn, HasRoom, SamePolicy, StaysStopped, ends_line, flushes_by, goes_out, has_odd_lines, has_stopped, heeds_flush, heeds_line, told_of, waiting_of};
 ghost use Rattle.mimic_main.specs.declared.buffer.TheConstants.{BLOCK};
 
 use arrayvec::ArrayVec;
@@ -10,17 +10,17 @@ use libtest_mimic::{Arguments, FormatSetting};
 use std::io;
 use std::io::{ErrorKind, Write};
 
-/// When a buffer hands its bytes on to the system, beside when it is full or finished.
+/// When a buffer hands its bytes on to its writer, besides when it has no room and when it is finished.
 #[derive(Clone, Copy, Debug, PartialEq, Eq)]
 pub enum FlushPolicy {
     /// At each flush: somebody is looking on, and a flush comes before anything that takes its time.
     OnFlush,
-    /// At a flush where a line has ended: somebody is looking on, and a flush amid a line has its rest directly behind it.
+    /// At a flush where a line has ended: somebody is looking on, and behind a flush amid a line its rest comes directly.
     OnFlushAfterLine,
-    /// At the end of each line, and at each flush: somebody is looking on, and a flush need not come.
+    /// Behind each text that ends a line, and at each flush: somebody is looking on, and a flush need not come.
     OnLineEnd,
-    /// At the end of each second line, and at each flush: somebody is looking on, and behind other lines there is directly a
-    /// further one.
+    /// Behind each second such text, and at each flush: somebody is looking on, and any other one is directly followed by
+    /// a further one.
     OnSecondLineEnd,
     /// At no other time.
     WhenFull,
@@ -30,7 +30,7 @@ impl FlushPolicy {
     ghost use Rattle.mimic_main.specs.Output.{policy_for, policy_of};
 
     /// How the output of a run with these arguments is handed on, by so many threads where they name no number: as its
-    /// format wants, but terse and JSON into a logfile in whole blocks.
+    /// format wants, but terse and JSON into a logfile when there is no room.
     ///
     /// So with one thread a logfile in pretty names the trial that hangs.
     pub fn of_run(args: &Arguments, default_threads: usize) -> FlushPolicy
@@ -49,7 +49,7 @@ impl FlushPolicy {
     /// How a report in this format, of a run by so many threads, is handed on to somebody who looks on.
     ///
     /// With one thread each announcement goes out before its trial runs, and takes the row before it along: a run flushes at
-    /// one in pretty, and in JSON it is a second line, since the first line of all has none and behind it each trial has two.
+    /// one in pretty, and in JSON it is a second line, since the title comes first, and then each trial has two lines.
     /// With more threads a row comes when its trial has ended, and a run flushes before it waits for one. The lines of terse
     /// go out as they end.
     pub fn of_format(format: FormatSetting, threads: usize) -> FlushPolicy
@@ -69,15 +69,17 @@ impl FlushPolicy {
 // So many bytes wait at most.
 const BLOCK: usize = 8192;
 
-/// A buffered writer, which takes no memory. What waits in one that is dropped and not finished is lost.
+/// A buffered writer, in which up to 8192 bytes wait. It allocates nothing. What waits in one that is dropped and not finished
+/// is lost.
 ///
-/// A fault is told by the call that had it. After one nothing more is handed on, and every later call fails.
+/// A fault is told by its call, or by the next one if a front of the text was taken. After it nothing more is handed on, and
+/// every later call fails.
 #[derive(Drop)]
 pub struct Output<W: Write> {
     writer: W,
     waiting: ArrayVec<u8, BLOCK>,
     policy: FlushPolicy,
-    // An odd number of lines has ended.
+    // An odd number of texts that end a line was taken whole.
     has_odd_lines: bool,
     has_failed: bool,
     // The fault behind the front of a text that was taken. The next call tells it.
@@ -170,8 +172,8 @@ impl<W: Write> Output<W> {
         flushed
     }
 
-    // Writes a text that goes out, finds no room, or comes after a fault. A fault is large, so that this is kept out of the
-    // way of texts that just wait.
+    // Writes a text that goes out, finds no room, or comes after a fault. A fault is large, so this is kept out of the way of
+    // texts that just wait.
     #[inline(never)]
     fn write_out(&mut self, text: &[u8], ends_line: bool) -> io::Result<usize>
         ensures bound { WritesAtMost result text.now }
@@ -261,7 +263,7 @@ impl<W: Write> Output<W> {
 
     // Whether what waits goes out at a flush.
     fn heeds_flush(&self) -> bool
-        ensures { result ≡ goes_out_flushed self.now }
+        ensures { result ≡ heeds_flush (flushes_by self.now) (waiting_of self.now) }
     {
         match self.policy {
             FlushPolicy::OnFlush | FlushPolicy::OnLineEnd | FlushPolicy::OnSecondLineEnd => true,
@@ -270,11 +272,11 @@ impl<W: Write> Output<W> {
         }
     }
 
-    // Whether so many bytes more can wait.
+    // Whether so many bytes more can wait. A whole block does not.
     fn has_room(&self, count: usize) -> bool
-        ensures { IsTrue result ↔ (length (waiting_of self.now) + count ≤ BLOCK) }
+        ensures { IsTrue result ↔ HasRoom self.now count }
     {
-        count <= self.waiting.remaining_capacity()
+        count < BLOCK && count <= self.waiting.remaining_capacity()
     }
 }
 
@@ -297,13 +299,12 @@ impl<W: Write> Write for Output<W> {
         ensures policy { flushes_by self.new ≡ flushes_by self.old }
         ensures lines { IfOk result (CountsLine self.old self.new buf.now (ends_line buf.now)) }
         ensures out { goes_out self.old buf.now ≡ true → OnOk result (waiting_of self.new ≡ []) }
-        ensures waits { goes_out self.old buf.now ≡ false → HasRoom self.old buf.now → OnOk result (self.new.writer ≡ self.old.writer) }
+        ensures waits { goes_out self.old buf.now ≡ false → HasRoom self.old (length buf.now) → self.new.writer ≡ self.old.writer }
         ensures stops { OnErr result (has_stopped self.new ≡ true) }
         ensures stopped { StaysStopped self.old self.new result }
     {
         let ends_line = buf.ends_with(b"\n");
-        let goes_out = buf.len() >= BLOCK || ends_line && self.heeds_line();
-        if self.has_failed || goes_out || !self.has_room(buf.len()) {
+        if self.has_failed || ends_line && self.heeds_line() || !self.has_room(buf.len()) {
             return self.write_out(buf, ends_line);
         }
         self.keep(buf);
@@ -314,8 +315,8 @@ impl<W: Write> Write for Output<W> {
     fn flush(&mut self) -> io::Result<()>
         ensures bytes { Keeps (told_of W.contents self.old) (told_of W.contents self.new) }
         ensures same { SamePolicy self.old self.new }
-        ensures out { goes_out_flushed self.old ≡ true → OnOk result (waiting_of self.new ≡ []) }
-        ensures waits { goes_out_flushed self.old ≡ false → OnOk result (self.new.writer ≡ self.old.writer) }
+        ensures out { heeds_flush (flushes_by self.old) (waiting_of self.old) ≡ true → OnOk result (waiting_of self.new ≡ []) }
+        ensures waits { heeds_flush (flushes_by self.old) (waiting_of self.old) ≡ false → self.new.writer ≡ self.old.writer }
         ensures stops { OnErr result (has_stopped self.new ≡ true) }
         ensures stopped { StaysStopped self.old self.new result }
     {

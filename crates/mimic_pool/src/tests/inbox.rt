@@ -1,4 +1,4 @@
-//! A board under its lock: workers that report, and a thread that takes.
+//! An inbox: workers that report to their boards, and a thread that takes.
 ghost use Rattle.std.specs.Prelude.{All};
 ghost use Rattle.mimic_pool.specs.Share.{AllRunners};
 
@@ -147,8 +147,8 @@ fn rows_taken<T: Task + Send + 'static, R: Threads + Wait + Copy + Drop + Send +
     Ok(rows)
 }
 
-// The shares of two workers of so many tasks, each of which gives the number of its place. Before a task at a multiple of `step`
-// runs, as many rows are to be taken as there are lower places.
+// The shares of two workers of so many tasks, each of which gives the number of its place. A task at a multiple of `step` ends
+// once as many rows were taken as there are lower places.
 fn shares_of(
     alloc: Global,
     trials: usize,
@@ -203,9 +203,9 @@ fn two_workers_lose_nothing(rt: HostRuntime) -> Result<(), Fail> {
     Ok(())
 }
 
-// A task awaits the rows before it, so the taking thread is asleep when it ends, or about to be: each task, each of one worker
-// while the other one reports as fast as it can, or each third. A wake-up that is lost leaves that thread asleep while rows
-// wait, and so does a board that its worker held and that isn't looked at again. Then a task fails.
+// Each task, each of one worker, or each third awaits as many rows as there are lower places, so the taking thread is often
+// asleep when one ends, or about to be. A wake-up that is lost leaves it asleep while rows wait, and so does a board that its
+// worker held and that isn't looked at again. Then a task waits in vain, and fails.
 #[test]
 fn no_wake_up_is_lost(rt: HostRuntime) -> Result<(), Fail> {
     for step in [1, 2, 3] {

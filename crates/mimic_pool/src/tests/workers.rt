@@ -290,7 +290,7 @@ fn run_in_threads<
     Ok((desk, join_all(rt, handles, outcomes)))
 }
 
-// Two workers in threads tell to one board. What arrives at the desk is what they answer when they are joined.
+// Two workers in threads tell to one inbox. What arrives at the desk is what they answer when they are joined.
 #[test]
 fn tells_from_threads(rt: HostRuntime) -> Result<(), Fail> {
     let alloc = rt.alloc();
