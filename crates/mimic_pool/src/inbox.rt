@@ -20,7 +20,7 @@ const BATCH: usize = 256;
 /// The rows that workers report, each to a board of its own. Those of a worker come in the order of their reports, and the
 /// workers take turns.
 ///
-/// One thread takes them: an inbox has no copy, and a row is taken by who may change it. No lock is held when a call is back.
+/// Only one thread takes them, since an inbox has no copy and `next` may change it. No call keeps a lock.
 #[derive(Drop)]
 pub struct Inbox {
     boards: Vec<Arc<SharedBoard>>,

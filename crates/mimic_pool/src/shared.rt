@@ -22,7 +22,7 @@ pub(crate) enum Found {
     End,
 }
 
-// A board that one worker shares with the one thread that takes its rows, so that workers don't wait for one another.
+// A board that one worker shares with the one thread that takes its rows. Workers meet only at the bell.
 //
 // Of the places, those stand on it that are dealt to the worker: each whose remainder by the number of workers is the
 // worker's number. Its index on the board is the quotient.
@@ -72,7 +72,7 @@ impl SharedBoard {
         Ok(())
     }
 
-    // Closes the worker.
+    // The worker reports no more.
     pub(crate) fn close<R: Wait>(&self, rt: &R) {
         let mut board = self.board.lock(rt);
         board.close_one();
