@@ -6,7 +6,6 @@ use Rattle.mimic_args.specs.declared.Arguments.{Arguments}
 use Rattle.mimic_args.specs.declared.FormatSetting.{FormatSetting}
 use Rattle.mimic_args.specs.declared.FormatSetting.TheVariants.{Pretty, Terse, Json}
 use Rattle.mimic_args.specs.Arguments.{format_of}
-use Rattle.libtest_mimic.specs.Run.{threads_of}
 use Rattle.mimic_main.specs.declared.buffer.Output.{Output}
 use Rattle.mimic_main.specs.declared.buffer.FlushPolicy.{FlushPolicy}
 use Rattle.mimic_main.specs.declared.buffer.TheConstants.{BLOCK}
@@ -78,24 +77,26 @@ goes_out output text = ends_line text && heeds_line (flushes_by output) (has_odd
 abbrev pub HasRoom : {W : Type 0} → Output W → ℕ → Type 0
 HasRoom output count = (count < BLOCK) × (length (waiting_of output) + count ≤ BLOCK)
 
--- with one thread a pretty report is handed on at each flush, and one in JSON at the end of each second line too, since these
--- come before a trial runs; with more threads both are where a flush follows a whole line. One in terse is handed on at the
--- end of each line and at each flush (our own)
-abbrev pub policy_of : FormatSetting → ℕ → FlushPolicy
-policy_of Pretty threads = if nat_lt 1 threads then OnFlushAfterLine else OnFlush
-policy_of Terse threads = OnLineEnd
-policy_of Json threads = if nat_lt 1 threads then OnFlushAfterLine else OnSecondLineEnd
+-- a pretty report is handed on at each flush, the others at the end of each line too (our own)
+abbrev pub policy_of : FormatSetting → FlushPolicy
+policy_of Pretty = OnFlush
+policy_of Terse = OnLineEnd
+policy_of Json = OnLineEnd
 
--- a logfile in pretty goes as a terminal, so with one thread it names the trial that hangs; others when there is no room (our own)
-abbrev pub policy_in_logfile : FormatSetting → ℕ → FlushPolicy
-policy_in_logfile Pretty threads = policy_of Pretty threads
-policy_in_logfile Terse threads = WhenFull
-policy_in_logfile Json threads = WhenFull
+-- a logfile in pretty is to name the trial that hangs, the others go out when there is no room (our own)
+abbrev pub policy_in_logfile : FormatSetting → FlushPolicy
+policy_in_logfile Pretty = policy_of Pretty
+policy_in_logfile Terse = WhenFull
+policy_in_logfile Json = WhenFull
 
--- how a run with these arguments is handed on, into its logfile where it has one, by so many threads where the arguments name
--- no number
-abbrev pub policy_for : Arguments → ℕ → FlushPolicy
-policy_for args default_threads =
-    if is_some args.logfile
-    then policy_in_logfile (format_of args) (threads_of args default_threads)
-    else policy_of (format_of args) (threads_of args default_threads)
+-- how a run with these arguments is handed on, into its logfile where it has one
+abbrev pub policy_for : Arguments → FlushPolicy
+policy_for args = if is_some args.logfile then policy_in_logfile (format_of args) else policy_of (format_of args)
+
+-- what hands on a run in this format, by so many threads, in fewer writes than this policy: with one thread JSON goes out at the
+-- end of each second line, which comes before a trial runs; with more threads pretty and JSON go out where a flush follows a
+-- whole line. Any other policy stays (our own)
+abbrev pub by_rows : FormatSetting → ℕ → FlushPolicy → FlushPolicy
+by_rows Pretty threads OnFlush = if nat_lt 1 threads then OnFlushAfterLine else OnFlush
+by_rows Json threads OnLineEnd = if nat_lt 1 threads then OnFlushAfterLine else OnSecondLineEnd
+by_rows format threads policy = policy

@@ -27,41 +27,57 @@ pub enum FlushPolicy {
 }
 
 impl FlushPolicy {
-    ghost use Rattle.mimic_main.specs.Output.{policy_for, policy_of};
+    ghost use Rattle.mimic_args.specs.Arguments.{format_of};
+    ghost use Rattle.libtest_mimic.specs.Run.{threads_of};
+    ghost use Rattle.mimic_main.specs.Output.{by_rows, policy_for, policy_of};
 
-    /// How the output of a run with these arguments is handed on, by so many threads where they name no number: as its
-    /// format wants, but terse and JSON into a logfile when there is no room.
+    /// How the output of a run with these arguments is handed on: as its format wants, but terse and JSON into a logfile when
+    /// there is no room.
     ///
     /// So with one thread a logfile in pretty names the trial that hangs.
-    pub fn of_run(args: &Arguments, default_threads: usize) -> FlushPolicy
-        ensures { result ≡ policy_for args.now default_threads }
+    pub fn of_run(args: &Arguments) -> FlushPolicy
+        ensures { result ≡ policy_for args.now }
     {
         match args.format_used() {
             FormatSetting::Terse | FormatSetting::Json if args.logfile.is_some() => {
                 FlushPolicy::WhenFull
             }
-            format => {
-                FlushPolicy::of_format(format, args.test_threads.unwrap_or(default_threads))
-            }
+            format => FlushPolicy::of_format(format),
         }
     }
 
-    /// How a report in this format, of a run by so many threads, is handed on to somebody who looks on.
+    /// How a report in this format is handed on to somebody who looks on.
     ///
-    /// With one thread each announcement goes out before its trial runs, and takes the row before it along: a run flushes at
-    /// one in pretty, and in JSON it is a second line, since the title comes first, and then each trial has two lines.
-    /// With more threads a row comes when its trial has ended, and a run flushes before it waits for one. The lines of terse
-    /// go out as they end.
-    pub fn of_format(format: FormatSetting, threads: usize) -> FlushPolicy
-        ensures { result ≡ policy_of format threads }
+    /// A run flushes a pretty report at each announcement, so with one thread a row goes out with the announcement that
+    /// comes directly behind it. The lines of other formats go out as they end.
+    pub fn of_format(format: FormatSetting) -> FlushPolicy
+        ensures { result ≡ policy_of format }
     {
         match format {
-            FormatSetting::Terse => FlushPolicy::OnLineEnd,
-            FormatSetting::Pretty | FormatSetting::Json if threads > 1 => {
+            FormatSetting::Pretty => FlushPolicy::OnFlush,
+            FormatSetting::Terse | FormatSetting::Json => FlushPolicy::OnLineEnd,
+        }
+    }
+
+    /// A policy with fewer writes for the report of a run with these arguments, by so many threads where they name no number:
+    /// what a run writes at once goes out at once.
+    ///
+    /// With one thread an outcome in JSON goes out with the announcement that comes directly behind it. That is each second
+    /// line, since the title comes first. With more threads a run writes announcement and outcome together, and flushes before
+    /// it waits for a row, so pretty and JSON go out at a flush behind a whole row. Otherwise this policy is kept.
+    pub fn by_rows(self, args: &Arguments, default_threads: usize) -> FlushPolicy
+        ensures { result ≡ by_rows (format_of args.now) (threads_of args.now default_threads) self }
+    {
+        let threads = args.test_threads.unwrap_or(default_threads);
+        match (args.format_used(), self) {
+            (FormatSetting::Pretty, FlushPolicy::OnFlush) if threads > 1 => {
                 FlushPolicy::OnFlushAfterLine
             }
-            FormatSetting::Pretty => FlushPolicy::OnFlush,
-            FormatSetting::Json => FlushPolicy::OnSecondLineEnd,
+            (FormatSetting::Json, FlushPolicy::OnLineEnd) if threads > 1 => {
+                FlushPolicy::OnFlushAfterLine
+            }
+            (FormatSetting::Json, FlushPolicy::OnLineEnd) => FlushPolicy::OnSecondLineEnd,
+            _ => self,
         }
     }
 }

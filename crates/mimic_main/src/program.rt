@@ -226,7 +226,7 @@ impl<R: Task + Send + 'static, C: Clock + Drop> Job<R, C> {
         ensures answer { IfOk result.1 (λ c. HasAnswer R.gives args.now self.tests.items (Ok c)) }
         ensures adds_up { args.now.list ≡ false → IfOk result.1 (λ c. total_of c ≡ vec_len self.tests) }
     {
-        let policy = FlushPolicy::of_run(args, self.default_threads);
+        let policy = FlushPolicy::of_run(args).by_rows(args, self.default_threads);
         let output = Output::new(policy, writer);
         run_into(
             rt,

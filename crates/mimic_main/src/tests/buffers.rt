@@ -8,15 +8,15 @@ use std::test::Fail;
 
 // Takes so many bytes at most in a write, keeps how many it has got after each one, and counts flushes.
 #[derive(Drop)]
-struct Marked {
+pub(super) struct Marked {
     most: usize,
     len: usize,
-    marks: Vec<usize>,
+    pub(super) marks: Vec<usize>,
     flushes: usize,
 }
 
 impl Marked {
-    fn new(alloc: Global, most: usize) -> Marked {
+    pub(super) fn new(alloc: Global, most: usize) -> Marked {
         Marked {
             most,
             len: 0,
@@ -146,37 +146,41 @@ fn hands_on_at_flushes_after_lines(rt: HostRuntime) -> Result<(), Fail> {
     Ok(())
 }
 
-// For each format: with one thread, with two, and into a logfile with one and two.
+// For each format, to somebody who looks on and into a logfile: a policy, and those by rows for one thread and for two.
 #[test]
-fn chooses_by_logfile_threads_and_format(rt: HostRuntime) -> Result<(), Fail> {
+fn chooses_by_format_logfile_and_threads(rt: HostRuntime) -> Result<(), Fail> {
     let alloc = rt.alloc();
+    let pretty = [
+        FlushPolicy::OnFlush,
+        FlushPolicy::OnFlush,
+        FlushPolicy::OnFlushAfterLine,
+    ];
+    let json = [
+        FlushPolicy::OnLineEnd,
+        FlushPolicy::OnSecondLineEnd,
+        FlushPolicy::OnFlushAfterLine,
+    ];
     let rows = [
-        (
-            FormatSetting::Pretty,
-            [FlushPolicy::OnFlush, FlushPolicy::OnFlushAfterLine],
-            [FlushPolicy::OnFlush, FlushPolicy::OnFlushAfterLine],
-        ),
+        (FormatSetting::Pretty, pretty, pretty),
         (
             FormatSetting::Terse,
-            [FlushPolicy::OnLineEnd, FlushPolicy::OnLineEnd],
-            [FlushPolicy::WhenFull, FlushPolicy::WhenFull],
+            [FlushPolicy::OnLineEnd; 3],
+            [FlushPolicy::WhenFull; 3],
         ),
-        (
-            FormatSetting::Json,
-            [FlushPolicy::OnSecondLineEnd, FlushPolicy::OnFlushAfterLine],
-            [FlushPolicy::WhenFull, FlushPolicy::WhenFull],
-        ),
+        (FormatSetting::Json, json, [FlushPolicy::WhenFull; 3]),
     ];
-    for (format, policies, in_logfile) in rows {
+    for (format, looked_on, in_logfile) in rows {
         let mut args = Arguments::new(alloc);
         args.format = Some(format);
-        assert!(rt; FlushPolicy::of_run(&args, 1) == policies[0]);
-        assert!(rt; FlushPolicy::of_run(&args, 2) == policies[1]);
+        let policy = FlushPolicy::of_run(&args);
+        let by_rows = [policy.by_rows(&args, 1), policy.by_rows(&args, 2)];
+        assert!(rt; [policy, by_rows[0], by_rows[1]] == looked_on);
         args.logfile = Some(String::from_str(alloc, "log")?);
+        let policy = FlushPolicy::of_run(&args);
         args.test_threads = Some(1);
-        assert!(rt; FlushPolicy::of_run(&args, 2) == in_logfile[0]);
+        assert!(rt; [policy, policy.by_rows(&args, 2)] == [in_logfile[0], in_logfile[1]]);
         args.test_threads = Some(2);
-        assert!(rt; FlushPolicy::of_run(&args, 1) == in_logfile[1]);
+        assert!(rt; policy.by_rows(&args, 1) == in_logfile[2]);
     }
     Ok(())
 }

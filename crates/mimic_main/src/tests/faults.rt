@@ -146,7 +146,8 @@ fn stops_at_each_place(rt: HostRuntime) -> Result<(), Fail> {
             let mut args = Arguments::new(rt.alloc());
             args.format = Some(format);
             args.list = list;
-            for policy in [FlushPolicy::of_format(format, 1), FlushPolicy::WhenFull] {
+            let policy = FlushPolicy::of_format(format);
+            for policy in [policy, policy.by_rows(&args, 1), FlushPolicy::WhenFull] {
                 for fault in Fault::ALL {
                     let wrong = first_wrong_place(&rt, rt.alloc(), &args, policy, fault)?;
                     assert!(rt;

@@ -3,6 +3,7 @@ ghost use Rattle.std.specs.Io.{WritesAtMost};
 ghost use Rattle.std.specs.Prelude.{◌≤◌};
 ghost use Rattle.libtest_mimic.specs.Trial.{AllCanRun};
 
+use super::buffers::Marked;
 use super::clocks::clock_of;
 use crate::machine::run_line_on;
 use crate::{Machine, Program, StillClock};
@@ -233,6 +234,36 @@ fn shows_what_has_ended(rt: HostRuntime) -> Result<(), Fail> {
         assert_eq!(rt; left.status, 0, "{format:?}");
     }
     fs::remove_file(&rt, path)?;
+    Ok(())
+}
+
+// The report of one test: with one thread the first write has the title and the announcement, and with more no write ends
+// between announcement and outcome.
+#[test]
+fn writes_at_once_what_comes_at_once(rt: HostRuntime) -> Result<(), Fail> {
+    let alloc = rt.alloc();
+    let rows = [
+        (FormatSetting::Pretty, "\nrunning 1 test\ntest a ... "),
+        (
+            FormatSetting::Json,
+            "{ \"type\": \"suite\", \"event\": \"started\", \"test_count\": 1 }\n\
+             { \"type\": \"test\", \"event\": \"started\", \"name\": \"a\" }\n",
+        ),
+    ];
+    for (format, announced) in rows {
+        for threads in [Some(1), None] {
+            let mut args = Arguments::new(alloc);
+            args.format = Some(format);
+            args.test_threads = threads;
+            let left = run_one(&rt, &PLAIN, Ok(args), Marked::new(alloc, usize::MAX))?;
+            assert_eq!(rt; left.status, 0, "{format:?}");
+            let marks = left.out.marks.as_slice();
+            match threads {
+                Some(_) => assert_eq!(rt; marks[0], announced.len(), "{format:?}"),
+                None => assert!(rt; !marks.contains(&announced.len()), "{format:?}"),
+            }
+        }
+    }
     Ok(())
 }
 
