@@ -1,24 +1,44 @@
 -- What a run left in its sink, said of the bytes that were handed on.
-use Rattle.std.proofs.Common.{◌≡◌, ℕ, Bool, List, Option, Result, Ok, Err, true, false, refl, ap₂, subst, IfOk, OnOk, OnErr, IsOk}
+use Rattle.std.proofs.Common.{◌≡◌, ℕ, Bool, List, [], Option, Result, Ok, Err, true, false, refl, ap, ap₂, is_ok, subst, sym, IfErr, IfOk, OnOk, IsOk}
 use Rattle.std.proofs.lemmas.Bool.{false≢true}
 use Rattle.std.proofs.KnownBytes.{Appends-kept}
 use Rattle.std.specs.Io.KnownBytes.{Keeps}
+use Rattle.std.specs.declared.io.Error.{Error}
 use Rattle.mimic_args.specs.declared.Arguments.{Arguments}
 use Rattle.mimic_trial.specs.declared.trial.Trial.{Trial}
 use Rattle.mimic_trial.specs.declared.outcome.conclusion.Conclusion.{Conclusion}
+use Rattle.mimic_trial.specs.Count.{counts_of}
 use Rattle.mimic_printer.specs.declared.sink.Sink.{Sink}
+use Rattle.mimic_printer.specs.declared.sink.WriteFault.TheVariants as WriteFault
 use Rattle.libtest_mimic.specs.Stopwatch.{Watched}
 use Rattle.libtest_mimic.specs.declared.running.RunError.{RunError}
+use Rattle.libtest_mimic.specs.declared.running.RunError.TheVariants.{Write}
 use Rattle.libtest_mimic.specs.Promise.{Gives}
 use Rattle.libtest_mimic.specs.Run.{HasAnswer, Lists, Reports, threads_of}
 use Rattle.libtest_mimic.specs.Sink.{Put, Shown, faults_of, shown, writer_of}
 use Rattle.libtest_mimic.specs.Suite.{OfSuite}
 use Rattle.mimic_main.specs.Output.{HandsOn}
-use Rattle.mimic_main.specs.Run.{GotBeginning, Left, Ran, faultless}
+use Rattle.mimic_main.specs.Run.{GotBeginning, IsFaultOf, Left, Ran, faultless}
 
 -- a sink with no fault shows the bytes of its writer
 pub shown-new : {W : Type 0} (contents : W → Option (List ℕ)) (s : Sink W) (w : W) → writer_of s ≡ w → faults_of s ≡ 0 → shown contents s ≡ faultless (contents w)
 shown-new contents s w e f = ap₂ (λ x n. record { bytes = contents x; faults = n }) e f
+
+-- the answer of a run that was refused
+abbrev pub refused : RunError → Result Conclusion RunError
+refused fault = Err fault
+
+-- equal refusals are of equal faults
+same_fault : (a b : RunError) → refused a ≡ refused b → a ≡ b
+same_fault a b e = let P : Result Conclusion RunError → Type 0 = λ r. IfErr r (λ x. x ≡ b) in subst P (sym e) refl
+
+-- the fault that is answered is that of the run, or of its last bytes
+IsFaultOf-settled : {T : Type 0} (ran : Result Conclusion RunError) (fault : RunError) (finished : Result T Error)
+    → IfErr ran (λ e. refused fault ≡ refused e) → (IsOk finished → refused fault ≡ ran) → (IsOk ran → IfErr finished (λ error. refused fault ≡ refused (Write (WriteFault.Error error))))
+    → IsFaultOf ran fault
+IsFaultOf-settled (Err e) fault finished same kept cause = same_fault fault e same
+IsFaultOf-settled (Ok c) fault (Ok x) same kept cause = absurd (false≢true (ap is_ok (kept refl)))
+IsFaultOf-settled (Ok c) fault (Err error) same kept cause = (error, same_fault fault (Write (WriteFault.Error error)) (cause refl))
 
 -- ---- a run that answered, where all that its sink got was handed on
 
@@ -78,13 +98,18 @@ module _ {R : Type 0} (gives : Gives R) (default_threads : ℕ) (args : Argument
   HasAnswer-settled ran (Ok c) e p = let P : Result Conclusion RunError → Type 0 = λ x. HasAnswer gives args trials x in subst P e p
   HasAnswer-settled ran (Err x) e p = tt
 
-  -- a run of which a beginning was handed on
-  pub GotBeginning-from : (old : Option (List ℕ)) (first new : Shown) (got : Option (List ℕ)) (watch : Watched) (ran : Result Conclusion RunError) → first ≡ faultless old → HandsOn new.bytes got
+  -- a run of which a beginning was handed on, where the answer `r` is a fault
+  pub GotBeginning-from : {T : Type 0} (old : Option (List ℕ)) (first new : Shown) (got : Option (List ℕ)) (watch : Watched) (ran r : Result Conclusion RunError) (finished : Result T Error)
+      → first ≡ faultless old → HandsOn new.bytes got
+      → IfErr ran (λ fault. r ≡ refused fault) → (IsOk finished → r ≡ ran) → (IsOk ran → IfErr finished (λ error. r ≡ refused (Write (WriteFault.Error error))))
       → (args.list ≡ true → OfSuite args auto trials (λ suite. Lists suite first new ran))
       → (args.list ≡ false → OfSuite args auto trials (λ suite. Reports gives (threads_of args default_threads) suite first new watch ran))
-      → GotBeginning gives default_threads args auto trials old got
-  GotBeginning-from old first new got watch ran e handed listed reported = (new, ran, left_behind old first new watch ran e listed reported, handed)
+      → IfErr r (λ fault. GotBeginning gives default_threads args auto trials old got fault)
+  GotBeginning-from old first new got watch ran (Ok c) finished e handed same kept cause listed reported = tt
+  GotBeginning-from old first new got watch ran (Err fault) finished e handed same kept cause listed reported =
+      (new, ran, left_behind old first new watch ran e listed reported, handed, IsFaultOf-settled ran fault finished same kept cause)
 
-pub OnErr-from : {T E : Type 0} (r : Result T E) (P : Type 0) → P → OnErr r P
-OnErr-from (Ok x) P p = tt
-OnErr-from (Err e) P p = p
+  -- where a list was asked, a run that answered tells five zeros
+  pub listed-ran : {E : Type 0} (old got : Option (List ℕ)) (r : Result Conclusion E) → IfOk r (λ c. Ran gives default_threads args auto trials old got c) → args.list ≡ true → IfOk r (λ c. c ≡ counts_of [] 0)
+  listed-ran old got (Ok c) left asked = let l = left.listed asked in l.2.0
+  listed-ran old got (Err e) left asked = tt

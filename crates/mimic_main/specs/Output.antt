@@ -28,8 +28,8 @@ abbrev pub StaysStopped : {W X E : Type 0} → Output W → Output W → Result 
 StaysStopped old new result = has_stopped old ≡ true → IsErr result × (new.writer ≡ old.writer) × (has_stopped new ≡ true)
 
 -- the bytes of the writer behind and then those that wait in the buffer, where they are known
-abbrev pub told_of : {W : Type 0} → (W → Option (List ℕ)) → Output W → Option (List ℕ)
-told_of contents output = append_known (contents output.writer) (waiting_of output)
+abbrev pub given_to : {W : Type 0} → (W → Option (List ℕ)) → Output W → Option (List ℕ)
+given_to contents output = append_known (contents output.writer) (waiting_of output)
 
 -- known bytes are those that the writer got, and then some rest
 abbrev pub HandsOn : Option (List ℕ) → Option (List ℕ) → Type 0

@@ -1,8 +1,8 @@
 //! The buffer between a report and the system.
-ghost use Rattle.std.specs.Prelude.{◌≡◌, ◌↔◌, ◌+◌, ◌<◌, ◌≤◌, ◌-◌, ◌++◌, ℕ, [], drop, false, length, take, true, IfOk, IsErr, IsTrue, OnErr, OnOk};
+ghost use Rattle.std.specs.Prelude.{◌≡◌, ◌↔◌, ◌+◌, ◌<◌, ◌≤◌, ◌-◌, ◌++◌, ℕ, [], drop, false, length, take, true, IfOk, IsErr, IsOk, IsTrue, Ok, OnErr, OnOk};
 ghost use Rattle.std.specs.Io.{WritesAtMost};
 ghost use Rattle.std.specs.Io.KnownBytes.{Appends, Keeps, WriteAppends};
-ghost use Rattle.mimic_main.specs.Output.{CountsLine, HandsOn, HasRoom, SamePolicy, StaysStopped, ends_line, flushes_by, goes_out, has_odd_lines, has_stopped, heeds_flush, heeds_line, told_of, waiting_of};
+ghost use Rattle.mimic_main.specs.Output.{CountsLine, HandsOn, HasRoom, SamePolicy, StaysStopped, ends_line, flushes_by, given_to, goes_out, has_odd_lines, has_stopped, heeds_flush, heeds_line, waiting_of};
 ghost use Rattle.mimic_main.specs.declared.buffer.TheConstants.{BLOCK};
 
 use arrayvec::ArrayVec;
@@ -19,8 +19,8 @@ pub enum FlushPolicy {
     OnFlushAfterLine,
     /// Behind each text that ends a line, and at each flush: somebody is looking on, and a flush need not come.
     OnLineEnd,
-    /// Behind each second such text, and at each flush: somebody is looking on, and any other one is directly followed by
-    /// a further one.
+    /// Behind each second such text, and at each flush: somebody is looking on, and the texts between these are each
+    /// followed by the next at once.
     OnSecondLineEnd,
     /// At no other time.
     WhenFull,
@@ -105,7 +105,7 @@ pub struct Output<W: Write> {
 impl<W: Write> Output<W> {
     /// An empty buffer.
     pub fn new(policy: FlushPolicy, writer: W) -> Self
-        ensures bytes { told_of W.contents result ≡ W.contents writer }
+        ensures bytes { given_to W.contents result ≡ W.contents writer }
         ensures policy { flushes_by result ≡ policy }
         ensures lines { has_odd_lines result ≡ false }
         ensures runs { has_stopped result ≡ false }
@@ -122,8 +122,8 @@ impl<W: Write> Output<W> {
 
     /// Hands on what is left, flushes the writer and gives it back. With a fault it has got a beginning of all bytes.
     pub fn finish(mut self) -> (W, io::Result<()>)
-        ensures whole { OnOk result.1 (Keeps (told_of W.contents self) (W.contents result.0)) }
-        ensures beginning { HandsOn (told_of W.contents self) (W.contents result.0) }
+        ensures whole { OnOk result.1 (Keeps (given_to W.contents self) (W.contents result.0)) }
+        ensures beginning { HandsOn (given_to W.contents self) (W.contents result.0) }
         ensures stopped { has_stopped self ≡ true → IsErr result.1 × (W.contents result.0 ≡ W.contents self.writer) }
     {
         let finished = self.hand_on_and_flush();
@@ -140,7 +140,7 @@ impl<W: Write> Output<W> {
 
     // Hands on what waits, up to a fault.
     fn hand_on(&mut self) -> io::Result<()>
-        ensures bytes { Keeps (told_of W.contents self.old) (told_of W.contents self.new) }
+        ensures bytes { Keeps (given_to W.contents self.old) (given_to W.contents self.new) }
         ensures empty { OnOk result (waiting_of self.new ≡ []) }
         ensures front { (n : ℕ) × (n ≤ length (waiting_of self.old)) × (waiting_of self.new ≡ drop n (waiting_of self.old))
             × Appends (W.contents self.old.writer) (W.contents self.new.writer) (take n (waiting_of self.old)) }
@@ -163,7 +163,7 @@ impl<W: Write> Output<W> {
 
     // The fault that was not told yet, else that there was one.
     fn earlier_fault(&mut self) -> io::Error
-        ensures bytes { told_of W.contents self.new ≡ told_of W.contents self.old }
+        ensures bytes { given_to W.contents self.new ≡ given_to W.contents self.old }
         ensures waiting { waiting_of self.new ≡ waiting_of self.old }
         ensures writer { self.new.writer ≡ self.old.writer }
         ensures same { SamePolicy self.old self.new }
@@ -176,7 +176,7 @@ impl<W: Write> Output<W> {
     }
 
     fn hand_on_and_flush(&mut self) -> io::Result<()>
-        ensures bytes { Keeps (told_of W.contents self.old) (told_of W.contents self.new) }
+        ensures bytes { Keeps (given_to W.contents self.old) (given_to W.contents self.new) }
         ensures empty { OnOk result (waiting_of self.new ≡ []) }
         ensures same { SamePolicy self.old self.new }
         ensures stops { OnErr result (has_stopped self.new ≡ true) }
@@ -193,7 +193,7 @@ impl<W: Write> Output<W> {
     #[inline(never)]
     fn write_out(&mut self, text: &[u8], ends_line: bool) -> io::Result<usize>
         ensures bound { WritesAtMost result text.now }
-        ensures bytes { WriteAppends (told_of W.contents self.old) (told_of W.contents self.new) result text.now }
+        ensures bytes { WriteAppends (given_to W.contents self.old) (given_to W.contents self.new) result text.now }
         ensures policy { flushes_by self.new ≡ flushes_by self.old }
         ensures lines { IfOk result (CountsLine self.old self.new text.now ends_line) }
         ensures out { ends_line ≡ true → heeds_line (flushes_by self.old) (has_odd_lines self.old) ≡ true
@@ -218,7 +218,7 @@ impl<W: Write> Output<W> {
     // Hands on what waits and then the text, in one write where both fit into a block and the writer takes them at once.
     fn write_through(&mut self, text: &[u8]) -> io::Result<usize>
         ensures bound { WritesAtMost result text.now }
-        ensures bytes { WriteAppends (told_of W.contents self.old) (told_of W.contents self.new) result text.now }
+        ensures bytes { WriteAppends (given_to W.contents self.old) (given_to W.contents self.new) result text.now }
         ensures empty { OnOk result (waiting_of self.new ≡ []) }
         ensures same { SamePolicy self.old self.new }
         ensures stops { OnErr result (has_stopped self.new ≡ true) }
@@ -236,7 +236,7 @@ impl<W: Write> Output<W> {
     fn write_together(&mut self, text: &[u8]) -> io::Result<usize>
         requires { length (waiting_of self.old) + length text.now ≤ BLOCK }
         ensures bound { WritesAtMost result text.now }
-        ensures bytes { WriteAppends (told_of W.contents self.old) (told_of W.contents self.new) result text.now }
+        ensures bytes { WriteAppends (given_to W.contents self.old) (given_to W.contents self.new) result text.now }
         ensures empty { OnOk result (waiting_of self.new ≡ []) }
         ensures same { SamePolicy self.old self.new }
         ensures stops { OnErr result (has_stopped self.new ≡ true) }
@@ -307,15 +307,17 @@ fn take_back(waiting: &mut ArrayVec<u8, BLOCK>, count: usize) -> usize
 }
 
 impl<W: Write> Write for Output<W> {
-    ghost contents = { told_of W.contents };
+    ghost contents = { given_to W.contents };
 
     fn write(&mut self, buf: &[u8]) -> io::Result<usize>
         ensures bound { WritesAtMost result buf.now }
-        ensures bytes { WriteAppends (told_of W.contents self.old) (told_of W.contents self.new) result buf.now }
+        ensures bytes { WriteAppends (given_to W.contents self.old) (given_to W.contents self.new) result buf.now }
         ensures policy { flushes_by self.new ≡ flushes_by self.old }
         ensures lines { IfOk result (CountsLine self.old self.new buf.now (ends_line buf.now)) }
         ensures out { goes_out self.old buf.now ≡ true → OnOk result (waiting_of self.new ≡ []) }
         ensures waits { goes_out self.old buf.now ≡ false → HasRoom self.old (length buf.now) → self.new.writer ≡ self.old.writer }
+        ensures taken { has_stopped self.old ≡ false → goes_out self.old buf.now ≡ false → HasRoom self.old (length buf.now)
+            → (result ≡ Ok (length buf.now)) × (has_stopped self.new ≡ false) }
         ensures stops { OnErr result (has_stopped self.new ≡ true) }
         ensures stopped { StaysStopped self.old self.new result }
     {
@@ -329,10 +331,12 @@ impl<W: Write> Write for Output<W> {
     }
 
     fn flush(&mut self) -> io::Result<()>
-        ensures bytes { Keeps (told_of W.contents self.old) (told_of W.contents self.new) }
+        ensures bytes { Keeps (given_to W.contents self.old) (given_to W.contents self.new) }
         ensures same { SamePolicy self.old self.new }
         ensures out { heeds_flush (flushes_by self.old) (waiting_of self.old) ≡ true → OnOk result (waiting_of self.new ≡ []) }
         ensures waits { heeds_flush (flushes_by self.old) (waiting_of self.old) ≡ false → self.new.writer ≡ self.old.writer }
+        ensures unheeded { has_stopped self.old ≡ false → heeds_flush (flushes_by self.old) (waiting_of self.old) ≡ false
+            → IsOk result × (self.new ≡ self.old) }
         ensures stops { OnErr result (has_stopped self.new ≡ true) }
         ensures stopped { StaysStopped self.old self.new result }
     {

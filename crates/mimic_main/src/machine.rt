@@ -4,7 +4,7 @@ ghost use Rattle.std.specs.Result.{is_ok};
 ghost use Rattle.std.specs.NonZero.{non_zero_usize_get};
 ghost use Rattle.libtest_mimic.specs.Trial.{AllCanRun};
 ghost use Rattle.mimic_trial.specs.Case.{AreTestsOf};
-ghost use Rattle.mimic_main.specs.Ended.{EndsAfter, EndsByLine, EndsOver, Ended, number_of};
+ghost use Rattle.mimic_main.specs.Ended.{EndsForLine, EndsByLine, EndsOver, Ended, number_of};
 
 use crate::clock::MonotonicClock;
 use crate::colours::shows_colours;
@@ -48,8 +48,10 @@ impl<M: Env + AllocGlobal + Files + Clock + Streams + Spawner> Machine for M {}
 /// Runs or lists the trials as the program's command line asks, and returns what its `main` is to return.
 ///
 /// Where the line does not say how many threads run them, it is as many as the machine can run at once. The report goes to
-/// standard output, in colours where that is a terminal and `NO_COLOR` unset or empty, or into the logfile. A fault is told
-/// on standard error with its cause. Trials that could not be made are told as well, and end the program with status 1.
+/// standard output, in colours where [`shows_colours`](crate::shows_colours) says so, or into the logfile. A fault is told on
+/// standard error with its cause. Trials that could not be made are told as well, and end the program with status 1.
+///
+/// No contract says which words a process gets, so this one is about some line, and never excludes the statuses 0, 1 and 2.
 pub fn run_program<M: Machine + 'static, R: Task + Send + 'static>(
     rt: &M,
     name: &str,
@@ -62,7 +64,8 @@ pub fn run_program<M: Machine + 'static, R: Task + Send + 'static>(
     run_line(rt, name, Arguments::from_args(rt, rt.alloc()), tests)
 }
 
-/// Likewise for a line that was read already, as by a program with words of its own ([`Line`](crate::Line)).
+/// Runs or lists the trials as `run_program` does, for a line that was read already, as by a program with words of its own
+/// (`Line` of `libtest_mimic`).
 pub fn run_line<M: Machine + 'static, R: Task + Send + 'static>(
     rt: &M,
     name: &str,
@@ -70,16 +73,17 @@ pub fn run_line<M: Machine + 'static, R: Task + Send + 'static>(
     tests: Result<Vec<Trial<R>>, RunError>,
 ) -> Status
     requires { IfOk tests (λ made. AllCanRun R.can_run made.items) }
-    ensures made { IfOk tests (λ made. (threads : ℕ) × (auto : Bool) × EndsAfter R.gives threads auto line made.items (number_of result)) }
+    ensures made { IfOk tests (λ made. (threads : ℕ) × (auto : Bool) × EndsForLine R.gives threads auto line made.items (number_of result)) }
     ensures refused { OnErr tests (number_of result ≡ 1) }
 {
+    // Each stream is bound with its type, so that no other is taken for it.
     let out: Stdout = rt.stdout();
     let mut err: Stderr = rt.stderr();
     let (_, status) = run_line_on(rt, rt, rt, rt, name, line, tests, out, &mut err);
     status
 }
 
-/// Likewise for the program's command line, over cases of one check: each is its name and its input, and passes where the
+/// Runs or lists tests as `run_program` does, over cases of one check: each is its name and its input, and passes where the
 /// check returns `Ok`.
 pub fn run_cases<
     M: Machine + 'static,
@@ -182,7 +186,6 @@ fn telling(name: &str, threads: usize, auto_colours: bool) -> Program<'_>
     }
 }
 
-// Each stream is bound with its type, so that no other is taken for it.
 impl Program<'_> {
     /// Runs or lists the trials as the command line asks, on the standard streams, and returns what `main` is to return.
     pub fn run<M: Machine + 'static, R: Task + Send + 'static>(

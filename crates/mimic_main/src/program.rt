@@ -1,9 +1,10 @@
 //! A program around a run, but for the machine that it runs on.
-ghost use Rattle.std.specs.Prelude.{◌≡◌, ◌≤◌, false, IfOk, IsNone, OnErr, vec_len};
+ghost use Rattle.std.specs.Prelude.{◌≡◌, ◌≤◌, [], true, false, IfErr, IfOk, IsNone, IsSome, vec_len};
+ghost use Rattle.mimic_trial.specs.Count.{counts_of};
 ghost use Rattle.libtest_mimic.specs.Count.{total_of};
 ghost use Rattle.libtest_mimic.specs.Run.{HasAnswer};
 ghost use Rattle.libtest_mimic.specs.Trial.{AllCanRun};
-ghost use Rattle.mimic_main.specs.Ended.{Ended, number_of, status_of, status_without};
+ghost use Rattle.mimic_main.specs.Ended.{Ended, GotWithout, IfOfRun, number_of, status_of, status_without};
 ghost use Rattle.mimic_main.specs.declared.program.Fault.TheVariants.{Run};
 ghost use Rattle.mimic_main.specs.Run.{GotBeginning, Ran};
 
@@ -39,8 +40,8 @@ pub struct Program<'a> {
 
 impl Program<'_> {
     /// Runs or lists the trials as the line asks, and returns the writer `out` and the exit status: 0 where no trial
-    /// failed or help was asked for, 101 where one failed, 1 where the logfile or the run was refused, 2 where the line
-    /// was.
+    /// failed or help was asked for, 101 where one failed, 1 where the logfile or the run was refused or there was no memory to
+    /// read the line, 2 where the line was refused.
     ///
     /// The report or list goes into the logfile, which is made or emptied first; without one it goes to `out`. Help
     /// goes to `out`, and what is refused to `err`; a fault in writing either changes no status.
@@ -112,7 +113,8 @@ impl Program<'_> {
         out: &mut O,
         err: &mut E,
     ) -> Status
-        ensures { number_of result ≡ status_without error }
+        ensures status { number_of result ≡ status_without error }
+        ensures got { GotWithout error (O.contents out.old) (O.contents out.new) }
     {
         match error {
             ArgumentsError::OutOfMemory => self.refuse(RunError::OutOfMemory, err),
@@ -177,8 +179,10 @@ impl<R: Task + Send + 'static, C: Clock + Drop> Job<R, C> {
         requires some_thread { 1 ≤ self.default_threads }
         ensures ran { IsNone args.now.logfile → IfOk result.1 (λ c. Ran R.gives self.default_threads args.now self.auto_colours self.tests.items
             (O.contents out) (O.contents result.0) c) }
-        ensures beginning { IsNone args.now.logfile → OnErr result.1 (GotBeginning R.gives self.default_threads args.now self.auto_colours self.tests.items
-            (O.contents out) (O.contents result.0)) }
+        ensures beginning { IsNone args.now.logfile → IfErr result.1 (λ fault. IfOfRun fault
+            (GotBeginning R.gives self.default_threads args.now self.auto_colours self.tests.items (O.contents out) (O.contents result.0))) }
+        ensures nothing { IsSome args.now.logfile → result.0 ≡ out }
+        ensures listed { args.now.list ≡ true → IfOk result.1 (λ c. c ≡ counts_of [] 0) }
         ensures answer { IfOk result.1 (λ c. HasAnswer R.gives args.now self.tests.items (Ok c)) }
         ensures adds_up { args.now.list ≡ false → IfOk result.1 (λ c. total_of c ≡ vec_len self.tests) }
     {
@@ -204,6 +208,7 @@ impl<R: Task + Send + 'static, C: Clock + Drop> Job<R, C> {
     ) -> Result<Conclusion, Fault>
         requires runnable { AllCanRun R.can_run self.tests.items }
         requires some_thread { 1 ≤ self.default_threads }
+        ensures listed { args.now.list ≡ true → IfOk result (λ c. c ≡ counts_of [] 0) }
         ensures answer { IfOk result (λ c. HasAnswer R.gives args.now self.tests.items (Ok c)) }
         ensures adds_up { args.now.list ≡ false → IfOk result (λ c. total_of c ≡ vec_len self.tests) }
     {
@@ -222,7 +227,7 @@ impl<R: Task + Send + 'static, C: Clock + Drop> Job<R, C> {
         requires runnable { AllCanRun R.can_run self.tests.items }
         requires some_thread { 1 ≤ self.default_threads }
         ensures ran { IfOk result.1 (λ c. Ran R.gives self.default_threads args.now self.auto_colours self.tests.items (W.contents writer) (W.contents result.0) c) }
-        ensures beginning { OnErr result.1 (GotBeginning R.gives self.default_threads args.now self.auto_colours self.tests.items (W.contents writer) (W.contents result.0)) }
+        ensures beginning { IfErr result.1 (GotBeginning R.gives self.default_threads args.now self.auto_colours self.tests.items (W.contents writer) (W.contents result.0)) }
         ensures answer { IfOk result.1 (λ c. HasAnswer R.gives args.now self.tests.items (Ok c)) }
         ensures adds_up { args.now.list ≡ false → IfOk result.1 (λ c. total_of c ≡ vec_len self.tests) }
     {

@@ -1,11 +1,11 @@
 //! A run into a buffered writer.
-ghost use Rattle.std.specs.Prelude.{◌≡◌, ◌≤◌, false, IfErr, IfOk, IsOk, OnErr, vec_len};
+ghost use Rattle.std.specs.Prelude.{◌≡◌, ◌≤◌, false, Err, IfErr, IfOk, IsOk, Ok, vec_len};
 ghost use Rattle.mimic_printer.specs.declared.sink.WriteFault.TheVariants.{Error};
 ghost use Rattle.libtest_mimic.specs.declared.running.RunError.TheVariants.{Write};
 ghost use Rattle.libtest_mimic.specs.Count.{total_of};
 ghost use Rattle.libtest_mimic.specs.Run.{HasAnswer};
 ghost use Rattle.libtest_mimic.specs.Trial.{AllCanRun};
-ghost use Rattle.mimic_main.specs.Output.{told_of};
+ghost use Rattle.mimic_main.specs.Output.{given_to};
 ghost use Rattle.mimic_main.specs.Run.{GotBeginning, Ran};
 
 use crate::buffer::Output;
@@ -33,9 +33,9 @@ pub fn run_into<R: Task + Send + 'static, W: Write, C: Clock + Drop, T: Spawner 
     requires runnable { AllCanRun R.can_run tests.items }
     requires some_thread { 1 ≤ default_threads }
     ensures ran { IfOk result.1 (λ c. Ran R.gives default_threads args.now auto_colours tests.items
-        (told_of W.contents output) (W.contents result.0) c) }
-    ensures beginning { OnErr result.1 (GotBeginning R.gives default_threads args.now auto_colours tests.items
-        (told_of W.contents output) (W.contents result.0)) }
+        (given_to W.contents output) (W.contents result.0) c) }
+    ensures beginning { IfErr result.1 (GotBeginning R.gives default_threads args.now auto_colours tests.items
+        (given_to W.contents output) (W.contents result.0)) }
     ensures answer { IfOk result.1 (λ c. HasAnswer R.gives args.now tests.items (Ok c)) }
     ensures adds_up { args.now.list ≡ false → IfOk result.1 (λ c. total_of c ≡ vec_len tests) }
 {
@@ -62,6 +62,7 @@ fn settled(
 ) -> Result<Conclusion, RunError>
     ensures answered { IfOk result (λ c. ran ≡ Ok c) }
     ensures finished { IsOk result → IsOk finished }
+    ensures kept { IsOk finished → result ≡ ran }
     ensures refused { IfErr ran (λ fault. result ≡ Err fault) }
     ensures cause { IsOk ran → IfErr finished (λ error. result ≡ Err (Write (Error error))) }
 {

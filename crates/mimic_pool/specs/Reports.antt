@@ -2,7 +2,7 @@
 use Rattle.std.specs.Prelude.{ℕ, List}
 use Rattle.mimic_trial.specs.Places.{Placed}
 use Rattle.mimic_pool.specs.declared.board_reports.BoardReports.{BoardReports}
-use Rattle.mimic_pool.specs.declared.memory.MemoryReports.{MemoryReports}
+use Rattle.mimic_pool.specs.declared.memory_reports.MemoryReports.{MemoryReports}
 
 -- the rows that were told into memory, in their order
 abbrev pub rows_told : MemoryReports → List Placed

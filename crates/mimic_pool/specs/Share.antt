@@ -26,7 +26,7 @@ module _ {X : Type 0} where
   assigned_from place (runner ∷ runners) [] = []
   assigned_from place (runner ∷ runners) (flag ∷ flags) = record { place = place; runner = runner; ignored = flag } ∷ assigned_from (place + 1) runners flags
 
-  -- those of so many workers whose place leaves this worker's number, in their order (our own)
+  -- the share of a worker: those whose place, divided by the number of workers, leaves the worker's own, in their order (our own)
   abbrev pub share_of : ℕ → ℕ → List (Assigned X) → List (Assigned X)
   share_of workers worker items = filter (λ item. item.place % workers == worker) items
 

@@ -9,7 +9,7 @@ pub struct Untold;
 
 /// Where rows are told, each a place and the outcome there, and counted.
 ///
-/// What becomes of a told row is the form's own affair: it may be lost. So a worker answers all of its rows once more.
+/// What becomes of a row that was told is left open: it may be lost. So a worker answers all of its rows once more.
 pub trait Reports {
     /// How many rows were told.
     ghost told_of: { Self → ℕ };

@@ -45,7 +45,8 @@ pub fn prepare<T: Task>(
 }
 
 /// Starts a worker for each share, and keeps their handles in `handles`, which takes no memory. Where one can't be
-/// started, no further one is, and those that were started, on a front of the shares, are handed back.
+/// started, no further one is, and those that were started, on a front of the shares, are handed back. Then the boards of the
+/// others never close, and `Inbox::next` would wait for ever.
 pub fn start_all<T: Task + Send + 'static, R: Spawner + 'static>(
     rt: &R,
     alloc: Global,

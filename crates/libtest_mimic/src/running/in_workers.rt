@@ -129,8 +129,8 @@ fn write_rows<R: Task + Send + 'static, W: Write, T: Spawner + 'static>(
     Ok((order, outcomes))
 }
 
-// As many outcomes, each of which stands for one that a worker answers. They are put into `room` when the workers have let
-// go what they ran, so the memory of both is never there at once.
+// As many outcomes, each of which stands for one that a worker answers. They are put into `room` after the last row was
+// written, when the workers have let go what they ran: so the memory of both is there at once only after a write fault.
 fn placeholders(mut room: Vec<Outcome>, count: usize) -> Vec<Outcome>
     requires empty { vec_len room ≡ 0 }
     requires fits { count ≤ vec_capacity room }

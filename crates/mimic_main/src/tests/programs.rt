@@ -424,14 +424,16 @@ fn colours_as_the_program_says(rt: HostRuntime) -> Result<(), Fail> {
     Ok(())
 }
 
-// An environment of a line without options, whose one variable is so.
+// The variables of an environment, each a name and a value.
+type Variables = &'static [(&'static str, &'static str)];
+
+// An environment of a line without options.
 #[derive(Drop)]
-struct OneVariable {
-    name: &'static str,
-    value: &'static str,
+struct Environment {
+    variables: Variables,
 }
 
-impl Env for OneVariable {
+impl Env for Environment {
     fn arg(&self, i: usize, buf: &mut [u8]) -> Result<usize, FillError> {
         if i > 0 {
             return Err(FillError::NotPresent);
@@ -440,10 +442,12 @@ impl Env for OneVariable {
     }
 
     fn var(&self, name: &str, buf: &mut [u8]) -> Result<usize, FillError> {
-        if name != self.name {
-            return Err(FillError::NotPresent);
+        for (known, value) in self.variables {
+            if *known == name {
+                return fill(value, buf);
+            }
         }
-        fill(self.value, buf)
+        Err(FillError::NotPresent)
     }
 
     fn var_at(&self, _i: usize, _buf: &mut [u8]) -> Result<usize, FillError> {
@@ -487,18 +491,17 @@ impl Write for Screen {
     }
 }
 
-// Runs the tests on a machine whose environment has this variable, and whose clock measures one second and a half.
+// Runs the tests on a machine whose environment has these variables, and whose clock measures one second and a half.
 fn run_on_machine<M: Machine + 'static, R: Task + Send + 'static>(
     rt: &M,
-    name: &'static str,
-    value: &'static str,
+    variables: Variables,
     is_terminal: bool,
     tests: Vec<Trial<R>>,
 ) -> Result<Left<Screen>, Fail>
     requires { AllCanRun R.can_run tests.items }
 {
     let alloc = rt.alloc();
-    let env = (OneVariable { name, value }, alloc);
+    let env = (Environment { variables }, alloc);
     let start = Some(Duration::from_nanos(700));
     let stop = Some(Duration::from_nanos(1_500_000_700));
     let clock = clock_of([start, stop, None, None, None, None]);
@@ -521,28 +524,33 @@ fn run_on_machine<M: Machine + 'static, R: Task + Send + 'static>(
     Ok(Left { out, err, status })
 }
 
-// A program on machines of known parts: colours on a terminal where `NO_COLOR` is unset or empty, and the time that their
-// clock measures.
+// A program on machines of known parts: colours on a terminal that can show them, where `NO_COLOR` is unset or empty, and the
+// time that their clock measures.
 #[test]
 fn heeds_its_machine(rt: HostRuntime) -> Result<(), Fail> {
     let alloc = rt.alloc();
-    for (name, value, is_terminal, is_coloured) in [
-        ("TERM", "xterm", true, true),
-        ("TERM", "xterm", false, false),
-        ("NO_COLOR", "1", true, false),
-        ("NO_COLOR", "yes", true, false),
-        ("NO_COLOR", "", true, true),
-        ("NO_COLOR", "", false, false),
-    ] {
+    let rows: [(Variables, bool, bool); 10] = [
+        (&[("TERM", "xterm-256color")], true, true),
+        (&[("TERM", "xterm-256color")], false, false),
+        (&[("TERM", "vt52")], true, true),
+        (&[("TERM", "")], true, true),
+        (&[("TERM", "dumb")], true, false),
+        (&[], true, false),
+        (&[("TERM", "xterm"), ("NO_COLOR", "1")], true, false),
+        (&[("TERM", "xterm"), ("NO_COLOR", "yes")], true, false),
+        (&[("TERM", "xterm"), ("NO_COLOR", "")], true, true),
+        (&[("TERM", "xterm"), ("NO_COLOR", "")], false, false),
+    ];
+    for (variables, is_terminal, is_coloured) in rows {
         let tests = vec![in alloc; Trial::new(String::from_str(alloc, "a")?, Pass)]?;
-        let left = run_on_machine(&rt, name, value, is_terminal, tests)?;
+        let left = run_on_machine(&rt, variables, is_terminal, tests)?;
         assert_eq!(rt; left.status, 0);
         assert!(rt; left.err.is_empty());
         let text = String::from_utf8(left.out.bytes)?;
         assert_eq!(rt;
             text.as_str().contains("\u{1b}[32mok"),
             is_coloured,
-            "{name}={value}"
+            "{variables:?}"
         );
         assert!(rt; text.as_str().ends_with("; finished in 1.50s\n\n"));
     }
@@ -579,7 +587,7 @@ fn runs_in_the_threads_of_its_machine(rt: HostRuntime) -> Result<(), Fail> {
         let running = running.clone()?;
         tests.push(Trial::new(format!(in alloc; "{number}")?, Meets { running, awaited }))?;
     }
-    let left = run_on_machine(&rt, "TERM", "xterm", false, tests)?;
+    let left = run_on_machine(&rt, &[], false, tests)?;
     assert_eq!(rt; left.status, 0);
     Ok(())
 }
