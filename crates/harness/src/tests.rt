@@ -452,7 +452,7 @@ fn tells_why_a_line_gave_nothing(rt: HostRuntime) -> Result<(), Fail> {
 #[test]
 fn writes_a_logfile(rt: HostRuntime) -> Result<(), Fail> {
     let alloc = rt.alloc();
-    let path = "/tmp/libtest_mimic_harness_logfile";
+    let path = "logfile";
     fs::write(
         &rt,
         path,

@@ -146,7 +146,7 @@ impl Task for Looks {
 #[test]
 fn shows_what_is_running(rt: HostRuntime) -> Result<(), Fail> {
     let alloc = rt.alloc();
-    let path = "/tmp/mimic_main_shows_what_is_running";
+    let path = "shows_what_is_running";
     let pretty = [
         "\nrunning 2 tests\ntest a ... ",
         "\nrunning 2 tests\ntest a ... ok\ntest b ... ",
@@ -212,7 +212,7 @@ impl Task for Awaits {
 #[test]
 fn shows_what_has_ended(rt: HostRuntime) -> Result<(), Fail> {
     let alloc = rt.alloc();
-    let path = "/tmp/mimic_main_shows_what_has_ended";
+    let path = "shows_what_has_ended";
     let running = "\nrunning 2 tests\n";
     for (format, title, row) in [
         (FormatSetting::Pretty, running, "test a ... ok\n"),
