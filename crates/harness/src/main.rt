@@ -1,15 +1,11 @@
 //! A harness of 17 trials, which reads a command line.
 #![tactic(auto)]
 
-mod mixed_bag;
-#[cfg(test)]
-mod tests;
-
 use libtest_mimic::{Failed, Measurement, RunError, Trial};
 use mimic_main::{Machine, Program, Status};
-use mixed_bag::{Answer, MIXED_BAG, benchmark_answer, mixed_bag_trials, test_answer};
+use mimic_testkit::{MIXED_BAG, trials_of};
 
-pub(crate) const HARNESS: Program<'static> = Program {
+const HARNESS: Program<'static> = Program {
     name: "harness",
     threads: 4,
     auto_colours: false,
@@ -22,6 +18,6 @@ fn main(rt: HostRuntime) -> Status {
 
 fn run_mixed_bag<M: Machine + 'static>(rt: &M) -> Result<Status, RunError> {
     let alloc = rt.alloc();
-    let trials = mixed_bag_trials!(alloc);
+    let trials = trials_of!(alloc, MIXED_BAG);
     Ok(HARNESS.run(rt, trials))
 }

@@ -4,7 +4,7 @@ use crate::mixed_bag::{Answer, MIXED_BAG, benchmark_answer, mixed_bag_trials, te
 use libtest_mimic::{
     Arguments, ArgumentsError, Failed, Measurement, Sink, Stopwatch, Trial, run_here,
 };
-use mimic_faulty::{Fault, FaultyWriter, Place};
+use mimic_testkit::{Fault, FaultyWriter, Place};
 use mimic_main::{Machine, StillClock};
 use std::alloc::{AllocError, Global};
 use std::env::FillError;

@@ -1,7 +1,8 @@
 -- What each field of the arguments is, by what a parsed line holds under the id of its option. An entry is an id with the
 -- texts of its uses, as `clap` answers them.
-use Rattle.std.specs.Prelude.{◌≡◌, is_some, ◌<◌, ◌^◌, ℕ, Bool, true, false, List, [], ◌∷◌, find, Option, Some, None, codes, map, option_map, option_and_then, unwrap_or}
+use Rattle.std.specs.Prelude.{◌≡◌, is_some, ◌<◌, ◌^◌, ℕ, Bool, true, false, List, [], ◌∷◌, Option, Some, None, codes, map, option_map, option_and_then, unwrap_or}
 use Rattle.std.specs.Str.{bytes_eq}
+use Rattle.mimic_text.specs.Formats.{format_name, formats, named}
 use Rattle.std.specs.Str.Parse.{IsNumeral, digits_value, without_leading_plus}
 use Rattle.std.specs.String.{string_bytes}
 use Rattle.std.specs.Option.{option_map_or}
@@ -10,8 +11,6 @@ use Rattle.clap.specs.declared.parser.matches.ArgMatches.{ArgMatches}
 use Rattle.mimic_args.specs.declared.Arguments.{Arguments}
 use Rattle.mimic_args.specs.declared.ColorSetting.{ColorSetting}
 use Rattle.mimic_args.specs.declared.ColorSetting.TheVariants.{Auto, Always, Never}
-use Rattle.mimic_args.specs.declared.FormatSetting.{FormatSetting}
-use Rattle.mimic_args.specs.declared.FormatSetting.TheVariants.{Pretty, Terse, Json}
 use Rattle.mimic_args.specs.declared.UnstableFlags.{UnstableFlags}
 use Rattle.mimic_args.specs.declared.UnstableFlags.TheVariants.{UnstableOptions}
 
@@ -31,16 +30,9 @@ texts_of f id = unwrap_or (all_of id f) []
 abbrev pub is_set : List Row → List ℕ → Bool
 is_set f id = option_map_or (λ t. bytes_eq t (codes "true")) (first_text f id) false
 
--- the first of these values whose name the text is
-abbrev pub named : {A : Type 0} → (A → List ℕ) → List A → List ℕ → Option A
-named name values t = find (λ a. bytes_eq t (name a)) values
-
--- the values of `--color`, of `--format` and of `-Z`
+-- the values of `--color` and of `-Z`
 abbrev pub colors : List ColorSetting
 colors = Auto ∷ Always ∷ Never ∷ []
-
-abbrev pub formats : List FormatSetting
-formats = Pretty ∷ Terse ∷ Json ∷ []
 
 abbrev pub unstables : List UnstableFlags
 unstables = UnstableOptions ∷ []
@@ -50,11 +42,6 @@ abbrev pub color_name : ColorSetting → List ℕ
 color_name Auto = codes "auto"
 color_name Always = codes "always"
 color_name Never = codes "never"
-
-abbrev pub format_name : FormatSetting → List ℕ
-format_name Pretty = codes "pretty"
-format_name Terse = codes "terse"
-format_name Json = codes "json"
 
 abbrev pub unstable_name : UnstableFlags → List ℕ
 unstable_name UnstableOptions = codes "unstable-options"

@@ -3,15 +3,15 @@ ghost use Rattle.std.specs.Prelude.{◌≡◌, false, IfOk, codes, map};
 ghost use Rattle.clap.specs.Walk.{texts};
 ghost use Rattle.clap.specs.declared.builder.value_parser.ValueParser.{ValueParser};
 ghost use Rattle.mimic_args.specs.CommandLine.{TakesOnly, alone, declared_of, excluding, filter_rule, flag_options, flag_rule, option_rule, options_of, plus, read_by, skip_rule, threads_rule, unstable_rule};
-ghost use Rattle.mimic_args.specs.Matched.{color_name, colors, format_name, formats, unstable_name, unstables};
+ghost use Rattle.mimic_args.specs.Matched.{color_name, colors, unstable_name, unstables};
+ghost use Rattle.mimic_text.specs.Formats.{format_name, formats};
 
-use crate::formats::{JSON, PRETTY, TERSE};
 use clap::{Arg, ArgAction, Command, value_parser};
 use std::alloc::{AllocError, Global};
 
 static COLORS: [&str; 3] = ["auto", "always", "never"];
 
-static FORMATS: [&str; 3] = [PRETTY, TERSE, JSON];
+static FORMATS: [&str; 3] = ["pretty", "terse", "json"];
 
 static UNSTABLE: [&str; 1] = ["unstable-options"];
 

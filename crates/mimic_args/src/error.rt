@@ -26,8 +26,3 @@ impl From<AllocError> for ArgumentsError {
         ArgumentsError::OutOfMemory
     }
 }
-
-/// A text is the name of no format.
-#[derive(Clone, Copy, Debug, PartialEq, Eq, Error)]
-#[error("no such format")]
-pub struct UnknownFormat;

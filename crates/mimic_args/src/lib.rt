@@ -20,13 +20,13 @@ mod command_line;
 mod copies;
 mod declared;
 mod error;
-mod formats;
 mod line;
 mod matched;
 
 use copies::{all_copied, copied};
-pub use error::{ArgumentsError, UnknownFormat};
+pub use error::ArgumentsError;
 pub use line::Line;
+pub use mimic_text::{FormatSetting, UnknownFormat};
 use std::alloc::{AllocError, Global};
 
 /// When a report has colours.
@@ -39,18 +39,6 @@ pub enum ColorSetting {
     Always,
     /// Never.
     Never,
-}
-
-/// How a report is written.
-#[derive(Clone, Copy, Debug, Default, PartialEq, Eq)]
-pub enum FormatSetting {
-    /// One line for each trial.
-    #[default]
-    Pretty,
-    /// One character for each trial, and one line for each measurement.
-    Terse,
-    /// One object on each line, which tools read: two for each trial, and two more.
-    Json,
 }
 
 /// What `-Z` may ask for. It has no effect.

@@ -1,7 +1,8 @@
 //! What a parsed line holds for each field of the arguments.
 ghost use Rattle.std.specs.Prelude.{◌≡◌, IfOk, codes, map, option_and_then, option_map, string_bytes};
 ghost use Rattle.clap.specs.Words.{all_of, first_of};
-ghost use Rattle.mimic_args.specs.Matched.{IsNumberOf, color_name, colors, entries_of, first_text, format_name, formats, is_set, named, texts_of, unstable_name, unstables};
+ghost use Rattle.mimic_args.specs.Matched.{IsNumberOf, color_name, colors, entries_of, first_text, is_set, texts_of, unstable_name, unstables};
+ghost use Rattle.mimic_text.specs.Formats.{format_name, formats, named};
 
 use crate::copies::{all_copied, copied};
 use crate::{ColorSetting, FormatSetting, UnstableFlags};

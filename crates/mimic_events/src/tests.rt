@@ -1,5 +1,5 @@
 //! What no clause says: that reports are read where memory is ample, and what the definition of a report holds and refuses.
-//! Expected values are worked by hand from the format's rules. The report of a run is read back in `mimic_readback`.
+//! Expected values are worked by hand from the format's rules. The report of a run is read back in `mimic_roundtrip`.
 use crate::{Feed, Report, Row, Tally, Totals, read_report};
 use mimic_trial::{Conclusion, Failed, Measurement, Outcome};
 use std::alloc::{AllocError, Global};

@@ -3,8 +3,8 @@ use Rattle.std.specs.Prelude.{◌≡◌, ◌+◌, ◌<◌, ◌≤◌, ◌&&◌, 
 use Rattle.std.specs.List.{ends_with}
 use Rattle.std.specs.Io.KnownBytes.{Keeps, append_known}
 use Rattle.mimic_args.specs.declared.Arguments.{Arguments}
-use Rattle.mimic_args.specs.declared.FormatSetting.{FormatSetting}
-use Rattle.mimic_args.specs.declared.FormatSetting.TheVariants.{Pretty, Terse, Json}
+use Rattle.mimic_text.specs.declared.formats.FormatSetting.{FormatSetting}
+use Rattle.mimic_text.specs.declared.formats.FormatSetting.TheVariants.{Pretty, Terse, Json}
 use Rattle.mimic_args.specs.Arguments.{format_of}
 use Rattle.mimic_main.specs.declared.buffer.Output.{Output}
 use Rattle.mimic_main.specs.declared.buffer.FlushPolicy.{FlushPolicy}

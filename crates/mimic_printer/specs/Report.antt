@@ -1,8 +1,8 @@
 -- The texts of a report, part by part. Where no other source is named, a text is the Rust crate's.
 use Rattle.std.specs.Prelude.{ℕ, ◌/◌, ◌%◌, ◌==◌, nat_lt, if◌then◌else◌, List, [], ◌∷◌, ◌++◌, length, codes, decimal, Option, None, Some}
 use Rattle.std.specs.List.{concat, flat_map, list_any}
-use Rattle.mimic_args.specs.declared.FormatSetting.{FormatSetting}
-use Rattle.mimic_args.specs.declared.FormatSetting.TheVariants.{Pretty, Terse, Json}
+use Rattle.mimic_text.specs.declared.formats.FormatSetting.{FormatSetting}
+use Rattle.mimic_text.specs.declared.formats.FormatSetting.TheVariants.{Pretty, Terse, Json}
 use Rattle.mimic_printer.specs.declared.Printer.{Printer}
 use Rattle.mimic_trial.specs.declared.outcome.Outcome.{Outcome}
 use Rattle.mimic_trial.specs.declared.outcome.Outcome.TheVariants.{Passed, Failed, Ignored, Measured}

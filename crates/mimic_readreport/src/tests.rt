@@ -1,6 +1,6 @@
 //! The program over memory: its line, its statuses, and what it tells of faults.
 use crate::readreport_run;
-use mimic_faulty::{Fault, FaultyWriter, Place};
+use mimic_testkit::{Fault, FaultyWriter, Place};
 use std::alloc::Global;
 use std::io;
 use std::io::{ErrorKind, Read};

@@ -1,3 +1,4 @@
 pub mod Text
 pub mod Escape
 pub mod Seconds
+pub mod Formats

@@ -1,4 +1,4 @@
-//! The small texts of reports: grouped numbers, seconds, and texts in JSON. A layer of `libtest_mimic`.
+//! The small texts of reports: grouped numbers, seconds, texts in JSON, and the names of formats. A layer of `libtest_mimic`.
 //!
 //! ```rust
 //! use mimic_text::{brackets, escape_char, exact_seconds, hundredths, thousands};
@@ -17,9 +17,11 @@ ghost use Rattle.std.specs.Prelude.{◌≡◌, ◌≢◌, ◌≤◌, ◌++◌, [
 ghost use Rattle.mimic_text.specs.Text.{grouped, kind_part, without_commas};
 
 mod escape;
+mod formats;
 mod seconds;
 
 pub use escape::{Escaped, escape_byte, escape_char, next_escape};
+pub use formats::{FormatSetting, UnknownFormat};
 use itoa::Buffer;
 pub use seconds::{exact_seconds, hundredths};
 use std::alloc::{AllocError, Global};

@@ -3,7 +3,7 @@ use crate::{FlushPolicy, Output, StillClock, run_into};
 use libtest_mimic::{
     Arguments, Conclusion, Failed, FormatSetting, Outcome, RunError, Sink, Task, Trial, WriteFault,
 };
-use mimic_faulty::{Fault, FaultyWriter, Place};
+use mimic_testkit::{Fault, FaultyWriter, Place};
 use std::alloc::Global;
 use std::io;
 use std::io::{ErrorKind, Write};

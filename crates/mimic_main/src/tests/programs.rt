@@ -10,7 +10,7 @@ use crate::{Machine, Program, StillClock};
 use libtest_mimic::{
     Arguments, ArgumentsError, Failed, FormatSetting, Outcome, RunError, Task, Trial,
 };
-use mimic_faulty::{Fault, FaultyWriter, Place};
+use mimic_testkit::{Fault, FaultyWriter, Place};
 use std::alloc::Global;
 use std::env::FillError;
 use std::io::{ErrorKind, IsTerminal, Write};

@@ -1,0 +1,36 @@
+//! Tests one function against files: `NAME.in` holds what it is given, and `NAME.out` what it must answer.
+//!
+//! To test a function of your own, copy this crate and exchange the body of `answer`.
+#![tactic(auto)]
+
+mod case;
+mod folders;
+#[cfg(test)]
+mod tests;
+
+use folders::trials_below;
+use libtest_mimic::Line;
+use mimic_main::{Status, run_line};
+use std::alloc::{AllocError, Global};
+
+const USAGE: &str = "\
+usage: example_files DIR.. [-- OPTIONS]
+
+Runs a trial for each pair NAME.in and NAME.out below the folders.
+`example_files -- --help` shows the options.
+";
+
+// The function under test. Its error may be any that can be shown.
+pub(crate) fn answer(alloc: Global, input: &str) -> Result<String, AllocError> {
+    input.to_uppercase(alloc)
+}
+
+fn main(rt: HostRuntime) -> Status {
+    let alloc = rt.alloc();
+    let line = Line::from_args(&rt, alloc);
+    let (options, trials) = match line.into_operands(alloc, 1..=usize::MAX, USAGE) {
+        Ok((options, folders)) => (Ok(options), trials_below(rt, folders.as_slice())),
+        Err(error) => (Err(error), Ok(Vec::new(alloc))),
+    };
+    run_line(&rt, "example_files", options, trials)
+}

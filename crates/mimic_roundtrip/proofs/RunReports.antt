@@ -1,0 +1,71 @@
+-- What is read back of a run in JSON tells that run.
+use Rattle.std.proofs.Common.{◌≡◌, ℕ, ◌-◌, ◌<◌, ◌^◌, List, [], length, false, Option, Some, None, IsSome, option_map, refl, sym, subst, arith}
+use Rattle.std.specs.Io.KnownBytes.{Appends}
+use Rattle.mimic_args.specs.declared.Arguments.{Arguments}
+use Rattle.mimic_text.specs.declared.formats.FormatSetting.TheVariants.{Json}
+use Rattle.mimic_trial.specs.declared.outcome.conclusion.Conclusion.{Conclusion}
+use Rattle.libtest_mimic.specs.Stopwatch.{Watched}
+use Rattle.mimic_trial.specs.declared.trial.Trial.{Trial}
+use Rattle.mimic_trial.specs.Promise.{Gives}
+use Rattle.libtest_mimic.specs.Arguments.{format_of}
+use Rattle.libtest_mimic.specs.Row.{PrintedRow}
+use Rattle.libtest_mimic.specs.Json.{Contents, IsJsonReport}
+use Rattle.libtest_mimic.specs.Report.{report_text}
+use Rattle.libtest_mimic.specs.Run.{ReportedBy}
+use Rattle.libtest_mimic.specs.Sink.{Shown}
+use Rattle.libtest_mimic.specs.Suite.{OfSuite, rows_of, suite_of}
+use Rattle.libtest_mimic.proofs.JsonRuns.{run_json}
+use Rattle.mimic_printer.proofs.JsonReports.{contents_of as contents_of_rows}
+use Rattle.mimic_events.specs.declared.report.Report.{Report}
+use Rattle.mimic_events.specs.Contents.{Spells, contents_read}
+use Rattle.mimic_events.specs.Reading.{Decodes}
+use Rattle.mimic_roundtrip.specs.Run.{TellsRun}
+
+-- ---- a run
+
+appended : (bytes text : List ℕ) (a b : Option (List ℕ)) → a ≡ Some [] → b ≡ Some bytes → Appends a b text → bytes ≡ text
+appended bytes text a b e f p = rw (e, f) at p
+
+module _ {R : Type 0} (gives : Gives R) where
+  -- the bytes are the report of what a run did
+  pub record Told (args : Arguments) (trials : List (Trial R)) (watch : Watched) (c : Conclusion) (bytes : List ℕ) : Type 0 where
+    pub report : Contents
+    pub spelled : IsJsonReport bytes report
+    pub tells : TellsRun gives args trials watch c report
+
+  -- the reading of these bytes
+  pub told_some : (args : Arguments) (trials : List (Trial R)) (watch : Watched) (c : Conclusion) (bytes : List ℕ) (o : Option Report) → Told args trials watch c bytes → Decodes Spells bytes (option_map contents_read o) → IsSome o
+  told_some args trials watch c bytes None told read = absurd (read told.report told.spelled)
+  told_some args trials watch c bytes (Some r) told read = refl
+
+  pub told_same : (args : Arguments) (trials : List (Trial R)) (watch : Watched) (c : Conclusion) (bytes : List ℕ) (o : Option Report) (r : Report) → o ≡ Some r → Told args trials watch c bytes → Decodes Spells bytes (option_map contents_read o)
+      → TellsRun gives args trials watch c (contents_read r)
+  told_same args trials watch c bytes o r e told read =
+      let only = rw e at read in
+      subst (TellsRun gives args trials watch c) (only.1 told.report told.spelled) told.tells
+
+module _ {R : Type 0} (gives : Gives R) where
+  -- a run in JSON into an empty writer leaves such bytes
+  pub run_told : (args : Arguments) (trials : List (Trial R)) (old new : Shown) (watch : Watched) (c : Conclusion) (bytes : List ℕ) → format_of args ≡ Json → length trials < 2 ^ 64
+      → old.bytes ≡ Some [] → new.bytes ≡ Some bytes → OfSuite args false trials (λ suite. ReportedBy gives 1 suite old new watch c) → Told gives args trials watch c bytes
+  run_told args trials old new watch c bytes format few empty full (selected, selection, (placed, ordered, some, report)) =
+      let suite = suite_of args false selected (length trials - length selected) in
+      let rows : List PrintedRow = rows_of suite placed in
+      let x = suite.filtered_out in
+      let spelled = run_json gives args selected suite.printer placed x report.nanos format report.arranged.own (omega arith) report.fits in
+      let same : bytes ≡ report_text suite.printer rows x report.nanos = appended bytes _ old.bytes new.bytes empty full report.appended.appended in
+      record {
+        report = contents_of_rows rows x report.nanos;
+        spelled = subst (λ (t : List ℕ). IsJsonReport t (contents_of_rows rows x report.nanos)) (sym same) spelled;
+        tells = record {
+          selected = selected;
+          selection = selection;
+          placed = placed;
+          in_order = ordered refl;
+          arranged = report.arranged;
+          rows = refl;
+          filtered_out = refl;
+          elapsed = report.elapsed;
+          counts = report.counts;
+        };
+      }

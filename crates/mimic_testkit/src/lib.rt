@@ -1,0 +1,24 @@
+//! What tests share: a writer that fails where a test wants it to, clocks whose readings are known, and the 17 trials of
+//! `harness`. No library lists this crate.
+//!
+//! ```rust
+//! use mimic_testkit::{Fault, FaultyWriter, Place};
+//! use std::io::{ErrorKind, Write};
+//!
+//! let full = Fault::Error(ErrorKind::StorageFull);
+//! let mut writer = FaultyWriter::new(rt.alloc()).failing(Place::Byte(3), full);
+//! assert!(rt; writer.write_all(b"ab").is_ok());
+//! assert!(rt; writer.write_all(b"cd").is_err());
+//! assert!(rt; writer.bytes.as_slice() == b"abc".as_slice());
+//! assert!(rt; writer.has_failed);
+//! assert_eq!(rt; writer.calls_after, 0);
+//! ```
+#![tactic(auto)]
+
+mod clocks;
+mod faulty_writer;
+mod mixed_bag;
+
+pub use clocks::{KnownReadings, RaisedClock, TwoReadings};
+pub use faulty_writer::{Fault, FaultyWriter, Place};
+pub use mixed_bag::{Answer, Entry, MIXED_BAG, benchmark_answer, test_answer};

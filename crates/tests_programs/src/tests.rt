@@ -1,0 +1,1 @@
+//! What no clause says of programs: when bytes go out, what is printed on standard error, and that nothing is done after a fault.
