@@ -1,11 +1,7 @@
-//! The program over memory: statuses, reports, lists and texts by the words of its command line.
-use crate::HARNESS;
-use crate::mixed_bag::{Answer, MIXED_BAG, benchmark_answer, mixed_bag_trials, test_answer};
-use libtest_mimic::{
-    Arguments, ArgumentsError, Failed, Measurement, Sink, Stopwatch, Trial, run_here,
-};
-use mimic_testkit::{Fault, FaultyWriter, Place};
-use mimic_main::{Machine, StillClock};
+//! The program `harness` over memory: statuses, reports, lists and texts by the words of its command line.
+use libtest_mimic::{Arguments, ArgumentsError, Failed, Measurement, Trial};
+use mimic_main::{Machine, Program, StillClock};
+use mimic_testkit::{Fault, FaultyWriter, MIXED_BAG, Place, trials_of};
 use std::alloc::{AllocError, Global};
 use std::env::FillError;
 use std::io::Eprint;
@@ -14,31 +10,12 @@ use std::rt::Env;
 use std::test::Fail;
 use std::{fs, io};
 
-const TWO_TESTS: &[u8] =
-    b"\nrunning 2 tests\ntest succeeding_test ... ok\ntest failing_test    ... FAILED\n\nfailures:\n\n---- failing_test ----\nWoops\n\n\nfailures:\n    failing_test\n\ntest result: FAILED. 1 passed; 1 failed; 0 ignored; 0 measured; 0 filtered out; finished in 0.00s\n\n";
-
-// A harness of one's own, to which the README links.
-#[test]
-fn runs_two_tests(rt: HostRuntime) -> Result<(), Fail> {
-    let alloc = rt.alloc();
-    let message = String::from_str(alloc, "Woops")?;
-    let succeeds: Box<dyn FnOnce() -> Result<(), Failed> + Send> = Box::new(alloc, || Ok(()))?;
-    let fails: Box<dyn FnOnce() -> Result<(), Failed> + Send> = Box::new(
-        alloc,
-        move || Err(Failed::with_message(message)),
-    )?;
-    let tests = vec![in alloc;
-        Trial::test(String::from_str(alloc, "succeeding_test")?, succeeds),
-        Trial::test(String::from_str(alloc, "failing_test")?, fails),
-    ]?;
-    let args = Arguments::new(alloc);
-    let mut sink = Sink::new(Vec::new(alloc));
-    let mut watch = Stopwatch::new(StillClock);
-    let conclusion = run_here(alloc, &args, tests, &mut sink, &mut watch, false)?;
-    assert!(rt; conclusion.has_failed());
-    assert!(rt; sink.into_inner().as_slice() == TWO_TESTS);
-    Ok(())
-}
+const HARNESS: Program<'static> = Program {
+    name: "harness",
+    threads: 4,
+    auto_colours: false,
+    tells_causes: false,
+};
 
 // What a run of the 17 trials leaves.
 #[derive(Drop)]
@@ -68,7 +45,7 @@ fn run_line<M: Machine + Eprint + 'static>(
     line: Result<Arguments, ArgumentsError>,
 ) -> Result<Left, Fail> {
     let alloc = rt.alloc();
-    let trials = mixed_bag_trials!(alloc);
+    let trials = trials_of!(alloc, MIXED_BAG);
     let out = Vec::new(alloc);
     let mut err: Vec<u8> = Vec::new(alloc);
     let (out, status) = HARNESS.harness_run(rt, rt, alloc, line, trials, out, &mut err, StillClock);
@@ -419,36 +396,6 @@ fn refuses_lines(rt: HostRuntime) -> Result<(), Fail> {
     Ok(())
 }
 
-// Lines that gave no arguments, the status, and what is told on standard error.
-#[test]
-fn tells_why_a_line_gave_nothing(rt: HostRuntime) -> Result<(), Fail> {
-    let alloc = rt.alloc();
-    let refused = ArgumentsError::Refused(String::from_str(alloc, "no")?);
-    let rows: [(ArgumentsError, u8, &[u8]); 2] = [
-        (refused, 2, b"no\n"),
-        (ArgumentsError::OutOfMemory, 1, b"harness: out of memory\n"),
-    ];
-    for (error, status, text) in rows {
-        let tests = Vec::<Trial>::new(alloc);
-        let out = Vec::new(alloc);
-        let mut err: Vec<u8> = Vec::new(alloc);
-        let (out, answered) = HARNESS.harness_run(
-            &rt,
-            &rt,
-            alloc,
-            Err(error),
-            tests,
-            out,
-            &mut err,
-            StillClock,
-        );
-        assert_eq!(rt; answered.report(&rt), ExitCode::from(status));
-        assert!(rt; out.is_empty());
-        assert!(rt; err.as_slice() == text);
-    }
-    Ok(())
-}
-
 #[test]
 fn writes_a_logfile(rt: HostRuntime) -> Result<(), Fail> {
     let alloc = rt.alloc();
@@ -524,7 +471,7 @@ fn refuses_words_that_are_no_text(rt: HostRuntime) -> Result<(), Fail> {
         ),
     ];
     for (words, status, on_out, on_err) in rows {
-        let trials = mixed_bag_trials!(alloc);
+        let trials = trials_of!(alloc, MIXED_BAG);
         let out = Vec::new(alloc);
         let mut err: Vec<u8> = Vec::new(alloc);
         let line = Arguments::from_args(&(RawLine { words }, alloc), alloc);
@@ -548,7 +495,7 @@ fn tells_of_a_full_output(rt: HostRuntime) -> Result<(), Fail> {
         (["harness", "--exact", "cat"], 20, 1),
         (["harness", "--list", "--help"], 0, 0),
     ] {
-        let trials = mixed_bag_trials!(alloc);
+        let trials = trials_of!(alloc, MIXED_BAG);
         let full = Fault::Error(io::ErrorKind::BrokenPipe);
         let out = FaultyWriter::new(alloc)
             .failing(Place::Byte(room), full)

@@ -1,6 +1,6 @@
-//! When a buffer hands its bytes on.
-use crate::{FlushPolicy, Output};
+//! When an output hands its bytes on.
 use libtest_mimic::{Arguments, FormatSetting};
+use mimic_main::{FlushPolicy, Output};
 use std::alloc::Global;
 use std::io;
 use std::io::Write;
@@ -97,37 +97,41 @@ fn hands_on_whole_lines(rt: HostRuntime) -> Result<(), Fail> {
     Ok(())
 }
 
-// Each second line goes out with the one before it, or by itself where that was flushed.
+// Each second line goes out with the one before it, or by itself if that was flushed. A line that goes out by itself counts
+// once, though the writer takes a part of it at first.
 #[test]
 fn hands_on_second_lines(rt: HostRuntime) -> Result<(), Fail> {
-    let mut output = marking(&rt, FlushPolicy::OnSecondLineEnd);
-    for piece in ["title\n", "a\n", "b", "\n", "c\n", "d\n"] {
-        output.write_all(piece.as_bytes())?;
+    let rows: [(usize, &[&str], &[&str], &[usize]); 2] = [
+        (
+            usize::MAX,
+            &["title\n", "a\n", "b", "\n", "c\n", "d\n"],
+            &["e\n", "f\n", "end"],
+            &[8, 12, 14, 16, 21],
+        ),
+        (
+            3,
+            &["one\n"],
+            &["two\n", "abc\n", "def\n", "end"],
+            &[3, 4, 7, 8, 11, 14, 16, 19],
+        ),
+    ];
+    for (most, before, after, marks) in rows {
+        let writer = Marked::new(rt.alloc(), most);
+        let mut output = Output::new(FlushPolicy::OnSecondLineEnd, writer);
+        write_pieces(&mut output, before)?;
+        output.flush()?;
+        write_pieces(&mut output, after)?;
+        let (writer, finished) = output.finish();
+        finished?;
+        assert!(rt; writer.marks.as_slice() == marks);
     }
-    output.flush()?;
-    for piece in ["e\n", "f\n", "end"] {
-        output.write_all(piece.as_bytes())?;
-    }
-    let (writer, finished) = output.finish();
-    finished?;
-    assert!(rt; writer.marks.as_slice() == [8, 12, 14, 16, 21].as_slice());
     Ok(())
 }
 
-// A line that goes out by itself counts once, though the writer takes a part of it at first.
-#[test]
-fn counts_a_line_once(rt: HostRuntime) -> Result<(), Fail> {
-    let writer = Marked::new(rt.alloc(), 3);
-    let mut output = Output::new(FlushPolicy::OnSecondLineEnd, writer);
-    output.write_all(b"one\n")?;
-    output.flush()?;
-    for line in ["two\n", "abc\n", "def\n"] {
-        output.write_all(line.as_bytes())?;
+fn write_pieces(output: &mut Output<Marked>, pieces: &[&str]) -> io::Result<()> {
+    for piece in pieces {
+        output.write_all(piece.as_bytes())?;
     }
-    output.write_all(b"end")?;
-    let (writer, finished) = output.finish();
-    finished?;
-    assert!(rt; writer.marks.as_slice() == [3, 4, 7, 8, 11, 14, 16, 19].as_slice());
     Ok(())
 }
 

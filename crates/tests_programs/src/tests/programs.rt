@@ -1,25 +1,18 @@
 //! What a program tells, and the status that it ends with.
-ghost use Rattle.std.specs.Io.{WritesAtMost};
 ghost use Rattle.std.specs.Prelude.{◌≤◌};
 ghost use Rattle.libtest_mimic.specs.Trial.{AllCanRun};
 
-use super::buffers::Marked;
-use super::clocks::clock_of;
-use crate::machine::run_line_on;
-use crate::{Machine, Program, StillClock};
+use super::outputs::Marked;
 use libtest_mimic::{
     Arguments, ArgumentsError, Failed, FormatSetting, Outcome, RunError, Task, Trial,
 };
+use mimic_main::{Machine, Program, StillClock};
 use mimic_testkit::{Fault, FaultyWriter, Place};
 use std::alloc::Global;
-use std::env::FillError;
-use std::io::{ErrorKind, IsTerminal, Write};
-use std::rt::Env;
-use std::sync::Arc;
-use std::sync::atomic::{AtomicUsize, Ordering};
+use std::io::{Eprint, ErrorKind, Write};
+use std::process::{ExitCode, Termination};
 use std::test::Fail;
-use std::time::Duration;
-use std::{fs, io, thread};
+use std::{fs, io};
 
 const PLAIN: Program<'static> = Program {
     name: "plain",
@@ -58,10 +51,10 @@ fn narrow(alloc: Global) -> FaultyWriter {
 struct Left<O> {
     out: O,
     err: String,
-    status: u8,
+    status: ExitCode,
 }
 
-fn run_tests<M: Machine + 'static, R: Task + Send + 'static, O: Write + Drop>(
+fn run_tests<M: Machine + Eprint + 'static, R: Task + Send + 'static, O: Write + Drop>(
     rt: &M,
     program: &Program<'_>,
     line: Result<Arguments, ArgumentsError>,
@@ -74,13 +67,13 @@ fn run_tests<M: Machine + 'static, R: Task + Send + 'static, O: Write + Drop>(
     let alloc = rt.alloc();
     let mut err: Vec<u8> = Vec::new(alloc);
     let (out, status) = program.harness_run(rt, rt, alloc, line, tests, out, &mut err, StillClock);
-    let status = status.into_number();
+    let status = status.report(rt);
     let err = String::from_utf8(err)?;
     Ok(Left { out, err, status })
 }
 
 // Runs one test, which passes.
-fn run_one<M: Machine + 'static, O: Write + Drop>(
+fn run_one<M: Machine + Eprint + 'static, O: Write + Drop>(
     rt: &M,
     program: &Program<'_>,
     line: Result<Arguments, ArgumentsError>,
@@ -93,35 +86,33 @@ fn run_one<M: Machine + 'static, O: Write + Drop>(
     run_tests(rt, program, line, tests, out)
 }
 
-// Lines that gave no arguments, the status, and what is told on standard error.
+// Lines that gave no arguments, the status, and what is written on standard output and on standard error. An output that
+// fails changes nothing of it but what it holds.
 #[test]
-fn tells_why_a_line_gave_nothing(rt: HostRuntime) -> Result<(), Fail> {
+fn says_why_a_line_gave_nothing(rt: HostRuntime) -> Result<(), Fail> {
     let alloc = rt.alloc();
-    let help = ArgumentsError::Help(String::from_str(alloc, "help\n")?);
-    let refused = ArgumentsError::Refused(String::from_str(alloc, " no\n")?);
-    let rows: [(ArgumentsError, u8, &str); 3] = [
-        (help, 0, ""),
-        (refused, 2, " no\n"),
-        (ArgumentsError::OutOfMemory, 1, "plain: out of memory\n"),
+    let rows: [(fn(String) -> ArgumentsError, u8, &str, &str); 3] = [
+        (ArgumentsError::Help, 0, "help\n", ""),
+        (ArgumentsError::Refused, 2, "", "help\n"),
+        (
+            |_| ArgumentsError::OutOfMemory,
+            1,
+            "",
+            "plain: out of memory\n",
+        ),
     ];
-    for (error, status, text) in rows {
-        let left = run_one(&rt, &PLAIN, Err(error), narrow(alloc))?;
-        assert_eq!(rt; left.status, status);
-        assert_eq!(rt; left.err.as_str(), text);
+    for (error, status, on_out, on_err) in rows {
+        let text = String::from_str(alloc, "help\n")?;
+        let out: Vec<u8> = Vec::new(alloc);
+        let left = run_one(&rt, &PLAIN, Err(error(text)), out)?;
+        assert_eq!(rt; left.status, ExitCode::from(status));
+        assert!(rt; left.out.as_slice() == on_out.as_bytes());
+        assert_eq!(rt; left.err.as_str(), on_err);
+        let text = String::from_str(alloc, "help\n")?;
+        let left = run_one(&rt, &PLAIN, Err(error(text)), narrow(alloc))?;
+        assert_eq!(rt; left.status, ExitCode::from(status));
+        assert_eq!(rt; left.err.as_str(), on_err);
     }
-    Ok(())
-}
-
-// Help goes to the output as it is, and nothing is told.
-#[test]
-fn writes_help(rt: HostRuntime) -> Result<(), Fail> {
-    let alloc = rt.alloc();
-    let help = ArgumentsError::Help(String::from_str(alloc, "help\n")?);
-    let out: Vec<u8> = Vec::new(alloc);
-    let left = run_one(&rt, &PLAIN, Err(help), out)?;
-    assert_eq!(rt; left.status, 0);
-    assert!(rt; left.out.as_slice() == b"help\n".as_slice());
-    assert!(rt; left.err.is_empty());
     Ok(())
 }
 
@@ -180,7 +171,7 @@ fn shows_what_is_running(rt: HostRuntime) -> Result<(), Fail> {
             tests.push(Trial::new(String::from_str(alloc, name)?, Looks { rt, path, expected }))?;
         }
         let left = run_tests(&rt, &PLAIN, Ok(args), tests, out)?;
-        assert_eq!(rt; left.status, 0, "{format:?} {is_logged}");
+        assert_eq!(rt; left.status, ExitCode::SUCCESS, "{format:?} {is_logged}");
     }
     fs::remove_file(&rt, path)?;
     Ok(())
@@ -231,7 +222,7 @@ fn shows_what_has_ended(rt: HostRuntime) -> Result<(), Fail> {
         }
         let out = fs::create(&rt, path)?;
         let left = run_tests(&rt, &PLAIN, Ok(args), tests, out)?;
-        assert_eq!(rt; left.status, 0, "{format:?}");
+        assert_eq!(rt; left.status, ExitCode::SUCCESS, "{format:?}");
     }
     fs::remove_file(&rt, path)?;
     Ok(())
@@ -256,7 +247,7 @@ fn writes_at_once_what_comes_at_once(rt: HostRuntime) -> Result<(), Fail> {
             args.format = Some(format);
             args.test_threads = threads;
             let left = run_one(&rt, &PLAIN, Ok(args), Marked::new(alloc, usize::MAX))?;
-            assert_eq!(rt; left.status, 0, "{format:?}");
+            assert_eq!(rt; left.status, ExitCode::SUCCESS, "{format:?}");
             let marks = left.out.marks.as_slice();
             match threads {
                 Some(_) => assert!(rt; marks.first() == Some(&announced.len()), "{format:?}"),
@@ -305,7 +296,7 @@ fn tells_faults(rt: HostRuntime) -> Result<(), Fail> {
             args.logfile = Some(String::from_str(alloc, path)?);
         }
         let left = run_one(&rt, program, Ok(args), narrow(alloc))?;
-        assert_eq!(rt; left.status, 1);
+        assert_eq!(rt; left.status, ExitCode::from(1));
         assert_eq!(rt; left.err.as_str(), text);
     }
     Ok(())
@@ -329,7 +320,7 @@ fn report_of(alloc: Global, names: [&str; 2]) -> Result<String, Fail> {
 }
 
 // Runs two tests that pass, by so many threads.
-fn run_two<M: Machine + 'static>(
+fn run_two<M: Machine + Eprint + 'static>(
     rt: &M,
     threads: usize,
     out: FaultyWriter,
@@ -384,9 +375,10 @@ fn ends_at_a_fault(rt: HostRuntime) -> Result<(), Fail> {
                     "{place:?}"
                 );
                 assert_eq!(rt; left.out.calls_after, 0, "{place:?}");
-                assert_eq!(rt; left.status, u8::from(left.out.has_failed), "{place:?}");
+                let status = ExitCode::from(u8::from(left.out.has_failed));
+                assert_eq!(rt; left.status, status, "{place:?}");
                 assert!(rt;
-                    left.status == 0 && left.err.is_empty()
+                    !left.out.has_failed && left.err.is_empty()
                         || tells_cause(alloc, left.err.as_str(), fault)?,
                     "{place:?} {}",
                     left.err
@@ -394,200 +386,5 @@ fn ends_at_a_fault(rt: HostRuntime) -> Result<(), Fail> {
             }
         }
     }
-    Ok(())
-}
-
-#[test]
-fn tells_why_there_was_no_run(rt: HostRuntime) -> Result<(), Fail> {
-    let mut err: Vec<u8> = Vec::new(rt.alloc());
-    let status = TELLING.refuse(RunError::OutOfMemory, &mut err);
-    assert_eq!(rt; status.into_number(), 1);
-    assert!(rt; err.as_slice() == b"telling: out of memory\n".as_slice());
-    Ok(())
-}
-
-// Colours of its own accord are those of the program, and not in a logfile.
-#[test]
-fn colours_as_the_program_says(rt: HostRuntime) -> Result<(), Fail> {
-    let alloc = rt.alloc();
-    for (program, is_coloured) in [(&PLAIN, false), (&TELLING, true)] {
-        let out: Vec<u8> = Vec::new(alloc);
-        let left = run_one(&rt, program, Ok(Arguments::new(alloc)), out)?;
-        assert_eq!(rt; left.status, 0);
-        assert_eq!(rt;
-            String::from_utf8(left.out)?
-                .as_str()
-                .contains("\u{1b}[32mok"),
-            is_coloured
-        );
-    }
-    Ok(())
-}
-
-// The variables of an environment, each a name and a value.
-type Variables = &'static [(&'static str, &'static str)];
-
-// An environment of a line without options.
-#[derive(Drop)]
-struct Environment {
-    variables: Variables,
-}
-
-impl Env for Environment {
-    fn arg(&self, i: usize, buf: &mut [u8]) -> Result<usize, FillError> {
-        if i > 0 {
-            return Err(FillError::NotPresent);
-        }
-        fill("program", buf)
-    }
-
-    fn var(&self, name: &str, buf: &mut [u8]) -> Result<usize, FillError> {
-        for (known, value) in self.variables {
-            if *known == name {
-                return fill(value, buf);
-            }
-        }
-        Err(FillError::NotPresent)
-    }
-
-    fn var_at(&self, _i: usize, _buf: &mut [u8]) -> Result<usize, FillError> {
-        Err(FillError::NotPresent)
-    }
-}
-
-// Copies the text to the front of the buffer.
-fn fill(text: &str, buf: &mut [u8]) -> Result<usize, FillError>
-    ensures { WritesAtMost result buf.new }
-{
-    let bytes = text.as_bytes();
-    if bytes.len() > buf.len() {
-        return Err(FillError::TooLong);
-    }
-    buf[..bytes.len()].copy_from_slice(bytes);
-    Ok(bytes.len())
-}
-
-// An output in memory.
-#[derive(Drop)]
-struct Screen {
-    is_terminal: bool,
-    bytes: Vec<u8>,
-}
-
-impl IsTerminal for Screen {
-    fn is_terminal(&self) -> bool {
-        self.is_terminal
-    }
-}
-
-impl Write for Screen {
-    fn write(&mut self, buf: &[u8]) -> io::Result<usize> {
-        self.bytes.extend_from_slice(buf)?;
-        Ok(buf.len())
-    }
-
-    fn flush(&mut self) -> io::Result<()> {
-        Ok(())
-    }
-}
-
-// Runs the tests on a machine whose environment has these variables, and whose clock measures one second and a half.
-fn run_on_machine<M: Machine + 'static, R: Task + Send + 'static>(
-    rt: &M,
-    variables: Variables,
-    is_terminal: bool,
-    tests: Vec<Trial<R>>,
-) -> Result<Left<Screen>, Fail>
-    requires { AllCanRun R.can_run tests.items }
-{
-    let alloc = rt.alloc();
-    let env = (Environment { variables }, alloc);
-    let start = Some(Duration::from_nanos(700));
-    let stop = Some(Duration::from_nanos(1_500_000_700));
-    let clock = clock_of([start, stop, None, None, None, None]);
-    let bytes = Vec::new(alloc);
-    let screen = Screen { is_terminal, bytes };
-    let mut err: Vec<u8> = Vec::new(alloc);
-    let (out, status) = run_line_on(
-        rt,
-        rt,
-        &env,
-        &clock,
-        "program",
-        Arguments::from_args(&env, alloc),
-        Ok(tests),
-        screen,
-        &mut err,
-    );
-    let status = status.into_number();
-    let err = String::from_utf8(err)?;
-    Ok(Left { out, err, status })
-}
-
-// A program on machines of known parts: colours on a terminal that can show them, where `NO_COLOR` is unset or empty, and the
-// time that their clock measures.
-#[test]
-fn heeds_its_machine(rt: HostRuntime) -> Result<(), Fail> {
-    let alloc = rt.alloc();
-    let rows: [(Variables, bool, bool); 10] = [
-        (&[("TERM", "xterm-256color")], true, true),
-        (&[("TERM", "xterm-256color")], false, false),
-        (&[("TERM", "vt52")], true, true),
-        (&[("TERM", "")], true, true),
-        (&[("TERM", "dumb")], true, false),
-        (&[], true, false),
-        (&[("TERM", "xterm"), ("NO_COLOR", "1")], true, false),
-        (&[("TERM", "xterm"), ("NO_COLOR", "yes")], true, false),
-        (&[("TERM", "xterm"), ("NO_COLOR", "")], true, true),
-        (&[("TERM", "xterm"), ("NO_COLOR", "")], false, false),
-    ];
-    for (variables, is_terminal, is_coloured) in rows {
-        let tests = vec![in alloc; Trial::new(String::from_str(alloc, "a")?, Pass)]?;
-        let left = run_on_machine(&rt, variables, is_terminal, tests)?;
-        assert_eq!(rt; left.status, 0);
-        assert!(rt; left.err.is_empty());
-        let text = String::from_utf8(left.out.bytes)?;
-        assert_eq!(rt;
-            text.as_str().contains("\u{1b}[32mok"),
-            is_coloured,
-            "{variables:?}"
-        );
-        assert!(rt; text.as_str().ends_with("; finished in 1.50s\n\n"));
-    }
-    Ok(())
-}
-
-// A test that passes once so many of them run.
-#[derive(Drop)]
-struct Meets {
-    running: Arc<AtomicUsize>,
-    awaited: usize,
-}
-
-impl Task for Meets {
-    fn run(self, _test_mode: bool) -> Outcome {
-        self.running.fetch_add(1, Ordering::SeqCst);
-        for _ in 0..100_000_000 {
-            if self.running.load(Ordering::SeqCst) >= self.awaited {
-                return Outcome::Passed;
-            }
-        }
-        Outcome::Failed(Failed::without_message())
-    }
-}
-
-// Where the line leaves it open, as many tests run at once as the machine can run.
-#[test]
-fn runs_in_the_threads_of_its_machine(rt: HostRuntime) -> Result<(), Fail> {
-    let alloc = rt.alloc();
-    let awaited = thread::available_parallelism(&rt)?.get();
-    let running = Arc::new(alloc, AtomicUsize::new(0))?;
-    let mut tests = Vec::new(alloc);
-    for number in 0..awaited {
-        let running = running.clone()?;
-        tests.push(Trial::new(format!(in alloc; "{number}")?, Meets { running, awaited }))?;
-    }
-    let left = run_on_machine(&rt, &[], false, tests)?;
-    assert_eq!(rt; left.status, 0);
     Ok(())
 }

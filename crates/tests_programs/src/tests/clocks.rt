@@ -1,45 +1,14 @@
 //! The machine's clock, over one whose readings are known.
-use crate::{MonotonicClock, StillClock};
 use libtest_mimic::{Clock, Stopwatch};
-use std::cell::Cell;
-use std::io;
-use std::io::ErrorKind;
+use mimic_main::{MonotonicClock, StillClock};
+use mimic_testkit::KnownReadings;
 use std::test::Fail;
 use std::time::Duration;
-
-// Reads these durations one after another. `None` is a reading that fails, as are all after the last one.
-#[derive(Drop)]
-pub(crate) struct Known {
-    count: Cell<usize>,
-    readings: [Option<Duration>; 6],
-}
-
-impl std::rt::Clock for Known {
-    fn monotonic(&self) -> io::Result<Duration> {
-        let count = self.count.get();
-        self.count.set(count.saturating_add(1));
-        match self.readings.get(count) {
-            Some(Some(reading)) => Ok(*reading),
-            _ => Err(io::Error::from(ErrorKind::Unsupported)),
-        }
-    }
-
-    fn since_1970(&self) -> io::Result<Duration> {
-        Err(io::Error::from(ErrorKind::Unsupported))
-    }
-}
-
-pub(crate) fn clock_of(readings: [Option<Duration>; 6]) -> Known {
-    Known {
-        count: Cell::new(0),
-        readings,
-    }
-}
 
 // A reading counts nanoseconds; one that fails, and one that no `u64` holds, repeats the one before.
 #[test]
 fn reads_nanoseconds(rt: HostRuntime) -> Result<(), Fail> {
-    let machine = clock_of([
+    let machine = KnownReadings::new([
         None,
         Some(Duration::new(1, 500_000_007)),
         None,
@@ -59,7 +28,7 @@ fn reads_nanoseconds(rt: HostRuntime) -> Result<(), Fail> {
     ] {
         assert_eq!(rt; clock.now(), nanos);
     }
-    assert_eq!(rt; machine.count.get(), 7);
+    assert_eq!(rt; machine.count(), 7);
     Ok(())
 }
 
@@ -67,7 +36,7 @@ fn reads_nanoseconds(rt: HostRuntime) -> Result<(), Fail> {
 fn measures_a_duration(rt: HostRuntime) -> Result<(), Fail> {
     let start = Duration::new(7, 999_999_999);
     let stop = Duration::new(8, 1);
-    let machine = clock_of([Some(start), Some(stop), None, None, None, None]);
+    let machine = KnownReadings::new([Some(start), Some(stop), None, None, None, None]);
     let mut watch = Stopwatch::new(MonotonicClock::new(&machine));
     watch.start();
     watch.stop();
