@@ -76,13 +76,17 @@ skip_rule = record (option_rule (codes "skip")) { action = Some Append }
 abbrev pub filter_rule : Rule
 filter_rule = record (new_rule (codes "filter")) { value_names = 1; action = Some Append }
 
--- the flags: `test` excludes `bench`, and `quiet`, also `-q`, excludes `format` (the Rust crate's)
-abbrev pub flag_options : Options
-flag_options = plus (plus (plus (plus (plus (plus (plus (plus (plus (new_app (codes "harness"), [])
+-- the flags that choose among trials: `test` excludes `bench` (the Rust crate's)
+abbrev pub choice_options : Options
+choice_options = plus (plus (plus (plus (new_app (codes "harness"), [])
     (alone (flag_rule (codes "include-ignored"))))
     (alone (flag_rule (codes "ignored"))))
     (excluding (alone (flag_rule (codes "test"))) (codes "bench")))
-    (alone (flag_rule (codes "bench"))))
+    (alone (flag_rule (codes "bench")))
+
+-- all flags: `quiet`, also `-q`, excludes `format` (the Rust crate's)
+abbrev pub flag_options : Options
+flag_options = plus (plus (plus (plus (plus choice_options
     (alone (flag_rule (codes "list"))))
     (alone (flag_rule (codes "nocapture"))))
     (alone (flag_rule (codes "show-output"))))

@@ -1,8 +1,8 @@
 //! The options of a harness, as they are declared to `clap`.
-ghost use Rattle.std.specs.Prelude.{◌≡◌, false, IfOk, codes, map};
+ghost use Rattle.std.specs.Prelude.{◌≡◌, false, IfOk, Some, codes, map};
 ghost use Rattle.clap.specs.Walk.{texts};
 ghost use Rattle.clap.specs.declared.builder.value_parser.ValueParser.{ValueParser};
-ghost use Rattle.mimic_args.specs.CommandLine.{TakesOnly, alone, declared_of, excluding, filter_rule, flag_options, flag_rule, option_rule, options_of, plus, read_by, skip_rule, threads_rule, unstable_rule};
+ghost use Rattle.mimic_args.specs.CommandLine.{TakesOnly, alone, choice_options, declared_of, excluding, filter_rule, flag_options, flag_rule, option_rule, options_of, plus, read_by, skip_rule, threads_rule, unstable_rule};
 ghost use Rattle.mimic_args.specs.Matched.{color_name, colors, unstable_name, unstables};
 ghost use Rattle.mimic_text.specs.Formats.{format_name, formats};
 
@@ -15,31 +15,51 @@ static FORMATS: [&str; 3] = ["pretty", "terse", "json"];
 
 static UNSTABLE: [&str; 1] = ["unstable-options"];
 
+// A command with the flags that choose among trials.
+fn with_choices<'a>(alloc: Global) -> Result<Command<'a>, AllocError>
+    ensures { IfOk result (λ r. options_of r ≡ choice_options) }
+{
+    let c = Command::new(alloc, "harness");
+    let help = "Run ignored tests as well";
+    let c = with(c, flag(alloc, "include-ignored", help))?;
+    let c = with(c, flag(alloc, "ignored", "Run only ignored tests"))?;
+    let c = with(c, test(alloc)?)?;
+    let help = "Run and measure benchmarks; tests count as ignored";
+    let c = with(c, flag(alloc, "bench", help))?;
+    Ok(c)
+}
+
+fn test<'a>(alloc: Global) -> Result<Arg<'a>, AllocError>
+    ensures declared { IfOk result (λ r. declared_of r ≡ excluding (alone (flag_rule (codes "test"))) (codes "bench")) }
+    ensures local { IfOk result (λ r. r.global ≡ false) }
+{
+    let help = "Run tests; benchmarks count as ignored";
+    excluded(flag(alloc, "test", help), "bench")
+}
+
 // A command with the flags alone.
 pub(super) fn with_flags<'a>(alloc: Global) -> Result<Command<'a>, AllocError>
     ensures { IfOk result (λ r. options_of r ≡ flag_options) }
 {
-    let include_ignored = "Run ignored tests as well";
-    let test = "Run tests; benchmarks count as ignored";
-    let bench = "Run and measure benchmarks; tests count as ignored";
-    let list = "List tests and benchmarks, and run none";
-    let nocapture = "Print output of tests at once (no effect: it is never held back)";
-    let show_output = "Print output of tests that pass (no effect: it is never held back)";
-    let exact = "Match each FILTER exactly, not as a part of a full name";
-    let test = excluded(flag(alloc, "test", test), "bench")?;
-    let quiet = flag(alloc, "quiet", "Use the terse format").short('q');
-    let quiet = excluded(quiet, "format")?;
-    let c = Command::new(alloc, "harness");
-    let c = with(c, flag(alloc, "include-ignored", include_ignored))?;
-    let c = with(c, flag(alloc, "ignored", "Run only ignored tests"))?;
-    let c = with(c, test)?;
-    let c = with(c, flag(alloc, "bench", bench))?;
-    let c = with(c, flag(alloc, "list", list))?;
-    let c = with(c, flag(alloc, "nocapture", nocapture))?;
-    let c = with(c, flag(alloc, "show-output", show_output))?;
-    let c = with(c, flag(alloc, "exact", exact))?;
-    let c = with(c, quiet)?;
+    let c = with_choices(alloc)?;
+    let help = "List tests and benchmarks, and run none";
+    let c = with(c, flag(alloc, "list", help))?;
+    let help = "Print output of tests at once (no effect: it is never held back)";
+    let c = with(c, flag(alloc, "nocapture", help))?;
+    let help = "Print output of tests that pass (no effect: it is never held back)";
+    let c = with(c, flag(alloc, "show-output", help))?;
+    let help = "Match each FILTER exactly, not as a part of a full name";
+    let c = with(c, flag(alloc, "exact", help))?;
+    let c = with(c, quiet(alloc)?)?;
     Ok(c)
+}
+
+fn quiet<'a>(alloc: Global) -> Result<Arg<'a>, AllocError>
+    ensures declared { IfOk result (λ r. declared_of r ≡ excluding (alone (record (flag_rule (codes "quiet")) { short = Some 113 })) (codes "format")) }
+    ensures local { IfOk result (λ r. r.global ≡ false) }
+{
+    let quiet = flag(alloc, "quiet", "Use the terse format").short('q');
+    excluded(quiet, "format")
 }
 
 // The command with one more argument.
