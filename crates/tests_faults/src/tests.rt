@@ -4,6 +4,7 @@
 mod lists;
 mod memory;
 mod refusals;
+mod refused_workers;
 mod runs;
 mod texts;
 mod threads;
