@@ -159,6 +159,3 @@ impl Arguments {
         }
     }
 }
-
-#[cfg(test)]
-mod tests;

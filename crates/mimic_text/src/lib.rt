@@ -79,6 +79,3 @@ fn write_grouped(digits: &[u8], buf: &mut [u8; 26]) -> usize
     }
     at
 }
-
-#[cfg(test)]
-mod tests;

@@ -1,1 +1,5 @@
 //! Calls of the layers one by one, with what no run shows of them.
+mod command_lines;
+mod printing;
+mod texts;
+mod trials;

@@ -41,7 +41,7 @@ fn all_listed(alloc: Global) -> Result<Vec<Trial<Unrun>>, AllocError> {
     Ok(tests)
 }
 
-// How a call at the place tells the fault: a flush has no answer that it took no byte.
+// How a call at the place reports the fault: a flush can't return that it took no byte.
 fn told_at(place: Place, fault: Fault) -> Fault {
     match (place, fault) {
         (Place::Flush(_), Fault::TakesNone) => Fault::Error(ErrorKind::WriteZero),
@@ -49,7 +49,7 @@ fn told_at(place: Place, fault: Fault) -> Fault {
     }
 }
 
-// Whether so many bytes of the list may stand where a call at the place failed.
+// Whether so many bytes of the list may stand if a call at the place failed.
 fn may_stand(place: Place, len: usize) -> bool {
     match place {
         Place::Byte(count) => len == count,

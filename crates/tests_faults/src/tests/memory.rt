@@ -1,8 +1,8 @@
-//! Refused memory: what may be answered where the Nth allocation fails, for any N. `bench/refuse_memory` makes each fail in
-//! turn; without it none does, and a test shows the answer with ample memory alone. All that is handed in is made beforehand; where that fails, a test says nothing.
+//! Refused memory: what may be returned if the Nth allocation fails, for any N. `bench/refuse_memory` makes each fail in
+//! turn; without it none does, and a test shows what comes with ample memory alone. All that is handed in is made
+//! beforehand; if that fails, a test says nothing.
 use super::runs::{Left, Marks, asking, marking, outcome_with, run_into};
 use libtest_mimic::{Arguments, ArgumentsError, FormatSetting, Outcome, RunError, Trial};
-use mimic_events::{Feed, Report, read_report};
 use mimic_testkit::FaultyWriter;
 use std::alloc::{AllocError, Global};
 use std::test::Fail;
@@ -39,7 +39,7 @@ fn roomy(alloc: Global) -> Result<FaultyWriter, AllocError> {
     Ok(writer)
 }
 
-// Whether a run may leave this, where it may want memory and, with workers, threads.
+// Whether a run may leave this if it wants memory or, with workers, threads.
 fn is_allowed(left: &Left, threads: usize, reports: &[Vec<u8>; 2]) -> bool {
     let bytes = &left.writer.bytes;
     match &left.answer {
@@ -93,53 +93,6 @@ fn wants_no_memory_for_a_list(rt: HostRuntime) -> Result<(), Fail> {
                 .count(),
             5
         );
-    }
-    Ok(())
-}
-
-fn has_rows(report: &Report, rows: &[(&str, &str, Outcome)]) -> bool {
-    let mut found = report.rows.iter().zip(rows);
-    report.rows.len() == rows.len()
-        && found.all(|(row, (name, kind, outcome))| {
-            row.name.as_str() == *name && row.kind.as_str() == *kind && row.outcome == *outcome
-        })
-}
-
-#[test]
-fn reads_whole_or_wants_memory(rt: HostRuntime) -> Result<(), Fail> {
-    let alloc = rt.alloc();
-    let bytes = joined(alloc, [0, 1, 2, 3])?;
-    let rows = [
-        ("a", "", Outcome::Passed),
-        ("b", "k", outcome_with(alloc, Some("Woops"))?),
-    ];
-    if let Ok(report) = read_report(alloc, &bytes) {
-        assert!(rt; report.is_some_and(|report| has_rows(&report, &rows)));
-    }
-    Ok(())
-}
-
-// A feed that was refused once is refused from then on.
-#[test]
-fn feeds_whole_or_wants_memory(rt: HostRuntime) -> Result<(), Fail> {
-    let alloc = rt.alloc();
-    let bytes = joined(alloc, [0, 1, 2, 3])?;
-    let rows = [
-        ("a", "", Outcome::Passed),
-        ("b", "k", outcome_with(alloc, Some("Woops"))?),
-    ];
-    let mut feed = Feed::new(alloc)?;
-    let mut is_refused = false;
-    for byte in bytes.chunks(1) {
-        let is_taken = feed.feed(byte).is_ok();
-        assert!(rt; !(is_refused && is_taken));
-        is_refused = !is_taken;
-    }
-    match feed.finish() {
-        Ok(report) => assert!(rt;
-            !is_refused && report.is_some_and(|report| has_rows(&report, &rows))
-        ),
-        Err(AllocError) => assert!(rt; is_refused),
     }
     Ok(())
 }

@@ -1,4 +1,4 @@
-//! What is told of a refusal.
+//! What a refusal displays.
 use libtest_mimic::{RunError, WriteFault};
 use std::test::Fail;
 

@@ -2,23 +2,13 @@
 ghost use Rattle.mimic_trial.specs.Trial.{AllCanRun};
 
 use libtest_mimic::{
-    Arguments, Clock, Conclusion, Failed, FormatSetting, Outcome, RunError, Sink, Spawner,
-    Stopwatch, Task, Trial, WriteFault, run, run_here,
+    Arguments, Conclusion, Failed, FormatSetting, Outcome, RunError, Sink, Spawner, Stopwatch,
+    Task, Trial, WriteFault, run, run_here,
 };
-use mimic_testkit::{Fault, FaultyWriter};
+use mimic_testkit::{Fault, FaultyWriter, TwoReadings};
 use std::alloc::{AllocError, Global};
 use std::sync::Arc;
 use std::sync::atomic::{AtomicBool, Ordering};
-
-// A clock that stands still.
-#[derive(Drop)]
-pub(super) struct Still;
-
-impl Clock for Still {
-    fn now(&mut self) -> u64 {
-        0
-    }
-}
 
 // Raises its flag, and becomes its outcome. It takes no memory.
 #[derive(Drop)]
@@ -76,7 +66,7 @@ pub(super) struct Left {
 }
 
 impl Left {
-    // Whether the run was refused for this fault, which it counted once, or not refused where there is none; and asked
+    // Whether the run was refused for this fault, which it counted once, or not refused if there is none; and asked
     // nothing of the writer after it.
     pub(super) fn is_stopped_by(&self, fault: Option<Fault>) -> bool {
         let is_told = match (&self.answer, fault) {
@@ -91,7 +81,7 @@ impl Left {
     }
 }
 
-// By `run` where the arguments give a number of threads, else by `run_here`.
+// By `run` if the arguments give a number of threads, else by `run_here`.
 pub(super) fn run_into<R: Task + Send + 'static, T: Spawner + 'static>(
     rt: &T,
     alloc: Global,
@@ -102,7 +92,7 @@ pub(super) fn run_into<R: Task + Send + 'static, T: Spawner + 'static>(
     requires { AllCanRun R.can_run tests.items }
 {
     let mut sink = Sink::new(writer);
-    let mut watch = Stopwatch::new(Still);
+    let mut watch = Stopwatch::new(TwoReadings::still());
     let answer = if args.test_threads.is_some() {
         run(rt, alloc, args, tests, &mut sink, &mut watch, 1, false)
     } else {

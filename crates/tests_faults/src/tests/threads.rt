@@ -1,46 +1,56 @@
 //! Runs in worker threads: that workers run at the same time, that rows come as trials end, and runs without a thread.
-use super::runs::Still;
 use libtest_mimic::{
     Arguments, Conclusion, Failed, FormatSetting, Outcome, RunError, Sink, Spawner, Stopwatch,
     Task, Trial, run,
 };
+use mimic_testkit::TwoReadings;
 use std::alloc::{AllocError, Global};
-use std::io;
 use std::io::Write;
+use std::rt::Clock;
 use std::sync::Arc;
 use std::sync::atomic::{AtomicBool, Ordering};
 use std::test::Fail;
+use std::time::Duration;
+use std::{io, thread};
 
-// How often a look for a flag is repeated at most.
-const TURNS: u64 = 100_000_000;
+// How often a trial looks for a flag, a millisecond apart, before it gives up.
+const TURNS: u64 = 30_000;
 
-fn is_raised_in_time(flag: &AtomicBool) -> bool {
-    for _ in 0..TURNS {
+// How often a trial looks that is to give up.
+const FEW_TURNS: u64 = 100;
+
+fn is_raised_in_time<M: Clock>(machine: &M, turns: u64, flag: &AtomicBool) -> bool {
+    for _ in 0..turns {
         if flag.load(Ordering::SeqCst) {
             return true;
         }
+        thread::sleep(machine, Duration::from_millis(1));
     }
     false
 }
 
-// Raises its flag, and passes where each of the awaited ones is raised in time; else it fails with the message.
+// Raises its flag, and passes if each of the awaited ones is raised in time; else it fails with the message.
 #[derive(Drop)]
-struct Meets {
+struct Meets<M> {
+    machine: M,
+    turns: u64,
     raised: Arc<AtomicBool>,
     awaited: Vec<Arc<AtomicBool>>,
     not_met: String,
 }
 
-impl Task for Meets {
+impl<M: Clock + Drop> Task for Meets<M> {
     fn run(self, _test_mode: bool) -> Outcome {
         let Meets {
+            machine,
+            turns,
             raised,
             awaited,
             not_met,
         } = self;
         raised.store(true, Ordering::SeqCst);
         for flag in &awaited {
-            if !is_raised_in_time(flag) {
+            if !is_raised_in_time(&machine, turns, flag) {
                 return Outcome::Failed(Failed::with_message(not_met));
             }
         }
@@ -52,18 +62,22 @@ fn new_flag(alloc: Global) -> Result<Arc<AtomicBool>, AllocError> {
     Ok(Arc::new(alloc, AtomicBool::new(false))?)
 }
 
-// A trial of this name that raises the one flag and awaits the others.
-fn meeting(
+// A trial of this name that raises the one flag and awaits the others, each for so many turns.
+fn meeting<M: Clock + Drop>(
+    machine: M,
     alloc: Global,
     name: &str,
+    turns: u64,
     raised: &Arc<AtomicBool>,
     awaited: &[&Arc<AtomicBool>],
-) -> Result<Trial<Meets>, AllocError> {
+) -> Result<Trial<Meets<M>>, AllocError> {
     let mut flags = Vec::with_capacity(alloc, awaited.len())?;
     for flag in awaited {
         flags.push(Arc::try_clone(*flag)?)?;
     }
     let runner = Meets {
+        machine,
+        turns,
         raised: Arc::try_clone(raised)?,
         awaited: flags,
         not_met: String::from_str(alloc, "not met")?,
@@ -71,28 +85,32 @@ fn meeting(
     Ok(Trial::new(String::from_str(alloc, name)?, runner))
 }
 
-// So many of three trials `a`, `b`, `c`, but no more than those, that all await one another.
-fn that_meet(alloc: Global, count: usize) -> Result<Vec<Trial<Meets>>, AllocError> {
+// Trials `a`, `b`, `c` that all await one another: one for each of these numbers of turns, but no more than those.
+fn that_meet<M: Clock + Copy + Drop>(
+    machine: M,
+    alloc: Global,
+    turns: &[u64],
+) -> Result<Vec<Trial<Meets<M>>>, AllocError> {
     let (a, b, c) = (new_flag(alloc)?, new_flag(alloc)?, new_flag(alloc)?);
     let all = [&a, &b, &c];
-    let flags = &all[..count.min(all.len())];
+    let flags = &all[..turns.len().min(all.len())];
     let mut trials = Vec::new(alloc);
-    for (name, flag) in ["a", "b", "c"].iter().zip(flags) {
-        trials.push(meeting(alloc, name, flag, flags)?)?;
+    for ((name, flag), turns) in ["a", "b", "c"].iter().zip(flags).zip(turns) {
+        trials.push(meeting(machine, alloc, name, *turns, flag, flags)?)?;
     }
     Ok(trials)
 }
 
-// What a run by so many threads writes and answers.
-fn run_by<T: Spawner + 'static>(
+// What a run by so many threads returns and writes.
+fn run_by<T: Spawner + Clock + 'static>(
     rt: &T,
     alloc: Global,
     threads: usize,
     format: FormatSetting,
-    tests: Vec<Trial<Meets>>,
+    tests: Vec<Trial<Meets<T>>>,
 ) -> Result<(Conclusion, Vec<u8>), RunError> {
     let mut sink = Sink::new(Vec::new(alloc));
-    let mut watch = Stopwatch::new(Still);
+    let mut watch = Stopwatch::new(TwoReadings::still());
     let mut args = Arguments::new(alloc);
     args.test_threads = Some(threads);
     args.format = Some(format);
@@ -100,21 +118,25 @@ fn run_by<T: Spawner + 'static>(
     Ok((conclusion, sink.into_inner()))
 }
 
-// As many workers as were asked for run at the same time; a trial without one waits its turn.
+// As many workers as were asked for run at the same time. A trial without one waits its turn, and comes when the first one
+// has given up.
 #[test]
 fn runs_as_many_as_asked(rt: HostRuntime) -> Result<(), Fail> {
     let alloc = rt.alloc();
-    for (trials, threads) in [(2, 2), (2, 20), (2, usize::MAX), (3, 3)] {
-        let (conclusion, _) = run_by(
-            &rt,
-            alloc,
-            threads,
-            FormatSetting::Pretty,
-            that_meet(alloc, trials)?,
-        )?;
-        assert_eq!(rt; conclusion.num_passed, trials as u64);
+    let rows: [(&[u64], usize); 4] = [
+        (&[TURNS; 2], 2),
+        (&[TURNS; 2], 20),
+        (&[TURNS; 2], usize::MAX),
+        (&[TURNS; 3], 3),
+    ];
+    for (turns, threads) in rows {
+        let tests = that_meet(rt, alloc, turns)?;
+        let (conclusion, _) = run_by(&rt, alloc, threads, FormatSetting::Pretty, tests)?;
+        assert_eq!(rt; conclusion.num_passed, turns.len() as u64);
     }
-    let (_, bytes) = run_by(&rt, alloc, 2, FormatSetting::Pretty, that_meet(alloc, 3)?)?;
+    let tests = that_meet(rt, alloc, &[FEW_TURNS, TURNS, TURNS])?;
+    let (conclusion, bytes) = run_by(&rt, alloc, 2, FormatSetting::Pretty, tests)?;
+    assert_eq!(rt; (conclusion.num_passed, conclusion.num_failed), (2, 1));
     let report = str::from_utf8(&bytes)?;
     assert!(rt; report.contains("test a ... FAILED\n"));
     assert!(rt; report.contains("---- a ----\nnot met\n"));
@@ -150,14 +172,14 @@ fn writes_a_row_when_its_trial_has_ended(rt: HostRuntime) -> Result<(), Fail> {
     let alloc = rt.alloc();
     let (written, unread) = (new_flag(alloc)?, new_flag(alloc)?);
     let tests = vec![in alloc;
-        meeting(alloc, "a", &unread, &[])?,
-        meeting(alloc, "b", &unread, &[&written])?,
+        meeting(rt, alloc, "a", TURNS, &unread, &[])?,
+        meeting(rt, alloc, "b", TURNS, &unread, &[&written])?,
     ]?;
     let mut sink = Sink::new(Raising {
         line_ends: 0,
         flag: written,
     });
-    let mut watch = Stopwatch::new(Still);
+    let mut watch = Stopwatch::new(TwoReadings::still());
     let args = Arguments::new(alloc);
     let conclusion = run(&rt, alloc, &args, tests, &mut sink, &mut watch, 2, false)?;
     assert_eq!(rt; conclusion.num_passed, 2);
@@ -180,7 +202,13 @@ const PAIRS: [&str; 2] = [
 #[test]
 fn keeps_pairs_of_lines_together(rt: HostRuntime) -> Result<(), Fail> {
     let alloc = rt.alloc();
-    let (_, bytes) = run_by(&rt, alloc, 2, FormatSetting::Json, that_meet(alloc, 2)?)?;
+    let (_, bytes) = run_by(
+        &rt,
+        alloc,
+        2,
+        FormatSetting::Json,
+        that_meet(rt, alloc, &[TURNS; 2])?,
+    )?;
     let lines = str::from_utf8(&bytes)?;
     let (_, pairs) = lines.split_once('\n').ok_or("one line")?;
     assert!(rt; pairs.starts_with(PAIRS[0]) || pairs.starts_with(PAIRS[1]));
@@ -188,7 +216,7 @@ fn keeps_pairs_of_lines_together(rt: HostRuntime) -> Result<(), Fail> {
     Ok(())
 }
 
-// Passes where its number is even, and else fails.
+// Passes if its number is even, and else fails.
 #[derive(Drop)]
 struct Numbered {
     number: u64,
@@ -218,7 +246,7 @@ fn counts_each_of_many(rt: HostRuntime) -> Result<(), Fail> {
             tests.push(Trial::new(name, Numbered { number }).with_ignored_flag(ignored))?;
         }
         let mut sink = Sink::new(Vec::new(alloc));
-        let mut watch = Stopwatch::new(Still);
+        let mut watch = Stopwatch::new(TwoReadings::still());
         let conclusion = run(
             &rt, alloc, &args, tests, &mut sink, &mut watch, threads, false,
         )?;
@@ -241,31 +269,37 @@ fn wants_a_thread_for_a_trial(rt: HostRuntime) -> Result<(), Fail> {
     let mut args = Arguments::new(alloc);
     args.test_threads = Some(0);
     let mut sink = Sink::new(Vec::new(alloc));
-    let mut watch = Stopwatch::new(Still);
-    let tests = that_meet(alloc, 1)?;
+    let mut watch = Stopwatch::new(TwoReadings::still());
+    let tests = that_meet(rt, alloc, &[TURNS])?;
     let refused = run(&rt, alloc, &args, tests, &mut sink, &mut watch, 4, false).err();
     assert!(rt; matches!(refused, Some(RunError::ZeroThreads)));
     assert!(rt; sink.into_inner().is_empty());
     assert!(rt; watch.is_running());
     let (_, bytes) = run_by(&rt, alloc, 0, FormatSetting::Pretty, Vec::new(alloc))?;
     assert!(rt; bytes.as_slice() == NO_TESTS);
-    let (conclusion, _) = run_by(&rt, alloc, 1, FormatSetting::Pretty, that_meet(alloc, 1)?)?;
+    let (conclusion, _) = run_by(
+        &rt,
+        alloc,
+        1,
+        FormatSetting::Pretty,
+        that_meet(rt, alloc, &[TURNS])?,
+    )?;
     assert_eq!(rt; conclusion.num_passed, 1);
     args.filter.push(String::from_str(alloc, "z")?)?;
     let mut sink = Sink::new(Vec::new(alloc));
-    let mut watch = Stopwatch::new(Still);
-    let tests = that_meet(alloc, 1)?;
+    let mut watch = Stopwatch::new(TwoReadings::still());
+    let tests = that_meet(rt, alloc, &[TURNS])?;
     let conclusion = run(&rt, alloc, &args, tests, &mut sink, &mut watch, 4, false)?;
     assert_eq!(rt; conclusion.num_filtered_out, 1);
     args.filter.clear();
     args.list = true;
     let mut sink = Sink::new(Vec::new(alloc));
-    let mut watch = Stopwatch::new(Still);
+    let mut watch = Stopwatch::new(TwoReadings::still());
     run(
         &rt,
         alloc,
         &args,
-        that_meet(alloc, 1)?,
+        that_meet(rt, alloc, &[TURNS])?,
         &mut sink,
         &mut watch,
         4,

@@ -1,14 +1,12 @@
-//! Writers that fail: what they hold then, what is answered, and which runners were called.
+//! Writers that fail: what they hold then, what a run returns, and which runners were called.
+use super::faulty_writer::FULL;
 use super::runs::{Left, Marks, asking, marking, outcome_with, run_into};
 use libtest_mimic::{FormatSetting, Outcome, Sink, Spawner, Trial, WriteFault};
 use mimic_testkit::{Fault, FaultyWriter, Place};
 use std::alloc::{AllocError, Global};
-use std::io::ErrorKind;
 use std::sync::Arc;
 use std::sync::atomic::{AtomicBool, Ordering};
 use std::test::Fail;
-
-const FULL: Fault = Fault::Error(ErrorKind::StorageFull);
 
 // A report of two tests, the second of which passes or fails with a message: where its two rows begin and end, after how
 // many bytes each test runs with one thread, which is where its announcement has ended; where its summary begins, and where
@@ -119,7 +117,7 @@ const BY_ONE_THREAD: [(Report, usize, Option<usize>); 7] = [
 ];
 
 // After a fault what came before it stands and nothing more is asked of the writer, though that is well again; the
-// watch runs on where the summary had not begun.
+// watch runs on if the summary had not begun.
 #[test]
 fn stops_at_each_byte(rt: HostRuntime) -> Result<(), Fail> {
     let alloc = rt.alloc();

@@ -1,15 +1,12 @@
 //! The example at the head of the library.
-use super::in_memory::Times;
 use libtest_mimic::{Arguments, Sink, Stopwatch, Trial, check, run_here};
+use mimic_testkit::TwoReadings;
 use std::test::Fail;
 
 #[test]
 fn first_page(rt: HostRuntime) -> Result<(), Fail> {
     let alloc = rt.alloc();
-    let clock = Times {
-        first: 0,
-        second: 0,
-    };
+    let clock = TwoReadings::still();
     let cases = vec![in alloc; ("one", 1), ("two", 2)]?;
     let tests = Trial::of_cases(alloc, cases, move |number| {
         check!(in alloc; number < 2, "{number} is too large")

@@ -1,9 +1,10 @@
 //! Whole reports over memory.
-use super::in_memory::{Raised, Times, run_ample};
+use super::in_memory::run_ample;
 use super::test_trial;
 use libtest_mimic::{
     Arguments, ColorSetting, Conclusion, Failed, FormatSetting, Sink, Stopwatch, Trial, run_here,
 };
+use mimic_testkit::{RaisedClock, TwoReadings};
 use std::process::ExitCode;
 use std::sync::Arc;
 use std::sync::atomic::{AtomicU64, Ordering};
@@ -29,8 +30,8 @@ const TWO_TESTS_JSON: &[u8] = br#"{ "type": "suite", "event": "started", "test_c
 const NO_TESTS: &[u8] =
     b"\nrunning 0 tests\n\ntest result: ok. 0 passed; 0 failed; 0 ignored; 0 measured; 0 filtered out; finished in 0.00s\n\n";
 
-const NO_MESSAGES: &[u8] =
-    b"\nrunning 2 tests\ntest a ... FAILED\ntest b ... FAILED\n\nfailures:\n\n---- a ----\n\n---- b ----\n\n\n\nfailures:\n    a\n    b\n\ntest result: FAILED. 0 passed; 2 failed; 0 ignored; 0 measured; 0 filtered out; finished in 0.00s\n\n";
+const MESSAGES: &[u8] =
+    b"\nrunning 4 tests\ntest a ... FAILED\ntest b ... FAILED\ntest c ... FAILED\ntest f ... FAILED\n\nfailures:\n\n---- a ----\n\n---- b ----\n\n\n---- c ----\none\ntwo\n\n---- f ----\n7\n\n\nfailures:\n    a\n    b\n    c\n    f\n\ntest result: FAILED. 0 passed; 4 failed; 0 ignored; 0 measured; 0 filtered out; finished in 0.00s\n\n";
 
 // A format, a colour setting, the report, and how often it is flushed.
 #[derive(Clone, Copy)]
@@ -137,7 +138,7 @@ fn tells_the_time(rt: HostRuntime) -> Result<(), Fail> {
             let mut args = Arguments::new(alloc);
             args.format = Some(format);
             let mut sink = Sink::new(Vec::new(alloc));
-            let mut watch = Stopwatch::new(Times { first, second });
+            let mut watch = Stopwatch::new(TwoReadings { first, second });
             assert!(rt; watch.is_fresh());
             run_here(
                 alloc,
@@ -154,7 +155,7 @@ fn tells_the_time(rt: HostRuntime) -> Result<(), Fail> {
     Ok(())
 }
 
-// The time told is that which the trials took: a runner raises the clock while it runs.
+// The time reported is that which the trials took: a runner raises the clock while it runs.
 #[test]
 fn times_the_trials(rt: HostRuntime) -> Result<(), Fail> {
     let alloc = rt.alloc();
@@ -174,7 +175,7 @@ fn times_the_trials(rt: HostRuntime) -> Result<(), Fail> {
         let mut args = Arguments::new(alloc);
         args.format = Some(format);
         let mut sink = Sink::new(Vec::new(alloc));
-        let mut watch = Stopwatch::new(Raised { nanos });
+        let mut watch = Stopwatch::new(RaisedClock { nanos });
         run_here(alloc, &args, tests, &mut sink, &mut watch, false)?;
         assert_eq!(rt; watch.elapsed(), Some(1_500_000_000));
         assert!(rt; sink.into_inner().ends_with(end));
@@ -182,9 +183,10 @@ fn times_the_trials(rt: HostRuntime) -> Result<(), Fail> {
     Ok(())
 }
 
-// Messages: none, an empty one, one of two lines, and a number that was displayed.
+// Messages: none, an empty one, one of two lines, and a number that was displayed. A failure with an empty message has one
+// line end more than one without a message.
 #[test]
-fn shows_messages(rt: HostRuntime) -> Result<(), Fail> {
+fn shows_an_empty_message(rt: HostRuntime) -> Result<(), Fail> {
     let alloc = rt.alloc();
     let empty = String::new(alloc);
     let lines = String::from_str(alloc, "one\ntwo")?;
@@ -195,31 +197,8 @@ fn shows_messages(rt: HostRuntime) -> Result<(), Fail> {
         test_trial!(alloc, "c", move || Err(Failed::with_message(lines))),
         test_trial!(alloc, "f", move || Err(seven)),
     ]?;
-    let (conclusion, writer) = run_ample(alloc, &Arguments::new(alloc), tests)?;
-    assert_eq!(rt; conclusion.num_failed, 4);
-    let failures: &[u8] =
-        b"\nfailures:\n\n---- a ----\n\n---- b ----\n\n\n---- c ----\none\ntwo\n\n---- f ----\n7\n\n\nfailures:\n    a\n    b\n    c\n    f\n\ntest result: FAILED. ";
-    assert!(rt;
-        writer
-            .bytes
-            .as_slice()
-            .windows(failures.len())
-            .any(|part| part == failures)
-    );
-    Ok(())
-}
-
-// A failure with an empty message has one line end more than one without a message.
-#[test]
-fn shows_an_empty_message(rt: HostRuntime) -> Result<(), Fail> {
-    let alloc = rt.alloc();
-    let empty = String::new(alloc);
-    let tests = vec![in alloc;
-        test_trial!(alloc, "a", || Err(Failed::without_message())),
-        test_trial!(alloc, "b", move || Err(Failed::with_message(empty))),
-    ]?;
     let (_, writer) = run_ample(alloc, &Arguments::new(alloc), tests)?;
-    assert!(rt; writer.bytes.as_slice() == NO_MESSAGES);
+    assert!(rt; writer.bytes.as_slice() == MESSAGES);
     Ok(())
 }
 

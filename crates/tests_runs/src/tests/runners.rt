@@ -3,7 +3,7 @@ ghost use Rattle.std.specs.Prelude.{◌≡◌, ◌+◌, ◌==◌, IfOk, None, if
 ghost use Rattle.mimic_trial.specs.declared.outcome.Outcome.TheVariants.{Failed as AFailed, Passed as APassed};
 
 use super::in_memory::run_ample;
-use libtest_mimic::{Arguments, Conclusion, Failed, Measurement, Outcome, Task, TestInfo, Trial};
+use libtest_mimic::{Arguments, Failed, Outcome, Task, Trial};
 use std::alloc::{AllocError, Global};
 use std::test::Fail;
 
@@ -15,7 +15,7 @@ struct Sum {
 }
 
 impl Task for Sum {
-    // It passes exactly where the sum is right.
+    // It passes exactly if the sum is right.
     ghost gives = { λ sum _ o. o ≡ (if sum.summands.0 + sum.summands.1 == sum.total then APassed else AFailed None) };
 
     fn run(self, _test_mode: bool) -> Outcome {
@@ -73,44 +73,5 @@ fn runs_closures_without_boxes(rt: HostRuntime) -> Result<(), Fail> {
     }
     let (conclusion, _) = run_ample(alloc, &Arguments::new(alloc), trials)?;
     assert_eq!(rt; (conclusion.num_passed, conclusion.num_failed), (2, 1));
-    Ok(())
-}
-
-// A benchmark over plain data, which shows in which mode it ran.
-#[derive(Drop)]
-struct Timed;
-
-impl Task for Timed {
-    fn run(self, test_mode: bool) -> Outcome {
-        if test_mode {
-            Outcome::Passed
-        } else {
-            Outcome::Measured(Measurement {
-                avg: 32,
-                variance: 3,
-            })
-        }
-    }
-}
-
-#[test]
-fn measures_plain_data(rt: HostRuntime) -> Result<(), Fail> {
-    let alloc = rt.alloc();
-    for (bench, passed, measured) in [(false, 1, 0), (true, 0, 1)] {
-        let mut args = Arguments::new(alloc);
-        args.bench = bench;
-        let info = TestInfo {
-            name: String::from_str(alloc, "b")?,
-            kind: String::new(alloc),
-            is_ignored: false,
-            is_bench: true,
-        };
-        let trials = vec![in alloc; Trial::from_parts(info, Timed)]?;
-        let (conclusion, _) = run_ample(alloc, &args, trials)?;
-        assert_eq!(rt;
-            (conclusion.num_passed, conclusion.num_measured),
-            (passed, measured)
-        );
-    }
     Ok(())
 }

@@ -1,10 +1,10 @@
 //! Runs of selected trials and of benchmarks, and lists.
 use super::in_memory::run_ample;
-use super::selection::selecting;
 use super::{bench_trial, test_trial};
 use libtest_mimic::{
     Arguments, ColorSetting, Conclusion, Failed, FormatSetting, Measurement, Trial,
 };
+use std::alloc::{AllocError, Global};
 use std::sync::Arc;
 use std::sync::atomic::{AtomicBool, Ordering};
 use std::test::Fail;
@@ -139,48 +139,75 @@ fn ignores_benchmarks_of_a_test_run(rt: HostRuntime) -> Result<(), Fail> {
 const IGNORED_ORANGE: &[u8] =
     b"\nrunning 2 tests\ntest          frog   ... ok\ntest [banana] orange ... ignored\n\ntest result: ok. 1 passed; 0 failed; 1 ignored; 0 measured; 1 filtered out; finished in 0.00s\n\n";
 
-// A filter, a skip pattern, whether they are exact, and how many of `foo`, `bar` and `barro` they select and
-// drop.
+// Arguments with a filter, and one skip pattern.
+fn selecting(
+    alloc: Global,
+    filter: Option<&str>,
+    skip: Option<&str>,
+    exact: bool,
+) -> Result<Arguments, AllocError> {
+    let mut args = Arguments::new(alloc);
+    args.exact = exact;
+    if let Some(filter) = filter {
+        args.filter.push(String::from_str(alloc, filter)?)?;
+    }
+    if let Some(skip) = skip {
+        args.skip.push(String::from_str(alloc, skip)?)?;
+    }
+    Ok(args)
+}
+
+const ALL_LISTED: &[u8] = b"foo: test\nbar: test\nbarro: test\n";
+
+const NONE_SELECTED: &[u8] =
+    b"\nrunning 0 tests\n\ntest result: ok. 0 passed; 0 failed; 0 ignored; 0 measured; 3 filtered out; finished in 0.00s\n\n";
+
+// A filter, a skip pattern, whether they are exact, how many of `foo`, `bar` and `barro` they select and drop, and the
+// list of those that they select.
 #[test]
 fn selects_by_patterns(rt: HostRuntime) -> Result<(), Fail> {
     let alloc = rt.alloc();
-    let rows = [
-        (Some("foo"), None, false, 1, 2),
-        (Some("bar"), None, false, 2, 1),
-        (Some("bar"), None, true, 1, 2),
-        (Some("bar"), Some("barro"), false, 1, 2),
-        (None, Some("peter"), false, 3, 0),
-        (None, Some("bar"), false, 1, 2),
-        (None, Some("bar"), true, 2, 1),
-        (Some(""), None, false, 3, 0),
-        (None, Some(""), false, 0, 3),
-        (Some(""), None, true, 0, 3),
-        (None, Some(""), true, 3, 0),
+    let rows: [(Option<&str>, Option<&str>, bool, u64, u64, &[u8]); 12] = [
+        (None, None, false, 3, 0, ALL_LISTED),
+        (Some("foo"), None, false, 1, 2, b"foo: test\n"),
+        (Some("bar"), None, false, 2, 1, b"bar: test\nbarro: test\n"),
+        (Some("bar"), None, true, 1, 2, b"bar: test\n"),
+        (Some("bar"), Some("barro"), false, 1, 2, b"bar: test\n"),
+        (None, Some("peter"), false, 3, 0, ALL_LISTED),
+        (None, Some("bar"), false, 1, 2, b"foo: test\n"),
+        (None, Some("bar"), true, 2, 1, b"foo: test\nbarro: test\n"),
+        (Some(""), None, false, 3, 0, ALL_LISTED),
+        (None, Some(""), false, 0, 3, b""),
+        (Some(""), None, true, 0, 3, b""),
+        (None, Some(""), true, 3, 0, ALL_LISTED),
     ];
-    for (filter, skip, exact, selected, dropped) in rows {
-        let tests = vec![in alloc;
-            test_trial!(alloc, "foo", || Ok(())),
-            test_trial!(alloc, "bar", || Ok(())),
-            test_trial!(alloc, "barro", || Ok(())),
-        ]?;
-        let args = selecting(alloc, filter, skip, exact)?;
-        let (conclusion, writer) = run_ample(alloc, &args, tests)?;
-        assert_eq!(rt;
-            conclusion,
-            counts(dropped, selected, 0),
-            "{filter:?} {skip:?} {exact}"
-        );
-        if selected == 0 {
-            assert!(rt;
-                writer.bytes.as_slice()
-                    == b"\nrunning 0 tests\n\ntest result: ok. 0 passed; 0 failed; 0 ignored; 0 measured; 3 filtered out; finished in 0.00s\n\n".as_slice()
+    for (filter, skip, exact, selected, dropped, list) in rows {
+        for is_list in [false, true] {
+            let tests = vec![in alloc;
+                test_trial!(alloc, "foo", || Ok(())),
+                test_trial!(alloc, "bar", || Ok(())),
+                test_trial!(alloc, "barro", || Ok(())),
+            ]?;
+            let mut args = selecting(alloc, filter, skip, exact)?;
+            args.list = is_list;
+            let (conclusion, writer) = run_ample(alloc, &args, tests)?;
+            let bytes = writer.bytes.as_slice();
+            if is_list {
+                assert!(rt; bytes == list, "{filter:?} {skip:?} {exact}");
+                continue;
+            }
+            assert_eq!(rt;
+                conclusion,
+                counts(dropped, selected, 0),
+                "{filter:?} {skip:?} {exact}"
             );
+            assert!(rt; selected > 0 || bytes == NONE_SELECTED);
         }
     }
     Ok(())
 }
 
-// A benchmark that measures, or answers nothing, by the arguments; with both flags nothing is run.
+// A benchmark that measures, or returns nothing, by the arguments; with both flags nothing is run.
 #[test]
 fn runs_benchmarks_as_asked(rt: HostRuntime) -> Result<(), Fail> {
     let alloc = rt.alloc();
@@ -348,39 +375,45 @@ fn pads_kinds_by_characters(rt: HostRuntime) -> Result<(), Fail> {
     Ok(())
 }
 
-// A benchmark in JSON: its announcement, what was measured, and the same ignored, each with its kind.
+// A benchmark in JSON, with a kind and without: its announcement, what was measured, and the same ignored.
 #[test]
 fn reports_benchmarks_in_json(rt: HostRuntime) -> Result<(), Fail> {
     let alloc = rt.alloc();
-    for (test, line) in [
+    let rows = [
         (
-            false,
+            "a\\b",
+            "{ \"type\": \"test\", \"event\": \"started\", \"name\": \"b\", \"kind\": \"a\\\\b\" }\n",
             "{ \"type\": \"bench\", \"name\": \"b\", \"kind\": \"a\\\\b\", \"median\": 1234567, \"deviation\": 89 }\n",
-        ),
-        (
-            true,
             "{ \"type\": \"test\", \"name\": \"b\", \"kind\": \"a\\\\b\", \"event\": \"ignored\" }\n",
         ),
-    ] {
-        let runner = |_mode: bool| {
-            Ok(Some(Measurement {
-                avg: 1_234_567,
-                variance: 89,
-            }))
-        };
-        let tests = vec![in alloc;
-            bench_trial!(alloc, "b", runner).with_kind(String::from_str(alloc, "a\\b")?),
-        ]?;
-        let mut args = Arguments::new(alloc);
-        args.test = test;
-        args.bench = !test;
-        args.format = Some(FormatSetting::Json);
-        let (_, writer) = run_ample(alloc, &args, tests)?;
-        let text = String::from_utf8(writer.bytes)?;
-        let rest = text.as_str().strip_prefix(
-            "{ \"type\": \"suite\", \"event\": \"started\", \"test_count\": 1 }\n{ \"type\": \"test\", \"event\": \"started\", \"name\": \"b\", \"kind\": \"a\\\\b\" }\n",
-        );
-        assert!(rt; rest.is_some_and(|rest| rest.starts_with(line)));
+        (
+            "",
+            "{ \"type\": \"test\", \"event\": \"started\", \"name\": \"b\" }\n",
+            "{ \"type\": \"bench\", \"name\": \"b\", \"median\": 1234567, \"deviation\": 89 }\n",
+            "{ \"type\": \"test\", \"name\": \"b\", \"event\": \"ignored\" }\n",
+        ),
+    ];
+    for (kind, announcement, measured, ignored) in rows {
+        for (test, line) in [(false, measured), (true, ignored)] {
+            let runner = |_mode: bool| {
+                Ok(Some(Measurement {
+                    avg: 1_234_567,
+                    variance: 89,
+                }))
+            };
+            let tests = vec![in alloc;
+                bench_trial!(alloc, "b", runner).with_kind(String::from_str(alloc, kind)?),
+            ]?;
+            let mut args = Arguments::new(alloc);
+            args.test = test;
+            args.bench = !test;
+            args.format = Some(FormatSetting::Json);
+            let (_, writer) = run_ample(alloc, &args, tests)?;
+            let want = format!(in alloc;
+                "{{ \"type\": \"suite\", \"event\": \"started\", \"test_count\": 1 }}\n{announcement}{line}"
+            )?;
+            assert!(rt; writer.bytes.starts_with(want.as_bytes()), "{want}");
+        }
     }
     Ok(())
 }

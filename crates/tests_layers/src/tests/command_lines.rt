@@ -1,6 +1,6 @@
 //! Command lines, as words after the program's name, and what they give. What is refused is as in the Rust crate, and
 //! help has the same options in our own words.
-use crate::{
+use mimic_args::{
     Arguments, ArgumentsError, ColorSetting, FormatSetting, Line, UnknownFormat, UnstableFlags,
 };
 use std::test::Fail;
@@ -196,14 +196,6 @@ fn reads_each_value(rt: HostRuntime) -> Result<(), Fail> {
     Ok(())
 }
 
-#[test]
-fn has_defaults(rt: HostRuntime) -> Result<(), Fail> {
-    assert!(rt; ColorSetting::default() == ColorSetting::Auto);
-    assert!(rt; FormatSetting::default() == FormatSetting::Pretty);
-    assert!(rt; Arguments::new(rt.alloc()).format_used() == FormatSetting::Pretty);
-    Ok(())
-}
-
 // Whether a line may not use the first word before the second.
 fn is_refused(first: &str, second: &str) -> bool {
     match (first, second) {
@@ -277,6 +269,8 @@ fn settles_colours(rt: HostRuntime) -> Result<(), Fail> {
         }
         assert_eq!(rt; args.colours(auto), want);
     }
+    assert!(rt; ColorSetting::default() == ColorSetting::Auto);
+    assert!(rt; FormatSetting::default() == FormatSetting::Pretty);
     let mut args = Arguments::new(alloc);
     assert!(rt; args.format_used() == FormatSetting::Pretty);
     args.quiet = true;
@@ -367,19 +361,5 @@ fn takes_operands(rt: HostRuntime) -> Result<(), Fail> {
             _ => assert!(rt; false, "{text}"),
         }
     }
-    Ok(())
-}
-
-#[test]
-fn first_page(rt: HostRuntime) -> Result<(), Fail> {
-    let alloc = rt.alloc();
-    let words = ["program", "--test-threads=2", "--skip", "slow", "sort"];
-    let args = Arguments::from_iter(alloc, &words)?;
-    assert_eq!(rt; args.test_threads, Some(2));
-    assert_eq!(rt; args.skip.first().map(String::as_str), Some("slow"));
-    assert_eq!(rt; args.filter.first().map(String::as_str), Some("sort"));
-    let line = Line::from_iter(alloc, &["program", "cases", "--", "--list"])?;
-    assert_eq!(rt; line.own.first().map(String::as_str), Some("cases"));
-    assert!(rt; line.options?.list);
     Ok(())
 }

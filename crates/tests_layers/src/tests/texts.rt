@@ -1,21 +1,6 @@
 //! Numbers and characters as texts. Expected values are worked by hand from the format's rules.
-use crate::{brackets, escape_char, exact_seconds, fmt_with_thousand_sep, hundredths, thousands};
+use mimic_text::{escape_char, exact_seconds, fmt_with_thousand_sep, thousands};
 use std::test::Fail;
-
-#[test]
-fn rounds_to_hundredths(rt: HostRuntime) {
-    let vectors = [
-        (0, (0, 0)),
-        (4_999_999, (0, 0)),
-        (5_000_000, (0, 1)),
-        (995_000_000, (1, 0)),
-        (1_500_000_000, (1, 50)),
-        (u64::MAX, (18_446_744_073, 71)),
-    ];
-    for (nanos, want) in vectors {
-        assert_eq!(rt; hundredths(nanos), want, "{nanos}");
-    }
-}
 
 #[test]
 fn groups_thousands(rt: HostRuntime) -> Result<(), Fail> {
@@ -71,15 +56,4 @@ fn tells_exact_seconds(rt: HostRuntime) {
     for (nanos, want) in vectors {
         assert_eq!(rt; exact_seconds(nanos, &mut [b'x'; 32]), want);
     }
-}
-
-#[test]
-fn first_page(rt: HostRuntime) {
-    assert_eq!(rt; thousands(1_234_567, &mut [0; 26]), "1,234,567");
-    assert_eq!(rt; hundredths(1_499_999_999), (1, 50));
-    assert_eq!(rt; exact_seconds(1_500_000_000, &mut [0; 32]), "1.5");
-    assert_eq!(rt; escape_char('\n').as_str(), "\\n");
-    let (opening, closing) = brackets("unit");
-    assert_eq!(rt; opening, "[");
-    assert_eq!(rt; closing, "] ");
 }

@@ -1,6 +1,6 @@
 //! The parts of a report one by one.
-use crate::{Printer, Sink, widths};
-use mimic_args::FormatSetting;
+use mimic_printer::{Printer, Sink};
+use mimic_text::FormatSetting;
 use mimic_trial::{Failed, Measurement, Outcome, TestInfo, Trial};
 use std::alloc::{AllocError, Global};
 use std::test::Fail;
@@ -23,23 +23,21 @@ fn two_infos(alloc: Global) -> Result<[TestInfo; 2], AllocError> {
     ])
 }
 
-#[test]
-fn measures_columns(rt: HostRuntime) -> Result<(), Fail> {
-    assert_eq!(rt; widths(&two_infos(rt.alloc())?), (3, 4));
-    assert_eq!(rt; widths(&[]), (0, 0));
-    Ok(())
-}
-
-// Announcements, and failures in another order than that of the places.
+// Announcements, failures in another order than that of the places, and a list of ignored trials.
 #[test]
 fn prints_parts(rt: HostRuntime) -> Result<(), Fail> {
-    let infos = two_infos(rt.alloc())?;
+    let alloc = rt.alloc();
+    let infos = two_infos(alloc)?;
+    let tests = vec![in alloc;
+        Trial::new(String::from_str(alloc, "a")?, ()),
+        Trial::new(String::from_str(alloc, "b")?, ()).with_ignored_flag(true),
+    ]?;
     let outcomes = [
         Outcome::Failed(Failed::without_message()),
         Outcome::Failed(Failed::without_message()),
     ];
     let printer = Printer::new(FormatSetting::Pretty, false, 3, 4);
-    let mut sink = Sink::new(Vec::new(rt.alloc()));
+    let mut sink = Sink::new(Vec::new(alloc));
     assert!(rt; printer.print_title(&mut sink, 1).is_ok());
     assert!(rt; printer.print_test(&mut sink, &infos[0]).is_ok());
     assert!(rt; printer.print_test(&mut sink, &infos[1]).is_ok());
@@ -48,24 +46,12 @@ fn prints_parts(rt: HostRuntime) -> Result<(), Fail> {
             .print_failures(&mut sink, &infos, &[1, 0], &outcomes)
             .is_ok()
     );
+    assert!(rt; Printer::write_list(&tests, true, &mut sink).is_ok());
     let bytes = sink.into_inner();
     assert!(rt;
         bytes.as_slice()
-            == b"\nrunning 1 test\ntest     a   ... test [k] bcd ... \nfailures:\n\n---- bcd ----\n\n---- a ----\n\n\nfailures:\n    bcd\n    a\n".as_slice()
+            == b"\nrunning 1 test\ntest     a   ... test [k] bcd ... \nfailures:\n\n---- bcd ----\n\n---- a ----\n\n\nfailures:\n    bcd\n    a\nb: test\n".as_slice()
     );
-    Ok(())
-}
-
-#[test]
-fn lists_ignored_trials(rt: HostRuntime) -> Result<(), Fail> {
-    let alloc = rt.alloc();
-    let tests = vec![in alloc;
-        Trial::new(String::from_str(alloc, "a")?, ()),
-        Trial::new(String::from_str(alloc, "b")?, ()).with_ignored_flag(true),
-    ]?;
-    let mut sink = Sink::new(Vec::new(alloc));
-    assert!(rt; Printer::write_list(&tests, true, &mut sink).is_ok());
-    assert!(rt; sink.into_inner().as_slice() == b"b: test\n".as_slice());
     Ok(())
 }
 
@@ -140,23 +126,5 @@ fn prints_outcomes(rt: HostRuntime) -> Result<(), Fail> {
         );
         assert!(rt; sink.into_inner().as_slice() == want);
     }
-    Ok(())
-}
-
-#[test]
-fn first_page(rt: HostRuntime) -> Result<(), Fail> {
-    let alloc = rt.alloc();
-    let trial = Trial::new(String::from_str(alloc, "sum")?, ());
-    let printer = Printer::new(FormatSetting::Pretty, false, 3, 0);
-    let mut sink = Sink::new(Vec::new(alloc));
-    assert!(rt; printer.print_title(&mut sink, 1).is_ok());
-    assert!(rt; printer.print_test(&mut sink, trial.info()).is_ok());
-    assert!(rt;
-        printer
-            .print_single_outcome(&mut sink, trial.info(), &Outcome::Passed)
-            .is_ok()
-    );
-    let text = String::from_utf8(sink.into_inner())?;
-    assert_eq!(rt; text.as_str(), "\nrunning 1 test\ntest sum ... ok\n");
     Ok(())
 }
