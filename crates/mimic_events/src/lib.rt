@@ -41,6 +41,3 @@ mod tally;
 pub use feed::{Feed, read_report};
 pub use report::{Report, Row, Totals};
 pub use tally::Tally;
-
-#[cfg(test)]
-mod tests;

@@ -38,6 +38,3 @@ pub use share::{Share, deal, deal_next, empty_shares};
 pub use start::{AnswersShare, Rows, Start};
 pub use threads::{Handles, Spawner, join_all, prepare, start_all};
 pub use worker::work;
-
-#[cfg(test)]
-mod tests;

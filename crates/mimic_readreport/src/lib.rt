@@ -15,6 +15,3 @@ mod program;
 
 pub use machine::{Ending, run_program};
 pub use program::readreport_run;
-
-#[cfg(test)]
-mod tests;

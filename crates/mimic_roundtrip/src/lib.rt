@@ -54,6 +54,3 @@ pub fn run_to_report<R: Task, C: Clock>(
     let report = read_report(alloc, bytes.as_slice())?.unwrap();
     Ok((conclusion, report))
 }
-
-#[cfg(test)]
-mod tests;

@@ -1,1 +1,6 @@
 //! What no clause says of reading: that reports are read if memory is ample, and what the definition of a report takes and refuses.
+//! Expected values are worked by hand from the format's rules.
+mod feeding;
+mod readreport;
+mod reports;
+mod runs_read_back;

@@ -125,15 +125,21 @@ fn reads_back_hostile_texts(rt: HostRuntime) -> Result<(), Fail> {
     Ok(())
 }
 
-// A name of one character in four bytes, and what is no text in its place: half of a pair, another spelling of `/`, and
-// the same character cut short.
+// A name of one character in four bytes, and what is no text in its place: half of a pair, another spelling of `/`, the same
+// character cut short, one of two bytes cut short, and a byte that no text has.
 #[test]
 fn reads_no_name_that_is_no_text(rt: HostRuntime) -> Result<(), Fail> {
     let alloc = rt.alloc();
     assert!(rt; "\u{1f600}".as_bytes() == b"\xf0\x9f\x98\x80".as_slice());
     let text = four_lines(alloc, VECTORS[5])?;
     assert!(rt; read_report(alloc, text.as_str().as_bytes())?.is_some());
-    for bad in [b"\xed\xa0\x80".as_slice(), b"\xc0\xaf", b"\xf0\x9f\x98"] {
+    for bad in [
+        b"\xed\xa0\x80".as_slice(),
+        b"\xc0\xaf",
+        b"\xf0\x9f\x98",
+        b"\xc3",
+        b"\xff",
+    ] {
         let mut bytes = Vec::new(alloc);
         for (at, part) in text.as_str().split("\u{1f600}").enumerate() {
             bytes.extend_from_slice(if at > 0 { bad } else { b"" })?;

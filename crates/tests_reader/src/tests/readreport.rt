@@ -1,5 +1,6 @@
-//! The program over memory: its line, its statuses, and what it tells of faults.
-use crate::readreport_run;
+//! The program over memory: its line, its statuses, and what it says of faults.
+use super::feeding::NO_ROWS;
+use mimic_readreport::readreport_run;
 use mimic_testkit::{Fault, FaultyWriter, Place};
 use std::alloc::Global;
 use std::io;
@@ -16,10 +17,6 @@ const FLY: &str = r#"{ "type": "suite", "event": "started", "test_count": 1 }
 { "type": "test", "event": "started", "name": "fly", "kind": "banana" }
 { "type": "test", "name": "fly", "kind": "banana", "event": "ignored" }
 { "type": "suite", "event": "ok", "passed": 0, "failed": 0, "ignored": 1, "measured": 0, "filtered_out": 16, "exec_time": 0 }
-"#;
-
-const NO_ROWS: &str = r#"{ "type": "suite", "event": "started", "test_count": 0 }
-{ "type": "suite", "event": "ok", "passed": 0, "failed": 0, "ignored": 0, "measured": 0, "filtered_out": 0, "exec_time": 0 }
 "#;
 
 // A report of two trials that passed, one that failed, four that were ignored and three that were measured.
@@ -44,8 +41,8 @@ fn mixed_report(alloc: Global) -> Result<String, Fail> {
     Ok(report)
 }
 
-// Bytes that come a few at a time, each time after an interruption, to a reader that asks for 4,096 at most. At their
-// end, or after them, a fault.
+// These bytes come a few at a time, each time after an interruption, to a reader that asks for 4,096 at most. A fault may
+// follow them.
 #[derive(Drop)]
 struct Input<'a> {
     left: &'a [u8],
@@ -94,7 +91,7 @@ fn run_over(
     Ok((status, out, err))
 }
 
-// Of no rows, of one, of one with a kind, and of ten, with seven different numbers.
+// The reports have no rows, one, one with a kind, and ten, with seven different numbers.
 #[test]
 fn tells_reports(rt: HostRuntime) -> Result<(), Fail> {
     let mixed = mixed_report(rt.alloc())?;
@@ -143,7 +140,7 @@ fn refuses_other_input(rt: HostRuntime) -> Result<(), Fail> {
     Ok(())
 }
 
-// A read that fails in the middle, or when all has come, is told as such, whatever came before it.
+// A read that fails in the middle, or when all has come, is reported as such, whatever came before it.
 #[test]
 fn tells_of_faulty_input(rt: HostRuntime) -> Result<(), Fail> {
     for (count, kind, text) in [
@@ -162,7 +159,7 @@ fn tells_of_faulty_input(rt: HostRuntime) -> Result<(), Fail> {
     Ok(())
 }
 
-// A beginning of the line may have been written where a write or the flush fails.
+// A beginning of the line may have been written when a write or the flush fails.
 #[test]
 fn tells_of_a_full_output(rt: HostRuntime) -> Result<(), Fail> {
     let alloc = rt.alloc();

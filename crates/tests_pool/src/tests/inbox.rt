@@ -2,7 +2,7 @@
 ghost use Rattle.std.specs.Prelude.{All};
 ghost use Rattle.mimic_pool.specs.Share.{AllRunners};
 
-use crate::{Inbox, Reports, Share, Untold, deal, join_all, prepare, start_all};
+use mimic_pool::{Inbox, Reports, Share, Untold, deal, join_all, prepare, start_all};
 use mimic_trial::{Failed, Measurement, Outcome, Task};
 use std::alloc::{AllocError, Global};
 use std::process::Abort;
@@ -34,7 +34,7 @@ fn refuses_what_the_board_hands_back(rt: HostRuntime) -> Result<(), Fail> {
     Ok(())
 }
 
-// A worker tells the places that are dealt to it, and no others. Of three places and two workers, the first has two.
+// A worker reports the places that are dealt to it, and no others. Of three places and two workers, the first has two.
 #[test]
 fn refuses_places_of_others(rt: HostRuntime) -> Result<(), Fail> {
     for (place, owner) in [
@@ -63,7 +63,7 @@ fn refuses_places_of_others(rt: HostRuntime) -> Result<(), Fail> {
     Ok(())
 }
 
-// A copy that can't be made is refused, and another row is told after it.
+// An outcome that can't be copied is refused, and another row is reported after it.
 #[test]
 fn refuses_what_it_cannot_copy(rt: HostRuntime) -> Result<(), Fail> {
     let woops = Failed::with_message(String::from_str(rt.alloc(), "Woops")?);
@@ -98,7 +98,7 @@ fn a_worker_closes_when_its_reports_are_dropped(rt: HostRuntime) -> Result<(), F
     Ok(())
 }
 
-// Gives its number once so many rows were taken. Where that doesn't come in time, it fails, and lets no other wait.
+// Returns its number once so many rows were taken. If that doesn't happen in time, it fails, and lets no other task wait.
 #[derive(Drop)]
 struct Awaits {
     taken: Arc<AtomicU64>,
@@ -119,7 +119,7 @@ impl Task for Awaits {
     }
 }
 
-// Runs the shares of two workers, and gives the rows in the order in which they were taken. `taken` counts them.
+// Runs the shares of two workers, and returns the rows in the order in which they were taken. `taken` counts them.
 fn rows_taken<T: Task + Send + 'static, R: Threads + Wait + Copy + Drop + Send + 'static>(
     rt: &R,
     alloc: Global,
@@ -147,8 +147,8 @@ fn rows_taken<T: Task + Send + 'static, R: Threads + Wait + Copy + Drop + Send +
     Ok(rows)
 }
 
-// The shares of two workers of so many tasks, each of which gives the number of its place. A task at a multiple of `step` ends
-// once as many rows were taken as there are lower places.
+// The shares of two workers of so many tasks, each of which returns the number of its place. A task at a multiple of `step`
+// ends once as many rows were taken as there are lower places.
 fn shares_of(
     alloc: Global,
     trials: usize,

@@ -1,7 +1,7 @@
 //! The desk, beside a plain computation of what it is to show.
 ghost use Rattle.std.specs.Prelude.{◌≡◌};
 
-use crate::{Arrival, Desk};
+use mimic_pool::{Arrival, Desk};
 use mimic_trial::{Measurement, Outcome};
 use std::alloc::{AllocError, Global};
 use std::process::Abort;
@@ -42,7 +42,7 @@ fn first_at(arrivals: &[usize], place: usize) -> Option<usize> {
     arrivals.iter().position(|other| *other == place)
 }
 
-// What a desk of three places is to say of the arrival of this number, if there is one.
+// What a desk of three places returns for the arrival of this number, if there is one.
 fn expected_answer(arrivals: &[usize], number: usize) -> Option<Arrival> {
     let place = *arrivals.get(number)?;
     Some(if place >= 3 {
@@ -54,7 +54,7 @@ fn expected_answer(arrivals: &[usize], number: usize) -> Option<Arrival> {
     })
 }
 
-// The places that are to be missing, or those that came in the order of their first arrivals.
+// The places that came, in the order of their first arrivals, and those that are missing.
 fn expected_places(
     alloc: Global,
     arrivals: &[usize],
@@ -74,7 +74,7 @@ fn expected_places(
     Ok((order, missing))
 }
 
-// The joined outcome at the place: the one that arrived first, or another one where the place is among the changed.
+// The joined outcome at the place: the one that arrived first, or another one if the place is among the changed.
 fn joined_at(arrivals: &[usize], changed: [bool; 3], place: usize) -> Outcome {
     match first_at(arrivals, place) {
         Some(number) if changed.get(place) != Some(&true) => outcome_of(number),
@@ -166,19 +166,5 @@ fn shows_each_short_list(rt: HostRuntime) -> Result<(), Fail> {
             shows(&rt, rt.alloc(), desk, &arrivals)?;
         }
     }
-    Ok(())
-}
-
-#[test]
-fn first_page(rt: HostRuntime) -> Result<(), Fail> {
-    let alloc = rt.alloc();
-    let mut desk = Desk::new(alloc, 3)?;
-    assert_eq!(rt; desk.arrive(2, Outcome::Passed), Arrival::First);
-    assert_eq!(rt; desk.arrive(2, Outcome::Ignored), Arrival::Again);
-    assert_eq!(rt; desk.arrive(0, Outcome::Passed), Arrival::First);
-    assert_eq!(rt; desk.order(), [2, 0].as_slice());
-    assert_eq!(rt; desk.missing().next(), Some(1));
-    let joined = [Outcome::Passed, Outcome::Ignored, Outcome::Passed];
-    assert_eq!(rt; desk.settle(&joined), Ok(()));
     Ok(())
 }

@@ -2,12 +2,12 @@
 ghost use Rattle.std.specs.Prelude.{◌≡◌};
 
 use super::workers::{Becomes, shares_of_five};
-use crate::{Arrival, Desk, Reports, Untold, work};
+use mimic_pool::{Arrival, Desk, Reports, Untold, work};
 use mimic_trial::{Measurement, Outcome};
 use std::alloc::{AllocError, Global};
 use std::test::Fail;
 
-// Leaves out every second row, tells each other one twice, and behind it the same of a place that is none.
+// Leaves out every second row. It keeps each other one twice, and then its outcome with a place that the desk doesn't have.
 #[derive(Drop)]
 struct Losing {
     told: u64,
@@ -50,7 +50,7 @@ impl Reports for Losing {
     }
 }
 
-// What the runner at this place gives.
+// What the runner at this place returns.
 fn measured(place: usize) -> Outcome {
     Outcome::Measured(Measurement {
         avg: place as u64,
@@ -68,7 +68,7 @@ fn next_arrives(desk: &mut Desk, list: &mut Vec<(usize, Outcome)>) -> Option<Arr
     }
 }
 
-// What a desk says of the three rows that stand in the list for one that was told.
+// What a desk returns for the three rows that stand in the list for one that was reported.
 const THREE: [Option<Arrival>; 3] = [
     Some(Arrival::First),
     Some(Arrival::Again),
@@ -84,7 +84,7 @@ fn three_arrive(desk: &mut Desk, list: &mut Vec<(usize, Outcome)>) -> [Option<Ar
 }
 
 // Of two workers' rows 0, 2, 4 and 1, 3 the list has 0, 4 and 1, each twice with a stranger behind. The desk keeps those, the
-// others are missing, and it agrees with what the workers answer.
+// others are missing, and it agrees with what the workers return.
 #[test]
 fn settles_a_list_with_losses(rt: HostRuntime) -> Result<(), Fail> {
     let alloc = rt.alloc();

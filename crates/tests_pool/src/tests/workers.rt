@@ -1,20 +1,12 @@
-//! Shares and workers, over reports in memory and to a board.
-ghost use Rattle.std.specs.Prelude.{All};
-ghost use Rattle.mimic_pool.specs.Share.{AllRunners};
-
-use crate::{
-    Arrival, Desk, Inbox, MemoryReports, Reports, Share, Untold, deal, join_all, prepare,
-    start_all, work,
-};
+//! Shares and workers, over reports in memory.
+use mimic_pool::{MemoryReports, Reports, Share, Untold, deal, work};
 use mimic_trial::{Failed, Measurement, Outcome, Runner, Task, TestRunner};
 use std::alloc::{AllocError, Global};
-use std::process::Abort;
+use std::sync::Arc;
 use std::sync::atomic::{AtomicBool, AtomicU64, Ordering};
-use std::sync::{Arc, Wait};
 use std::test::Fail;
-use std::thread::Threads;
 
-// A runner that is the outcome which it gives.
+// A runner that is the outcome which it returns.
 #[derive(Drop)]
 pub(super) struct Becomes(pub(super) Outcome);
 
@@ -112,7 +104,7 @@ fn tells_what_it_answers(rt: HostRuntime) -> Result<(), Fail> {
         assert!(rt; have_rows(&answer, rows));
         assert_eq!(rt; reports.told() + reports.refusals(), rows.len() as u64);
         if reports.refusals() > 0 {
-            // Where there was no memory for a copy, the row is answered all the same.
+            // If there was no memory for a copy, the row is returned all the same.
             return Err(Fail::from(AllocError));
         }
         assert!(rt; have_rows(reports.rows(), rows));
@@ -152,48 +144,7 @@ fn drops_what_is_ignored(rt: HostRuntime) -> Result<(), Fail> {
     Ok(())
 }
 
-// Refuses each row.
-#[derive(Drop)]
-struct Deaf {
-    refusals: u64,
-}
-
-impl Reports for Deaf {
-    ghost told_of = { λ _. 0 };
-
-    ghost refused_by = { λ reports. reports.refusals };
-
-    fn tell(&mut self, _place: usize, _outcome: &Outcome) -> Result<(), Untold> {
-        self.refusals += 1;
-        Err(Untold)
-    }
-
-    fn refusals(&self) -> u64 {
-        self.refusals
-    }
-
-    fn told(&self) -> u64 {
-        0
-    }
-}
-
-#[test]
-fn answers_what_is_untold(rt: HostRuntime) -> Result<(), Fail> {
-    let alloc = rt.alloc();
-    let runners = vec![in alloc; passes(), passes()]?;
-    let shares = deal(alloc, runners, vec![in alloc; false, false]?, 1)?;
-    for share in shares {
-        let room = Vec::with_capacity(alloc, share.len())?;
-        let mut reports = Deaf { refusals: 0 };
-        let answer = work(share, false, &mut reports, room);
-        assert!(rt; have_rows(&answer, &[(0, Outcome::Passed), (1, Outcome::Passed)]));
-        assert_eq!(rt; reports.refusals(), 2);
-        assert_eq!(rt; reports.told(), 0);
-    }
-    Ok(())
-}
-
-// Measures how many rows were told before it runs.
+// Measures how many rows were reported before it runs.
 #[derive(Drop)]
 struct Counts(Arc<AtomicU64>);
 
@@ -233,7 +184,7 @@ impl Reports for Raises {
     }
 }
 
-// Each row is told before the next runner is called.
+// Each row is reported before the next runner is called.
 #[test]
 fn tells_when_a_trial_has_ended(rt: HostRuntime) -> Result<(), Fail> {
     let alloc = rt.alloc();
@@ -260,103 +211,5 @@ fn tells_when_a_trial_has_ended(rt: HostRuntime) -> Result<(), Fail> {
         }
     }
     assert_eq!(rt; seen.load(Ordering::SeqCst), 3);
-    Ok(())
-}
-
-// Runs these shares in threads. Answers a desk with what arrived, and what the workers answered when they were joined.
-fn run_in_threads<
-    T: Task + Send + 'static,
-    R: Threads + Wait + Abort + Copy + Drop + Send + 'static,
->(rt: &R, alloc: Global, shares: Vec<Share<T>>, trials: usize) -> Result<(Desk, Vec<Outcome>), Fail>
-    requires { All (λ share. AllRunners T.can_run share) shares.items }
-{
-    let mut inbox = Inbox::new(alloc, trials, shares.len())?;
-    let handles = Vec::with_capacity(alloc, shares.len())?;
-    let mut outcomes = Vec::with_capacity(alloc, trials)?;
-    for _place in 0..trials {
-        outcomes.push(Outcome::Ignored)?;
-    }
-    let mut desk = Desk::new(alloc, trials)?;
-    let starts = prepare(alloc, shares, &mut inbox)?;
-    let Ok(handles) = start_all(rt, alloc, starts, true, handles) else {
-        return Err(Fail::new("a worker could not be started"));
-    };
-    for _ in rt.forever() {
-        let Some((place, outcome)) = inbox.next(rt) else {
-            break;
-        };
-        assert_eq!(rt; desk.arrive(place, outcome), Arrival::First);
-    }
-    Ok((desk, join_all(rt, handles, outcomes)))
-}
-
-// Two workers in threads tell to one inbox. What arrives at the desk is what they answer when they are joined.
-#[test]
-fn tells_from_threads(rt: HostRuntime) -> Result<(), Fail> {
-    let alloc = rt.alloc();
-    let failing = Becomes(Outcome::Failed(Failed::without_message()));
-    let shares = shares_of_five(alloc, [passes(), passes(), failing, passes(), passes()])?;
-    let (desk, joined) = run_in_threads(&rt, alloc, shares, 5)?;
-    for (place, outcome) in joined.iter().enumerate() {
-        assert!(rt; desk.outcome(place) == Some(outcome));
-    }
-    let expected = [
-        Outcome::Passed,
-        Outcome::Passed,
-        Outcome::Failed(Failed::without_message()),
-        Outcome::Passed,
-        Outcome::Ignored,
-    ];
-    assert!(rt; joined.as_slice() == expected.as_slice());
-    Ok(())
-}
-
-// Raises its flag, and then looks for the other's. Where that is not raised in time, it gives what was prepared for that.
-#[derive(Drop)]
-struct Meets {
-    mine: Arc<AtomicBool>,
-    theirs: Arc<AtomicBool>,
-    unmet: Outcome,
-}
-
-impl Task for Meets {
-    fn run(self, _test_mode: bool) -> Outcome {
-        self.mine.store(true, Ordering::SeqCst);
-        for _ in 0..100_000_000 {
-            if self.theirs.load(Ordering::SeqCst) {
-                return Outcome::Passed;
-            }
-        }
-        self.unmet
-    }
-}
-
-fn unmet(alloc: Global) -> Result<Outcome, AllocError> {
-    let message = String::from_str(alloc, "not met")?;
-    Ok(Outcome::Failed(Failed::with_message(message)))
-}
-
-// Each of two runners waits for the other, so their workers run at the same time.
-#[test]
-fn two_workers_meet(rt: HostRuntime) -> Result<(), Fail> {
-    let alloc = rt.alloc();
-    let first = Arc::new(alloc, AtomicBool::new(false))?;
-    let second = Arc::new(alloc, AtomicBool::new(false))?;
-    let runners = vec![in alloc;
-        Meets {
-            mine: Arc::try_clone(&first)?,
-            theirs: Arc::try_clone(&second)?,
-            unmet: unmet(alloc)?,
-        },
-        Meets {
-            mine: second,
-            theirs: first,
-            unmet: unmet(alloc)?,
-        },
-    ]?;
-    let shares = deal(alloc, runners, vec![in alloc; false, false]?, 2)?;
-    let (_desk, joined) = run_in_threads(&rt, alloc, shares, 2)?;
-    let met = [Outcome::Passed, Outcome::Passed];
-    assert!(rt; joined.as_slice() == met.as_slice());
     Ok(())
 }

@@ -1,14 +1,10 @@
-//! What no clause says: that reports are read where memory is ample, and what the definition of a report holds and refuses.
-//! Expected values are worked by hand from the format's rules. The report of a run is read back in `mimic_roundtrip`.
-use crate::{Feed, Report, Row, Tally, Totals, read_report};
+//! Reports by themselves: what the definition of a report takes and refuses, at once, in pieces and in numbers alone.
+use super::feeding::{NO_ROWS, altered, fed, fed_each_byte};
+use mimic_events::{Feed, Report, Row, Tally, Totals, read_report};
 use mimic_trial::{Conclusion, Failed, Measurement, Outcome};
 use std::alloc::{AllocError, Global};
 use std::process::Abort;
 use std::test::Fail;
-
-const NO_ROWS: &str = r#"{ "type": "suite", "event": "started", "test_count": 0 }
-{ "type": "suite", "event": "ok", "passed": 0, "failed": 0, "ignored": 0, "measured": 0, "filtered_out": 0, "exec_time": 0 }
-"#;
 
 // Every outcome, and every sort of character in names and in a message.
 const ALL_SORTS: &str = r#"{ "type": "suite", "event": "started", "test_count": 5 }
@@ -25,13 +21,7 @@ const ALL_SORTS: &str = r#"{ "type": "suite", "event": "started", "test_count": 
 { "type": "suite", "event": "failed", "passed": 0, "failed": 3, "ignored": 1, "measured": 1, "filtered_out": 18446744073709551615, "exec_time": 1.5 }
 "#;
 
-// The report with one part in place of another, which stands in it.
-fn altered(alloc: Global, report: &str, old: &str, new: &str) -> Result<String, Fail> {
-    let (front, back) = report.split_once(old).ok_or("not in the report")?;
-    Ok(format!(in alloc; "{front}{new}{back}")?)
-}
-
-// Without a kind.
+// A row without a kind.
 fn row(alloc: Global, name: &str, outcome: Outcome) -> Result<Row, Fail> {
     Ok(Row {
         name: String::from_str(alloc, name)?,
@@ -69,17 +59,7 @@ fn all_sorts(alloc: Global) -> Result<Report, Fail> {
     })
 }
 
-// What a feed answers of these pieces.
-fn fed(alloc: Global, pieces: &[&[u8]]) -> Result<Option<Report>, Fail> {
-    let mut feed = Feed::new(alloc)?;
-    for piece in pieces {
-        feed.feed(piece)?;
-    }
-    let report = feed.finish()?;
-    Ok(report)
-}
-
-// What a tally answers of these pieces.
+// What a tally returns for these pieces.
 fn tallied(alloc: Global, pieces: &[&[u8]]) -> Result<Option<Totals>, Fail> {
     let mut tally = Tally::new(alloc);
     for piece in pieces {
@@ -103,22 +83,16 @@ fn all_totals() -> Totals {
     }
 }
 
-#[test]
-fn reads_every_outcome(rt: HostRuntime) -> Result<(), Fail> {
-    let alloc = rt.alloc();
-    let report = read_report(alloc, ALL_SORTS.as_bytes())?.ok_or("no report")?;
-    assert!(rt; report.counts() == all_totals().counts);
-    assert!(rt; report == all_sorts(alloc)?);
-    Ok(())
-}
-
-// Cut in two at each place, so also within numbers, escapes and characters.
+// The report is read at once, and cut in two at each place, so also within numbers, escapes and characters.
 #[test]
 fn reads_two_pieces(rt: HostRuntime) -> Result<(), Fail> {
     let alloc = rt.alloc();
-    let want = Some(all_sorts(alloc)?);
-    let totals = Some(all_totals());
     let bytes = ALL_SORTS.as_bytes();
+    let report = read_report(alloc, bytes)?.ok_or("no report")?;
+    assert!(rt; report.counts() == all_totals().counts);
+    assert!(rt; report == all_sorts(alloc)?);
+    let want = Some(report);
+    let totals = Some(all_totals());
     for at in 0..=bytes.len() {
         let (front, back) = bytes.split_at(at);
         assert!(rt; fed(alloc, &[front, b"", back])? == want, "{at}");
@@ -152,8 +126,8 @@ fn shows_rows_as_they_end(rt: HostRuntime) -> Result<(), Fail> {
     Ok(())
 }
 
-// Each byte by itself, with the rows so far, or a want of memory at some byte and from then on. Where the Nth
-// allocation fails, for any N, no assertion does.
+// Each byte comes by itself. After it the rows so far are shown, or memory was wanting, and then it is from there on. If the
+// Nth allocation fails, for any N, no assertion does.
 #[test]
 fn stays_refused_for_want_of_memory(rt: HostRuntime) -> Result<(), Fail> {
     let alloc = rt.alloc();
@@ -172,7 +146,7 @@ fn stays_refused_for_want_of_memory(rt: HostRuntime) -> Result<(), Fail> {
     Ok(())
 }
 
-// The same of a report that is read at once, and of its numbers.
+// The same holds of a report that is read at once, and of its numbers.
 #[test]
 fn reads_all_or_wants_memory(rt: HostRuntime) -> Result<(), Fail> {
     let alloc = rt.alloc();
@@ -304,7 +278,7 @@ fn ignored_trial(alloc: Global, first: &str, second: &str) -> Result<String, Fai
     )?)
 }
 
-// Fields that both lines of a trial have, and the name and the kind that they tell.
+// Fields that both lines of a trial have, and the name and the kind that they stand for.
 #[test]
 fn reads_kinds(rt: HostRuntime) -> Result<(), Fail> {
     let alloc = rt.alloc();
@@ -326,11 +300,7 @@ fn reads_kinds(rt: HostRuntime) -> Result<(), Fail> {
         assert_eq!(rt; report.rows[0].name.as_str(), name);
         assert_eq!(rt; report.rows[0].kind.as_str(), kind);
         assert!(rt; report.rows[0].outcome == Outcome::Ignored);
-        let mut feed = Feed::new(alloc)?;
-        for byte in bytes.chunks(1) {
-            feed.feed(byte)?;
-        }
-        assert!(rt; feed.finish()? == Some(report), "{fields}");
+        assert!(rt; fed_each_byte(alloc, bytes)? == Some(report), "{fields}");
     }
     Ok(())
 }
@@ -371,22 +341,6 @@ fn check_no_report(rt: &impl Abort, alloc: Global, first: &str, second: &str) ->
     Ok(())
 }
 
-#[test]
-fn refuses_names_that_are_no_text(rt: HostRuntime) -> Result<(), Fail> {
-    let alloc = rt.alloc();
-    for bad in [b"\xff".as_slice(), b"\xc3", b"\xed\xa0\x80", b"\xc0\xaf"] {
-        let mut bytes = Vec::new(alloc);
-        for (at, part) in ALL_SORTS.split("\u{e9}").enumerate() {
-            if at > 0 {
-                bytes.extend_from_slice(bad)?;
-            }
-            bytes.extend_from_slice(part.as_bytes())?;
-        }
-        assert!(rt; read_report(alloc, bytes.as_slice())?.is_none());
-    }
-    Ok(())
-}
-
 // A title may announce more rows than any memory holds: room is taken for the rows that come, and not for those.
 #[test]
 fn takes_no_room_for_rows_that_do_not_come(rt: HostRuntime) -> Result<(), Fail> {
@@ -398,28 +352,5 @@ fn takes_no_room_for_rows_that_do_not_come(rt: HostRuntime) -> Result<(), Fail> 
         assert!(rt; read_report(alloc, title.as_str().as_bytes())?.is_none());
         assert!(rt; read_report(alloc, text.as_str().as_bytes())?.is_none());
     }
-    Ok(())
-}
-
-const ONE_ROW: &str = r#"{ "type": "suite", "event": "started", "test_count": 1 }
-{ "type": "test", "event": "started", "name": "fly", "kind": "banana" }
-{ "type": "test", "name": "fly", "kind": "banana", "event": "ok" }
-{ "type": "suite", "event": "ok", "passed": 1, "failed": 0, "ignored": 0, "measured": 0, "filtered_out": 16, "exec_time": 0.5 }
-"#;
-
-#[test]
-fn first_page(rt: HostRuntime) -> Result<(), Fail> {
-    let alloc = rt.alloc();
-    let mut feed = Feed::new(alloc)?;
-    for line in ONE_ROW.split_inclusive('\n') {
-        feed.feed(line.as_bytes())?;
-    }
-    for row in feed.rows().unwrap_or(&[]) {
-        assert_eq!(rt; (row.kind.as_str(), row.name.as_str()), ("banana", "fly"));
-        assert!(rt; row.outcome == Outcome::Passed);
-    }
-    let report = feed.finish()?.ok_or("no report")?;
-    assert_eq!(rt; report.counts().num_passed, 1);
-    assert_eq!(rt; (report.filtered_out, report.nanos), (16, 500_000_000));
     Ok(())
 }
