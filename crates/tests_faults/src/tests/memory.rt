@@ -1,9 +1,8 @@
 //! Refused memory: what may be returned if the Nth allocation fails, for any N. `bench/refuse_memory` makes each fail in
 //! turn; without it none does, and a test shows what comes with ample memory alone. All that is handed in is made
 //! beforehand; if that fails, a test says nothing.
-use super::runs::{Left, Marks, asking, marking, outcome_with, run_into};
+use super::runs::{Left, Marks, asking, marking, outcome_with, roomy, run_into};
 use libtest_mimic::{Arguments, ArgumentsError, FormatSetting, Outcome, RunError, Trial};
-use mimic_testkit::FaultyWriter;
 use std::alloc::{AllocError, Global};
 use std::test::Fail;
 
@@ -30,13 +29,6 @@ fn two_tests(alloc: Global) -> Result<Vec<Trial<Marks>>, AllocError> {
     let kind = String::from_str(alloc, "k")?;
     let tests = vec![in alloc; first, second.with_kind(kind)]?;
     Ok(tests)
-}
-
-// A writer that has its room.
-fn roomy(alloc: Global) -> Result<FaultyWriter, AllocError> {
-    let mut writer = FaultyWriter::new(alloc);
-    writer.bytes = Vec::with_capacity(alloc, 1000)?;
-    Ok(writer)
 }
 
 // Whether a run may leave this if it wants memory or, with workers, threads.

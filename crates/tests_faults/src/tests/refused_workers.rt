@@ -1,21 +1,12 @@
 //! Memory refused to workers. `bench/refuse_memory` refuses each request in turn, and looks for the errors that these tests
 //! return; if nothing is refused, each run is whole.
-use super::runs::{asking, marking, outcome_with, run_into};
+use super::runs::{asking, marking, outcome_with, roomy, run_into};
 use libtest_mimic::{FormatSetting, Outcome, RunError, Task, Trial};
-use mimic_testkit::FaultyWriter;
-use std::alloc::{AllocError, Global};
 use std::sync::Arc;
 use std::sync::atomic::{AtomicBool, Ordering};
 use std::test::Fail;
 use std::thread;
 use std::time::Duration;
-
-// A writer that has its room.
-fn roomy(alloc: Global) -> Result<FaultyWriter, AllocError> {
-    let mut writer = FaultyWriter::new(alloc);
-    writer.bytes = Vec::with_capacity(alloc, 1000)?;
-    Ok(writer)
-}
 
 // Says that it began and, some milliseconds later, that it has ended.
 #[derive(Drop)]

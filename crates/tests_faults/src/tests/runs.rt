@@ -56,6 +56,13 @@ pub(super) fn asking(alloc: Global, format: FormatSetting, threads: Option<usize
     args
 }
 
+// A writer that has its room.
+pub(super) fn roomy(alloc: Global) -> Result<FaultyWriter, AllocError> {
+    let mut writer = FaultyWriter::new(alloc);
+    writer.bytes = Vec::with_capacity(alloc, 1000)?;
+    Ok(writer)
+}
+
 // What a run leaves.
 #[derive(Drop)]
 pub(super) struct Left {

@@ -1,8 +1,9 @@
 //! The desk, beside a plain computation of what it is to show.
 ghost use Rattle.std.specs.Prelude.{◌≡◌};
 
+use super::numbered;
 use mimic_pool::{Arrival, Desk};
-use mimic_trial::{Measurement, Outcome};
+use mimic_trial::Outcome;
 use std::alloc::{AllocError, Global};
 use std::process::Abort;
 use std::test::Fail;
@@ -27,14 +28,6 @@ fn keeps_first_arrivals(rt: HostRuntime) -> Result<(), Fail> {
     assert_eq!(rt; desk.settle(&joined), Err(0));
     assert_eq!(rt; desk.into_order().as_slice(), [2, 0, 1].as_slice());
     Ok(())
-}
-
-// The outcome of the arrival of this number, which no other arrival has.
-fn outcome_of(number: usize) -> Outcome {
-    Outcome::Measured(Measurement {
-        avg: number as u64,
-        variance: 0,
-    })
 }
 
 // The number of the first arrival at the place.
@@ -77,7 +70,7 @@ fn expected_places(
 // The joined outcome at the place: the one that arrived first, or another one if the place is among the changed.
 fn joined_at(arrivals: &[usize], changed: [bool; 3], place: usize) -> Outcome {
     match first_at(arrivals, place) {
-        Some(number) if changed.get(place) != Some(&true) => outcome_of(number),
+        Some(number) if changed.get(place) != Some(&true) => numbered(number),
         _ => Outcome::Passed,
     }
 }
@@ -97,7 +90,7 @@ fn arrives(desk: &mut Desk, arrivals: &[usize], number: usize) -> Option<Arrival
     ensures { desk.new.places ≡ desk.old.places }
 {
     match arrivals.get(number) {
-        Some(place) => Some(desk.arrive(*place, outcome_of(number))),
+        Some(place) => Some(desk.arrive(*place, numbered(number))),
         None => None,
     }
 }
@@ -108,7 +101,7 @@ fn shows(rt: &impl Abort, alloc: Global, desk: Desk, arrivals: &[usize]) -> Resu
     assert_eq!(rt; Vec::from_iter(alloc, desk.missing())?, missing);
     for place in 0..5 {
         let first = first_at(arrivals, place).filter(|_| place < 3);
-        assert!(rt; desk.outcome(place) == first.map(outcome_of).as_ref());
+        assert!(rt; desk.outcome(place) == first.map(numbered).as_ref());
     }
     order.extend_from_slice(missing.as_slice())?;
     assert_eq!(rt; desk.into_order(), order);

@@ -2,8 +2,9 @@
 ghost use Rattle.std.specs.Prelude.{All};
 ghost use Rattle.mimic_pool.specs.Share.{AllRunners};
 
+use super::numbered;
 use mimic_pool::{Inbox, Reports, Share, Untold, deal, join_all, prepare, start_all};
-use mimic_trial::{Failed, Measurement, Outcome, Task};
+use mimic_trial::{Failed, Outcome, Task};
 use std::alloc::{AllocError, Global};
 use std::process::Abort;
 use std::sync::atomic::{AtomicU64, Ordering};
@@ -11,13 +12,6 @@ use std::sync::{Arc, Wait};
 use std::test::Fail;
 use std::thread;
 use std::thread::Threads;
-
-fn numbered(number: u64) -> Outcome {
-    Outcome::Measured(Measurement {
-        avg: number,
-        variance: 0,
-    })
-}
 
 #[test]
 fn refuses_what_the_board_hands_back(rt: HostRuntime) -> Result<(), Fail> {
@@ -98,19 +92,20 @@ fn a_worker_closes_when_its_reports_are_dropped(rt: HostRuntime) -> Result<(), F
     Ok(())
 }
 
-// Returns its number once so many rows were taken. If that doesn't happen in time, it fails, and lets no other task wait.
+// Returns the number of its place once so many rows were taken. If that doesn't happen in time, it fails, and lets no other
+// task wait.
 #[derive(Drop)]
 struct Awaits {
     taken: Arc<AtomicU64>,
     rows: u64,
-    number: u64,
+    place: usize,
 }
 
 impl Task for Awaits {
     fn run(self, _test_mode: bool) -> Outcome {
         for _ in 0..10_000_000 {
             if self.taken.load(Ordering::SeqCst) >= self.rows {
-                return numbered(self.number);
+                return numbered(self.place);
             }
             thread::yield_now();
         }
@@ -157,17 +152,12 @@ fn shares_of(
 ) -> Result<Vec<Share<Awaits>>, AllocError> {
     let mut tasks = Vec::with_capacity(alloc, trials)?;
     for place in 0..trials {
-        let number = place as u64;
         let rows = match place.checked_rem(step) {
-            Some(0) => number,
+            Some(0) => place as u64,
             _ => 0,
         };
         let taken = Arc::try_clone(taken)?;
-        tasks.push(Awaits {
-            taken,
-            rows,
-            number,
-        })?;
+        tasks.push(Awaits { taken, rows, place })?;
     }
     let flags = vec![in alloc; false; tasks.len()]?;
     deal(alloc, tasks, flags, 2)
@@ -187,7 +177,7 @@ fn check_rows<R: Threads + Wait + Abort + Copy + Drop + Send + 'static>(
     for (place, outcome) in &rows {
         let worker = place % 2;
         assert_eq!(rt; *place, next[worker]);
-        assert!(rt; *outcome == numbered(*place as u64));
+        assert!(rt; *outcome == numbered(*place));
         next[worker] = place.saturating_add(2);
     }
     assert_eq!(rt; next, [trials, trials.saturating_add(1)]);

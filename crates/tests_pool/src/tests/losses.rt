@@ -1,9 +1,10 @@
 //! A desk that gets a list with losses, repeats and strangers.
 ghost use Rattle.std.specs.Prelude.{◌≡◌};
 
+use super::numbered;
 use super::workers::{Becomes, shares_of_five};
 use mimic_pool::{Arrival, Desk, Reports, Untold, work};
-use mimic_trial::{Measurement, Outcome};
+use mimic_trial::Outcome;
 use std::alloc::{AllocError, Global};
 use std::test::Fail;
 
@@ -50,14 +51,6 @@ impl Reports for Losing {
     }
 }
 
-// What the runner at this place returns.
-fn measured(place: usize) -> Outcome {
-    Outcome::Measured(Measurement {
-        avg: place as u64,
-        variance: 0,
-    })
-}
-
 // Lets the next row come to the desk, if there is one. The list stands backwards, so the next is its last.
 fn next_arrives(desk: &mut Desk, list: &mut Vec<(usize, Outcome)>) -> Option<Arrival>
     ensures { desk.new.places ≡ desk.old.places }
@@ -88,7 +81,7 @@ fn three_arrive(desk: &mut Desk, list: &mut Vec<(usize, Outcome)>) -> [Option<Ar
 #[test]
 fn settles_a_list_with_losses(rt: HostRuntime) -> Result<(), Fail> {
     let alloc = rt.alloc();
-    let runners = [0, 1, 2, 3, 4].map(|place| Becomes(measured(place)));
+    let runners = [0, 1, 2, 3, 4].map(|place| Becomes(numbered(place)));
     let mut list = Vec::new(alloc);
     for share in shares_of_five(alloc, runners)? {
         let room = Vec::with_capacity(alloc, share.len())?;
@@ -114,10 +107,10 @@ fn settles_a_list_with_losses(rt: HostRuntime) -> Result<(), Fail> {
     assert!(rt; list.is_empty());
     assert_eq!(rt; desk.order(), [0, 4, 1].as_slice());
     let joined = [
-        measured(0),
-        measured(1),
-        measured(2),
-        measured(3),
+        numbered(0),
+        numbered(1),
+        numbered(2),
+        numbered(3),
         Outcome::Ignored,
     ];
     assert_eq!(rt; desk.settle(&joined), Ok(()));
