@@ -99,7 +99,9 @@ const CASES: [(&str, &str, Option<&str>); 6] = [
 #[test]
 fn finds_and_runs_cases(rt: HostRuntime) -> Result<(), Fail> {
     let alloc = rt.alloc();
-    let folder = env::temp_dir(&rt)?.join(alloc, "example_files")?.into_string();
+    let folder = env::temp_dir(&rt)?
+        .join(alloc, "example_files")?
+        .into_string();
     fs::create_dir_all(&rt, format!(in alloc; "{folder}/words")?.as_str())?;
     for (file, bytes) in FILES {
         fs::write(&rt, format!(in alloc; "{folder}/{file}")?.as_str(), bytes)?;

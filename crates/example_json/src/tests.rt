@@ -34,7 +34,9 @@ const TESTS: [(&str, bool, Option<(&str, &str)>); 6] = [
 #[test]
 fn judges_the_parser(rt: HostRuntime) -> Result<(), Fail> {
     let alloc = rt.alloc();
-    let folder = env::temp_dir(&rt)?.join(alloc, "example_json")?.into_string();
+    let folder = env::temp_dir(&rt)?
+        .join(alloc, "example_json")?
+        .into_string();
     fs::create_dir_all(&rt, folder.as_str())?;
     for (file, bytes) in FILES {
         fs::write(&rt, format!(in alloc; "{folder}/{file}")?.as_str(), bytes)?;
