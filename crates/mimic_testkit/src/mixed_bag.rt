@@ -1,4 +1,7 @@
 //! The trials of `harness`: tests and benchmarks with and without a kind, ignored and not, of every outcome.
+ghost use Rattle.std.specs.Prelude.{◌≡◌, IfErr, IfOk, Some};
+ghost use Rattle.std.specs.Result.{is_ok};
+
 use Answer::{Benchmark, Test};
 use libtest_mimic::{Failed, Measurement};
 use std::alloc::{AllocError, Global};
@@ -55,7 +58,10 @@ pub static MIXED_BAG: [Entry; 17] = entries![
 pub fn test_answer(
     alloc: Global,
     answer: &Result<(), &'static str>,
-) -> Result<Result<(), Failed>, AllocError> {
+) -> Result<Result<(), Failed>, AllocError>
+    ensures passed { IfOk result (λ made. is_ok made ≡ is_ok answer.now) }
+    ensures message { IfOk result (λ made. IfErr made (λ failed. IfErr answer.now (λ message. failed ≡ Some message.now))) }
+{
     Ok(match answer {
         Ok(()) => Ok(()),
         Err(message) => Err(Failed::with_message(String::from_str(alloc, message)?)),
@@ -66,7 +72,12 @@ pub fn test_answer(
 pub fn benchmark_answer(
     alloc: Global,
     answer: &Result<(u64, u64), &'static str>,
-) -> Result<Result<Option<Measurement>, Failed>, AllocError> {
+) -> Result<Result<Option<Measurement>, Failed>, AllocError>
+    ensures passed { IfOk result (λ made. is_ok made ≡ is_ok answer.now) }
+    ensures measured { IfOk result (λ made. IfOk made (λ measurement. IfOk answer.now (λ pair.
+        measurement ≡ Some (record { avg = pair.0; variance = pair.1 })))) }
+    ensures message { IfOk result (λ made. IfErr made (λ failed. IfErr answer.now (λ message. failed ≡ Some message.now))) }
+{
     Ok(match answer {
         Ok((avg, variance)) => Ok(Some(Measurement {
             avg: *avg,
