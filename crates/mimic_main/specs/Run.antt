@@ -18,7 +18,7 @@ use Rattle.mimic_main.specs.Output.{HandsOn}
 abbrev pub faultless : Option (List ℕ) → Shown
 faultless bytes = record { bytes = bytes; faults = 0 }
 
--- the fault is that of a run; where this had none, its last bytes could not be handed on, and it is one of the writer
+-- the fault is that of a run; if the run had none, it is a write fault, of any error
 abbrev pub IsFaultOf : Result Conclusion RunError → RunError → Type 0
 IsFaultOf (Ok c) fault = (error : Error) × (fault ≡ Write (WriteFault.Error error))
 IsFaultOf (Err e) fault = fault ≡ e
