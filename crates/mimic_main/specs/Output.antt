@@ -1,5 +1,5 @@
 -- What a buffered output was given, what of it waits, and when it is handed on.
-use Rattle.std.specs.Prelude.{◌≡◌, ◌+◌, ◌<◌, ◌≤◌, ◌&&◌, ℕ, Bool, true, false, not, List, [], ◌∷◌, length, Option, Result, IsErr, if◌then◌else◌, is_some, nat_lt, nat_eq}
+use Rattle.std.specs.Prelude.{◌≡◌, ◌+◌, ◌<◌, ◌≤◌, ◌&&◌, ℕ, Bool, true, false, not, List, [], ◌∷◌, length, Option, Result, IsErr, if◌then◌else◌, nat_lt, nat_eq}
 use Rattle.std.specs.List.{ends_with}
 use Rattle.std.specs.Io.KnownBytes.{Keeps, append_known}
 use Rattle.mimic_args.specs.declared.Arguments.{Arguments}
@@ -9,7 +9,7 @@ use Rattle.mimic_args.specs.Arguments.{format_of}
 use Rattle.mimic_main.specs.declared.buffer.Output.{Output}
 use Rattle.mimic_main.specs.declared.buffer.FlushPolicy.{FlushPolicy}
 use Rattle.mimic_main.specs.declared.buffer.TheConstants.{BLOCK}
-use Rattle.mimic_main.specs.declared.buffer.FlushPolicy.TheVariants.{OnFlush, OnFlushAfterLine, OnLineEnd, OnSecondLineEnd, WhenFull}
+use Rattle.mimic_main.specs.declared.buffer.FlushPolicy.TheVariants.{Always, OnFlush, OnLineEnd, OnOddLineEnd, OnEvenLineEnd, WhenFull}
 
 -- the bytes that wait to be handed on
 abbrev pub waiting_of : {W : Type 0} → Output W → List ℕ
@@ -53,50 +53,41 @@ pub record SamePolicy {W : Type 0} (old new : Output W) : Type 0 where
   pub policy : flushes_by new ≡ flushes_by old
   pub lines : has_odd_lines new ≡ has_odd_lines old
 
--- by this policy a text that ends a line is handed on, behind an odd number of such texts or not (our own)
-abbrev pub heeds_line : FlushPolicy → Bool → Bool
-heeds_line OnFlush odd = false
-heeds_line OnFlushAfterLine odd = false
-heeds_line OnLineEnd odd = true
-heeds_line OnSecondLineEnd odd = odd
-heeds_line WhenFull odd = false
+-- by this policy a text is handed on at once, which ends a line or not, behind an odd number of texts that end one or not (our own)
+abbrev pub heeds_text : FlushPolicy → Bool → Bool → Bool
+heeds_text Always ends odd = true
+heeds_text OnFlush ends odd = false
+heeds_text OnLineEnd ends odd = ends
+heeds_text OnOddLineEnd ends odd = ends && not odd
+heeds_text OnEvenLineEnd ends odd = ends && odd
+heeds_text WhenFull ends odd = false
 
--- by this policy these bytes, which wait, are handed on at a flush (our own)
-abbrev pub heeds_flush : FlushPolicy → List ℕ → Bool
-heeds_flush OnFlush waiting = true
-heeds_flush OnFlushAfterLine waiting = ends_line waiting
-heeds_flush OnLineEnd waiting = true
-heeds_flush OnSecondLineEnd waiting = true
-heeds_flush WhenFull waiting = false
+-- by this policy what waits is handed on at a flush (our own)
+abbrev pub heeds_flush : FlushPolicy → Bool
+heeds_flush Always = false
+heeds_flush OnFlush = true
+heeds_flush OnLineEnd = false
+heeds_flush OnOddLineEnd = false
+heeds_flush OnEvenLineEnd = false
+heeds_flush WhenFull = false
 
 -- by its policy the output hands on this text, and what waits
 abbrev pub goes_out : {W : Type 0} → Output W → List ℕ → Bool
-goes_out output text = ends_line text && heeds_line (flushes_by output) (has_odd_lines output)
+goes_out output text = heeds_text (flushes_by output) (ends_line text) (has_odd_lines output)
 
 -- so many bytes can wait, too
 abbrev pub HasRoom : {W : Type 0} → Output W → ℕ → Type 0
 HasRoom output count = (count < BLOCK) × (length (waiting_of output) + count ≤ BLOCK)
 
--- a pretty report is handed on at each flush, the others at the end of each line too (our own)
-abbrev pub policy_of : FormatSetting → FlushPolicy
-policy_of Pretty = OnFlush
-policy_of Terse = OnLineEnd
-policy_of Json = OnLineEnd
+-- the policy for a report in this format, by more than one thread or not, to a terminal or not
+abbrev pub policy_of : FormatSetting → Bool → Bool → FlushPolicy
+policy_of Pretty in_workers on_terminal = if in_workers then OnLineEnd else OnFlush
+policy_of Terse in_workers on_terminal = if on_terminal then Always else OnLineEnd
+policy_of Json in_workers on_terminal = if in_workers then OnOddLineEnd else OnEvenLineEnd
 
--- a logfile in pretty is to name the trial that hangs, the others go out when there is no room (our own)
-abbrev pub policy_in_logfile : FormatSetting → FlushPolicy
-policy_in_logfile Pretty = policy_of Pretty
-policy_in_logfile Terse = WhenFull
-policy_in_logfile Json = WhenFull
-
--- how a run with these arguments is handed on, into its logfile where it has one
-abbrev pub policy_for : Arguments → FlushPolicy
-policy_for args = if is_some args.logfile then policy_in_logfile (format_of args) else policy_of (format_of args)
-
--- what hands on a run in this format, by so many threads, in fewer writes than this policy: with one thread JSON goes out at the
--- end of each second line, which comes before a trial runs; with more threads pretty and JSON go out where a flush follows a
--- whole line. Any other policy stays (our own)
-abbrev pub by_rows : FormatSetting → ℕ → FlushPolicy → FlushPolicy
-by_rows Pretty threads OnFlush = if nat_lt 1 threads then OnFlushAfterLine else OnFlush
-by_rows Json threads OnLineEnd = if nat_lt 1 threads then OnFlushAfterLine else OnSecondLineEnd
-by_rows format threads policy = policy
+-- how a run with these arguments on so many threads is handed on, to a terminal or not (our own). With one thread a pretty report goes
+-- out at each flush, and JSON at the end of each second line: both come before a trial runs. With more threads a row goes out at its end:
+-- a line of a pretty report, and in JSON behind the title each second line. Terse goes out at the end of a line, and on a terminal at each
+-- mark. A list goes out when there is no room.
+abbrev pub policy_for : Arguments → ℕ → Bool → FlushPolicy
+policy_for args threads on_terminal = if args.list then WhenFull else policy_of (format_of args) (nat_lt 1 threads) on_terminal

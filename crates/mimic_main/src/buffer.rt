@@ -2,7 +2,7 @@
 ghost use Rattle.std.specs.Prelude.{◌≡◌, ◌↔◌, ◌+◌, ◌<◌, ◌≤◌, ◌-◌, ◌++◌, ℕ, [], drop, false, length, take, true, IfOk, IsErr, IsOk, IsTrue, Ok, OnErr, OnOk};
 ghost use Rattle.std.specs.Io.{WritesAtMost};
 ghost use Rattle.std.specs.Io.KnownBytes.{Appends, Keeps, WriteAppends};
-ghost use Rattle.mimic_main.specs.Output.{CountsLine, HandsOn, HasRoom, SamePolicy, StaysStopped, ends_line, flushes_by, given_to, goes_out, has_odd_lines, has_stopped, heeds_flush, heeds_line, waiting_of};
+ghost use Rattle.mimic_main.specs.Output.{CountsLine, HandsOn, HasRoom, SamePolicy, StaysStopped, ends_line, flushes_by, given_to, goes_out, has_odd_lines, has_stopped, heeds_flush, heeds_text, waiting_of};
 ghost use Rattle.mimic_main.specs.declared.buffer.TheConstants.{BLOCK};
 
 use arrayvec::ArrayVec;
@@ -13,71 +13,48 @@ use std::io::{ErrorKind, Write};
 /// When a buffer hands its bytes on to its writer, besides when it has no room and when it is finished.
 #[derive(Clone, Copy, Debug, PartialEq, Eq)]
 pub enum FlushPolicy {
-    /// At each flush: somebody is looking on, and a flush comes before anything that takes its time.
+    /// Behind each text.
+    Always,
+    /// At each flush.
     OnFlush,
-    /// At a flush where a line has ended: somebody is looking on, and behind a flush amid a line its rest comes directly.
-    OnFlushAfterLine,
-    /// Behind each text that ends a line, and at each flush: somebody is looking on, and a flush need not come.
+    /// Behind each text that ends a line.
     OnLineEnd,
-    /// Behind each second such text, and at each flush: somebody is looking on, and the texts between these are each
-    /// followed by the next at once.
-    OnSecondLineEnd,
+    /// Behind the first such text, and each second one from there: behind a title and each row of two lines.
+    OnOddLineEnd,
+    /// Behind the second such text, and each second one from there: before each trial runs whose row is two lines, of which
+    /// the first announces it.
+    OnEvenLineEnd,
     /// At no other time.
     WhenFull,
 }
 
 impl FlushPolicy {
-    ghost use Rattle.mimic_args.specs.Arguments.{format_of};
     ghost use Rattle.libtest_mimic.specs.Run.{threads_of};
-    ghost use Rattle.mimic_main.specs.Output.{by_rows, policy_for, policy_of};
+    ghost use Rattle.mimic_main.specs.Output.{policy_for};
 
-    /// How the output of a run with these arguments is handed on: as its format wants, but terse and JSON into a logfile when
-    /// there is no room.
+    /// How the output of a run with these arguments is handed on, by so many threads if they name no number, to a terminal
+    /// or not. So a run that is killed has left the title and the row of each trial that has ended, in pretty and JSON.
     ///
-    /// So with one thread a logfile in pretty names the trial that hangs.
-    pub fn of_run(args: &Arguments) -> FlushPolicy
-        ensures { result ≡ policy_for args.now }
+    /// With one thread an announcement goes out before its trial runs, in one write with the row before it: a pretty report is
+    /// flushed there, and in JSON it is each second line, since the title comes first. With more threads the title goes out
+    /// before a worker starts, and a row in one write when its trial has ended.
+    ///
+    /// Terse has no lines but the first and the last ones, and goes out where they end, and on a terminal mark by mark. A list
+    /// goes out in blocks.
+    pub fn of_run(args: &Arguments, default_threads: usize, is_terminal: bool) -> FlushPolicy
+        ensures { result ≡ policy_for args.now (threads_of args.now default_threads) is_terminal }
     {
+        if args.list {
+            return FlushPolicy::WhenFull;
+        }
+        let in_workers = args.test_threads.unwrap_or(default_threads) > 1;
         match args.format_used() {
-            FormatSetting::Terse | FormatSetting::Json if args.logfile.is_some() => {
-                FlushPolicy::WhenFull
-            }
-            format => FlushPolicy::of_format(format),
-        }
-    }
-
-    /// How a report in this format is handed on to somebody who looks on.
-    ///
-    /// A run flushes a pretty report at each announcement, so with one thread a row goes out with the announcement that
-    /// comes directly behind it. The lines of other formats go out as they end.
-    pub fn of_format(format: FormatSetting) -> FlushPolicy
-        ensures { result ≡ policy_of format }
-    {
-        match format {
+            FormatSetting::Pretty if in_workers => FlushPolicy::OnLineEnd,
             FormatSetting::Pretty => FlushPolicy::OnFlush,
-            FormatSetting::Terse | FormatSetting::Json => FlushPolicy::OnLineEnd,
-        }
-    }
-
-    /// A policy with fewer writes for the report of a run with these arguments, by so many threads where they name no number:
-    /// what a run writes at once goes out at once.
-    ///
-    /// With one thread an outcome in JSON goes out with the announcement that comes directly behind it. That is each second
-    /// line, since the title comes first. With more threads a run writes announcement and outcome together, and flushes before
-    /// it waits for a row, so pretty and JSON go out at a flush behind a whole row. Otherwise this policy is kept.
-    pub fn by_rows(self, args: &Arguments, default_threads: usize) -> FlushPolicy
-        ensures { result ≡ by_rows (format_of args.now) (threads_of args.now default_threads) self }
-    {
-        let threads = args.test_threads.unwrap_or(default_threads);
-        match (args.format_used(), self) {
-            (FormatSetting::Pretty, FlushPolicy::OnFlush) if threads > 1 => {
-                FlushPolicy::OnFlushAfterLine
-            }
-            (FormatSetting::Json, FlushPolicy::OnLineEnd) if threads > 1 => {
-                FlushPolicy::OnFlushAfterLine
-            }
-            (FormatSetting::Json, FlushPolicy::OnLineEnd) => FlushPolicy::OnSecondLineEnd,
-            _ => self,
+            FormatSetting::Terse if is_terminal => FlushPolicy::Always,
+            FormatSetting::Terse => FlushPolicy::OnLineEnd,
+            FormatSetting::Json if in_workers => FlushPolicy::OnOddLineEnd,
+            FormatSetting::Json => FlushPolicy::OnEvenLineEnd,
         }
     }
 }
@@ -196,15 +173,14 @@ impl<W: Write> Output<W> {
         ensures bytes { WriteAppends (given_to W.contents self.old) (given_to W.contents self.new) result text.now }
         ensures policy { flushes_by self.new ≡ flushes_by self.old }
         ensures lines { IfOk result (CountsLine self.old self.new text.now ends_line) }
-        ensures out { ends_line ≡ true → heeds_line (flushes_by self.old) (has_odd_lines self.old) ≡ true
-            → OnOk result (waiting_of self.new ≡ []) }
+        ensures out { heeds_text (flushes_by self.old) ends_line (has_odd_lines self.old) ≡ true → OnOk result (waiting_of self.new ≡ []) }
         ensures stops { OnErr result (has_stopped self.new ≡ true) }
         ensures stopped { StaysStopped self.old self.new result }
     {
         if self.has_failed {
             return Err(self.earlier_fault());
         }
-        if text.len() >= BLOCK || ends_line && self.heeds_line() {
+        if text.len() >= BLOCK || self.heeds_text(ends_line) {
             let count = self.write_through(text)?;
             self.has_odd_lines ^= ends_line && count == text.len();
             return Ok(count);
@@ -227,6 +203,9 @@ impl<W: Write> Output<W> {
             return self.write_together(text);
         }
         self.hand_on()?;
+        if text.is_empty() {
+            return Ok(0);
+        }
         let written = self.writer.write(text);
         self.has_failed = !matches!(written, Ok(1..));
         written
@@ -266,26 +245,24 @@ impl<W: Write> Output<W> {
         };
     }
 
-    // Whether a line goes out where it ends.
-    fn heeds_line(&self) -> bool
-        ensures { result ≡ heeds_line (flushes_by self.now) (has_odd_lines self.now) }
+    // Whether a text goes out at once, which ends a line or not.
+    fn heeds_text(&self, ends_line: bool) -> bool
+        ensures { result ≡ heeds_text (flushes_by self.now) ends_line (has_odd_lines self.now) }
     {
         match self.policy {
-            FlushPolicy::OnLineEnd => true,
-            FlushPolicy::OnSecondLineEnd => self.has_odd_lines,
-            FlushPolicy::OnFlush | FlushPolicy::OnFlushAfterLine | FlushPolicy::WhenFull => false,
+            FlushPolicy::Always => true,
+            FlushPolicy::OnLineEnd => ends_line,
+            FlushPolicy::OnOddLineEnd => ends_line && !self.has_odd_lines,
+            FlushPolicy::OnEvenLineEnd => ends_line && self.has_odd_lines,
+            FlushPolicy::OnFlush | FlushPolicy::WhenFull => false,
         }
     }
 
     // Whether what waits goes out at a flush.
     fn heeds_flush(&self) -> bool
-        ensures { result ≡ heeds_flush (flushes_by self.now) (waiting_of self.now) }
+        ensures { result ≡ heeds_flush (flushes_by self.now) }
     {
-        match self.policy {
-            FlushPolicy::OnFlush | FlushPolicy::OnLineEnd | FlushPolicy::OnSecondLineEnd => true,
-            FlushPolicy::OnFlushAfterLine => self.waiting.ends_with(b"\n"),
-            FlushPolicy::WhenFull => false,
-        }
+        matches!(self.policy, FlushPolicy::OnFlush)
     }
 
     // Whether so many bytes more can wait. A whole block does not.
@@ -322,7 +299,7 @@ impl<W: Write> Write for Output<W> {
         ensures stopped { StaysStopped self.old self.new result }
     {
         let ends_line = buf.ends_with(b"\n");
-        if self.has_failed || ends_line && self.heeds_line() || !self.has_room(buf.len()) {
+        if self.has_failed || self.heeds_text(ends_line) || !self.has_room(buf.len()) {
             return self.write_out(buf, ends_line);
         }
         self.keep(buf);
@@ -333,9 +310,9 @@ impl<W: Write> Write for Output<W> {
     fn flush(&mut self) -> io::Result<()>
         ensures bytes { Keeps (given_to W.contents self.old) (given_to W.contents self.new) }
         ensures same { SamePolicy self.old self.new }
-        ensures out { heeds_flush (flushes_by self.old) (waiting_of self.old) ≡ true → OnOk result (waiting_of self.new ≡ []) }
-        ensures waits { heeds_flush (flushes_by self.old) (waiting_of self.old) ≡ false → self.new.writer ≡ self.old.writer }
-        ensures unheeded { has_stopped self.old ≡ false → heeds_flush (flushes_by self.old) (waiting_of self.old) ≡ false
+        ensures out { heeds_flush (flushes_by self.old) ≡ true → OnOk result (waiting_of self.new ≡ []) }
+        ensures waits { heeds_flush (flushes_by self.old) ≡ false → self.new.writer ≡ self.old.writer }
+        ensures unheeded { has_stopped self.old ≡ false → heeds_flush (flushes_by self.old) ≡ false
             → IsOk result × (self.new ≡ self.old) }
         ensures stops { OnErr result (has_stopped self.new ≡ true) }
         ensures stopped { StaysStopped self.old self.new result }

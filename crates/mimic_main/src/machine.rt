@@ -210,7 +210,7 @@ impl Program<'_> {
         F: Files,
         K: Clock,
         R: Task + Send + 'static,
-        O: Write,
+        O: Write + IsTerminal,
         E: Write,
     >(
         &self,

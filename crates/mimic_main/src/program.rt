@@ -14,7 +14,7 @@ use crate::status::Status;
 use libtest_mimic::{Arguments, ArgumentsError, Clock, Conclusion, RunError, Spawner, Task, Trial};
 use std::alloc::Global;
 use std::fs::Files;
-use std::io::Write;
+use std::io::{IsTerminal, Write};
 use std::{fs, io};
 
 // Why no report, or only a part of one, was written.
@@ -49,7 +49,7 @@ impl Program<'_> {
         T: Spawner + 'static,
         F: Files,
         R: Task + Send + 'static,
-        O: Write,
+        O: Write + IsTerminal,
         E: Write,
         C: Clock + Drop,
     >(
@@ -168,7 +168,7 @@ struct Job<R, C> {
 
 impl<R: Task + Send + 'static, C: Clock + Drop> Job<R, C> {
     // Runs into the logfile where there is one, else to `out`, which is given back.
-    fn run<T: Spawner + 'static, F: Files, O: Write>(
+    fn run<T: Spawner + 'static, F: Files, O: Write + IsTerminal>(
         self,
         rt: &T,
         args: &Arguments,
@@ -218,7 +218,7 @@ impl<R: Task + Send + 'static, C: Clock + Drop> Job<R, C> {
     }
 
     // Runs into the writer through a buffer, and gives the writer back.
-    fn run_buffered<T: Spawner + 'static, W: Write>(
+    fn run_buffered<T: Spawner + 'static, W: Write + IsTerminal>(
         self,
         rt: &T,
         args: &Arguments,
@@ -231,7 +231,7 @@ impl<R: Task + Send + 'static, C: Clock + Drop> Job<R, C> {
         ensures answer { IfOk result.1 (λ c. HasAnswer R.gives args.now self.tests.items (Ok c)) }
         ensures adds_up { args.now.list ≡ false → IfOk result.1 (λ c. total_of c ≡ vec_len self.tests) }
     {
-        let policy = FlushPolicy::of_run(args).by_rows(args, self.default_threads);
+        let policy = FlushPolicy::of_run(args, self.default_threads, writer.is_terminal());
         let output = Output::new(policy, writer);
         run_into(
             rt,

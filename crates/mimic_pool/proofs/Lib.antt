@@ -7,3 +7,4 @@ pub mod Joining
 pub mod Ordering
 pub mod Seating
 pub mod Settling
+pub mod Keeping

@@ -219,7 +219,7 @@ missing_shown seats order taken =
 -- the places of what a desk shows, and then those that are missing, are all places, each once
 pub shown_whole : (desk : Inside) (shown : Arrived) → IsSeated desk → arrived_of desk ≡ shown → IsPermutation (places_of shown.rows ++ missing_of shown) (range_with_len 0 shown.places)
 shown_whole desk shown seated is =
-    let seats = desk.seats.items in
+    let seats = desk.seats in
     let order = desk.order.items in
     let same : order ≡ places_of (seated_at order seats) = order_shown seats order seated.taken in
     let P : List ℕ → Type 0 = λ l. IsDistinct eqb l in

@@ -36,3 +36,7 @@ pub settled_placed : (Q : ℕ → Type 0) (seats : List (Option Outcome)) (order
     → OnOk r (seated_at order seats ≡ placed_at (places_of (seated_at order seats)) joined)
 settled_placed Q seats order joined (Ok u) all = all_settled seats order joined all
 settled_placed Q seats order joined (Err e) found = tt
+
+-- two outcomes that are told alike are the same
+pub some_same : (a b : Outcome) → Some a ≡ Some b → a ≡ b
+some_same a b e = cc

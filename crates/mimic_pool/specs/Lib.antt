@@ -6,4 +6,6 @@ pub mod Arrivals
 pub mod Missing
 pub mod Seats
 pub mod Board
+pub mod Inbox
 pub mod Marks
+pub mod Kept

@@ -8,14 +8,37 @@ use mimic_trial::Outcome;
 use std::alloc::Global;
 use std::sync::{Arc, Wait};
 
-/// Rows of which copies are reported to a worker's board. The worker closes when this is dropped, whether or not its rows
-/// were told.
-///
-/// A row is refused where no copy of it can be made, where its place is another worker's, and where the board hands it back.
-pub struct BoardReports<R: Wait + Drop> {
+// A worker at the board that all workers share. It closes when this is dropped, and this knows nothing of what became of its
+// rows.
+struct Reporter<R: Wait + Drop> {
     rt: R,
-    alloc: Global,
     board: Arc<SharedBoard>,
+}
+
+impl<R: Wait + Drop> Reporter<R> {
+    fn report(&self, place: usize, outcome: Outcome) -> Result<(), Untold> {
+        match self.board.report(&self.rt, place, outcome) {
+            Ok(()) => Ok(()),
+            Err(_) => Err(Untold),
+        }
+    }
+}
+
+impl<R: Wait + Drop> Drop for Reporter<R> {
+    fn drop(self) {
+        let Reporter { rt, board } = self;
+        board.close_one(&rt);
+    }
+}
+
+/// Rows of which copies are reported to the board that all workers share. The worker closes when this is dropped, whether or
+/// not its rows were told.
+///
+/// A row is refused where no copy of it can be made, and where the board hands it back.
+#[derive(Drop)]
+pub struct BoardReports<R: Wait + Drop> {
+    reporter: Reporter<R>,
+    alloc: Global,
     counts: Counts,
 }
 
@@ -26,20 +49,16 @@ impl<R: Wait + Drop> BoardReports<R> {
         ensures refusals { refused_to result ≡ 0 }
     {
         BoardReports {
-            rt,
+            reporter: Reporter { rt, board },
             alloc,
-            board,
             counts: Counts::new(),
         }
     }
 
     // Reports a copy of the row, which is made before the lock is asked for.
     fn report(&self, place: usize, outcome: &Outcome) -> Result<(), Untold> {
-        let Ok(copy) = outcome.try_clone(self.alloc) else {
-            return Err(Untold);
-        };
-        match self.board.report(&self.rt, place, copy) {
-            Ok(()) => Ok(()),
+        match outcome.try_clone(self.alloc) {
+            Ok(copy) => self.reporter.report(place, copy),
             Err(_) => Err(Untold),
         }
     }
@@ -61,17 +80,5 @@ impl<R: Wait + Drop> Reports for BoardReports<R> {
 
     fn told(&self) -> u64 {
         self.counts.told
-    }
-}
-
-impl<R: Wait + Drop> Drop for BoardReports<R> {
-    fn drop(self) {
-        let BoardReports {
-            rt,
-            alloc: _,
-            board,
-            counts: _,
-        } = self;
-        board.close(&rt);
     }
 }

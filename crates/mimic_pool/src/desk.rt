@@ -5,10 +5,12 @@ ghost use Rattle.std.specs.List.{range_with_len};
 ghost use Rattle.std.specs.List.Sorted.{IsPermutation};
 ghost use Rattle.std.specs.Option.{option_copied};
 ghost use Rattle.mimic_trial.specs.Places.{Placed, placed_at, places_of};
+ghost use Rattle.mimic_trial.specs.declared.outcome.Outcome.{Outcome as AnOutcome};
 ghost use Rattle.mimic_pool.specs.Arrivals.{AgreesAt, arrival_of, arrived_at, first_arrivals, missing_of, order_of, rows_after};
 ghost use Rattle.mimic_pool.specs.Missing.{free_from, missing_items};
 ghost use Rattle.mimic_pool.specs.Seats.{SeatAgreesAt};
 
+use crate::seats::Seats;
 use mimic_trial::Outcome;
 use std::alloc::{AllocError, Global};
 use std::marker::Model;
@@ -30,7 +32,7 @@ pub enum Arrival {
 /// Outcomes may be lost on their way, come twice, come from nowhere, and come in any order.
 #[derive(Drop)]
 pub struct Desk {
-    seats: Vec<Option<Outcome>>,
+    seats: Seats,
     order: Vec<usize>,
 }
 
@@ -50,11 +52,8 @@ impl Desk {
     pub fn new(alloc: Global, n: usize) -> Result<Desk, AllocError>
         ensures { IfOk result (λ desk. desk ≡ record { places = n; rows = [] }) }
     {
-        let mut seats = Vec::with_capacity(alloc, n)?;
+        let seats = Seats::new(alloc, n)?;
         let order = Vec::with_capacity(alloc, n)?;
-        for _place in 0..n {
-            seats.push(None)?;
-        }
         Ok(Desk { seats, order })
     }
 
@@ -69,10 +68,10 @@ impl Desk {
         if place >= self.seats.len() {
             return Arrival::Stranger;
         }
-        if self.seats[place].is_some() {
+        if self.seats.is_taken(place) {
             return Arrival::Again;
         }
-        self.seats[place] = Some(outcome);
+        self.seats.put(place, outcome);
         self.order.push_reserved(place);
         Arrival::First
     }
@@ -81,10 +80,7 @@ impl Desk {
     pub fn outcome(&self, place: usize) -> Option<&Outcome>
         ensures { option_copied result ≡ arrived_at place self.now.rows }
     {
-        match self.seats.get(place) {
-            Some(seat) => seat.as_ref(),
-            None => None,
-        }
+        self.seats.get(place)
     }
 
     /// The places of the first arrivals, in the order in which they came.
@@ -101,7 +97,7 @@ impl Desk {
             → places_of self.now.rows ++ missing_items result ≡ order_of self.now.places arrivals }
         ensures whole { IsPermutation (places_of self.now.rows ++ missing_items result) (range_with_len 0 self.now.places) }
     {
-        free_seats(self.seats.as_slice())
+        free_seats(&self.seats)
     }
 
     /// Compares the first arrivals with the outcomes that workers answered, which stand by place. An `Err` names the
@@ -114,7 +110,7 @@ impl Desk {
         ensures rows { OnOk result (self.now.rows ≡ placed_at (places_of self.now.rows) joined.now) }
         ensures below { IfErr result (λ place. place < self.now.places) }
     {
-        first_difference(self.seats.as_slice(), joined)
+        first_difference(&self.seats, joined)
     }
 
     /// All places in the order of a report: those of `order`, and then those of `missing`. No memory is taken.
@@ -127,7 +123,7 @@ impl Desk {
         if order.len() == seats.len() {
             return order;
         }
-        for place in free_seats(seats.as_slice()) {
+        for place in free_seats(&seats) {
             order.push_reserved(place);
         }
         order
@@ -137,7 +133,7 @@ impl Desk {
 /// The places of a desk at which nothing arrived, rising.
 #[derive(Drop)]
 pub struct Missing<'a> {
-    seats: &'a [Option<Outcome>],
+    seats: &'a Seats,
     next: usize,
 }
 
@@ -152,7 +148,7 @@ impl<'a> Iterator for Missing<'a> {
         while self.next < self.seats.len() {
             let place = self.next;
             self.next += 1;
-            if self.seats[place].is_none() {
+            if self.seats.get(place).is_none() {
                 return Some(place);
             }
         }
@@ -161,14 +157,14 @@ impl<'a> Iterator for Missing<'a> {
 }
 
 // The places of free seats, rising.
-fn free_seats(seats: &[Option<Outcome>]) -> Missing<'_>
+fn free_seats(seats: &Seats) -> Missing<'_>
     ensures { missing_items result ≡ free_from 0 seats.now }
 {
     Missing { seats, next: 0 }
 }
 
 // The least place whose seat is taken by another outcome than the joined one.
-fn first_difference(seats: &[Option<Outcome>], joined: &[Outcome]) -> Result<(), usize>
+fn first_difference(seats: &Seats, joined: &[Outcome]) -> Result<(), usize>
     requires { length joined.now ≡ length seats.now }
     ensures below { IfErr result (λ place. place < length seats.now) }
     ensures found { MatchResult result
@@ -176,19 +172,19 @@ fn first_difference(seats: &[Option<Outcome>], joined: &[Outcome]) -> Result<(),
         (λ differs. (¬ SeatAgreesAt seats.now joined.now differs) × ((place : ℕ) → place < differs → SeatAgreesAt seats.now joined.now place)) }
 {
     for place in 0..seats.len() {
-        if !agrees(&seats[place], &joined[place]) {
+        if !agrees(seats.get(place), &joined[place]) {
             return Err(place);
         }
     }
     Ok(())
 }
 
-// Whether the seat is free, or taken by this outcome.
-fn agrees(seat: &Option<Outcome>, joined: &Outcome) -> bool
-    ensures { IsTrue result ↔ ((o : _) → seat.now ≡ Some o → joined.now ≡ o) }
+// Whether nothing lies there, or this outcome.
+fn agrees(seat: Option<&Outcome>, joined: &Outcome) -> bool
+    ensures { IsTrue result ↔ ((o : AnOutcome) → option_copied seat.entry ≡ Some o → joined.now ≡ o) }
 {
     match seat {
-        Some(outcome) => joined == outcome,
+        Some(outcome) => *joined == *outcome,
         None => true,
     }
 }

@@ -15,13 +15,13 @@
 //! ```
 #![tactic(auto)]
 
-mod bell;
 mod board;
 mod board_reports;
 mod desk;
 mod inbox;
 mod memory_reports;
 mod reports;
+mod seats;
 mod share;
 mod shared;
 mod start;

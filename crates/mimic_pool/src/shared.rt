@@ -1,54 +1,40 @@
-//! The board of a worker, under its lock.
+//! The board of a run, under its lock.
 ghost use Rattle.std.specs.Prelude.{◌≡◌, ◌+◌, ◌≤◌};
 ghost use Rattle.std.specs.VecDeque.{deque_capacity, deque_len};
 
-use crate::bell::Bell;
 use crate::board::Board;
 use mimic_trial::Outcome;
 use std::collections::VecDeque;
-use std::sync::atomic::{AtomicBool, Ordering};
-use std::sync::{Arc, Mutex, Wait};
+use std::sync::{Condvar, Mutex, MutexGuard, Wait};
+use std::thread::yield_now;
 
-// What a look at a board found. Of the looks at several boards, the least one counts.
-#[derive(Clone, Copy, PartialEq, Eq, PartialOrd, Ord)]
-pub(crate) enum Found {
-    // Rows, which were taken.
-    Rows,
-    // Its worker held it, so that nothing is known.
-    Held,
-    // No row yet.
-    Nothing,
-    // No row, and none comes any more.
-    End,
-}
+// How often a thread lets others run before it sleeps until the lock is released. A call holds the lock for a moment, and to
+// sleep and be woken takes much longer.
+const YIELDS: u64 = 8;
 
-// A board that one worker shares with the one thread that takes its rows. Workers meet only at the bell.
-//
-// Of the places, those stand on it that are dealt to the worker: each whose remainder by the number of workers is the
-// worker's number. Its index on the board is the quotient.
-//
-// No wake-up is lost. The taking thread sleeps only where it saw all boards and no row on any, and heard no ring since it began
-// to look. A row that comes where none waits rings when it lies on its board, and so does a close. So either the look found it,
-// or its ring comes after the look began.
+// The board that all workers share with the one thread that takes their rows. Each call takes the lock once.
 #[derive(Drop)]
 pub(crate) struct SharedBoard {
     board: Mutex<Board>,
-    // Whether a row waits, as it was when the lock was last given up.
-    has_waiting: AtomicBool,
-    worker: usize,
-    workers: usize,
-    bell: Arc<Bell>,
+    has_changed: Condvar,
 }
 
 impl SharedBoard {
-    pub(crate) fn new(board: Board, worker: usize, workers: usize, bell: Arc<Bell>) -> Self {
+    pub(crate) fn new(board: Board) -> Self {
         SharedBoard {
             board: Mutex::new(board),
-            has_waiting: AtomicBool::new(false),
-            worker,
-            workers,
-            bell,
+            has_changed: Condvar::new(),
         }
+    }
+
+    fn lock<R: Wait>(&self, rt: &R) -> MutexGuard<'_, Board> {
+        for _ in 0..YIELDS {
+            if let Some(board) = self.board.try_lock() {
+                return board;
+            }
+            yield_now();
+        }
+        self.board.lock(rt)
     }
 
     // Reports the row. One that the board doesn't accept is handed back.
@@ -58,69 +44,53 @@ impl SharedBoard {
         place: usize,
         outcome: Outcome,
     ) -> Result<(), Outcome> {
-        let Some(index) = self.index_of(place) else {
-            return Err(outcome);
-        };
-        let mut board = self.board.lock(rt);
+        let mut board = self.lock(rt);
         let is_first_to_wait = !board.has_waiting();
-        board.report(index, outcome)?;
+        board.report(place, outcome)?;
+        drop(board);
         if is_first_to_wait {
-            self.has_waiting.store(true, Ordering::SeqCst);
-            drop(board);
-            self.bell.ring(rt);
+            self.has_changed.notify_one();
         }
         Ok(())
     }
 
-    // The worker reports no more.
-    pub(crate) fn close<R: Wait>(&self, rt: &R) {
-        let mut board = self.board.lock(rt);
+    // One more worker reports no more.
+    pub(crate) fn close_one<R: Wait>(&self, rt: &R) {
+        let mut board = self.lock(rt);
         board.close_one();
+        let is_last = board.all_closed();
         drop(board);
-        self.bell.ring(rt);
+        if is_last {
+            self.has_changed.notify_one();
+        }
     }
 
-    // Takes the rows that wait, but no more than `most`, for which there must be room. It never waits for the worker.
-    pub(crate) fn take_waiting(&self, most: usize, rows: &mut VecDeque<(usize, Outcome)>) -> Found
+    // Waits while no row waits and not all workers have closed. Then it takes the rows that wait, but no more than `most`, for
+    // which there must be room.
+    pub(crate) fn take_waiting<R: Wait>(
+        &self,
+        rt: &R,
+        most: usize,
+        rows: &mut VecDeque<(usize, Outcome)>,
+    )
         requires room { deque_len rows.old + most ≤ deque_capacity rows.old }
         ensures capacity { deque_capacity rows.new ≡ deque_capacity rows.old }
     {
-        let Some(mut board) = self.board.try_lock() else {
-            return Found::Held;
-        };
-        if !board.has_waiting() {
-            return if board.all_closed() {
-                Found::End
-            } else {
-                Found::Nothing
-            };
-        }
+        let board = self.lock(rt);
+        // No wake-up is lost. This thread sleeps only if it saw, under the lock, that no row waits and not all workers have
+        // closed. Two things end that: a report where no row waited, and the last close. Each notifies once it has released
+        // the lock, and a notification after this thread has released it ends the sleep. A report behind a row that waits
+        // need not notify, since the report where none waited has done so or is about to.
+        let mut board = self.has_changed.wait_while(rt, board, |board| {
+            !board.has_waiting() && !board.all_closed()
+        });
+        let is_worth_waking = board.has_waiting() || board.all_closed();
+        prove!(is_worth_waking);
         for _ in 0..most {
-            let Some((index, outcome)) = board.take() else {
+            let Some(row) = board.take() else {
                 break;
             };
-            rows.push_back_reserved((self.place_at(index), outcome));
+            rows.push_back_reserved(row);
         }
-        self.has_waiting
-            .store(board.has_waiting(), Ordering::SeqCst);
-        Found::Rows
-    }
-
-    // Whether a row waits to be taken.
-    pub(crate) fn has_waiting(&self) -> bool {
-        self.has_waiting.load(Ordering::SeqCst)
-    }
-
-    // The index of the place on this board, where it stands there.
-    fn index_of(&self, place: usize) -> Option<usize> {
-        match place.checked_rem(self.workers) {
-            Some(worker) if worker == self.worker => place.checked_div(self.workers),
-            _ => None,
-        }
-    }
-
-    // The place that has this index. Since the place had one, nothing overflows.
-    fn place_at(&self, index: usize) -> usize {
-        index.wrapping_mul(self.workers).wrapping_add(self.worker)
     }
 }

@@ -1,6 +1,7 @@
 //! Worker threads, which run the shares and tell their rows to a board.
 ghost use Rattle.std.specs.Prelude.{◌≡◌, ◌≤◌, All, Bool, List, IfOk, IfSome, MatchResult, length, map, take, vec_capacity, vec_len};
 ghost use Rattle.mimic_pool.specs.Answers.{Answers};
+ghost use Rattle.mimic_pool.specs.Inbox.{board_of};
 ghost use Rattle.mimic_pool.specs.Joined.{AreOutcomes, AreReadyToJoin, job_of, jobs_of, put_all, shares_of};
 ghost use Rattle.mimic_pool.specs.declared.share.Share.{Share};
 ghost use Rattle.mimic_pool.specs.Share.{AllRunners, assigned_from, items_of};
@@ -25,28 +26,29 @@ impl<T: Threads + Wait + Copy + Drop + Send> Spawner for T {}
 /// The handles of workers that were started, in the order of their shares.
 pub type Handles<T> = Vec<PromisedHandle<Rows, AnswersShare<T>>>;
 
-/// What each worker starts with, one for each share: room for what it answers, and its board. The inbox is one of as many
-/// places and workers as were dealt, and no worker reports to it yet.
+/// What each worker starts with, one for each share: room for what it answers, and the board of the inbox, which is for as
+/// many workers.
 pub fn prepare<T: Task>(
     alloc: Global,
     shares: Vec<Share<T>>,
-    inbox: &mut Inbox,
+    inbox: &Inbox,
 ) -> Result<Vec<Start<T>>, AllocError>
+    requires workers { (board_of inbox.now).workers ≡ vec_len shares }
     ensures shares { IfOk result (λ starts. shares_of starts.items ≡ shares.items) }
     ensures len { IfOk result (λ starts. vec_len starts ≡ vec_len shares) }
 {
     let mut starts = Vec::with_capacity(alloc, shares.len())?;
     for share in shares {
         let room = Vec::with_capacity(alloc, share.len())?;
-        let board = inbox.board(alloc)?;
+        let board = inbox.board()?;
         starts.push(Start { share, room, board })?;
     }
     Ok(starts)
 }
 
 /// Starts a worker for each share, and keeps their handles in `handles`, which takes no memory. Where one can't be
-/// started, no further one is, and those that were started, on a front of the shares, are handed back. Then the boards of the
-/// others never close, and `Inbox::next` would wait for ever.
+/// started, no further one is, and those that were started, on a front of the shares, are handed back. Then the others
+/// never close, and `Inbox::next` would wait for ever.
 pub fn start_all<T: Task + Send + 'static, R: Spawner + 'static>(
     rt: &R,
     alloc: Global,

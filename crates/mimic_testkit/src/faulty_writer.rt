@@ -5,7 +5,7 @@ ghost use Rattle.std.specs.Io.KnownBytes.{Keeps, WriteAppends};
 
 use std::alloc::{AllocError, Global};
 use std::io;
-use std::io::{ErrorKind, Write};
+use std::io::{ErrorKind, IsTerminal, Write};
 
 /// What a call does that fails. None takes any bytes.
 #[derive(Clone, Copy, Debug, PartialEq, Eq)]
@@ -62,6 +62,8 @@ pub struct FaultyWriter {
     pub fault: Fault,
     /// Whether each call after the first one that failed does likewise, flushes too.
     pub lasts: bool,
+    /// Whether it says that it is a terminal.
+    pub is_terminal: bool,
 }
 
 impl FaultyWriter {
@@ -81,6 +83,7 @@ impl FaultyWriter {
             place: Place::Nowhere,
             fault: Fault::TakesNone,
             lasts: false,
+            is_terminal: false,
         }
     }
 
@@ -106,6 +109,14 @@ impl FaultyWriter {
         ensures { result ≡ record self { lasts = true } }
     {
         self.lasts = true;
+        self
+    }
+
+    /// The same writer, which says that it is a terminal.
+    pub fn on_terminal(mut self) -> FaultyWriter
+        ensures { result ≡ record self { is_terminal = true } }
+    {
+        self.is_terminal = true;
         self
     }
 
@@ -139,6 +150,12 @@ impl FaultyWriter {
             Place::Byte(count) if !self.has_failed => count.saturating_sub(self.bytes.len()),
             _ => usize::MAX,
         }
+    }
+}
+
+impl IsTerminal for FaultyWriter {
+    fn is_terminal(&self) -> bool {
+        self.is_terminal
     }
 }
 

@@ -1,9 +1,9 @@
 //! The trials of `harness`: tests and benchmarks with and without a kind, ignored and not, of every outcome.
-ghost use Rattle.std.specs.Prelude.{◌≡◌, IfErr, IfOk, Some};
+ghost use Rattle.std.specs.Prelude.{◌≡◌, IfErr, IfOk, Some, length};
 ghost use Rattle.std.specs.Result.{is_ok};
 
 use Answer::{Benchmark, Test};
-use libtest_mimic::{Failed, Measurement};
+use libtest_mimic::{Failed, Measurement, Outcome, Task, TestInfo, Trial};
 use std::alloc::{AllocError, Global};
 
 /// What is known of a trial, and what its runner answers.
@@ -87,7 +87,62 @@ pub fn benchmark_answer(
     })
 }
 
-/// The trials of a table of entries. This is a macro since boxed closures are to be made by the function that hands them in.
+/// A runner that becomes what an entry says. It is plain data, so a trial of it needs no box.
+#[derive(Drop)]
+pub enum Known {
+    /// It passes in both modes.
+    Passes,
+    /// It fails in both modes.
+    Fails(Failed),
+    /// It passes in test mode, and else measures this.
+    Measures(Measurement),
+}
+
+impl Task for Known {
+    fn run(self, test_mode: bool) -> Outcome {
+        match self {
+            Known::Measures(measurement) if !test_mode => Outcome::Measured(measurement),
+            Known::Passes | Known::Measures(_) => Outcome::Passed,
+            Known::Fails(failed) => Outcome::Failed(failed),
+        }
+    }
+}
+
+impl Known {
+    // What the answer says, in memory that is taken before any trial runs.
+    fn of_answer(alloc: Global, answer: &Answer) -> Result<Known, AllocError> {
+        Ok(match answer {
+            Test(Ok(())) => Known::Passes,
+            Benchmark(Ok((avg, variance))) => Known::Measures(Measurement {
+                avg: *avg,
+                variance: *variance,
+            }),
+            Test(Err(message)) | Benchmark(Err(message)) => {
+                Known::Fails(Failed::with_message(String::from_str(alloc, message)?))
+            }
+        })
+    }
+}
+
+/// The trials of a table of entries, in their order, each over plain data.
+pub fn known_trials(alloc: Global, entries: &[Entry]) -> Result<Vec<Trial<Known>>, AllocError>
+    ensures { IfOk result (λ trials. length trials.items ≡ length entries.now) }
+{
+    let mut trials = Vec::with_capacity(alloc, entries.len())?;
+    for entry in entries {
+        let info = TestInfo {
+            name: String::from_str(alloc, entry.name)?,
+            kind: String::from_str(alloc, entry.kind)?,
+            is_ignored: entry.is_ignored,
+            is_bench: matches!(entry.answer, Benchmark(_)),
+        };
+        let runner = Known::of_answer(alloc, &entry.answer)?;
+        trials.push(Trial::from_parts(info, runner))?;
+    }
+    Ok(trials)
+}
+
+/// The trials of a table of entries, over boxed closures. This is a macro since boxed closures are to be made by the function that hands them in.
 #[macro_export]
 macro_rules! trials_of {
     ($alloc:expr, $table:expr) => {{

@@ -12,13 +12,12 @@ use mimic_trial::{Outcome, TestInfo};
 use std::io::Write;
 use std::sync::Wait;
 
-// Writes the rows of first arrivals as they come, until all workers have ended. What was written is flushed before it
-// waits, so that the title is seen while the first trials run, and a row when its trial has ended.
+// Writes the rows of first arrivals as they come, until all workers have ended.
 pub(super) fn write_arrivals<W: Write, T: Wait>(
     rt: &T,
     printer: &Printer,
     infos: &[TestInfo],
-    inbox: &mut Inbox,
+    mut inbox: Inbox,
     desk: &mut Desk,
     sink: &mut Sink<W>,
 ) -> Result<(), WriteFault>
@@ -28,15 +27,11 @@ pub(super) fn write_arrivals<W: Write, T: Wait>(
     ensures told { (base : Shown) → Put base (shown W.contents sink.old) (told_text printer.now infos.now desk.old)
         → Writes base (shown W.contents sink.new) (told_text printer.now infos.now desk.new) result }
 {
-    sink.flush()?;
     for _ in rt.forever() {
         let Some((place, outcome)) = inbox.next(rt) else {
             break;
         };
         write_arrival(printer, infos, desk, place, outcome, sink)?;
-        if inbox.is_idle() {
-            sink.flush()?;
-        }
     }
     Ok(())
 }

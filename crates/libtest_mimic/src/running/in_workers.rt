@@ -103,8 +103,8 @@ fn write_rows<R: Task + Send + 'static, W: Write, T: Spawner + 'static>(
     ensures unwritten { OnNothingWritten result (sink.new ≡ sink.old) }
 {
     let count = infos.len();
-    let mut inbox = Inbox::new(alloc, count, shares.len())?;
-    let starts = prepare(alloc, shares, &mut inbox)?;
+    let inbox = Inbox::new(alloc, count, shares.len())?;
+    let starts = prepare(alloc, shares, &inbox)?;
     let handles = Vec::with_capacity(alloc, starts.len())?;
     let mut desk = Desk::new(alloc, count)?;
     let room = Vec::with_capacity(alloc, count)?;
@@ -116,7 +116,7 @@ fn write_rows<R: Task + Send + 'static, W: Write, T: Spawner + 'static>(
             return Err(RunError::Spawn);
         }
     };
-    let written = write_arrivals(rt, printer, infos, &mut inbox, &mut desk, sink);
+    let written = write_arrivals(rt, printer, infos, inbox, &mut desk, sink);
     let outcomes = join_all(rt, handles, placeholders(room, count));
     if let Err(place) = desk.settle(&outcomes) {
         return Err(RunError::Arrival { place });

@@ -186,6 +186,66 @@ fn writes_a_row_when_its_trial_has_ended(rt: HostRuntime) -> Result<(), Fail> {
     Ok(())
 }
 
+// Sleeps for so many milliseconds.
+#[derive(Drop)]
+struct Sleeps<M> {
+    machine: M,
+    millis: u64,
+}
+
+impl<M: Clock + Drop> Task for Sleeps<M> {
+    fn run(self, _test_mode: bool) -> Outcome {
+        thread::sleep(&self.machine, Duration::from_millis(self.millis));
+        Outcome::Passed
+    }
+}
+
+// Sleeps when it has got the announcement of `b`, until all others have ended.
+#[derive(Drop)]
+struct Slow<M> {
+    machine: M,
+    bytes: Vec<u8>,
+}
+
+impl<M: Clock + Drop> Write for Slow<M> {
+    fn write(&mut self, buf: &[u8]) -> io::Result<usize> {
+        self.bytes.extend_from_slice(buf)?;
+        if self.bytes.ends_with(b"test b ... ") {
+            thread::sleep(&self.machine, Duration::from_millis(300));
+        }
+        Ok(buf.len())
+    }
+
+    fn flush(&mut self) -> io::Result<()> {
+        Ok(())
+    }
+}
+
+// Rows come in the order in which their trials ended, also those that waited while another was written.
+#[test]
+fn writes_rows_in_the_order_of_ends(rt: HostRuntime) -> Result<(), Fail> {
+    let alloc = rt.alloc();
+    let mut tests = Vec::new(alloc);
+    for (name, millis) in [("a", 150), ("b", 0), ("c", 225), ("d", 75)] {
+        let sleeps = Sleeps {
+            machine: rt,
+            millis,
+        };
+        tests.push(Trial::new(String::from_str(alloc, name)?, sleeps))?;
+    }
+    let mut sink = Sink::new(Slow {
+        machine: rt,
+        bytes: Vec::new(alloc),
+    });
+    let mut watch = Stopwatch::new(TwoReadings::still());
+    let args = Arguments::new(alloc);
+    run(&rt, alloc, &args, tests, &mut sink, &mut watch, 4, false)?;
+    let report = String::from_utf8(sink.into_inner().bytes)?;
+    let rows = "test b ... ok\ntest d ... ok\ntest a ... ok\ntest c ... ok\n";
+    assert!(rt; report.as_str().contains(rows));
+    Ok(())
+}
+
 const PAIRS: [&str; 2] = [
     r#"{ "type": "test", "event": "started", "name": "a" }
 { "type": "test", "name": "a", "event": "ok" }

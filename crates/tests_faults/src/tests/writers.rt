@@ -205,24 +205,21 @@ fn stops_workers_at_each_byte(rt: HostRuntime) -> Result<(), Fail> {
     Ok(())
 }
 
-// How often workers' rows are flushed depends on when they come: at least behind the title and at the end.
+// With two workers there are as many flushes as with one thread. After one that fails behind an announcement nothing is
+// written, and both tests run.
 #[test]
 fn stops_workers_at_each_flush(rt: HostRuntime) -> Result<(), Fail> {
     let alloc = rt.alloc();
-    for report in [PRETTY, TERSE, JSON_OF_PASSING] {
+    for (report, flushes) in [(PRETTY, 3), (TERSE, 1), (JSON_OF_PASSING, 1)] {
         let texts = texts(&rt, alloc, report)?;
-        for flush in 1..8 {
+        for flush in 1..=flushes + 1 {
             let writer = FaultyWriter::new(alloc).failing(Place::Flush(flush), FULL);
             let (left, ran) = run_two(&rt, alloc, report, Some(2), writer)?;
-            let len = left.writer.bytes.len();
-            assert!(rt; left.is_stopped_by(left.writer.has_failed.then_some(FULL)));
-            assert!(rt; begin_one(&texts, &left.writer.bytes), "flush {flush}");
-            assert!(rt;
-                left.writer.has_failed || len == report.len,
-                "flush {flush}"
-            );
-            assert!(rt; left.writer.has_failed || flush > 2, "flush {flush}");
-            assert_eq!(rt; flush == 1, len == report.rows_at[0]);
+            let bytes = left.writer.bytes.as_slice();
+            assert!(rt; left.is_stopped_by((flush <= flushes).then_some(FULL)), "flush {flush}");
+            assert!(rt; begin_one(&texts, bytes), "flush {flush}");
+            assert_eq!(rt; flush >= flushes, bytes.len() == report.len);
+            assert!(rt; flush >= flushes || bytes.ends_with(b" ... "));
             assert_eq!(rt; ran, [true, true]);
         }
     }

@@ -1,4 +1,4 @@
-//! An inbox: workers that report to their boards, and a thread that takes.
+//! An inbox: workers that report to one board, and a thread that takes.
 ghost use Rattle.std.specs.Prelude.{All};
 ghost use Rattle.mimic_pool.specs.Share.{AllRunners};
 
@@ -13,6 +13,7 @@ use std::test::Fail;
 use std::thread;
 use std::thread::Threads;
 
+// What the board hands back is refused, and the worker closes all the same.
 #[test]
 fn refuses_what_the_board_hands_back(rt: HostRuntime) -> Result<(), Fail> {
     let mut inbox = Inbox::new(rt.alloc(), 2, 1)?;
@@ -22,38 +23,37 @@ fn refuses_what_the_board_hands_back(rt: HostRuntime) -> Result<(), Fail> {
     assert_eq!(rt; reports.tell(2, &Outcome::Passed), Err(Untold));
     assert_eq!(rt; reports.told(), 1);
     assert_eq!(rt; reports.refusals(), 2);
-    assert!(rt; !inbox.is_idle());
     assert!(rt; inbox.next(&rt) == Some((1, Outcome::Passed)));
-    assert!(rt; inbox.is_idle());
+    drop(reports);
+    assert!(rt; inbox.next(&rt).is_none());
     Ok(())
 }
 
-// A worker reports the places that are dealt to it, and no others. Of three places and two workers, the first has two.
+// Rows come in the order of their reports, whoever made them, also if some were taken between them.
 #[test]
-fn refuses_places_of_others(rt: HostRuntime) -> Result<(), Fail> {
-    for (place, owner) in [
-        (0, Some(0)),
-        (1, Some(1)),
-        (2, Some(0)),
-        (3, None),
-        (4, None),
-        (usize::MAX, None),
+fn gives_rows_in_the_order_of_their_reports(rt: HostRuntime) -> Result<(), Fail> {
+    let mut inbox = Inbox::new(rt.alloc(), 6, 2)?;
+    let mut first = inbox.reports(rt, rt.alloc())?;
+    let mut second = inbox.reports(rt, rt.alloc())?;
+    assert_eq!(rt; second.tell(1, &Outcome::Passed), Ok(()));
+    assert_eq!(rt; first.tell(0, &Outcome::Ignored), Ok(()));
+    assert_eq!(rt; second.tell(3, &numbered(3)), Ok(()));
+    assert!(rt; inbox.next(&rt) == Some((1, Outcome::Passed)));
+    assert_eq!(rt; second.tell(5, &numbered(5)), Ok(()));
+    assert_eq!(rt; first.tell(2, &Outcome::Passed), Ok(()));
+    drop(first);
+    assert_eq!(rt; second.tell(4, &Outcome::Ignored), Ok(()));
+    drop(second);
+    for row in [
+        (0, Outcome::Ignored),
+        (3, numbered(3)),
+        (5, numbered(5)),
+        (2, Outcome::Passed),
+        (4, Outcome::Ignored),
     ] {
-        let mut inbox = Inbox::new(rt.alloc(), 3, 2)?;
-        let mut first = inbox.reports(rt, rt.alloc())?;
-        let mut second = inbox.reports(rt, rt.alloc())?;
-        let mut third = inbox.reports(rt, rt.alloc())?;
-        let told = [
-            first.tell(place, &Outcome::Passed).is_ok(),
-            second.tell(place, &Outcome::Passed).is_ok(),
-            third.tell(place, &Outcome::Passed).is_ok(),
-        ];
-        assert_eq!(rt; told, [owner == Some(0), owner == Some(1), false]);
-        if owner.is_some() {
-            assert!(rt; inbox.next(&rt) == Some((place, Outcome::Passed)));
-        }
-        assert!(rt; inbox.is_idle());
+        assert!(rt; inbox.next(&rt) == Some(row));
     }
+    assert!(rt; inbox.next(&rt).is_none());
     Ok(())
 }
 
@@ -124,10 +124,10 @@ fn rows_taken<T: Task + Send + 'static, R: Threads + Wait + Copy + Drop + Send +
 ) -> Result<Vec<(usize, Outcome)>, Fail>
     requires { All (λ share. AllRunners T.can_run share) shares.items }
 {
-    let mut inbox = Inbox::new(alloc, trials, 2)?;
+    let mut inbox = Inbox::new(alloc, trials, shares.len())?;
     let handles = Vec::with_capacity(alloc, shares.len())?;
     let mut rows = Vec::with_capacity(alloc, trials)?;
-    let starts = prepare(alloc, shares, &mut inbox)?;
+    let starts = prepare(alloc, shares, &inbox)?;
     let Ok(handles) = start_all(rt, alloc, starts, true, handles) else {
         return Err(Fail::new("a worker could not be started"));
     };
@@ -194,8 +194,8 @@ fn two_workers_lose_nothing(rt: HostRuntime) -> Result<(), Fail> {
 }
 
 // Each task, each of one worker, or each third awaits as many rows as there are lower places, so the taking thread is often
-// asleep when one ends, or about to be. A wake-up that is lost leaves it asleep while rows wait, and so does a board that its
-// worker held and that isn't looked at again. Then a task waits in vain, and fails.
+// asleep when one ends, or about to be. A wake-up that is lost leaves it asleep while rows wait. Then a task waits in vain, and
+// fails.
 #[test]
 fn no_wake_up_is_lost(rt: HostRuntime) -> Result<(), Fail> {
     for step in [1, 2, 3] {

@@ -135,24 +135,32 @@ fn first_wrong_place<T: Threads + Wait + Copy + Drop + Send + 'static>(
     Ok(None)
 }
 
-// In each format, to somebody who looks on and into a logfile, a report and a list.
+// A report in each format, by one thread and by two, and on a terminal, and a list.
 #[test]
 fn stops_at_each_place(rt: HostRuntime) -> Result<(), Fail> {
-    for format in [
-        FormatSetting::Pretty,
-        FormatSetting::Terse,
-        FormatSetting::Json,
+    for (format, policies) in [
+        (
+            FormatSetting::Pretty,
+            [FlushPolicy::OnFlush, FlushPolicy::OnLineEnd],
+        ),
+        (
+            FormatSetting::Terse,
+            [FlushPolicy::OnLineEnd, FlushPolicy::Always],
+        ),
+        (
+            FormatSetting::Json,
+            [FlushPolicy::OnEvenLineEnd, FlushPolicy::OnOddLineEnd],
+        ),
     ] {
-        for list in [false, true] {
-            let mut args = Arguments::new(rt.alloc());
-            args.format = Some(format);
-            args.list = list;
-            let policy = FlushPolicy::of_format(format);
-            for policy in [policy, policy.by_rows(&args, 1), FlushPolicy::WhenFull] {
-                let wrong = first_wrong_place(&rt, rt.alloc(), &args, policy)?;
-                assert!(rt; wrong.is_none(), "{format:?} {policy:?} {wrong:?}");
-            }
+        let mut args = Arguments::new(rt.alloc());
+        args.format = Some(format);
+        for policy in policies {
+            let wrong = first_wrong_place(&rt, rt.alloc(), &args, policy)?;
+            assert!(rt; wrong.is_none(), "{format:?} {policy:?} {wrong:?}");
         }
+        args.list = true;
+        let wrong = first_wrong_place(&rt, rt.alloc(), &args, FlushPolicy::WhenFull)?;
+        assert!(rt; wrong.is_none(), "{format:?} {wrong:?}");
     }
     Ok(())
 }
@@ -162,10 +170,11 @@ fn stops_at_each_place(rt: HostRuntime) -> Result<(), Fail> {
 fn fails_after_a_fault(rt: HostRuntime) -> Result<(), Fail> {
     let alloc = rt.alloc();
     for policy in [
+        FlushPolicy::Always,
         FlushPolicy::OnFlush,
-        FlushPolicy::OnFlushAfterLine,
         FlushPolicy::OnLineEnd,
-        FlushPolicy::OnSecondLineEnd,
+        FlushPolicy::OnOddLineEnd,
+        FlushPolicy::OnEvenLineEnd,
         FlushPolicy::WhenFull,
     ] {
         let writer = FaultyWriter::new(alloc).failing(Place::Write(1), Fault::ALL[0]);

@@ -1,7 +1,7 @@
 //! The program `harness` over memory: statuses, reports, lists and texts by the words of its command line.
-use libtest_mimic::{Arguments, ArgumentsError, Failed, Measurement, Trial};
+use libtest_mimic::{Arguments, ArgumentsError};
 use mimic_main::{Machine, Program, StillClock};
-use mimic_testkit::{Fault, FaultyWriter, MIXED_BAG, Place, trials_of};
+use mimic_testkit::{Fault, FaultyWriter, MIXED_BAG, Place, known_trials};
 use std::alloc::{AllocError, Global};
 use std::env::FillError;
 use std::io::Eprint;
@@ -45,13 +45,13 @@ fn run_line<M: Machine + Eprint + 'static>(
     line: Result<Arguments, ArgumentsError>,
 ) -> Result<Left, Fail> {
     let alloc = rt.alloc();
-    let trials = trials_of!(alloc, MIXED_BAG);
-    let out = Vec::new(alloc);
+    let trials = known_trials(alloc, &MIXED_BAG)?;
+    let out = FaultyWriter::new(alloc);
     let mut err: Vec<u8> = Vec::new(alloc);
     let (out, status) = HARNESS.harness_run(rt, rt, alloc, line, trials, out, &mut err, StillClock);
     Ok(Left {
         status: status.report(rt),
-        out: String::from_utf8(out)?,
+        out: String::from_utf8(out.bytes)?,
         err: String::from_utf8(err)?,
     })
 }
@@ -471,15 +471,15 @@ fn refuses_words_that_are_no_text(rt: HostRuntime) -> Result<(), Fail> {
         ),
     ];
     for (words, status, on_out, on_err) in rows {
-        let trials = trials_of!(alloc, MIXED_BAG);
-        let out = Vec::new(alloc);
+        let trials = known_trials(alloc, &MIXED_BAG)?;
+        let out = FaultyWriter::new(alloc);
         let mut err: Vec<u8> = Vec::new(alloc);
         let line = Arguments::from_args(&(RawLine { words }, alloc), alloc);
         let (out, answered) = HARNESS.harness_run(
             &rt, &rt, alloc, line, trials, out, &mut err, StillClock,
         );
         assert_eq!(rt; answered.report(&rt), ExitCode::from(status));
-        assert!(rt; out.as_slice() == on_out.as_bytes());
+        assert!(rt; out.bytes.as_slice() == on_out.as_bytes());
         assert!(rt; err.as_slice() == on_err.as_bytes());
     }
     Ok(())
@@ -495,7 +495,7 @@ fn tells_of_a_full_output(rt: HostRuntime) -> Result<(), Fail> {
         (["harness", "--exact", "cat"], 20, 1),
         (["harness", "--list", "--help"], 0, 0),
     ] {
-        let trials = trials_of!(alloc, MIXED_BAG);
+        let trials = known_trials(alloc, &MIXED_BAG)?;
         let full = Fault::Error(io::ErrorKind::BrokenPipe);
         let out = FaultyWriter::new(alloc)
             .failing(Place::Byte(room), full)

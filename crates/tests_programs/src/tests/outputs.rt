@@ -3,12 +3,13 @@ use libtest_mimic::{Arguments, FormatSetting};
 use mimic_main::{FlushPolicy, Output};
 use std::alloc::Global;
 use std::io;
-use std::io::Write;
+use std::io::{IsTerminal, Write};
 use std::test::Fail;
 
 // Takes so many bytes at most in a write, keeps how many it has got after each one, and counts flushes.
 #[derive(Drop)]
 pub(super) struct Marked {
+    pub(super) is_terminal: bool,
     most: usize,
     len: usize,
     pub(super) marks: Vec<usize>,
@@ -18,11 +19,18 @@ pub(super) struct Marked {
 impl Marked {
     pub(super) fn new(alloc: Global, most: usize) -> Marked {
         Marked {
+            is_terminal: false,
             most,
             len: 0,
             marks: Vec::new(alloc),
             flushes: 0,
         }
+    }
+}
+
+impl IsTerminal for Marked {
+    fn is_terminal(&self) -> bool {
+        self.is_terminal
     }
 }
 
@@ -45,14 +53,16 @@ fn marking(rt: &HostRuntime, policy: FlushPolicy) -> Output<Marked> {
     Output::new(policy, Marked::new(rt.alloc(), usize::MAX))
 }
 
-// Two bytes and a flush, a line of two bytes, and one byte more. Whoever is flushed flushes the writer, and so does the end.
+// Two bytes and a flush, a line of two bytes, and one byte more. One policy heeds the flush and flushes the writer, and the end
+// flushes it, too.
 #[test]
 fn hands_on_as_asked(rt: HostRuntime) -> Result<(), Fail> {
-    let rows: [(FlushPolicy, &[usize], usize); 5] = [
+    let rows: [(FlushPolicy, &[usize], usize); 6] = [
+        (FlushPolicy::Always, &[2, 4, 5], 1),
         (FlushPolicy::OnFlush, &[2, 5], 2),
-        (FlushPolicy::OnFlushAfterLine, &[5], 1),
-        (FlushPolicy::OnLineEnd, &[2, 4, 5], 2),
-        (FlushPolicy::OnSecondLineEnd, &[2, 5], 2),
+        (FlushPolicy::OnLineEnd, &[4, 5], 1),
+        (FlushPolicy::OnOddLineEnd, &[4, 5], 1),
+        (FlushPolicy::OnEvenLineEnd, &[5], 1),
         (FlushPolicy::WhenFull, &[5], 1),
     ];
     for (policy, marks, flushes) in rows {
@@ -97,94 +107,62 @@ fn hands_on_whole_lines(rt: HostRuntime) -> Result<(), Fail> {
     Ok(())
 }
 
-// Each second line goes out with the one before it, or by itself if that was flushed. A line that goes out by itself counts
-// once, though the writer takes a part of it at first.
+// Of lines in pairs behind a title each pair goes out in one write, or the first of each pair with the end of the one before. A
+// line that goes out by itself counts once, though the writer takes a part of it at first.
 #[test]
 fn hands_on_second_lines(rt: HostRuntime) -> Result<(), Fail> {
-    let rows: [(usize, &[&str], &[&str], &[usize]); 2] = [
+    let pairs: &[&str] = &[
+        "title\n", "a\n", "b", "\n", "c\n", "d\n", "e\n", "f\n", "end",
+    ];
+    let rows: [(FlushPolicy, usize, &[&str], &[usize]); 3] = [
+        (FlushPolicy::OnOddLineEnd, usize::MAX, pairs, &[6, 10, 14, 18, 21]),
+        (FlushPolicy::OnEvenLineEnd, usize::MAX, pairs, &[8, 12, 16, 21]),
         (
-            usize::MAX,
-            &["title\n", "a\n", "b", "\n", "c\n", "d\n"],
-            &["e\n", "f\n", "end"],
-            &[8, 12, 14, 16, 21],
-        ),
-        (
+            FlushPolicy::OnOddLineEnd,
             3,
-            &["one\n"],
-            &["two\n", "abc\n", "def\n", "end"],
-            &[3, 4, 7, 8, 11, 14, 16, 19],
+            &["one\n", "two\n", "abc\n", "def\n", "end"],
+            &[3, 4, 7, 10, 12, 15, 18, 19],
         ),
     ];
-    for (most, before, after, marks) in rows {
-        let writer = Marked::new(rt.alloc(), most);
-        let mut output = Output::new(FlushPolicy::OnSecondLineEnd, writer);
-        write_pieces(&mut output, before)?;
-        output.flush()?;
-        write_pieces(&mut output, after)?;
+    for (policy, most, pieces, marks) in rows {
+        let mut output = Output::new(policy, Marked::new(rt.alloc(), most));
+        for piece in pieces {
+            output.write_all(piece.as_bytes())?;
+            output.flush()?;
+        }
         let (writer, finished) = output.finish();
         finished?;
-        assert!(rt; writer.marks.as_slice() == marks);
+        assert!(rt; writer.marks.as_slice() == marks, "{policy:?}");
+        assert_eq!(rt; writer.flushes, 1);
     }
     Ok(())
 }
 
-fn write_pieces(output: &mut Output<Marked>, pieces: &[&str]) -> io::Result<()> {
-    for piece in pieces {
-        output.write_all(piece.as_bytes())?;
-    }
-    Ok(())
-}
-
-// A flush amid a line hands nothing on, and one behind a line all that waits.
+// For each format a report by one thread and by two, which is no terminal or is one. A list goes out in blocks.
 #[test]
-fn hands_on_at_flushes_after_lines(rt: HostRuntime) -> Result<(), Fail> {
-    let mut output = marking(&rt, FlushPolicy::OnFlushAfterLine);
-    for piece in ["title\n", "a ... ", "ok\n", "b ... "] {
-        output.write_all(piece.as_bytes())?;
-        output.flush()?;
-    }
-    let (writer, finished) = output.finish();
-    finished?;
-    assert!(rt; writer.marks.as_slice() == [6, 15, 21].as_slice());
-    assert_eq!(rt; writer.flushes, 3);
-    Ok(())
-}
-
-// For each format, to somebody who looks on and into a logfile: a policy, and those by rows for one thread and for two.
-#[test]
-fn chooses_by_format_logfile_and_threads(rt: HostRuntime) -> Result<(), Fail> {
+fn chooses_by_format_threads_and_terminal(rt: HostRuntime) -> Result<(), Fail> {
     let alloc = rt.alloc();
-    let pretty = [
-        FlushPolicy::OnFlush,
-        FlushPolicy::OnFlush,
-        FlushPolicy::OnFlushAfterLine,
-    ];
-    let json = [
-        FlushPolicy::OnLineEnd,
-        FlushPolicy::OnSecondLineEnd,
-        FlushPolicy::OnFlushAfterLine,
-    ];
+    let pretty = [FlushPolicy::OnFlush, FlushPolicy::OnLineEnd];
+    let json = [FlushPolicy::OnEvenLineEnd, FlushPolicy::OnOddLineEnd];
     let rows = [
-        (FormatSetting::Pretty, pretty, pretty),
-        (
-            FormatSetting::Terse,
-            [FlushPolicy::OnLineEnd; 3],
-            [FlushPolicy::WhenFull; 3],
-        ),
-        (FormatSetting::Json, json, [FlushPolicy::WhenFull; 3]),
+        (FormatSetting::Pretty, false, pretty),
+        (FormatSetting::Pretty, true, pretty),
+        (FormatSetting::Terse, false, [FlushPolicy::OnLineEnd; 2]),
+        (FormatSetting::Terse, true, [FlushPolicy::Always; 2]),
+        (FormatSetting::Json, false, json),
+        (FormatSetting::Json, true, json),
     ];
-    for (format, looked_on, in_logfile) in rows {
+    for (format, is_terminal, policies) in rows {
         let mut args = Arguments::new(alloc);
         args.format = Some(format);
-        let policy = FlushPolicy::of_run(&args);
-        let by_rows = [policy.by_rows(&args, 1), policy.by_rows(&args, 2)];
-        assert!(rt; [policy, by_rows[0], by_rows[1]] == looked_on);
-        args.logfile = Some(String::from_str(alloc, "log")?);
-        let policy = FlushPolicy::of_run(&args);
-        args.test_threads = Some(1);
-        assert!(rt; [policy, policy.by_rows(&args, 2)] == [in_logfile[0], in_logfile[1]]);
-        args.test_threads = Some(2);
-        assert!(rt; policy.by_rows(&args, 1) == in_logfile[2]);
+        let chosen = [1, 2].map(|threads| FlushPolicy::of_run(&args, threads, is_terminal));
+        assert!(rt; chosen == policies, "{format:?} {is_terminal}");
+        for (threads, policy) in [1, 2].into_iter().zip(policies) {
+            args.test_threads = Some(threads);
+            assert!(rt; FlushPolicy::of_run(&args, 7, is_terminal) == policy);
+        }
+        args.list = true;
+        assert!(rt; FlushPolicy::of_run(&args, 1, is_terminal) == FlushPolicy::WhenFull);
     }
     Ok(())
 }

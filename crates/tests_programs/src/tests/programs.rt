@@ -9,8 +9,10 @@ use libtest_mimic::{
 use mimic_main::{Machine, Program, StillClock};
 use mimic_testkit::{Fault, FaultyWriter, Place};
 use std::alloc::Global;
-use std::io::{Eprint, ErrorKind, Write};
+use std::io::{Eprint, ErrorKind, IsTerminal, Write};
 use std::process::{ExitCode, Termination};
+use std::sync::Arc;
+use std::sync::atomic::{AtomicU64, Ordering};
 use std::test::Fail;
 use std::{fs, io};
 
@@ -54,7 +56,7 @@ struct Left<O> {
     status: ExitCode,
 }
 
-fn run_tests<M: Machine + Eprint + 'static, R: Task + Send + 'static, O: Write + Drop>(
+fn run_tests<M: Machine + Eprint + 'static, R: Task + Send + 'static, O: Write + IsTerminal + Drop>(
     rt: &M,
     program: &Program<'_>,
     line: Result<Arguments, ArgumentsError>,
@@ -73,7 +75,7 @@ fn run_tests<M: Machine + Eprint + 'static, R: Task + Send + 'static, O: Write +
 }
 
 // Runs one test, which passes.
-fn run_one<M: Machine + Eprint + 'static, O: Write + Drop>(
+fn run_one<M: Machine + Eprint + 'static, O: Write + IsTerminal + Drop>(
     rt: &M,
     program: &Program<'_>,
     line: Result<Arguments, ArgumentsError>,
@@ -103,10 +105,9 @@ fn says_why_a_line_gave_nothing(rt: HostRuntime) -> Result<(), Fail> {
     ];
     for (error, status, on_out, on_err) in rows {
         let text = String::from_str(alloc, "help\n")?;
-        let out: Vec<u8> = Vec::new(alloc);
-        let left = run_one(&rt, &PLAIN, Err(error(text)), out)?;
+        let left = run_one(&rt, &PLAIN, Err(error(text)), FaultyWriter::new(alloc))?;
         assert_eq!(rt; left.status, ExitCode::from(status));
-        assert!(rt; left.out.as_slice() == on_out.as_bytes());
+        assert!(rt; left.out.bytes.as_slice() == on_out.as_bytes());
         assert_eq!(rt; left.err.as_str(), on_err);
         let text = String::from_str(alloc, "help\n")?;
         let left = run_one(&rt, &PLAIN, Err(error(text)), narrow(alloc))?;
@@ -133,7 +134,7 @@ impl Task for Looks {
     }
 }
 
-// What is out when the first and the second of two tests run in one thread, to somebody who looks on and in a logfile.
+// What is out when the first and the second of two tests run in one thread, on standard output and in a logfile.
 #[test]
 fn shows_what_is_running(rt: HostRuntime) -> Result<(), Fail> {
     let alloc = rt.alloc();
@@ -154,9 +155,9 @@ fn shows_what_is_running(rt: HostRuntime) -> Result<(), Fail> {
         (FormatSetting::Pretty, false, pretty),
         (FormatSetting::Pretty, true, pretty),
         (FormatSetting::Terse, false, ["\nrunning 2 tests\n"; 2]),
-        (FormatSetting::Terse, true, [""; 2]),
+        (FormatSetting::Terse, true, ["\nrunning 2 tests\n"; 2]),
         (FormatSetting::Json, false, json),
-        (FormatSetting::Json, true, [""; 2]),
+        (FormatSetting::Json, true, json),
     ];
     for (format, is_logged, expected) in rows {
         let mut args = Arguments::new(alloc);
@@ -199,7 +200,8 @@ impl Task for Awaits {
     }
 }
 
-// The title is out when the trials run, and the row of a trial when it has ended, while another one still runs.
+// With workers the title is out when the trials run, and in pretty and JSON the row of a trial when it has ended, while another
+// one still runs: on standard output and in a logfile.
 #[test]
 fn shows_what_has_ended(rt: HostRuntime) -> Result<(), Fail> {
     let alloc = rt.alloc();
@@ -207,52 +209,107 @@ fn shows_what_has_ended(rt: HostRuntime) -> Result<(), Fail> {
     let running = "\nrunning 2 tests\n";
     for (format, title, row) in [
         (FormatSetting::Pretty, running, "test a ... ok\n"),
-        (FormatSetting::Terse, running, "\nrunning 2 tests\n."),
+        (FormatSetting::Terse, running, running),
         (
             FormatSetting::Json,
             "\"test_count\": 2 }\n",
             "\"name\": \"a\", \"event\": \"ok\" }\n",
         ),
     ] {
-        let mut args = Arguments::new(alloc);
-        args.format = Some(format);
-        let mut tests = Vec::new(alloc);
-        for (name, awaited) in [("a", title), ("b", row)] {
-            tests.push(Trial::new(String::from_str(alloc, name)?, Awaits { rt, path, awaited }))?;
+        for is_logged in [false, true] {
+            let mut args = Arguments::new(alloc);
+            args.format = Some(format);
+            if is_logged {
+                args.logfile = Some(String::from_str(alloc, path)?);
+            }
+            let mut tests = Vec::new(alloc);
+            for (name, awaited) in [("a", title), ("b", row)] {
+                tests.push(Trial::new(String::from_str(alloc, name)?, Awaits { rt, path, awaited }))?;
+            }
+            let out = fs::create(&rt, if is_logged { "/dev/null" } else { path })?;
+            let left = run_tests(&rt, &PLAIN, Ok(args), tests, out)?;
+            assert_eq!(rt; left.status, ExitCode::SUCCESS, "{format:?} {is_logged}");
         }
-        let out = fs::create(&rt, path)?;
-        let left = run_tests(&rt, &PLAIN, Ok(args), tests, out)?;
-        assert_eq!(rt; left.status, ExitCode::SUCCESS, "{format:?}");
     }
     fs::remove_file(&rt, path)?;
     Ok(())
 }
 
-// The report of one test: with one thread the first write has the title and the announcement, and with more no write ends
-// between announcement and outcome.
+// A test that counts its calls.
+#[derive(Drop)]
+struct Counted(Arc<AtomicU64>);
+
+impl Task for Counted {
+    fn run(self, _test_mode: bool) -> Outcome {
+        self.0.fetch_add(1, Ordering::SeqCst);
+        Outcome::Passed
+    }
+}
+
+// If the title can't be written, on standard output or in a logfile, no trial is run.
+#[test]
+fn runs_nothing_without_a_title(rt: HostRuntime) -> Result<(), Fail> {
+    let alloc = rt.alloc();
+    for format in [
+        FormatSetting::Pretty,
+        FormatSetting::Terse,
+        FormatSetting::Json,
+    ] {
+        for (threads, is_logged) in [(1, false), (1, true), (4, false), (4, true)] {
+            let mut args = Arguments::new(alloc);
+            args.format = Some(format);
+            args.test_threads = Some(threads);
+            let mut out = narrow(alloc);
+            if is_logged {
+                args.logfile = Some(String::from_str(alloc, "/dev/full")?);
+                out = FaultyWriter::new(alloc);
+            }
+            let calls = Arc::new(alloc, AtomicU64::new(0))?;
+            let mut tests = Vec::new(alloc);
+            for name in ["a", "b", "c", "d"] {
+                let counted = Counted(Arc::try_clone(&calls)?);
+                tests.push(Trial::new(String::from_str(alloc, name)?, counted))?;
+            }
+            let left = run_tests(&rt, &PLAIN, Ok(args), tests, out)?;
+            assert_eq!(rt; left.status, ExitCode::from(1));
+            assert_eq!(rt; left.err.as_str(), "plain: cannot write the report\n");
+            assert_eq!(rt; calls.load(Ordering::SeqCst), 0, "{format:?} {threads} {is_logged}");
+        }
+    }
+    Ok(())
+}
+
+// How much of the report of one test is out after each write: with one thread first the title and the announcement, with more
+// the title, and then the row. In terse it is the title, and on a terminal the mark, too.
 #[test]
 fn writes_at_once_what_comes_at_once(rt: HostRuntime) -> Result<(), Fail> {
     let alloc = rt.alloc();
-    let rows = [
-        (FormatSetting::Pretty, "\nrunning 1 test\ntest a ... "),
-        (
-            FormatSetting::Json,
-            "{ \"type\": \"suite\", \"event\": \"started\", \"test_count\": 1 }\n\
-             { \"type\": \"test\", \"event\": \"started\", \"name\": \"a\" }\n",
-        ),
+    let title = "{ \"type\": \"suite\", \"event\": \"started\", \"test_count\": 1 }\n";
+    let announced = "{ \"type\": \"test\", \"event\": \"started\", \"name\": \"a\" }\n";
+    let ended = "{ \"type\": \"test\", \"name\": \"a\", \"event\": \"ok\" }\n";
+    let rows: [(FormatSetting, bool, usize, &[&[&str]]); 8] = [
+        (FormatSetting::Pretty, false, 1, &[&["\nrunning 1 test\n", "test a ... "]]),
+        (FormatSetting::Pretty, true, 4, &[&["\nrunning 1 test\n"], &["test a ... ", "ok\n"]]),
+        (FormatSetting::Json, true, 1, &[&[title, announced]]),
+        (FormatSetting::Json, false, 4, &[&[title], &[announced, ended]]),
+        (FormatSetting::Terse, false, 1, &[&["\nrunning 1 test\n"]]),
+        (FormatSetting::Terse, false, 4, &[&["\nrunning 1 test\n"]]),
+        (FormatSetting::Terse, true, 1, &[&["\nrunning 1 test\n"], &["."]]),
+        (FormatSetting::Terse, true, 4, &[&["\nrunning 1 test\n"], &["."]]),
     ];
-    for (format, announced) in rows {
-        for threads in [Some(1), None] {
-            let mut args = Arguments::new(alloc);
-            args.format = Some(format);
-            args.test_threads = threads;
-            let left = run_one(&rt, &PLAIN, Ok(args), Marked::new(alloc, usize::MAX))?;
-            assert_eq!(rt; left.status, ExitCode::SUCCESS, "{format:?}");
-            let marks = left.out.marks.as_slice();
-            match threads {
-                Some(_) => assert!(rt; marks.first() == Some(&announced.len()), "{format:?}"),
-                None => assert!(rt; !marks.contains(&announced.len()), "{format:?}"),
-            }
+    for (format, is_terminal, threads, writes) in rows {
+        let mut args = Arguments::new(alloc);
+        args.format = Some(format);
+        args.test_threads = Some(threads);
+        let mut out = Marked::new(alloc, usize::MAX);
+        out.is_terminal = is_terminal;
+        let left = run_one(&rt, &PLAIN, Ok(args), out)?;
+        assert_eq!(rt; left.status, ExitCode::SUCCESS, "{format:?}");
+        assert!(rt; left.out.marks.len() > writes.len());
+        let mut len: usize = 0;
+        for (write, mark) in writes.iter().zip(&left.out.marks) {
+            len = len.saturating_add(write.iter().map(|text| text.len()).sum());
+            assert_eq!(rt; *mark, len, "{format:?} {is_terminal} {threads}");
         }
     }
     Ok(())

@@ -1,12 +1,12 @@
 //! What a run writes in JSON, read back.
 use super::feeding::{altered, fed_each_byte};
 use libtest_mimic::{
-    Arguments, Failed, FormatSetting, Measurement, Outcome, Sink, Stopwatch, Trial, run_here,
+    Arguments, Conclusion, Failed, FormatSetting, Measurement, Outcome, Sink, Stopwatch, Trial, run_here,
 };
 use mimic_events::{Report, read_report};
 use mimic_roundtrip::run_to_report;
 use mimic_testkit::Answer::{Benchmark, Test};
-use mimic_testkit::{Answer, Entry, MIXED_BAG, TwoReadings, trials_of};
+use mimic_testkit::{Answer, Entry, MIXED_BAG, TwoReadings, known_trials};
 use std::alloc::{AllocError, Global};
 use std::process::Abort;
 use std::test::Fail;
@@ -65,14 +65,20 @@ const ALIKE_REPORT: &str = r#"{ "type": "suite", "event": "started", "test_count
 "#;
 
 // Runs the trials of a table into memory. The clock reads these nanoseconds once, and one and a half seconds from then on.
-macro_rules! written {
-    ($alloc:expr, $args:expr, $table:expr, $first:expr) => {{
-        let mut sink = Sink::new(Vec::new($alloc));
-        let mut watch = Stopwatch::new(TwoReadings { first: $first, second: 1_500_000_000 });
-        let trials = trials_of!($alloc, $table);
-        let conclusion = run_here($alloc, $args, trials, &mut sink, &mut watch, false)?;
-        (conclusion, sink.into_inner())
-    }};
+fn written(
+    alloc: Global,
+    args: &Arguments,
+    table: &[Entry],
+    first: u64,
+) -> Result<(Conclusion, Vec<u8>), Fail> {
+    let mut sink = Sink::new(Vec::new(alloc));
+    let mut watch = Stopwatch::new(TwoReadings {
+        first,
+        second: 1_500_000_000,
+    });
+    let trials = known_trials(alloc, table)?;
+    let conclusion = run_here(alloc, args, trials, &mut sink, &mut watch, false)?;
+    Ok((conclusion, sink.into_inner()))
 }
 
 fn json_arguments(alloc: Global) -> Arguments {
@@ -105,7 +111,7 @@ fn reads_back_what_a_run_wrote(rt: HostRuntime) -> Result<(), Fail> {
     for bench in [false, true] {
         let mut args = json_arguments(alloc);
         args.bench = bench;
-        let (conclusion, bytes) = written!(alloc, &args, MIXED_BAG, 0);
+        let (conclusion, bytes) = written(alloc, &args, &MIXED_BAG, 0)?;
         assert_eq!(rt; bytes.iter().filter(|byte| **byte == b'\n').count(), 36);
         let report = read_report(alloc, bytes.as_slice())?.ok_or("no report")?;
         assert!(rt; report.counts() == conclusion);
@@ -119,9 +125,9 @@ fn reads_back_what_a_run_wrote(rt: HostRuntime) -> Result<(), Fail> {
 fn reads_two_trials_as_they_were_written(rt: HostRuntime) -> Result<(), Fail> {
     let alloc = rt.alloc();
     let args = json_arguments(alloc);
-    let (conclusion, bytes) = written!(alloc, &args, TWO_TRIALS, 1_500_000_000);
-    let written = String::from_utf8(bytes)?;
-    let report = read_report(alloc, written.as_str().as_bytes())?.ok_or("no report")?;
+    let (conclusion, bytes) = written(alloc, &args, &TWO_TRIALS, 1_500_000_000)?;
+    let text = String::from_utf8(bytes)?;
+    let report = read_report(alloc, text.as_str().as_bytes())?.ok_or("no report")?;
     assert!(rt; report.counts() == conclusion);
     assert_eq!(rt;
         (report.rows.len(), report.filtered_out, report.nanos),
@@ -132,9 +138,9 @@ fn reads_two_trials_as_they_were_written(rt: HostRuntime) -> Result<(), Fail> {
     assert_eq!(rt; report.rows[1].name.as_str(), "failing_test");
     let message = String::from_str(alloc, "Woops")?;
     assert!(rt; report.rows[1].outcome == Outcome::Failed(Failed::with_message(message)));
-    assert!(rt; fed_each_byte(alloc, written.as_str().as_bytes())? == Some(report));
+    assert!(rt; fed_each_byte(alloc, text.as_str().as_bytes())? == Some(report));
     for (old, new) in [
-        (written.as_str(), ""),
+        (text.as_str(), ""),
         ("\"exec_time\": 0 }\n", "\"exec_time\": 0 }"),
         ("\"exec_time\": 0 }\n", "\"exec_time\": 0 }\n\n"),
         ("\"test_count\": 2", "\"test_count\": 02"),
@@ -147,8 +153,8 @@ fn reads_two_trials_as_they_were_written(rt: HostRuntime) -> Result<(), Fail> {
             "\"name\": \"failing_tests\", \"event\": \"failed\"",
         ),
     ] {
-        let text = altered(alloc, written.as_str(), old, new)?;
-        let bytes = text.as_str().as_bytes();
+        let other = altered(alloc, text.as_str(), old, new)?;
+        let bytes = other.as_str().as_bytes();
         assert!(rt; read_report(alloc, bytes)?.is_none(), "{new} for {old}");
         assert!(rt; fed_each_byte(alloc, bytes)?.is_none(), "{new} for {old}");
     }
@@ -160,7 +166,7 @@ fn reads_two_trials_as_they_were_written(rt: HostRuntime) -> Result<(), Fail> {
 fn tells_names_from_kinds(rt: HostRuntime) -> Result<(), Fail> {
     let alloc = rt.alloc();
     let args = json_arguments(alloc);
-    let (_, bytes) = written!(alloc, &args, ALIKE, 1_500_000_000);
+    let (_, bytes) = written(alloc, &args, &ALIKE, 1_500_000_000)?;
     assert!(rt; bytes.as_slice() == ALIKE_REPORT.as_bytes());
     let report = read_report(alloc, bytes.as_slice())?.ok_or("no report")?;
     assert_eq!(rt; report.rows.len(), 2);

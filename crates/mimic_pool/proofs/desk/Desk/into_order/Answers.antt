@@ -13,7 +13,7 @@ use Rattle.mimic_pool.proofs.desk.Desk.into_order.Goals as goal
 -- where the order is as long as there are places, none is missing
 pub returns-then-len-clause-places : goal.returns-then-len-clause-places
 returns-then-len-clause-places c =
-    let order = order_shown c.self.inside.seats.items c.self.inside.order.items c.self.invariant.taken ∙ ap (λ desk. places_of desk.rows) c.self.view_is in
+    let order = order_shown c.self.inside.seats c.self.inside.order.items c.self.invariant.taken ∙ ap (λ desk. places_of desk.rows) c.self.view_is in
     let all = length_permutation _ _ (shown_whole c.self.inside c.args.self c.self.invariant c.self.view_is) in
     let none : missing_of c.args.self ≡ [] =
     nil_from_length _ (omega (
@@ -26,7 +26,6 @@ returns-then-len-clause-places c =
       c.len.ensures,
       c.len-2.ensures,
       c.self.inside.order.ok.0,
-      c.self.inside.seats.ok.0,
       ap (λ desk. desk.places) c.self.view_is,
     )) in
     order ∙ sym (ap (λ l. places_of c.args.self.rows ++ l) none ∙ append-nil (places_of c.args.self.rows))
@@ -38,9 +37,9 @@ returns-then-len-clause-whole c =
 
 pub loop-place-init : goal.loop-place-init
 loop-place-init c =
-    let order = order_shown c.self.inside.seats.items c.self.inside.order.items c.self.invariant.taken ∙ ap (λ desk. places_of desk.rows) c.self.view_is in
-    let shown = missing_shown c.self.inside.seats.items c.self.inside.order.items c.self.invariant.taken ∙ ap missing_of c.self.view_is in
-    let missing = ap missing_items c.into_iter-place-iterator.ensures.into_iter_gives ∙ (c.free_seats-place-items.ensures ∙ (ap (free_from 0) c.as_slice.ensures.value ∙ shown)) in
+    let order = order_shown c.self.inside.seats c.self.inside.order.items c.self.invariant.taken ∙ ap (λ desk. places_of desk.rows) c.self.view_is in
+    let shown = missing_shown c.self.inside.seats c.self.inside.order.items c.self.invariant.taken ∙ ap missing_of c.self.view_is in
+    let missing = ap missing_items c.into_iter-place-iterator.ensures.into_iter_gives ∙ (c.free_seats-place-items.ensures ∙ shown) in
     record { whole = ap₂ (λ o m. o ++ m) order missing; room = omega (arith, ap (λ desk. desk.places) c.self.view_is, c.self.invariant.room) }
 
 -- there is room, since fewer places stand in the order so far than there are

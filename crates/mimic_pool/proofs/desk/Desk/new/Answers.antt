@@ -7,9 +7,8 @@ pub invariant_of-result : goal.invariant_of-result
 invariant_of-result c =
     let order = c.in_ok-order.ensures.items in
     let exact = c.in_ok-order.ensures.exact in
-    let seats = c.loop-place.seats.ok in
     record {
-      taken = λ p. ap (λ xs. list_any (eqb p) xs) order ∙ sym (c.loop-place.invariant.free p);
+      taken = λ p. ap (λ xs. list_any (eqb p) xs) order ∙ sym (c.in_ok-seats.ensures.free p);
       distinct = rw order distinct_none;
-      room = let len = c.loop-place.invariant.len in omega arith;
+      room = let len = c.in_ok-seats.ensures.len in omega arith;
     }

@@ -4,4 +4,4 @@ use Rattle.mimic_pool.proofs.Seating.{order_shown}
 use Rattle.mimic_pool.proofs.desk.Desk.order.Goals as goal
 
 pub returns : goal.returns
-returns c = c.as_slice.ensures.value ∙ (order_shown c.self.inside.seats.items c.self.inside.order.items c.self.invariant.taken ∙ ap (λ desk. places_of desk.rows) c.self.view_is)
+returns c = c.as_slice.ensures.value ∙ (order_shown c.self.inside.seats c.self.inside.order.items c.self.invariant.taken ∙ ap (λ desk. places_of desk.rows) c.self.view_is)

@@ -3,7 +3,7 @@ use Rattle.std.specs.VecDeque.{deque_capacity, deque_len}
 use Rattle.mimic_pool.proofs.shared.SharedBoard.take_waiting.Given as goal
 
 abbrev pub invariant-loop : goal.invariant-loop
-invariant-loop l = record {
+invariant-loop g l = record {
   room : deque_len l.rows + l.most ≤ deque_capacity l.rows + l.counter;
   capacity : deque_capacity l.rows ≡ deque_capacity l.fn.rows;
 }
