@@ -1,8 +1,9 @@
 //! Command lines, as words after the program's name, and what they give. What is refused is as in the Rust crate, and
 //! help has the same options in our own words.
 use mimic_args::{
-    Arguments, ArgumentsError, ColorSetting, FormatSetting, Line, UnknownFormat, UnstableFlags,
+    Arguments, ArgumentsError, ColorSetting, FormatSetting, Line, UnknownFormat,
 };
+use std::alloc::Global;
 use std::test::Fail;
 
 // Worked by hand: after two spaces, how an option is written, in as many columns as the longest and two more, and then
@@ -52,78 +53,118 @@ const WORDS: [&str; 17] = [
     "b",
 ];
 
+// The fields of arguments as `Debug` shows them, each with what it is if nothing is asked.
+const FIELDS: [(&str, &str); 16] = [
+    ("include_ignored: ", "false"),
+    ("ignored: ", "false"),
+    ("test: ", "false"),
+    ("bench: ", "false"),
+    ("list: ", "false"),
+    ("nocapture: ", "false"),
+    ("show_output: ", "false"),
+    ("unstable_flags: ", "None"),
+    ("exact: ", "false"),
+    ("quiet: ", "false"),
+    ("test_threads: ", "None"),
+    ("logfile: ", "None"),
+    ("skip: ", "[]"),
+    ("color: ", "None"),
+    ("format: ", "None"),
+    ("filter: ", "[]"),
+];
+
+// Lines, and the fields of their arguments that ask for something.
+const LINES_READ: [(&str, &[&str]); 14] = [
+    ("harness", &[]),
+    (
+        "harness d --skip a --include-ignored --skip b -Z unstable-options --test-threads 3 --logfile=log --color never --format terse --bench c",
+        &[
+            "include_ignored: true",
+            "bench: true",
+            "unstable_flags: Some(UnstableOptions)",
+            "test_threads: Some(3)",
+            "logfile: Some(\"log\")",
+            "skip: [\"a\", \"b\"]",
+            "color: Some(Never)",
+            "format: Some(Terse)",
+            "filter: [\"d\", \"c\"]",
+        ],
+    ),
+    (
+        "harness -q --test --ignored --list --nocapture --show-output --exact",
+        &[
+            "ignored: true",
+            "test: true",
+            "list: true",
+            "nocapture: true",
+            "show_output: true",
+            "exact: true",
+            "quiet: true",
+        ],
+    ),
+    ("harness --color=auto", &["color: Some(Auto)"]),
+    ("harness --color=always", &["color: Some(Always)"]),
+    ("harness --color=never", &["color: Some(Never)"]),
+    ("harness --format pretty", &["format: Some(Pretty)"]),
+    ("harness --format terse", &["format: Some(Terse)"]),
+    ("harness --format json", &["format: Some(Json)"]),
+    ("harness --test-threads 0", &["test_threads: Some(0)"]),
+    ("harness --test-threads 1", &["test_threads: Some(1)"]),
+    ("harness --test-threads +5", &["test_threads: Some(5)"]),
+    (
+        "harness --test-threads 18446744073709551615",
+        &["test_threads: Some(18446744073709551615)"],
+    ),
+    (
+        "harness -Zunstable-options --skip=-x",
+        &["unstable_flags: Some(UnstableOptions)", "skip: [\"-x\"]"],
+    ),
+];
+
+// Arguments of which these fields ask for something, as `Debug` shows them.
+fn shown(alloc: Global, asked: &[&str]) -> Result<String, Fail> {
+    let mut text = String::from_str(alloc, "Arguments {")?;
+    let mut comma = " ";
+    for (name, none) in FIELDS {
+        text.push_str(comma)?;
+        text.push_str(name)?;
+        let field = asked.iter().find_map(|field| field.strip_prefix(name));
+        text.push_str(field.unwrap_or(none))?;
+        comma = ", ";
+    }
+    text.push_str(" }")?;
+    Ok(text)
+}
+
+// A line gives its arguments, and so do its matches and a copy.
 #[test]
-fn reads_options(rt: HostRuntime) -> Result<(), Fail> {
+fn reads_lines(rt: HostRuntime) -> Result<(), Fail> {
     let alloc = rt.alloc();
-    let words = [
-        "harness",
-        "d",
-        "--skip",
-        "a",
-        "--include-ignored",
-        "--skip",
-        "b",
-        "-Z",
-        "unstable-options",
-        "--test-threads",
-        "3",
-        "--logfile=log",
-        "--color",
-        "never",
-        "--format",
-        "terse",
-        "--bench",
-        "c",
-    ];
-    let args = Arguments::from_iter(alloc, &words)?;
-    assert_eq!(rt; args.skip.len(), 2);
-    assert_eq!(rt; args.skip[0].as_str(), "a");
-    assert_eq!(rt; args.skip[1].as_str(), "b");
-    assert!(rt; args.include_ignored && args.bench && !args.test && !args.quiet && !args.ignored);
-    assert!(rt; args.unstable_flags == Some(UnstableFlags::UnstableOptions));
-    assert_eq!(rt; args.test_threads, Some(3));
-    assert!(rt;
-        args.logfile
-            .as_ref()
-            .is_some_and(|path| path.as_str() == "log")
-    );
-    assert!(rt; args.color == Some(ColorSetting::Never));
-    assert!(rt; args.format == Some(FormatSetting::Terse));
-    assert_eq!(rt; args.filter.len(), 2);
-    assert_eq!(rt; args.filter[0].as_str(), "d");
-    assert_eq!(rt; args.filter[1].as_str(), "c");
-    let copy = args.try_clone(alloc)?;
-    assert_eq!(rt;
-        format!(in alloc; "{copy:?}")?.as_str(),
-        format!(in alloc; "{args:?}")?.as_str()
-    );
+    for (line, asked) in LINES_READ {
+        let words: Vec<&str> = line.split(' ').collect(alloc)?;
+        let matches = Arguments::command(alloc)?.try_get_matches_from(words.as_slice())?;
+        let args = Arguments::from_iter(alloc, words.as_slice())?;
+        let copy = args.try_clone(alloc)?;
+        let matched = Arguments::from_matches(alloc, &matches)?;
+        let text = shown(alloc, asked)?;
+        for args in [&args, &copy, &matched] {
+            assert_eq!(rt; format!(in alloc; "{args:?}")?.as_str(), text.as_str());
+        }
+    }
     Ok(())
 }
 
 #[test]
-fn reads_flags(rt: HostRuntime) -> Result<(), Fail> {
-    let alloc = rt.alloc();
-    let none = Arguments::from_iter(alloc, &["harness"])?;
-    let new = Arguments::new(alloc);
-    assert_eq!(rt;
-        format!(in alloc; "{none:?}")?.as_str(),
-        format!(in alloc; "{new:?}")?.as_str()
-    );
-    let words = [
-        "harness",
-        "-q",
-        "--test",
-        "--ignored",
-        "--list",
-        "--nocapture",
-        "--show-output",
-        "--exact",
-    ];
-    let args = Arguments::from_iter(alloc, &words)?;
-    assert!(rt; args.quiet && args.test && args.ignored && args.list);
-    assert!(rt;
-        args.nocapture && args.show_output && args.exact && !args.bench && !args.include_ignored
-    );
+fn names_formats(rt: HostRuntime) -> Result<(), Fail> {
+    for (name, format) in [
+        ("pretty", FormatSetting::Pretty),
+        ("terse", FormatSetting::Terse),
+        ("json", FormatSetting::Json),
+    ] {
+        assert!(rt; name.parse::<FormatSetting>() == Ok(format), "{name}");
+        assert_eq!(rt; format.name(), name);
+    }
+    assert!(rt; "JSON".parse::<FormatSetting>() == Err(UnknownFormat));
     Ok(())
 }
 
@@ -155,47 +196,6 @@ fn refuses_lines(rt: HostRuntime) -> Result<(), Fail> {
     Ok(())
 }
 
-#[test]
-fn reads_each_value(rt: HostRuntime) -> Result<(), Fail> {
-    let alloc = rt.alloc();
-    let colors = [
-        ("--color=auto", ColorSetting::Auto),
-        ("--color=always", ColorSetting::Always),
-        ("--color=never", ColorSetting::Never),
-    ];
-    for (word, color) in &colors {
-        let args = Arguments::from_iter(alloc, &["harness", *word])?;
-        assert!(rt; args.color == Some(*color), "{word}");
-    }
-    let formats = [
-        ("pretty", FormatSetting::Pretty),
-        ("terse", FormatSetting::Terse),
-        ("json", FormatSetting::Json),
-    ];
-    for (name, format) in &formats {
-        let args = Arguments::from_iter(alloc, &["harness", "--format", *name])?;
-        assert!(rt; args.format == Some(*format), "{name}");
-        assert!(rt; name.parse::<FormatSetting>() == Ok(*format), "{name}");
-        assert_eq!(rt; format.name(), *name);
-    }
-    assert!(rt; "JSON".parse::<FormatSetting>() == Err(UnknownFormat));
-    let numbers = [
-        ("0", 0),
-        ("1", 1),
-        ("+5", 5),
-        ("18446744073709551615", usize::MAX),
-    ];
-    for (word, number) in &numbers {
-        let args = Arguments::from_iter(alloc, &["harness", "--test-threads", *word])?;
-        assert!(rt; args.test_threads == Some(*number), "{word}");
-    }
-    let args = Arguments::from_iter(alloc, &["harness", "-Zunstable-options", "--skip=-x"])?;
-    assert!(rt; args.unstable_flags == Some(UnstableFlags::UnstableOptions));
-    assert_eq!(rt; args.skip.len(), 1);
-    assert_eq!(rt; args.skip[0].as_str(), "-x");
-    Ok(())
-}
-
 // Whether a line may not use the first word before the second.
 fn is_refused(first: &str, second: &str) -> bool {
     match (first, second) {
@@ -221,21 +221,6 @@ fn takes_all_pairs_but_those_excluded(rt: HostRuntime) -> Result<(), Fail> {
             }
         }
     }
-    Ok(())
-}
-
-#[test]
-fn reads_matches(rt: HostRuntime) -> Result<(), Fail> {
-    let alloc = rt.alloc();
-    let words = ["harness", "--bench", "--skip", "a", "--format=json", "b"];
-    let matches = Arguments::command(alloc)?.try_get_matches_from(&words)?;
-    let args = Arguments::from_matches(alloc, &matches)?;
-    let same = Arguments::from_iter(alloc, &words)?;
-    assert!(rt; args.bench && args.format == Some(FormatSetting::Json));
-    assert_eq!(rt;
-        format!(in alloc; "{args:?}")?.as_str(),
-        format!(in alloc; "{same:?}")?.as_str()
-    );
     Ok(())
 }
 
