@@ -192,7 +192,8 @@ impl<R: Task + Send + 'static, C: Clock + Drop> Job<R, C> {
                 (out, ran)
             }
             None => {
-                let (writer, ran) = self.run_buffered(rt, args, out);
+                let is_terminal = out.is_terminal();
+                let (writer, ran) = self.run_buffered(rt, args, out, is_terminal);
                 (writer, ran.map_err(Fault::Run))
             }
         }
@@ -213,16 +214,17 @@ impl<R: Task + Send + 'static, C: Clock + Drop> Job<R, C> {
         ensures adds_up { args.now.list ≡ false → IfOk result (λ c. total_of c ≡ vec_len self.tests) }
     {
         let file = fs::create(files, path).map_err(Fault::Logfile)?;
-        let conclusion = self.run_buffered(rt, args, file).1?;
+        let conclusion = self.run_buffered(rt, args, file, false).1?;
         Ok(conclusion)
     }
 
-    // Runs into the writer through a buffer, and gives the writer back.
-    fn run_buffered<T: Spawner + 'static, W: Write + IsTerminal>(
+    // Runs into the writer, which is a terminal or not, through a buffer, and gives the writer back.
+    fn run_buffered<T: Spawner + 'static, W: Write>(
         self,
         rt: &T,
         args: &Arguments,
         writer: W,
+        is_terminal: bool,
     ) -> (W, Result<Conclusion, RunError>)
         requires runnable { AllCanRun R.can_run self.tests.items }
         requires some_thread { 1 ≤ self.default_threads }
@@ -231,7 +233,7 @@ impl<R: Task + Send + 'static, C: Clock + Drop> Job<R, C> {
         ensures answer { IfOk result.1 (λ c. HasAnswer R.gives args.now self.tests.items (Ok c)) }
         ensures adds_up { args.now.list ≡ false → IfOk result.1 (λ c. total_of c ≡ vec_len self.tests) }
     {
-        let policy = FlushPolicy::of_run(args, self.default_threads, writer.is_terminal());
+        let policy = FlushPolicy::of_run(args, self.default_threads, is_terminal);
         let output = Output::new(policy, writer);
         run_into(
             rt,

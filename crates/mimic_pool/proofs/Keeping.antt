@@ -1,5 +1,5 @@
 -- What seats show when an outcome is laid down at one of them.
-use Rattle.std.proofs.Common.{◌≡◌, ◌∙◌, ℕ, suc, zero, ◌+◌, ◌<◌, ◌≤◌, false, List, [], ◌∷◌, ◌++◌, Option, Some, None, is_some, length, map, slice_index_or, slice_set, refl, sym, subst, ap, ap₂, arith}
+use Rattle.std.proofs.Common.{◌≡◌, ℕ, suc, zero, ◌+◌, ◌<◌, ◌≤◌, false, List, [], ◌∷◌, ◌++◌, Option, None, is_some, length, map, slice_index_or, slice_set, refl, sym, subst, ap, ap₂, arith}
 use Rattle.std.specs.Prelude.{slice_get}
 use Rattle.std.specs.List.{AllByRecursion}
 use Rattle.mimic_trial.specs.declared.outcome.Outcome.{Outcome}

@@ -6,7 +6,7 @@ use Rattle.std.proofs.lemmas.List.FromFn.{length-range_with_len}
 use Rattle.std.proofs.lemmas.List.Sorted.{length_permutation}
 use Rattle.mimic_trial.specs.Places.{places_of}
 use Rattle.mimic_pool.specs.Arrivals.{missing_of}
-use Rattle.mimic_pool.specs.Missing.{free_from, missing_items}
+use Rattle.mimic_pool.specs.Missing.{missing_items}
 use Rattle.mimic_pool.proofs.Seating.{missing_shown, order_shown, shown_whole}
 use Rattle.mimic_pool.proofs.desk.Desk.into_order.Goals as goal
 

@@ -1,4 +1,4 @@
-use Rattle.std.proofs.Common.{◌≡◌, ◌∙◌, Some, ap, ap₂, arith, length, length-append, map, slice_set}
+use Rattle.std.proofs.Common.{◌∙◌, ap, ap₂, arith, length, length-append, map, slice_set}
 use Rattle.std.proofs.Math.ListN.{length-set}
 use Rattle.mimic_pool.specs.Kept.{outcome_in}
 use Rattle.mimic_pool.specs.Marks.{kept_of}
