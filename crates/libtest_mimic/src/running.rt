@@ -3,7 +3,7 @@ ghost use Rattle.std.specs.Prelude.{◌≡◌, ◌≢◌, ◌-◌, ◌^◌, ◌<
 ghost use Rattle.mimic_printer.specs.Sink.{faults_of, shown};
 ghost use Rattle.mimic_trial.specs.Count.{total_of};
 ghost use Rattle.mimic_trial.specs.Trial.{AllCanRun};
-ghost use Rattle.libtest_mimic.specs.Run.{HasAnswer, HasLines, Lists, OnNothingWritten, Reports, threads_of};
+ghost use Rattle.libtest_mimic.specs.Run.{HasAnswer, HasJson, HasLines, HasRows, Lists, OnNothingWritten, Reports, threads_of};
 ghost use Rattle.libtest_mimic.specs.declared.running.RunError.TheVariants.{ZeroThreads};
 ghost use Rattle.libtest_mimic.specs.Steps.{selected_suite};
 ghost use Rattle.libtest_mimic.specs.Stopwatch.{IsFresh, IsRunning};
@@ -95,6 +95,8 @@ pub fn run<R: Task + Send + 'static, W: Write, C: Clock, T: Spawner + 'static>(
     ensures answer { HasAnswer R.gives args.now tests.items result }
     ensures adds_up { args.now.list ≡ false → IfOk result (λ c. total_of c ≡ vec_len tests) }
     ensures lines { HasLines args.now tests.items (shown W.contents sink.old) (shown W.contents sink.new) result }
+    ensures rows { HasRows R.gives args.now auto_colours tests.items (shown W.contents sink.old) (shown W.contents sink.new) watch.new result }
+    ensures json { HasJson R.gives args.now tests.items (shown W.contents sink.old) (shown W.contents sink.new) watch.new result }
 {
     watch.start();
     if args.list {
@@ -166,6 +168,8 @@ pub fn run_here<R: Task, W: Write, C: Clock>(
     ensures answer { HasAnswer R.gives args.now tests.items result }
     ensures adds_up { args.now.list ≡ false → IfOk result (λ c. total_of c ≡ vec_len tests) }
     ensures lines { HasLines args.now tests.items (shown W.contents sink.old) (shown W.contents sink.new) result }
+    ensures rows { HasRows R.gives args.now auto_colours tests.items (shown W.contents sink.old) (shown W.contents sink.new) watch.new result }
+    ensures json { HasJson R.gives args.now tests.items (shown W.contents sink.old) (shown W.contents sink.new) watch.new result }
 {
     watch.start();
     if args.list {

@@ -63,6 +63,7 @@ fn take_apart<R: Drop>(
     workers: usize,
 ) -> Result<(Vec<TestInfo>, Vec<Share<R>>), AllocError>
     requires some_worker { 1 ≤ workers }
+    requires no_more { workers ≤ vec_len trials }
     ensures dealt { IfOk result (λ parts. AreDealt args.now trials.items parts.0.items parts.1.items) }
     ensures len { IfOk result (λ parts. vec_len parts.1 ≡ workers) }
 {
