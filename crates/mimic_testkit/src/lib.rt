@@ -21,6 +21,4 @@ mod mixed_bag;
 
 pub use clocks::{KnownReadings, RaisedClock, TwoReadings};
 pub use faulty_writer::{Fault, FaultyWriter, Place};
-pub use mixed_bag::{
-    Answer, Entry, Known, MIXED_BAG, benchmark_answer, known_trials, test_answer,
-};
+pub use mixed_bag::{Answer, Entry, Known, MIXED_BAG, benchmark_answer, known_trials, test_answer};

@@ -216,7 +216,10 @@ fn stops_workers_at_each_flush(rt: HostRuntime) -> Result<(), Fail> {
             let writer = FaultyWriter::new(alloc).failing(Place::Flush(flush), FULL);
             let (left, ran) = run_two(&rt, alloc, report, Some(2), writer)?;
             let bytes = left.writer.bytes.as_slice();
-            assert!(rt; left.is_stopped_by((flush <= flushes).then_some(FULL)), "flush {flush}");
+            assert!(rt;
+                left.is_stopped_by((flush <= flushes).then_some(FULL)),
+                "flush {flush}"
+            );
             assert!(rt; begin_one(&texts, bytes), "flush {flush}");
             assert_eq!(rt; flush >= flushes, bytes.len() == report.len);
             assert!(rt; flush >= flushes || bytes.ends_with(b" ... "));

@@ -1,8 +1,6 @@
 //! Command lines, as words after the program's name, and what they give. What is refused is as in the Rust crate, and
 //! help has the same options in our own words.
-use mimic_args::{
-    Arguments, ArgumentsError, ColorSetting, FormatSetting, Line, UnknownFormat,
-};
+use mimic_args::{Arguments, ArgumentsError, ColorSetting, FormatSetting, Line, UnknownFormat};
 use std::alloc::Global;
 use std::test::Fail;
 

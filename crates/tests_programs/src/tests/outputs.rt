@@ -115,8 +115,18 @@ fn hands_on_second_lines(rt: HostRuntime) -> Result<(), Fail> {
         "title\n", "a\n", "b", "\n", "c\n", "d\n", "e\n", "f\n", "end",
     ];
     let rows: [(FlushPolicy, usize, &[&str], &[usize]); 3] = [
-        (FlushPolicy::OnOddLineEnd, usize::MAX, pairs, &[6, 10, 14, 18, 21]),
-        (FlushPolicy::OnEvenLineEnd, usize::MAX, pairs, &[8, 12, 16, 21]),
+        (
+            FlushPolicy::OnOddLineEnd,
+            usize::MAX,
+            pairs,
+            &[6, 10, 14, 18, 21],
+        ),
+        (
+            FlushPolicy::OnEvenLineEnd,
+            usize::MAX,
+            pairs,
+            &[8, 12, 16, 21],
+        ),
         (
             FlushPolicy::OnOddLineEnd,
             3,

@@ -224,7 +224,10 @@ fn shows_what_has_ended(rt: HostRuntime) -> Result<(), Fail> {
             }
             let mut tests = Vec::new(alloc);
             for (name, awaited) in [("a", title), ("b", row)] {
-                tests.push(Trial::new(String::from_str(alloc, name)?, Awaits { rt, path, awaited }))?;
+                tests.push(Trial::new(
+                    String::from_str(alloc, name)?,
+                    Awaits { rt, path, awaited },
+                ))?;
             }
             let out = fs::create(&rt, if is_logged { "/dev/null" } else { path })?;
             let left = run_tests(&rt, &PLAIN, Ok(args), tests, out)?;
@@ -273,7 +276,11 @@ fn runs_nothing_without_a_title(rt: HostRuntime) -> Result<(), Fail> {
             let left = run_tests(&rt, &PLAIN, Ok(args), tests, out)?;
             assert_eq!(rt; left.status, ExitCode::from(1));
             assert_eq!(rt; left.err.as_str(), "plain: cannot write the report\n");
-            assert_eq!(rt; calls.load(Ordering::SeqCst), 0, "{format:?} {threads} {is_logged}");
+            assert_eq!(rt;
+                calls.load(Ordering::SeqCst),
+                0,
+                "{format:?} {threads} {is_logged}"
+            );
         }
     }
     Ok(())
@@ -288,14 +295,39 @@ fn writes_at_once_what_comes_at_once(rt: HostRuntime) -> Result<(), Fail> {
     let announced = "{ \"type\": \"test\", \"event\": \"started\", \"name\": \"a\" }\n";
     let ended = "{ \"type\": \"test\", \"name\": \"a\", \"event\": \"ok\" }\n";
     let rows: [(FormatSetting, bool, usize, &[&[&str]]); 8] = [
-        (FormatSetting::Pretty, false, 1, &[&["\nrunning 1 test\n", "test a ... "]]),
-        (FormatSetting::Pretty, true, 4, &[&["\nrunning 1 test\n"], &["test a ... ", "ok\n"]]),
+        (
+            FormatSetting::Pretty,
+            false,
+            1,
+            &[&["\nrunning 1 test\n", "test a ... "]],
+        ),
+        (
+            FormatSetting::Pretty,
+            true,
+            4,
+            &[&["\nrunning 1 test\n"], &["test a ... ", "ok\n"]],
+        ),
         (FormatSetting::Json, true, 1, &[&[title, announced]]),
-        (FormatSetting::Json, false, 4, &[&[title], &[announced, ended]]),
+        (
+            FormatSetting::Json,
+            false,
+            4,
+            &[&[title], &[announced, ended]],
+        ),
         (FormatSetting::Terse, false, 1, &[&["\nrunning 1 test\n"]]),
         (FormatSetting::Terse, false, 4, &[&["\nrunning 1 test\n"]]),
-        (FormatSetting::Terse, true, 1, &[&["\nrunning 1 test\n"], &["."]]),
-        (FormatSetting::Terse, true, 4, &[&["\nrunning 1 test\n"], &["."]]),
+        (
+            FormatSetting::Terse,
+            true,
+            1,
+            &[&["\nrunning 1 test\n"], &["."]],
+        ),
+        (
+            FormatSetting::Terse,
+            true,
+            4,
+            &[&["\nrunning 1 test\n"], &["."]],
+        ),
     ];
     for (format, is_terminal, threads, writes) in rows {
         let mut args = Arguments::new(alloc);

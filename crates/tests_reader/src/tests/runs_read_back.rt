@@ -1,7 +1,8 @@
 //! What a run writes in JSON, read back.
 use super::feeding::{altered, fed_each_byte};
 use libtest_mimic::{
-    Arguments, Conclusion, Failed, FormatSetting, Measurement, Outcome, Sink, Stopwatch, Trial, run_here,
+    Arguments, Conclusion, Failed, FormatSetting, Measurement, Outcome, Sink, Stopwatch, Trial,
+    run_here,
 };
 use mimic_events::{Report, read_report};
 use mimic_roundtrip::run_to_report;
