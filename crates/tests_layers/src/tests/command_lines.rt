@@ -1,7 +1,6 @@
 //! Command lines, as words after the program's name, and what they give. What is refused is as in the Rust crate, and
 //! help has the same options in our own words.
 use mimic_args::{Arguments, ArgumentsError, ColorSetting, FormatSetting, Line, UnknownFormat};
-use std::alloc::Global;
 use std::test::Fail;
 
 // Worked by hand: after two spaces, how an option is written, in as many columns as the longest and two more, and then
@@ -51,103 +50,49 @@ const WORDS: [&str; 17] = [
     "b",
 ];
 
-// The fields of arguments as `Debug` shows them, each with what it is if nothing is asked.
-const FIELDS: [(&str, &str); 16] = [
-    ("include_ignored: ", "false"),
-    ("ignored: ", "false"),
-    ("test: ", "false"),
-    ("bench: ", "false"),
-    ("list: ", "false"),
-    ("nocapture: ", "false"),
-    ("show_output: ", "false"),
-    ("unstable_flags: ", "None"),
-    ("exact: ", "false"),
-    ("quiet: ", "false"),
-    ("test_threads: ", "None"),
-    ("logfile: ", "None"),
-    ("skip: ", "[]"),
-    ("color: ", "None"),
-    ("format: ", "None"),
-    ("filter: ", "[]"),
-];
-
-// Lines, and the fields of their arguments that ask for something.
-const LINES_READ: [(&str, &[&str]); 14] = [
-    ("harness", &[]),
+// Lines, and their arguments as `Debug` shows them.
+const LINES_READ: [(&str, &str); 7] = [
+    (
+        "harness",
+        "Arguments { include_ignored: false, ignored: false, test: false, bench: false, list: false, nocapture: false, show_output: false, unstable_flags: None, exact: false, quiet: false, test_threads: None, logfile: None, skip: [], color: None, format: None, filter: [] }",
+    ),
     (
         "harness d --skip a --include-ignored --skip b -Z unstable-options --test-threads 3 --logfile=log --color never --format terse --bench c",
-        &[
-            "include_ignored: true",
-            "bench: true",
-            "unstable_flags: Some(UnstableOptions)",
-            "test_threads: Some(3)",
-            "logfile: Some(\"log\")",
-            "skip: [\"a\", \"b\"]",
-            "color: Some(Never)",
-            "format: Some(Terse)",
-            "filter: [\"d\", \"c\"]",
-        ],
+        r#"Arguments { include_ignored: true, ignored: false, test: false, bench: true, list: false, nocapture: false, show_output: false, unstable_flags: Some(UnstableOptions), exact: false, quiet: false, test_threads: Some(3), logfile: Some("log"), skip: ["a", "b"], color: Some(Never), format: Some(Terse), filter: ["d", "c"] }"#,
     ),
     (
         "harness -q --test --ignored --list --nocapture --show-output --exact",
-        &[
-            "ignored: true",
-            "test: true",
-            "list: true",
-            "nocapture: true",
-            "show_output: true",
-            "exact: true",
-            "quiet: true",
-        ],
-    ),
-    ("harness --color=auto", &["color: Some(Auto)"]),
-    ("harness --color=always", &["color: Some(Always)"]),
-    ("harness --color=never", &["color: Some(Never)"]),
-    ("harness --format pretty", &["format: Some(Pretty)"]),
-    ("harness --format terse", &["format: Some(Terse)"]),
-    ("harness --format json", &["format: Some(Json)"]),
-    ("harness --test-threads 0", &["test_threads: Some(0)"]),
-    ("harness --test-threads 1", &["test_threads: Some(1)"]),
-    ("harness --test-threads +5", &["test_threads: Some(5)"]),
-    (
-        "harness --test-threads 18446744073709551615",
-        &["test_threads: Some(18446744073709551615)"],
+        "Arguments { include_ignored: false, ignored: true, test: true, bench: false, list: true, nocapture: true, show_output: true, unstable_flags: None, exact: true, quiet: true, test_threads: None, logfile: None, skip: [], color: None, format: None, filter: [] }",
     ),
     (
-        "harness -Zunstable-options --skip=-x",
-        &["unstable_flags: Some(UnstableOptions)", "skip: [\"-x\"]"],
+        "harness --color=auto --format pretty --test-threads 0",
+        "Arguments { include_ignored: false, ignored: false, test: false, bench: false, list: false, nocapture: false, show_output: false, unstable_flags: None, exact: false, quiet: false, test_threads: Some(0), logfile: None, skip: [], color: Some(Auto), format: Some(Pretty), filter: [] }",
+    ),
+    (
+        "harness --color=always --format json --test-threads 1",
+        "Arguments { include_ignored: false, ignored: false, test: false, bench: false, list: false, nocapture: false, show_output: false, unstable_flags: None, exact: false, quiet: false, test_threads: Some(1), logfile: None, skip: [], color: Some(Always), format: Some(Json), filter: [] }",
+    ),
+    (
+        "harness --test-threads +5",
+        "Arguments { include_ignored: false, ignored: false, test: false, bench: false, list: false, nocapture: false, show_output: false, unstable_flags: None, exact: false, quiet: false, test_threads: Some(5), logfile: None, skip: [], color: None, format: None, filter: [] }",
+    ),
+    (
+        "harness --test-threads 18446744073709551615 -Zunstable-options --skip=-x",
+        r#"Arguments { include_ignored: false, ignored: false, test: false, bench: false, list: false, nocapture: false, show_output: false, unstable_flags: Some(UnstableOptions), exact: false, quiet: false, test_threads: Some(18446744073709551615), logfile: None, skip: ["-x"], color: None, format: None, filter: [] }"#,
     ),
 ];
-
-// Arguments of which these fields ask for something, as `Debug` shows them.
-fn shown(alloc: Global, asked: &[&str]) -> Result<String, Fail> {
-    let mut text = String::from_str(alloc, "Arguments {")?;
-    let mut comma = " ";
-    for (name, none) in FIELDS {
-        text.push_str(comma)?;
-        text.push_str(name)?;
-        let field = asked.iter().find_map(|field| field.strip_prefix(name));
-        text.push_str(field.unwrap_or(none))?;
-        comma = ", ";
-    }
-    text.push_str(" }")?;
-    Ok(text)
-}
 
 // A line gives its arguments, and so do its matches and a copy.
 #[test]
 fn reads_lines(rt: HostRuntime) -> Result<(), Fail> {
     let alloc = rt.alloc();
-    for (line, asked) in LINES_READ {
+    for (line, text) in LINES_READ {
         let words: Vec<&str> = line.split(' ').collect(alloc)?;
         let matches = Arguments::command(alloc)?.try_get_matches_from(words.as_slice())?;
-        let args = Arguments::from_iter(alloc, words.as_slice())?;
-        let copy = args.try_clone(alloc)?;
-        let matched = Arguments::from_matches(alloc, &matches)?;
-        let text = shown(alloc, asked)?;
-        for args in [&args, &copy, &matched] {
-            assert_eq!(rt; format!(in alloc; "{args:?}")?.as_str(), text.as_str());
-        }
+        let args = Arguments::from_matches(alloc, &matches)?;
+        assert_eq!(rt; format!(in alloc; "{args:?}")?.as_str(), text);
+        let args = Arguments::from_iter(alloc, words.as_slice())?.try_clone(alloc)?;
+        assert_eq!(rt; format!(in alloc; "{args:?}")?.as_str(), text);
     }
     Ok(())
 }
