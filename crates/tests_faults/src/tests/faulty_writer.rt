@@ -1,6 +1,5 @@
 //! What calls of the faulty writer return before, at and after its fault.
 use mimic_testkit::{Fault, FaultyWriter, Place};
-use std::alloc::Global;
 use std::io;
 use std::io::{ErrorKind, Write};
 use std::test::Fail;
@@ -25,66 +24,61 @@ fn called(writer: &mut FaultyWriter) -> [Answer; 5] {
     ]
 }
 
-// A writer, what those calls return, the bytes that it holds then, and how many calls came after its fault.
-fn rows(alloc: Global) -> [(FaultyWriter, [Answer; 5], &'static str, u64); 8] {
-    let new = FaultyWriter::new;
-    let no_space = Err(ErrorKind::StorageFull);
-    let zero = Err(ErrorKind::WriteZero);
-    [
-        (new(alloc), [Ok(3), Ok(2), Ok(0), Ok(1), Ok(0)], "abcdef", 0),
-        (
-            new(alloc).taking(1),
-            [Ok(1), Ok(1), Ok(0), Ok(1), Ok(0)],
-            "adf",
-            0,
-        ),
-        (
-            new(alloc).failing(Place::Byte(4), FULL),
-            [Ok(3), Ok(1), Ok(0), no_space, Ok(0)],
-            "abcd",
-            1,
-        ),
-        (
-            new(alloc).failing(Place::Byte(3), FULL).for_ever(),
-            [Ok(3), no_space, no_space, no_space, no_space],
-            "abc",
-            3,
-        ),
-        (
-            new(alloc)
-                .failing(Place::Byte(3), Fault::TakesNone)
-                .for_ever(),
-            [Ok(3), Ok(0), zero, Ok(0), zero],
-            "abc",
-            3,
-        ),
-        (
-            new(alloc).failing(Place::Write(1), Fault::Error(ErrorKind::Interrupted)),
-            [Err(ErrorKind::Interrupted), Ok(2), Ok(0), Ok(1), Ok(0)],
-            "def",
-            4,
-        ),
-        (
-            new(alloc).failing(Place::Flush(1), FULL),
-            [Ok(3), Ok(2), no_space, Ok(1), Ok(0)],
-            "abcdef",
-            2,
-        ),
-        (
-            new(alloc).failing(Place::Flush(2), Fault::TakesNone),
-            [Ok(3), Ok(2), Ok(0), Ok(1), zero],
-            "abcdef",
-            0,
-        ),
-    ]
+// How many bytes a writer takes at most, where and how it fails, and whether for ever; what those calls return, the bytes that
+// it holds then, and how many calls came after its fault.
+struct Row {
+    most: usize,
+    place: Place,
+    fault: Fault,
+    lasts: bool,
+    answers: [Answer; 5],
+    bytes: &'static str,
+    calls_after: u64,
 }
+
+const NO_SPACE: Answer = Err(ErrorKind::StorageFull);
+
+const ZERO: Answer = Err(ErrorKind::WriteZero);
+
+macro_rules! rows {
+    ($($most:expr, $place:expr, $fault:expr, $lasts:expr, $answers:expr, $bytes:expr, $calls_after:expr;)*) => {
+        [$(Row {
+            most: $most,
+            place: $place,
+            fault: $fault,
+            lasts: $lasts,
+            answers: $answers,
+            bytes: $bytes,
+            calls_after: $calls_after,
+        }),*]
+    };
+}
+
+const MOST: usize = usize::MAX;
+
+const INTERRUPTED: Fault = Fault::Error(ErrorKind::Interrupted);
+
+static ROWS: [Row; 8] = rows![
+    MOST, Place::Nowhere, FULL, false, [Ok(3), Ok(2), Ok(0), Ok(1), Ok(0)], "abcdef", 0;
+    1, Place::Nowhere, FULL, false, [Ok(1), Ok(1), Ok(0), Ok(1), Ok(0)], "adf", 0;
+    MOST, Place::Byte(4), FULL, false, [Ok(3), Ok(1), Ok(0), NO_SPACE, Ok(0)], "abcd", 1;
+    MOST, Place::Byte(3), FULL, true, [Ok(3), NO_SPACE, NO_SPACE, NO_SPACE, NO_SPACE], "abc", 3;
+    MOST, Place::Byte(3), Fault::TakesNone, true, [Ok(3), Ok(0), ZERO, Ok(0), ZERO], "abc", 3;
+    MOST, Place::Write(1), INTERRUPTED, false, [Err(ErrorKind::Interrupted), Ok(2), Ok(0), Ok(1), Ok(0)], "def", 4;
+    MOST, Place::Flush(1), FULL, false, [Ok(3), Ok(2), NO_SPACE, Ok(1), Ok(0)], "abcdef", 2;
+    MOST, Place::Flush(2), Fault::TakesNone, false, [Ok(3), Ok(2), Ok(0), Ok(1), ZERO], "abcdef", 0;
+];
 
 #[test]
 fn fails_where_it_is_to(rt: HostRuntime) -> Result<(), Fail> {
-    for (mut writer, answers, bytes, calls_after) in rows(rt.alloc()) {
-        assert!(rt; called(&mut writer) == answers, "{writer:?}");
-        assert!(rt; writer.bytes.as_slice() == bytes.as_bytes());
-        assert_eq!(rt; writer.calls_after, calls_after);
+    for row in &ROWS {
+        let mut writer = FaultyWriter::new(rt.alloc())
+            .taking(row.most)
+            .failing(row.place, row.fault);
+        writer.lasts = row.lasts;
+        assert!(rt; called(&mut writer) == row.answers, "{writer:?}");
+        assert!(rt; writer.bytes.as_slice() == row.bytes.as_bytes());
+        assert_eq!(rt; writer.calls_after, row.calls_after);
         assert_eq!(rt; (writer.writes, writer.flushes), (3, 2));
     }
     Ok(())

@@ -1,6 +1,6 @@
 //! Names and messages that look like other parts of a report: what is written of them, and what is read back.
 use super::runs::{asking, marking, outcome_with, run_into};
-use libtest_mimic::{FormatSetting, Outcome};
+use libtest_mimic::{FormatSetting, Outcome, Spawner};
 use mimic_events::{Feed, Report, read_report};
 use mimic_testkit::FaultyWriter;
 use std::alloc::{AllocError, Global};
@@ -100,6 +100,32 @@ fn fed(alloc: Global, bytes: &[u8]) -> Result<Option<Report>, AllocError> {
     feed.finish()
 }
 
+// What a run of this one trial writes in JSON.
+fn written<T: Spawner + 'static>(
+    rt: &T,
+    alloc: Global,
+    vector: Vector,
+    threads: Option<usize>,
+) -> Result<Vec<u8>, AllocError> {
+    let outcome = outcome_with(alloc, vector.message)?;
+    let (trial, _) = marking(alloc, vector.name, outcome)?;
+    let args = asking(alloc, FormatSetting::Json, threads);
+    let tests = vec![in alloc; trial]?;
+    Ok(
+        run_into(rt, alloc, &args, tests, FaultyWriter::new(alloc))
+            .writer
+            .bytes,
+    )
+}
+
+// Whether the report has one row, of this trial.
+fn is_of_one(report: Option<Report>, name: &str, outcome: &Outcome) -> bool {
+    match report.as_ref().map(|report| report.rows.as_slice()) {
+        Some([row]) => row.name.as_str() == name && row.outcome == *outcome,
+        _ => false,
+    }
+}
+
 // By one thread and by a worker, and read back at once and byte by byte.
 #[test]
 fn reads_back_hostile_texts(rt: HostRuntime) -> Result<(), Fail> {
@@ -108,18 +134,11 @@ fn reads_back_hostile_texts(rt: HostRuntime) -> Result<(), Fail> {
     for vector in VECTORS {
         for threads in [None, Some(2)] {
             let outcome = outcome_with(alloc, vector.message)?;
-            let (trial, _) = marking(alloc, vector.name, outcome.try_clone(alloc)?)?;
-            let args = asking(alloc, FormatSetting::Json, threads);
-            let tests = vec![in alloc; trial]?;
-            let left = run_into(&rt, alloc, &args, tests, FaultyWriter::new(alloc));
-            let bytes = left.writer.bytes.as_slice();
+            let written = written(&rt, alloc, vector, threads)?;
+            let bytes = written.as_slice();
             assert!(rt; bytes == four_lines(alloc, vector)?.as_str().as_bytes());
-            for report in [read_report(alloc, bytes)?, fed(alloc, bytes)?] {
-                let report = report.ok_or("no report")?;
-                assert_eq!(rt; report.rows.len(), 1);
-                assert_eq!(rt; report.rows[0].name.as_str(), vector.name);
-                assert!(rt; report.rows[0].outcome == outcome);
-            }
+            assert!(rt; is_of_one(read_report(alloc, bytes)?, vector.name, &outcome));
+            assert!(rt; is_of_one(fed(alloc, bytes)?, vector.name, &outcome));
         }
     }
     Ok(())

@@ -99,8 +99,13 @@ fn texts<T: Spawner + 'static>(
     let text = left.writer.bytes;
     let [first, second, end] = report.rows_at;
     let mut swapped = Vec::new(alloc);
-    for part in [0..first, second..end, first..second, end..text.len()] {
-        swapped.extend_from_slice(text.get(part).ok_or("a short report")?)?;
+    for (from, to) in [
+        (0, first),
+        (second, end),
+        (first, second),
+        (end, text.len()),
+    ] {
+        swapped.extend_from_slice(text.get(from..to).unwrap_or(&[]))?;
     }
     Ok([text, swapped])
 }

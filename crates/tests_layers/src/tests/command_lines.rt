@@ -1,6 +1,7 @@
 //! Command lines, as words after the program's name, and what they give. What is refused is as in the Rust crate, and
 //! help has the same options in our own words.
 use mimic_args::{Arguments, ArgumentsError, ColorSetting, FormatSetting, Line, UnknownFormat};
+use std::alloc::Global;
 use std::test::Fail;
 
 // Worked by hand: after two spaces, how an option is written, in as many columns as the longest and two more, and then
@@ -206,36 +207,32 @@ fn settles_colours(rt: HostRuntime) -> Result<(), Fail> {
     Ok(())
 }
 
-// A line by its words, those of its own, each with a blank behind it, and the filter that it gives, if its options were read.
-const LINES: [(&str, &str, Option<&str>); 7] = [
-    ("program", "", Some("")),
-    ("program a b", "a b ", Some("")),
-    ("program a --", "a ", Some("")),
-    ("program a -- b", "a ", Some("b")),
-    ("program -- b", "", Some("b")),
-    ("program a -- -- --list", "a ", Some("--list")),
-    ("program --list -- --nope", "--list ", None),
+// Lines, and the words of their own and the filter that they give, if their options were read.
+const LINES: [(&str, &str); 7] = [
+    ("program", "[] "),
+    ("program a b", "[\"a\", \"b\"] "),
+    ("program a --", "[\"a\"] "),
+    ("program a -- b", "[\"a\"] b"),
+    ("program -- b", "[] b"),
+    ("program a -- -- --list", "[\"a\"] --list"),
+    ("program --list -- --nope", "[\"--list\"] refused"),
 ];
+
+// What a line gives, as the table shows it.
+fn shown(alloc: Global, text: &str) -> Result<String, Fail> {
+    let words: Vec<&str> = text.split(' ').collect(alloc)?;
+    let Line { own, options } = Line::from_iter(alloc, words.as_slice())?;
+    let filter = match &options {
+        Ok(args) => args.filter.first().map_or("", String::as_str),
+        Err(_) => "refused",
+    };
+    Ok(format!(in alloc; "{own:?} {filter}")?)
+}
 
 #[test]
 fn reads_words_of_its_own(rt: HostRuntime) -> Result<(), Fail> {
-    let alloc = rt.alloc();
-    for (text, own, filter) in LINES {
-        let words: Vec<&str> = text.split(' ').collect(alloc)?;
-        let Line { own: mine, options } = Line::from_iter(alloc, words.as_slice())?;
-        let mut told = String::new(alloc);
-        for word in &mine {
-            told.push_str(word.as_str())?;
-            told.push(' ')?;
-        }
-        assert_eq!(rt; told.as_str(), own);
-        match options {
-            Ok(args) => {
-                let first = args.filter.first().map_or("", String::as_str);
-                assert_eq!(rt; Some(first), filter);
-            }
-            Err(_error) => assert!(rt; filter.is_none()),
-        }
+    for (text, expected) in LINES {
+        assert_eq!(rt; shown(rt.alloc(), text)?.as_str(), expected);
     }
     Ok(())
 }
@@ -243,9 +240,10 @@ fn reads_words_of_its_own(rt: HostRuntime) -> Result<(), Fail> {
 const USAGE: &str = "usage: program FILE..\n";
 
 // What a program of one or two operands makes of a line.
-#[derive(Clone, Copy)]
+#[derive(Clone, Copy, Debug, PartialEq, Eq)]
 enum Took {
-    Operands(usize),
+    // So many, and whether a list is asked.
+    Operands(usize, bool),
     Help,
     Refused,
     // By its options: the text is theirs, not the usage.
@@ -255,8 +253,8 @@ enum Took {
 // Lines, and what a program that takes one or two operands makes of them.
 const OPERANDS: [(&str, Took); 12] = [
     ("program", Took::Refused),
-    ("program a", Took::Operands(1)),
-    ("program a b -- --list", Took::Operands(2)),
+    ("program a", Took::Operands(1, false)),
+    ("program a b -- --list", Took::Operands(2, true)),
     ("program a b c", Took::Refused),
     ("program --help", Took::Help),
     ("program -h", Took::Help),
@@ -268,26 +266,22 @@ const OPERANDS: [(&str, Took); 12] = [
     ("program --help -- --nope", Took::Options),
 ];
 
+fn operands_of(alloc: Global, text: &str) -> Result<Took, Fail> {
+    let words: Vec<&str> = text.split(' ').collect(alloc)?;
+    let line = Line::from_iter(alloc, words.as_slice())?;
+    match line.into_operands(alloc, 1..=2, USAGE) {
+        Ok((args, operands)) => Ok(Took::Operands(operands.len(), args.list)),
+        Err(ArgumentsError::Help(told)) if told.as_str() == USAGE => Ok(Took::Help),
+        Err(ArgumentsError::Refused(told)) if told.as_str() == USAGE => Ok(Took::Refused),
+        Err(ArgumentsError::Refused(_)) => Ok(Took::Options),
+        Err(error) => Err(error.into()),
+    }
+}
+
 #[test]
 fn takes_operands(rt: HostRuntime) -> Result<(), Fail> {
-    let alloc = rt.alloc();
-    for (text, took) in OPERANDS {
-        let words: Vec<&str> = text.split(' ').collect(alloc)?;
-        let line = Line::from_iter(alloc, words.as_slice())?;
-        match (line.into_operands(alloc, 1..=2, USAGE), took) {
-            (Ok((args, operands)), Took::Operands(count)) => {
-                assert_eq!(rt; operands.len(), count, "{text}");
-                assert_eq!(rt; args.list, count == 2, "{text}");
-            }
-            (Err(ArgumentsError::Help(usage)), Took::Help)
-            | (Err(ArgumentsError::Refused(usage)), Took::Refused) => {
-                assert_eq!(rt; usage.as_str(), USAGE, "{text}");
-            }
-            (Err(ArgumentsError::Refused(told)), Took::Options) => {
-                assert!(rt; told.as_str() != USAGE, "{text}");
-            }
-            _ => assert!(rt; false, "{text}"),
-        }
+    for (text, expected) in OPERANDS {
+        assert_eq!(rt; operands_of(rt.alloc(), text)?, expected, "{text}");
     }
     Ok(())
 }

@@ -4,7 +4,7 @@ use libtest_mimic::{
 };
 use mimic_main::{FlushPolicy, Output, StillClock, run_into};
 use mimic_testkit::{Fault, FaultyWriter, Place};
-use std::alloc::Global;
+use std::alloc::{AllocError, Global};
 use std::io;
 use std::io::{ErrorKind, Write};
 use std::sync::atomic::{AtomicBool, AtomicU64, Ordering};
@@ -12,25 +12,32 @@ use std::sync::{Arc, Wait};
 use std::test::Fail;
 use std::thread::Threads;
 
+// Whether the writer has failed, and how many tests ran after that.
+#[derive(Drop)]
+struct Seen {
+    has_failed: AtomicBool,
+    runs_after: AtomicU64,
+}
+
 // Tells its tests, too, whether it has failed.
 #[derive(Drop)]
 struct Telling {
     writer: FaultyWriter,
-    has_failed: Arc<AtomicBool>,
+    seen: Arc<Seen>,
 }
 
 impl Write for Telling {
     fn write(&mut self, buf: &[u8]) -> io::Result<usize> {
         let written = self.writer.write(buf);
-        self.has_failed
-            .store(self.writer.has_failed, Ordering::SeqCst);
+        let has_failed = self.writer.has_failed;
+        self.seen.has_failed.store(has_failed, Ordering::SeqCst);
         written
     }
 
     fn flush(&mut self) -> io::Result<()> {
         let flushed = self.writer.flush();
-        self.has_failed
-            .store(self.writer.has_failed, Ordering::SeqCst);
+        let has_failed = self.writer.has_failed;
+        self.seen.has_failed.store(has_failed, Ordering::SeqCst);
         flushed
     }
 }
@@ -39,15 +46,15 @@ impl Write for Telling {
 #[derive(Drop)]
 struct Watched {
     outcome: Outcome,
-    has_failed: Arc<AtomicBool>,
-    runs_after: Arc<AtomicU64>,
+    seen: Arc<Seen>,
 }
 
 impl Task for Watched {
     fn run(self, _test_mode: bool) -> Outcome {
-        let late = u64::from(self.has_failed.load(Ordering::SeqCst));
-        self.runs_after.fetch_add(late, Ordering::SeqCst);
-        self.outcome
+        let Watched { outcome, seen } = self;
+        let late = u64::from(seen.has_failed.load(Ordering::SeqCst));
+        seen.runs_after.fetch_add(late, Ordering::SeqCst);
+        outcome
     }
 }
 
@@ -59,7 +66,26 @@ struct Left {
     runs_after: u64,
 }
 
-// Runs a test that passes, one that fails with a message of two lines, and one of a long name, in one thread.
+// A test that passes, one that fails with a message of two lines, and one of a long name.
+fn three_tests(alloc: Global, seen: &Arc<Seen>) -> Result<Vec<Trial<Watched>>, AllocError> {
+    let mut tests = Vec::new(alloc);
+    for (name, repeats, message) in [
+        ("passes", 1, None),
+        ("fails\t", 1, Some("first line\nsecond \"line\"")),
+        ("long name ", 26, None),
+    ] {
+        let outcome = match message {
+            Some(text) => Outcome::Failed(Failed::with_message(String::from_str(alloc, text)?)),
+            None => Outcome::Passed,
+        };
+        let seen = Arc::try_clone(seen)?;
+        let watched = Watched { outcome, seen };
+        tests.push(Trial::new(name.repeat(alloc, repeats)?, watched))?;
+    }
+    Ok(tests)
+}
+
+// Runs the three tests in one thread.
 fn run_three<T: Threads + Wait + Copy + Drop + Send + 'static>(
     rt: &T,
     alloc: Global,
@@ -67,33 +93,19 @@ fn run_three<T: Threads + Wait + Copy + Drop + Send + 'static>(
     policy: FlushPolicy,
     writer: FaultyWriter,
 ) -> Result<Left, Fail> {
-    let has_failed = Arc::new(alloc, AtomicBool::new(false))?;
-    let runs_after = Arc::new(alloc, AtomicU64::new(0))?;
-    let message = String::from_str(alloc, "first line\nsecond \"line\"")?;
-    let mut tests = Vec::new(alloc);
-    for (name, outcome) in [
-        (String::from_str(alloc, "passes")?, Outcome::Passed),
-        (
-            String::from_str(alloc, "fails\t")?,
-            Outcome::Failed(Failed::with_message(message)),
-        ),
-        (format!(in alloc; "{:>260}", "long")?, Outcome::Passed),
-    ] {
-        let watched = Watched {
-            outcome,
-            has_failed: has_failed.clone()?,
-            runs_after: runs_after.clone()?,
-        };
-        tests.push(Trial::new(name, watched))?;
-    }
-    let telling = Telling { writer, has_failed };
-    let output = Output::new(policy, telling);
+    let seen = Seen {
+        has_failed: AtomicBool::new(false),
+        runs_after: AtomicU64::new(0),
+    };
+    let seen = Arc::new(alloc, seen)?;
+    let tests = three_tests(alloc, &seen)?;
+    let output = Output::new(policy, Telling { writer, seen });
     let (telling, ran) = run_into(rt, alloc, args, tests, output, StillClock, 1, false);
     assert_memory(&ran)?;
     Ok(Left {
         is_ok: ran.is_ok(),
         writer: telling.writer,
-        runs_after: runs_after.load(Ordering::SeqCst),
+        runs_after: telling.seen.runs_after.load(Ordering::SeqCst),
     })
 }
 

@@ -114,7 +114,8 @@ fn counts_as_asked(rt: HostRuntime) -> Result<(), Fail> {
         ),
     ];
     for (asked, counts) in rows {
-        for left in [run_words(&rt, asked)?, run_only(&rt, asked)?] {
+        let (by_one, by_four) = (run_words(&rt, asked)?, run_only(&rt, asked)?);
+        for left in [&by_one, &by_four] {
             assert!(rt; left.out.as_str().contains(counts), "{asked:?}");
             let has_failed = !counts.contains("0 failed");
             assert_eq!(rt;
@@ -145,7 +146,7 @@ fn are_reordered(alloc: Global, report: &str, other: &str) -> Result<bool, Alloc
     Ok(report.len() == other.len() && ordered_lines(alloc, report)? == ordered_lines(alloc, other)?)
 }
 
-// Each number of threads gives the same rows in some order, as no option does, and without a thread there is no run.
+// Each number of threads gives the same rows in some order, as no option does.
 #[test]
 fn heeds_the_number_of_threads(rt: HostRuntime) -> Result<(), Fail> {
     let alloc = rt.alloc();
@@ -161,16 +162,24 @@ fn heeds_the_number_of_threads(rt: HostRuntime) -> Result<(), Fail> {
             "{threads}"
         );
     }
-    let none = run_only(&rt, &["--test-threads", "0"])?;
-    assert_eq!(rt; none.status, ExitCode::from(1));
-    assert!(rt; none.out.is_empty());
-    assert_eq!(rt; none.err.as_str(), "harness: no threads to run trials\n");
-    let list = run_only(&rt, &["--test-threads", "0", "--list", "a"])?;
-    assert_eq!(rt; list.out.as_str(), LISTED);
-    assert_eq!(rt; list.status, ExitCode::from(0));
-    let empty = run_only(&rt, &["--test-threads", "0", "zebra"])?;
-    assert_eq!(rt; empty.out.as_str(), NONE_SELECTED);
-    assert_eq!(rt; empty.status, ExitCode::from(0));
+    Ok(())
+}
+
+// Without a thread there is no run, but a list, and a report of no trial.
+#[test]
+fn runs_nothing_without_a_thread(rt: HostRuntime) -> Result<(), Fail> {
+    let rows: [(&[&str], u8, &str, &str); 3] = [
+        (&[], 1, "", "harness: no threads to run trials\n"),
+        (&["--list", "a"], 0, LISTED, ""),
+        (&["zebra"], 0, NONE_SELECTED, ""),
+    ];
+    for (asked, status, out, err) in rows {
+        let mut words = vec![in rt.alloc(); "--test-threads", "0"]?;
+        words.extend_from_slice(asked)?;
+        let left = run_only(&rt, &words)?;
+        assert_eq!(rt; left.status, ExitCode::from(status));
+        assert_eq!(rt; (left.out.as_str(), left.err.as_str()), (out, err));
+    }
     Ok(())
 }
 
@@ -304,13 +313,9 @@ const FLY: &str = r#"{ "type": "suite", "event": "started", "test_count": 1 }
 // A trial of some kind, which the Rust crate's program shows without it.
 #[test]
 fn reports_a_kind_in_json(rt: HostRuntime) -> Result<(), Fail> {
-    for left in [
-        run_words(&rt, &["--format", "json", "fly"])?,
-        run_only(&rt, &["--format", "json", "fly"])?,
-    ] {
-        assert_eq!(rt; left.out.as_str(), FLY);
-        assert_eq!(rt; left.status, ExitCode::from(0));
-    }
+    let left = run_only(&rt, &["--format", "json", "fly"])?;
+    assert_eq!(rt; left.out.as_str(), FLY);
+    assert_eq!(rt; left.status, ExitCode::from(0));
     Ok(())
 }
 

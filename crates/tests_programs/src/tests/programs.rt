@@ -8,11 +8,9 @@ use libtest_mimic::{
 };
 use mimic_main::{Machine, Program, StillClock};
 use mimic_testkit::{Fault, FaultyWriter, Place};
-use std::alloc::Global;
+use std::alloc::{AllocError, Global};
 use std::io::{Eprint, ErrorKind, IsTerminal, Write};
 use std::process::{ExitCode, Termination};
-use std::sync::Arc;
-use std::sync::atomic::{AtomicU64, Ordering};
 use std::test::Fail;
 use std::{fs, io};
 
@@ -46,6 +44,22 @@ fn narrow(alloc: Global) -> FaultyWriter {
     FaultyWriter::new(alloc)
         .failing(Place::Byte(2), full)
         .for_ever()
+}
+
+// What asks for this format, and for so many threads and a logfile if there are some.
+fn asking(
+    alloc: Global,
+    format: FormatSetting,
+    threads: Option<usize>,
+    logfile: Option<&str>,
+) -> Result<Arguments, AllocError> {
+    let mut args = Arguments::new(alloc);
+    args.format = Some(format);
+    args.test_threads = threads;
+    if let Some(path) = logfile {
+        args.logfile = Some(String::from_str(alloc, path)?);
+    }
+    Ok(args)
 }
 
 // What a program leaves.
@@ -103,16 +117,15 @@ fn says_why_a_line_gave_nothing(rt: HostRuntime) -> Result<(), Fail> {
             "plain: out of memory\n",
         ),
     ];
+    let outs: [fn(Global) -> FaultyWriter; 2] = [FaultyWriter::new, narrow];
     for (error, status, on_out, on_err) in rows {
-        let text = String::from_str(alloc, "help\n")?;
-        let left = run_one(&rt, &PLAIN, Err(error(text)), FaultyWriter::new(alloc))?;
-        assert_eq!(rt; left.status, ExitCode::from(status));
-        assert!(rt; left.out.bytes.as_slice() == on_out.as_bytes());
-        assert_eq!(rt; left.err.as_str(), on_err);
-        let text = String::from_str(alloc, "help\n")?;
-        let left = run_one(&rt, &PLAIN, Err(error(text)), narrow(alloc))?;
-        assert_eq!(rt; left.status, ExitCode::from(status));
-        assert_eq!(rt; left.err.as_str(), on_err);
+        for out in outs {
+            let text = String::from_str(alloc, "help\n")?;
+            let left = run_one(&rt, &PLAIN, Err(error(text)), out(alloc))?;
+            assert_eq!(rt; left.status, ExitCode::from(status));
+            assert!(rt; left.out.has_failed || left.out.bytes.as_slice() == on_out.as_bytes());
+            assert_eq!(rt; left.err.as_str(), on_err);
+        }
     }
     Ok(())
 }
@@ -160,17 +173,13 @@ fn shows_what_is_running(rt: HostRuntime) -> Result<(), Fail> {
         (FormatSetting::Json, true, json),
     ];
     for (format, is_logged, expected) in rows {
-        let mut args = Arguments::new(alloc);
-        args.format = Some(format);
-        args.test_threads = Some(1);
-        if is_logged {
-            args.logfile = Some(String::from_str(alloc, path)?);
-        }
+        let args = asking(alloc, format, Some(1), is_logged.then_some(path))?;
         let out = fs::create(&rt, if is_logged { "/dev/null" } else { path })?;
-        let mut tests = Vec::new(alloc);
-        for (name, expected) in ["a", "b"].into_iter().zip(expected) {
-            tests.push(Trial::new(String::from_str(alloc, name)?, Looks { rt, path, expected }))?;
-        }
+        let [first, second] = expected.map(|expected| Looks { rt, path, expected });
+        let tests = vec![in alloc;
+            Trial::new(String::from_str(alloc, "a")?, first),
+            Trial::new(String::from_str(alloc, "b")?, second),
+        ]?;
         let left = run_tests(&rt, &PLAIN, Ok(args), tests, out)?;
         assert_eq!(rt; left.status, ExitCode::SUCCESS, "{format:?} {is_logged}");
     }
@@ -217,18 +226,12 @@ fn shows_what_has_ended(rt: HostRuntime) -> Result<(), Fail> {
         ),
     ] {
         for is_logged in [false, true] {
-            let mut args = Arguments::new(alloc);
-            args.format = Some(format);
-            if is_logged {
-                args.logfile = Some(String::from_str(alloc, path)?);
-            }
-            let mut tests = Vec::new(alloc);
-            for (name, awaited) in [("a", title), ("b", row)] {
-                tests.push(Trial::new(
-                    String::from_str(alloc, name)?,
-                    Awaits { rt, path, awaited },
-                ))?;
-            }
+            let args = asking(alloc, format, None, is_logged.then_some(path))?;
+            let [first, second] = [title, row].map(|awaited| Awaits { rt, path, awaited });
+            let tests = vec![in alloc;
+                Trial::new(String::from_str(alloc, "a")?, first),
+                Trial::new(String::from_str(alloc, "b")?, second),
+            ]?;
             let out = fs::create(&rt, if is_logged { "/dev/null" } else { path })?;
             let left = run_tests(&rt, &PLAIN, Ok(args), tests, out)?;
             assert_eq!(rt; left.status, ExitCode::SUCCESS, "{format:?} {is_logged}");
@@ -238,14 +241,19 @@ fn shows_what_has_ended(rt: HostRuntime) -> Result<(), Fail> {
     Ok(())
 }
 
-// A test that counts its calls.
+// A test that leaves a file when it runs.
 #[derive(Drop)]
-struct Counted(Arc<AtomicU64>);
+struct Leaves {
+    rt: HostRuntime,
+    path: &'static str,
+}
 
-impl Task for Counted {
+impl Task for Leaves {
     fn run(self, _test_mode: bool) -> Outcome {
-        self.0.fetch_add(1, Ordering::SeqCst);
-        Outcome::Passed
+        match fs::create(&self.rt, self.path) {
+            Ok(_) => Outcome::Passed,
+            Err(_) => Outcome::Failed(Failed::without_message()),
+        }
     }
 }
 
@@ -253,34 +261,27 @@ impl Task for Counted {
 #[test]
 fn runs_nothing_without_a_title(rt: HostRuntime) -> Result<(), Fail> {
     let alloc = rt.alloc();
+    let path = "runs_nothing_without_a_title";
     for format in [
         FormatSetting::Pretty,
         FormatSetting::Terse,
         FormatSetting::Json,
     ] {
-        for (threads, is_logged) in [(1, false), (1, true), (4, false), (4, true)] {
-            let mut args = Arguments::new(alloc);
-            args.format = Some(format);
-            args.test_threads = Some(threads);
-            let mut out = narrow(alloc);
-            if is_logged {
-                args.logfile = Some(String::from_str(alloc, "/dev/full")?);
-                out = FaultyWriter::new(alloc);
-            }
-            let calls = Arc::new(alloc, AtomicU64::new(0))?;
+        for (threads, logfile) in [
+            (1, None),
+            (1, Some("/dev/full")),
+            (4, None),
+            (4, Some("/dev/full")),
+        ] {
+            let args = asking(alloc, format, Some(threads), logfile)?;
             let mut tests = Vec::new(alloc);
             for name in ["a", "b", "c", "d"] {
-                let counted = Counted(Arc::try_clone(&calls)?);
-                tests.push(Trial::new(String::from_str(alloc, name)?, counted))?;
+                tests.push(Trial::new(String::from_str(alloc, name)?, Leaves { rt, path }))?;
             }
-            let left = run_tests(&rt, &PLAIN, Ok(args), tests, out)?;
+            let left = run_tests(&rt, &PLAIN, Ok(args), tests, narrow(alloc))?;
             assert_eq!(rt; left.status, ExitCode::from(1));
             assert_eq!(rt; left.err.as_str(), "plain: cannot write the report\n");
-            assert_eq!(rt;
-                calls.load(Ordering::SeqCst),
-                0,
-                "{format:?} {threads} {is_logged}"
-            );
+            assert!(rt; fs::read(&rt, path).is_err(), "{format:?} {threads}");
         }
     }
     Ok(())
@@ -330,18 +331,21 @@ fn writes_at_once_what_comes_at_once(rt: HostRuntime) -> Result<(), Fail> {
         ),
     ];
     for (format, is_terminal, threads, writes) in rows {
-        let mut args = Arguments::new(alloc);
-        args.format = Some(format);
-        args.test_threads = Some(threads);
+        let args = asking(alloc, format, Some(threads), None)?;
         let mut out = Marked::new(alloc, usize::MAX);
         out.is_terminal = is_terminal;
         let left = run_one(&rt, &PLAIN, Ok(args), out)?;
         assert_eq!(rt; left.status, ExitCode::SUCCESS, "{format:?}");
         assert!(rt; left.out.marks.len() > writes.len());
-        let mut len: usize = 0;
+        let mut len = 0;
         for (write, mark) in writes.iter().zip(&left.out.marks) {
-            len = len.saturating_add(write.iter().map(|text| text.len()).sum());
-            assert_eq!(rt; *mark, len, "{format:?} {is_terminal} {threads}");
+            let text = write.concat(alloc)?;
+            assert_eq!(rt;
+                mark.saturating_sub(len),
+                text.len(),
+                "{format:?} {threads}"
+            );
+            len = *mark;
         }
     }
     Ok(())
@@ -391,22 +395,23 @@ fn tells_faults(rt: HostRuntime) -> Result<(), Fail> {
     Ok(())
 }
 
-// A report of two tests that passed, in this order.
-fn report_of(alloc: Global, names: [&str; 2]) -> Result<String, Fail> {
-    let title = "{ \"type\": \"suite\", \"event\": \"started\", \"test_count\": 2 }\n";
-    let mut report = String::from_str(alloc, title)?;
-    for name in names {
-        let row = format!(in alloc;
-            "{{ \"type\": \"test\", \"event\": \"started\", \"name\": \"{name}\" }}\n\
-             {{ \"type\": \"test\", \"name\": \"{name}\", \"event\": \"ok\" }}\n"
-        )?;
-        report.push_str(row.as_str())?;
-    }
-    report.push_str(
-        "{ \"type\": \"suite\", \"event\": \"ok\", \"passed\": 2, \"failed\": 0, \"ignored\": 0, \"measured\": 0, \"filtered_out\": 0, \"exec_time\": 0 }\n",
-    )?;
-    Ok(report)
-}
+// A report of two tests that passed, and that in which their rows stand the other way round.
+const REPORTS: [&str; 2] = [
+    r#"{ "type": "suite", "event": "started", "test_count": 2 }
+{ "type": "test", "event": "started", "name": "a" }
+{ "type": "test", "name": "a", "event": "ok" }
+{ "type": "test", "event": "started", "name": "b" }
+{ "type": "test", "name": "b", "event": "ok" }
+{ "type": "suite", "event": "ok", "passed": 2, "failed": 0, "ignored": 0, "measured": 0, "filtered_out": 0, "exec_time": 0 }
+"#,
+    r#"{ "type": "suite", "event": "started", "test_count": 2 }
+{ "type": "test", "event": "started", "name": "b" }
+{ "type": "test", "name": "b", "event": "ok" }
+{ "type": "test", "event": "started", "name": "a" }
+{ "type": "test", "name": "a", "event": "ok" }
+{ "type": "suite", "event": "ok", "passed": 2, "failed": 0, "ignored": 0, "measured": 0, "filtered_out": 0, "exec_time": 0 }
+"#,
+];
 
 // Runs two tests that pass, by so many threads.
 fn run_two<M: Machine + Eprint + 'static>(
@@ -415,9 +420,7 @@ fn run_two<M: Machine + Eprint + 'static>(
     out: FaultyWriter,
 ) -> Result<Left<FaultyWriter>, Fail> {
     let alloc = rt.alloc();
-    let mut args = Arguments::new(alloc);
-    args.format = Some(FormatSetting::Json);
-    args.test_threads = Some(threads);
+    let args = asking(alloc, FormatSetting::Json, Some(threads), None)?;
     let tests = vec![in alloc;
         Trial::new(String::from_str(alloc, "a")?, Pass),
         Trial::new(String::from_str(alloc, "b")?, Pass),
@@ -443,8 +446,7 @@ fn tells_cause(alloc: Global, line: &str, fault: Fault) -> Result<bool, Fail> {
 fn ends_at_a_fault(rt: HostRuntime) -> Result<(), Fail> {
     let alloc = rt.alloc();
     let new = FaultyWriter::new;
-    let report = report_of(alloc, ["a", "b"])?;
-    let reordered = report_of(alloc, ["b", "a"])?;
+    let [report, reordered] = REPORTS;
     for threads in [1, 2] {
         assert_eq!(rt;
             run_two(&rt, threads, new(alloc).taking(1))?.out.bytes.len(),
