@@ -160,7 +160,7 @@ fn refuse<M: Machine + 'static>(rt: &M, error: ArgumentsError) -> Status {
     status
 }
 
-// Makes the tests and runs them, and tells what that took.
+// Makes the tests and runs them, and prints what that took.
 fn measure<M: Machine + Eprint + 'static>(rt: &M, asked: &Asked) -> Result<Status, RunError> {
     let alloc = rt.alloc();
     let mut clock = MonotonicClock::new(rt);
@@ -181,7 +181,7 @@ fn measure<M: Machine + Eprint + 'static>(rt: &M, asked: &Asked) -> Result<Statu
     }
 }
 
-// Runs the tests, which it took so long to make, and tells what that took.
+// Runs the tests, which it took so long to make, and prints what that took.
 fn run_tests<M: Machine + Eprint + 'static, R: Task + Send + 'static>(
     rt: &M,
     asked: &Asked,

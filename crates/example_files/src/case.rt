@@ -58,7 +58,7 @@ pub(crate) struct Difference<'a> {
     answered: Side<'a>,
 }
 
-// A line with its end, or nothing where the text has ended.
+// A line with its end, or nothing if the text has ended.
 #[derive(Clone, Copy)]
 struct Side<'a>(Option<&'a str>);
 

@@ -83,7 +83,7 @@ fn entries<M: Files + AllocGlobal + Copy + Drop>(rt: &M, folder: &Place) -> io::
     Ok(found)
 }
 
-// The trial of a case. Where one of its files is missing, it fails when that is read.
+// The trial of a case. If one of its files is missing, it fails when that is read.
 fn pair<M: Files + AllocGlobal + Drop>(
     rt: M,
     case: Place,

@@ -21,7 +21,8 @@ use Rattle.mimic_pool.specs.Share.{assigned_from}
 use Rattle.mimic_printer.specs.Row.{Label, label_of, labels_of, outcomes_of, rows_at}
 use Rattle.libtest_mimic.specs.Arrangement.{IsArrangement, IsOwn, IsOwnAt}
 use Rattle.libtest_mimic.specs.Selection.{IsIgnored}
-use Rattle.libtest_mimic.specs.Steps.{AreFlags, Gathered}
+use Rattle.libtest_mimic.specs.Gathering.{Gathered}
+use Rattle.libtest_mimic.specs.Steps.{AreFlags}
 use Rattle.libtest_mimic.proofs.OnlyOutcomes.{all_permuted, counts_permuted, outcome_at, outcomes_of-rows_at}
 use Rattle.libtest_mimic.proofs.Told.{slice_get-at}
 

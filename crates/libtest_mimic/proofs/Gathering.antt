@@ -1,8 +1,8 @@
 -- What workers told and answered: the title, the rows that were told, and then those that were missing.
-use Rattle.std.proofs.Common.{◌≡◌, ◌∙◌, ℕ, ◌+◌, ◌-◌, ◌%◌, ◌==◌, ◌≤◌, ◌<◌, Bool, true, false, cond, List, [], ◌∷◌, ◌++◌, Result, Ok, Err, length, length-append, map, drop, take, append_assoc, refl, sym, ap, subst, arith}
+use Rattle.std.proofs.Common.{◌≡◌, ◌∙◌, ℕ, ◌+◌, ◌-◌, ◌%◌, ◌==◌, ◌≤◌, ◌<◌, Bool, true, false, cond, inr, List, [], ◌∷◌, ◌++◌, Result, Ok, Err, length, length-append, map, drop, take, refl, sym, ap, subst, arith}
 use Rattle.std.specs.List.{range_with_len}
 use Rattle.std.specs.List.Sorted.{IsPermutation}
-use Rattle.std.specs.Prelude.{All, IsErrAnd, MatchResult, slice_get}
+use Rattle.std.specs.Prelude.{All, IfErr, IsErrAnd, MatchResult, slice_get}
 use Rattle.std.proofs.lemmas.List.{take_all}
 use Rattle.std.proofs.lemmas.List.Concat.{flat_map-append}
 use Rattle.std.proofs.lemmas.List.Elements.{All-cons, All-head, All-nil, All-tail}
@@ -21,9 +21,13 @@ use Rattle.mimic_printer.specs.declared.Printer.{Printer}
 use Rattle.mimic_printer.specs.Report.{rows_text, title_text}
 use Rattle.mimic_printer.specs.Row.{label_of, rows_at}
 use Rattle.mimic_printer.specs.Sink.{Put, Shown, Stopped, Writes}
+use Rattle.std.proofs.KnownBytes.{Appends-trans}
 use Rattle.mimic_printer.proofs.Appending.{Put-Stopped, Put-refl, Put-trans, Stopped-more}
-use Rattle.libtest_mimic.specs.Run.{Follows}
-use Rattle.libtest_mimic.specs.Steps.{Gathered, titled_rows, told_text}
+use Rattle.libtest_mimic.specs.Run.{Follows, OnNothingWritten}
+use Rattle.libtest_mimic.specs.declared.running.RunError.{RunError}
+use Rattle.libtest_mimic.specs.declared.running.RunError.TheVariants.{OutOfMemory, Write, ZeroThreads, Spawn, Arrival}
+use Rattle.libtest_mimic.specs.Gathering.{Gathered, GatheringRefused, IsOfRows, NamesDifference, rows_text_of}
+use Rattle.libtest_mimic.specs.Steps.{RowsRefused, titled_rows, told_text}
 use Rattle.libtest_mimic.proofs.Arranged.{length_assigned, order_below}
 use Rattle.libtest_mimic.proofs.Told.{rows_joined}
 
@@ -31,6 +35,15 @@ use Rattle.libtest_mimic.proofs.Told.{rows_joined}
 pub on_error : {T E : Type 0} (r : Result T E) (error : E) (P : T → Type 0) (Q : E → Type 0) → IsErrAnd r (λ e. e ≡ error) → Q error → MatchResult r P Q
 on_error (Ok x) error P Q e q = absurd e
 on_error (Err x) error P Q e q = subst Q (sym e) q
+
+pub on_err : {T E : Type 0} (r : Result T E) (error : E) (Q : E → Type 0) → IsErrAnd r (λ e. e ≡ error) → Q error → IfErr r Q
+on_err (Ok x) error Q e q = absurd e
+on_err (Err x) error Q e q = subst Q (sym e) q
+
+-- what follows of an answer, either way
+pub match_more : {T E : Type 0} (r : Result T E) (P P' : T → Type 0) (Q Q' : E → Type 0) → MatchResult r P Q → ((x : T) → P x → P' x) → ((e : E) → Q e → Q' e) → MatchResult r P' Q'
+match_more (Ok x) P P' Q Q' m f h = f x m
+match_more (Err e) P P' Q Q' m f h = h e m
 
 -- whatever was written, it follows what stood there
 pub follows : {E T : Type 0} (a b c : Shown) (s t : List ℕ) (r : Result T E) → Put a b s → Writes b c t r → Follows a c
@@ -117,28 +130,59 @@ module _ (p : Printer) (infos : List TestInfo) (desk : Arrived) (outs : List Out
   abbrev pub missing_text : List ℕ
   missing_text = rows_text p (rows_at (map label_of infos) (placed_at missing outs))
 
-  split : titled_rows p infos order outs ≡ (title_text p (length infos) ++ told_text p infos desk) ++ missing_text
+  split : rows_text_of p infos order outs ≡ told_text p infos desk ++ missing_text
   split =
       let texts : List (ℕ × Outcome) → List ℕ = λ l. rows_text p (rows_at (map label_of infos) l) in
-      ap (λ l. title_text p (length infos) ++ l)
-      (ap (λ l. texts (placed_at l outs)) whole
+      ap (λ l. texts (placed_at l outs)) whole
       ∙ ap texts (flat_map-append (λ place. placed_if place (slice_get outs place)) (places_of desk.rows) missing)
       ∙ rows_joined p (map label_of infos) (placed_at (places_of desk.rows) outs) (placed_at missing outs)
-      ∙ ap (λ l. texts l ++ missing_text) (sym settled))
-      ∙ sym (append_assoc (title_text p (length infos)) (told_text p infos desk) missing_text)
+      ∙ ap (λ l. texts l ++ missing_text) (sym settled)
 
-  module _ (a b c : Shown) (n : ℕ) (count : n ≡ length infos) (title : Put a b (title_text p n)) where
-    titled : Put a b (title_text p (length infos))
-    titled = subst (λ (k : ℕ). Put a b (title_text p k)) count title
-
+  module _ (a b : Shown) where
     -- a fault in a row that was told
-    pub stopped_told : Stopped b c (told_text p infos desk) → Stopped a c (titled_rows p infos order outs)
-    stopped_told s = subst (λ t. Stopped a c t) (sym split) (Stopped-more _ missing_text (Put-Stopped _ _ titled s))
+    pub stopped_told : Stopped a b (told_text p infos desk) → Stopped a b (rows_text_of p infos order outs)
+    stopped_told s = subst (λ t. Stopped a b t) (sym split) (Stopped-more _ missing_text s)
 
-    module _ (d : Shown) (told : Put b c (told_text p infos desk)) where
+    module _ (c : Shown) (told : Put a b (told_text p infos desk)) where
       -- a fault in a row that was missing
-      pub stopped_missing : Stopped c d missing_text → Stopped a d (titled_rows p infos order outs)
-      stopped_missing s = subst (λ t. Stopped a d t) (sym split) (Put-Stopped _ _ (Put-trans _ _ titled told) s)
+      pub stopped_missing : Stopped b c missing_text → Stopped a c (rows_text_of p infos order outs)
+      stopped_missing s = subst (λ t. Stopped a c t) (sym split) (Put-Stopped _ _ told s)
 
-      pub put_all : Put c d missing_text → Put a d (titled_rows p infos order outs)
-      put_all s = subst (λ t. Put a d t) (sym split) (Put-trans _ _ (Put-trans _ _ titled told) s)
+      pub put_all : Put b c missing_text → Put a c (rows_text_of p infos order outs)
+      put_all s = subst (λ t. Put a c t) (sym split) (Put-trans _ _ told s)
+
+-- ---- the title and the rows
+
+module _ {R : Type 0} (gives : Gives R) (mode : Bool) (items : List (Assigned R)) (p : Printer) (infos : List TestInfo)
+    (a b c : Shown) (n : ℕ) (count : n ≡ length infos) (title : Put a b (title_text p n)) where
+  titled : Put a b (title_text p (length infos))
+  titled = subst (λ (k : ℕ). Put a b (title_text p k)) count title
+
+  -- what stands after rows were refused that came after the title
+  pub after_title : (e : RunError) → GatheringRefused gives mode items p infos b c e → RowsRefused gives mode items p infos a c e
+  after_title OutOfMemory h = absurd h
+  after_title (Write fault) (order, outs, all, s) = inr (order, outs, all, Put-Stopped _ _ titled s)
+  after_title ZeroThreads h = absurd h
+  after_title Spawn h = absurd h
+  after_title (Arrival place) (low, h) =
+      (low, record { text = title_text p (length infos) ++ h.text; appended = Appends-trans a.bytes b.bytes c.bytes (title_text p (length infos)) h.text titled.appended h.appended; kept = omega (arith, titled.faults, h.kept); one = omega (arith, titled.faults, h.one) })
+
+  -- and what stands after they were written
+  pub titled_all : (order : List ℕ) (outs : List Outcome) → Gathered gives mode items order outs × Put b c (rows_text_of p infos order outs)
+      → Gathered gives mode items order outs × Put a c (titled_rows p infos order outs)
+  titled_all order outs rows = (rows.0, Put-trans _ _ titled rows.1)
+
+-- a difference that is named
+pub differs_refused : {R : Type 0} (gives : Gives R) (mode : Bool) (items : List (Assigned R)) (p : Printer) (infos : List TestInfo) (a b : Shown)
+    (desk : Arrived) (outs : List Outcome) → desk.places ≡ length infos → Follows a b → (e : RunError) → NamesDifference desk outs e → GatheringRefused gives mode items p infos a b e
+differs_refused gives mode items p infos a b desk outs places h e named =
+    subst (GatheringRefused gives mode items p infos a b) (sym named.named) (subst (λ (n : ℕ). named.place < n) places named.below, h)
+
+-- such a refusal comes when something was written
+pub written_before : {T : Type 0} (r : Result T RunError) (P : Type 0) → IfErr r IsOfRows → OnNothingWritten r P
+written_before (Ok x) P h = tt
+written_before (Err OutOfMemory) P h = absurd h
+written_before (Err (Write fault)) P h = tt
+written_before (Err ZeroThreads) P h = absurd h
+written_before (Err Spawn) P h = absurd h
+written_before (Err (Arrival place)) P h = tt

@@ -24,7 +24,8 @@ use Rattle.libtest_mimic.specs.declared.running.RunError.{RunError}
 use Rattle.libtest_mimic.specs.declared.running.RunError.TheVariants.{OutOfMemory, Write, ZeroThreads, Spawn, Arrival}
 use Rattle.libtest_mimic.specs.Arrangement.{IsArrangement}
 use Rattle.libtest_mimic.specs.Run.{ReportRefused, ReportedBy}
-use Rattle.libtest_mimic.specs.Steps.{AreParts, Gathered, RowsRefused, titled_rows}
+use Rattle.libtest_mimic.specs.Gathering.{Gathered}
+use Rattle.libtest_mimic.specs.Steps.{AreParts, RowsRefused, titled_rows}
 use Rattle.libtest_mimic.specs.Stopwatch.{Watched, IsRunning, elapsed_of}
 use Rattle.libtest_mimic.specs.Suite.{Suite, in_order, rows_of}
 use Rattle.libtest_mimic.proofs.Arranged.{arranged, counts_placed, flags_length, labels_apart, length_gathered, order_below, whole_gathered}

@@ -3,17 +3,22 @@ pub mod Selection
 pub mod Arrangement
 pub mod Suite
 pub mod Run
+pub mod Gathering
 pub mod Steps
 -- the words of the crates below, so that clauses above need not name those
 pub use Rattle.mimic_text.specs.Text
 pub use Rattle.mimic_text.specs.Escape
 pub use Rattle.mimic_text.specs.Seconds
+pub use Rattle.mimic_text.specs.Formats
 pub use Rattle.mimic_trial.specs.Failed
+pub use Rattle.mimic_trial.specs.Same
+pub use Rattle.mimic_trial.specs.Case
 pub use Rattle.mimic_trial.specs.Promise
 pub use Rattle.mimic_trial.specs.Count
 pub use Rattle.mimic_trial.specs.Trial
 pub use Rattle.mimic_trial.specs.Places
 pub use Rattle.mimic_args.specs.Arguments
+pub use Rattle.mimic_args.specs.Line
 pub use Rattle.mimic_args.specs.Matched
 pub use Rattle.mimic_args.specs.CommandLine
 pub use Rattle.mimic_printer.specs.Sink
@@ -22,3 +27,11 @@ pub use Rattle.mimic_printer.specs.Widths
 pub use Rattle.mimic_printer.specs.Json
 pub use Rattle.mimic_printer.specs.Report
 pub use Rattle.mimic_printer.specs.List
+pub use Rattle.mimic_pool.specs.Share
+pub use Rattle.mimic_pool.specs.Answers
+pub use Rattle.mimic_pool.specs.Reports
+pub use Rattle.mimic_pool.specs.Board
+pub use Rattle.mimic_pool.specs.Inbox
+pub use Rattle.mimic_pool.specs.Arrivals
+pub use Rattle.mimic_pool.specs.Missing
+pub use Rattle.mimic_pool.specs.Joined

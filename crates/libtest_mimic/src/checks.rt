@@ -1,8 +1,8 @@
 //! Checks for runners: an `Ok`, or the failure to return.
 
-/// `Ok(())` where the condition holds, else a failure: `check!(in alloc; a < b)?`.
+/// `Ok(())` if the condition holds, else a failure: `check!(in alloc; a < b)?`.
 ///
-/// Its message is the condition, or a text of one's own: `check!(in alloc; a < b, "{a} is too large")?`. Where an
+/// Its message is the condition, or a text of one's own: `check!(in alloc; a < b, "{a} is too large")?`. If an
 /// allocation failed, there is none.
 #[macro_export]
 macro_rules! check {
@@ -18,7 +18,7 @@ macro_rules! check {
     };
 }
 
-/// `Ok(())` where both values are equal, else a failure whose message shows both: `check_eq!(in alloc; total, 3)?`.
+/// `Ok(())` if both values are equal, else a failure whose message shows both: `check_eq!(in alloc; total, 3)?`.
 #[macro_export]
 macro_rules! check_eq {
     (in $alloc:expr; $left:expr, $right:expr $(,)?) => {

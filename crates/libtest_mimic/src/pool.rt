@@ -1,6 +1,8 @@
-//! The parts of a run over worker threads, each of use by itself: shares, what workers tell and answer, and the desk where
-//! outcomes arrive.
+//! The parts of a run over worker threads, each of use by itself: shares, what workers report and answer, the desk where
+//! outcomes arrive, and the rows of workers that one has started.
+pub use crate::running::gathering::{Started, gather_rows};
 pub use mimic_pool::{
-    Arrival, Board, BoardReports, Desk, Inbox, MemoryReports, Missing, Reports, Share, Untold,
-    deal, deal_next, empty_shares, hands_on_first_reports, work,
+    Arrival, Board, BoardReports, Desk, Handles, Inbox, MemoryReports, Missing, Reports, Share,
+    Start, Untold, deal, deal_next, empty_shares, hands_on_first_reports, join_all, prepare,
+    start_all, work,
 };

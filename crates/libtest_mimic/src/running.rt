@@ -10,6 +10,7 @@ ghost use Rattle.libtest_mimic.specs.Stopwatch.{IsFresh, IsRunning};
 ghost use Rattle.libtest_mimic.specs.Suite.{OfSuite};
 
 mod arrivals;
+pub(crate) mod gathering;
 mod in_order;
 mod in_workers;
 mod list;
@@ -45,21 +46,22 @@ pub enum RunError {
     /// A worker could not be started. The title alone was written, and the workers that were started were joined.
     #[error("cannot start a worker")]
     Spawn,
-    /// An outcome that a worker told differs from what it answered in the end. It is that of the trial at this place
-    /// among the selected ones, counted from 0. Of what was written nothing is said.
+    /// An outcome that a worker reported differs from what it answered in the end. It is that of the trial at this place
+    /// among the selected ones, counted from 0, the least one if there are several. Any part of the report may have been
+    /// written.
     #[error("outcome of trial {place} differs from its worker's answer")]
     Arrival { place: usize },
 }
 
-/// Runs the selected trials, each once, and writes their report; or writes the list of them, where a list is asked.
+/// Runs the selected trials, each once, and writes their report; or writes the list of them, if a list is asked.
 ///
 /// The number of threads is `test_threads` of the arguments, else `default_threads`. With one, trials run in their order in
 /// the calling thread, as `run_here` runs them. With more, that many workers run them, but never more than there are trials:
-/// their rows are written as they arrive, each when its trial has ended, and a row that could not be told after the others.
+/// their rows are written as they arrive, each when its trial has ended, and a row that could not be reported after the others.
 /// With none, a run of a selected trial is refused.
 ///
-/// The answer, the watch, `auto_colours` and ignored trials are as with `run_here`. After a write fault the workers end
-/// their shares, and are joined.
+/// The counts that it returns, the watch, `auto_colours` and ignored trials are as with `run_here`. After a write fault the
+/// workers end their shares, and are joined.
 pub fn run<R: Task + Send + 'static, W: Write, C: Clock, T: Spawner + 'static>(
     rt: &T,
     alloc: Global,
@@ -75,7 +77,7 @@ pub fn run<R: Task + Send + 'static, W: Write, C: Clock, T: Spawner + 'static>(
     requires runnable { AllCanRun R.can_run tests.items }
     requires some_thread { 1 ≤ default_threads }
 
-    // Where a list is asked, it has the selected trials, and the answer is five zeros.
+    // If a list is asked, it has the selected trials, and five zeros are returned.
     ensures listed { args.now.list ≡ true → OfSuite args.now auto_colours tests.items
         (λ suite. Lists suite (shown W.contents sink.old) (shown W.contents sink.new) result) }
     ensures watched { args.now.list ≡ true → IsRunning watch.new }
@@ -88,14 +90,18 @@ pub fn run<R: Task + Send + 'static, W: Write, C: Clock, T: Spawner + 'static>(
     ensures zero_threads { args.now.list ≡ false → threads_of args.now default_threads ≡ 0 → OfSuite args.now auto_colours tests.items
         (λ suite. suite.trials ≢ [] → result ≡ Err ZeroThreads) }
 
-    // Whatever the writer tells of its bytes: nothing was written.
+    // Nothing was written, whatever is known of the writer's bytes.
     ensures unwritten { OnNothingWritten result (sink.new ≡ sink.old) }
 
-    // The answer is fixed where each trial has just one own outcome.
+    // What it returns is fixed if each trial has just one own outcome.
     ensures answer { HasAnswer R.gives args.now tests.items result }
     ensures adds_up { args.now.list ≡ false → IfOk result (λ c. total_of c ≡ vec_len tests) }
     ensures lines { HasLines args.now tests.items (shown W.contents sink.old) (shown W.contents sink.new) result }
+
+    // By any number of threads the report has the same rows, up to their order.
     ensures rows { HasRows R.gives args.now auto_colours tests.items (shown W.contents sink.old) (shown W.contents sink.new) watch.new result }
+
+    // What it wrote in JSON is read back as the trials and their outcomes.
     ensures json { HasJson R.gives args.now tests.items (shown W.contents sink.old) (shown W.contents sink.new) watch.new result }
 {
     watch.start();
@@ -133,12 +139,12 @@ fn run_with_threads<R: Task + Send + 'static, W: Write, C: Clock, T: Spawner + '
 }
 
 /// Runs the selected trials in their order, each once, in the calling thread, and writes their report;
-/// or writes the list of them, where a list is asked.
+/// or writes the list of them, if a list is asked.
 ///
-/// The answer has the counts of the report, and five zeros after a list. `test_threads` has no effect.
+/// It returns the counts of the report, and five zeros after a list. `test_threads` has no effect.
 /// The watch is started before anything else and stopped directly before the summary is written; after
 /// a list, or a refusal that came before the summary, it is running. `auto_colours` says whether the
-/// report has colours where the arguments leave it open. An ignored trial's runner is not called, and
+/// report has colours if the arguments leave it open. An ignored trial's runner is not called, and
 /// after a write fault no further one is.
 pub fn run_here<R: Task, W: Write, C: Clock>(
     alloc: Global,
@@ -152,7 +158,7 @@ pub fn run_here<R: Task, W: Write, C: Clock>(
     requires fresh { IsFresh watch.old }
     requires runnable { AllCanRun R.can_run tests.items }
 
-    // Where a list is asked, it has the selected trials, and the answer is five zeros.
+    // If a list is asked, it has the selected trials, and five zeros are returned.
     ensures listed { args.now.list ≡ true → OfSuite args.now auto_colours tests.items
         (λ suite. Lists suite (shown W.contents sink.old) (shown W.contents sink.new) result) }
     ensures watched { args.now.list ≡ true → IsRunning watch.new }
@@ -161,14 +167,18 @@ pub fn run_here<R: Task, W: Write, C: Clock>(
     ensures reported { args.now.list ≡ false → OfSuite args.now auto_colours tests.items
         (λ suite. Reports R.gives 1 suite (shown W.contents sink.old) (shown W.contents sink.new) watch.new result) }
 
-    // Whatever the writer tells of its bytes: nothing was written.
+    // Nothing was written, whatever is known of the writer's bytes.
     ensures unwritten { OnNothingWritten result (sink.new ≡ sink.old) }
 
-    // The answer is fixed where each trial has just one own outcome.
+    // What it returns is fixed if each trial has just one own outcome.
     ensures answer { HasAnswer R.gives args.now tests.items result }
     ensures adds_up { args.now.list ≡ false → IfOk result (λ c. total_of c ≡ vec_len tests) }
     ensures lines { HasLines args.now tests.items (shown W.contents sink.old) (shown W.contents sink.new) result }
+
+    // By any number of threads the report has the same rows, up to their order.
     ensures rows { HasRows R.gives args.now auto_colours tests.items (shown W.contents sink.old) (shown W.contents sink.new) watch.new result }
+
+    // What it wrote in JSON is read back as the trials and their outcomes.
     ensures json { HasJson R.gives args.now tests.items (shown W.contents sink.old) (shown W.contents sink.new) watch.new result }
 {
     watch.start();

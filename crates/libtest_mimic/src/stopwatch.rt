@@ -6,7 +6,7 @@ use std::marker::Model;
 
 /// A clock that counts nanoseconds from some moment on.
 ///
-/// Nothing is promised of its readings: where the later one is the smaller, no time has elapsed.
+/// Nothing is promised of its readings: if the later one is the smaller, no time has elapsed.
 pub trait Clock {
     /// The nanoseconds since that moment.
     fn now(&mut self) -> u64;
@@ -80,7 +80,7 @@ impl<C: Clock> Stopwatch<C> {
         matches!(self.readings, Readings::Running { .. })
     }
 
-    /// The nanoseconds between start and stop, 0 where the clock went back. `None` before the stop.
+    /// The nanoseconds between start and stop, 0 if the clock went back. `None` before the stop.
     pub fn elapsed(&self) -> Option<u64>
         ensures { result ≡ elapsed_of self.now }
     {

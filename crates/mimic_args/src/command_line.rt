@@ -71,7 +71,7 @@ impl Arguments {
 
     /// The arguments that the words give, of which the first is the program's name.
     ///
-    /// `Help` is answered where help is asked, and `Refused` where the line can't be read.
+    /// It returns `Help` if help is asked, and `Refused` if the line can't be read.
     pub fn from_iter<S: AsStr>(alloc: Global, words: &[S]) -> Result<Arguments, ArgumentsError>
         requires { 0 < length words.now }
         ensures { IfOk result (λ a. IsMeaningOf (map S.text words.now) a) }
@@ -92,7 +92,7 @@ impl Arguments {
 
     /// The arguments of the program, by the words that the runtime hands in.
     ///
-    /// `Refused` with the text `cannot read the arguments` is answered too where a word is not UTF-8, or there is
+    /// It returns `Refused` with the text `cannot read the arguments` also if a word is not UTF-8, or there is
     /// none.
     pub fn from_args<R: Env + AllocGlobal>(
         rt: &R,
@@ -103,7 +103,7 @@ impl Arguments {
         Arguments::from_read(alloc, env::args(rt))
     }
 
-    // The arguments that the words give, where they could be read.
+    // The arguments that the words give, if they could be read.
     fn from_read(alloc: Global, read: io::Result<Args>) -> Result<Arguments, ArgumentsError>
         ensures meaning { IfOk result (λ a. (line : List Text) × IsMeaningOf line a) }
         ensures memory { IfErr read (λ error. error_kind error ≡ IoKind.OutOfMemory → result ≡ Err OutOfMemory) }
@@ -113,7 +113,7 @@ impl Arguments {
     }
 }
 
-// The words of a line, where they could be read: the program's name, and what stands behind it.
+// The words of a line, if they could be read: the program's name, and the words after it.
 pub(crate) fn words_of(alloc: Global, read: io::Result<Args>) -> Result<Vec<String>, ArgumentsError>
     ensures some { IfOk result (λ words. 0 < vec_len words) }
     ensures memory { IfErr read (λ error. error_kind error ≡ IoKind.OutOfMemory → result ≡ Err OutOfMemory) }
@@ -130,7 +130,7 @@ pub(crate) fn words_of(alloc: Global, read: io::Result<Args>) -> Result<Vec<Stri
     Ok(words)
 }
 
-// Whether each value was accepted by its reader: the field is absent only where no value was given.
+// Whether each value was accepted by its reader: the field is absent only if no value was given.
 fn are_accepted(matches: &ArgMatches<'_>, args: &Arguments) -> bool
     ensures yes { IsTrue result → AreAccepted (entries_of matches.now) args.now }
     ensures no { IsFalse result → AreAccepted (entries_of matches.now) args.now → ⊥ }

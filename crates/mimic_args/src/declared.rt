@@ -70,7 +70,7 @@ pub(super) fn with<'a>(command: Command<'a>, arg: Arg<'a>) -> Result<Command<'a>
     command.arg(arg)
 }
 
-// The argument, which no line may use beside the other one.
+// The argument, which no line may use together with the other one.
 fn excluded<'a>(arg: Arg<'a>, other: &'a str) -> Result<Arg<'a>, AllocError>
     ensures declared { IfOk result (λ r. declared_of r ≡ excluding (declared_of arg.entry) other.entry.now) }
     ensures local { IfOk result (λ r. r.global ≡ arg.entry.global) }

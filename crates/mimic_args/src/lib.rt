@@ -32,7 +32,7 @@ use std::alloc::{AllocError, Global};
 /// When a report has colours.
 #[derive(Clone, Copy, Debug, Default, PartialEq, Eq)]
 pub enum ColorSetting {
-    /// Where the caller of a run says so and no logfile is set.
+    /// If the caller of a run says so and no logfile is set.
     #[default]
     Auto,
     /// Always, but in formats that have no colour.
@@ -67,7 +67,7 @@ pub struct Arguments {
     pub show_output: bool,
     /// Has no effect.
     pub unstable_flags: Option<UnstableFlags>,
-    /// Filters and skip patterns match where they are the name or the full name, and not its parts.
+    /// Filters and skip patterns match if they are the name or the full name, and not its parts.
     pub exact: bool,
     /// Ask for the terse format, whatever `format` says.
     pub quiet: bool,
@@ -81,7 +81,7 @@ pub struct Arguments {
     pub color: Option<ColorSetting>,
     /// How the report is written.
     pub format: Option<FormatSetting>,
-    /// Patterns. Where there are some, a trial that none of them matches is left out.
+    /// Patterns. If there are some, a trial that none of them matches is left out.
     pub filter: Vec<String>,
 }
 
@@ -147,7 +147,7 @@ impl Arguments {
         }
     }
 
-    /// Whether the report has colours. `auto` is what the caller says where the setting is `Auto` or
+    /// Whether the report has colours. `auto` is what the caller says if the setting is `Auto` or
     /// isn't there: whether the report goes to a terminal that shows colours.
     pub fn colours(&self, auto: bool) -> bool
         ensures { result ≡ colours_of self.now auto }

@@ -20,7 +20,7 @@ use std::{env, io};
 pub struct Line {
     /// The program's own words: those before the first `--`, in their order.
     pub own: Vec<String>,
-    /// What the words behind it ask of the harness. Where there are none, they ask for nothing.
+    /// What the words after it ask of the harness. If there are none, nothing is asked.
     pub options: Result<Arguments, ArgumentsError>,
 }
 
@@ -43,7 +43,7 @@ impl Line {
 
     /// The program's line, by the words that the runtime hands in.
     ///
-    /// Where these can't be read there are no own words, and the options are refused as by [`Arguments::from_args`].
+    /// If these can't be read there are no own words, and the options are refused as by [`Arguments::from_args`].
     pub fn from_args<R: Env + AllocGlobal>(rt: &R, alloc: Global) -> Line
         ensures { (words : List Text) × IsLine words result }
     {
@@ -56,10 +56,10 @@ impl Line {
         }
     }
 
-    /// What the options ask for, and the program's own words where they are as many operands as it takes.
+    /// What the options ask for, and the program's own words if they are as many operands as it takes.
     ///
     /// The first of them that begins with `-` asks for help, as `--help` or `-h`, or refuses the line: both errors have
-    /// the text `usage`, and so has the refusal of too few or too many operands. Where the options gave an error, that is
+    /// the text `usage`, and so has the refusal of too few or too many operands. If the options gave an error, that is
     /// returned before any of these.
     pub fn into_operands(
         self,

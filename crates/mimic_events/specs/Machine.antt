@@ -1,4 +1,4 @@
--- Reading a report line by line, as a machine: which line may come next, and where it leads. No public clause names these words.
+-- Reading a report line by line, as a machine: which line may come next, and where it leads. Of public clauses only those of a tally name these words.
 use Rattle.std.specs.Prelude.{◌≡◌, ◌≢◌, ◌⊎◌, ℕ, ◌<◌, ◌≤◌, ◌^◌, List, [], ◌∷◌, ◌++◌, length, map, Bool, true, false, Option, Some, None}
 use Rattle.std.specs.List.{AllByRecursion, concat, flat_map}
 use Rattle.mimic_trial.specs.declared.outcome.Outcome.{Outcome}

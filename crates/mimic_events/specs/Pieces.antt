@@ -1,4 +1,4 @@
--- Reading bytes that come in pieces: what is kept of them, and what is known of those that were read. No public clause names these words.
+-- Reading bytes that come in pieces: what is kept of them, and what is known of those that were read. Of public clauses only those of a tally name these words.
 use Rattle.std.specs.Prelude.{◌≡◌, ◌⊎◌, ◌<◌, ℕ, Bool, true, false, List, ◌++◌, length, map, Option, Some, None}
 use Rattle.std.specs.List.{AllByRecursion, concat}
 use Rattle.mimic_printer.specs.Json.{Contents, Entry}

@@ -45,7 +45,7 @@ impl Feed {
         })
     }
 
-    /// Takes the next piece. Where an allocation fails, this call and all later ones are refused.
+    /// Takes the next piece. If an allocation fails, this call and all later ones are refused.
     pub fn feed(&mut self, piece: &[u8]) -> Result<(), AllocError>
         ensures taken { OnOk result (self.new ≡ record { bytes = self.old.bytes ++ piece.now; failed = false }) }
         ensures failed { OnErr result (self.new.failed ≡ true) }
@@ -54,7 +54,7 @@ impl Feed {
         if self.failed {
             return Err(AllocError);
         }
-        // So it stays where the piece isn't read to its end.
+        // So it stays if the piece isn't read to its end.
         self.failed = true;
         self.reading.read_on(self.alloc, piece)?;
         self.failed = false;
@@ -71,7 +71,7 @@ impl Feed {
         Some(self.reading.rows())
     }
 
-    /// The report that all bytes are together: `None` where they are none, and `Err` after a refused piece.
+    /// The report that all bytes are together: `None` if they are none, and `Err` after a refused piece.
     pub fn finish(self) -> Result<Option<Report>, AllocError>
         ensures report { IfOk result (λ found. Decodes Spells self.bytes (option_map contents_read found)) }
         ensures refused { self.failed ≡ true → IsErr result }
@@ -83,12 +83,12 @@ impl Feed {
     }
 }
 
-/// Reads a whole report: `None` where the bytes are no report in JSON.
+/// Reads a whole report: `None` if the bytes are no report in JSON.
 ///
 /// A report has one text only. So a byte more or less, other spaces, other spellings of a text or a number,
 /// and totals that are not those of the rows are all no report.
 pub fn read_report(alloc: Global, bytes: &[u8]) -> Result<Option<Report>, AllocError>
-    // The bytes are the report of what was found and of nothing else; where nothing was found, they are no report.
+    // The bytes are the report of what was found and of nothing else; if nothing was found, they are no report.
     ensures { IfOk result (λ found. Decodes Spells bytes.now (option_map contents_read found)) }
 {
     let mut feed = Feed::new(alloc)?;

@@ -86,7 +86,7 @@ pub(crate) fn ended(
     }
 }
 
-// What follows the name and the kind of this trial behind this front, which ends with the name's opening quote.
+// What follows this front, which ends with the name's opening quote, and the name and kind of this trial.
 fn after_label<'a>(line: &'a [u8], front: &[u8], label: &Label) -> Option<&'a [u8]>
     ensures { Follows (front.now ++ (escaped (string_bytes label.now.name) ++ 34 ∷ kind_field (string_bytes label.now.kind))) line.now result }
 {
@@ -156,7 +156,7 @@ fn before_quote(text: Vec<u8>) -> Option<Vec<u8>>
     Some(text)
 }
 
-// The bytes as a text, where they are UTF-8.
+// The bytes as a text, if they are UTF-8.
 fn text_of(bytes: Vec<u8>) -> Option<String>
     ensures { MatchOption result (¬ (IsUtf8 bytes.items)) (λ text. (string_bytes text ≡ bytes.items) × IsUtf8 bytes.items) }
 {

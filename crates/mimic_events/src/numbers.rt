@@ -63,7 +63,7 @@ fn rest_of_second(text: &[u8]) -> Option<u64>
     }
 }
 
-// The nanoseconds of the digits behind the point.
+// The nanoseconds of the digits after the point.
 fn fraction(digits: &[u8]) -> Option<u64>
     ensures { Decodes IsFraction digits.now result }
 {

@@ -52,7 +52,7 @@ impl Progress {
         }
     }
 
-    // Takes the next line, if it belongs there. Where it doesn't, nothing changes.
+    // Takes the next line, if it belongs there. If it doesn't, nothing changes.
     pub(crate) fn take_line(&mut self, alloc: Global, line: &[u8]) -> Result<Taken, AllocError>
         ensures { IfOk result (λ taken. (entries : List Entry) → IsCounted self.old entries → Moves self.old entries line.now self.new taken) }
     {
@@ -99,7 +99,7 @@ impl Progress {
         Ok(Taken::Read(row))
     }
 
-    // What the lines told in numbers, where the summary was the last of them.
+    // What the lines said in numbers, if the summary was the last of them.
     pub(crate) fn into_totals(self) -> Option<Totals>
         ensures { (entries : List Entry) → IsCounted self entries → TellsTotals (state_with self entries) result }
     {

@@ -7,7 +7,7 @@ use crate::strip::after;
 use mimic_text::{escape_byte, next_escape};
 use std::alloc::{AllocError, Global};
 
-// The text in quotes behind this front, which ends with the opening quote, and what follows the closing one.
+// The text in quotes after this front, which ends with the opening quote, and what follows the closing one.
 pub(crate) fn quoted_after<'a>(
     alloc: Global,
     line: &'a [u8],
@@ -22,7 +22,7 @@ pub(crate) fn quoted_after<'a>(
     Ok(found)
 }
 
-// What follows this text in quotes behind this front, which ends with the opening quote, and the closing quote.
+// What follows this front, which ends with the opening quote, this text, and the closing quote.
 pub(crate) fn after_quoted<'a>(line: &'a [u8], front: &[u8], text: &str) -> Option<&'a [u8]>
     ensures { Follows (front.now ++ (escaped text.now ++ 34 ∷ [])) line.now result }
 {

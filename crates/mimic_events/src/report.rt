@@ -5,7 +5,7 @@ ghost use Rattle.mimic_trial.specs.Count.{counts_of};
 use crate::counts::counts_of_rows;
 use mimic_trial::{Conclusion, Outcome};
 
-/// What a report tells of one trial.
+/// What a report says of one trial.
 #[derive(Debug, PartialEq, Eq, Drop)]
 pub struct Row {
     /// The trial's name, without its kind.
@@ -16,7 +16,7 @@ pub struct Row {
     pub outcome: Outcome,
 }
 
-/// What a report tells.
+/// What a report says.
 #[derive(Debug, PartialEq, Eq, Drop)]
 pub struct Report {
     /// The trials that ran or were ignored, in the order of the report.
@@ -36,7 +36,7 @@ impl Report {
     }
 }
 
-/// What a report tells in numbers.
+/// What a report says in numbers.
 #[derive(Debug, PartialEq, Eq, Drop)]
 pub struct Totals {
     /// The number of trials that ran or were ignored.

@@ -8,7 +8,7 @@ use std::alloc::{AllocError, Global};
 pub(crate) struct RowReader {
     // What the lines that were taken said.
     progress: Progress,
-    // All that came behind these lines.
+    // All that came after these lines.
     rest: Vec<u8>,
     // Whether the rest begins with a line that doesn't belong there. If not, it has no whole line.
     stuck: bool,
@@ -32,7 +32,7 @@ impl RowReader {
         }
     }
 
-    // Reads the next piece up to the end of a row, and answers that and what follows; or the whole piece, where no row
+    // Reads the next piece up to the end of a row, and returns that and what follows; or the whole piece, if no row
     // ends. After an `Err` the reader is of no use.
     pub(crate) fn next_row<'a>(
         &mut self,
@@ -85,7 +85,7 @@ impl RowReader {
         }
     }
 
-    // What the summary told, where all bytes are a report.
+    // What the summary said, if all bytes are a report.
     pub(crate) fn into_totals(self) -> Option<Totals>
         ensures { (entries : List Entry) → IsSound self entries → SumsUp (bytes_of self entries) entries result }
     {

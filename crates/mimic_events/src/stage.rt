@@ -6,7 +6,7 @@ use crate::lines::Label;
 pub(crate) enum Stage {
     // The title.
     Title,
-    // The announcement of a row, or the summary where all rows have come.
+    // The announcement of a row, or the summary if all rows have come.
     Row,
     // The outcome of the trial that was announced.
     Outcome(Label),

@@ -3,14 +3,14 @@ ghost use Rattle.std.specs.Prelude.{◌≡◌, ◌≢◌, ◌++◌, ℕ, List, M
 ghost use Rattle.std.specs.List.{concat};
 ghost use Rattle.mimic_events.specs.Steps.{Follows};
 
-// What follows the front, where the text begins with it.
+// What follows the front, if the text begins with it.
 pub(crate) fn after<'a>(text: &'a [u8], front: &[u8]) -> Option<&'a [u8]>
     ensures { MatchOption result ((rest : List ℕ) → text.now ≢ front.now ++ rest) (λ rest. text.now ≡ front.now ++ rest.now) }
 {
     text.strip_prefix(front)
 }
 
-// What follows these fronts, where the text begins with them, one after another.
+// What follows these fronts, if the text begins with them, one after another.
 pub(crate) fn after_all<'a>(text: &'a [u8], fronts: &[&[u8]]) -> Option<&'a [u8]>
     ensures { Follows (concat (map (λ front. front.now) fronts.now)) text.now result }
 {
@@ -21,7 +21,7 @@ pub(crate) fn after_all<'a>(text: &'a [u8], fronts: &[&[u8]]) -> Option<&'a [u8]
     Some(rest)
 }
 
-// What stands before the back, where the text ends with it.
+// What stands before the back, if the text ends with it.
 pub(crate) fn before<'a>(text: &'a [u8], back: &[u8]) -> Option<&'a [u8]>
     ensures { MatchOption result ((front : List ℕ) → text.now ≢ front ++ back.now) (λ front. text.now ≡ front.now ++ back.now) }
 {

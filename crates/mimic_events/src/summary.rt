@@ -27,7 +27,7 @@ fn totals(rest: &[u8]) -> Option<(u64, u64)>
     Some((filtered_out, nanos))
 }
 
-// What follows a summary line up to the four counts of outcomes, where the text begins with that.
+// What follows a summary line up to the four counts of outcomes, if the text begins with that.
 fn after_counts<'a>(line: &'a [u8], counts: &Conclusion) -> Option<&'a [u8]>
     ensures { Follows (concat (summary_front counts.now)) line.now result }
 {

@@ -27,7 +27,7 @@ impl Tally {
         }
     }
 
-    /// Takes the next piece. Where an allocation fails, nothing is left of the tally.
+    /// Takes the next piece. If an allocation fails, nothing is left of the tally.
     pub fn feed(self, piece: &[u8]) -> Result<Tally, AllocError>
         ensures { IfOk result (λ tally. (bytes : List ℕ) → HasRead self bytes → HasRead tally (bytes ++ piece.now)) }
     {
@@ -40,7 +40,7 @@ impl Tally {
         Ok(tally)
     }
 
-    /// The numbers of the report that all bytes are together: `None` where they are none.
+    /// The numbers of the report that all bytes are together: `None` if they are none.
     pub fn finish(self) -> Option<Totals>
         ensures { (bytes : List ℕ) → HasRead self bytes → Decodes SpellsTotals bytes result }
     {

@@ -11,6 +11,10 @@ use Rattle.mimic_main.specs.declared.buffer.FlushPolicy.{FlushPolicy}
 use Rattle.mimic_main.specs.declared.buffer.TheConstants.{BLOCK}
 use Rattle.mimic_main.specs.declared.buffer.FlushPolicy.TheVariants.{Always, OnFlush, OnLineEnd, OnOddLineEnd, OnEvenLineEnd, WhenFull}
 
+-- the writer that it hands its bytes on to
+abbrev pub writer_of : {W : Type 0} → Output W → W
+writer_of output = output.writer
+
 -- the bytes that wait to be handed on
 abbrev pub waiting_of : {W : Type 0} → Output W → List ℕ
 waiting_of output = output.waiting.items
@@ -25,11 +29,11 @@ has_stopped output = output.has_failed
 
 -- after a fault a call fails, and leaves the writer as it was
 abbrev pub StaysStopped : {W X E : Type 0} → Output W → Output W → Result X E → Type 0
-StaysStopped old new result = has_stopped old ≡ true → IsErr result × (new.writer ≡ old.writer) × (has_stopped new ≡ true)
+StaysStopped old new result = has_stopped old ≡ true → IsErr result × (writer_of new ≡ writer_of old) × (has_stopped new ≡ true)
 
--- the bytes of the writer behind and then those that wait in the buffer, where they are known
+-- the bytes of the writer and then those that wait in the buffer, if they are known
 abbrev pub given_to : {W : Type 0} → (W → Option (List ℕ)) → Output W → Option (List ℕ)
-given_to contents output = append_known (contents output.writer) (waiting_of output)
+given_to contents output = append_known (contents (writer_of output)) (waiting_of output)
 
 -- known bytes are those that the writer got, and then some rest
 abbrev pub HandsOn : Option (List ℕ) → Option (List ℕ) → Type 0

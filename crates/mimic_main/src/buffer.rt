@@ -2,7 +2,7 @@
 ghost use Rattle.std.specs.Prelude.{◌≡◌, ◌↔◌, ◌+◌, ◌<◌, ◌≤◌, ◌-◌, ◌++◌, ℕ, [], drop, false, length, take, true, IfOk, IsErr, IsOk, IsTrue, Ok, OnErr, OnOk};
 ghost use Rattle.std.specs.Io.{WritesAtMost};
 ghost use Rattle.std.specs.Io.KnownBytes.{Appends, Keeps, WriteAppends};
-ghost use Rattle.mimic_main.specs.Output.{CountsLine, HandsOn, HasRoom, SamePolicy, StaysStopped, ends_line, flushes_by, given_to, goes_out, has_odd_lines, has_stopped, heeds_flush, heeds_text, waiting_of};
+ghost use Rattle.mimic_main.specs.Output.{CountsLine, HandsOn, HasRoom, SamePolicy, StaysStopped, ends_line, flushes_by, given_to, goes_out, has_odd_lines, has_stopped, heeds_flush, heeds_text, waiting_of, writer_of};
 ghost use Rattle.mimic_main.specs.declared.buffer.TheConstants.{BLOCK};
 
 use arrayvec::ArrayVec;
@@ -13,15 +13,15 @@ use std::io::{ErrorKind, Write};
 /// When a buffer hands its bytes on to its writer, besides when it has no room and when it is finished.
 #[derive(Clone, Copy, Debug, PartialEq, Eq)]
 pub enum FlushPolicy {
-    /// Behind each text.
+    /// After each text.
     Always,
     /// At each flush.
     OnFlush,
-    /// Behind each text that ends a line.
+    /// After each text that ends a line.
     OnLineEnd,
-    /// Behind the first such text, and each second one from there: behind a title and each row of two lines.
+    /// After the first such text, and each second one from there: after a title and each row of two lines.
     OnOddLineEnd,
-    /// Behind the second such text, and each second one from there: before each trial runs whose row is two lines, of which
+    /// After the second such text, and each second one from there: before each trial runs whose row is two lines, of which
     /// the first announces it.
     OnEvenLineEnd,
     /// At no other time.
@@ -39,7 +39,7 @@ impl FlushPolicy {
     /// flushed there, and in JSON it is each second line, since the title comes first. With more threads the title goes out
     /// before a worker starts, and a row in one write when its trial has ended.
     ///
-    /// Terse has no lines but the first and the last ones, and goes out where they end, and on a terminal mark by mark. A list
+    /// Terse has no lines but the first and the last ones, and goes out when they end, and on a terminal mark by mark. A list
     /// goes out in blocks.
     pub fn of_run(args: &Arguments, default_threads: usize, is_terminal: bool) -> FlushPolicy
         ensures { result ≡ policy_for args.now (threads_of args.now default_threads) is_terminal }
@@ -59,14 +59,14 @@ impl FlushPolicy {
     }
 }
 
-// So many bytes wait at most.
+// How many bytes wait at most.
 const BLOCK: usize = 8192;
 
 /// A buffered writer, in which up to 8192 bytes wait. It allocates nothing. What waits in one that is dropped and not finished
 /// is lost.
 ///
-/// A fault is told by its call, or by the next one if a front of the text was taken. After it nothing more is handed on, and
-/// every later call fails.
+/// A write error is returned by the call that met it, or by the next call if part of the text was accepted. After it nothing
+/// more is written, and every later call fails.
 #[derive(Drop)]
 pub struct Output<W: Write> {
     writer: W,
@@ -75,7 +75,7 @@ pub struct Output<W: Write> {
     // An odd number of texts that end a line was taken whole.
     has_odd_lines: bool,
     has_failed: bool,
-    // The fault behind the front of a text that was taken. The next call tells it.
+    // The fault after the front of a text that was taken. The next call returns it.
     untold: Option<io::Error>,
 }
 
@@ -101,7 +101,7 @@ impl<W: Write> Output<W> {
     pub fn finish(mut self) -> (W, io::Result<()>)
         ensures whole { OnOk result.1 (Keeps (given_to W.contents self) (W.contents result.0)) }
         ensures beginning { HandsOn (given_to W.contents self) (W.contents result.0) }
-        ensures stopped { has_stopped self ≡ true → IsErr result.1 × (W.contents result.0 ≡ W.contents self.writer) }
+        ensures stopped { has_stopped self ≡ true → IsErr result.1 × (W.contents result.0 ≡ W.contents (writer_of self)) }
     {
         let finished = self.hand_on_and_flush();
         let Output {
@@ -120,7 +120,7 @@ impl<W: Write> Output<W> {
         ensures bytes { Keeps (given_to W.contents self.old) (given_to W.contents self.new) }
         ensures empty { OnOk result (waiting_of self.new ≡ []) }
         ensures front { (n : ℕ) × (n ≤ length (waiting_of self.old)) × (waiting_of self.new ≡ drop n (waiting_of self.old))
-            × Appends (W.contents self.old.writer) (W.contents self.new.writer) (take n (waiting_of self.old)) }
+            × Appends (W.contents (writer_of self.old)) (W.contents (writer_of self.new)) (take n (waiting_of self.old)) }
         ensures same { SamePolicy self.old self.new }
         ensures stops { OnErr result (has_stopped self.new ≡ true) }
         ensures stopped { StaysStopped self.old self.new result }
@@ -138,11 +138,11 @@ impl<W: Write> Output<W> {
         handed
     }
 
-    // The fault that was not told yet, else that there was one.
+    // The fault that was not returned yet, else that there was one.
     fn earlier_fault(&mut self) -> io::Error
         ensures bytes { given_to W.contents self.new ≡ given_to W.contents self.old }
         ensures waiting { waiting_of self.new ≡ waiting_of self.old }
-        ensures writer { self.new.writer ≡ self.old.writer }
+        ensures writer { writer_of self.new ≡ writer_of self.old }
         ensures same { SamePolicy self.old self.new }
         ensures stopped { has_stopped self.new ≡ has_stopped self.old }
     {
@@ -191,7 +191,7 @@ impl<W: Write> Output<W> {
         Ok(text.len())
     }
 
-    // Hands on what waits and then the text, in one write where both fit into a block and the writer takes them at once.
+    // Hands on what waits and then the text, in one write if both fit into a block and the writer takes them at once.
     fn write_through(&mut self, text: &[u8]) -> io::Result<usize>
         ensures bound { WritesAtMost result text.now }
         ensures bytes { WriteAppends (given_to W.contents self.old) (given_to W.contents self.new) result text.now }
@@ -236,7 +236,7 @@ impl<W: Write> Output<W> {
     fn keep(&mut self, text: &[u8])
         requires { length (waiting_of self.old) + length text.now ≤ BLOCK }
         ensures kept { waiting_of self.new ≡ waiting_of self.old ++ text.now }
-        ensures writer { self.new.writer ≡ self.old.writer }
+        ensures writer { writer_of self.new ≡ writer_of self.old }
         ensures same { SamePolicy self.old self.new }
         ensures runs { has_stopped self.new ≡ has_stopped self.old }
     {
@@ -292,7 +292,7 @@ impl<W: Write> Write for Output<W> {
         ensures policy { flushes_by self.new ≡ flushes_by self.old }
         ensures lines { IfOk result (CountsLine self.old self.new buf.now (ends_line buf.now)) }
         ensures out { goes_out self.old buf.now ≡ true → OnOk result (waiting_of self.new ≡ []) }
-        ensures waits { goes_out self.old buf.now ≡ false → HasRoom self.old (length buf.now) → self.new.writer ≡ self.old.writer }
+        ensures waits { goes_out self.old buf.now ≡ false → HasRoom self.old (length buf.now) → writer_of self.new ≡ writer_of self.old }
         ensures taken { has_stopped self.old ≡ false → goes_out self.old buf.now ≡ false → HasRoom self.old (length buf.now)
             → (result ≡ Ok (length buf.now)) × (has_stopped self.new ≡ false) }
         ensures stops { OnErr result (has_stopped self.new ≡ true) }
@@ -311,7 +311,7 @@ impl<W: Write> Write for Output<W> {
         ensures bytes { Keeps (given_to W.contents self.old) (given_to W.contents self.new) }
         ensures same { SamePolicy self.old self.new }
         ensures out { heeds_flush (flushes_by self.old) ≡ true → OnOk result (waiting_of self.new ≡ []) }
-        ensures waits { heeds_flush (flushes_by self.old) ≡ false → self.new.writer ≡ self.old.writer }
+        ensures waits { heeds_flush (flushes_by self.old) ≡ false → writer_of self.new ≡ writer_of self.old }
         ensures unheeded { has_stopped self.old ≡ false → heeds_flush (flushes_by self.old) ≡ false
             → IsOk result × (self.new ≡ self.old) }
         ensures stops { OnErr result (has_stopped self.new ≡ true) }

@@ -3,7 +3,7 @@ use std::env::FillError;
 use std::io::IsTerminal;
 use std::rt::Env;
 
-/// Whether a report to this output has colours, where nothing else is asked: the output is a terminal, the variable `TERM` is
+/// Whether a report to this output has colours, if nothing else is asked: the output is a terminal, the variable `TERM` is
 /// set and not `dumb`, and `NO_COLOR` is not set, or is empty.
 pub fn shows_colours<R: Env, O: IsTerminal>(env: &R, out: &O) -> bool {
     out.is_terminal() && has_colours(env) && !are_unwanted(env)

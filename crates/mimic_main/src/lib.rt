@@ -1,5 +1,5 @@
 //! The outer part of a program that runs a harness: its line, its clock, its logfile, the buffer between a report and the
-//! system, what it tells of faults, and its exit status.
+//! system, what it prints of faults, and its exit status.
 //!
 //! ```rust
 //! use libtest_mimic::check_eq;

@@ -25,7 +25,7 @@ pub trait Streams {
     /// Where reports, lists and help go.
     fn stdout(&self) -> Stdout;
 
-    /// Where faults are told.
+    /// Where faults are printed.
     fn stderr(&self) -> Stderr;
 }
 
@@ -47,9 +47,9 @@ impl<M: Env + AllocGlobal + Files + Clock + Streams + Spawner> Machine for M {}
 
 /// Runs or lists the trials as the program's command line asks, and returns what its `main` is to return.
 ///
-/// Where the line does not say how many threads run them, it is as many as the machine can run at once. The report goes to
-/// standard output, in colours where [`shows_colours`](crate::shows_colours) says so, or into the logfile. A fault is told on
-/// standard error with its cause. Trials that could not be made are told as well, and end the program with status 1.
+/// If the line does not say how many threads run them, it is as many as the machine can run at once. The report goes to
+/// standard output, in colours if [`shows_colours`](crate::shows_colours) says so, or into the logfile. A fault is printed on
+/// standard error with its cause. If the trials could not be made, that is printed too, and the status is 1.
 ///
 /// No contract says which words a process gets, so this one is about some line, and never excludes the statuses 0, 1 and 2.
 pub fn run_program<M: Machine + 'static, R: Task + Send + 'static>(
@@ -83,7 +83,7 @@ pub fn run_line<M: Machine + 'static, R: Task + Send + 'static>(
     status
 }
 
-/// Runs or lists tests as `run_program` does, over cases of one check: each is its name and its input, and passes where the
+/// Runs or lists tests as `run_program` does, over cases of one check: each is its name and its input, and passes if the
 /// check returns `Ok`.
 pub fn run_cases<
     M: Machine + 'static,
@@ -152,14 +152,14 @@ pub(crate) fn run_line_on<
     }
 }
 
-// How many threads the machine can run at once, and 1 where it does not say.
+// How many threads the machine can run at once, and 1 if it does not say.
 fn threads_at_once<T: Threads>(rt: &T) -> usize
     ensures { 1 ≤ result }
 {
     told_or_one(thread::available_parallelism(rt))
 }
 
-// The count that was told, and 1 where none was.
+// The count that the machine gave, and 1 if it gave none.
 fn told_or_one(told: io::Result<NonZeroUsize>) -> usize
     ensures some { 1 ≤ result }
     ensures told { IfOk told (λ count. result ≡ non_zero_usize_get count) }
@@ -171,7 +171,7 @@ fn told_or_one(told: io::Result<NonZeroUsize>) -> usize
     }
 }
 
-// A program that tells a fault with its cause.
+// A program that prints a fault with its cause.
 fn telling(name: &str, threads: usize, auto_colours: bool) -> Program<'_>
     ensures name { result.name.now ≡ name.now }
     ensures threads { result.threads ≡ threads }
@@ -231,8 +231,8 @@ impl Program<'_> {
         self.harness_run(rt, files, alloc, line, tests, out, err, clock)
     }
 
-    /// What `main` is to return where making the trials may be refused: what their run answered, or 1 after the refusal
-    /// is told on standard error.
+    /// What `main` is to return if making the trials may be refused: what their run returned, or 1 after the refusal
+    /// is printed on standard error.
     pub fn end<M: Streams>(&self, rt: &M, ended: Result<Status, RunError>) -> Status
         ensures ran { IfOk ended (λ status. result ≡ status) }
         ensures refused { OnErr ended (number_of result ≡ 1) }

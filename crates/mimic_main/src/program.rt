@@ -24,27 +24,27 @@ pub(crate) enum Fault {
     Run(RunError),
 }
 
-/// A program that runs a harness: how many threads run its trials, whether its reports have colours, and how it tells of
+/// A program that runs a harness: how many threads run its trials, whether its reports have colours, and what it prints of
 /// faults.
 #[derive(Clone, Copy, Debug, PartialEq, Eq)]
 pub struct Program<'a> {
-    /// Its name, which stands before what it tells of a fault.
+    /// Its name, which stands before what it prints of a fault.
     pub name: &'a str,
-    /// How many threads run the trials where the line leaves it open, at least 1.
+    /// How many threads run the trials if the line leaves it open, at least 1.
     pub threads: usize,
-    /// Whether a report has colours where the line leaves it open and no logfile is set.
+    /// Whether a report has colours if the line leaves it open and no logfile is set.
     pub auto_colours: bool,
-    /// Whether a fault is told with its cause: the path of the logfile, and what the system said.
+    /// Whether a fault is printed with its cause: the path of the logfile, and what the system said.
     pub tells_causes: bool,
 }
 
 impl Program<'_> {
-    /// Runs or lists the trials as the line asks, and returns the writer `out` and the exit status: 0 where no trial
-    /// failed or help was asked for, 101 where one failed, 1 where the logfile or the run was refused or there was no memory to
-    /// read the line, 2 where the line was refused.
+    /// Runs or lists the trials as the line asks, and returns the writer `out` and the exit status: 0 if no trial
+    /// failed or help was asked for, 101 if one failed, 1 if the logfile or the run was refused or there was no memory to
+    /// read the line, 2 if the line was refused.
     ///
     /// The report or list goes into the logfile, which is made or emptied first; without one it goes to `out`. Help
-    /// goes to `out`, and what is refused to `err`; a fault in writing either changes no status.
+    /// goes to `out`, the reason for a refusal to `err`. Failing to write either leaves the status as it is.
     pub fn harness_run<
         T: Spawner + 'static,
         F: Files,
@@ -87,7 +87,7 @@ impl Program<'_> {
         }
     }
 
-    // The exit status of a run into the logfile, if there is one. A fault is told.
+    // The exit status of a run into the logfile, if there is one. A fault is printed.
     fn status_of<E: Write>(
         &self,
         ran: Result<Conclusion, Fault>,
@@ -139,7 +139,7 @@ impl Program<'_> {
         Status::CANNOT_RUN
     }
 
-    // Tells a fault in one line, where it can be written.
+    // Prints a fault in one line, if it can be written.
     fn tell<E: Write>(&self, fault: &Fault, logfile: Option<&String>, err: &mut E) {
         let name = self.name;
         let place = logfile.map_or("standard output", |path| path.as_str());
@@ -167,7 +167,7 @@ struct Job<R, C> {
 }
 
 impl<R: Task + Send + 'static, C: Clock + Drop> Job<R, C> {
-    // Runs into the logfile where there is one, else to `out`, which is given back.
+    // Runs into the logfile if there is one, else to `out`, which is given back.
     fn run<T: Spawner + 'static, F: Files, O: Write + IsTerminal>(
         self,
         rt: &T,

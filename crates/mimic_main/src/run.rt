@@ -19,7 +19,7 @@ use std::io::Write;
 /// Runs or lists the trials as the arguments ask, hands on what the buffer holds at the end, and gives the writer back.
 ///
 /// A fault in handing on the last bytes is a fault of the run. `default_threads` is how many threads run the trials, and
-/// `auto_colours` whether the report has colours, where the arguments leave it open.
+/// `auto_colours` whether the report has colours, if the arguments leave it open.
 pub fn run_into<R: Task + Send + 'static, W: Write, C: Clock + Drop, T: Spawner + 'static>(
     rt: &T,
     alloc: Global,
@@ -55,7 +55,7 @@ pub fn run_into<R: Task + Send + 'static, W: Write, C: Clock + Drop, T: Spawner 
     (writer, settled(ran, finished))
 }
 
-// The answer of a run, where what was left could be handed on.
+// What a run returned, if what was left could be handed on.
 fn settled(
     ran: Result<Conclusion, RunError>,
     finished: io::Result<()>,

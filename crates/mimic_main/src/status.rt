@@ -6,8 +6,8 @@ ghost use Rattle.mimic_main.specs.Ended.{number_of};
 use std::io::Eprint;
 use std::process::{ExitCode, Termination};
 
-/// The exit status of a program, which its `main` is to return. This crate alone can make one and take one apart, and the
-/// compiler refuses a program that lets one go.
+/// The exit status of a program, which its `main` is to return. Only this crate can make one or take one apart, and a program
+/// that drops one doesn't compile.
 #[derive(Debug, PartialEq, Eq)]
 pub struct Status {
     number: u8,
@@ -23,7 +23,13 @@ impl Status {
 
     pub(crate) const TRIALS_FAILED: Status = Status { number: 101 };
 
-    // Outside of this crate the number is seen by `report` alone.
+    /// The number that a process ends with.
+    pub fn number(&self) -> u8
+        ensures { result ≡ number_of self.now }
+    {
+        self.number
+    }
+
     pub(crate) fn into_number(self) -> u8
         ensures { result ≡ number_of self }
     {

@@ -1,4 +1,4 @@
--- What the seats of a desk keep inside: what a seat tells, and the outcomes that a seat can't tell. No public clause names these words.
+-- What the seats of a desk keep inside: what lies in a seat, and the outcomes that don't fit in one. No public clause names these words.
 use Rattle.std.specs.Prelude.{ℕ, ◌≡◌, ◌+◌, ◌≤◌, List, [], ◌∷◌, Option, Some, None, length, map, slice_get, vec_capacity}
 use Rattle.std.specs.List.{AllByRecursion}
 use Rattle.mimic_trial.specs.declared.outcome.Outcome.{Outcome}

@@ -1,4 +1,4 @@
--- What a board keeps inside: a mark for each place, and the outcomes that a mark can't tell. No public clause names these words.
+-- What a board keeps inside: a mark for each place, and the outcomes that don't fit in a mark. No public clause names these words.
 use Rattle.std.specs.Prelude.{ℕ, ◌≡◌, ◌+◌, ◌≤◌, Bool, true, false, List, [], ◌∷◌, drop, eqb, length, map, slice_index_or, vec_capacity}
 use Rattle.std.specs.VecDeque.{deque_capacity, deque_items}
 use Rattle.std.specs.List.{list_any, IsDistinct}

@@ -1,4 +1,4 @@
-//! The board where workers report rows.
+//! The board that workers report rows to.
 ghost use Rattle.std.specs.Prelude.{◌≡◌, ◌≢◌, ◌++◌, ◌∷◌, [], ◌↔◌, ◌<◌, ◌≤◌, IfErr, IfNone, IfOk, IfSome, IsOk, IsTrue, List, slice_get};
 ghost use Rattle.std.specs.VecDeque.{deque_capacity, deque_items, deque_len};
 ghost use Rattle.mimic_trial.specs.Places.{Placed};
@@ -11,7 +11,7 @@ use std::alloc::{AllocError, Global};
 use std::collections::VecDeque;
 use std::marker::Model;
 
-// What a board keeps for a place: most outcomes are told by the mark alone.
+// What a board keeps for a place: most outcomes are known by the mark alone.
 #[derive(Clone, Copy)]
 pub(crate) enum Mark {
     // Nothing was reported.
@@ -32,7 +32,7 @@ pub(crate) enum Mark {
 pub struct Board {
     marks: Vec<Mark>,
     order: Vec<usize>,
-    // Of the rows that wait, the outcomes that a mark can't tell, in their order.
+    // Outcomes of waiting rows that don't fit in a mark, in order.
     kept: VecDeque<Outcome>,
     taken: usize,
     workers: usize,
@@ -109,7 +109,7 @@ impl Board {
         Some((place, outcome))
     }
 
-    /// Closes one more worker. Where all have closed, nothing changes.
+    /// Closes one more worker. If all have closed, nothing changes.
     pub fn close_one(&mut self)
         ensures board { self.new ≡ after_close self.old }
         ensures agrees { (reports : List Placed) → Agrees self.old reports → Agrees self.new reports }
@@ -150,7 +150,7 @@ impl Board {
     }
 }
 
-// The mark of the outcome, which is kept where its mark can't tell it.
+// The mark of the outcome, which is kept if it doesn't fit in a mark.
 fn marked(outcome: Outcome, kept: &mut VecDeque<Outcome>) -> Mark
     requires { deque_len kept.old < deque_capacity kept.old }
     ensures mark { result ≡ mark_of outcome }
@@ -167,7 +167,7 @@ fn marked(outcome: Outcome, kept: &mut VecDeque<Outcome>) -> Mark
     }
 }
 
-// The outcome of the mark, which is taken out of the kept ones where it lies there.
+// The outcome of the mark, which is taken out of the kept ones if it lies there.
 fn unmarked(mark: Mark, kept: &mut VecDeque<Outcome>) -> Outcome
     requires marked { IsTrue (is_marked mark) }
     requires kept { weight_of mark ≤ deque_len kept.old }
@@ -188,7 +188,7 @@ fn unmarked(mark: Mark, kept: &mut VecDeque<Outcome>) -> Outcome
     }
 }
 
-/// Whatever calls workers and the taking thread make on a board, in whatever order: the rows that were taken, and behind
+/// Whatever calls workers and the taking thread make on a board, in whatever order: the rows that were taken, and after
 /// them those that still wait, are of each place the first report, in the order of the reports. So no row that was accepted
 /// is lost, doubled, changed or overtaken.
 pub fn hands_on_first_reports()

@@ -34,7 +34,7 @@ impl<R: Wait + Drop> Drop for Reporter<R> {
 /// Rows of which copies are reported to the board that all workers share. The worker closes when this is dropped, whether or
 /// not its rows were told.
 ///
-/// A row is refused where no copy of it can be made, and where the board hands it back.
+/// A row is refused if no copy of it can be made, or if the board hands it back.
 #[derive(Drop)]
 pub struct BoardReports<R: Wait + Drop> {
     reporter: Reporter<R>,

@@ -45,8 +45,8 @@ impl Inbox {
         })
     }
 
-    /// Where one of the workers tells its rows. No memory but that of copies is taken. Of what becomes of the rows nothing is
-    /// promised: they are behind a lock.
+    /// What one of the workers tells its rows to. No memory but that of copies is taken. Nothing is promised of what becomes of
+    /// the rows: they are behind a lock.
     pub fn reports<R: Wait + Drop>(
         &self,
         rt: R,

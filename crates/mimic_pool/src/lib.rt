@@ -1,4 +1,4 @@
-//! What worker threads share out, tell and answer, and what is made of it. A layer of `libtest_mimic`.
+//! Shares of trials, workers in threads, what these report and answer, and what is made of it. A layer of `libtest_mimic`.
 //!
 //! ```rust
 //! use mimic_pool::{Arrival, Desk};

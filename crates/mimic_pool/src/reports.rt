@@ -1,13 +1,13 @@
-//! Where workers tell what became of their trials.
+//! What workers report their rows to.
 ghost use Rattle.std.specs.Prelude.{◌≡◌, ◌↔◌, ◌+◌, ◌<◌, ℕ, IsOk, OnErr, OnOk};
 
 use mimic_trial::Outcome;
 
-/// A row could not be told.
+/// A row could not be reported.
 #[derive(Clone, Copy, Debug, PartialEq, Eq)]
 pub struct Untold;
 
-/// Where rows are told, each a place and the outcome there, and counted.
+/// What rows are told to, each a place and the outcome there, and what counts them.
 ///
 /// What becomes of a row that was told is left open: it may be lost. So a worker answers all of its rows once more.
 pub trait Reports {
@@ -51,7 +51,7 @@ impl Counts {
         }
     }
 
-    // Counts one more row: as told, where it was kept or reported, else as refused.
+    // Counts one more row: as told if it was kept or reported, else as refused.
     pub(crate) fn count<E: Drop>(&mut self, row: Result<(), E>) -> Result<(), Untold>
         requires room { (self.old.told < u64.MAX) × (self.old.refusals < u64.MAX) }
         ensures same { IsOk result ↔ IsOk row }

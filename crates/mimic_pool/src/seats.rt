@@ -8,7 +8,7 @@ use mimic_trial::Outcome;
 use std::alloc::{AllocError, Global};
 use std::marker::Model;
 
-// What lies at a place: most outcomes are told by the seat alone.
+// What lies at a place: most outcomes are known by the seat alone.
 #[derive(Clone, Copy)]
 pub(crate) enum Seat {
     Free,
@@ -22,9 +22,9 @@ pub(crate) enum Seat {
 #[derive(Drop)]
 pub(crate) struct Seats {
     seats: Vec<Seat>,
-    // The outcomes that a seat can't tell.
+    // The outcomes that don't fit in a seat.
     kept: Vec<Outcome>,
-    // Those that it can, to be lent.
+    // Those that do, to be lent.
     passed: Outcome,
     ignored: Outcome,
 }
@@ -42,7 +42,7 @@ impl Model for Seats {
 }
 
 impl Seats {
-    // So many places, at which nothing lies.
+    // Seats at `n` places, at which nothing lies.
     pub(crate) fn new(alloc: Global, n: usize) -> Result<Seats, AllocError>
         ensures len { IfOk result (λ seats. length seats ≡ n) }
         ensures free { IfOk result (λ seats. (place : ℕ) → is_some (slice_index_or seats place None) ≡ false) }
@@ -99,7 +99,7 @@ impl Seats {
     }
 }
 
-// The seat of the outcome, which is kept where the seat can't tell it.
+// The seat of the outcome, which is kept if it doesn't fit in a seat.
 fn seat_for(outcome: Outcome, kept: &mut Vec<Outcome>) -> Seat
     requires { vec_len kept.old < vec_capacity kept.old }
     ensures seat { outcome_in kept.new.items result ≡ Some outcome }

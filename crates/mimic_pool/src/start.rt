@@ -12,7 +12,7 @@ use std::thread::Promise;
 /// What a worker answers: a place and the outcome there, for each trial of its share.
 pub type Rows = Vec<(usize, Outcome)>;
 
-/// What a worker starts with: its share, room for what it answers, and the board where it tells its rows.
+/// What a worker starts with: its share, room for what it answers, and the board that it reports to.
 #[derive(Drop)]
 pub struct Start<T> {
     pub(crate) share: Share<T>,
@@ -22,7 +22,7 @@ pub struct Start<T> {
     pub(crate) ghost fits: { length (items_of share) ≤ vec_capacity room },
 }
 
-/// The promise of a worker's thread: it answers its share.
+/// What a worker's thread promises: it answers its share.
 #[derive(Drop)]
 pub struct AnswersShare<T> {
     pub(crate) share: Snapshot<Share<T>>,

@@ -1,4 +1,4 @@
-//! Worker threads, which run the shares and tell their rows to a board.
+//! Worker threads, which run the shares and report their rows to a board.
 ghost use Rattle.std.specs.Prelude.{◌≡◌, ◌≤◌, All, Bool, List, IfOk, IfSome, MatchResult, length, map, take, vec_capacity, vec_len};
 ghost use Rattle.mimic_pool.specs.Answers.{Answers};
 ghost use Rattle.mimic_pool.specs.Inbox.{board_of};
@@ -46,9 +46,9 @@ pub fn prepare<T: Task>(
     Ok(starts)
 }
 
-/// Starts a worker for each share, and keeps their handles in `handles`, which takes no memory. Where one can't be
-/// started, no further one is, and those that were started, on a front of the shares, are handed back. Then the others
-/// never close, and `Inbox::next` would wait for ever.
+/// Starts a worker for each share, and keeps their handles in `handles`, which takes no memory. If a worker can't be
+/// started, no more are, and the handles of those that were, of the first shares, are returned. Then the others
+/// never close, and `Inbox::next` would never return.
 pub fn start_all<T: Task + Send + 'static, R: Spawner + 'static>(
     rt: &R,
     alloc: Global,
@@ -72,7 +72,7 @@ pub fn start_all<T: Task + Send + 'static, R: Spawner + 'static>(
     Ok(handles)
 }
 
-// Starts one worker. `None` where no thread can be made.
+// Starts one worker. `None` if no thread can be made.
 fn start_worker<T: Task + Send + 'static, R: Spawner + 'static>(
     rt: &R,
     alloc: Global,
@@ -105,7 +105,7 @@ fn start_worker<T: Task + Send + 'static, R: Spawner + 'static>(
     started.ok()
 }
 
-/// Joins the workers one after another, and puts what they answered into `outcomes`, each at its place. Where their shares
+/// Joins the workers one after another, and puts what they answered into `outcomes`, each at its place. If their shares
 /// were dealt from runners, each place has then an outcome of the runner there.
 pub fn join_all<T: Task + Send + 'static, R: Threads>(
     rt: &R,

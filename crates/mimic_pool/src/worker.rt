@@ -7,10 +7,10 @@ use crate::reports::Reports;
 use crate::share::{Assigned, Share};
 use mimic_trial::{Outcome, Task, run_unless};
 
-/// Runs the share in its order, tells each row when its trial has ended, and answers all of them.
+/// Runs the share in its order, tells each row when its trial has ended, and returns all of them.
 ///
-/// A runner that is ignored is dropped without a call. A row that could not be told is answered all the same. The answer
-/// is put into `room`, which has room for all of it.
+/// A runner that is ignored is dropped without a call. A row that could not be told is returned all the same. All are
+/// put into `room`, which has room for them.
 pub fn work<T: Task, R: Reports>(
     share: Share<T>,
     test_mode: bool,
@@ -34,7 +34,7 @@ pub fn work<T: Task, R: Reports>(
             ignored,
         } = item;
         let outcome = run_unless(ignored, runner, test_mode);
-        // Told or not, the row is answered: whoever joins the worker gets it then.
+        // Told or not, the row is returned: whoever joins the worker gets it then.
         let _ = reports.tell(place, &outcome);
         room.push_reserved((place, outcome));
     }

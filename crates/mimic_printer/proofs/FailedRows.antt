@@ -1,5 +1,5 @@
 -- The failures of a report: by place, and of the rows that failed alone.
-use Rattle.std.proofs.Common.{◌≡◌, ℕ, zero, suc, ◌+◌, ◌<◌, List, [], ◌∷◌, ◌++◌, Bool, true, false, cond, ◌||◌, filter, map, length, get_or, refl, sym, subst, ap, ap₂, ◌∙◌, arith, add-one, append-nil, All}
+use Rattle.std.proofs.Common.{◌≡◌, ℕ, zero, suc, ◌+◌, ◌<◌, List, [], ◌∷◌, ◌++◌, Bool, true, false, cond, ◌||◌, filter, map, length, get_or, refl, sym, ap, ap₂, ◌∙◌, arith, add-one, append-nil, All}
 use Rattle.std.proofs.lemmas.List.{get_or-map, get_or_default, length-map}
 use Rattle.std.proofs.lemmas.List.Elements.{All-head, All-tail, filter-append}
 use Rattle.std.proofs.lemmas.Option.{slice_get_read}

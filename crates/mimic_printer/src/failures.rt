@@ -12,7 +12,7 @@ use crate::sink::{Sink, WriteFault};
 use mimic_trial::{Outcome, TestInfo};
 use std::io::Write;
 
-/// The rows of which the failures are told.
+/// The rows of which the failures are shown.
 #[derive(Clone, Copy)]
 pub(crate) enum Rows<'a> {
     /// These, one after another.
@@ -59,14 +59,14 @@ impl<'a> Rows<'a> {
     }
 }
 
-// What is told of a row that failed: first come all messages, and then all names.
+// What is shown of a row that failed: first come all messages, and then all names.
 #[derive(Clone, Copy)]
 enum Part {
     Message,
     Name,
 }
 
-// Writes the failures of the rows, and nothing where none failed.
+// Writes the failures of the rows, and nothing if none failed.
 pub(crate) fn put_if_any<W: Write>(sink: &mut Sink<W>, rows: Rows<'_>) -> Result<(), WriteFault>
     requires room { faults_of sink.old < 2 ^ 64 - 1 }
     requires places { HasItsPlaces rows }

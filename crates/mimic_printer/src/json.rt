@@ -60,7 +60,7 @@ pub(super) fn put_outcome<'a, W: Write>(
     }
 }
 
-// Writes the line of an outcome that is one word. `end` begins with the quote behind the name or the kind.
+// Writes the line of an outcome that is one word. `end` begins with the quote after the name or the kind.
 fn put_word<'a, W: Write>(
     sink: &mut Sink<W>,
     name: &'a str,
@@ -75,7 +75,7 @@ fn put_word<'a, W: Write>(
     put_line(sink, "{ \"type\": \"test\", \"name\": \"", name, kind, end)
 }
 
-// Writes the line of a trial: its front up to the name, and its end, which begins with the quote behind the name or the kind.
+// Writes the line of a trial: its front up to the name, and its end, which begins with the quote after the name or the kind.
 fn put_line<'a, W: Write>(
     sink: &mut Sink<W>,
     front: &'a str,
@@ -152,7 +152,7 @@ fn put_measurement<'a, W: Write>(
     put_pieces(sink, &pieces)
 }
 
-// What stands between a name and its kind, behind which comes a closing quote: nothing, where the kind is empty.
+// What stands between a name and its kind, after which comes a closing quote: nothing if the kind is empty.
 #[tactic(auto, unfolding(mimic_text::specs::Escape::escaped))]
 fn before_kind(kind: &str) -> &'static str
     ensures { result.now ++ (escaped kind.now ++ codes "\"") ≡ codes "\"" ++ kind_field kind.now }

@@ -20,7 +20,7 @@ pub(crate) enum Piece<'a> {
     Number(u64),
     /// A number below 100 in two digits.
     TwoDigits(u8),
-    /// So many spaces.
+    /// This number of spaces.
     Spaces(usize),
     /// The number with commas between groups of three digits, and spaces before it up to the width.
     Grouped { number: u64, width: usize },
@@ -78,7 +78,7 @@ fn gather(pieces: &[Piece<'_>], row: &mut [u8; ROW]) -> (usize, usize)
     (pieces.len(), len)
 }
 
-// Writes the text behind the first `len` bytes of the row, and returns where it ends. `None` where it doesn't fit.
+// Writes the text after the first `len` bytes of the row, and returns where it ends. `None` if it doesn't fit.
 fn append(row: &mut [u8; ROW], len: usize, text: &[u8]) -> Option<usize>
     requires { len ≤ 256 }
     ensures front { take len row.new ≡ take len row.old }
@@ -101,7 +101,7 @@ impl Piece<'_> {
     ghost use Rattle.mimic_printer.specs.Sink.{Puts, faults_of};
     ghost use Rattle.mimic_printer.specs.Piece.{piece_text};
 
-    // Writes the piece behind the first `len` bytes of the row, and returns where it ends. `None` where it doesn't fit,
+    // Writes the piece after the first `len` bytes of the row, and returns where it ends. `None` if it doesn't fit,
     // or is a long run of spaces, a grouped number or a text with escapes.
     #[tactic(auto, using(crate::proofs::Escaping::spelled_as_is))]
     fn write(self, row: &mut [u8; ROW], len: usize) -> Option<usize>
@@ -142,7 +142,7 @@ impl Piece<'_> {
     }
 }
 
-// So many spaces are written at once.
+// The spaces that are written at once.
 const SPACES: [u8; 32] = [b' '; 32];
 
 fn put_spaces<W: Write>(sink: &mut Sink<W>, count: usize) -> Result<(), WriteFault>

@@ -4,6 +4,7 @@ use Rattle.std.specs.List.{concat}
 use Rattle.std.specs.Io.KnownBytes.{Appends, Keeps}
 use Rattle.mimic_trial.specs.declared.outcome.conclusion.Conclusion.{Conclusion}
 use Rattle.mimic_printer.specs.Json.{Contents, IsJsonReport, conclusion_of}
+use Rattle.mimic_readreport.specs.declared.machine.Ending.{Ending}
 use Rattle.mimic_readreport.specs.declared.program.Fault.{Fault}
 use Rattle.mimic_readreport.specs.declared.program.Fault.TheVariants.{Read, NoReport, Write, OutOfMemory}
 
@@ -75,6 +76,10 @@ Leaves input old new told = MatchResult told (λ _. TellsReport input old new) (
 -- the status is 0 where the line was told and nothing else, and 1 where a fault was told, as far as that could be written
 abbrev pub EndsBy : {T : Type 0} → Option (List ℕ) → Option (List ℕ) → Result T Fault → ℕ → Type 0
 EndsBy err got told status = MatchResult told (λ _. (status ≡ 0) × Keeps err got) (λ fault. (status ≡ 1) × GetsBeginning err got (fault_line fault))
+
+-- the number that a process ends with whose `main` returns this
+abbrev pub number_of : Ending → ℕ
+number_of ending = ending.status
 
 -- how a run ends: what both outputs have got from the input, and the status
 pub record Ended (input out out_got err err_got : Option (List ℕ)) (status : ℕ) : Type 0 where

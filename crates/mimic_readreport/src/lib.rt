@@ -1,4 +1,4 @@
-//! A program that tells a report in JSON in one line, for those that run it.
+//! The program `readreport` as a library: a JSON report summarized in one line.
 //!
 //! ```rust
 //! use mimic_readreport::{Ending, run_program};

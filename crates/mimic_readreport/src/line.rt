@@ -1,4 +1,4 @@
-//! The line that tells a report in numbers.
+//! A report's numbers in one line.
 ghost use Rattle.std.specs.Prelude.{◌≡◌, ◌++◌, IfOk, OnOk, string_bytes};
 ghost use Rattle.mimic_readreport.specs.Told.{counted, counts_line};
 
@@ -6,7 +6,7 @@ use itoa::Buffer;
 use mimic_events::Totals;
 use std::alloc::{AllocError, Global};
 
-// The line that tells the numbers of a report, with its line end, so that it is written at once.
+// The line of a report's numbers, with its line end, so that it is written at once.
 pub(crate) fn line_of(alloc: Global, totals: &Totals) -> Result<String, AllocError>
     ensures { IfOk result (λ line. string_bytes line ≡ counts_line totals.now.rows totals.now.counts totals.now.nanos) }
 {
@@ -22,7 +22,7 @@ pub(crate) fn line_of(alloc: Global, totals: &Totals) -> Result<String, AllocErr
     Ok(line)
 }
 
-// Appends the number in decimal, and the text behind it.
+// Appends the number in decimal, and then the text.
 fn put(line: &mut String, number: u64, text: &str) -> Result<(), AllocError>
     ensures { OnOk result (string_bytes line.new ≡ string_bytes line.old ++ counted number text.now) }
 {

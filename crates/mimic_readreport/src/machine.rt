@@ -1,14 +1,13 @@
 //! The program on the machine.
 ghost use Rattle.std.specs.Prelude.{◌≡◌, ℕ, List, Option};
 ghost use Rattle.std.specs.Process.{exit_status};
-ghost use Rattle.mimic_readreport.specs.Told.{EndsSomehow};
+ghost use Rattle.mimic_readreport.specs.Told.{EndsSomehow, number_of};
 
 use crate::program::readreport_run;
 use std::io::Eprint;
 use std::process::{ExitCode, Termination};
 
-/// How a run ended, which a `main` is to return. `run_program` alone makes one, and the compiler refuses a program that lets
-/// one go.
+/// How a run ended, which a `main` is to return. Only `run_program` makes one, and a program that drops one doesn't compile.
 #[derive(Debug)]
 pub struct Ending {
     status: u8,
@@ -16,17 +15,17 @@ pub struct Ending {
 
 impl Termination for Ending {
     fn report<R: Eprint>(self, _rt: &R) -> ExitCode
-        ensures { exit_status result ≡ self.status }
+        ensures { exit_status result ≡ number_of self }
     {
         let Ending { status } = self;
         ExitCode::from(status)
     }
 }
 
-/// Tells the report on standard input on standard output, or a fault on standard error, and returns what `main` is
-/// to return.
+/// Prints the line of the report on standard input on standard output, or that of a fault on standard error, and returns
+/// what `main` is to return.
 pub fn run_program(rt: &HostRuntime) -> Ending
-    ensures { EndsSomehow result.status }
+    ensures { EndsSomehow (number_of result) }
 {
     let (input, out, err) = (&mut rt.stdin(), &mut rt.stdout(), &mut rt.stderr());
     let status = readreport_run(rt.alloc(), input, out, err);

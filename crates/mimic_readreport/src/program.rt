@@ -17,7 +17,7 @@ const FAILURE: u8 = 1;
 // The most bytes that are read at once.
 const PIECE: usize = 4096;
 
-// Why a report is not told.
+// Why no line of a report is printed.
 #[derive(Clone, Copy, Debug)]
 pub(crate) enum Fault {
     Read,
@@ -28,7 +28,7 @@ pub(crate) enum Fault {
 }
 
 impl Fault {
-    // The line that tells the fault.
+    // The line that says which fault it is.
     fn line(self) -> &'static str
         ensures { result.now ≡ fault_line self }
     {
@@ -41,8 +41,8 @@ impl Fault {
     }
 }
 
-/// Reads a report to the end of the input, tells it in one line on `out`, and answers the exit status 0. Where
-/// that can't be done, the reason goes to `err` as one line, and the status is 1; a fault in writing it is not told.
+/// Reads a report to the end of the input, prints it in one line on `out`, and returns the exit status 0. If
+/// that can't be done, the reason goes to `err` as one line, and the status is 1; a fault in writing it is not reported.
 pub fn readreport_run<I: Read, O: Write, E: Write>(
     alloc: Global,
     input: &mut I,

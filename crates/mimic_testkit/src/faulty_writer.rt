@@ -1,4 +1,4 @@
-//! A writer over memory that takes as many bytes a call as a test says, and fails where the test wants it to.
+//! A writer over memory that takes as many bytes a call as a test says, and fails when the test wants it to.
 ghost use Rattle.std.specs.Prelude.{◌≡◌, ◌≤◌, ◌+◌, [], Some, false, length, true, IfOk, OnErr};
 ghost use Rattle.std.specs.Io.{WritesAtMost};
 ghost use Rattle.std.specs.Io.KnownBytes.{Keeps, WriteAppends};
@@ -30,7 +30,7 @@ impl Fault {
 pub enum Place {
     /// No call does.
     Nowhere,
-    /// The write behind so many bytes, empty or not. The write that comes up to them takes no more.
+    /// The write after this number of bytes, empty or not. The write that comes up to them takes no more.
     Byte(usize),
     /// The write of this number, from 1.
     Write(u64),
@@ -56,11 +56,11 @@ pub struct FaultyWriter {
     pub calls_after: u64,
     /// The most bytes that a write takes.
     pub most: usize,
-    /// Where it fails.
+    /// When it fails.
     pub place: Place,
     /// How it fails.
     pub fault: Fault,
-    /// Whether each call after the first one that failed does likewise, flushes too.
+    /// Whether each call after the first one that failed fails too, also a flush.
     pub lasts: bool,
     /// Whether it says that it is a terminal.
     pub is_terminal: bool,

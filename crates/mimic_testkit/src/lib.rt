@@ -1,4 +1,4 @@
-//! What tests share: a writer that fails where a test wants it to, clocks whose readings are known, and the 17 trials of
+//! What tests share: a writer that fails when a test wants it to, clocks whose readings are known, and the 17 trials of
 //! `harness`. No library lists this crate.
 //!
 //! ```rust

@@ -4,7 +4,7 @@ use Rattle.std.specs.Str.{IsAscii}
 use Rattle.std.specs.Str.Parse.{AllDigits, digits_value}
 use Rattle.std.specs.Char.{digit_value}
 use Rattle.std.proofs.lemmas.Bool.{eqb-true, eqb-false, ne_eqb}
-use Rattle.std.proofs.lemmas.Fmt.{IsAscii-decimal, IsAscii-from_digits}
+use Rattle.std.proofs.lemmas.Fmt.{IsAscii-decimal, IsAscii-from_digits, length-decimal-le}
 use Rattle.std.proofs.lemmas.Int.Digits.{digits_value-lt}
 use Rattle.std.proofs.lemmas.Str.{IsAscii-append}
 use Rattle.std.proofs.lemmas.Str.Ascii.{IsAscii-cons, IsAscii-nil}
@@ -68,6 +68,12 @@ none_left (suc k) = refl
 pub point_behind : (front rest : List ℕ) → length (front ++ rest) ≡ 32 → length front ≤ 20 → take (length front + 1) (slice_set (front ++ rest) (length front) 46) ≡ front ++ 46 ∷ []
 point_behind front rest long short =
     take_more_set (front ++ rest) (length front) 46 (omega (arith, long, short)) ∙ ap (λ l. l ++ 46 ∷ []) (take-append_seam front rest)
+
+-- the whole seconds take at most eleven digits
+pub whole_short : (nanos : ℕ) → nanos < 2 ^ 64 → length (decimal (nanos / 10 ^ 9)) ≤ 11
+whole_short nanos fits =
+    let low : nanos / 10 ^ 9 < 10 ^ 11 = omega (arith, fits) in
+    length-decimal-le 11 (nanos / 10 ^ 9) (omega arith) low (omega (arith, low))
 
 -- ---- what digits are worth
 

@@ -6,7 +6,7 @@ ghost use Rattle.mimic_text.specs.Escape.{ArePlain, EscapesCharacters, NeedsEsca
 use std::marker::Model;
 use std::str;
 
-/// A character as it stands there: at most six bytes.
+/// A character as it stands there.
 #[derive(Drop)]
 pub struct Escaped {
     bytes: [u8; 6],
@@ -25,9 +25,10 @@ impl Model for Escaped {
 }
 
 impl Escaped {
-    /// The text.
+    /// The text, of at most six bytes.
     pub fn as_str(&self) -> &str
-        ensures { result.now ≡ self.now }
+        ensures text { result.now ≡ self.now }
+        ensures short { length result.now ≤ 6 }
     {
         str::from_utf8(&self.bytes[..self.len]).unwrap()
     }
@@ -98,7 +99,7 @@ pub fn escape_byte(byte: u8) -> Escaped
     }
 }
 
-/// Where the first byte of a text stands, counted from 0, that isn't written as it is; `None` where all are.
+/// The place, counted from 0, of the first byte of a text that isn't written as it is; `None` if all are.
 pub fn next_escape(text: &[u8]) -> Option<usize>
     ensures { MatchOption result (ArePlain text.now)
         (λ at. (at < length text.now) × NeedsEscape (slice_index text.now at) × ArePlain (take at text.now)) }

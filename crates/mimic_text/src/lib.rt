@@ -27,8 +27,8 @@ pub use seconds::{exact_seconds, hundredths};
 use std::alloc::{AllocError, Global};
 use std::str;
 
-/// What stands before and behind a kind that is shown before a name: brackets, the closing one with a
-/// space behind it, and nothing around an empty kind.
+/// What stands before and after a kind that is shown before a name: brackets, the closing one with a
+/// space after it, and nothing around an empty kind.
 pub fn brackets(kind: &str) -> (&'static str, &'static str)
     ensures shown { result.0.now ++ (kind.now ++ result.1.now) ≡ kind_part kind.now }
     ensures opening { kind.now ≢ [] → result.0.now ≡ codes "[" }
@@ -40,11 +40,10 @@ pub fn brackets(kind: &str) -> (&'static str, &'static str)
     }
 }
 
-/// The number in decimal with a comma between groups of three digits, in the caller's buffer.
-///
-/// The greatest number takes all 26 bytes.
+/// The number in decimal with a comma between groups of three digits, in the caller's buffer: at most 26 bytes.
 pub fn thousands(v: u64, buf: &mut [u8; 26]) -> &str
     ensures text { result.now ≡ grouped (decimal v) }
+    ensures short { length result.now ≤ 26 }
     ensures digits { without_commas result.now ≡ decimal v }
 {
     let mut digits = Buffer::new();

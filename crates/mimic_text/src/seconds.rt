@@ -1,5 +1,5 @@
 //! Nanoseconds as seconds.
-ghost use Rattle.std.specs.Prelude.{◌≡◌, ◌+◌, ◌^◌, ◌<◌, ◌≤◌, ◌++◌, ◌/◌, ◌%◌, ℕ, List, take};
+ghost use Rattle.std.specs.Prelude.{◌≡◌, ◌+◌, ◌^◌, ◌<◌, ◌≤◌, ◌++◌, ◌/◌, ◌%◌, ℕ, List, length, take};
 ghost use Rattle.mimic_text.specs.Seconds.{exact_seconds, fraction_digits, IsExactSeconds};
 ghost use Rattle.mimic_text.specs.Text.{nearest_hundredths};
 
@@ -17,12 +17,11 @@ pub fn hundredths(nanos: u64) -> (u64, u8)
     ((all / 100) as u64, (all % 100) as u8)
 }
 
-/// The nanoseconds as seconds in exact decimal, in the caller's buffer: no point where they are whole, and
-/// no zero at the end behind a point.
-///
-/// The longest text takes 21 bytes.
+/// The nanoseconds as seconds in exact decimal, in the caller's buffer: no point if they are whole, and
+/// no zero at the end after a point. The text has at most 21 bytes.
 pub fn exact_seconds(nanos: u64, buf: &mut [u8; 32]) -> &str
     ensures text { result.now ≡ exact_seconds nanos }
+    ensures short { length result.now ≤ 21 }
     ensures exact { IsExactSeconds nanos result.now }
     ensures only { (other : List ℕ) → IsExactSeconds nanos other → other ≡ result.now }
 {
@@ -33,7 +32,7 @@ pub fn exact_seconds(nanos: u64, buf: &mut [u8; 32]) -> &str
 
 // Writes the seconds to the front, and returns where they end.
 fn write_seconds(nanos: u64, buf: &mut [u8; 32]) -> usize
-    ensures within { result ≤ 32 }
+    ensures within { result ≤ 21 }
     ensures written { take result buf.new ≡ exact_seconds nanos }
 {
     let mut digits = Buffer::new();
@@ -48,11 +47,11 @@ fn write_seconds(nanos: u64, buf: &mut [u8; 32]) -> usize
     write_fraction(rest, buf, len + 1)
 }
 
-// Writes the digits behind the point from `start` on, and returns where they end.
+// Writes the digits after the point from `start` on, and returns where they end.
 fn write_fraction(rest: u64, buf: &mut [u8; 32], start: usize) -> usize
     requires small { rest < 10 ^ 9 }
     requires room { start + 9 ≤ 32 }
-    ensures within { result ≤ 32 }
+    ensures within { result ≤ start + 9 }
     ensures written { take result buf.new ≡ take start buf.old ++ fraction_digits 9 rest }
 {
     let mut left = rest;

@@ -9,7 +9,7 @@ use crate::trial::Trial;
 use std::alloc::{AllocError, Global};
 use std::convert::AsStr;
 
-/// What runs a case: its input, and the check that all cases share. It passes where the check returns `Ok`.
+/// What runs a case: its input, and the check that all cases share. It passes if the check returns `Ok`.
 #[derive(Drop)]
 pub struct Case<D: Drop, F: Drop> {
     input: D,

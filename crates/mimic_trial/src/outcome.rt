@@ -1,7 +1,8 @@
 //! What becomes of trials: failures, measurements, outcomes and their counts.
-ghost use Rattle.std.specs.Prelude.{◌≡◌, ◌↔◌, ◌<◌, ◌^◌, ◌-◌, IfOk, IsTrue};
+ghost use Rattle.std.specs.Prelude.{◌≡◌, ◌≢◌, ◌↔◌, ◌<◌, ◌^◌, ◌-◌, IfOk, IsTrue};
 ghost use Rattle.mimic_trial.specs.Count.{counts_of};
 ghost use Rattle.mimic_trial.specs.Promise.{FitsTypes, PromisesOutcome};
+ghost use Rattle.mimic_trial.specs.declared.outcome.Outcome.TheVariants.{Ignored};
 
 pub(crate) mod conclusion;
 pub(crate) mod failed;
@@ -27,7 +28,7 @@ pub enum Outcome {
 }
 
 impl Outcome {
-    /// An equal outcome. An `Err` is the allocator's word that there was no memory for a failure's message.
+    /// A copy. `Err` if there is no memory for a failure's message.
     pub fn try_clone(&self, alloc: Global) -> Result<Self, AllocError>
         ensures { IfOk result (λ o. o ≡ self.now) }
     {
@@ -69,7 +70,7 @@ impl Eq for Outcome {
     ghost laws = { decided same_outcome outcome_decides };
 }
 
-/// What becomes of a test by its answer: it passed where that is `Ok`, and else failed so.
+/// The outcome of a test by its answer: it passed if that is `Ok`, and failed with what an `Err` says.
 impl From<Result<(), Failed>> for Outcome {
     ghost use Rattle.mimic_trial.specs.Promise.{outcome_of_test};
 
@@ -83,13 +84,14 @@ impl From<Result<(), Failed>> for Outcome {
     }
 }
 
-/// Calls the runner once, and returns the outcome of its answer.
+/// Calls the runner once, and returns the outcome of its answer, which is never `Ignored`.
 ///
 /// A test's `Ok` has the outcome `Passed`, and every `Err` the outcome `Failed`. In test mode a
 /// benchmark's `Ok` is `Passed` and a measurement is dropped. In bench mode a measurement is
 /// `Measured`, and a benchmark that measured nothing failed.
 pub fn run_single(runner: Runner, test_mode: bool) -> Outcome
     ensures own { PromisesOutcome runner test_mode result }
+    ensures called { result ≢ Ignored }
     ensures fits { FitsTypes result }
 {
     match runner {
@@ -103,7 +105,7 @@ pub fn run_single(runner: Runner, test_mode: bool) -> Outcome
     }
 }
 
-/// The number of outcomes of each sort, beside the number of trials that were filtered out.
+/// The number of outcomes of each sort, and the number of trials that were filtered out.
 pub fn count_rows(outcomes: &[Outcome], filtered: u64) -> Conclusion
     ensures { result ≡ counts_of outcomes.now filtered }
 {

@@ -1,4 +1,4 @@
-//! What runs a trial: the caller's boxed closure, beside the fact that it may be called.
+//! What runs a trial: the caller's boxed closure, with the fact that it may be called.
 use crate::outcome::failed::Failed;
 use crate::outcome::measurement::Measurement;
 

@@ -7,15 +7,15 @@ use crate::outcome::failed::Failed;
 use crate::outcome::{Outcome, run_single};
 use crate::runner::Runner;
 
-/// What can be run once for an outcome: plain data with an `impl` of the caller's, a closure, or a boxed one.
+/// Something that runs once and yields an outcome: your own type, a closure or a boxed closure.
 ///
-/// An `impl` may say which outcomes it gives, and a report then shows one of these. Where it says nothing, any outcome
-/// may be shown.
+/// An `impl` may say which outcomes it gives, and a report then shows one of these. If it says nothing, a report may show
+/// any outcome, also `Ignored`.
 pub trait Task: Drop {
-    /// Whether it may be run. Where an `impl` says nothing, it always may.
+    /// Whether it may be run. If an `impl` says nothing, it always may.
     ghost can_run: { Self → Type 0 } = { λ _. Unit {0} };
 
-    /// The outcomes that it may give, by whether the mode is the test mode. Where an `impl` says nothing, these are all.
+    /// The outcomes that it may give, by whether the mode is the test mode. If an `impl` says nothing, these are all.
     ghost gives: { Self → Bool → AnOutcome → Type 0 } = { λ _ _ _. Unit {0} };
 
     /// Runs it. In test mode a benchmark is to run its code once, and in bench mode it is to measure.
@@ -34,7 +34,7 @@ impl Task for Runner {
     }
 }
 
-/// A closure that no box holds is a test: it passes where it returns `Ok`.
+/// A closure that no box holds is a test: it passes if it returns `Ok`.
 impl<F: FnOnce() -> Result<(), Failed> + Drop> Task for F {
     ghost use Rattle.mimic_trial.specs.Promise.{outcome_of_test};
 

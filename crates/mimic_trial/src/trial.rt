@@ -13,7 +13,7 @@ pub struct TestInfo {
     pub name: String,
     /// The kind, shown in brackets before the name. Most trials have none: it is empty.
     pub kind: String,
-    /// Whether the trial is ignored where the arguments don't ask for ignored trials.
+    /// Whether the trial is ignored if the arguments don't ask for ignored trials.
     pub is_ignored: bool,
     /// Whether the trial is a benchmark.
     pub is_bench: bool,
@@ -30,7 +30,7 @@ impl Trial {
     ghost use Rattle.mimic_trial.specs.Promise.{PromisesOutcome, outcome_of_test, outcome_of_bench};
     ghost use Rattle.mimic_trial.specs.Trial.{info_of, runner_of};
 
-    /// A test without a kind and without the ignored flag. It passes where the runner answers `Ok`.
+    /// A test without a kind and without the ignored flag. It passes if the runner returns `Ok`.
     pub fn test(name: String, runner: Box<dyn FnOnce() -> Result<(), Failed> + Send>) -> Self
         requires { pre runner }
         ensures name { string_bytes (info_of result).name ≡ string_bytes name }
@@ -46,7 +46,7 @@ impl Trial {
     /// A benchmark without a kind and without the ignored flag.
     ///
     /// In test mode the runner is to run its code once and need not measure. In bench mode it is to
-    /// measure, and the benchmark fails where it answers `Ok(None)`.
+    /// measure, and the benchmark fails if it returns `Ok(None)`.
     pub fn bench(
         name: String,
         runner: Box<dyn FnOnce(bool) -> Result<Option<Measurement>, Failed> + Send>,
@@ -107,7 +107,7 @@ impl<R> Trial<R> {
 
     /// The same trial, marked as ignored or not.
     ///
-    /// An ignored trial is not run where the arguments have neither `ignored` nor `include_ignored`.
+    /// An ignored trial is not run if the arguments have neither `ignored` nor `include_ignored`.
     /// With `ignored`, trials that are not marked are not even selected.
     pub fn with_ignored_flag(mut self, is_ignored: bool) -> Self
         ensures info { info_of result ≡ record (info_of self) { is_ignored = is_ignored } }
@@ -124,7 +124,7 @@ impl<R> Trial<R> {
         self.info.name.as_str()
     }
 
-    /// The kind, empty where none was set.
+    /// The kind, empty if none was set.
     pub fn kind(&self) -> &str
         ensures { result.now ≡ string_bytes (info_of self.now).kind }
     {

@@ -1,4 +1,4 @@
-//! Reads a report in JSON from standard input, and tells its counts in one line.
+//! Reads a report in JSON from standard input, and prints its counts in one line.
 #![tactic(auto)]
 
 use mimic_readreport::{Ending, run_program};

@@ -1,6 +1,7 @@
 //! What no clause says of faults, refused memory, hostile texts and worker threads: which answer comes, how much stands then,
 //! and what was still asked of writers and runners. Lengths, places and texts are worked by hand from the format's rules; a
 //! report that was cut short is compared with the whole one, whose text the tests of whole runs know.
+mod arrivals;
 mod faulty_writer;
 mod lists;
 mod memory;

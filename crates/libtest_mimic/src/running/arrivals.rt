@@ -1,4 +1,4 @@
-//! Writes rows as workers tell them.
+//! Writes rows as workers report them.
 ghost use Rattle.std.specs.Prelude.{◌≡◌, ◌-◌, ◌^◌, ◌<◌, All, OnOk, length, map};
 ghost use Rattle.mimic_printer.specs.Report.{row_text, rows_text};
 ghost use Rattle.mimic_printer.specs.Row.{label_of, row_of, rows_at};
@@ -36,7 +36,7 @@ pub(super) fn write_arrivals<W: Write, T: Wait>(
     Ok(())
 }
 
-// Writes the row of an arrival, where it is the first at its place.
+// Writes the row of an arrival, if it is the first at its place.
 fn write_arrival<W: Write>(
     printer: &Printer,
     infos: &[TestInfo],
@@ -63,7 +63,7 @@ fn write_arrival<W: Write>(
     }
 }
 
-// Writes the rows of these places, which no worker told.
+// Writes the rows of these places, which did not arrive.
 pub(super) fn write_missing<W: Write>(
     printer: &Printer,
     infos: &[TestInfo],

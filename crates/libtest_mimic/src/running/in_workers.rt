@@ -1,14 +1,15 @@
 //! Runs trials in worker threads.
-ghost use Rattle.std.specs.Prelude.{◌≡◌, ◌≢◌, ◌-◌, ◌^◌, ◌<◌, ◌≤◌, [], All, Bool, IfOk, List, MatchResult, length, map, not, vec_capacity, vec_len};
+ghost use Rattle.std.specs.Prelude.{◌≡◌, ◌≢◌, ◌-◌, ◌^◌, ◌<◌, ◌≤◌, [], All, Bool, IfOk, List, MatchResult, length, not, vec_len};
 ghost use Rattle.mimic_printer.specs.Sink.{Put, faults_of, shown};
 ghost use Rattle.mimic_trial.specs.Trial.{AllCanRun};
 ghost use Rattle.mimic_pool.specs.Share.{AllRunners, IsDealt, assigned_from};
+ghost use Rattle.libtest_mimic.specs.Gathering.{Gathered};
 ghost use Rattle.libtest_mimic.specs.Run.{OnNothingWritten, Reports};
-ghost use Rattle.libtest_mimic.specs.Steps.{AreDealt, Gathered, RowsRefused, selected_suite, titled_rows};
+ghost use Rattle.libtest_mimic.specs.Steps.{AreDealt, RowsRefused, selected_suite, titled_rows};
 ghost use Rattle.libtest_mimic.specs.Stopwatch.{IsRunning};
 
 use crate::running::RunError;
-use crate::running::arrivals::{write_arrivals, write_missing};
+use crate::running::gathering::{Started, gather_rows};
 use crate::running::selected::Selected;
 use crate::running::summary::write_summary;
 use crate::select::is_ignored;
@@ -78,8 +79,8 @@ fn take_apart<R: Drop>(
     Ok((infos, shares))
 }
 
-// Runs each share in a worker, and writes the title and the rows: those that arrive, each when it does, and after the
-// workers have been joined those that did not. Returns the order of the rows and the outcome at each place.
+// Runs each share in a worker, and writes the title and the rows. Returns the order of the rows and the outcome at each
+// place.
 //
 // But for copies of messages and the threads themselves, all memory is taken before the title.
 fn write_rows<R: Task + Send + 'static, W: Write, T: Spawner + 'static>(
@@ -107,7 +108,7 @@ fn write_rows<R: Task + Send + 'static, W: Write, T: Spawner + 'static>(
     let inbox = Inbox::new(alloc, count, shares.len())?;
     let starts = prepare(alloc, shares, &inbox)?;
     let handles = Vec::with_capacity(alloc, starts.len())?;
-    let mut desk = Desk::new(alloc, count)?;
+    let desk = Desk::new(alloc, count)?;
     let room = Vec::with_capacity(alloc, count)?;
     printer.print_title(sink, count as u64)?;
     let handles = match start_all(rt, alloc, starts, test_mode, handles) {
@@ -117,28 +118,11 @@ fn write_rows<R: Task + Send + 'static, W: Write, T: Spawner + 'static>(
             return Err(RunError::Spawn);
         }
     };
-    let written = write_arrivals(rt, printer, infos, inbox, &mut desk, sink);
-    let outcomes = join_all(rt, handles, placeholders(room, count));
-    if let Err(place) = desk.settle(&outcomes) {
-        return Err(RunError::Arrival { place });
-    }
-    let told = desk.order().len();
-    let order = desk.into_order();
-    // A write fault waits until here, since an outcome that differs is answered in its place.
-    written?;
-    write_missing(printer, infos, &order[told..], &outcomes, sink)?;
-    Ok((order, outcomes))
-}
-
-// As many outcomes, each of which stands for one that a worker answers. They are put into `room` after the last row was
-// written, when the workers have let go what they ran: so the memory of both is there at once only after a write fault.
-fn placeholders(mut room: Vec<Outcome>, count: usize) -> Vec<Outcome>
-    requires empty { vec_len room ≡ 0 }
-    requires fits { count ≤ vec_capacity room }
-    ensures { vec_len result ≡ count }
-{
-    for _place in 0..count {
-        room.push_reserved(Outcome::Ignored);
-    }
-    room
+    let started = Started {
+        inbox,
+        handles,
+        desk,
+        room,
+    };
+    gather_rows(rt, printer, infos, started, sink)
 }

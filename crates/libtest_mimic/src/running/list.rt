@@ -11,7 +11,7 @@ use mimic_printer::{Printer, Sink};
 use mimic_trial::{Conclusion, Trial};
 use std::io::Write;
 
-// Writes the list of the selected trials, and flushes it. Its answer counts nothing.
+// Writes the list of the selected trials, and flushes it. The counts that it returns are zeros.
 pub(super) fn write_list<R: Drop, W: Write>(
     args: &Arguments,
     tests: Vec<Trial<R>>,

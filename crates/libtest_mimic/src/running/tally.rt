@@ -37,7 +37,7 @@ impl Tally {
         })
     }
 
-    // Counts the outcome, and keeps both where the trial failed.
+    // Counts the outcome, and keeps both if the trial failed.
     pub(crate) fn record(&mut self, info: TestInfo, outcome: Outcome)
         requires counts { HasRoom self.old.conclusion }
         requires room { HasRoomFor self.old (vec_len self.old.failures + 1) }

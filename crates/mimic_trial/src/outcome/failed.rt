@@ -18,7 +18,7 @@ pub struct Failed {
     message: Message,
 }
 
-// What a failure tells. One text is kept without memory.
+// What a failure says. One text is kept without memory.
 #[derive(Drop)]
 enum Message {
     Nothing,
@@ -60,7 +60,7 @@ impl Failed {
 
     /// A failure whose message is what the value displays.
     ///
-    /// It returns an `Err` where an allocation failed, or the value's own `Display`.
+    /// It returns an `Err` if an allocation failed, or the value's own `Display`.
     pub fn from_display<M: Display>(alloc: Global, message: &M) -> Result<Self, AllocError>
         ensures some { IfOk result (λ f. IsSome f) }
         ensures kept { IfOk result (λ f. IfSome (M.output message.now) (λ text. f ≡ Some text)) }
@@ -68,15 +68,15 @@ impl Failed {
         Ok(Failed::with_message(message.to_string(alloc)?))
     }
 
-    /// Likewise where an answer without a failure can't be used, as at the end of a runner: where an allocation failed,
-    /// or the value's own `Display`, the failure has no message.
+    /// Like `from_display`, for callers that need a `Failed` in any case: if an allocation failed, or the value's own
+    /// `Display`, it has no message.
     pub fn because<M: Display>(alloc: Global, reason: &M) -> Self
         ensures { IfSome result (λ text. IfSome (M.output reason.now) (λ shown. text ≡ shown)) }
     {
         Failed::from_display(alloc, reason).unwrap_or(Failed::without_message())
     }
 
-    /// `Ok` where the condition holds, else the failure because of what the value displays.
+    /// `Ok` if the condition holds, else the failure because of what the value displays.
     pub fn unless<M: Display>(alloc: Global, condition: bool, reason: &M) -> Result<(), Self>
         ensures passed { is_ok result ≡ condition }
         ensures failed { IfErr result (λ f. IfSome f (λ text. IfSome (M.output reason.now) (λ shown. text ≡ shown))) }
@@ -88,7 +88,7 @@ impl Failed {
         }
     }
 
-    /// `Ok` where both values are equal, else a failure that shows both, in the words of `assert_eq!`.
+    /// `Ok` if both values are equal, else a failure that shows both, in the words of `assert_eq!`.
     pub fn unless_equal<T: PartialEq + Debug>(
         alloc: Global,
         left: &T,

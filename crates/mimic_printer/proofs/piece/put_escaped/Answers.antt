@@ -17,7 +17,7 @@ returns-in_err-put g c =
 pub returns-in_err-put-2 : goal.returns-in_err-put-2
 returns-in_err-put-2 g c =
     let found = c.in-Some.ensures in
-    let spelled = c.as_bytes.ensures.value ∙ c.as_str.ensures ∙ c.escape_byte.ensures in
+    let spelled = c.as_bytes.ensures.value ∙ c.as_str.ensures.text ∙ c.escape_byte.ensures in
     let P : List ℕ → Type 0 = λ l. Stopped (shown g.W.Write.contents c.put.new.self) (shown g.W.Write.contents c.put-in-Some.new.self) l in
     Puts-stopped _ _ c.from_residual-in_err-put-2.ensures.0
     (Stopped-at _ _ _ _ c.args.text.now c.loop-at.rest.now c.in-Some.at c.loop-at.invariant found.0 (escaped-plain _ found.2) c.in_ok-put.ensures.appends (subst P spelled c.in_err-put-2.ensures.appends))
@@ -25,7 +25,7 @@ returns-in_err-put-2 g c =
 pub loop-at-preserved : goal.loop-at-preserved
 loop-at-preserved g c =
     let found = c.in-Some.ensures in
-    let spelled = c.as_bytes.ensures.value ∙ c.as_str.ensures ∙ c.escape_byte.ensures in
+    let spelled = c.as_bytes.ensures.value ∙ c.as_str.ensures.text ∙ c.escape_byte.ensures in
     let P : List ℕ → Type 0 = λ l. Put (shown g.W.Write.contents c.put.new.self) (shown g.W.Write.contents c.put-in-Some.new.self) l in
     more_escaped _ _ _ _ c.args.text.now c.loop-at.rest.now c.in-Some.at c.loop-at.invariant found.0 (escaped-plain _ found.2) c.in_ok-put.ensures.appends (subst P spelled c.in_ok-put-2.ensures.appends)
 

@@ -1,7 +1,7 @@
-use Rattle.std.proofs.Common.{rules, ◌≡◌, ◌∙◌, ◌++◌, ◌/◌, ◌%◌, ◌^◌, true, false, eqb, [], ◌∷◌, ap, append-nil, append_assoc, decimal}
+use Rattle.std.proofs.Common.{rules, ◌≡◌, ◌∙◌, ◌++◌, ◌/◌, ◌%◌, ◌^◌, arith, length, true, false, eqb, [], ◌∷◌, ap, append-nil, append_assoc, decimal}
 use Rattle.std.proofs.Math.Seq.{take-append_seam}
 use Rattle.mimic_text.specs.Seconds.{exact_seconds, fraction_digits}
-use Rattle.mimic_text.proofs.ExactSeconds.{point_behind}
+use Rattle.mimic_text.proofs.ExactSeconds.{point_behind, whole_short}
 use Rattle.mimic_text.proofs.seconds.write_seconds.Goals as goal
 
 pub returns-then-rest-eq0-clause-written : goal.returns-then-rest-eq0-clause-written
@@ -22,3 +22,13 @@ returns-clause-written c =
     let fraction = fraction_digits 9 (c.args.nanos % 10 ^ 9) in
     let pointed = rw copied at c.write_fraction.ensures.written in
     rw some (pointed ∙ ap (λ l. l ++ fraction) (point_behind front _ (search rules) (search rules)) ∙ append_assoc front (46 ∷ []) fraction ∙ ap (λ l. l ++ 46 ∷ fraction) whole)
+
+pub returns-then-rest-eq0-clause-within : goal.returns-then-rest-eq0-clause-within
+returns-then-rest-eq0-clause-within c =
+    let whole = c.as_bytes-whole.ensures.value ∙ c.format.ensures.text in
+    omega (arith, ap length whole, whole_short c.args.nanos c.ranges.nanos.fits)
+
+pub returns-clause-within : goal.returns-clause-within
+returns-clause-within c =
+    let whole = c.as_bytes-whole.ensures.value ∙ c.format.ensures.text in
+    omega (arith, ap length whole, whole_short c.args.nanos c.ranges.nanos.fits, c.write_fraction.ensures.within)

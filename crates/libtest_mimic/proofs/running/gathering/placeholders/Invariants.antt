@@ -1,5 +1,5 @@
 use Rattle.std.proofs.Common.{◌≡◌, ◌≤◌, vec_capacity, vec_len}
-use Rattle.libtest_mimic.proofs.running.in_workers.placeholders.Given as goal
+use Rattle.libtest_mimic.proofs.running.gathering.placeholders.Given as goal
 
 abbrev pub invariant-loop-place : goal.invariant-loop-place
 invariant-loop-place l = record {
