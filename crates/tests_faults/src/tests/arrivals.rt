@@ -1,25 +1,21 @@
 //! Rows that arrive otherwise than their workers answer.
+ghost use Rattle.std.specs.Prelude.{All};
+ghost use Rattle.libtest_mimic.specs.Share.{AllRunners};
+
 use libtest_mimic::pool::{
-    Desk, Inbox, Reports, Started, deal, gather_rows, join_all, prepare, start_all,
+    Desk, Inbox, Reports, Share, Started, deal, gather_rows, join_all, prepare, start_all,
 };
 use libtest_mimic::printer::Printer;
-use libtest_mimic::{FormatSetting, Outcome, RunError, Sink, TestInfo};
+use libtest_mimic::{FormatSetting, Outcome, RunError, Sink, Spawner, Task, TestInfo};
 use mimic_testkit::{Fault, FaultyWriter, Known, Place};
-use std::alloc::Global;
+use std::alloc::{AllocError, Global};
 use std::test::Fail;
 
 const NAMES: [&str; 4] = ["a", "b", "c", "d"];
 
-// The workers of four tests that pass, of which somebody has reported the last and the second as ignored before they start. What
-// the rows are refused for, and how many faults the sink has counted then.
-fn gather_with_lies(
-    rt: &HostRuntime,
-    alloc: Global,
-    place: Place,
-) -> Result<(Option<usize>, u64), Fail> {
+// Tests of these names, without a kind.
+fn infos_of_all(alloc: Global) -> Result<Vec<TestInfo>, AllocError> {
     let mut infos = Vec::new(alloc);
-    let mut runners = Vec::new(alloc);
-    let mut ignored = Vec::new(alloc);
     for name in NAMES {
         infos.push(TestInfo {
             name: String::from_str(alloc, name)?,
@@ -27,21 +23,39 @@ fn gather_with_lies(
             is_ignored: false,
             is_bench: false,
         })?;
+    }
+    Ok(infos)
+}
+
+// The shares of two workers of so many tests that pass.
+fn shares_of(alloc: Global, tests: usize) -> Result<Vec<Share<Known>>, AllocError> {
+    let mut runners = Vec::new(alloc);
+    for _ in 0..tests {
         runners.push(Known::Passes)?;
-        ignored.push(false)?;
     }
-    if runners.len() != ignored.len() {
-        return Err(Fail::new("a flag for each runner"));
-    }
-    let shares = deal(alloc, runners, ignored, 2)?;
-    let inbox = Inbox::new(alloc, infos.len(), shares.len())?;
-    let mut lies = inbox.reports(*rt, alloc)?;
-    assert!(*rt; lies.tell(3, &Outcome::Ignored).is_ok());
-    assert!(*rt; lies.tell(1, &Outcome::Ignored).is_ok());
-    let starts = prepare(alloc, shares, &inbox)?;
-    let desk = Desk::new(alloc, infos.len())?;
+    let ignored = vec![in alloc; false; runners.len()]?;
+    deal(alloc, runners, ignored, 2)
+}
+
+// Somebody reports the last and the second test as ignored before their workers start. The place that the rows are refused
+// for, and how many faults the sink has counted then.
+fn gather_with_lies<T: Task + Send + 'static, R: Spawner + 'static>(
+    rt: &R,
+    alloc: Global,
+    infos: &[TestInfo],
+    shares: Vec<Share<T>>,
+    place: Place,
+) -> Result<(Option<usize>, u64), Fail>
+    requires { All (λ share. AllRunners T.can_run share) shares.items }
+{
     let room = Vec::with_capacity(alloc, infos.len())?;
-    let handles = Vec::with_capacity(alloc, starts.len())?;
+    let handles = Vec::with_capacity(alloc, shares.len())?;
+    let desk = Desk::new(alloc, infos.len())?;
+    let inbox = Inbox::new(alloc, infos.len(), shares.len())?;
+    let starts = prepare(alloc, shares, &inbox)?;
+    let mut lies = inbox.reports(*rt, alloc)?;
+    let _ = lies.tell(3, &Outcome::Ignored);
+    let _ = lies.tell(1, &Outcome::Ignored);
     let handles = match start_all(rt, alloc, starts, true, handles) {
         Ok(handles) => handles,
         Err(started) => {
@@ -57,18 +71,22 @@ fn gather_with_lies(
     };
     let printer = Printer::new(FormatSetting::Json, false, 0, 0);
     let mut sink = Sink::new(FaultyWriter::new(alloc).failing(place, Fault::TakesNone));
-    let differs = match gather_rows(rt, &printer, &infos, started, &mut sink) {
+    let differs = match gather_rows(rt, &printer, infos, started, &mut sink) {
         Err(RunError::Arrival { place }) => Some(place),
         _ => None,
     };
     Ok((differs, sink.faults()))
 }
 
-// The least place that differs is named, and not the first to arrive; after a write fault too.
+// The least place that differs is named, and not the first to arrive; also after a write fault, here in the second row.
 #[test]
 fn names_the_least_place_that_differs(rt: HostRuntime) -> Result<(), Fail> {
     let alloc = rt.alloc();
-    assert_eq!(rt; gather_with_lies(&rt, alloc, Place::Nowhere)?, (Some(1), 0));
-    assert_eq!(rt; gather_with_lies(&rt, alloc, Place::Byte(0))?, (Some(1), 1));
+    let infos = infos_of_all(alloc)?;
+    for (place, faults) in [(Place::Nowhere, 0), (Place::Write(3), 1)] {
+        let shares = shares_of(alloc, infos.len())?;
+        let left = gather_with_lies(&rt, alloc, &infos, shares, place)?;
+        assert_eq!(rt; left, (Some(1), faults));
+    }
     Ok(())
 }
