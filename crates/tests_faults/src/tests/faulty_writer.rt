@@ -9,6 +9,14 @@ type Answer = Result<usize, ErrorKind>;
 
 pub(super) const FULL: Fault = Fault::Error(ErrorKind::StorageFull);
 
+// How a call fails, and whether each call after it fails likewise.
+pub(super) const FAULTS: [(Fault, bool); 4] = [
+    (FULL, false),
+    (FULL, true),
+    (Fault::Error(ErrorKind::Interrupted), false),
+    (Fault::TakesNone, false),
+];
+
 fn answer(called: io::Result<usize>) -> Answer {
     called.map_err(|error| error.kind())
 }

@@ -1,4 +1,5 @@
 //! Lists into writers that fail.
+use super::faulty_writer::FAULTS;
 use super::runs::{asking, run_into};
 use libtest_mimic::{FormatSetting, Outcome, Task, TestInfo, Trial};
 use mimic_testkit::{Fault, FaultyWriter, Place};
@@ -58,21 +59,26 @@ fn may_stand(place: Place, len: usize) -> bool {
     }
 }
 
-// A list in each format, into a writer of which one call fails, in each way at each byte, write and flush, and which is
-// well again. There is one flush, behind the whole list.
+// The threads that a list has no use for, and the most bytes that a write takes.
+const LISTED: [(Option<usize>, usize); 4] = [(None, 1), (None, 3), (Some(2), 1), (Some(2), 3)];
+
+// A list, for which JSON is asked, into a writer of which one call fails, in each way at each byte,
+// write and flush, and which is well again or fails for ever. There is one flush, behind the whole
+// list, and nothing is asked of the writer after its fault.
 #[test]
 fn stops_a_list_at_each_place(rt: HostRuntime) -> Result<(), Fail> {
     let alloc = rt.alloc();
-    for threads in [None, Some(2)] {
+    for (threads, most) in LISTED {
         let mut args = asking(alloc, FormatSetting::Json, threads);
         args.list = true;
-        let ample = FaultyWriter::new(alloc).taking(3);
+        let ample = FaultyWriter::new(alloc).taking(most);
         let ample = run_into(&rt, alloc, &args, all_listed(alloc)?, ample).writer;
         assert!(rt; ample.bytes.as_slice() == LIST);
         assert_eq!(rt; ample.flushes, 1);
         for place in ample.places(alloc)? {
-            for fault in Fault::ALL {
-                let writer = FaultyWriter::new(alloc).taking(3).failing(place, fault);
+            for (fault, lasts) in FAULTS {
+                let mut writer = FaultyWriter::new(alloc).taking(most).failing(place, fault);
+                writer.lasts = lasts;
                 let left = run_into(&rt, alloc, &args, all_listed(alloc)?, writer);
                 assert!(rt;
                     left.is_stopped_by(Some(told_at(place, fault))),

@@ -1,4 +1,4 @@
-//! Names and messages that look like other parts of a report: what is written of them, and what is read back.
+//! Names, kinds and messages that look like other parts of a report: what is written of them, and what is read back.
 use super::runs::{asking, marking, outcome_with, run_into};
 use libtest_mimic::{FormatSetting, Outcome, Spawner};
 use mimic_events::{Feed, Report, read_report};
@@ -6,12 +6,15 @@ use mimic_testkit::FaultyWriter;
 use std::alloc::{AllocError, Global};
 use std::test::Fail;
 
-// A name, the message of a failure, and how both stand in the lines of the trial: the name, and what follows `"event": `.
+// A name, a kind, the message of a failure, and how they stand in the lines of the trial: the name, the part of the kind, and
+// what follows `"event": `.
 #[derive(Clone, Copy)]
 struct Vector {
     name: &'static str,
+    kind: &'static str,
     message: Option<&'static str>,
     written: &'static str,
+    kind_written: &'static str,
     event: &'static str,
 }
 
@@ -25,41 +28,60 @@ const CONTROLS_WRITTEN: &str =
 const VECTORS: [Vector; 6] = [
     Vector {
         name: r#"{ "type": "test", "name": "x", "event": "ok" }"#,
+        kind: r#"k", "event": "ok" }"#,
         message: None,
         written: r#"{ \"type\": \"test\", \"name\": \"x\", \"event\": \"ok\" }"#,
+        kind_written: r#", "kind": "k\", \"event\": \"ok\" }""#,
         event: r#""ok""#,
     },
     Vector {
         name: "a",
+        kind: "\"",
         message: Some("\""),
         written: "a",
+        kind_written: r#", "kind": "\"""#,
         event: r#""failed", "stdout": "Error: \"\"\"\n""#,
     },
     Vector {
         name: "a",
+        kind: "] a ... ok\ntest [",
         message: Some("\"\n"),
         written: "a",
+        kind_written: r#", "kind": "] a ... ok\ntest [""#,
         event: r#""failed", "stdout": "Error: \"\"\n\"\n""#,
     },
     Vector {
         name: "a",
+        kind: "\\",
         message: Some("\\"),
         written: "a",
+        kind_written: r#", "kind": "\\""#,
         event: r#""failed", "stdout": "Error: \"\\\"\n""#,
     },
     Vector {
         name: CONTROLS,
+        kind: "\0\u{8}\u{b}\u{1f}",
         message: None,
         written: CONTROLS_WRITTEN,
+        kind_written: r#", "kind": "\u0000\b\u000b\u001f""#,
         event: r#""ok""#,
     },
     Vector {
         name: "\u{1f600}",
+        kind: "/\u{7f}\u{e9}",
         message: None,
         written: "\u{1f600}",
+        kind_written: ", \"kind\": \"/\u{7f}\u{e9}\"",
         event: r#""ok""#,
     },
 ];
+
+// The same trial with no kind.
+fn without_kind(mut vector: Vector) -> Vector {
+    vector.kind = "";
+    vector.kind_written = "";
+    vector
+}
 
 const PASSED: &str = r#" }
 { "type": "suite", "event": "ok", "passed": 1, "failed": 0, "ignored": 0, "measured": 0, "filtered_out": 0, "exec_time": 0 }
@@ -76,9 +98,13 @@ fn four_lines(alloc: Global, vector: Vector) -> Result<String, AllocError> {
         "{ \"type\": \"suite\", \"event\": \"started\", \"test_count\": 1 }\n",
         "{ \"type\": \"test\", \"event\": \"started\", \"name\": \"",
         vector.written,
-        "\" }\n{ \"type\": \"test\", \"name\": \"",
+        "\"",
+        vector.kind_written,
+        " }\n{ \"type\": \"test\", \"name\": \"",
         vector.written,
-        "\", \"event\": ",
+        "\"",
+        vector.kind_written,
+        ", \"event\": ",
         vector.event,
         if vector.message.is_some() {
             FAILED
@@ -86,6 +112,49 @@ fn four_lines(alloc: Global, vector: Vector) -> Result<String, AllocError> {
             PASSED
         },
     ] {
+        text.push_str(part)?;
+    }
+    Ok(text)
+}
+
+const SHOWN_PASSED: &str =
+    "\ntest result: ok. 1 passed; 0 failed; 0 ignored; 0 measured; 0 filtered out; finished in 0.00s\n\n";
+
+const SHOWN_FAILED: &str =
+    "\n\ntest result: FAILED. 0 passed; 1 failed; 0 ignored; 0 measured; 0 filtered out; finished in 0.00s\n\n";
+
+// The report of a run of this one trial in pretty, where all texts stand as they are.
+fn shown(alloc: Global, vector: Vector) -> Result<String, AllocError> {
+    let [opening, closing] = if vector.kind.is_empty() {
+        ["", ""]
+    } else {
+        ["[", "] "]
+    };
+    let announcement = [
+        "\nrunning 1 test\ntest ",
+        opening,
+        vector.kind,
+        closing,
+        vector.name,
+        " ... ",
+    ];
+    let end = match vector.message {
+        None => ["ok\n", "", "", "", "", "", SHOWN_PASSED],
+        Some(message) => [
+            "FAILED\n\nfailures:\n\n---- ",
+            vector.name,
+            " ----\n",
+            message,
+            "\n\n\nfailures:\n    ",
+            vector.name,
+            SHOWN_FAILED,
+        ],
+    };
+    let mut text = String::new(alloc);
+    for part in announcement {
+        text.push_str(part)?;
+    }
+    for part in end {
         text.push_str(part)?;
     }
     Ok(text)
@@ -100,17 +169,19 @@ fn fed(alloc: Global, bytes: &[u8]) -> Result<Option<Report>, AllocError> {
     feed.finish()
 }
 
-// What a run of this one trial writes in JSON.
+// What a run of this one trial writes.
 fn written<T: Spawner + 'static>(
     rt: &T,
     alloc: Global,
     vector: Vector,
+    format: FormatSetting,
     threads: Option<usize>,
 ) -> Result<Vec<u8>, AllocError> {
     let outcome = outcome_with(alloc, vector.message)?;
     let (trial, _) = marking(alloc, vector.name, outcome)?;
-    let args = asking(alloc, FormatSetting::Json, threads);
-    let tests = vec![in alloc; trial]?;
+    let kind = String::from_str(alloc, vector.kind)?;
+    let args = asking(alloc, format, threads);
+    let tests = vec![in alloc; trial.with_kind(kind)]?;
     Ok(
         run_into(rt, alloc, &args, tests, FaultyWriter::new(alloc))
             .writer
@@ -119,9 +190,13 @@ fn written<T: Spawner + 'static>(
 }
 
 // Whether the report has one row, of this trial.
-fn is_of_one(report: Option<Report>, name: &str, outcome: &Outcome) -> bool {
+fn is_of_one(report: Option<Report>, vector: Vector, outcome: &Outcome) -> bool {
     match report.as_ref().map(|report| report.rows.as_slice()) {
-        Some([row]) => row.name.as_str() == name && row.outcome == *outcome,
+        Some([row]) => {
+            row.name.as_str() == vector.name
+                && row.kind.as_str() == vector.kind
+                && row.outcome == *outcome
+        }
         _ => false,
     }
 }
@@ -131,14 +206,30 @@ fn is_of_one(report: Option<Report>, name: &str, outcome: &Outcome) -> bool {
 fn reads_back_hostile_texts(rt: HostRuntime) -> Result<(), Fail> {
     let alloc = rt.alloc();
     assert_eq!(rt; (CONTROLS.len(), CONTROLS_WRITTEN.len()), (32, 172));
-    for vector in VECTORS {
-        for threads in [None, Some(2)] {
-            let outcome = outcome_with(alloc, vector.message)?;
-            let written = written(&rt, alloc, vector, threads)?;
-            let bytes = written.as_slice();
-            assert!(rt; bytes == four_lines(alloc, vector)?.as_str().as_bytes());
-            assert!(rt; is_of_one(read_report(alloc, bytes)?, vector.name, &outcome));
-            assert!(rt; is_of_one(fed(alloc, bytes)?, vector.name, &outcome));
+    for full in VECTORS {
+        for vector in [full, without_kind(full)] {
+            for threads in [None, Some(2)] {
+                let outcome = outcome_with(alloc, vector.message)?;
+                let written = written(&rt, alloc, vector, FormatSetting::Json, threads)?;
+                let bytes = written.as_slice();
+                assert!(rt; bytes == four_lines(alloc, vector)?.as_str().as_bytes());
+                assert!(rt; is_of_one(read_report(alloc, bytes)?, vector, &outcome));
+                assert!(rt; is_of_one(fed(alloc, bytes)?, vector, &outcome));
+            }
+        }
+    }
+    Ok(())
+}
+
+#[test]
+fn shows_hostile_texts(rt: HostRuntime) -> Result<(), Fail> {
+    let alloc = rt.alloc();
+    for full in VECTORS {
+        for vector in [full, without_kind(full)] {
+            for threads in [None, Some(2)] {
+                let bytes = written(&rt, alloc, vector, FormatSetting::Pretty, threads)?;
+                assert!(rt; bytes.as_slice() == shown(alloc, vector)?.as_str().as_bytes());
+            }
         }
     }
     Ok(())

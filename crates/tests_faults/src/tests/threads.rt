@@ -1,4 +1,5 @@
 //! Runs in worker threads: that workers run at the same time, that rows come as trials end, and runs without a thread.
+use super::writers::TWO_PASSING;
 use libtest_mimic::{
     Arguments, Conclusion, Failed, FormatSetting, Outcome, RunError, Sink, Spawner, Stopwatch,
     Task, Trial, run,
@@ -6,6 +7,7 @@ use libtest_mimic::{
 use mimic_testkit::TwoReadings;
 use std::alloc::{AllocError, Global};
 use std::io::Write;
+use std::process::ExitCode;
 use std::rt::Clock;
 use std::sync::Arc;
 use std::sync::atomic::{AtomicBool, Ordering};
@@ -246,33 +248,31 @@ fn writes_rows_in_the_order_of_ends(rt: HostRuntime) -> Result<(), Fail> {
     Ok(())
 }
 
-const PAIRS: [&str; 2] = [
-    r#"{ "type": "test", "event": "started", "name": "a" }
-{ "type": "test", "name": "a", "event": "ok" }
-{ "type": "test", "event": "started", "name": "b" }
-{ "type": "test", "name": "b", "event": "ok" }
-"#,
-    r#"{ "type": "test", "event": "started", "name": "b" }
-{ "type": "test", "name": "b", "event": "ok" }
-{ "type": "test", "event": "started", "name": "a" }
-{ "type": "test", "name": "a", "event": "ok" }
-"#,
-];
-
+// Two trials that meet, by two workers and where there may be as many as can be counted: the whole
+// report, in which the lines of each trial stand together, and the counts.
 #[test]
 fn keeps_pairs_of_lines_together(rt: HostRuntime) -> Result<(), Fail> {
     let alloc = rt.alloc();
-    let (_, bytes) = run_by(
-        &rt,
-        alloc,
-        2,
-        FormatSetting::Json,
-        that_meet(rt, alloc, &[TURNS; 2])?,
-    )?;
-    let lines = str::from_utf8(&bytes)?;
-    let (_, pairs) = lines.split_once('\n').ok_or("one line")?;
-    assert!(rt; pairs.starts_with(PAIRS[0]) || pairs.starts_with(PAIRS[1]));
-    assert_eq!(rt; lines.lines().count(), 6);
+    for threads in [2, usize::MAX] {
+        let tests = that_meet(rt, alloc, &[TURNS; 2])?;
+        let (conclusion, bytes) = run_by(&rt, alloc, threads, FormatSetting::Json, tests)?;
+        assert!(rt;
+            TWO_PASSING
+                .iter()
+                .any(|text| text.as_bytes() == bytes.as_slice())
+        );
+        assert_eq!(rt;
+            conclusion,
+            Conclusion {
+                num_filtered_out: 0,
+                num_passed: 2,
+                num_failed: 0,
+                num_ignored: 0,
+                num_measured: 0,
+            }
+        );
+        assert!(rt; conclusion.exit_code() == ExitCode::from(0));
+    }
     Ok(())
 }
 

@@ -1,22 +1,42 @@
 //! Writers that fail: what they hold then, what a run returns, and which runners were called.
-use super::faulty_writer::FULL;
+use super::faulty_writer::{FAULTS, FULL};
 use super::runs::{Left, Marks, asking, marking, outcome_with, run_into};
 use libtest_mimic::{FormatSetting, Outcome, Sink, Spawner, Trial, WriteFault};
 use mimic_testkit::{Fault, FaultyWriter, Place};
 use std::alloc::{AllocError, Global};
+use std::io::ErrorKind;
 use std::sync::Arc;
 use std::sync::atomic::{AtomicBool, Ordering};
 use std::test::Fail;
 
-// A report of two tests, the second of which passes or fails with a message: where its two rows begin and end, after how
-// many bytes each test runs with one thread, which is where its announcement has ended; where its summary begins, and where
-// it ends. The text is that which a run writes without a fault.
+// A text of four parts, and the same with the second and the third the other way round.
+macro_rules! in_both_orders {
+    ($title:literal, $first:literal, $second:literal, $end:literal) => {
+        [
+            concat!($title, $first, $second, $end),
+            concat!($title, $second, $first, $end),
+        ]
+    };
+}
+
+// The reports of two passing tests in JSON.
+pub(super) const TWO_PASSING: [&str; 2] = in_both_orders!(
+    "{ \"type\": \"suite\", \"event\": \"started\", \"test_count\": 2 }\n",
+    "{ \"type\": \"test\", \"event\": \"started\", \"name\": \"a\" }\n{ \"type\": \"test\", \"name\": \"a\", \"event\": \"ok\" }\n",
+    "{ \"type\": \"test\", \"event\": \"started\", \"name\": \"b\" }\n{ \"type\": \"test\", \"name\": \"b\", \"event\": \"ok\" }\n",
+    "{ \"type\": \"suite\", \"event\": \"ok\", \"passed\": 2, \"failed\": 0, \"ignored\": 0, \"measured\": 0, \"filtered_out\": 0, \"exec_time\": 0 }\n"
+);
+
+// A report of two tests, the second of which passes or fails with a message: its text, and that in which its rows stand the
+// other way round; where its rows begin; after how many bytes each test runs with one thread, which is where its announcement
+// has ended; where its summary begins, and where it ends.
 #[derive(Clone, Copy)]
 struct Report {
     format: FormatSetting,
     names: [&'static str; 2],
     message: Option<&'static str>,
-    rows_at: [usize; 3],
+    texts: [&'static str; 2],
+    rows_at: usize,
     runs_at: [usize; 2],
     summary_at: usize,
     len: usize,
@@ -26,7 +46,13 @@ const PRETTY: Report = Report {
     format: FormatSetting::Pretty,
     names: ["succeeding_test", "failing_test"],
     message: Some("Woops"),
-    rows_at: [17, 45, 77],
+    texts: in_both_orders!(
+        "\nrunning 2 tests\n",
+        "test succeeding_test ... ok\n",
+        "test failing_test    ... FAILED\n",
+        "\nfailures:\n\n---- failing_test ----\nWoops\n\n\nfailures:\n    failing_test\n\ntest result: FAILED. 1 passed; 1 failed; 0 ignored; 0 measured; 0 filtered out; finished in 0.00s\n\n"
+    ),
+    rows_at: 17,
     runs_at: [42, 70],
     summary_at: 147,
     len: 247,
@@ -36,7 +62,13 @@ const TERSE: Report = Report {
     format: FormatSetting::Terse,
     names: ["succeeding_test", "failing_test"],
     message: Some("Woops"),
-    rows_at: [17, 18, 19],
+    texts: in_both_orders!(
+        "\nrunning 2 tests\n",
+        ".",
+        "F",
+        "\nfailures:\n\n---- failing_test ----\nWoops\n\n\nfailures:\n    failing_test\n\ntest result: FAILED. 1 passed; 1 failed; 0 ignored; 0 measured; 0 filtered out; finished in 0.00s\n\n"
+    ),
+    rows_at: 17,
     runs_at: [17, 18],
     summary_at: 89,
     len: 189,
@@ -46,7 +78,13 @@ const JSON: Report = Report {
     format: FormatSetting::Json,
     names: ["succeeding_test", "failing_test"],
     message: Some("Woops"),
-    rows_at: [57, 184, 341],
+    texts: in_both_orders!(
+        "{ \"type\": \"suite\", \"event\": \"started\", \"test_count\": 2 }\n",
+        "{ \"type\": \"test\", \"event\": \"started\", \"name\": \"succeeding_test\" }\n{ \"type\": \"test\", \"name\": \"succeeding_test\", \"event\": \"ok\" }\n",
+        "{ \"type\": \"test\", \"event\": \"started\", \"name\": \"failing_test\" }\n{ \"type\": \"test\", \"name\": \"failing_test\", \"event\": \"failed\", \"stdout\": \"Error: \\\"Woops\\\"\\n\" }\n",
+        "{ \"type\": \"suite\", \"event\": \"failed\", \"passed\": 1, \"failed\": 1, \"ignored\": 0, \"measured\": 0, \"filtered_out\": 0, \"exec_time\": 0 }\n"
+    ),
+    rows_at: 57,
     runs_at: [123, 247],
     summary_at: 341,
     len: 470,
@@ -56,7 +94,8 @@ const JSON_OF_PASSING: Report = Report {
     format: FormatSetting::Json,
     names: ["a", "b"],
     message: None,
-    rows_at: [57, 156, 255],
+    texts: TWO_PASSING,
+    rows_at: 57,
     runs_at: [109, 208],
     summary_at: 255,
     len: 380,
@@ -89,51 +128,32 @@ fn run_two<T: Spawner + 'static>(
     Ok((left, ran))
 }
 
-// The text of the report, and that in which its rows stand the other way round.
-fn texts<T: Spawner + 'static>(
-    rt: &T,
-    alloc: Global,
-    report: Report,
-) -> Result<[Vec<u8>; 2], Fail> {
-    let (left, _) = run_two(rt, alloc, report, None, FaultyWriter::new(alloc))?;
-    let text = left.writer.bytes;
-    let [first, second, end] = report.rows_at;
-    let mut swapped = Vec::new(alloc);
-    for (from, to) in [
-        (0, first),
-        (second, end),
-        (first, second),
-        (end, text.len()),
-    ] {
-        swapped.extend_from_slice(text.get(from..to).unwrap_or(&[]))?;
-    }
-    Ok([text, swapped])
-}
-
-// The runs by one thread: their report, the most bytes that a write takes, and the number of threads.
-const BY_ONE_THREAD: [(Report, usize, Option<usize>); 7] = [
-    (PRETTY, 1, None),
-    (PRETTY, 1, Some(1)),
-    (PRETTY, usize::MAX, None),
-    (TERSE, 1, None),
-    (TERSE, usize::MAX, Some(1)),
-    (JSON, 1, None),
-    (JSON, usize::MAX, Some(1)),
+// The runs by one thread: their report, the most bytes that a write takes, the number of threads, and how many of the faults
+// are tried.
+const BY_ONE_THREAD: [(Report, usize, Option<usize>, usize); 7] = [
+    (PRETTY, 1, None, 1),
+    (PRETTY, 1, Some(1), 1),
+    (PRETTY, usize::MAX, None, 4),
+    (TERSE, 1, None, 1),
+    (TERSE, usize::MAX, Some(1), 4),
+    (JSON, 1, None, 1),
+    (JSON, usize::MAX, Some(1), 4),
 ];
 
-// After a fault what came before it stands and nothing more is asked of the writer, though that is well again; the
+// After a fault what came before it stands and nothing more is asked of the writer, be that well again or not; the
 // watch runs on if the summary had not begun.
 #[test]
 fn stops_at_each_byte(rt: HostRuntime) -> Result<(), Fail> {
     let alloc = rt.alloc();
-    for (report, most, threads) in BY_ONE_THREAD {
-        let [text, _] = texts(&rt, alloc, report)?;
+    for (report, most, threads, faults) in BY_ONE_THREAD {
+        let text = report.texts[0].as_bytes();
         assert_eq!(rt; text.len(), report.len);
-        for fault in Fault::ALL {
+        for (fault, lasts) in FAULTS.into_iter().take(faults) {
             for room in 0..=report.len {
-                let writer = FaultyWriter::new(alloc)
+                let mut writer = FaultyWriter::new(alloc)
                     .taking(most)
                     .failing(Place::Byte(room), fault);
+                writer.lasts = lasts;
                 let (left, ran) = run_two(&rt, alloc, report, threads, writer)?;
                 let fault = (room < report.len).then_some(fault);
                 assert!(rt; left.is_stopped_by(fault), "at {room}");
@@ -149,61 +169,78 @@ fn stops_at_each_byte(rt: HostRuntime) -> Result<(), Fail> {
     Ok(())
 }
 
+// How a flush fails.
+const FLUSH_FAULTS: [Fault; 3] = [
+    FULL,
+    Fault::Error(ErrorKind::BrokenPipe),
+    Fault::Error(ErrorKind::Interrupted),
+];
+
 // Pretty flushes after each announcement and once at the end, the others once at the end: the flush that fails, how many
 // bytes stand then, and which tests ran.
+const FLUSHES: [(Report, u64, usize, [bool; 2]); 5] = [
+    (PRETTY, 1, 42, [false, false]),
+    (PRETTY, 2, 70, [true, false]),
+    (PRETTY, 3, 247, [true, true]),
+    (TERSE, 1, 189, [true, true]),
+    (JSON, 1, 470, [true, true]),
+];
+
 #[test]
 fn stops_at_each_flush(rt: HostRuntime) -> Result<(), Fail> {
     let alloc = rt.alloc();
-    for (report, flush, len, want) in [
-        (PRETTY, 1, 42, [false, false]),
-        (PRETTY, 2, 70, [true, false]),
-        (PRETTY, 3, 247, [true, true]),
-        (TERSE, 1, 189, [true, true]),
-        (JSON, 1, 470, [true, true]),
-    ] {
-        let [text, _] = texts(&rt, alloc, report)?;
-        let writer = FaultyWriter::new(alloc).failing(Place::Flush(flush), FULL);
-        let (left, ran) = run_two(&rt, alloc, report, None, writer)?;
-        assert!(rt; left.is_stopped_by(Some(FULL)), "flush {flush}");
-        assert!(rt;
-            text.get(..len) == Some(left.writer.bytes.as_slice()),
-            "flush {flush}"
-        );
-        assert_eq!(rt; left.is_running, len < report.summary_at, "flush {flush}");
-        assert_eq!(rt; ran, want, "flush {flush}");
+    for (report, flush, len, want) in FLUSHES {
+        for fault in FLUSH_FAULTS {
+            for threads in [None, Some(1)] {
+                let writer = FaultyWriter::new(alloc).failing(Place::Flush(flush), fault);
+                let (left, ran) = run_two(&rt, alloc, report, threads, writer)?;
+                let bytes = left.writer.bytes.as_slice();
+                assert!(rt; left.is_stopped_by(Some(fault)), "flush {flush}");
+                assert!(rt; report.texts[0].as_bytes().get(..len) == Some(bytes));
+                assert_eq!(rt; left.is_running, len < report.summary_at, "flush {flush}");
+                assert_eq!(rt; ran, want, "flush {flush}");
+            }
+        }
     }
     Ok(())
 }
 
-// Whether the bytes are a beginning of one of the two texts.
-fn begin_one(texts: &[Vec<u8>; 2], bytes: &[u8]) -> bool {
-    texts.iter().any(|text| text.starts_with(bytes))
+// Whether the bytes are a beginning of the report, with its rows in either order.
+fn begin_one(report: Report, bytes: &[u8]) -> bool {
+    report
+        .texts
+        .iter()
+        .any(|text| text.as_bytes().starts_with(bytes))
 }
+
+// The runs by two workers: their report, the most bytes that a write takes, and how many of the faults are tried.
+const BY_WORKERS: [(Report, usize, usize); 5] = [
+    (PRETTY, 1, 1),
+    (PRETTY, usize::MAX, 4),
+    (TERSE, 1, 1),
+    (JSON_OF_PASSING, 1, 1),
+    (JSON_OF_PASSING, usize::MAX, 4),
+];
 
 // With two workers the rows stand in the one order or the other; all else is as with one thread, but both tests run once
 // the title is written.
 #[test]
 fn stops_workers_at_each_byte(rt: HostRuntime) -> Result<(), Fail> {
     let alloc = rt.alloc();
-    for (report, most) in [
-        (PRETTY, 1),
-        (PRETTY, usize::MAX),
-        (TERSE, 1),
-        (JSON_OF_PASSING, usize::MAX),
-    ] {
-        let texts = texts(&rt, alloc, report)?;
-        for fault in Fault::ALL {
+    for (report, most, faults) in BY_WORKERS {
+        for (fault, lasts) in FAULTS.into_iter().take(faults) {
             for room in 0..=report.len {
-                let writer = FaultyWriter::new(alloc)
+                let mut writer = FaultyWriter::new(alloc)
                     .taking(most)
                     .failing(Place::Byte(room), fault);
+                writer.lasts = lasts;
                 let (left, ran) = run_two(&rt, alloc, report, Some(2), writer)?;
                 let fault = (room < report.len).then_some(fault);
                 assert!(rt; left.is_stopped_by(fault), "at {room}");
                 assert_eq!(rt; left.writer.bytes.len(), room);
-                assert!(rt; begin_one(&texts, &left.writer.bytes), "at {room}");
+                assert!(rt; begin_one(report, &left.writer.bytes), "at {room}");
                 assert_eq!(rt; left.is_running, room < report.summary_at, "at {room}");
-                assert_eq!(rt; ran, [room >= report.rows_at[0]; 2], "at {room}");
+                assert_eq!(rt; ran, [room >= report.rows_at; 2], "at {room}");
             }
         }
     }
@@ -216,19 +253,20 @@ fn stops_workers_at_each_byte(rt: HostRuntime) -> Result<(), Fail> {
 fn stops_workers_at_each_flush(rt: HostRuntime) -> Result<(), Fail> {
     let alloc = rt.alloc();
     for (report, flushes) in [(PRETTY, 3), (TERSE, 1), (JSON_OF_PASSING, 1)] {
-        let texts = texts(&rt, alloc, report)?;
-        for flush in 1..=flushes + 1 {
-            let writer = FaultyWriter::new(alloc).failing(Place::Flush(flush), FULL);
-            let (left, ran) = run_two(&rt, alloc, report, Some(2), writer)?;
-            let bytes = left.writer.bytes.as_slice();
-            assert!(rt;
-                left.is_stopped_by((flush <= flushes).then_some(FULL)),
-                "flush {flush}"
-            );
-            assert!(rt; begin_one(&texts, bytes), "flush {flush}");
-            assert_eq!(rt; flush >= flushes, bytes.len() == report.len);
-            assert!(rt; flush >= flushes || bytes.ends_with(b" ... "));
-            assert_eq!(rt; ran, [true, true]);
+        for fault in FLUSH_FAULTS {
+            for flush in 1..=flushes + 1 {
+                let writer = FaultyWriter::new(alloc).failing(Place::Flush(flush), fault);
+                let (left, ran) = run_two(&rt, alloc, report, Some(2), writer)?;
+                let bytes = left.writer.bytes.as_slice();
+                assert!(rt;
+                    left.is_stopped_by((flush <= flushes).then_some(fault)),
+                    "flush {flush}"
+                );
+                assert!(rt; begin_one(report, bytes), "flush {flush}");
+                assert_eq!(rt; flush >= flushes, bytes.len() == report.len);
+                assert!(rt; flush >= flushes || bytes.ends_with(b" ... "));
+                assert_eq!(rt; ran, [true, true]);
+            }
         }
     }
     Ok(())

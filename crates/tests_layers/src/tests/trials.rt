@@ -1,5 +1,5 @@
 //! Trials and outcomes: calls one by one, with what no run shows of them.
-use mimic_trial::{BenchRunner, Failed, Measurement, Outcome, Runner, Trial, run_single};
+use mimic_trial::{BenchRunner, Failed, Measurement, Outcome, Runner, run_single};
 use std::fmt;
 use std::test::Fail;
 
@@ -32,28 +32,8 @@ fn copies_outcomes(rt: HostRuntime) -> Result<(), Fail> {
 }
 
 #[test]
-fn shows_values(rt: HostRuntime) -> Result<(), Fail> {
-    let alloc = rt.alloc();
-    let trial = Trial::new(String::from_str(alloc, "a")?, ());
-    assert_eq!(rt;
-        format!(in alloc; "{trial:?}")?.as_str(),
-        "Test { runner: <runner>, name: \"a\", kind: \"\", is_ignored: false, is_bench: false }"
-    );
-    let kept = Failed::with_message(String::from_str(alloc, "x")?);
-    let texts = [
-        (
-            format!(in alloc; "{kept:?}")?,
-            "Failed { msg: Some(\"x\") }",
-        ),
-        (
-            format!(in alloc; "{:?}", Failed::without_message())?,
-            "Failed { msg: None }",
-        ),
-    ];
-    for (text, want) in &texts {
-        assert_eq!(rt; text.as_str(), *want);
-    }
-    let failed = Failed::with_message(String::from_str(alloc, "x")?);
+fn tells_failures_apart(rt: HostRuntime) -> Result<(), Fail> {
+    let failed = Failed::with_message(String::from_str(rt.alloc(), "x")?);
     assert_eq!(rt; failed.message(), Some("x"));
     assert!(rt; failed != Failed::without_message());
     assert!(rt; Failed::without_message() == Failed::without_message());

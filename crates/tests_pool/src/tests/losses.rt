@@ -76,6 +76,26 @@ fn three_arrive(desk: &mut Desk, list: &mut Vec<(usize, Outcome)>) -> [Option<Ar
     [first, second, next_arrives(desk, list)]
 }
 
+// The number of the outcome, if it is one that was numbered.
+fn number_of(outcome: &Outcome) -> Option<u64> {
+    match outcome {
+        Outcome::Measured(measurement) => Some(measurement.avg),
+        _ => None,
+    }
+}
+
+// The rows of the report: their places, and the numbers of their outcomes. The last place is ignored.
+const ROWS: [(usize, Option<u64>); 5] = [
+    (0, Some(0)),
+    (4, None),
+    (1, Some(1)),
+    (2, Some(2)),
+    (3, Some(3)),
+];
+
+// How many of those rows arrived.
+const ARRIVED: usize = 3;
+
 // Of two workers' rows 0, 2, 4 and 1, 3 the list has 0, 4 and 1, each twice with a stranger behind. The desk keeps those, the
 // others are missing, and it agrees with what the workers return.
 #[test]
@@ -114,6 +134,13 @@ fn settles_a_list_with_losses(rt: HostRuntime) -> Result<(), Fail> {
         Outcome::Ignored,
     ];
     assert_eq!(rt; desk.settle(&joined), Ok(()));
-    assert_eq!(rt; desk.into_order().as_slice(), [0, 4, 1, 2, 3].as_slice());
+    for (row, (place, number)) in ROWS.iter().enumerate() {
+        let arrived = desk.outcome(*place);
+        assert_eq!(rt; arrived.is_some(), row < ARRIVED);
+        let shown = arrived.or(joined.get(*place));
+        assert!(rt; shown.map(number_of) == Some(*number));
+    }
+    let places = ROWS.map(|row| row.0);
+    assert_eq!(rt; desk.into_order().as_slice(), places.as_slice());
     Ok(())
 }

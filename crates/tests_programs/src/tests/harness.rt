@@ -1,5 +1,5 @@
 //! The program `harness` over memory: statuses, reports, lists and texts by the words of its command line.
-use libtest_mimic::{Arguments, ArgumentsError};
+use libtest_mimic::{Arguments, ArgumentsError, Line};
 use mimic_main::{Machine, Program, StillClock};
 use mimic_testkit::{Fault, FaultyWriter, MIXED_BAG, Place, known_trials};
 use std::alloc::{AllocError, Global};
@@ -165,11 +165,17 @@ fn heeds_the_number_of_threads(rt: HostRuntime) -> Result<(), Fail> {
     Ok(())
 }
 
-// Without a thread there is no run, but a list, and a report of no trial.
+// Without a thread there is no run, but a list, and a report of no trial. A logfile that can't be made is reported before that.
 #[test]
 fn runs_nothing_without_a_thread(rt: HostRuntime) -> Result<(), Fail> {
-    let rows: [(&[&str], u8, &str, &str); 3] = [
+    let rows: [(&[&str], u8, &str, &str); 4] = [
         (&[], 1, "", "harness: no threads to run trials\n"),
+        (
+            &["--logfile=/nowhere/to/be/found"],
+            1,
+            "",
+            "harness: cannot create the logfile\n",
+        ),
         (&["--list", "a"], 0, LISTED, ""),
         (&["zebra"], 0, NONE_SELECTED, ""),
     ];
@@ -380,12 +386,16 @@ fn lists_as_asked(rt: HostRuntime) -> Result<(), Fail> {
     Ok(())
 }
 
+// A line is refused before its logfile is looked at, whether that can be made or not: no file is made.
 #[test]
 fn refuses_lines(rt: HostRuntime) -> Result<(), Fail> {
-    let rows: [&[&str]; 3] = [
+    let path = "refuses_lines";
+    let rows: [&[&str]; 5] = [
         &["--test", "--bench"],
         &["--quiet", "--format", "json"],
         &["--nope"],
+        &["--nope", "--logfile", "/nowhere/to/be/found"],
+        &["--test", "--bench", "--logfile", path],
     ];
     for words in rows {
         let left = run_words(&rt, words)?;
@@ -394,6 +404,7 @@ fn refuses_lines(rt: HostRuntime) -> Result<(), Fail> {
         assert!(rt; left.err.as_str().starts_with("error: "));
         assert!(rt; left.err.as_str().ends_with("\n"));
     }
+    assert!(rt; fs::read(&rt, path).is_err());
     let left = run_words(&rt, &["--help"])?;
     assert_eq!(rt; left.status, ExitCode::from(0));
     assert!(rt; left.out.as_str().ends_with("\n"));
@@ -401,22 +412,27 @@ fn refuses_lines(rt: HostRuntime) -> Result<(), Fail> {
     Ok(())
 }
 
+// A logfile that has a longer text is emptied first, also before a run that is refused.
 #[test]
 fn writes_a_logfile(rt: HostRuntime) -> Result<(), Fail> {
-    let alloc = rt.alloc();
     let path = "logfile";
-    fs::write(
-        &rt,
-        path,
-        "what stood there before, and is longer than the list that comes",
-    )?;
-    let option = format!(in alloc; "--logfile={path}")?;
-    let left = run_words(&rt, &["--list", "a", option.as_str()])?;
-    let written = fs::read(&rt, path)?;
+    for (words, status, report, err) in [
+        (["--list", "a", "--logfile", path], 0, LISTED, ""),
+        (
+            ["--test-threads", "0", "--logfile", path],
+            1,
+            "",
+            "harness: no threads to run trials\n",
+        ),
+    ] {
+        fs::write(&rt, path, ALL_LISTED)?;
+        let left = run_only(&rt, &words)?;
+        let written = fs::read(&rt, path)?;
+        assert_eq!(rt; left.status, ExitCode::from(status));
+        assert_eq!(rt; (left.out.as_str(), left.err.as_str()), ("", err));
+        assert!(rt; written.as_slice() == report.as_bytes());
+    }
     fs::remove_file(&rt, path)?;
-    assert_eq!(rt; left.status, ExitCode::from(0));
-    assert!(rt; left.out.is_empty());
-    assert!(rt; written.as_slice() == LISTED.as_bytes());
     let left = run_words(&rt, &["--logfile", "/nowhere/to/be/found"])?;
     assert_eq!(rt; left.status, ExitCode::from(1));
     assert!(rt; left.out.is_empty());
@@ -451,11 +467,13 @@ impl Env for RawLine {
     }
 }
 
-// A word that is not UTF-8 refuses the whole line, also after a word that asks for help. A line of text is read as ever.
+// A word that is not UTF-8 refuses the whole line, also after a word that asks for help, and so does a line without any word,
+// even the program's name. A line of text is read as ever.
 #[test]
 fn refuses_words_that_are_no_text(rt: HostRuntime) -> Result<(), Fail> {
     let alloc = rt.alloc();
-    let rows: [(&'static [&'static [u8]], u8, &str, &str); 3] = [
+    let rows: [(&'static [&'static [u8]], u8, &str, &str); 4] = [
+        (&[], 2, "", "cannot read the arguments\n"),
         (
             &[b"harness", b"--list", b"caf\xe9"],
             2,
@@ -486,6 +504,46 @@ fn refuses_words_that_are_no_text(rt: HostRuntime) -> Result<(), Fail> {
         assert_eq!(rt; answered.report(&rt), ExitCode::from(status));
         assert!(rt; out.bytes.as_slice() == on_out.as_bytes());
         assert!(rt; err.as_slice() == on_err.as_bytes());
+    }
+    Ok(())
+}
+
+// A line that can't be read has no words of the program's own either.
+#[test]
+fn reads_no_words_of_its_own(rt: HostRuntime) -> Result<(), Fail> {
+    let alloc = rt.alloc();
+    let lines: [&'static [&'static [u8]]; 3] = [&[], &[b"\xff"], &[b"harness", b"a", b"\xff"]];
+    for words in lines {
+        let line = Line::from_args(&(RawLine { words }, alloc), alloc);
+        assert_eq!(rt;
+            format!(in alloc; "{line:?}")?.as_str(),
+            "Line { own: [], options: Err(Refused(\"cannot read the arguments\")) }"
+        );
+    }
+    Ok(())
+}
+
+// What can't be printed on standard error ends with the same status.
+#[test]
+fn ends_alike_if_nothing_can_be_printed(rt: HostRuntime) -> Result<(), Fail> {
+    let alloc = rt.alloc();
+    let full = Fault::Error(io::ErrorKind::StorageFull);
+    for (option, value, status) in [
+        ("--format", "xml", 2),
+        ("--logfile", "/nowhere/to/be/found", 1),
+        ("--test-threads", "0", 1),
+    ] {
+        let trials = known_trials(alloc, &MIXED_BAG)?;
+        let out = FaultyWriter::new(alloc);
+        let mut err = FaultyWriter::new(alloc)
+            .failing(Place::Byte(2), full)
+            .for_ever();
+        let line = Arguments::from_iter(alloc, &["harness", option, value]);
+        let (out, answered) = HARNESS.harness_run(
+            &rt, &rt, alloc, line, trials, out, &mut err, StillClock,
+        );
+        assert_eq!(rt; answered.report(&rt), ExitCode::from(status));
+        assert!(rt; out.bytes.is_empty() && err.has_failed, "{option}");
     }
     Ok(())
 }

@@ -3,14 +3,16 @@ ghost use Rattle.std.specs.Prelude.{◌≤◌};
 ghost use Rattle.libtest_mimic.specs.Trial.{AllCanRun};
 
 use super::outputs::Marked;
+use libtest_mimic::pool::{Arrival, Untold};
 use libtest_mimic::{
-    Arguments, ArgumentsError, Failed, FormatSetting, Outcome, RunError, Task, Trial,
+    Arguments, ArgumentsError, Failed, FormatSetting, Outcome, RunError, Task, Trial, WriteFault,
 };
-use mimic_main::{Machine, Program, StillClock};
+use mimic_main::{FlushPolicy, Machine, Program, StillClock};
 use mimic_testkit::{Fault, FaultyWriter, Place};
 use std::alloc::{AllocError, Global};
+use std::fmt::Debug;
 use std::io::{Eprint, ErrorKind, IsTerminal, Write};
-use std::process::{ExitCode, Termination};
+use std::process::{Abort, ExitCode, Termination};
 use std::test::Fail;
 use std::{fs, io};
 
@@ -469,5 +471,46 @@ fn ends_at_a_fault(rt: HostRuntime) -> Result<(), Fail> {
             }
         }
     }
+    Ok(())
+}
+
+// What `Debug` shows of a value.
+fn check_debug<T: Debug>(
+    rt: &impl Abort,
+    alloc: Global,
+    value: &T,
+    text: &str,
+) -> Result<(), Fail> {
+    assert_eq!(rt; format!(in alloc; "{value:?}")?.as_str(), text);
+    Ok(())
+}
+
+// The public types of a run and of a program, as a derived `Debug` shows them.
+#[test]
+fn shows_values(rt: HostRuntime) -> Result<(), Fail> {
+    let alloc = rt.alloc();
+    check_debug(&rt, alloc, &RunError::OutOfMemory, "OutOfMemory")?;
+    check_debug(
+        &rt,
+        alloc,
+        &RunError::Write(WriteFault::Zero),
+        "Write(Zero)",
+    )?;
+    check_debug(&rt, alloc, &RunError::ZeroThreads, "ZeroThreads")?;
+    check_debug(&rt, alloc, &RunError::Spawn, "Spawn")?;
+    let arrival = RunError::Arrival { place: 7 };
+    check_debug(&rt, alloc, &arrival, "Arrival { place: 7 }")?;
+    check_debug(&rt, alloc, &Arrival::Stranger, "Stranger")?;
+    check_debug(&rt, alloc, &Untold, "Untold")?;
+    check_debug(&rt, alloc, &FlushPolicy::OnOddLineEnd, "OnOddLineEnd")?;
+    check_debug(&rt, alloc, &StillClock, "StillClock")?;
+    let program =
+        "Program { name: \"telling\", threads: 4, auto_colours: true, tells_causes: true }";
+    check_debug(&rt, alloc, &TELLING, program)?;
+    let mut err: Vec<u8> = Vec::new(alloc);
+    let status = PLAIN.refuse(RunError::Spawn, &mut err);
+    let shown = format!(in alloc; "{status:?}");
+    assert_eq!(rt; status.report(&rt), ExitCode::from(1));
+    assert_eq!(rt; shown?.as_str(), "Status { number: 1 }");
     Ok(())
 }

@@ -59,6 +59,28 @@ fn all_sorts(alloc: Global) -> Result<Report, Fail> {
     })
 }
 
+// Two tests, one that passes and one that fails.
+const TWO_TESTS: &str = r#"{ "type": "suite", "event": "started", "test_count": 2 }
+{ "type": "test", "event": "started", "name": "succeeding_test" }
+{ "type": "test", "name": "succeeding_test", "event": "ok" }
+{ "type": "test", "event": "started", "name": "failing_test" }
+{ "type": "test", "name": "failing_test", "event": "failed", "stdout": "Error: \"Woops\"\n" }
+{ "type": "suite", "event": "failed", "passed": 1, "failed": 1, "ignored": 0, "measured": 0, "filtered_out": 0, "exec_time": 0 }
+"#;
+
+// The report whose text is `TWO_TESTS`.
+fn two_tests(alloc: Global) -> Result<Report, Fail> {
+    let rows = vec![in alloc;
+        row(alloc, "succeeding_test", Outcome::Passed)?,
+        row(alloc, "failing_test", failed(alloc, "Woops")?)?,
+    ]?;
+    Ok(Report {
+        rows,
+        filtered_out: 0,
+        nanos: 0,
+    })
+}
+
 // What a tally returns for these pieces.
 fn tallied(alloc: Global, pieces: &[&[u8]]) -> Result<Option<Totals>, Fail> {
     let mut tally = Tally::new(alloc);
@@ -83,16 +105,58 @@ fn all_totals() -> Totals {
     }
 }
 
+// The numbers of `TWO_TESTS`.
+fn two_totals() -> Totals {
+    Totals {
+        rows: 2,
+        counts: Conclusion {
+            num_filtered_out: 0,
+            num_passed: 1,
+            num_failed: 1,
+            num_ignored: 0,
+            num_measured: 0,
+        },
+        nanos: 0,
+    }
+}
+
+// A report with its rows, and its numbers, as a derived `Debug` shows them.
+#[test]
+fn shows_values(rt: HostRuntime) -> Result<(), Fail> {
+    let alloc = rt.alloc();
+    let report = format!(in alloc; "{:?}", two_tests(alloc)?)?;
+    assert_eq!(rt;
+        report.as_str(),
+        "Report { rows: [Row { name: \"succeeding_test\", kind: \"\", outcome: Passed }, Row { name: \"failing_test\", kind: \"\", outcome: Failed(Failed { msg: Some(\"Woops\") }) }], filtered_out: 0, nanos: 0 }"
+    );
+    let totals = format!(in alloc; "{:?}", two_totals())?;
+    assert_eq!(rt;
+        totals.as_str(),
+        "Totals { rows: 2, counts: Conclusion { num_filtered_out: 0, num_passed: 1, num_failed: 1, num_ignored: 0, num_measured: 0 }, nanos: 0 }"
+    );
+    Ok(())
+}
+
 // The report is read at once, and cut in two at each place, so also within numbers, escapes and characters.
 #[test]
 fn reads_two_pieces(rt: HostRuntime) -> Result<(), Fail> {
     let alloc = rt.alloc();
-    let bytes = ALL_SORTS.as_bytes();
+    check_two_pieces(&rt, alloc, TWO_TESTS, &two_tests(alloc)?, two_totals())?;
+    check_two_pieces(&rt, alloc, ALL_SORTS, &all_sorts(alloc)?, all_totals())
+}
+
+fn check_two_pieces(
+    rt: &impl Abort,
+    alloc: Global,
+    text: &str,
+    want: &Report,
+    totals: Totals,
+) -> Result<(), Fail> {
+    let bytes = text.as_bytes();
     let report = read_report(alloc, bytes)?.ok_or("no report")?;
-    assert!(rt; report.counts() == all_totals().counts);
-    assert!(rt; report == all_sorts(alloc)?);
-    let want = Some(report);
-    let totals = Some(all_totals());
+    assert!(rt; report.counts() == totals.counts);
+    assert!(rt; report == *want);
+    let (want, totals) = (Some(report), Some(totals));
     for at in 0..=bytes.len() {
         let (front, back) = bytes.split_at(at);
         assert!(rt; fed(alloc, &[front, b"", back])? == want, "{at}");
@@ -105,24 +169,41 @@ fn reads_two_pieces(rt: HostRuntime) -> Result<(), Fail> {
 #[test]
 fn shows_rows_as_they_end(rt: HostRuntime) -> Result<(), Fail> {
     let alloc = rt.alloc();
-    let want = all_sorts(alloc)?;
-    let wrong = altered(alloc, ALL_SORTS, "\"failed\": 3", "\"failed\": 2")?;
-    for (text, is_report) in [(ALL_SORTS, true), (wrong.as_str(), false)] {
-        let mut feed = Feed::new(alloc)?;
-        let mut shown = 0;
-        for (line, then) in text.lines().zip([0, 0, 1, 1, 2, 2, 3, 3, 4, 4, 5, 5]) {
-            for byte in line.as_bytes().chunks(1) {
-                feed.feed(byte)?;
-                assert!(rt; feed.rows() == want.rows.get(..shown), "{line}");
-            }
-            shown = then;
-            feed.feed(b"\n")?;
+    let (two, five) = (two_tests(alloc)?, all_sorts(alloc)?);
+    for (text, old, new, want) in [
+        (TWO_TESTS, "\"passed\": 1", "\"passed\": 2", &two),
+        (ALL_SORTS, "\"failed\": 3", "\"failed\": 2", &five),
+    ] {
+        let wrong = altered(alloc, text, old, new)?;
+        check_rows(&rt, alloc, text, want, true)?;
+        check_rows(&rt, alloc, wrong.as_str(), want, false)?;
+    }
+    Ok(())
+}
+
+// The text has these rows, and is a report or has a wrong summary behind them.
+fn check_rows(
+    rt: &impl Abort,
+    alloc: Global,
+    text: &str,
+    want: &Report,
+    is_report: bool,
+) -> Result<(), Fail> {
+    let mut feed = Feed::new(alloc)?;
+    let mut shown = 0;
+    for (number, line) in text.lines().enumerate() {
+        for byte in line.as_bytes().chunks(1) {
+            feed.feed(byte)?;
             assert!(rt; feed.rows() == want.rows.get(..shown), "{line}");
         }
-        assert_eq!(rt; shown, 5);
-        let report = feed.finish()?;
-        assert_eq!(rt; report.is_some(), is_report);
+        // Behind the title each row has two lines.
+        shown = number / 2;
+        feed.feed(b"\n")?;
+        assert!(rt; feed.rows() == want.rows.get(..shown), "{line}");
     }
+    assert_eq!(rt; shown, want.rows.len());
+    let report = feed.finish()?;
+    assert_eq!(rt; report.is_some(), is_report);
     Ok(())
 }
 
@@ -161,19 +242,22 @@ fn reads_all_or_wants_memory(rt: HostRuntime) -> Result<(), Fail> {
 
 #[test]
 fn refuses_other_pieces(rt: HostRuntime) -> Result<(), Fail> {
-    let (all, alloc) = (ALL_SORTS.as_bytes(), rt.alloc());
-    let title = b"{ \"type\": \"suite\", \"event\": \"started\", \"test_count\": 5 }\n";
-    for pieces in [
-        [b"".as_slice(), b""],
-        [b"\n", all],
-        [b"{", all],
-        [title, all],
-        [all, b"\n"],
-        [all, b" "],
-        [all, all],
-    ] {
-        assert!(rt; fed(alloc, &pieces)?.is_none());
-        assert!(rt; tallied(alloc, &pieces)?.is_none());
+    let alloc = rt.alloc();
+    for text in [TWO_TESTS, ALL_SORTS] {
+        let all = text.as_bytes();
+        let title = text.split_inclusive('\n').next().ok_or("no line")?;
+        for pieces in [
+            [b"".as_slice(), b""],
+            [b"\n", all],
+            [b"{", all],
+            [title.as_bytes(), all],
+            [all, b"\n"],
+            [all, b" "],
+            [all, all],
+        ] {
+            assert!(rt; fed(alloc, &pieces)?.is_none());
+            assert!(rt; tallied(alloc, &pieces)?.is_none());
+        }
     }
     Ok(())
 }

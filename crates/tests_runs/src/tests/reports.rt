@@ -2,9 +2,10 @@
 use super::in_memory::run_ample;
 use super::test_trial;
 use libtest_mimic::{
-    Arguments, ColorSetting, Conclusion, Failed, FormatSetting, Sink, Stopwatch, Trial, run_here,
+    Arguments, ColorSetting, Conclusion, Failed, FormatSetting, Outcome, Sink, Stopwatch, Task,
+    Trial, run, run_here,
 };
-use mimic_testkit::{RaisedClock, TwoReadings};
+use mimic_testkit::{MIXED_BAG, RaisedClock, TwoReadings, known_trials};
 use std::process::ExitCode;
 use std::sync::Arc;
 use std::sync::atomic::{AtomicU64, Ordering};
@@ -155,30 +156,66 @@ fn tells_the_time(rt: HostRuntime) -> Result<(), Fail> {
     Ok(())
 }
 
-// The time reported is that which the trials took: a runner raises the clock while it runs.
+// The end of a report of a second and a half.
+const LATER: [(FormatSetting, &[u8]); 2] = [
+    (FormatSetting::Pretty, b"; finished in 1.50s\n\n"),
+    (FormatSetting::Json, b", \"exec_time\": 1.5 }\n"),
+];
+
+// With workers it is told from the first two readings too.
+#[test]
+fn tells_the_time_of_workers(rt: HostRuntime) -> Result<(), Fail> {
+    let alloc = rt.alloc();
+    for (format, end) in LATER {
+        let mut args = Arguments::new(alloc);
+        args.format = Some(format);
+        args.test_threads = Some(2);
+        let mut sink = Sink::new(Vec::new(alloc));
+        let mut watch = Stopwatch::new(TwoReadings {
+            first: 700,
+            second: 1_500_000_700,
+        });
+        let tests = known_trials(alloc, &MIXED_BAG[..2])?;
+        run(&rt, alloc, &args, tests, &mut sink, &mut watch, 1, false)?;
+        assert_eq!(rt; watch.elapsed(), Some(1_500_000_000));
+        assert!(rt; sink.into_inner().ends_with(end));
+    }
+    Ok(())
+}
+
+// Raises the clock that a run reads.
+#[derive(Drop)]
+struct Raises(Arc<AtomicU64>);
+
+impl Task for Raises {
+    fn run(self, _test_mode: bool) -> Outcome {
+        self.0.fetch_add(1_500_000_000, Ordering::SeqCst);
+        Outcome::Passed
+    }
+}
+
+// The time reported is that which the trials took, by one thread and by a worker: a runner raises the clock while it runs.
 #[test]
 fn times_the_trials(rt: HostRuntime) -> Result<(), Fail> {
     let alloc = rt.alloc();
-    let ends: [(FormatSetting, &[u8]); 2] = [
-        (FormatSetting::Pretty, b"; finished in 1.50s\n\n"),
-        (FormatSetting::Json, b", \"exec_time\": 1.5 }\n"),
-    ];
-    for (format, end) in ends {
-        let nanos = Arc::new(alloc, AtomicU64::new(0))?;
-        let raised = nanos.clone()?;
-        let tests = vec![in alloc;
-            test_trial!(alloc, "a", move || {
-                raised.fetch_add(1_500_000_000, Ordering::SeqCst);
-                Ok(())
-            }),
-        ]?;
-        let mut args = Arguments::new(alloc);
-        args.format = Some(format);
-        let mut sink = Sink::new(Vec::new(alloc));
-        let mut watch = Stopwatch::new(RaisedClock { nanos });
-        run_here(alloc, &args, tests, &mut sink, &mut watch, false)?;
-        assert_eq!(rt; watch.elapsed(), Some(1_500_000_000));
-        assert!(rt; sink.into_inner().ends_with(end));
+    for threads in [None, Some(2)] {
+        for (format, end) in LATER {
+            let nanos = Arc::new(alloc, AtomicU64::new(0))?;
+            let raises = Raises(nanos.clone()?);
+            let tests = vec![in alloc; Trial::new(String::from_str(alloc, "a")?, raises)]?;
+            let mut args = Arguments::new(alloc);
+            args.format = Some(format);
+            args.test_threads = threads;
+            let mut sink = Sink::new(Vec::new(alloc));
+            let mut watch = Stopwatch::new(RaisedClock { nanos });
+            if threads.is_some() {
+                run(&rt, alloc, &args, tests, &mut sink, &mut watch, 1, false)?;
+            } else {
+                run_here(alloc, &args, tests, &mut sink, &mut watch, false)?;
+            }
+            assert_eq!(rt; watch.elapsed(), Some(1_500_000_000));
+            assert!(rt; sink.into_inner().ends_with(end));
+        }
     }
     Ok(())
 }
