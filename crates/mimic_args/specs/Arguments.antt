@@ -1,5 +1,5 @@
 -- What the arguments of a run ask for.
-use Rattle.std.specs.Prelude.{◌≡◌, Bool, true, false, if◌then◌else◌, [], None, unwrap_or, is_none, ◌&&◌, map, option_map, string_bytes}
+use Rattle.std.specs.Prelude.{◌≡◌, ℕ, Bool, true, false, if◌then◌else◌, [], None, unwrap_or, is_none, ◌&&◌, map, option_map, string_bytes}
 use Rattle.mimic_args.specs.declared.Arguments.{Arguments}
 use Rattle.mimic_args.specs.declared.ColorSetting.{ColorSetting}
 use Rattle.mimic_args.specs.declared.ColorSetting.TheVariants.{Auto, Always, Never}
@@ -10,16 +10,20 @@ use Rattle.mimic_text.specs.declared.formats.FormatSetting.TheVariants.{Pretty, 
 abbrev pub format_of : Arguments → FormatSetting
 format_of args = if args.quiet then Terse else unwrap_or args.format Pretty
 
--- whether a setting colours, where the caller says what it comes to without one
+-- whether a setting colours; the caller says what holds without one
 abbrev pub setting_colours : ColorSetting → Bool → Bool
 setting_colours Auto unset = unset
 setting_colours Always unset = true
 setting_colours Never unset = false
 
--- whether a report has colours: `Always` yes, `Never` no, else exactly where the caller says so and no logfile is set
+-- whether a report has colours: `Always` yes, `Never` no, else exactly if the caller says so and no logfile is set
 -- (the Rust crate's, with the test for a terminal handed in)
 abbrev pub colours_of : Arguments → Bool → Bool
 colours_of args auto = setting_colours (unwrap_or args.color Auto) (auto && is_none args.logfile)
+
+-- how many threads run the trials: as many as the arguments say, else as many as the caller says (our own)
+abbrev pub threads_of : Arguments → ℕ → ℕ
+threads_of args default_threads = unwrap_or args.test_threads default_threads
 
 -- each flag is false, each option is not set, and there is no filter and nothing is skipped
 pub record AsksNothing (args : Arguments) : Type 0 where

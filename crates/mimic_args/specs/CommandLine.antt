@@ -9,13 +9,13 @@ use Rattle.clap.specs.declared.builder.arg.Arg.{Arg}
 use Rattle.clap.specs.declared.builder.command.Command.{Command}
 use Rattle.clap.specs.declared.builder.value_parser.ValueParser.{ValueParser}
 use Rattle.clap.specs.declared.builder.value_parser.ValueParser.TheVariants as vp
-use Rattle.mimic_args.specs.Matched.{IsReadFrom, AreAccepted, IsFreeOfConflicts, color_name, colors, unstable_name, unstables}
+use Rattle.mimic_args.specs.Matched.{IsReadFrom, AreAccepted, IsFreeOfConflicts, colour_name, colours, unstable_name, unstables}
 use Rattle.mimic_text.specs.Formats.{format_name, formats}
 use Rattle.mimic_args.specs.declared.Arguments.{Arguments}
 use Rattle.mimic_args.specs.declared.error.ArgumentsError.{ArgumentsError}
 use Rattle.mimic_args.specs.declared.error.ArgumentsError.TheVariants.{OutOfMemory, Help, Refused}
 
--- what is declared of an argument: how a parse reads it, and the ids of those that no line may use beside it (our own)
+-- what is declared of an argument: how a parse reads it, and the ids of those that no line may use together with it (our own)
 abbrev pub Declared : Type 0
 Declared = Rule × List Text
 
@@ -28,7 +28,7 @@ declared_of a = (rule_of a, texts a.conflicts.items)
 abbrev pub Options : Type 0
 Options = App × List (Text × Text)
 
--- an id beside each of the others (our own)
+-- an id, paired with each of the others (our own)
 abbrev pub pairs : Text → List Text → List (Text × Text)
 pairs id others = map (λ other. (id, other)) others
 
@@ -40,11 +40,11 @@ options_of c = (app_of c, flat_map (λ a. pairs a.id.now (texts a.conflicts.item
 abbrev pub alone : Rule → Declared
 alone r = (r, [])
 
--- the same argument, where it excludes one more: a line that uses both is refused (`clap`'s)
+-- the same argument, which now excludes one more: a line that uses both is refused (`clap`'s)
 abbrev pub excluding : Declared → Text → Declared
 excluding d other = (record d.0 { is_free = false }, d.1 ++ other ∷ [])
 
--- the same argument, where its values are read by this reader (`clap`'s)
+-- the same argument, whose values this reader now reads (`clap`'s)
 abbrev pub read_by : ValueParser → Declared → Declared
 read_by p d = (record d.0 { parser = Some p }, d.1)
 
@@ -84,14 +84,26 @@ choice_options = plus (plus (plus (plus (new_app (codes "harness"), [])
     (excluding (alone (flag_rule (codes "test"))) (codes "bench")))
     (alone (flag_rule (codes "bench")))
 
--- all flags: `quiet`, also `-q`, excludes `format` (the Rust crate's)
+-- `--quiet`, also `-q`
+abbrev pub quiet_rule : Rule
+quiet_rule = record (flag_rule (codes "quiet")) { short = Some 113 }
+
+-- `--color WHEN`
+abbrev pub colour_rule : Rule
+colour_rule = option_rule (codes "color")
+
+-- `--format FORMAT`
+abbrev pub format_rule : Rule
+format_rule = option_rule (codes "format")
+
+-- all flags: `quiet` excludes `format` (the Rust crate's)
 abbrev pub flag_options : Options
 flag_options = plus (plus (plus (plus (plus choice_options
     (alone (flag_rule (codes "list"))))
     (alone (flag_rule (codes "nocapture"))))
     (alone (flag_rule (codes "show-output"))))
     (alone (flag_rule (codes "exact"))))
-    (excluding (alone (record (flag_rule (codes "quiet")) { short = Some 113 })) (codes "format"))
+    (excluding (alone quiet_rule) (codes "format"))
 
 -- all options, by the readers of the values of `-Z`, `--color` and `--format` (the Rust crate's, but for several filters)
 abbrev pub harness_options : ValueParser → ValueParser → ValueParser → Options
@@ -100,18 +112,22 @@ harness_options unstable color format = plus (plus (plus (plus (plus (plus (plus
     (alone threads_rule))
     (alone (option_rule (codes "logfile"))))
     (alone skip_rule))
-    (read_by color (alone (option_rule (codes "color")))))
-    (read_by format (alone (option_rule (codes "format")))))
+    (read_by color (alone colour_rule)))
+    (read_by format (alone format_rule)))
     (alone filter_rule)
 
 -- the reader takes these texts and no other (`clap`'s)
 abbrev pub TakesOnly : List Text → ValueParser → Type 0
 TakesOnly names p = (listed : Bor (List (Bor Text))) × (p ≡ vp.Names listed) × (texts listed.now ≡ names)
 
+-- it is declared as the argument, and its reader takes these texts and no other (our own)
+abbrev pub ReadsOnly : List Text → Declared → Declared → Type 0
+ReadsOnly names argument d = (p : ValueParser) × TakesOnly names p × (d ≡ read_by p argument)
+
 -- the readers of the values of `-Z`, `--color` and `--format` (the Rust crate's)
 pub record AreReaders (u c f : ValueParser) : Type 0 where
   pub unstable : TakesOnly (map unstable_name unstables) u
-  pub color : TakesOnly (map color_name colors) c
+  pub color : TakesOnly (map colour_name colours) c
   pub format : TakesOnly (map format_name formats) f
 
 -- the arguments are what the line means: each field is what the words hold for its id, by `clap`'s own definition of what
@@ -122,9 +138,9 @@ IsMeaningOf words a = (unstable : ValueParser) × (color : ValueParser) × (form
     × (let entries = matches_of (harness_options unstable color format).0 words in
     IsReadFrom entries a × AreAccepted entries a × IsFreeOfConflicts entries a)
 
--- a line that gave no arguments is told so: out of memory where an allocation failed, help where help was asked for, and
--- else a refused line (our own)
-abbrev pub IsToldAs : Type 0 → Type 0 → ArgumentsError → Type 0
-IsToldAs memory help OutOfMemory = memory
-IsToldAs memory help (Help text) = help
-IsToldAs memory help (Refused text) = (memory → ⊥) × (help → ⊥)
+-- the error of a line that gave no arguments: it says that memory ran out if an allocation failed, gives help if help was
+-- asked for, and else refuses the line (our own)
+abbrev pub IsErrorFor : Type 0 → Type 0 → ArgumentsError → Type 0
+IsErrorFor memory help OutOfMemory = memory
+IsErrorFor memory help (Help text) = help
+IsErrorFor memory help (Refused text) = (memory → ⊥) × (help → ⊥)

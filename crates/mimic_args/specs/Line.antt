@@ -11,14 +11,14 @@ use Rattle.mimic_args.specs.declared.line.Line.{Line}
 abbrev pub separator : Text
 separator = codes "--"
 
--- so many words stand before the first `--`, or in all where there is none (our own)
+-- this many words stand before the first `--`, or there is none and these are all words (our own)
 pub record IsOwnLength (words : List Text) (own : ℕ) : Type 0 where
   pub within : own ≤ length words
   pub others : (k : ℕ) → k < own → get_or words k separator ≢ separator
   pub ended : get_or words own separator ≡ separator
 
--- a line: the program's name, its own words, and behind the first `--` what is asked of the harness, of which the options are
--- the meaning where arguments came of it (our own)
+-- a line has the program's name, its own words, and after the first `--` what is asked of the harness. If the options are
+-- arguments, they are the meaning of that (our own)
 pub record IsLine (words : List Text) (line : Line) : Type 0 where
   pub own_length : ℕ
   pub is_own : IsOwnLength (drop 1 words) own_length
@@ -48,4 +48,5 @@ pub record AreOperands (least most : ℕ) (words : List Text) : Type 0 where
 abbrev pub RefusesOperands : Text → ℕ → ℕ → List Text → ArgumentsError → Type 0
 RefusesOperands usage least most words OutOfMemory = Unit {0}
 RefusesOperands usage least most words (Help text) = (string_bytes text ≡ usage) × AsksForHelp words
-RefusesOperands usage least most words (Refused text) = (string_bytes text ≡ usage) × (AsksForHelp words → ⊥) × (AreOperands least most words → ⊥)
+RefusesOperands usage least most words (Refused text) = (string_bytes text ≡ usage) × (AsksForHelp words → ⊥)
+    × (AreOperands least most words → ⊥)

@@ -1,5 +1,5 @@
 -- What each field of the arguments is, by what a parsed line holds under the id of its option. An entry is an id with the
--- texts of its uses, as `clap` answers them.
+-- texts of its uses, as `clap` returns them.
 use Rattle.std.specs.Prelude.{◌≡◌, is_some, ◌<◌, ◌^◌, ℕ, Bool, true, false, List, [], ◌∷◌, Option, Some, None, codes, map, option_map, option_and_then, unwrap_or}
 use Rattle.std.specs.Str.{bytes_eq}
 use Rattle.mimic_text.specs.Formats.{format_name, formats, named}
@@ -31,17 +31,17 @@ abbrev pub is_set : List Row → List ℕ → Bool
 is_set f id = option_map_or (λ t. bytes_eq t (codes "true")) (first_text f id) false
 
 -- the values of `--color` and of `-Z`
-abbrev pub colors : List ColorSetting
-colors = Auto ∷ Always ∷ Never ∷ []
+abbrev pub colours : List ColorSetting
+colours = Auto ∷ Always ∷ Never ∷ []
 
 abbrev pub unstables : List UnstableFlags
 unstables = UnstableOptions ∷ []
 
 -- their names (the Rust crate's)
-abbrev pub color_name : ColorSetting → List ℕ
-color_name Auto = codes "auto"
-color_name Always = codes "always"
-color_name Never = codes "never"
+abbrev pub colour_name : ColorSetting → List ℕ
+colour_name Auto = codes "auto"
+colour_name Always = codes "always"
+colour_name Never = codes "never"
 
 abbrev pub unstable_name : UnstableFlags → List ℕ
 unstable_name UnstableOptions = codes "unstable-options"
@@ -50,7 +50,7 @@ unstable_name UnstableOptions = codes "unstable-options"
 abbrev pub IsNumber : List ℕ → Type 0
 IsNumber t = IsNumeral 10 (without_leading_plus t) × (digits_value 10 (without_leading_plus t) < 2 ^ 64)
 
--- r is the number that the text is, and nothing where it is none
+-- r is the number that the text spells, and `None` if it spells none
 abbrev pub IsNumberOf : Option (List ℕ) → Option ℕ → Type 0
 IsNumberOf None r = r ≡ None
 IsNumberOf (Some t) (Some n) = IsNumber t × (n ≡ digits_value 10 (without_leading_plus t))
@@ -67,22 +67,23 @@ pub record IsReadFrom (f : List Row) (a : Arguments) : Type 0 where
   pub show_output : a.show_output ≡ is_set f (codes "show-output")
   pub exact : a.exact ≡ is_set f (codes "exact")
   pub quiet : a.quiet ≡ is_set f (codes "quiet")
-  pub unstable_flags : a.unstable_flags ≡ option_and_then (named unstable_name unstables) (first_text f (codes "unstable"))
+  pub unstable_flags : a.unstable_flags
+      ≡ option_and_then (named unstable_name unstables) (first_text f (codes "unstable"))
   pub test_threads : IsNumberOf (first_text f (codes "test-threads")) a.test_threads
   pub logfile : option_map string_bytes a.logfile ≡ first_text f (codes "logfile")
   pub skip : map string_bytes a.skip.items ≡ texts_of f (codes "skip")
-  pub color : a.color ≡ option_and_then (named color_name colors) (first_text f (codes "color"))
+  pub color : a.color ≡ option_and_then (named colour_name colours) (first_text f (codes "color"))
   pub format : a.format ≡ option_and_then (named format_name formats) (first_text f (codes "format"))
   pub filter : map string_bytes a.filter.items ≡ texts_of f (codes "filter")
 
--- each value that has a reader was accepted: the field is absent only where no value was given
+-- each value that has a reader was accepted: the field is absent only if no value was given
 pub record AreAccepted (f : List Row) (a : Arguments) : Type 0 where
   pub unstable : is_some (first_text f (codes "unstable")) ≡ is_some a.unstable_flags
   pub color : is_some (first_text f (codes "color")) ≡ is_some a.color
   pub format : is_some (first_text f (codes "format")) ≡ is_some a.format
   pub test_threads : is_some (first_text f (codes "test-threads")) ≡ is_some a.test_threads
 
--- tests and benchmarks are not both asked for, nor the terse format beside another
+-- tests and benchmarks are not both asked for, nor the terse format together with another
 pub record IsFreeOfConflicts (f : List Row) (a : Arguments) : Type 0 where
   pub sort : a.test ≡ true → a.bench ≡ false
   pub format : a.quiet ≡ true → first_text f (codes "format") ≡ None

@@ -8,14 +8,14 @@ ghost use Rattle.std.specs.IoError.{error_kind};
 ghost use Rattle.std.specs.Vec.Iter.{into_iter_len};
 ghost use Rattle.std.specs.declared.io.ErrorKind.TheVariants as IoKind;
 ghost use Rattle.mimic_args.specs.declared.error.ArgumentsError.TheVariants.{OutOfMemory};
-ghost use Rattle.mimic_args.specs.CommandLine.{IsToldAs, AreReaders, IsMeaningOf, harness_options, options_of};
+ghost use Rattle.mimic_args.specs.CommandLine.{IsErrorFor, AreReaders, IsMeaningOf, harness_options, options_of};
 ghost use Rattle.mimic_args.specs.Matched.{AreAccepted, IsFreeOfConflicts, IsReadFrom, entries_of};
 
-use crate::declared::{
-    color, filter, format, logfile, skip, test_threads, unstable, with, with_flags,
+use crate::matches::{
+    colour_of, format_of, is_set, text_of, text_under, texts_of, threads_of, unstable_of,
 };
-use crate::matched::{
-    color_of, format_of, is_set, text_of, text_under, texts_of, threads_of, unstable_of,
+use crate::options::{
+    colour, filter, format, logfile, skip, test_threads, unstable, with, with_flags,
 };
 use crate::{Arguments, ArgumentsError};
 use clap::error::ErrorKind;
@@ -27,7 +27,7 @@ use std::rt::Env;
 use std::{env, io};
 
 impl Arguments {
-    /// The options of a harness, declared to `clap`. A line may not use `--test` with `--bench`, nor
+    /// Declares the options of a harness to `clap`. A line may not use `--test` with `--bench`, nor
     /// `--quiet` with `--format`.
     pub fn command<'a>(alloc: Global) -> Result<Command<'a>, AllocError>
         ensures { IfOk result (λ r. (u : ValueParser) × (c : ValueParser) × (f : ValueParser)
@@ -38,13 +38,13 @@ impl Arguments {
         let c = with(c, test_threads(alloc))?;
         let c = with(c, logfile(alloc))?;
         let c = with(c, skip(alloc))?;
-        let c = with(c, color(alloc))?;
+        let c = with(c, colour(alloc))?;
         let c = with(c, format(alloc))?;
         let c = with(c, filter(alloc))?;
         Ok(c)
     }
 
-    /// What the matches hold, each field under the id of its option. A text that names nothing, or is no
+    /// Reads each field from what the matches hold under the id of its option. A text that names nothing, or is no
     /// number, gives `None`.
     pub fn from_matches(alloc: Global, matches: &ArgMatches<'_>) -> Result<Arguments, AllocError>
         ensures { IfOk result (λ a. IsReadFrom (entries_of matches.now) a) }
@@ -63,13 +63,13 @@ impl Arguments {
             test_threads: threads_of(matches),
             logfile: text_of(alloc, matches, "logfile")?,
             skip: texts_of(alloc, matches, "skip")?,
-            color: color_of(matches),
+            color: colour_of(matches),
             format: format_of(matches),
             filter: texts_of(alloc, matches, "filter")?,
         })
     }
 
-    /// The arguments that the words give, of which the first is the program's name.
+    /// Reads arguments from words, of which the first is the program's name.
     ///
     /// It returns `Help` if help is asked, and `Refused` if the line can't be read.
     pub fn from_iter<S: AsStr>(alloc: Global, words: &[S]) -> Result<Arguments, ArgumentsError>
@@ -90,7 +90,7 @@ impl Arguments {
         Ok(args)
     }
 
-    /// The arguments of the program, by the words that the runtime hands in.
+    /// Reads the program's arguments from the words that the runtime hands in.
     ///
     /// It returns `Refused` with the text `cannot read the arguments` also if a word is not UTF-8, or there is
     /// none.
@@ -103,21 +103,24 @@ impl Arguments {
         Arguments::from_read(alloc, env::args(rt))
     }
 
-    // The arguments that the words give, if they could be read.
+    // Reads arguments from the program's words, if these could be read.
     fn from_read(alloc: Global, read: io::Result<Args>) -> Result<Arguments, ArgumentsError>
         ensures meaning { IfOk result (λ a. (line : List Text) × IsMeaningOf line a) }
-        ensures memory { IfErr read (λ error. error_kind error ≡ IoKind.OutOfMemory → result ≡ Err OutOfMemory) }
+        ensures memory { IfErr read
+            (λ error. error_kind error ≡ IoKind.OutOfMemory → result ≡ Err OutOfMemory) }
     {
         let words = words_of(alloc, read)?;
         Arguments::from_iter(alloc, words.as_slice())
     }
 }
 
-// The words of a line, if they could be read: the program's name, and the words after it.
+// Returns the words of a line, if they could be read: the program's name, and the words after it.
 pub(crate) fn words_of(alloc: Global, read: io::Result<Args>) -> Result<Vec<String>, ArgumentsError>
     ensures some { IfOk result (λ words. 0 < vec_len words) }
-    ensures memory { IfErr read (λ error. error_kind error ≡ IoKind.OutOfMemory → result ≡ Err OutOfMemory) }
-    ensures read { IfOk read (λ words. 0 < into_iter_len words → IfErr result (λ error. error ≡ OutOfMemory)) }
+    ensures memory { IfErr read
+        (λ error. error_kind error ≡ IoKind.OutOfMemory → result ≡ Err OutOfMemory) }
+    ensures read { IfOk read
+        (λ words. 0 < into_iter_len words → IfErr result (λ error. error ≡ OutOfMemory)) }
 {
     let args = match read {
         Ok(args) => args,
@@ -130,7 +133,7 @@ pub(crate) fn words_of(alloc: Global, read: io::Result<Args>) -> Result<Vec<Stri
     Ok(words)
 }
 
-// Whether each value was accepted by its reader: the field is absent only if no value was given.
+// Returns whether each value was accepted by its reader: the field is absent only if no value was given.
 fn are_accepted(matches: &ArgMatches<'_>, args: &Arguments) -> bool
     ensures yes { IsTrue result → AreAccepted (entries_of matches.now) args.now }
     ensures no { IsFalse result → AreAccepted (entries_of matches.now) args.now → ⊥ }
@@ -147,7 +150,7 @@ fn are_accepted(matches: &ArgMatches<'_>, args: &Arguments) -> bool
     text_under(matches, "test-threads").is_some() == args.test_threads.is_some()
 }
 
-// Whether nothing is asked that excludes another.
+// Returns whether nothing is asked that excludes another.
 fn is_free_of_conflicts(matches: &ArgMatches<'_>, args: &Arguments) -> bool
     ensures yes { IsTrue result → IsFreeOfConflicts (entries_of matches.now) args.now }
     ensures no { IsFalse result → IsFreeOfConflicts (entries_of matches.now) args.now → ⊥ }
@@ -158,9 +161,9 @@ fn is_free_of_conflicts(matches: &ArgMatches<'_>, args: &Arguments) -> bool
     !(args.quiet && text_under(matches, "format").is_some())
 }
 
-// Why the program's words were not read.
+// Says why the program's words were not read.
 fn unread(alloc: Global, error: &io::Error) -> Result<ArgumentsError, AllocError>
-    ensures { IfOk result (λ e. IsToldAs (error_kind error.now ≡ IoKind.OutOfMemory) ⊥ e) }
+    ensures { IfOk result (λ e. IsErrorFor (error_kind error.now ≡ IoKind.OutOfMemory) ⊥ e) }
 {
     match error.kind() {
         io::ErrorKind::OutOfMemory => Ok(ArgumentsError::OutOfMemory),
@@ -169,14 +172,15 @@ fn unread(alloc: Global, error: &io::Error) -> Result<ArgumentsError, AllocError
 }
 
 fn refused_with(alloc: Global, text: &str) -> Result<ArgumentsError, AllocError>
-    ensures { IfOk result (λ e. IsToldAs ⊥ ⊥ e) }
+    ensures { IfOk result (λ e. IsErrorFor ⊥ ⊥ e) }
 {
     Ok(ArgumentsError::Refused(String::from_str(alloc, text)?))
 }
 
-// Why `clap` took no line.
+// Says why `clap` refused the line.
 fn error_of(alloc: Global, error: &clap::Error) -> Result<ArgumentsError, AllocError>
-    ensures { IfOk result (λ e. IsToldAs (kind_of error.now ≡ Kind.OutOfMemory) (kind_of error.now ≡ Kind.DisplayHelp) e) }
+    ensures { IfOk result (λ e. IsErrorFor (kind_of error.now ≡ Kind.OutOfMemory)
+        (kind_of error.now ≡ Kind.DisplayHelp) e) }
 {
     match error.kind() {
         ErrorKind::OutOfMemory => Ok(ArgumentsError::OutOfMemory),

@@ -8,7 +8,8 @@ pub(super) fn copied<S: AsStr>(
     alloc: Global,
     text: Option<&S>,
 ) -> Result<Option<String>, AllocError>
-    ensures { IfOk result (λ t. option_map string_bytes t ≡ option_map (λ s. S.text s.now) text.entry) }
+    ensures { IfOk result
+        (λ t. option_map string_bytes t ≡ option_map (λ s. S.text s.now) text.entry) }
 {
     match text {
         Some(text) => Ok(Some(String::from_str(alloc, text.as_str())?)),

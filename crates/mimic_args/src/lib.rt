@@ -18,10 +18,10 @@ ghost use Rattle.std.specs.Prelude.{◌≡◌, IfOk};
 
 mod command_line;
 mod copies;
-mod declared;
 mod error;
 mod line;
-mod matched;
+mod matches;
+mod options;
 
 use copies::{all_copied, copied};
 pub use error::ArgumentsError;
@@ -86,9 +86,9 @@ pub struct Arguments {
 }
 
 impl Arguments {
-    ghost use Rattle.mimic_args.specs.Arguments.{format_of, colours_of, AsksNothing, HasSameFields};
+    ghost use Rattle.mimic_args.specs.Arguments.{AsksNothing, HasSameFields, colours_of, format_of, threads_of};
 
-    /// Asks for nothing: each flag is false, each option `None`, and there is no filter or skip pattern.
+    /// Makes arguments that ask for nothing: each flag is false, each option `None`, and there is no filter or skip pattern.
     pub fn new(alloc: Global) -> Self
         ensures { AsksNothing result }
     {
@@ -112,7 +112,7 @@ impl Arguments {
         }
     }
 
-    /// Arguments with the same fields.
+    /// Returns arguments with the same fields.
     pub fn try_clone(&self, alloc: Global) -> Result<Self, AllocError>
         ensures { IfOk result (λ a. HasSameFields self.now a) }
     {
@@ -136,7 +136,7 @@ impl Arguments {
         })
     }
 
-    /// The format of the report: terse with `quiet`, else `format`, else pretty.
+    /// Returns the format of the report: terse with `quiet`, else `format`, else pretty.
     pub fn format_used(&self) -> FormatSetting
         ensures { result ≡ format_of self.now }
     {
@@ -147,7 +147,7 @@ impl Arguments {
         }
     }
 
-    /// Whether the report has colours. `auto` is what the caller says if the setting is `Auto` or
+    /// Returns whether the report has colours. `auto` is what the caller says if the setting is `Auto` or
     /// isn't there: whether the report goes to a terminal that shows colours.
     pub fn colours(&self, auto: bool) -> bool
         ensures { result ≡ colours_of self.now auto }
@@ -157,5 +157,12 @@ impl Arguments {
             ColorSetting::Always => true,
             ColorSetting::Never => false,
         }
+    }
+
+    /// Returns how many threads run the trials: `test_threads`, else the number that the caller hands in.
+    pub fn threads(&self, default_threads: usize) -> usize
+        ensures { result ≡ threads_of self.now default_threads }
+    {
+        self.test_threads.unwrap_or(default_threads)
     }
 }

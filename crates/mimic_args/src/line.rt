@@ -25,7 +25,7 @@ pub struct Line {
 }
 
 impl Line {
-    /// The line of these words, of which the first is the program's name.
+    /// Reads the line of these words, of which the first is the program's name.
     pub fn from_iter<S: AsStr>(alloc: Global, words: &[S]) -> Result<Line, AllocError>
         requires { 0 < length words.now }
         ensures { IfOk result (λ line. IsLine (map S.text words.now) line) }
@@ -41,7 +41,7 @@ impl Line {
         })
     }
 
-    /// The program's line, by the words that the runtime hands in.
+    /// Reads the program's line from the words that the runtime hands in.
     ///
     /// If these can't be read there are no own words, and the options are refused as by [`Arguments::from_args`].
     pub fn from_args<R: Env + AllocGlobal>(rt: &R, alloc: Global) -> Line
@@ -56,7 +56,7 @@ impl Line {
         }
     }
 
-    /// What the options ask for, and the program's own words if they are as many operands as it takes.
+    /// Returns what the options ask for, and the program's own words if they are as many operands as it takes.
     ///
     /// The first of them that begins with `-` asks for help, as `--help` or `-h`, or refuses the line: both errors have
     /// the text `usage`, and so has the refusal of too few or too many operands. If the options gave an error, that is
@@ -68,9 +68,12 @@ impl Line {
         usage: &str,
     ) -> Result<(Arguments, Vec<String>), ArgumentsError>
         ensures taken { IfOk result (λ r. (self.options ≡ Ok r.0) × (r.1 ≡ self.own)
-            × AreOperands (range_inclusive_start count) (range_inclusive_end count) (own_words self)) }
+            × AreOperands (range_inclusive_start count) (range_inclusive_end count)
+            (own_words self)) }
         ensures options { IfErr self.options (λ error. result ≡ Err error) }
-        ensures refused { IfOk self.options (λ _. IfErr result (RefusesOperands usage.now (range_inclusive_start count) (range_inclusive_end count) (own_words self))) }
+        ensures refused { IfOk self.options (λ _. IfErr result
+            (RefusesOperands usage.now (range_inclusive_start count) (range_inclusive_end count)
+            (own_words self))) }
     {
         let Line { own, options } = self;
         let options = options?;
@@ -92,7 +95,7 @@ impl Line {
     }
 }
 
-// The first of the words that begins with a hyphen.
+// Returns the first of the words that begins with a hyphen.
 fn first_option(words: &[String]) -> Option<&str>
     ensures { option_map (λ word. word.now) result ≡ find is_option (map string_bytes words.now) }
 {
@@ -108,7 +111,7 @@ fn is_option(word: &str) -> bool
     word.starts_with('-')
 }
 
-// How many words stand before the first `--`.
+// Counts the words before the first `--`.
 fn own_length<S: AsStr>(words: &[S]) -> usize
     ensures { IsOwnLength (map S.text words.now) result }
 {

@@ -12,7 +12,7 @@ use Rattle.std.proofs.lemmas.Fmt.{digits_decimal, decimal_injective, IsAscii-fro
 use Rattle.std.proofs.lemmas.List.{get_or-take, length-take}
 use Rattle.mimic_text.specs.Seconds.{IsRest, IsExactSeconds}
 use Rattle.mimic_text.proofs.ExactSeconds.{seconds_exact, seconds_only}
-use Rattle.mimic_events.specs.Steps.{EndsNumber, SplitsDigits, ReadsNumber}
+use Rattle.mimic_events.specs.LineParts.{EndsNumber, SplitsDigits, ReadsNumber}
 use Rattle.mimic_events.specs.Reading.{Decodes, IsNumber, IsSeconds}
 
 -- two ways to end the digits of one text are one

@@ -8,7 +8,7 @@ use Rattle.mimic_trial.specs.Count.{is_measured}
 use Rattle.mimic_text.specs.Escape.{escaped}
 use Rattle.mimic_printer.specs.Row.{Label}
 use Rattle.mimic_printer.specs.Json.{deviation_key, json_end, json_outcome, kind_field, median_key, outcome_front}
-use Rattle.mimic_events.specs.Steps.{ReadsNumber, IsFailure, IsTail, tail}
+use Rattle.mimic_events.specs.LineParts.{ReadsNumber, IsFailure, IsTail, tail}
 use Rattle.mimic_events.specs.Reading.{Decodes, IsOutcome}
 
 outcome_is : (label : Label) (o : Outcome) → json_outcome label o ≡ outcome_front (is_measured o) ++ (escaped label.name ++ 34 ∷ (kind_field label.kind ++ tail o))

@@ -6,7 +6,7 @@ use Rattle.std.proofs.lemmas.List.{append_cancel_left}
 use Rattle.mimic_text.specs.Escape.{escape, escape_char}
 use Rattle.mimic_text.proofs.Bounded.{all_below, one_below}
 use Rattle.mimic_text.proofs.Escapes.{escape-high}
-use Rattle.mimic_events.specs.Steps.{candidate_of, after_backslash, after_u}
+use Rattle.mimic_events.specs.LineParts.{candidate_of, after_backslash, after_u}
 
 not_backslash : (b : ℕ) → 93 ≤ b → eqb b 92 ≡ false
 not_backslash b h = grind (arith, nat_tests)
@@ -32,7 +32,7 @@ one_split text b rest e v others f =
     let same : v ≡ b = sym (again v others) ∙ ap candidate_of (sym f ∙ e) ∙ again b rest in
     (same, append_cancel_left (escape b) others rest (subst (λ (x : ℕ). escape x ++ others ≡ escape b ++ rest) same (sym f ∙ e)))
 
--- a text that a spelling begins is told by its candidate
+-- a text that begins with a spelling has that of its candidate
 pub candidate_at : (text : List ℕ) (v : ℕ) (rest : List ℕ) → text ≡ escape v ++ rest → candidate_of text ≡ v
 candidate_at text v rest e = ap candidate_of e ∙ again v rest
 

@@ -14,7 +14,7 @@ use Rattle.std.proofs.lemmas.List.Folds.{concat-append}
 use Rattle.mimic_trial.specs.Count.{counts_of}
 use Rattle.mimic_printer.specs.Json.{Contents, Entry, IsJsonReport, conclusion_of, entry_lines, json_announcement, json_end, json_outcome, json_report, json_summary, json_title, title_front}
 use Rattle.mimic_printer.proofs.JsonLines.{announcement_line}
-use Rattle.mimic_events.specs.Machine.{Fits, Next, State, state_text, text_so_far, title_and, title_next, row_next, outcome_next, nothing_next}
+use Rattle.mimic_events.specs.Progress.{Fits, Next, State, state_text, text_so_far, title_and, title_next, row_next, outcome_next, nothing_next}
 use Rattle.mimic_events.proofs.Digits.{decimal_digits, one_end}
 use Rattle.mimic_events.proofs.Summaries.{outcomes}
 use Rattle.mimic_events.proofs.WholeLines.{line_some}
@@ -39,7 +39,7 @@ report_long c =
     let title : List ℕ = json_title (length c.entries) in
     omega (arith, rows_long c.entries, length-append title (concat (rows ++ last)), ap length (concat-append rows last), length-append (concat rows) (concat last))
 
--- ---- behind the title
+-- ---- after the title
 
 glyph : (d : ℕ) → d < 10 → digit_value (digit_glyph false d) < 10
 glyph d lt =

@@ -4,7 +4,7 @@ use Rattle.std.proofs.lemmas.List.{take_more}
 use Rattle.std.proofs.lemmas.Bool.Decides.{nat_tests}
 use Rattle.memchr.specs.Find.{IsFirstByte, is_byte}
 use Rattle.std.specs.Prelude.{Some}
-use Rattle.mimic_events.specs.Machine.{HasNoEnd, IsLine}
+use Rattle.mimic_events.specs.Progress.{HasNoEnd, IsLine}
 
 no_end_before : (bytes : List ℕ) (n : ℕ) → ((k : ℕ) → k < n → get_or bytes k 0 ≢ 10) → HasNoEnd (take n bytes)
 no_end_before [] zero h = tt

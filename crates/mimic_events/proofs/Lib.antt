@@ -4,11 +4,11 @@ pub mod Escapes
 pub mod FewRows
 pub mod FirstLines
 pub mod Fronts
-pub mod Machine
 pub mod NamedLines
 pub mod QuotedTexts
 pub mod Readings
 pub mod RowReaders
+pub mod States
 pub mod Summaries
 pub mod Tallies
 pub mod WholeLines

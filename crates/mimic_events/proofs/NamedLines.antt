@@ -9,7 +9,7 @@ use Rattle.mimic_trial.specs.declared.outcome.Outcome.TheVariants.{Failed}
 use Rattle.mimic_text.specs.Escape.{escape, escaped}
 use Rattle.mimic_printer.specs.Row.{Label}
 use Rattle.mimic_printer.specs.Json.{announcement_front, event_field, json_announcement, json_end, json_title, kind_field, kind_key, stdout_key, title_front}
-use Rattle.mimic_events.specs.Steps.{Follows, ReadsQuoted, ReadsNamed, ReadsNumber, IsFailure, IsKind, tail}
+use Rattle.mimic_events.specs.LineParts.{Follows, ReadsQuoted, ReadsNamed, ReadsNumber, IsFailure, IsKind, tail}
 use Rattle.mimic_events.specs.Reading.{Decodes, IsAnnouncement, IsTitle}
 use Rattle.mimic_events.proofs.Fronts.{Follows-then, Follows-stop}
 
@@ -24,7 +24,7 @@ named_some front line rest (Some x) e h =
 quoted_kind : (b : ℕ) (kind rest : List ℕ) → kind_field (b ∷ kind) ++ rest ≡ kind_key ++ (escaped (b ∷ kind) ++ 34 ∷ rest)
 quoted_kind b kind rest = ap (λ (x : List ℕ). kind_key ++ x) (append_assoc (escaped (b ∷ kind)) (34 ∷ []) rest)
 
--- where the line doesn't end behind the name, the kind stands in quotes
+-- if the line doesn't end after the name, the kind stands in quotes
 pub kind_spelled : (text v : List ℕ) → text ≢ json_end → IsKind v text → (v ≢ []) × (text ≡ kind_key ++ (escaped v ++ 34 ∷ json_end))
 kind_spelled text [] more h = absurd (more h.1)
 kind_spelled text (b ∷ v) more h = ((λ e. cc), h.1 ∙ quoted_kind b v json_end)
@@ -45,7 +45,7 @@ label_front : (front name kind : List ℕ) → (front ++ (escaped name ++ 34 ∷
 label_front front name kind =
     append_assoc front (escaped name ++ 34 ∷ []) (kind_field kind) ∙ ap (λ (x : List ℕ). front ++ x) (append_assoc (escaped name) (34 ∷ []) (kind_field kind))
 
--- behind the name
+-- after the name
 pub label_then : (front name kind line rest : List ℕ) (o : Option (Bor (List ℕ))) → line ≡ (front ++ (escaped name ++ 34 ∷ [])) ++ rest → Follows (kind_field kind) rest o
     → Follows (front ++ (escaped name ++ 34 ∷ kind_field kind)) line o
 label_then front name kind line rest o e h =
@@ -55,7 +55,7 @@ pub label_stop : (front name kind line : List ℕ) → ((rest : List ℕ) → li
 label_stop front name kind line h =
     subst (λ (x : List ℕ). Follows x line None) (label_front front name kind) (Follows-stop (front ++ (escaped name ++ 34 ∷ [])) (kind_field kind) line h)
 
--- behind the kind
+-- after the kind
 pub kind_then : (kind rest : List ℕ) (o : Option (Bor (List ℕ))) → kind ≢ [] → Follows (kind_key ++ (escaped kind ++ 34 ∷ [])) rest o → Follows (kind_field kind) rest o
 kind_then [] rest o some h = absurd (some refl)
 kind_then (b ∷ kind) rest o some h = h
@@ -119,7 +119,7 @@ title_some line rest end n e h last = (
 abbrev pub failure_front : List ℕ
 failure_front = event_field (codes "failed") ++ stdout_key
 
--- the message, and the quote and the line end behind it
+-- the message, and the quote and the line end after it
 abbrev pub said : List ℕ → List ℕ
 said message = message ++ codes "\"\n"
 

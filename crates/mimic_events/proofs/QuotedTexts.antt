@@ -5,8 +5,8 @@ use Rattle.std.proofs.lemmas.List.{append-nil, nil_from_length, take_all}
 use Rattle.std.proofs.lemmas.List.Concat.{flat_map-append}
 use Rattle.mimic_text.specs.Escape.{ArePlain, escape, escaped}
 use Rattle.mimic_text.proofs.Escapes.{escaped-plain}
-use Rattle.mimic_events.specs.Steps.{candidate_of, ReadsEscaped}
-use Rattle.mimic_events.specs.Steps.{Follows}
+use Rattle.mimic_events.specs.LineParts.{candidate_of, ReadsEscaped}
+use Rattle.mimic_events.specs.LineParts.{Follows}
 use Rattle.mimic_events.proofs.Escapes.{again, one_split}
 use Rattle.mimic_events.proofs.Fronts.{Follows-then, Follows-stop}
 
@@ -67,7 +67,7 @@ escaped-parts : (text plain left : List ℕ) → text ≡ plain ++ left → AreP
 unfolding escaped
 escaped-parts text plain left e p = ap escaped e ∙ flat_map-append escape plain left ∙ ap (λ (x : List ℕ). x ++ escaped left) (escaped-plain plain p)
 
--- behind what stands for itself
+-- after what stands for itself
 pub plain-then : (text plain left line rest : List ℕ) (o : Option (Bor (List ℕ))) → text ≡ plain ++ left → ArePlain plain → line ≡ plain ++ rest → Follows (escaped left) rest o → Follows (escaped text) line o
 plain-then text plain left line rest o e p f h =
     subst (λ (front : List ℕ). Follows front line o) (sym (escaped-parts text plain left e p)) (Follows-then plain (escaped left) line rest o f h)
@@ -76,7 +76,7 @@ pub plain-stop : (text plain left line : List ℕ) → text ≡ plain ++ left �
 plain-stop text plain left line e p h =
     subst (λ (front : List ℕ). Follows front line None) (sym (escaped-parts text plain left e p)) (Follows-stop plain (escaped left) line h)
 
--- behind the spelling of the first byte
+-- after the spelling of the first byte
 escaped-first : (text : List ℕ) → 1 ≤ length text → escaped text ≡ escape (get_or text 0 0) ++ escaped (drop 1 text)
 unfolding escaped
 escaped-first text h = ap (λ (x : List ℕ). flat_map escape x) (drop-cons text 0 0 h)
@@ -93,6 +93,6 @@ pub nothing-left : (text : List ℕ) (rest : Bor (List ℕ)) → length text < 1
 unfolding escaped
 nothing-left text rest h = rw (nil_from_length text (omega arith)) refl
 
--- the bytes behind the first
+-- the bytes after the first
 pub behind-first : (text : List ℕ) → take (length text - 1) (drop 1 text) ≡ drop 1 text
 behind-first text = take_all (length text - 1) (drop 1 text) (omega (arith, length-drop 1 text))

@@ -10,12 +10,12 @@ use Rattle.mimic_printer.proofs.JsonLines.{each_append, lines_each, no_end-appen
 use Rattle.mimic_events.specs.Contents.{Spells, totals_of}
 use Rattle.mimic_events.specs.Feed.{AreEnded, BeginsWith}
 use Rattle.mimic_events.specs.Reading.{Decodes}
-use Rattle.mimic_events.specs.Machine.{Fits, FitsNext, HasNoEnd, IsLine, LeadsFrom, Next, Runs, State, Step, TellsTotals, title_next, row_next, outcome_next, nothing_next, start, state_text, text_so_far}
+use Rattle.mimic_events.specs.Progress.{Fits, FitsNext, HasNoEnd, IsLine, LeadsFrom, Next, Runs, State, Step, HasTotals, title_next, row_next, outcome_next, nothing_next, start, state_text, text_so_far}
 use Rattle.mimic_events.specs.declared.report.Totals.{Totals}
-use Rattle.mimic_events.specs.Pieces.{IsOnlyWay, IsUnread, Known, Leads, SumsUp, report_with}
+use Rattle.mimic_events.specs.Readers.{IsOnlyWay, IsUnread, Known, Leads, SumsUp, report_with}
 use Rattle.mimic_events.proofs.FewRows.{few_rows}
 use Rattle.mimic_events.proofs.WholeLines.{no_line, one_line}
-use Rattle.mimic_events.proofs.Machine.{step_keeps}
+use Rattle.mimic_events.proofs.States.{step_keeps}
 use Rattle.mimic_events.proofs.Summaries.{outcomes}
 
 -- ---- runs over lines
@@ -24,7 +24,7 @@ runs_append : (p q : List (List ℕ)) (s t u : State) → Runs s p t → Runs t 
 runs_append [] q s t u a b = subst (λ (x : State). Runs x q u) (sym a) b
 runs_append (l ∷ p) q s t u a b = (a.0, a.1, runs_append p q a.0 t u a.2 b)
 
--- the lines of rows lead behind them
+-- the lines of rows lead to the state after them
 rows_run : (n : ℕ) (old es : List Entry) → length old + length es ≤ n → AllByRecursion FitsEntry es
     → Runs (record { next = row_next; announced = n; entries = old }) (flat_map entry_lines es) (record { next = row_next; announced = n; entries = old ++ es })
 rows_run n old [] le fits = rw append-nil refl
@@ -35,7 +35,7 @@ rows_run n old (e ∷ es) le fits =
       (record { next = row_next; announced = n; entries = old ++ e ∷ [] }, (e.outcome, (fits.0.outcome, refl), refl), rw append_assoc at rest),
     )
 
--- a title and the lines of rows lead behind them
+-- a title and the lines of rows lead to the state after them
 abbrev behind : ℕ → List Entry → State
 behind n es = record { next = row_next; announced = n; entries = es }
 
@@ -68,7 +68,7 @@ fresh s rest e none = subst (λ (u : State). Known u rest false) (sym e) (record
 
 -- ---- one more line
 
--- what leads on over the line leads on behind it, or led there
+-- what leads on over the line leads on after it, or led there
 over_line : (s : State) (line : List ℕ) (t u : State) (more after : List ℕ) → IsLine line → Step s line t → ((v : State) → Step s line v → v ≡ t) → Leads s (line ++ more) u after → Leads t more u after ⊎ Leads u after t more
 over_line s line t u more after is step only lead = at lead.lines lead.each lead.run lead.parts
   where
@@ -168,7 +168,7 @@ ended s rest stuck t after unread lead = at stuck unread lead.lines lead.each le
 
 -- ---- the one report
 
--- the state behind the summary of these contents
+-- the state after the summary of these contents
 abbrev over : Contents → State
 over c = record { next = nothing_next c.filtered_out c.nanos; announced = length c.entries; entries = c.entries }
 
@@ -185,7 +185,7 @@ report_leads bytes c h few =
       parts = h.text ∙ sym (append-nil (json_report c));
     }
 
--- nothing leads on from behind a summary
+-- nothing leads on after a summary
 last_of_all : (c : Contents) (s : State) (rest : List ℕ) → Leads (over c) [] s rest → (s ≡ over c) × (rest ≡ [])
 last_of_all c s rest lead = at lead.lines lead.run lead.parts
   where
@@ -214,12 +214,12 @@ report_read c fits = record {
   nanos = fits.next.2;
 }
 
--- where something is left, the bytes are no report
+-- if something is left, the bytes are no report
 pub no_report : (s : State) (rest : List ℕ) (stuck : Bool) → Known s rest stuck → length rest < 2 ^ 64 → rest ≢ [] → Decodes Spells (state_text s ++ rest) None
 no_report s rest stuck known short some = λ c h. some (report_was_read s rest stuck c known short h).1
 
--- where nothing is left, the report is what the lines said
-pub the_one_report : (s : State) (rest : List ℕ) (stuck : Bool) (o : Option Totals) → Known s rest stuck → length rest < 2 ^ 64 → rest ≡ [] → TellsTotals s o → SumsUp (state_text s ++ rest) s.entries o
+-- if nothing is left, the report is what the lines said
+pub the_one_report : (s : State) (rest : List ℕ) (stuck : Bool) (o : Option Totals) → Known s rest stuck → length rest < 2 ^ 64 → rest ≡ [] → HasTotals s o → SumsUp (state_text s ++ rest) s.entries o
 the_one_report s rest stuck None known short none out = λ c h.
     out c.filtered_out c.nanos (ap (λ (u : State). u.next) (report_was_read s rest stuck c known short h).0)
 the_one_report s rest stuck (Some t) known short none out =

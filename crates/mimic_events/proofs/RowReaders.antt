@@ -3,8 +3,8 @@ use Rattle.std.proofs.Common.{◌≡◌, ℕ, List, [], ◌∷◌, ◌++◌, len
 use Rattle.std.proofs.lemmas.List.{length-append}
 use Rattle.mimic_events.specs.declared.report.Row.{Row}
 use Rattle.mimic_events.specs.declared.row_reader.RowReader.{RowReader}
-use Rattle.mimic_events.specs.Machine.{IsLine}
-use Rattle.mimic_events.specs.Pieces.{ReadsOn, ReadsRow, bytes_of}
+use Rattle.mimic_events.specs.Progress.{IsLine}
+use Rattle.mimic_events.specs.Readers.{ReadsOn, ReadsRow, bytes_of}
 
 -- the front of the piece was read, and ended no row; what is left follows
 pub record ReadsFront (old : RowReader) (piece : List ℕ) (new : RowReader) (left : List ℕ) : Type 0 where

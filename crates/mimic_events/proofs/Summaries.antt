@@ -9,7 +9,7 @@ use Rattle.mimic_trial.specs.Count.{counted, counts_of}
 use Rattle.mimic_trial.proofs.Counting.{counts-push}
 use Rattle.mimic_printer.specs.Json.{Entry, json_end, json_summary, summary_front, time_key}
 use Rattle.mimic_text.specs.Seconds.{exact_seconds}
-use Rattle.mimic_events.specs.Steps.{IsTotals, ReadsNumber}
+use Rattle.mimic_events.specs.LineParts.{IsTotals, ReadsNumber}
 use Rattle.mimic_events.specs.Reading.{Decodes, HasCounts, IsSeconds, IsSummary}
 
 abbrev pub outcomes : List Entry → List Outcome
@@ -26,13 +26,13 @@ counts_more entries counts e h =
 abbrev pub totals_of : ℕ → ℕ → List ℕ
 totals_of x t = decimal x ++ (time_key ++ (exact_seconds t ++ json_end))
 
--- behind the number of trials that were filtered out
+-- after the number of trials that were filtered out
 pub behind_number : (text rest : List ℕ) (x : ℕ) (v : ℕ × ℕ) → ReadsNumber text (Some (x, rest)) → IsTotals v text → (v.0 ≡ x) × (rest ≡ time_key ++ (exact_seconds v.1 ++ json_end))
 behind_number text rest x v read h =
     let r = read.3 v.0 (time_key ++ (exact_seconds v.1 ++ json_end)) h.0 (λ a b. omega arith) h.2 in
     (r.0, sym r.1)
 
--- behind the key of the time
+-- after the key of the time
 pub behind_key : (text rest time : List ℕ) (x : ℕ) (v : ℕ × ℕ) → ReadsNumber text (Some (x, rest)) → rest ≡ time_key ++ time → IsTotals v text → time ≡ exact_seconds v.1 ++ json_end
 behind_key text rest time x v read e h = append_cancel_left time_key time (exact_seconds v.1 ++ json_end) (sym e ∙ (behind_number text rest x v read h).1)
 
@@ -63,7 +63,7 @@ summary_front_is entries counts line v e h =
     h.2 ∙ summary_is (outcomes entries) v.0 v.1
     ∙ ap (λ (c : Conclusion). concat (summary_front c) ++ totals_of v.0 v.1) (sym e)
 
--- what is read behind the counts is what the line says
+-- what is read after the counts is what the line says
 pub summary_read : (entries : List Entry) (counts : Conclusion) (line rest : List ℕ) (o : Option (ℕ × ℕ)) → HasCounts counts entries → line ≡ concat (summary_front counts) ++ rest
     → Decodes IsTotals rest o → Decodes (IsSummary entries) line o
 summary_read entries counts line rest None e f d = λ v h. d v (h.0, h.1, append_cancel_left (concat (summary_front counts)) rest (totals_of v.0 v.1) (sym f ∙ summary_front_is entries counts line v e h))

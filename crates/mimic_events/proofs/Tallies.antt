@@ -2,8 +2,8 @@
 use Rattle.std.proofs.Common.{◌≡◌, ℕ, List, [], ◌++◌, Option, None, Some, refl, ap, sym, subst, ◌∙◌, append_assoc, append-nil}
 use Rattle.mimic_events.specs.declared.report.Row.{Row}
 use Rattle.mimic_events.specs.declared.tally.Tally.{Tally}
-use Rattle.mimic_events.specs.Machine.{with_row}
-use Rattle.mimic_events.specs.Pieces.{ReadsOn, ReadsRow}
+use Rattle.mimic_events.specs.Progress.{with_row}
+use Rattle.mimic_events.specs.Readers.{ReadsOn, ReadsRow}
 use Rattle.mimic_events.specs.Tally.{HasRead}
 
 -- whatever a tally was fed, the bytes follow it

@@ -1,4 +1,4 @@
--- What a report that was read back tells, in the words of the reports that are written.
+-- What a report that was read back says, in the words of the reports that are written.
 use Rattle.std.specs.Prelude.{ℕ, List, length, map, string_bytes}
 use Rattle.mimic_printer.specs.Json.{Entry, Contents, IsJsonReport, conclusion_of}
 use Rattle.mimic_printer.specs.Row.{Label}
@@ -7,22 +7,22 @@ use Rattle.mimic_events.specs.declared.report.Row.{Row}
 use Rattle.mimic_events.specs.declared.report.Report.{Report}
 use Rattle.mimic_events.specs.declared.report.Totals.{Totals}
 
--- what an announcement that was read tells: a name and a kind
+-- what an announcement that was read says: a name and a kind
 abbrev pub label_read : LabelRead → Label
 label_read label = record { kind = string_bytes label.kind; name = string_bytes label.name }
 
--- what a row that was read tells: its name, its kind and its outcome
+-- what a row that was read says: its name, its kind and its outcome
 abbrev pub entry_read : Row → Entry
 entry_read row = record {
   label = record { kind = string_bytes row.kind; name = string_bytes row.name };
   outcome = row.outcome;
 }
 
--- what a report that was read tells: the entries of its rows, and its two numbers
+-- what a report that was read says: the entries of its rows, and its two numbers
 abbrev pub contents_read : Report → Contents
 contents_read r = record { entries = map entry_read r.rows.items; filtered_out = r.filtered_out; nanos = r.nanos }
 
--- what a report tells in numbers: how many rows, their counts, and the nanoseconds
+-- what a report says in numbers: how many rows, their counts, and the nanoseconds
 abbrev pub totals_of : Contents → Totals
 totals_of c = record { rows = length c.entries; counts = conclusion_of c; nanos = c.nanos }
 

@@ -1,8 +1,8 @@
 pub mod Contents
 pub mod Feed
-pub mod Machine
-pub mod Pieces
+pub mod LineParts
+pub mod Progress
+pub mod Readers
 pub mod Reading
-pub mod Stages
-pub mod Steps
+pub mod Stage
 pub mod Tally

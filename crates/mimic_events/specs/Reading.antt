@@ -1,4 +1,4 @@
--- What readers answer, and what they read.
+-- What readers return, and what they read.
 use Rattle.std.specs.Prelude.{◌≡◌, ℕ, ◌<◌, ◌^◌, List, map, decimal, Option, Some, None}
 use Rattle.mimic_trial.specs.declared.outcome.Outcome.{Outcome}
 use Rattle.mimic_trial.specs.declared.outcome.conclusion.Conclusion.{Conclusion}
@@ -8,7 +8,7 @@ use Rattle.mimic_printer.specs.Row.{Label}
 use Rattle.mimic_trial.specs.Promise.{FitsTypes}
 use Rattle.mimic_text.specs.Seconds.{exact_seconds}
 
--- what was found is the one value that the text spells; where nothing was found, the text spells none
+-- what was found is the one value that the text spells; if nothing was found, the text spells none
 abbrev pub Decodes : {V : Type 0} → (V → List ℕ → Type 0) → List ℕ → Option V → Type 0
 Decodes {V} spells text None = (v : V) → spells v text → ⊥
 Decodes {V} spells text (Some found) = spells found text × ((v : V) → spells v text → v ≡ found)

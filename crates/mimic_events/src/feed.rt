@@ -1,11 +1,11 @@
-//! Reports, whole and in pieces.
+//! Reads reports, whole and in pieces.
 ghost use Rattle.std.specs.Prelude.{◌≡◌, ◌++◌, [], true, false, IfOk, IsErr, MatchOption, OnErr, OnOk, map, option_map};
 ghost use Rattle.mimic_events.specs.Contents.{Spells, contents_read, entry_read};
 ghost use Rattle.mimic_events.specs.Feed.{AreEnded};
 ghost use Rattle.mimic_events.specs.Reading.{Decodes};
 
-use crate::reading::Reading;
 use crate::report::{Report, Row};
+use crate::report_reader::ReportReader;
 use std::alloc::{AllocError, Global};
 use std::marker::Model;
 
@@ -17,69 +17,72 @@ use std::marker::Model;
 #[derive(Drop)]
 pub struct Feed {
     alloc: Global,
-    reading: Reading,
+    reader: ReportReader,
     failed: bool,
 }
 
 impl Model for Feed {
     ghost use Rattle.std.specs.Prelude.{◌≡◌, false};
     ghost use Rattle.mimic_events.specs.Feed.{Fed};
-    ghost use Rattle.mimic_events.specs.Pieces.{IsSoundSoFar, bytes_so_far};
+    ghost use Rattle.mimic_events.specs.Readers.{IsSoundSoFar, bytes_so_far};
 
     ghost Value = { Fed };
 
-    ghost view = { λ f. record { bytes = bytes_so_far f.reading; failed = f.failed } };
+    ghost view = { λ f. record { bytes = bytes_so_far f.reader; failed = f.failed } };
 
-    ghost invariant = { λ f. f.failed ≡ false → IsSoundSoFar f.reading };
+    ghost invariant = { λ f. f.failed ≡ false → IsSoundSoFar f.reader };
 }
 
 impl Feed {
-    /// A feed that has no bytes yet. It takes no memory so far; the `Result` leaves room for that.
+    /// Makes a feed that has no bytes yet. It takes no memory so far; the `Result` leaves room for that.
     pub fn new(alloc: Global) -> Result<Feed, AllocError>
         ensures { IfOk result (λ feed. feed ≡ record { bytes = []; failed = false }) }
     {
         Ok(Feed {
             alloc,
-            reading: Reading::new(alloc),
+            reader: ReportReader::new(alloc),
             failed: false,
         })
     }
 
     /// Takes the next piece. If an allocation fails, this call and all later ones are refused.
     pub fn feed(&mut self, piece: &[u8]) -> Result<(), AllocError>
-        ensures taken { OnOk result (self.new ≡ record { bytes = self.old.bytes ++ piece.now; failed = false }) }
+        ensures taken { OnOk result
+            (self.new ≡ record { bytes = self.old.bytes ++ piece.now; failed = false }) }
         ensures failed { OnErr result (self.new.failed ≡ true) }
         ensures refused { self.old.failed ≡ true → IsErr result }
     {
         if self.failed {
             return Err(AllocError);
         }
-        // So it stays if the piece isn't read to its end.
+        // It stays so if the piece isn't read to its end.
         self.failed = true;
-        self.reading.read_on(self.alloc, piece)?;
+        self.reader.read_on(self.alloc, piece)?;
         self.failed = false;
         Ok(())
     }
 
-    /// The rows that have ended so far, each by the line end of its outcome; `None` after a refused piece.
+    /// Returns the rows that have ended so far, each by the line end of its outcome, and `None` after a refused piece.
     pub fn rows(&self) -> Option<&[Row]>
-        ensures { MatchOption result (self.now.failed ≡ true) (λ rows. (self.now.failed ≡ false) × AreEnded self.now.bytes (map entry_read rows.now)) }
+        ensures { MatchOption result (self.now.failed ≡ true) (λ rows. (self.now.failed ≡ false)
+            × AreEnded self.now.bytes (map entry_read rows.now)) }
     {
         if self.failed {
             return None;
         }
-        Some(self.reading.rows())
+        Some(self.reader.rows())
     }
 
-    /// The report that all bytes are together: `None` if they are none, and `Err` after a refused piece.
+    /// Returns the report that all bytes are together, `None` if they are none, and `Err` after a refused piece.
     pub fn finish(self) -> Result<Option<Report>, AllocError>
-        ensures report { IfOk result (λ found. Decodes Spells self.bytes (option_map contents_read found)) }
+        ensures report { IfOk result
+            (λ found. Decodes Spells self.bytes (option_map contents_read found)) }
         ensures refused { self.failed ≡ true → IsErr result }
     {
         if self.failed {
             return Err(AllocError);
         }
-        Ok(self.reading.into_report())
+        Ok(self.reader.into_report())
     }
 }
 

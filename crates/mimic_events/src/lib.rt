@@ -25,16 +25,16 @@
 #![tactic(auto)]
 
 mod counts;
+mod ends;
 mod feed;
 mod lines;
 mod numbers;
 mod progress;
-mod quoted;
-mod reading;
+mod quoted_text;
 mod report;
+mod report_reader;
 mod row_reader;
 mod stage;
-mod strip;
 mod summary;
 mod tally;
 

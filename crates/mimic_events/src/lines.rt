@@ -1,25 +1,25 @@
-//! The lines of a report, each with its line end.
+//! Reads the lines of a report, each with its line end.
 ghost use Rattle.std.specs.Prelude.{◌≡◌, ◌≢◌, ◌∷◌, ◌++◌, ℕ, List, IfOk, MatchOption, IsUtf8, codes, option_map, string_bytes, true, false};
 ghost use Rattle.mimic_text.specs.Escape.{escaped};
 ghost use Rattle.mimic_events.specs.Contents.{label_read};
 ghost use Rattle.mimic_printer.specs.Json.{kind_field};
-ghost use Rattle.mimic_events.specs.Steps.{Follows, IsFailure, IsKind, IsTail};
+ghost use Rattle.mimic_events.specs.LineParts.{Follows, IsFailure, IsKind, IsTail};
 ghost use Rattle.mimic_events.specs.Reading.{Decodes, IsTitle, IsAnnouncement, IsOutcome};
 
+use crate::ends::{after, before};
 use crate::numbers::number_at;
-use crate::quoted::{after_quoted, quoted_after};
-use crate::strip::{after, before};
+use crate::quoted_text::{after_quoted, quoted_after};
 use mimic_trial::{Failed, Measurement, Outcome};
 use std::alloc::{AllocError, Global};
 
-// What is shown of a trial.
+// What a report shows of a trial.
 #[derive(Debug, Drop)]
 pub(crate) struct Label {
     pub(crate) name: String,
     pub(crate) kind: String,
 }
 
-// The number of rows that a title line says.
+// Returns the number of rows that a title line says.
 pub(crate) fn titled(line: &[u8]) -> Option<u64>
     ensures { Decodes IsTitle line.now result }
 {
@@ -33,7 +33,7 @@ pub(crate) fn titled(line: &[u8]) -> Option<u64>
     }
 }
 
-// The trial that a line announces.
+// Returns the trial that a line announces.
 pub(crate) fn announced(alloc: Global, line: &[u8]) -> Result<Option<Label>, AllocError>
     ensures { IfOk result (λ label. Decodes IsAnnouncement line.now (option_map label_read label)) }
 {
@@ -50,7 +50,7 @@ pub(crate) fn announced(alloc: Global, line: &[u8]) -> Result<Option<Label>, All
     }
 }
 
-// The kind of a trial, from what follows the name in its announcement.
+// Reads the kind of a trial from what follows the name in its announcement.
 fn kind_of(alloc: Global, rest: &[u8]) -> Result<Option<String>, AllocError>
     ensures { IfOk result (λ kind. Decodes IsKind rest.now (option_map string_bytes kind)) }
 {
@@ -66,7 +66,7 @@ fn kind_of(alloc: Global, rest: &[u8]) -> Result<Option<String>, AllocError>
     Ok(text_of(kind))
 }
 
-// The outcome that a line says of this trial.
+// Returns the outcome that a line says of this trial.
 pub(crate) fn ended(
     alloc: Global,
     label: &Label,
@@ -86,9 +86,10 @@ pub(crate) fn ended(
     }
 }
 
-// What follows this front, which ends with the name's opening quote, and the name and kind of this trial.
+// Returns what follows this front, which ends with the name's opening quote, and the name and kind of this trial.
 fn after_label<'a>(line: &'a [u8], front: &[u8], label: &Label) -> Option<&'a [u8]>
-    ensures { Follows (front.now ++ (escaped (string_bytes label.now.name) ++ 34 ∷ kind_field (string_bytes label.now.kind))) line.now result }
+    ensures { Follows (front.now ++ (escaped (string_bytes label.now.name)
+        ++ 34 ∷ kind_field (string_bytes label.now.kind))) line.now result }
 {
     let rest = after_quoted(line, front, label.name.as_str())?;
     if label.kind.is_empty() {
@@ -97,7 +98,7 @@ fn after_label<'a>(line: &'a [u8], front: &[u8], label: &Label) -> Option<&'a [u
     after_quoted(rest, br#", "kind": ""#, label.kind.as_str())
 }
 
-// The outcome of a measured trial, from what follows the name and the kind.
+// Reads the outcome of a measured trial from what follows the name and the kind.
 fn measured(rest: &[u8]) -> Option<Outcome>
     ensures { Decodes (IsTail true) rest.now result }
 {
@@ -110,7 +111,7 @@ fn measured(rest: &[u8]) -> Option<Outcome>
     }
 }
 
-// The outcome of a trial that was not measured, from what follows the name and the kind.
+// Reads the outcome of a trial that was not measured from what follows the name and the kind.
 fn tested(alloc: Global, rest: &[u8]) -> Result<Option<Outcome>, AllocError>
     ensures { IfOk result (λ outcome. Decodes (IsTail false) rest.now outcome) }
 {
@@ -129,9 +130,10 @@ fn tested(alloc: Global, rest: &[u8]) -> Result<Option<Outcome>, AllocError>
     }
 }
 
-// The message of a failure, from what follows the name and the kind.
+// Reads the message of a failure from what follows the name and the kind.
 fn failure(alloc: Global, rest: &[u8]) -> Result<Option<String>, AllocError>
-    ensures { IfOk result (λ message. Decodes IsFailure rest.now (option_map string_bytes message)) }
+    ensures { IfOk result
+        (λ message. Decodes IsFailure rest.now (option_map string_bytes message)) }
 {
     let front = br#", "event": "failed", "stdout": "Error: \""#;
     let Some((text, end)) = quoted_after(alloc, rest, front)? else {
@@ -146,9 +148,10 @@ fn failure(alloc: Global, rest: &[u8]) -> Result<Option<String>, AllocError>
     }
 }
 
-// What stands before a quote and a line end that end the text.
+// Returns what stands before the quote and the line end that end the text.
 fn before_quote(text: Vec<u8>) -> Option<Vec<u8>>
-    ensures { MatchOption result ((m : List ℕ) → text.items ≢ m ++ codes "\"\n") (λ m. text.items ≡ m.items ++ codes "\"\n") }
+    ensures { MatchOption result ((m : List ℕ) → text.items ≢ m ++ codes "\"\n")
+        (λ m. text.items ≡ m.items ++ codes "\"\n") }
 {
     let mut text = text;
     let len = before(text.as_slice(), b"\"\n")?.len();
@@ -156,9 +159,10 @@ fn before_quote(text: Vec<u8>) -> Option<Vec<u8>>
     Some(text)
 }
 
-// The bytes as a text, if they are UTF-8.
+// Returns the bytes as a text, if they are UTF-8.
 fn text_of(bytes: Vec<u8>) -> Option<String>
-    ensures { MatchOption result (¬ (IsUtf8 bytes.items)) (λ text. (string_bytes text ≡ bytes.items) × IsUtf8 bytes.items) }
+    ensures { MatchOption result (¬ (IsUtf8 bytes.items))
+        (λ text. (string_bytes text ≡ bytes.items) × IsUtf8 bytes.items) }
 {
     String::from_utf8(bytes).ok()
 }

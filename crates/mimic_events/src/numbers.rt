@@ -1,16 +1,15 @@
-//! Numbers and seconds, as a report spells them.
+//! Reads numbers and seconds, as a report spells them.
 ghost use Rattle.std.specs.Prelude.{◌≡◌, ◌<◌, ◌≤◌, ◌+◌, ◌*◌, ◌^◌, length, option_map, SomeIff};
 ghost use Rattle.std.specs.Str.Parse.{IsNumeral, digits_value};
 ghost use Rattle.mimic_text.specs.Seconds.{IsFraction, IsRest};
 ghost use Rattle.mimic_events.specs.Reading.{Decodes, IsNumber, IsSeconds};
-ghost use Rattle.mimic_events.specs.Steps.{SplitsDigits, ReadsNumber};
+ghost use Rattle.mimic_events.specs.LineParts.{SplitsDigits, ReadsNumber};
 
 use itoa::Buffer;
+use mimic_text::NANOS_PER_SECOND;
 use std::str;
 
-const NANOS_PER_SECOND: u64 = 1_000_000_000;
-
-// The number at the front, and what follows its digits.
+// Returns the number at the front, and what follows its digits.
 pub(crate) fn number_at(bytes: &[u8]) -> Option<(u64, &[u8])>
     ensures { ReadsNumber bytes.now (option_map (λ found. (found.0, found.1.now)) result) }
 {
@@ -19,7 +18,7 @@ pub(crate) fn number_at(bytes: &[u8]) -> Option<(u64, &[u8])>
     Some((number, rest))
 }
 
-// The nanoseconds of a text that is seconds in exact decimal.
+// Returns the nanoseconds of a text that is seconds in exact decimal.
 pub(crate) fn seconds(text: &[u8]) -> Option<u64>
     ensures { Decodes IsSeconds text.now result }
 {
@@ -28,7 +27,7 @@ pub(crate) fn seconds(text: &[u8]) -> Option<u64>
     nanos_of(whole, fraction)
 }
 
-// The digits at the front, all of them, and what follows.
+// Splits the text after all digits at its front.
 fn digits_at(bytes: &[u8]) -> (&[u8], &[u8])
     ensures { SplitsDigits bytes.now result.0.now result.1.now }
 {
@@ -39,7 +38,7 @@ fn digits_at(bytes: &[u8]) -> (&[u8], &[u8])
     bytes.split_at(len)
 }
 
-// The number in plain decimal. `parse` also takes a sign and leading zeros, so the number is written again.
+// Returns the number of a text in plain decimal. `parse` also takes a sign and leading zeros, so the number is written again.
 fn number(text: &[u8]) -> Option<u64>
     ensures { Decodes IsNumber text.now result }
 {
@@ -52,7 +51,7 @@ fn number(text: &[u8]) -> Option<u64>
     }
 }
 
-// The nanoseconds of what follows the whole seconds.
+// Returns the nanoseconds of what follows the whole seconds.
 fn rest_of_second(text: &[u8]) -> Option<u64>
     ensures { Decodes IsRest text.now result }
 {
@@ -63,7 +62,7 @@ fn rest_of_second(text: &[u8]) -> Option<u64>
     }
 }
 
-// The nanoseconds of the digits after the point.
+// Returns the nanoseconds of the digits after the point.
 fn fraction(digits: &[u8]) -> Option<u64>
     ensures { Decodes IsFraction digits.now result }
 {
@@ -77,7 +76,7 @@ fn fraction(digits: &[u8]) -> Option<u64>
     Some(value * 10_u64.pow(9 - digits.len() as u32))
 }
 
-// The number that at most nine digits write, with leading zeros or without.
+// Returns the number that at most nine digits write, with leading zeros or without.
 fn numeral(digits: &[u8]) -> Option<u64>
     requires { length digits.now ≤ 9 }
     ensures { SomeIff result (IsNumeral 10 digits.now) (digits_value 10 digits.now) }
@@ -91,7 +90,7 @@ fn numeral(digits: &[u8]) -> Option<u64>
     }
 }
 
-// Whole seconds and a fraction, in nanoseconds.
+// Adds whole seconds and a fraction up in nanoseconds.
 fn nanos_of(seconds: u64, fraction: u64) -> Option<u64>
     ensures { SomeIff result (seconds * 10 ^ 9 + fraction < 2 ^ 64) (seconds * 10 ^ 9 + fraction) }
 {

@@ -1,8 +1,8 @@
-//! How far the lines of a report were read.
+//! Keeps how far the lines of a report were read.
 ghost use Rattle.std.specs.Prelude.{◌≡◌, ◌+◌, ◌++◌, ◌≤◌, MatchOption};
 ghost use Rattle.mimic_printer.specs.Json.{IsLine, HasNoEnd};
 ghost use Rattle.mimic_trial.specs.Count.{total_of};
-ghost use Rattle.mimic_events.specs.Stages.{begun, most};
+ghost use Rattle.mimic_events.specs.Stage.{begun, most};
 
 use crate::lines::{announced, ended, titled};
 use crate::report::{Row, Totals};
@@ -37,9 +37,9 @@ pub(crate) struct Progress {
 impl Progress {
     ghost use Rattle.std.specs.Prelude.{◌≡◌, [], List, IfOk};
     ghost use Rattle.mimic_printer.specs.Json.{Entry};
-    ghost use Rattle.mimic_events.specs.Machine.{IsCounted, Moves, TellsTotals, start, state_with};
+    ghost use Rattle.mimic_events.specs.Progress.{IsCounted, Moves, HasTotals, start, state_with};
 
-    // No line was read.
+    // Makes a progress of no line yet.
     pub(crate) fn new() -> Self
         ensures start { state_with result [] ≡ start }
         ensures counted { IsCounted result [] }
@@ -54,7 +54,8 @@ impl Progress {
 
     // Takes the next line, if it belongs there. If it doesn't, nothing changes.
     pub(crate) fn take_line(&mut self, alloc: Global, line: &[u8]) -> Result<Taken, AllocError>
-        ensures { IfOk result (λ taken. (entries : List Entry) → IsCounted self.old entries → Moves self.old entries line.now self.new taken) }
+        ensures { IfOk result (λ taken. (entries : List Entry) → IsCounted self.old entries
+            → Moves self.old entries line.now self.new taken) }
     {
         let row = match &mut self.stage {
             Stage::Title => {
@@ -99,9 +100,10 @@ impl Progress {
         Ok(Taken::Read(row))
     }
 
-    // What the lines said in numbers, if the summary was the last of them.
+    // Returns what the lines said in numbers, if the summary was the last of them.
     pub(crate) fn into_totals(self) -> Option<Totals>
-        ensures { (entries : List Entry) → IsCounted self entries → TellsTotals (state_with self entries) result }
+        ensures { (entries : List Entry) → IsCounted self entries
+            → HasTotals (state_with self entries) result }
     {
         match self.stage {
             Stage::Over(filtered_out, nanos) => Some(Totals {
@@ -117,9 +119,10 @@ impl Progress {
     }
 }
 
-// The first line, with its end, and what follows it.
+// Returns the first line, with its end, and what follows it.
 pub(crate) fn first_line(bytes: &[u8]) -> Option<(&[u8], &[u8])>
-    ensures { MatchOption result (HasNoEnd bytes.now) (λ x. (bytes.now ≡ x.0.now ++ x.1.now) × IsLine x.0.now) }
+    ensures { MatchOption result (HasNoEnd bytes.now)
+        (λ x. (bytes.now ≡ x.0.now ++ x.1.now) × IsLine x.0.now) }
 {
     let at = memchr(b'\n', bytes)?;
     Some(bytes.split_at(at + 1))

@@ -28,9 +28,10 @@ pub struct Report {
 }
 
 impl Report {
-    /// The number of trials with each outcome, as the harness answered it.
+    /// Counts the trials with each outcome, as the harness that ran them did.
     pub fn counts(&self) -> Conclusion
-        ensures { result ≡ counts_of (map (λ row. row.outcome) self.now.rows.items) self.now.filtered_out }
+        ensures { result
+            ≡ counts_of (map (λ row. row.outcome) self.now.rows.items) self.now.filtered_out }
     {
         counts_of_rows(&self.rows, self.filtered_out)
     }
@@ -41,7 +42,7 @@ impl Report {
 pub struct Totals {
     /// The number of trials that ran or were ignored.
     pub rows: u64,
-    /// The number of trials with each outcome, as the harness answered it.
+    /// The number of trials with each outcome, as the harness that ran them returned it.
     pub counts: Conclusion,
     /// The time that the run took, in nanoseconds.
     pub nanos: u64,

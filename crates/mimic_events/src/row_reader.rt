@@ -1,4 +1,4 @@
-//! Reading the rows of a report one after another, of bytes that come in pieces.
+//! Reads the rows of a report one after another, from bytes that come in pieces.
 use crate::progress::{Progress, Taken, first_line};
 use crate::report::{Row, Totals};
 use std::alloc::{AllocError, Global};
@@ -17,10 +17,10 @@ pub(crate) struct RowReader {
 impl RowReader {
     ghost use Rattle.std.specs.Prelude.{◌≡◌, [], false, List, IfOk, MatchOption, None};
     ghost use Rattle.mimic_printer.specs.Json.{Entry};
-    ghost use Rattle.mimic_events.specs.Machine.{IsLine};
-    ghost use Rattle.mimic_events.specs.Pieces.{IsSound, ReadsOn, ReadsRow, SumsUp, bytes_of};
+    ghost use Rattle.mimic_events.specs.Progress.{IsLine};
+    ghost use Rattle.mimic_events.specs.Readers.{IsSound, ReadsOn, ReadsRow, SumsUp, bytes_of};
 
-    // No bytes came.
+    // Makes a reader of no bytes yet.
     pub(crate) fn new(alloc: Global) -> Self
         ensures bytes { bytes_of result [] ≡ [] }
         ensures sound { IsSound result [] }
@@ -39,7 +39,9 @@ impl RowReader {
         alloc: Global,
         piece: &'a [u8],
     ) -> Result<Option<(Row, &'a [u8])>, AllocError>
-        ensures { IfOk result (λ found. MatchOption found (ReadsOn self.old piece.now self.new None) (λ x. ReadsRow self.old piece.now self.new x.0 x.1.now)) }
+        ensures { IfOk result (λ found. MatchOption found
+            (ReadsOn self.old piece.now self.new None)
+            (λ x. ReadsRow self.old piece.now self.new x.0 x.1.now)) }
     {
         let mut left = piece;
         while let Some((end, after)) = first_line(left) {
@@ -55,7 +57,7 @@ impl RowReader {
         Ok(None)
     }
 
-    // Reads the end of a line, whose beginning is the rest, and answers the row that ended there.
+    // Reads the end of a line, whose beginning is the rest, and returns the row that ended there.
     fn end_line(&mut self, alloc: Global, end: &[u8]) -> Result<Option<Row>, AllocError>
         requires open { self.old.stuck ≡ false }
         requires line { IsLine end.now }
@@ -85,9 +87,10 @@ impl RowReader {
         }
     }
 
-    // What the summary said, if all bytes are a report.
+    // Returns what the summary said, if all bytes are a report.
     pub(crate) fn into_totals(self) -> Option<Totals>
-        ensures { (entries : List Entry) → IsSound self entries → SumsUp (bytes_of self entries) entries result }
+        ensures { (entries : List Entry) → IsSound self entries
+            → SumsUp (bytes_of self entries) entries result }
     {
         if !self.rest.is_empty() {
             return None;

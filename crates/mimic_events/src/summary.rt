@@ -1,23 +1,25 @@
-//! The line that ends a report.
+//! Reads the line that ends a report.
 ghost use Rattle.std.specs.Prelude.{◌≡◌, List};
 ghost use Rattle.std.specs.List.{concat};
-ghost use Rattle.mimic_printer.specs.Json.{Entry, json_verdict, summary_front};
-ghost use Rattle.mimic_events.specs.Steps.{Follows, IsTotals};
+ghost use Rattle.mimic_printer.specs.Json.{Entry, summary_front};
+ghost use Rattle.mimic_events.specs.LineParts.{Follows, IsTotals};
 ghost use Rattle.mimic_events.specs.Reading.{Decodes, HasCounts, IsSummary};
 
+use crate::ends::{after, after_all, before};
 use crate::numbers::{number_at, seconds};
-use crate::strip::{after, after_all, before};
 use itoa::Buffer;
+use mimic_printer::json_verdict;
 use mimic_trial::Conclusion;
 
-// The number of trials that were filtered out and the nanoseconds, of a summary line of so many outcomes.
+// Returns the number of trials that were filtered out and the nanoseconds, if the line is a summary with these counts.
 pub(crate) fn summed(counts: &Conclusion, line: &[u8]) -> Option<(u64, u64)>
-    ensures { (entries : List Entry) → HasCounts counts.now entries → Decodes (IsSummary entries) line.now result }
+    ensures { (entries : List Entry) → HasCounts counts.now entries
+        → Decodes (IsSummary entries) line.now result }
 {
     totals(after_counts(line, counts)?)
 }
 
-// The number of trials that were filtered out and the nanoseconds, from what follows the counts of outcomes.
+// Reads the number of trials that were filtered out and the nanoseconds from what follows the counts of outcomes.
 fn totals(rest: &[u8]) -> Option<(u64, u64)>
     ensures { Decodes IsTotals rest.now result }
 {
@@ -27,7 +29,7 @@ fn totals(rest: &[u8]) -> Option<(u64, u64)>
     Some((filtered_out, nanos))
 }
 
-// What follows a summary line up to the four counts of outcomes, if the text begins with that.
+// Returns what follows a summary line up to the four counts of outcomes, if the text begins with that.
 fn after_counts<'a>(line: &'a [u8], counts: &Conclusion) -> Option<&'a [u8]>
     ensures { Follows (concat (summary_front counts.now)) line.now result }
 {
@@ -35,7 +37,7 @@ fn after_counts<'a>(line: &'a [u8], counts: &Conclusion) -> Option<&'a [u8]>
         line,
         &[
             br#"{ "type": "suite", "event": ""#,
-            verdict(counts).as_bytes(),
+            json_verdict(counts.num_failed).as_bytes(),
             br#"", "passed": "#,
             Buffer::new().format(counts.num_passed).as_bytes(),
             br#", "failed": "#,
@@ -47,11 +49,4 @@ fn after_counts<'a>(line: &'a [u8], counts: &Conclusion) -> Option<&'a [u8]>
             br#", "filtered_out": "#,
         ],
     )
-}
-
-// Whether the whole run failed, in a word.
-fn verdict(counts: &Conclusion) -> &'static str
-    ensures { result.now ≡ json_verdict counts.now.num_failed }
-{
-    if counts.has_failed() { "failed" } else { "ok" }
 }

@@ -1,4 +1,4 @@
-//! The numbers of a report, with none of its rows.
+//! Reads the numbers of a report, and keeps none of its rows.
 ghost use Rattle.std.specs.Prelude.{◌++◌, [], IfOk, List, ℕ};
 ghost use Rattle.mimic_events.specs.Reading.{Decodes};
 ghost use Rattle.mimic_events.specs.Tally.{HasRead, SpellsTotals};
@@ -17,7 +17,7 @@ pub struct Tally {
 }
 
 impl Tally {
-    /// A tally of no bytes yet. It takes no memory so far.
+    /// Makes a tally of no bytes yet. It takes no memory so far.
     pub fn new(alloc: Global) -> Tally
         ensures { HasRead result [] }
     {
@@ -29,7 +29,8 @@ impl Tally {
 
     /// Takes the next piece. If an allocation fails, nothing is left of the tally.
     pub fn feed(self, piece: &[u8]) -> Result<Tally, AllocError>
-        ensures { IfOk result (λ tally. (bytes : List ℕ) → HasRead self bytes → HasRead tally (bytes ++ piece.now)) }
+        ensures { IfOk result
+            (λ tally. (bytes : List ℕ) → HasRead self bytes → HasRead tally (bytes ++ piece.now)) }
     {
         let mut tally = self;
         let mut left = piece;
@@ -40,7 +41,7 @@ impl Tally {
         Ok(tally)
     }
 
-    /// The numbers of the report that all bytes are together: `None` if they are none.
+    /// Returns the numbers of the report that all bytes are together, and `None` if they are none.
     pub fn finish(self) -> Option<Totals>
         ensures { (bytes : List ℕ) → HasRead self bytes → Decodes SpellsTotals bytes result }
     {

@@ -126,7 +126,7 @@ module _ {X : Type 0} (f : X → List ℕ) where
       let P : List ℕ → Type 0 = λ l. Stopped a b l in
       subst P (sym (halves xs k)) (Stopped-more _ _ (subst P e p))
 
--- a call that stopped answered a fault
+-- a call that stopped returned a fault
 pub Puts-stopped : {E T : Type 0} {a b : Shown} (t : List ℕ) (r : Result T E) → IsErr r → Stopped a b t → Writes a b t r
 Puts-stopped {a} {b} t r e s = MatchResult-from_err r (λ _. Put a b t) (λ _. Stopped a b t) e (λ _. s)
 
@@ -140,7 +140,7 @@ Put-spaces {a} {b} {c} i n m e p q =
     let P : List ℕ → Type 0 = λ l. Put a c l in
     subst P (replicate-append-replicate i n 32 ∙ ap spaces (sym e)) (Put-trans (spaces i) (spaces n) p q)
 
--- some spaces and then a beginning of some more, where not all spaces would have been written then
+-- some spaces and then a beginning of some more, if not all spaces would have been written then
 pub Stopped-spaces : {a b c : Shown} (i n m : ℕ) → i + n ≤ m → Put a b (spaces i) → Stopped b c (spaces n) → Stopped a c (spaces m)
 Stopped-spaces {a} {b} {c} i n m h p q =
     let P : List ℕ → Type 0 = λ l. Stopped a c l in
@@ -158,7 +158,7 @@ Puts_then a b c s t (Err e) p q = Put-Stopped s t p q
 pub Puts_after : {E T : Type 0} (a b c : Shown) (s : List ℕ) (r : Result T E) → Put a b s → Writes b c [] r → Writes a c s r
 Puts_after a b c s r p q = let P : List ℕ → Type 0 = λ l. Writes a c l r in subst P (append-nil s) (Puts_then a b c s [] r p q)
 
--- calls one after another, where the last but so many stopped
+-- calls one after another, of which the last but so many stopped
 pub stop2 : {a b c : Shown} (s t u : List ℕ) → Put a b s → Stopped b c t → Stopped a c (s ++ (t ++ u))
 stop2 s t u p q = Put-Stopped s _ p (Stopped-more t u q)
 
@@ -179,7 +179,7 @@ pub puts4 : {E T : Type 0} (a b c d e : Shown) (r s t u : List ℕ) (x : Result 
 puts4 a b c d e r s t u (Ok x) n o p q = put4 r s t u n o p q
 puts4 a b c d e r s t u (Err x) n o p q = stop4 r s t u [] n o p q
 
--- a whole text, and then a fault where nothing was to be written
+-- a whole text, and then a fault with nothing left to be written
 pub Stopped_after : {a b c : Shown} (s : List ℕ) → Put a b s → Stopped b c [] → Stopped a c s
 Stopped_after {a} {b} {c} s p q = let P : List ℕ → Type 0 = λ l. Stopped a c l in subst P (append-nil s) (Put-Stopped s [] p q)
 

@@ -10,7 +10,7 @@ use Rattle.mimic_printer.specs.Json.{Contents, entry_lines, json_report, json_su
 use Rattle.mimic_printer.specs.Report.{announcement_in, failures_in, outcome_in, report_text, summary_in, title_in}
 use Rattle.mimic_printer.specs.Row.{PrintedRow, outcomes_of}
 
--- what a report of these rows tells
+-- what a report of these rows says
 abbrev pub contents_of : List PrintedRow → ℕ → ℕ → Contents
 contents_of rows filtered_out nanos = record { entries = rows; filtered_out = filtered_out; nanos = nanos }
 
@@ -37,7 +37,7 @@ parts_in_json p rows filtered_out nanos =
     let last : List ℕ = json_summary (counts_of (outcomes_of rows) filtered_out) nanos in
     ap (λ (l : List ℕ). json_title (length rows) ++ l) (ap (λ (l : List ℕ). l ++ (last ++ [])) (rows_as_lines p rows) ∙ sym (concat-append lines (last ∷ [])))
 
--- a report in JSON is the one text of what it tells
+-- a report in JSON is the one text of what it says
 pub report_is_json : (p : Printer) (rows : List PrintedRow) (filtered_out nanos : ℕ) → p.format ≡ Json → report_text p rows filtered_out nanos ≡ json_report (contents_of rows filtered_out nanos)
 unfolding report_text
 report_is_json p rows filtered_out nanos h = ap (λ f. parts_in f p rows filtered_out nanos) h ∙ parts_in_json p rows filtered_out nanos

@@ -1,4 +1,4 @@
--- The rows of which the failures are told, for the private functions that go over them. No public clause names these words.
+-- The rows whose failures are written, for the private functions that go over them. No public clause names these words.
 use Rattle.std.specs.Prelude.{◌≡◌, ◌<◌, ℕ, List, length, map, All}
 use Rattle.mimic_trial.specs.Places.{placed_at}
 use Rattle.mimic_printer.specs.Row.{rows_at, PrintedRow, label_of, rows_from}
@@ -21,9 +21,10 @@ count_in (Placed infos order outcomes) = length order.now
 -- each place has an info and an outcome
 abbrev pub HasItsPlaces : Rows → Type 0
 HasItsPlaces (Kept rows) = Unit {0}
-HasItsPlaces (Placed infos order outcomes) = (length infos.now ≡ length outcomes.now) × All (λ p. p < length infos.now) order.now
+HasItsPlaces (Placed infos order outcomes) = (length infos.now ≡ length outcomes.now)
+    × All (λ p. p < length infos.now) order.now
 
--- what is told of a row, where it failed
+-- what is written of a row if it failed
 abbrev pub row_part : Part → PrintedRow → List ℕ
 row_part Message row = row_failure row
 row_part Name row = row_failed_name row

@@ -37,7 +37,7 @@ json_end = codes " }\n"
 abbrev pub json_line : List (List ℕ) → List ℕ
 json_line parts = concat (parts ++ json_end ∷ [])
 
--- a key, and the number behind it
+-- a key, and the number after it
 abbrev pub number_field : List ℕ → ℕ → List ℕ
 number_field key number = key ++ decimal number
 
@@ -45,12 +45,12 @@ number_field key number = key ++ decimal number
 abbrev pub kind_key : List ℕ
 kind_key = codes ", \"kind\": \""
 
--- the field that tells a kind, and nothing for an empty one (our own: the Rust crate writes no kind)
+-- the field of a kind, and nothing for an empty one (our own: the Rust crate writes no kind)
 abbrev pub kind_field : List ℕ → List ℕ
 kind_field [] = []
 kind_field (b ∷ bs) = concat (kind_key ∷ escaped (b ∷ bs) ∷ codes "\"" ∷ [])
 
--- the field that tells an outcome in a word
+-- the field that says an outcome in a word
 abbrev pub event_field : List ℕ → List ℕ
 event_field word = concat (codes ", \"event\": \"" ∷ word ∷ codes "\"" ∷ [])
 
@@ -81,11 +81,12 @@ abbrev pub outcome_front : Bool → List ℕ
 outcome_front false = codes "{ \"type\": \"test\", \"name\": \""
 outcome_front true = codes "{ \"type\": \"bench\", \"name\": \""
 
--- what is told of an outcome: a word, with a failure's message, or what was measured
+-- the fields of an outcome: a word, with a failure's message, or what was measured
 abbrev pub outcome_fields : Outcome → List (List ℕ)
 outcome_fields Passed = event_field (codes "ok") ∷ []
 outcome_fields (Failed None) = event_field (codes "failed") ∷ []
-outcome_fields (Failed (Some message)) = event_field (codes "failed") ∷ stdout_key ∷ escaped message ∷ codes "\\\"\\n\"" ∷ []
+outcome_fields (Failed (Some message)) = event_field (codes "failed") ∷ stdout_key ∷ escaped message
+    ∷ codes "\\\"\\n\"" ∷ []
 outcome_fields Ignored = event_field (codes "ignored") ∷ []
 outcome_fields (Measured m) = number_field median_key m.avg ∷ number_field deviation_key m.variance ∷ []
 
@@ -128,7 +129,7 @@ json_summary c nanos = json_line (summary_front c ++ decimal c.num_filtered_out 
 
 -- ---- the whole
 
--- what a report in JSON tells of a trial: its name, its kind and its outcome, all that a row has
+-- what a report in JSON says of a trial: its name, its kind and its outcome, all that a row has
 abbrev pub Entry : Type 0
 Entry = PrintedRow
 
@@ -136,19 +137,20 @@ Entry = PrintedRow
 abbrev pub entry_lines : Entry → List (List ℕ)
 entry_lines entry = json_announcement entry.label ∷ json_outcome entry.label entry.outcome ∷ []
 
--- what a report in JSON tells: its entries, how many trials were filtered out, and the nanoseconds that the run took
+-- what a report in JSON says: its entries, how many trials were filtered out, and the nanoseconds that the run took
 pub record Contents : Type 0 where
   pub entries : List Entry
   pub filtered_out : ℕ
   pub nanos : ℕ
 
--- the counts that a report tells
+-- the counts that a report says
 abbrev pub conclusion_of : Contents → Conclusion
 conclusion_of c = counts_of (map (λ entry. entry.outcome) c.entries) c.filtered_out
 
 -- the lines of a report: its title, those of its entries and its summary
 abbrev pub report_lines : Contents → List (List ℕ)
-report_lines c = json_title (length c.entries) ∷ (flat_map entry_lines c.entries ++ json_summary (conclusion_of c) c.nanos ∷ [])
+report_lines c = json_title (length c.entries)
+    ∷ (flat_map entry_lines c.entries ++ json_summary (conclusion_of c) c.nanos ∷ [])
 
 -- the text of a report: its lines one after another, and nothing before, between or after
 unfoldable pub json_report : Contents → List ℕ

@@ -1,4 +1,4 @@
--- The texts of a report, part by part. Where no other source is named, a text is the Rust crate's.
+-- The texts of a report, part by part. If no other source is named, a text is the Rust crate's.
 use Rattle.std.specs.Prelude.{ℕ, ◌/◌, ◌%◌, ◌==◌, nat_lt, if◌then◌else◌, List, [], ◌∷◌, ◌++◌, length, codes, decimal, Option, None, Some}
 use Rattle.std.specs.List.{concat, flat_map, list_any}
 use Rattle.mimic_text.specs.declared.formats.FormatSetting.{FormatSetting}
@@ -21,7 +21,7 @@ colour_sequence (Failed f) = 27 ∷ codes "[31m"
 colour_sequence Ignored = 27 ∷ codes "[33m"
 colour_sequence (Measured m) = 27 ∷ codes "[36m"
 
--- what stands directly before an outcome's word: the sequence of its colour, where the printer colours
+-- what stands directly before an outcome's word: the sequence of its colour, if the printer colours
 abbrev pub colour_start : Printer → Outcome → List ℕ
 colour_start p o = if p.colour then colour_sequence o else []
 
@@ -48,7 +48,8 @@ title_text p n = title_in p.format n
 -- ---- announcement of a trial
 
 unfoldable pub pretty_announcement : Printer → Label → List ℕ
-pretty_announcement p l = concat (codes "test " ∷ padded p.kind_width (kind_part l.kind) ∷ padded p.name_width l.name ∷ codes " ... " ∷ [])
+pretty_announcement p l = concat
+    (codes "test " ∷ padded p.kind_width (kind_part l.kind) ∷ padded p.name_width l.name ∷ codes " ... " ∷ [])
 
 abbrev pub announcement_in : FormatSetting → Printer → Label → List ℕ
 announcement_in Pretty p l = pretty_announcement p l
@@ -66,9 +67,10 @@ outcome_word (Failed f) = codes "FAILED"
 outcome_word Ignored = codes "ignored"
 outcome_word (Measured m) = codes "bench"
 
--- what stands behind the word: nothing, or what was measured, the average in eleven places
+-- what follows the word: nothing, or what was measured, the average in eleven places
 abbrev pub outcome_tail : Outcome → List ℕ
-outcome_tail (Measured m) = concat (codes ": " ∷ right_aligned 11 (grouped (decimal m.avg)) ∷ codes " ns/iter (+/- " ∷ grouped (decimal m.variance) ∷ codes ")" ∷ [])
+outcome_tail (Measured m) = concat (codes ": " ∷ right_aligned 11 (grouped (decimal m.avg)) ∷ codes " ns/iter (+/- "
+    ∷ grouped (decimal m.variance) ∷ codes ")" ∷ [])
 outcome_tail o = []
 
 -- the word between its colour's sequences, and what was measured
@@ -108,12 +110,12 @@ abbrev pub message_line : Option (List ℕ) → List ℕ
 message_line None = []
 message_line (Some message) = message ++ codes "\n"
 
--- what is written of the failure of a row, and nothing where it did not fail
+-- what is written of the failure of a row, and nothing if it did not fail
 abbrev pub failure_text : Label → Outcome → List ℕ
 failure_text l (Failed f) = concat (codes "---- " ∷ l.name ∷ codes " ----\n" ∷ message_line f ∷ codes "\n" ∷ [])
 failure_text l o = []
 
--- the line that names a row that failed, and nothing where it did not fail
+-- the line that names a row that failed, and nothing if it did not fail
 abbrev pub failed_name : Label → Outcome → List ℕ
 failed_name l (Failed f) = concat (codes "    " ∷ l.name ∷ codes "\n" ∷ [])
 failed_name l o = []
@@ -125,9 +127,10 @@ abbrev pub row_failed_name : PrintedRow → List ℕ
 row_failed_name row = failed_name row.label row.outcome
 
 abbrev pub failures_of : List PrintedRow → List ℕ
-failures_of rows = concat (codes "\nfailures:\n\n" ∷ flat_map row_failure rows ∷ codes "\nfailures:\n" ∷ flat_map row_failed_name rows ∷ [])
+failures_of rows = concat
+    (codes "\nfailures:\n\n" ∷ flat_map row_failure rows ∷ codes "\nfailures:\n" ∷ flat_map row_failed_name rows ∷ [])
 
--- the messages and then the names of the rows that failed, and nothing where none did
+-- the messages and then the names of the rows that failed, and nothing if none did
 unfoldable pub failures_if_any : List PrintedRow → List ℕ
 failures_if_any rows = if list_any is_failed (outcomes_of rows) then failures_of rows else []
 
@@ -142,17 +145,19 @@ failures_text p rows = failures_in p.format rows
 
 -- ---- summary
 
--- the whole run is shown as a failure where a trial failed, else as passed
+-- the whole run is shown as a failure if a trial failed, else as passed
 abbrev pub verdict_of : ℕ → Outcome
 verdict_of failed = if nat_lt 0 failed then Failed None else Passed
 
 unfoldable pub result_summary : Printer → Conclusion → ℕ → List ℕ
 result_summary p c nanos = concat (
-    codes "\ntest result: " ∷ colour_start p (verdict_of c.num_failed) ∷ outcome_word (verdict_of c.num_failed) ∷ colour_end p ∷ codes ". "
+    codes "\ntest result: " ∷ colour_start p (verdict_of c.num_failed) ∷ outcome_word (verdict_of c.num_failed)
+    ∷ colour_end p ∷ codes ". "
     ∷ decimal c.num_passed ∷ codes " passed; " ∷ decimal c.num_failed ∷ codes " failed; "
     ∷ decimal c.num_ignored ∷ codes " ignored; " ∷ decimal c.num_measured ∷ codes " measured; "
     ∷ decimal c.num_filtered_out ∷ codes " filtered out; finished in "
-    ∷ decimal (nearest_hundredths nanos / 100) ∷ codes "." ∷ two_digits (nearest_hundredths nanos % 100) ∷ codes "s\n\n" ∷ [])
+    ∷ decimal (nearest_hundredths nanos / 100) ∷ codes "." ∷ two_digits (nearest_hundredths nanos % 100)
+    ∷ codes "s\n\n" ∷ [])
 
 abbrev pub summary_in : FormatSetting → Printer → Conclusion → ℕ → List ℕ
 summary_in Pretty p c nanos = result_summary p c nanos
@@ -164,7 +169,7 @@ summary_text p c nanos = summary_in p.format p c nanos
 
 -- ---- the whole
 
--- a report of these rows, beside so many trials that were filtered out, of a run that took so many nanoseconds
+-- a report of these rows, if this many other trials were filtered out and the run took this many nanoseconds
 unfoldable pub report_text : Printer → List PrintedRow → ℕ → ℕ → List ℕ
 report_text p rows filtered_out nanos = concat (
     title_text p (length rows) ∷ rows_text p rows ∷ failures_text p rows

@@ -1,4 +1,4 @@
--- The rows of a report: what it shows of a trial, beside what became of the trial.
+-- The rows of a report: what it shows of a trial, and what became of the trial.
 use Rattle.std.specs.Prelude.{ℕ, List, [], map, slice_index_or, string_bytes}
 use Rattle.mimic_trial.specs.declared.outcome.Outcome.{Outcome}
 use Rattle.mimic_trial.specs.declared.trial.TestInfo.{TestInfo}
@@ -38,7 +38,7 @@ row_of info outcome = record { label = label_of info; outcome = outcome }
 abbrev pub outcomes_of : List PrintedRow → List Outcome
 outcomes_of rows = map (λ row. row.outcome) rows
 
--- the rows of trials that stand beside their outcomes
+-- the rows of trials that are paired with their outcomes
 abbrev pub rows_from : List (TestInfo × Outcome) → List PrintedRow
 rows_from pairs = map (λ p. row_of p.0 p.1) pairs
 

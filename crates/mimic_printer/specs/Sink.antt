@@ -1,5 +1,5 @@
 -- What a call that writes to a sink does: it appends its text, or a beginning of it and counts one more fault.
-use Rattle.std.specs.Prelude.{◌≡◌, ℕ, ◌+◌, List, ◌++◌, Option, Result, MatchResult}
+use Rattle.std.specs.Prelude.{◌≡◌, ◌<◌, ℕ, ◌+◌, ◌-◌, ◌^◌, List, ◌++◌, Option, Result, MatchResult}
 use Rattle.std.specs.Io.KnownBytes.{Appends}
 use Rattle.mimic_printer.specs.declared.sink.Sink.{Sink}
 
@@ -11,13 +11,17 @@ writer_of s = s.writer
 abbrev pub faults_of : {W : Type 0} → Sink W → ℕ
 faults_of s = s.faults
 
--- what a sink shows: the bytes of its writer, where these are known, and how many faults it has counted
+-- the sink can count one more fault
+abbrev pub HasFaultLeft : {W : Type 0} → Sink W → Type 0
+HasFaultLeft sink = faults_of sink < 2 ^ 64 - 1
+
+-- what a sink shows: the bytes of its writer, if these are known, and how many faults it has counted
 pub record Shown : Type 0 where
   pub bytes : Option (List ℕ)
   pub faults : ℕ
 
--- what a sink shows, where `contents` tells the bytes that a writer holds. Where it tells nothing, as of a file, nothing
--- is claimed of them
+-- what a sink shows, if `contents` gives the bytes that a writer holds. If it gives none, as of a file, nothing is claimed
+-- of them
 abbrev pub shown : {W : Type 0} → (W → Option (List ℕ)) → Sink W → Shown
 shown contents s = record { bytes = contents (writer_of s); faults = faults_of s }
 

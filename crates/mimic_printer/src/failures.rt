@@ -1,11 +1,11 @@
-//! The failures at the end of a report: the messages of the trials that failed, and their names.
-ghost use Rattle.std.specs.Prelude.{◌≡◌, ◌-◌, ◌^◌, ◌<◌};
+//! Writes the failures at the end of a report: the messages of the trials that failed, and their names.
+ghost use Rattle.std.specs.Prelude.{◌≡◌, ◌<◌};
 ghost use Rattle.std.specs.List.{flat_map, list_any};
 ghost use Rattle.mimic_trial.specs.Count.{is_failed};
 ghost use Rattle.mimic_printer.specs.Row.{label_of, outcomes_of, row_of};
 ghost use Rattle.mimic_printer.specs.Failures.{HasItsPlaces, row_part, rows_in};
 ghost use Rattle.mimic_printer.specs.Report.{failed_name, failure_text, failures_if_any, failures_of};
-ghost use Rattle.mimic_printer.specs.Sink.{Puts, faults_of};
+ghost use Rattle.mimic_printer.specs.Sink.{HasFaultLeft, Puts};
 
 use crate::piece::{Piece, put_pieces};
 use crate::sink::{Sink, WriteFault};
@@ -39,11 +39,12 @@ impl<'a> Rows<'a> {
         }
     }
 
-    // The row of this number, counted from 0.
+    // Returns the row of this number, counted from 0.
     fn row(self, number: usize) -> (&'a TestInfo, &'a Outcome)
         requires places { HasItsPlaces self }
         requires within { number < count_in self }
-        ensures { row_of result.0.now result.1.now ≡ slice_index_or (rows_in self.entry) number (row_of result.0.now result.1.now) }
+        ensures { row_of result.0.now result.1.now
+            ≡ slice_index_or (rows_in self.entry) number (row_of result.0.now result.1.now) }
     {
         match self {
             Rows::Kept(rows) => (&rows[number].0, &rows[number].1),
@@ -68,7 +69,7 @@ enum Part {
 
 // Writes the failures of the rows, and nothing if none failed.
 pub(crate) fn put_if_any<W: Write>(sink: &mut Sink<W>, rows: Rows<'_>) -> Result<(), WriteFault>
-    requires room { faults_of sink.old < 2 ^ 64 - 1 }
+    requires room { HasFaultLeft sink.old }
     requires places { HasItsPlaces rows }
     ensures { Puts W.contents sink.old sink.new (failures_if_any (rows_in rows.entry)) result }
 {
@@ -79,7 +80,7 @@ pub(crate) fn put_if_any<W: Write>(sink: &mut Sink<W>, rows: Rows<'_>) -> Result
     }
 }
 
-// Whether one of the rows failed.
+// Returns whether one of the rows failed.
 #[tactic(auto, using(crate::proofs::FailedRows::count_rows))]
 fn any_failed(rows: Rows<'_>) -> bool
     requires { HasItsPlaces rows }
@@ -95,7 +96,7 @@ fn any_failed(rows: Rows<'_>) -> bool
 
 // Writes the failures of the rows, of which one at least failed.
 fn put_failures<W: Write>(sink: &mut Sink<W>, rows: Rows<'_>) -> Result<(), WriteFault>
-    requires room { faults_of sink.old < 2 ^ 64 - 1 }
+    requires room { HasFaultLeft sink.old }
     requires places { HasItsPlaces rows }
     ensures { Puts W.contents sink.old sink.new (failures_of (rows_in rows.entry)) result }
 {
@@ -105,11 +106,12 @@ fn put_failures<W: Write>(sink: &mut Sink<W>, rows: Rows<'_>) -> Result<(), Writ
     put_each(sink, rows, Part::Name)
 }
 
-// Puts the part of each row that failed.
+// Writes this part of each row that failed.
 fn put_each<W: Write>(sink: &mut Sink<W>, rows: Rows<'_>, part: Part) -> Result<(), WriteFault>
-    requires room { faults_of sink.old < 2 ^ 64 - 1 }
+    requires room { HasFaultLeft sink.old }
     requires places { HasItsPlaces rows }
-    ensures { Puts W.contents sink.old sink.new (flat_map (row_part part) (rows_in rows.entry)) result }
+    ensures { Puts W.contents sink.old sink.new
+        (flat_map (row_part part) (rows_in rows.entry)) result }
 {
     for number in 0..rows.len() {
         let (info, outcome) = rows.row(number);
@@ -124,8 +126,9 @@ fn put_part<'a, W: Write>(
     info: &'a TestInfo,
     outcome: &'a Outcome,
 ) -> Result<(), WriteFault>
-    requires { faults_of sink.old < 2 ^ 64 - 1 }
-    ensures { Puts W.contents sink.old sink.new (row_part part (row_of info.now outcome.now)) result }
+    requires { HasFaultLeft sink.old }
+    ensures { Puts W.contents sink.old sink.new
+        (row_part part (row_of info.now outcome.now)) result }
 {
     match part {
         Part::Message => put_message(sink, info, outcome),
@@ -138,8 +141,9 @@ fn put_message<'a, W: Write>(
     info: &'a TestInfo,
     outcome: &'a Outcome,
 ) -> Result<(), WriteFault>
-    requires { faults_of sink.old < 2 ^ 64 - 1 }
-    ensures { Puts W.contents sink.old sink.new (failure_text (label_of info.now) outcome.now) result }
+    requires { HasFaultLeft sink.old }
+    ensures { Puts W.contents sink.old sink.new
+        (failure_text (label_of info.now) outcome.now) result }
 {
     let Outcome::Failed(failed) = outcome else {
         return Ok(());
@@ -166,8 +170,9 @@ fn put_name<W: Write>(
     info: &TestInfo,
     outcome: &Outcome,
 ) -> Result<(), WriteFault>
-    requires { faults_of sink.old < 2 ^ 64 - 1 }
-    ensures { Puts W.contents sink.old sink.new (failed_name (label_of info.now) outcome.now) result }
+    requires { HasFaultLeft sink.old }
+    ensures { Puts W.contents sink.old sink.new
+        (failed_name (label_of info.now) outcome.now) result }
 {
     match outcome {
         Outcome::Failed(_) => {

@@ -1,8 +1,8 @@
-//! The lines of a report in JSON.
-ghost use Rattle.std.specs.Prelude.{◌≡◌, ◌-◌, ◌^◌, ◌<◌, ◌∷◌, ◌++◌, [], Some, codes, drop, false, take};
+//! Writes the lines of a report in JSON.
+ghost use Rattle.std.specs.Prelude.{◌≡◌, ◌∷◌, [], Some, codes, drop, false, take};
 ghost use Rattle.std.specs.List.{concat};
 ghost use Rattle.mimic_printer.specs.Json.{json_announcement, json_outcome, json_summary, json_title, json_verdict, kind_field, outcome_front};
-ghost use Rattle.mimic_printer.specs.Sink.{Puts, faults_of};
+ghost use Rattle.mimic_printer.specs.Sink.{HasFaultLeft, Puts};
 ghost use Rattle.mimic_text.specs.Escape.{escaped};
 ghost use Rattle.mimic_trial.specs.declared.outcome.Outcome.TheVariants.{Failed, Measured};
 
@@ -11,10 +11,29 @@ use crate::sink::{Sink, WriteFault};
 use mimic_trial::{Conclusion, Measurement, Outcome};
 use std::io::Write;
 
+// Writes the line of a trial: its front up to the name, the name, the kind, and its end, which begins with the quote after
+// the name or the kind. Most trials have no kind, and each piece takes its time.
+macro_rules! put_trial {
+    ($sink:expr, $front:expr, $name:expr, $kind:expr, $($end:expr),+) => {
+        if $kind.is_empty() {
+            put_pieces($sink, &[Piece::Text($front), Piece::Escaped($name), $($end),+])
+        } else {
+            let pieces = [
+                Piece::Text($front),
+                Piece::Escaped($name),
+                Piece::Text("\", \"kind\": \""),
+                Piece::Escaped($kind),
+                $($end),+
+            ];
+            put_pieces($sink, &pieces)
+        }
+    };
+}
+
 // Writes the line that begins a report.
 #[tactic(auto, unfolding(crate::specs::Json::json_title))]
 pub(super) fn put_title<W: Write>(sink: &mut Sink<W>, num_tests: u64) -> Result<(), WriteFault>
-    requires { faults_of sink.old < 2 ^ 64 - 1 }
+    requires { HasFaultLeft sink.old }
     ensures { Puts W.contents sink.old sink.new (json_title num_tests) result }
 {
     let pieces = [
@@ -32,8 +51,9 @@ pub(super) fn put_announcement<'a, W: Write>(
     name: &'a str,
     kind: &'a str,
 ) -> Result<(), WriteFault>
-    requires { faults_of sink.old < 2 ^ 64 - 1 }
-    ensures { Puts W.contents sink.old sink.new (json_announcement (record { kind = kind.now; name = name.now })) result }
+    requires { HasFaultLeft sink.old }
+    ensures { Puts W.contents sink.old sink.new
+        (json_announcement (record { kind = kind.now; name = name.now })) result }
 {
     let front = "{ \"type\": \"test\", \"event\": \"started\", \"name\": \"";
     put_line(sink, front, name, kind, "\" }\n")
@@ -46,8 +66,9 @@ pub(super) fn put_outcome<'a, W: Write>(
     kind: &'a str,
     outcome: &'a Outcome,
 ) -> Result<(), WriteFault>
-    requires { faults_of sink.old < 2 ^ 64 - 1 }
-    ensures { Puts W.contents sink.old sink.new (json_outcome (record { kind = kind.now; name = name.now }) outcome.now) result }
+    requires { HasFaultLeft sink.old }
+    ensures { Puts W.contents sink.old sink.new
+        (json_outcome (record { kind = kind.now; name = name.now }) outcome.now) result }
 {
     match outcome {
         Outcome::Passed => put_word(sink, name, kind, "\", \"event\": \"ok\" }\n"),
@@ -67,15 +88,16 @@ fn put_word<'a, W: Write>(
     kind: &'a str,
     end: &'a str,
 ) -> Result<(), WriteFault>
-    requires faults { faults_of sink.old < 2 ^ 64 - 1 }
+    requires faults { HasFaultLeft sink.old }
     requires quote { take 1 end.now ≡ codes "\"" }
     ensures { Puts W.contents sink.old sink.new
-        (concat (outcome_front false ∷ escaped name.now ∷ codes "\"" ∷ kind_field kind.now ∷ drop 1 end.now ∷ [])) result }
+        (concat (outcome_front false ∷ escaped name.now ∷ codes "\"" ∷ kind_field kind.now
+        ∷ drop 1 end.now ∷ [])) result }
 {
     put_line(sink, "{ \"type\": \"test\", \"name\": \"", name, kind, end)
 }
 
-// Writes the line of a trial: its front up to the name, and its end, which begins with the quote after the name or the kind.
+// Writes the line of a trial that ends with this text.
 fn put_line<'a, W: Write>(
     sink: &mut Sink<W>,
     front: &'a str,
@@ -83,25 +105,13 @@ fn put_line<'a, W: Write>(
     kind: &'a str,
     end: &'a str,
 ) -> Result<(), WriteFault>
-    requires faults { faults_of sink.old < 2 ^ 64 - 1 }
+    requires faults { HasFaultLeft sink.old }
     requires quote { take 1 end.now ≡ codes "\"" }
     ensures { Puts W.contents sink.old sink.new
-        (concat (front.now ∷ escaped name.now ∷ codes "\"" ∷ kind_field kind.now ∷ drop 1 end.now ∷ [])) result }
+        (concat (front.now ∷ escaped name.now ∷ codes "\"" ∷ kind_field kind.now
+        ∷ drop 1 end.now ∷ [])) result }
 {
-    // Most trials have no kind, and each piece takes its time.
-    if kind.is_empty() {
-        let pieces = [Piece::Text(front), Piece::Escaped(name), Piece::Text(end)];
-        put_pieces(sink, &pieces)
-    } else {
-        let pieces = [
-            Piece::Text(front),
-            Piece::Escaped(name),
-            Piece::Text("\", \"kind\": \""),
-            Piece::Escaped(kind),
-            Piece::Text(end),
-        ];
-        put_pieces(sink, &pieces)
-    }
+    put_trial!(sink, front, name, kind, Piece::Text(end))
 }
 
 #[tactic(auto, unfolding(crate::specs::Json::json_outcome))]
@@ -111,20 +121,20 @@ fn put_failure<'a, W: Write>(
     kind: &'a str,
     message: &'a str,
 ) -> Result<(), WriteFault>
-    requires { faults_of sink.old < 2 ^ 64 - 1 }
+    requires { HasFaultLeft sink.old }
     ensures { Puts W.contents sink.old sink.new
-        (json_outcome (record { kind = kind.now; name = name.now }) (Failed (Some message.now))) result }
+        (json_outcome (record { kind = kind.now; name = name.now })
+        (Failed (Some message.now))) result }
 {
-    let pieces = [
-        Piece::Text("{ \"type\": \"test\", \"name\": \""),
-        Piece::Escaped(name),
-        Piece::Text(before_kind(kind)),
-        Piece::Escaped(kind),
+    put_trial!(
+        sink,
+        "{ \"type\": \"test\", \"name\": \"",
+        name,
+        kind,
         Piece::Text("\", \"event\": \"failed\", \"stdout\": \"Error: \\\""),
         Piece::Escaped(message),
-        Piece::Text("\\\"\\n\" }\n"),
-    ];
-    put_pieces(sink, &pieces)
+        Piece::Text("\\\"\\n\" }\n")
+    )
 }
 
 #[tactic(auto, unfolding(crate::specs::Json::json_outcome))]
@@ -134,34 +144,22 @@ fn put_measurement<'a, W: Write>(
     kind: &'a str,
     measurement: &Measurement,
 ) -> Result<(), WriteFault>
-    requires { faults_of sink.old < 2 ^ 64 - 1 }
+    requires { HasFaultLeft sink.old }
     ensures { Puts W.contents sink.old sink.new
-        (json_outcome (record { kind = kind.now; name = name.now }) (Measured measurement.now)) result }
+        (json_outcome (record { kind = kind.now; name = name.now })
+        (Measured measurement.now)) result }
 {
-    let pieces = [
-        Piece::Text("{ \"type\": \"bench\", \"name\": \""),
-        Piece::Escaped(name),
-        Piece::Text(before_kind(kind)),
-        Piece::Escaped(kind),
+    put_trial!(
+        sink,
+        "{ \"type\": \"bench\", \"name\": \"",
+        name,
+        kind,
         Piece::Text("\", \"median\": "),
         Piece::Number(measurement.avg),
         Piece::Text(", \"deviation\": "),
         Piece::Number(measurement.variance),
-        Piece::Text(" }\n"),
-    ];
-    put_pieces(sink, &pieces)
-}
-
-// What stands between a name and its kind, after which comes a closing quote: nothing if the kind is empty.
-#[tactic(auto, unfolding(mimic_text::specs::Escape::escaped))]
-fn before_kind(kind: &str) -> &'static str
-    ensures { result.now ++ (escaped kind.now ++ codes "\"") ≡ codes "\"" ++ kind_field kind.now }
-{
-    if kind.is_empty() {
-        ""
-    } else {
-        "\", \"kind\": \""
-    }
+        Piece::Text(" }\n")
+    )
 }
 
 // Writes the line that ends a report.
@@ -171,12 +169,12 @@ pub(super) fn put_summary<W: Write>(
     conclusion: &Conclusion,
     nanos: u64,
 ) -> Result<(), WriteFault>
-    requires { faults_of sink.old < 2 ^ 64 - 1 }
+    requires { HasFaultLeft sink.old }
     ensures { Puts W.contents sink.old sink.new (json_summary conclusion.now nanos) result }
 {
     let pieces = [
         Piece::Text("{ \"type\": \"suite\", \"event\": \""),
-        Piece::Text(verdict(conclusion.num_failed)),
+        Piece::Text(json_verdict(conclusion.num_failed)),
         Piece::Text("\", \"passed\": "),
         Piece::Number(conclusion.num_passed),
         Piece::Text(", \"failed\": "),
@@ -194,9 +192,9 @@ pub(super) fn put_summary<W: Write>(
     put_pieces(sink, &pieces)
 }
 
-// Whether the whole run failed.
-fn verdict(failed: u64) -> &'static str
-    ensures { result.now ≡ json_verdict failed }
+/// Returns the word for a whole run in the line that ends its report: `failed` if a trial failed, else `ok`.
+pub fn json_verdict(num_failed: u64) -> &'static str
+    ensures { result.now ≡ json_verdict num_failed }
 {
-    if failed > 0 { "failed" } else { "ok" }
+    if num_failed > 0 { "failed" } else { "ok" }
 }

@@ -1,7 +1,7 @@
-//! The lines of a list of trials.
-ghost use Rattle.std.specs.Prelude.{◌≡◌, ◌-◌, ◌^◌, ◌<◌};
+//! Writes the lines of a list of trials.
+ghost use Rattle.std.specs.Prelude.{◌≡◌};
 ghost use Rattle.mimic_printer.specs.List.{list_line, sort_word};
-ghost use Rattle.mimic_printer.specs.Sink.{Puts, faults_of};
+ghost use Rattle.mimic_printer.specs.Sink.{HasFaultLeft, Puts};
 
 use crate::piece::{Piece, put_pieces};
 use crate::sink::{Sink, WriteFault};
@@ -12,7 +12,7 @@ use std::io::Write;
 // Writes the line of a trial.
 #[tactic(auto, unfolding(crate::specs::List::list_line))]
 pub(super) fn put_line<W: Write>(sink: &mut Sink<W>, info: &TestInfo) -> Result<(), WriteFault>
-    requires { faults_of sink.old < 2 ^ 64 - 1 }
+    requires { HasFaultLeft sink.old }
     ensures { Puts W.contents sink.old sink.new (list_line info.now) result }
 {
     let (open, close) = brackets(info.kind.as_str());

@@ -1,7 +1,7 @@
-//! Texts that are written piece by piece, with no memory.
-ghost use Rattle.std.specs.Prelude.{◌≡◌, ◌-◌, ◌^◌, ◌<◌, ◌≤◌, ◌++◌, IfSome, decimal, length, slice_index, take};
+//! Writes texts piece by piece, with no memory.
+ghost use Rattle.std.specs.Prelude.{◌≡◌, ◌≤◌, ◌++◌, IfSome, decimal, length, slice_index, take};
 ghost use Rattle.std.specs.Option.{MatchOption};
-ghost use Rattle.mimic_printer.specs.Sink.{Puts, faults_of};
+ghost use Rattle.mimic_printer.specs.Sink.{HasFaultLeft, Puts};
 ghost use Rattle.mimic_text.specs.Escape.{escaped};
 ghost use Rattle.mimic_text.specs.Text.{spaces, right_aligned, grouped};
 ghost use Rattle.mimic_printer.specs.Piece.{pieces_text};
@@ -30,7 +30,7 @@ pub(crate) enum Piece<'a> {
     Seconds(u64),
 }
 
-// A text of at most so many bytes, as most rows are, is gathered first and put at once.
+// A text of at most this many bytes, as most rows are, is gathered first and put at once.
 const ROW: usize = 256;
 
 /// Writes the pieces one after another.
@@ -38,12 +38,12 @@ pub(crate) fn put_pieces<W: Write>(
     sink: &mut Sink<W>,
     pieces: &[Piece<'_>],
 ) -> Result<(), WriteFault>
-    requires { faults_of sink.old < 2 ^ 64 - 1 }
+    requires { HasFaultLeft sink.old }
     ensures { Puts W.contents sink.old sink.new (pieces_text pieces.now) result }
 {
     let mut row = [0; ROW];
     let (count, len) = gather(pieces, &mut row);
-    // A fault is large: handing on the result whole costs more than to ask whether it is one.
+    // A fault is large: to hand on the whole result costs more than to ask whether it is one.
     sink.put(&row[..len])?;
     if count < pieces.len() {
         put_each(sink, &pieces[count..])?;
@@ -53,7 +53,7 @@ pub(crate) fn put_pieces<W: Write>(
 
 // Puts the pieces one after another.
 fn put_each<W: Write>(sink: &mut Sink<W>, pieces: &[Piece<'_>]) -> Result<(), WriteFault>
-    requires { faults_of sink.old < 2 ^ 64 - 1 }
+    requires { HasFaultLeft sink.old }
     ensures { Puts W.contents sink.old sink.new (pieces_text pieces.now) result }
 {
     for piece in pieces {
@@ -82,7 +82,8 @@ fn gather(pieces: &[Piece<'_>], row: &mut [u8; ROW]) -> (usize, usize)
 fn append(row: &mut [u8; ROW], len: usize, text: &[u8]) -> Option<usize>
     requires { len ≤ 256 }
     ensures front { take len row.new ≡ take len row.old }
-    ensures written { IfSome result (λ end. (end ≤ 256) × (take end row.new ≡ take len row.old ++ text.now)) }
+    ensures written { IfSome result
+        (λ end. (end ≤ 256) × (take end row.new ≡ take len row.old ++ text.now)) }
 {
     // Most reports have no colours and no kinds.
     if text.is_empty() {
@@ -97,8 +98,8 @@ fn append(row: &mut [u8; ROW], len: usize, text: &[u8]) -> Option<usize>
 }
 
 impl Piece<'_> {
-    ghost use Rattle.std.specs.Prelude.{◌≡◌, ◌-◌, ◌^◌, ◌<◌, ◌≤◌, ◌++◌, IfSome, take};
-    ghost use Rattle.mimic_printer.specs.Sink.{Puts, faults_of};
+    ghost use Rattle.std.specs.Prelude.{◌≡◌, ◌≤◌, ◌++◌, IfSome, take};
+    ghost use Rattle.mimic_printer.specs.Sink.{HasFaultLeft, Puts};
     ghost use Rattle.mimic_printer.specs.Piece.{piece_text};
 
     // Writes the piece after the first `len` bytes of the row, and returns where it ends. `None` if it doesn't fit,
@@ -107,7 +108,8 @@ impl Piece<'_> {
     fn write(self, row: &mut [u8; ROW], len: usize) -> Option<usize>
         requires { len ≤ 256 }
         ensures front { take len row.new ≡ take len row.old }
-        ensures written { IfSome result (λ end. (end ≤ 256) × (take end row.new ≡ take len row.old ++ piece_text self.entry)) }
+        ensures written { IfSome result
+            (λ end. (end ≤ 256) × (take end row.new ≡ take len row.old ++ piece_text self.entry)) }
     {
         match self {
             Piece::Text(text) => append(row, len, text.as_bytes()),
@@ -127,7 +129,7 @@ impl Piece<'_> {
     }
 
     fn put<W: Write>(self, sink: &mut Sink<W>) -> Result<(), WriteFault>
-        requires { faults_of sink.old < 2 ^ 64 - 1 }
+        requires { HasFaultLeft sink.old }
         ensures { Puts W.contents sink.old sink.new (piece_text self.entry) result }
     {
         match self {
@@ -146,7 +148,7 @@ impl Piece<'_> {
 const SPACES: [u8; 32] = [b' '; 32];
 
 fn put_spaces<W: Write>(sink: &mut Sink<W>, count: usize) -> Result<(), WriteFault>
-    requires { faults_of sink.old < 2 ^ 64 - 1 }
+    requires { HasFaultLeft sink.old }
     ensures { Puts W.contents sink.old sink.new (spaces count) result }
 {
     let mut left = count;
@@ -159,8 +161,9 @@ fn put_spaces<W: Write>(sink: &mut Sink<W>, count: usize) -> Result<(), WriteFau
 }
 
 fn put_grouped<W: Write>(sink: &mut Sink<W>, number: u64, width: usize) -> Result<(), WriteFault>
-    requires { faults_of sink.old < 2 ^ 64 - 1 }
-    ensures { Puts W.contents sink.old sink.new (right_aligned width (grouped (decimal number))) result }
+    requires { HasFaultLeft sink.old }
+    ensures { Puts W.contents sink.old sink.new
+        (right_aligned width (grouped (decimal number))) result }
 {
     let mut buf = [0; 26];
     let text = thousands(number, &mut buf);
@@ -170,7 +173,7 @@ fn put_grouped<W: Write>(sink: &mut Sink<W>, number: u64, width: usize) -> Resul
 
 // Writes the text with its escapes, and what lies between them at once.
 fn put_escaped<W: Write>(sink: &mut Sink<W>, text: &[u8]) -> Result<(), WriteFault>
-    requires { faults_of sink.old < 2 ^ 64 - 1 }
+    requires { HasFaultLeft sink.old }
     ensures { Puts W.contents sink.old sink.new (escaped text.now) result }
 {
     let mut rest = text;

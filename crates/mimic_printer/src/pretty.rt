@@ -1,7 +1,7 @@
-//! The parts of a report in pretty. Its title, its measurements and its summary are those of terse too.
-ghost use Rattle.std.specs.Prelude.{◌≡◌, ◌-◌, ◌^◌, ◌<◌};
+//! Writes the parts of a report in pretty. Its title, its measurements and its summary are those of terse too.
+ghost use Rattle.std.specs.Prelude.{◌≡◌};
 ghost use Rattle.mimic_printer.specs.Report.{noun_text, outcome_line, outcome_word, pretty_announcement, result_summary, running_title, verdict_of};
-ghost use Rattle.mimic_printer.specs.Sink.{Puts, faults_of};
+ghost use Rattle.mimic_printer.specs.Sink.{HasFaultLeft, Puts};
 ghost use Rattle.mimic_printer.specs.Row.{label_of};
 
 use crate::Printer;
@@ -16,7 +16,7 @@ use std::io::Write;
 // Writes how many trials are run.
 #[tactic(auto, unfolding(crate::specs::Report::running_title))]
 pub(super) fn put_title<W: Write>(sink: &mut Sink<W>, num_tests: u64) -> Result<(), WriteFault>
-    requires { faults_of sink.old < 2 ^ 64 - 1 }
+    requires { HasFaultLeft sink.old }
     ensures { Puts W.contents sink.old sink.new (running_title num_tests) result }
 {
     let pieces = [
@@ -41,8 +41,9 @@ pub(super) fn put_announcement<W: Write>(
     printer: &Printer,
     info: &TestInfo,
 ) -> Result<(), WriteFault>
-    requires { faults_of sink.old < 2 ^ 64 - 1 }
-    ensures { Puts W.contents sink.old sink.new (pretty_announcement printer.now (label_of info.now)) result }
+    requires { HasFaultLeft sink.old }
+    ensures { Puts W.contents sink.old sink.new
+        (pretty_announcement printer.now (label_of info.now)) result }
 {
     let (open, close) = brackets(info.kind.as_str());
     let pieces = [
@@ -67,7 +68,7 @@ pub(super) fn put_outcome<W: Write>(
     printer: &Printer,
     outcome: &Outcome,
 ) -> Result<(), WriteFault>
-    requires { faults_of sink.old < 2 ^ 64 - 1 }
+    requires { HasFaultLeft sink.old }
     ensures { Puts W.contents sink.old sink.new (outcome_line printer.now outcome.now) result }
 {
     let start = Piece::Text(colour_start(printer, outcome));
@@ -119,8 +120,9 @@ pub(super) fn put_summary<W: Write>(
     conclusion: &Conclusion,
     nanos: u64,
 ) -> Result<(), WriteFault>
-    requires { faults_of sink.old < 2 ^ 64 - 1 }
-    ensures { Puts W.contents sink.old sink.new (result_summary printer.now conclusion.now nanos) result }
+    requires { HasFaultLeft sink.old }
+    ensures { Puts W.contents sink.old sink.new
+        (result_summary printer.now conclusion.now nanos) result }
 {
     let verdict = verdict(conclusion.num_failed);
     let (seconds, rest) = hundredths(nanos);
@@ -148,7 +150,7 @@ pub(super) fn put_summary<W: Write>(
     put_pieces(sink, &pieces)
 }
 
-// The outcome that the whole run is shown with.
+// Returns the outcome that the whole run is shown with.
 fn verdict(failed: u64) -> Outcome
     ensures { result ≡ verdict_of failed }
 {

@@ -1,5 +1,5 @@
-//! A writer that counts its faults.
-ghost use Rattle.std.specs.Prelude.{◌≡◌, ◌-◌, ◌^◌, ◌<◌, [], IsOk};
+//! Counts the faults of a writer.
+ghost use Rattle.std.specs.Prelude.{◌≡◌, [], IsOk};
 
 use std::io;
 use std::io::Write;
@@ -16,7 +16,7 @@ pub enum WriteFault {
     Zero,
 }
 
-/// A writer, and how many of its writes and flushes failed.
+/// Holds a writer, and counts how many of its writes and flushes failed.
 ///
 /// A fault is returned and not tried again. A run that returns `Ok` has counted none, and one that
 /// returns a write fault has counted exactly one.
@@ -27,9 +27,9 @@ pub struct Sink<W: Write> {
 }
 
 impl<W: Write> Sink<W> {
-    ghost use Rattle.mimic_printer.specs.Sink.{Puts, writer_of, faults_of};
+    ghost use Rattle.mimic_printer.specs.Sink.{HasFaultLeft, Puts, faults_of, writer_of};
 
-    /// A sink over the writer, with no fault yet.
+    /// Makes a sink over the writer, with no fault yet.
     pub fn new(writer: W) -> Self
         ensures writer { writer_of result ≡ writer }
         ensures faults { faults_of result ≡ 0 }
@@ -37,7 +37,7 @@ impl<W: Write> Sink<W> {
         Sink { writer, faults: 0 }
     }
 
-    /// How many writes and flushes failed so far.
+    /// Returns how many writes and flushes failed so far.
     pub fn faults(&self) -> u64
         ensures { result ≡ faults_of self.now }
     {
@@ -56,7 +56,7 @@ impl<W: Write> Sink<W> {
     ///
     /// With a fault a beginning of the piece was appended, and one more fault is counted.
     pub fn put(&mut self, piece: &[u8]) -> Result<(), WriteFault>
-        requires { faults_of self.old < 2 ^ 64 - 1 }
+        requires { HasFaultLeft self.old }
         ensures appends { Puts W.contents self.old self.new piece.now result }
         ensures empty { piece.now ≡ [] → IsOk result }
     {
@@ -79,7 +79,7 @@ impl<W: Write> Sink<W> {
 
     /// Flushes the writer, which appends nothing. With a fault one more fault is counted.
     pub fn flush(&mut self) -> Result<(), WriteFault>
-        requires { faults_of self.old < 2 ^ 64 - 1 }
+        requires { HasFaultLeft self.old }
         ensures { Puts W.contents self.old self.new [] result }
     {
         if let Err(error) = self.writer.flush() {

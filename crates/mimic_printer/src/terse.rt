@@ -1,8 +1,8 @@
-//! Outcomes in terse: a mark each, and no announcement. All else is as in pretty.
-ghost use Rattle.std.specs.Prelude.{◌≡◌, ◌-◌, ◌^◌, ◌<◌, IfNone, IfSome};
+//! Writes outcomes in terse: each has a mark and no announcement. All else is as in pretty.
+ghost use Rattle.std.specs.Prelude.{◌≡◌, IfNone, IfSome};
 ghost use Rattle.mimic_printer.specs.declared.Printer.{Printer};
 ghost use Rattle.mimic_printer.specs.Report.{outcome_line, outcome_mark, terse_outcome};
-ghost use Rattle.mimic_printer.specs.Sink.{Puts, faults_of};
+ghost use Rattle.mimic_printer.specs.Sink.{HasFaultLeft, Puts};
 
 use crate::colour::{colour_end, colour_start};
 use crate::piece::{Piece, put_pieces};
@@ -19,7 +19,7 @@ pub(super) fn put_outcome<W: Write>(
     printer: &Printer,
     outcome: &Outcome,
 ) -> Result<(), WriteFault>
-    requires { faults_of sink.old < 2 ^ 64 - 1 }
+    requires { HasFaultLeft sink.old }
     ensures { Puts W.contents sink.old sink.new (terse_outcome printer.now outcome.now) result }
 {
     match mark(outcome) {
@@ -29,10 +29,12 @@ pub(super) fn put_outcome<W: Write>(
     Ok(())
 }
 
-// The mark of an outcome. A measurement has none, but its whole line.
+// Returns the mark of an outcome. A measurement has none, since its whole line is written.
 fn mark(outcome: &Outcome) -> Option<&'static str>
-    ensures mark { IfSome result (λ mark. (p : Printer) → terse_outcome p outcome.now ≡ outcome_mark p outcome.now mark.now) }
-    ensures line { IfNone result ((p : Printer) → terse_outcome p outcome.now ≡ outcome_line p outcome.now) }
+    ensures mark { IfSome result (λ mark. (p : Printer)
+        → terse_outcome p outcome.now ≡ outcome_mark p outcome.now mark.now) }
+    ensures line { IfNone result
+        ((p : Printer) → terse_outcome p outcome.now ≡ outcome_line p outcome.now) }
 {
     match outcome {
         Outcome::Passed => Some("."),
@@ -50,8 +52,9 @@ fn put_mark<W: Write>(
     outcome: &Outcome,
     mark: &str,
 ) -> Result<(), WriteFault>
-    requires { faults_of sink.old < 2 ^ 64 - 1 }
-    ensures { Puts W.contents sink.old sink.new (outcome_mark printer.now outcome.now mark.now) result }
+    requires { HasFaultLeft sink.old }
+    ensures { Puts W.contents sink.old sink.new
+        (outcome_mark printer.now outcome.now mark.now) result }
 {
     if printer.colour {
         let pieces = [

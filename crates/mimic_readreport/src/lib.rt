@@ -1,9 +1,9 @@
-//! The program `readreport` as a library: a JSON report summarized in one line.
+//! The program `readreport` as a library: it sums up a JSON report in one line.
 //!
 //! ```rust
-//! use mimic_readreport::{Ending, run_program};
+//! use mimic_readreport::{Status, run_program};
 //!
-//! fn main(rt: HostRuntime) -> Ending {
+//! fn main(rt: HostRuntime) -> Status {
 //!     run_program(&rt)
 //! }
 //! ```
@@ -13,5 +13,5 @@ mod line;
 mod machine;
 mod program;
 
-pub use machine::{Ending, run_program};
+pub use machine::{Status, run_program};
 pub use program::readreport_run;

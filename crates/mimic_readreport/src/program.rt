@@ -1,8 +1,8 @@
-//! The program, but for the machine's input and output.
+//! Runs the program over any input and outputs.
 ghost use Rattle.std.specs.Prelude.{◌≡◌, ℕ, List, IfErr, IfOk, IfSome};
 ghost use Rattle.mimic_events.specs.Tally.{HasRead};
 ghost use Rattle.mimic_readreport.specs.declared.program.Fault.TheVariants.{OutOfMemory};
-ghost use Rattle.mimic_readreport.specs.Told.{Ended, IsOfInput, Leaves, PutsText, fault_line};
+ghost use Rattle.mimic_readreport.specs.Outputs.{Ended, IsOfInput, Leaves, PutsText, fault_line};
 
 use crate::line::line_of;
 use mimic_events::Tally;
@@ -28,7 +28,7 @@ pub(crate) enum Fault {
 }
 
 impl Fault {
-    // The line that says which fault it is.
+    // Returns the line that says which fault it is.
     fn line(self) -> &'static str
         ensures { result.now ≡ fault_line self }
     {
@@ -49,9 +49,10 @@ pub fn readreport_run<I: Read, O: Write, E: Write>(
     out: &mut O,
     err: &mut E,
 ) -> u8
-    ensures { Ended (I.remaining input.old) (O.contents out.old) (O.contents out.new) (E.contents err.old) (E.contents err.new) result }
+    ensures { Ended (I.remaining input.old) (O.contents out.old) (O.contents out.new)
+        (E.contents err.old) (E.contents err.new) result }
 {
-    match tell_report(alloc, input, out) {
+    match print_report(alloc, input, out) {
         Ok(()) => SUCCESS,
         Err(fault) => {
             let _ = put_text(err, fault.line());
@@ -60,7 +61,7 @@ pub fn readreport_run<I: Read, O: Write, E: Write>(
     }
 }
 
-fn tell_report<I: Read, O: Write>(alloc: Global, input: &mut I, out: &mut O) -> Result<(), Fault>
+fn print_report<I: Read, O: Write>(alloc: Global, input: &mut I, out: &mut O) -> Result<(), Fault>
     ensures { Leaves (I.remaining input.old) (O.contents out.old) (O.contents out.new) result }
 {
     let tally = tallied(alloc, input)?;
@@ -73,7 +74,8 @@ fn tell_report<I: Read, O: Write>(alloc: Global, input: &mut I, out: &mut O) -> 
 
 // Feeds the input to its end, piece by piece. A read that was interrupted is tried again.
 fn tallied<I: Read>(alloc: Global, input: &mut I) -> Result<Tally, Fault>
-    ensures read { IfOk result (λ tally. (all : List ℕ) × HasRead tally all × IfSome (I.remaining input.old) (λ bytes. all ≡ bytes)) }
+    ensures read { IfOk result (λ tally. (all : List ℕ) × HasRead tally all
+        × IfSome (I.remaining input.old) (λ bytes. all ≡ bytes)) }
     ensures faults { IfErr result IsOfInput }
 {
     let mut tally = Tally::new(alloc);

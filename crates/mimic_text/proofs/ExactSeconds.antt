@@ -54,7 +54,7 @@ digit_taken (suc k) left unit some h e =
 pub unit_fits : (k : ℕ) → k ≤ 9 → 10 ^ (k - 1) < 2 ^ 64
 unit_fits k h = let le : 10 ^ (k - 1) ≤ 10 ^ 8 = pow-le-pow_right {n = 10} (omega arith) {i = k - 1} {j = 8} (omega arith) in omega (arith, le)
 
--- where some is left there is a place for it
+-- if some is left, there is a place for it
 pub place_left : (k left : ℕ) → left < 10 ^ k → 0 < left → 0 < k
 place_left zero left h some = omega (arith, h, some)
 place_left (suc k) left h some = omega arith
@@ -64,7 +64,7 @@ unfolding fraction_digits
 none_left zero = refl
 none_left (suc k) = refl
 
--- the point behind what stands at the front
+-- the point follows what stands at the front
 pub point_behind : (front rest : List ℕ) → length (front ++ rest) ≡ 32 → length front ≤ 20 → take (length front + 1) (slice_set (front ++ rest) (length front) 46) ≡ front ++ 46 ∷ []
 point_behind front rest long short =
     take_more_set (front ++ rest) (length front) 46 (omega (arith, long, short)) ∙ ap (λ l. l ++ 46 ∷ []) (take-append_seam front rest)

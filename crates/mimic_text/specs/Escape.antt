@@ -3,9 +3,9 @@ use Rattle.std.specs.Prelude.{◌≡◌, ◌≢◌, ◌<◌, ℕ, ◌/◌, ◌%�
 use Rattle.std.specs.Char.{digit_char}
 use Rattle.std.specs.List.{AllByRecursion, flat_map}
 
--- the spelling of a byte: a backslash and a letter or the character itself, where RFC 8259, section 7, has such a spelling;
--- `\u00` and two digits for every other byte below 32; and else the byte itself. That these are the spellings, and hexadecimal
--- digits small, is our own choice among those of the RFC
+-- how a byte is spelled: by a backslash and a letter or the character itself, if RFC 8259, section 7, has such a spelling;
+-- else by `\u00` and two digits, if it is below 32; and else by itself. Among the spellings of the RFC these are our own
+-- choice, and so are small hexadecimal digits
 abbrev pub escape : ℕ → List ℕ
 escape b =
     if b == 34 then 92 ∷ 34 ∷ []

@@ -2,7 +2,7 @@
 use Rattle.std.specs.Prelude.{◌≡◌, ◌≢◌, ℕ, zero, suc, ◌+◌, ◌-◌, ◌*◌, ◌/◌, ◌%◌, ◌^◌, ◌≤◌, ◌⊎◌, ◌==◌, if◌then◌else◌, List, [], ◌∷◌, ◌++◌, length, slice_index, decimal}
 use Rattle.std.specs.Str.Parse.{IsNumeral, digits_value}
 
--- one to nine digits, the last of them not 0, which behind a point are worth so many nanoseconds
+-- these are one to nine digits, the last of them is not 0, and after a point they are worth this many nanoseconds
 pub record IsFraction (nanos : ℕ) (digits : List ℕ) : Type 0 where
   pub numeral : IsNumeral 10 digits
   pub short : length digits ≤ 9
@@ -29,4 +29,5 @@ fraction_digits (suc k) rest = if rest == 0 then [] else (48 + rest / 10 ^ k) �
 
 -- the one text that is the nanoseconds in seconds (`text::exact_seconds` has the law that it is, and that there is no other)
 unfoldable pub exact_seconds : ℕ → List ℕ
-exact_seconds nanos = decimal (nanos / 10 ^ 9) ++ (if nanos % 10 ^ 9 == 0 then [] else 46 ∷ fraction_digits 9 (nanos % 10 ^ 9))
+exact_seconds nanos = decimal (nanos / 10 ^ 9)
+    ++ (if nanos % 10 ^ 9 == 0 then [] else 46 ∷ fraction_digits 9 (nanos % 10 ^ 9))

@@ -14,7 +14,7 @@ padded width text = text ++ spaces (width - length (chars text))
 abbrev pub right_aligned : ℕ → List ℕ → List ℕ
 right_aligned width digits = spaces (width - length digits) ++ digits
 
--- the kind in brackets with a space behind it, and nothing for an empty kind (the Rust crate's)
+-- a kind stands in brackets and a space follows; an empty kind is left out (the Rust crate's)
 abbrev pub kind_part : List ℕ → List ℕ
 kind_part [] = []
 kind_part (b ∷ bs) = codes "[" ++ ((b ∷ bs) ++ codes "] ")

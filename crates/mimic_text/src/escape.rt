@@ -6,7 +6,7 @@ ghost use Rattle.mimic_text.specs.Escape.{ArePlain, EscapesCharacters, NeedsEsca
 use std::marker::Model;
 use std::str;
 
-/// A character as it stands there.
+/// A character as it is written there.
 #[derive(Drop)]
 pub struct Escaped {
     bytes: [u8; 6],
@@ -25,7 +25,7 @@ impl Model for Escaped {
 }
 
 impl Escaped {
-    /// The text, of at most six bytes.
+    /// Returns the text, which has at most six bytes.
     pub fn as_str(&self) -> &str
         ensures text { result.now ≡ self.now }
         ensures short { length result.now ≤ 6 }
@@ -47,7 +47,8 @@ impl Escaped {
 
     fn control(byte: u8) -> Escaped
         requires { byte < 32 }
-        ensures { result ≡ 92 ∷ 117 ∷ 48 ∷ 48 ∷ digit_char (byte / 16) ∷ digit_char (byte % 16) ∷ [] }
+        ensures { result ≡ 92 ∷ 117 ∷ 48 ∷ 48 ∷ digit_char (byte / 16) ∷ digit_char (byte % 16)
+            ∷ [] }
     {
         Escaped {
             bytes: [
@@ -63,7 +64,7 @@ impl Escaped {
     }
 }
 
-/// How a character is written between the quotes of a JSON string (RFC 8259, section 7), in one spelling.
+/// Returns a character as it is written between the quotes of a JSON string (RFC 8259, section 7). It has one spelling.
 ///
 /// `\"`, `\\`, `\b`, `\t`, `\n`, `\f` and `\r` stand for the characters that they have always stood for,
 /// `\u00` and two hexadecimal digits in small letters for every other character below U+0020, and every
@@ -81,7 +82,7 @@ pub fn escape_char(c: char) -> Escaped
     }
 }
 
-/// The same for a character that is one byte, as all of ASCII are.
+/// Does the same for a character that is one byte, as all of ASCII are.
 pub fn escape_byte(byte: u8) -> Escaped
     requires { byte < 128 }
     ensures { result ≡ escape byte }
@@ -99,10 +100,11 @@ pub fn escape_byte(byte: u8) -> Escaped
     }
 }
 
-/// The place, counted from 0, of the first byte of a text that isn't written as it is; `None` if all are.
+/// Returns the place, counted from 0, of the first byte that isn't written as it is, and `None` if all are.
 pub fn next_escape(text: &[u8]) -> Option<usize>
     ensures { MatchOption result (ArePlain text.now)
-        (λ at. (at < length text.now) × NeedsEscape (slice_index text.now at) × ArePlain (take at text.now)) }
+        (λ at. (at < length text.now) × NeedsEscape (slice_index text.now at)
+        × ArePlain (take at text.now)) }
 {
     for (at, byte) in text.iter().enumerate() {
         if *byte < b' ' || *byte == b'"' || *byte == b'\\' {

@@ -19,7 +19,7 @@ pub enum FormatSetting {
 }
 
 impl FormatSetting {
-    /// The name of the format, as `--format` takes it.
+    /// Returns the name of the format, as `--format` takes it.
     pub fn name(self) -> &'static str
         ensures name { result.now ≡ format_name self }
         ensures read_back { named format_name formats result.now ≡ Some self }
@@ -48,7 +48,7 @@ impl FromStr for FormatSetting {
     }
 }
 
-/// A text is the name of no format.
+/// The text is not the name of a format.
 #[derive(Clone, Copy, Debug, PartialEq, Eq, Error)]
 #[error("no such format")]
 pub struct UnknownFormat;

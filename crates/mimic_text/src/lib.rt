@@ -23,11 +23,11 @@ mod seconds;
 pub use escape::{Escaped, escape_byte, escape_char, next_escape};
 pub use formats::{FormatSetting, UnknownFormat};
 use itoa::Buffer;
-pub use seconds::{exact_seconds, hundredths};
+pub use seconds::{NANOS_PER_SECOND, exact_seconds, hundredths};
 use std::alloc::{AllocError, Global};
 use std::str;
 
-/// What stands before and after a kind that is shown before a name: brackets, the closing one with a
+/// Returns what stands before and after a kind that is shown before a name: brackets, the closing one with a
 /// space after it, and nothing around an empty kind.
 pub fn brackets(kind: &str) -> (&'static str, &'static str)
     ensures shown { result.0.now ++ (kind.now ++ result.1.now) ≡ kind_part kind.now }
@@ -40,7 +40,7 @@ pub fn brackets(kind: &str) -> (&'static str, &'static str)
     }
 }
 
-/// The number in decimal with a comma between groups of three digits, in the caller's buffer: at most 26 bytes.
+/// Writes the number in decimal, with a comma between groups of three digits, to the caller's buffer. It takes at most 26 bytes.
 pub fn thousands(v: u64, buf: &mut [u8; 26]) -> &str
     ensures text { result.now ≡ grouped (decimal v) }
     ensures short { length result.now ≤ 26 }
@@ -52,7 +52,7 @@ pub fn thousands(v: u64, buf: &mut [u8; 26]) -> &str
     str::from_utf8(&all[..len]).unwrap()
 }
 
-/// The number as `thousands` writes it, in memory of its own.
+/// Returns the number as `thousands` writes it, in memory of its own.
 pub fn fmt_with_thousand_sep(alloc: Global, v: u64) -> Result<String, AllocError>
     ensures text { IfOk result (λ s. string_bytes s ≡ grouped (decimal v)) }
     ensures digits { IfOk result (λ s. without_commas (string_bytes s) ≡ decimal v) }

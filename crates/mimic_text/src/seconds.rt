@@ -6,9 +6,10 @@ ghost use Rattle.mimic_text.specs.Text.{nearest_hundredths};
 use itoa::Buffer;
 use std::str;
 
-const NANOS_PER_SECOND: u64 = 1_000_000_000;
+/// How many nanoseconds a second has.
+pub const NANOS_PER_SECOND: u64 = 1_000_000_000;
 
-/// The nanoseconds as whole seconds and hundredths below 100, to the nearest hundredth, ties up.
+/// Returns the nanoseconds as whole seconds and hundredths below 100, to the nearest hundredth, ties up.
 pub fn hundredths(nanos: u64) -> (u64, u8)
     ensures seconds { result.0 ≡ nearest_hundredths nanos / 100 }
     ensures rest { result.1 ≡ nearest_hundredths nanos % 100 }
@@ -17,7 +18,7 @@ pub fn hundredths(nanos: u64) -> (u64, u8)
     ((all / 100) as u64, (all % 100) as u8)
 }
 
-/// The nanoseconds as seconds in exact decimal, in the caller's buffer: no point if they are whole, and
+/// Writes the nanoseconds as seconds in exact decimal to the caller's buffer: there is no point if they are whole, and
 /// no zero at the end after a point. The text has at most 21 bytes.
 pub fn exact_seconds(nanos: u64, buf: &mut [u8; 32]) -> &str
     ensures text { result.now ≡ exact_seconds nanos }

@@ -7,10 +7,12 @@ use Rattle.mimic_trial.specs.declared.trial.Trial.{Trial}
 
 -- a test without a kind and without the ignored flag
 abbrev pub IsPlainTest : {R : Type 0} → Trial R → Type 0
-IsPlainTest trial = (string_bytes (info_of trial).kind ≡ []) × ((info_of trial).is_ignored ≡ false) × ((info_of trial).is_bench ≡ false)
+IsPlainTest trial = (string_bytes (info_of trial).kind ≡ []) × ((info_of trial).is_ignored ≡ false)
+    × ((info_of trial).is_bench ≡ false)
 
 -- one test for each case, in their order, each with the name and the input of its case and the check that all share (our own)
-pub record AreTestsOf {N D F : Type 0} (text : N → List ℕ) (check : F) (cases : List (N × D)) (trials : List (Trial (Case D F))) : Type 0 where
+pub record AreTestsOf {N D F : Type 0} (text : N → List ℕ) (check : F) (cases : List (N × D))
+    (trials : List (Trial (Case D F))) : Type 0 where
   pub names : map (λ t. string_bytes (info_of t).name) trials ≡ map (λ c. text c.0) cases
   pub runners : map runner_of trials ≡ map (λ c. record { input = c.1; check = check }) cases
   pub plain : All IsPlainTest trials

@@ -20,7 +20,7 @@ abbrev pub is_measured : Outcome → Bool
 is_measured (Measured m) = true
 is_measured o = false
 
--- the counts of these outcomes, beside so many trials that were filtered out (the Rust crate's `Conclusion`)
+-- how many of these outcomes are of each sort, and how many trials were filtered out (the Rust crate's `Conclusion`)
 abbrev pub counts_of : List Outcome → ℕ → Conclusion
 counts_of outcomes filtered_out = record {
   num_filtered_out = filtered_out;

@@ -4,7 +4,7 @@ use lib.Pointwise.{pointwise}
 use Rattle.mimic_trial.specs.declared.outcome.failed.Message.{Message}
 use Rattle.mimic_trial.specs.declared.outcome.failed.Message.TheVariants.{Nothing, NotMeasured, Text}
 
--- the message of a benchmark that answered `Ok(None)` in bench mode (the Rust crate's)
+-- the message of a benchmark that returned `Ok(None)` in bench mode (the Rust crate's)
 abbrev pub not_measured_text : List ℕ
 not_measured_text = codes "bench runner returned `Ok(None)` in bench mode"
 

@@ -14,7 +14,7 @@ places_of placed = map (λ p. p.0) placed
 abbrev pub InOrder : List Placed → Type 0
 InOrder placed = places_of placed ≡ range_with_len 0 (length placed)
 
--- a place with the outcome there, where one is there
+-- a place with the outcome there, if there is one
 abbrev pub placed_if : ℕ → Option Outcome → List Placed
 placed_if place None = []
 placed_if place (Some outcome) = (place, outcome) ∷ []

@@ -1,4 +1,4 @@
--- What runners promise to answer, and the outcome that an answer has.
+-- Which answers runners promise, and which outcome an answer has.
 use Rattle.std.specs.Prelude.{◌≡◌, ◌<◌, ◌^◌, ℕ, List, Option, None, Some, Result, Ok, Err, Bool, true, false, IfSome, IsUtf8}
 use Rattle.std.specs.Bool.{MatchBool}
 use Rattle.mimic_trial.specs.declared.runner.TestRunner.{TestRunner}
@@ -14,11 +14,13 @@ use Rattle.mimic_trial.specs.Failed.{not_measured_text}
 -- what a call of each promises.
 
 -- the answer is one that the test's runner promises
-abbrev pub TestAnswers : {X : Type 0} {F : X → Type 0} {g : _} → TestRunner X F g → Result (Unit {0}) (Option (List ℕ)) → Type 0
+abbrev pub TestAnswers : {X : Type 0} {F : X → Type 0} {g : _} → TestRunner X F g → Result (Unit {0}) (Option (List ℕ))
+    → Type 0
 TestAnswers {X} {F} {g} t answer = g.post (t.boxed.vtable, t.boxed.value) tt answer
 
 -- the answer is one that the benchmark's runner promises in this mode
-abbrev pub BenchAnswers : {X : Type 0} {F : X → Type 0} {g : _} → BenchRunner X F g → Bool → Result (Option Measurement) (Option (List ℕ)) → Type 0
+abbrev pub BenchAnswers : {X : Type 0} {F : X → Type 0} {g : _} → BenchRunner X F g → Bool
+    → Result (Option Measurement) (Option (List ℕ)) → Type 0
 BenchAnswers {X} {F} {g} b test_mode answer = g.post (b.boxed.vtable, b.boxed.value) (test_mode, tt) answer
 
 -- the outcome of a test's answer (the Rust crate's `Trial::test`)
@@ -42,15 +44,17 @@ FitsTypes Ignored = Unit {0}
 FitsTypes (Measured m) = (m.avg < 2 ^ 64) × (m.variance < 2 ^ 64)
 
 -- the outcome is that of an answer which the runner promises in this mode
-abbrev pub PromisesOutcome : {X Y : Type 0} {F : X → Type 0} {G : Y → Type 0} {g : _} {h : _} → Runner X Y F G g h → Bool → Outcome → Type 0
+abbrev pub PromisesOutcome : {X Y : Type 0} {F : X → Type 0} {G : Y → Type 0} {g : _} {h : _} → Runner X Y F G g h
+    → Bool → Outcome → Type 0
 PromisesOutcome (Test t) test_mode o = (answer : _) × TestAnswers t answer × (o ≡ outcome_of_test answer)
-PromisesOutcome (Bench b) test_mode o = (answer : _) × BenchAnswers b test_mode answer × (o ≡ outcome_of_bench test_mode answer)
+PromisesOutcome (Bench b) test_mode o = (answer : _) × BenchAnswers b test_mode answer
+    × (o ≡ outcome_of_bench test_mode answer)
 
 -- which outcomes a runner may give, by whether the mode is the test mode
 abbrev pub Gives : Type 0 → Type 1
 Gives R = R → Bool → Outcome → Type 0
 
--- what becomes of a runner: `Ignored` where it is ignored, else an outcome that it gives in this mode, with numbers that
+-- what becomes of a runner: `Ignored` if it is ignored, else an outcome that it gives in this mode, with numbers that
 -- fit (our own)
 abbrev pub IsOutcomeOf : {R : Type 0} → Gives R → Bool → R → Bool → Outcome → Type 0
 IsOutcomeOf gives ignored runner test_mode o = MatchBool ignored (o ≡ Ignored) (gives runner test_mode o × FitsTypes o)

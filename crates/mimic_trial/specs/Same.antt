@@ -50,4 +50,6 @@ outcome_refl Ignored = refl
 outcome_refl (Measured m) = search rules
 
 pub outcome_decides : (a b : Outcome) → (same_outcome a b ≡ true) ↔ (a ≡ b)
-outcome_decides a b = (outcome_is a b, λ e. let P : Outcome → Type 0 = λ x. same_outcome a x ≡ true in subst P e (outcome_refl a))
+outcome_decides a b =
+    let P : Outcome → Type 0 = λ x. same_outcome a x ≡ true in
+    (outcome_is a b, λ e. subst P e (outcome_refl a))

@@ -30,7 +30,7 @@ impl<D: Drop, F: FnOnce(D) -> Result<(), Failed> + Drop> Task for Case<D, F> {
 }
 
 impl<D: Drop, F: Copy + Drop> Trial<Case<D, F>> {
-    /// A test of each case, in their order. A case is its name and its input; all have the same check.
+    /// Makes a test of each case, in their order. A case is a name and an input, and all have the same check.
     pub fn of_cases<N: AsStr + Drop>(
         alloc: Global,
         cases: Vec<(N, D)>,

@@ -28,7 +28,7 @@ pub enum Outcome {
 }
 
 impl Outcome {
-    /// A copy. `Err` if there is no memory for a failure's message.
+    /// Returns an equal outcome, or an `Err` if there is no memory for a failure's message.
     pub fn try_clone(&self, alloc: Global) -> Result<Self, AllocError>
         ensures { IfOk result (λ o. o ≡ self.now) }
     {
@@ -70,7 +70,7 @@ impl Eq for Outcome {
     ghost laws = { decided same_outcome outcome_decides };
 }
 
-/// The outcome of a test by its answer: it passed if that is `Ok`, and failed with what an `Err` says.
+/// A test passed if its answer is `Ok`, and failed with what an `Err` holds.
 impl From<Result<(), Failed>> for Outcome {
     ghost use Rattle.mimic_trial.specs.Promise.{outcome_of_test};
 
@@ -105,7 +105,7 @@ pub fn run_single(runner: Runner, test_mode: bool) -> Outcome
     }
 }
 
-/// The number of outcomes of each sort, and the number of trials that were filtered out.
+/// Counts the outcomes of each sort, and takes the number of trials that were filtered out as it is.
 pub fn count_rows(outcomes: &[Outcome], filtered: u64) -> Conclusion
     ensures { result ≡ counts_of outcomes.now filtered }
 {

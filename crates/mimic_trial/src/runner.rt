@@ -13,7 +13,7 @@ impl TestRunner {
     ghost use Rattle.std.specs.Prelude.{◌↔◌};
     ghost use Rattle.mimic_trial.specs.Promise.{TestAnswers};
 
-    /// A runner that promises the answers which the box promises.
+    /// Makes a runner that promises the answers which the box promises.
     pub fn new(boxed: Box<dyn FnOnce() -> Result<(), Failed> + Send>) -> Self
         requires { pre boxed }
         ensures { (answer : _) → TestAnswers result answer ↔ post boxed answer }
@@ -41,10 +41,11 @@ impl BenchRunner {
     ghost use Rattle.std.specs.Prelude.{◌↔◌};
     ghost use Rattle.mimic_trial.specs.Promise.{BenchAnswers};
 
-    /// A runner that promises, in each mode, the answers which the box promises.
+    /// Makes a runner that promises, in each mode, the answers which the box promises.
     pub fn new(boxed: Box<dyn FnOnce(bool) -> Result<Option<Measurement>, Failed> + Send>) -> Self
         requires { IsAlwaysCallable boxed }
-        ensures { (mode : _) (answer : _) → BenchAnswers result mode answer ↔ post boxed mode answer }
+        ensures { (mode : _) (answer : _) → BenchAnswers result mode answer
+            ↔ post boxed mode answer }
     {
         BenchRunner { boxed }
     }

@@ -30,7 +30,7 @@ impl Trial {
     ghost use Rattle.mimic_trial.specs.Promise.{PromisesOutcome, outcome_of_test, outcome_of_bench};
     ghost use Rattle.mimic_trial.specs.Trial.{info_of, runner_of};
 
-    /// A test without a kind and without the ignored flag. It passes if the runner returns `Ok`.
+    /// Makes a test without a kind and without the ignored flag. It passes if the runner returns `Ok`.
     pub fn test(name: String, runner: Box<dyn FnOnce() -> Result<(), Failed> + Send>) -> Self
         requires { pre runner }
         ensures name { string_bytes (info_of result).name ≡ string_bytes name }
@@ -43,7 +43,7 @@ impl Trial {
         Trial::new(name, Runner::Test(TestRunner::new(runner)))
     }
 
-    /// A benchmark without a kind and without the ignored flag.
+    /// Makes a benchmark without a kind and without the ignored flag.
     ///
     /// In test mode the runner is to run its code once and need not measure. In bench mode it is to
     /// measure, and the benchmark fails if it returns `Ok(None)`.
@@ -68,7 +68,7 @@ impl Trial {
 impl<R> Trial<R> {
     ghost use Rattle.mimic_trial.specs.Trial.{info_of, runner_of};
 
-    /// A test without a kind and without the ignored flag, over any runner. It becomes what the runner gives.
+    /// Makes a test without a kind and without the ignored flag, over any runner. Its outcome is what the runner gives.
     pub fn new(name: String, runner: R) -> Self
         ensures name { string_bytes (info_of result).name ≡ string_bytes name }
         ensures kind { string_bytes (info_of result).kind ≡ [] }
@@ -88,7 +88,7 @@ impl<R> Trial<R> {
         }
     }
 
-    /// The trial of which this is known, over any runner: a benchmark too.
+    /// Makes a trial of what is known of it and any runner. It may be a benchmark.
     pub fn from_parts(info: TestInfo, runner: R) -> Self
         ensures info { info_of result ≡ info }
         ensures runner { runner_of result ≡ runner }
@@ -96,7 +96,7 @@ impl<R> Trial<R> {
         Trial { info, runner }
     }
 
-    /// The same trial with this kind, which rows show in brackets before the name.
+    /// Gives the trial this kind, which rows show in brackets before the name.
     pub fn with_kind(mut self, kind: String) -> Self
         ensures info { info_of result ≡ record (info_of self) { kind = kind } }
         ensures runner { runner_of result ≡ runner_of self }
@@ -105,7 +105,7 @@ impl<R> Trial<R> {
         self
     }
 
-    /// The same trial, marked as ignored or not.
+    /// Marks the trial as ignored or not.
     ///
     /// An ignored trial is not run if the arguments have neither `ignored` nor `include_ignored`.
     /// With `ignored`, trials that are not marked are not even selected.
@@ -117,14 +117,14 @@ impl<R> Trial<R> {
         self
     }
 
-    /// The name.
+    /// Returns the name.
     pub fn name(&self) -> &str
         ensures { result.now ≡ string_bytes (info_of self.now).name }
     {
         self.info.name.as_str()
     }
 
-    /// The kind, empty if none was set.
+    /// Returns the kind, which is empty if none was set.
     pub fn kind(&self) -> &str
         ensures { result.now ≡ string_bytes (info_of self.now).kind }
     {
@@ -152,7 +152,7 @@ impl<R> Trial<R> {
         self.info.is_bench
     }
 
-    /// What is known of the trial before it runs.
+    /// Returns what is known of the trial before it runs.
     pub fn info(&self) -> &TestInfo
         ensures { result.now ≡ info_of self.now }
     {
@@ -168,7 +168,7 @@ impl<R> Trial<R> {
     }
 }
 
-// Stands for a runner, of which there is nothing to show.
+// This stands for a runner, of which there is nothing to show.
 struct OpaqueRunner;
 
 impl fmt::Debug for OpaqueRunner {
@@ -177,7 +177,7 @@ impl fmt::Debug for OpaqueRunner {
     }
 }
 
-// As the Rust crate shows it.
+// Shows a trial as the Rust crate does.
 impl<R> fmt::Debug for Trial<R> {
     fn fmt<W: fmt::Write>(&self, f: &mut fmt::Formatter<W>) -> fmt::Result {
         let TestInfo {

@@ -22,12 +22,15 @@ pub struct Conclusion {
 impl Conclusion {
     ghost use Rattle.std.specs.Process.{exit_status};
 
-    /// The status for `main` to return: 101 if a trial failed, else 0.
+    /// The status that a program ends with if a trial failed.
+    pub const FAILED: u8 = 101;
+
+    /// Returns the status for `main` to return: `FAILED` if a trial failed, else 0.
     pub fn exit_code(&self) -> ExitCode
         ensures { exit_status result ≡ (if nat_lt 0 self.now.num_failed then 101 else 0) }
     {
         if self.has_failed() {
-            ExitCode::from(101)
+            ExitCode::from(Conclusion::FAILED)
         } else {
             ExitCode::SUCCESS
         }
@@ -45,7 +48,7 @@ impl Conclusion {
     ghost use Rattle.std.specs.Prelude.{ℕ, ◌^◌, ◌-◌, []};
     ghost use Rattle.mimic_trial.specs.Count.{HasRoom, counted, counts_of};
 
-    /// Nothing is counted yet but the trials that were filtered out.
+    /// Makes a conclusion that counts nothing yet but the trials that were filtered out.
     pub fn empty(filtered_out: u64) -> Self
         ensures { result ≡ counts_of [] filtered_out }
     {

@@ -18,7 +18,7 @@ pub struct Failed {
     message: Message,
 }
 
-// What a failure says. One text is kept without memory.
+// What a failure says. One text takes no memory.
 #[derive(Drop)]
 enum Message {
     Nothing,
@@ -40,7 +40,7 @@ impl Model for Failed {
 }
 
 impl Failed {
-    /// A failure without a message.
+    /// Makes a failure without a message.
     pub fn without_message() -> Self
         ensures { result ≡ None }
     {
@@ -49,7 +49,7 @@ impl Failed {
         }
     }
 
-    /// A failure with this message, which may be empty.
+    /// Makes a failure with this message, which may be empty.
     pub fn with_message(message: String) -> Self
         ensures { result ≡ Some (string_bytes message) }
     {
@@ -58,7 +58,7 @@ impl Failed {
         }
     }
 
-    /// A failure whose message is what the value displays.
+    /// Makes a failure whose message is what the value displays.
     ///
     /// It returns an `Err` if an allocation failed, or the value's own `Display`.
     pub fn from_display<M: Display>(alloc: Global, message: &M) -> Result<Self, AllocError>
@@ -76,10 +76,11 @@ impl Failed {
         Failed::from_display(alloc, reason).unwrap_or(Failed::without_message())
     }
 
-    /// `Ok` if the condition holds, else the failure because of what the value displays.
+    /// Returns `Ok` if the condition holds, else a failure whose message is what the value displays, as `because` makes it.
     pub fn unless<M: Display>(alloc: Global, condition: bool, reason: &M) -> Result<(), Self>
         ensures passed { is_ok result ≡ condition }
-        ensures failed { IfErr result (λ f. IfSome f (λ text. IfSome (M.output reason.now) (λ shown. text ≡ shown))) }
+        ensures failed { IfErr result
+            (λ f. IfSome f (λ text. IfSome (M.output reason.now) (λ shown. text ≡ shown))) }
     {
         if condition {
             Ok(())
@@ -88,7 +89,7 @@ impl Failed {
         }
     }
 
-    /// `Ok` if both values are equal, else a failure that shows both, in the words of `assert_eq!`.
+    /// Returns `Ok` if both values are equal, else a failure that shows both, in the words of `assert_eq!`.
     pub fn unless_equal<T: PartialEq + Debug>(
         alloc: Global,
         left: &T,
@@ -102,7 +103,7 @@ impl Failed {
         Failed::unless(alloc, left == right, &reason)
     }
 
-    /// An equal failure. An `Err` is the allocator's word that there was no memory for its message.
+    /// Returns an equal failure, or an `Err` if there is no memory for its message.
     pub fn try_clone(&self, alloc: Global) -> Result<Self, AllocError>
         ensures { IfOk result (λ f. f ≡ self.now) }
     {
@@ -116,7 +117,7 @@ impl Failed {
         }
     }
 
-    // The failure of a benchmark that measured nothing in bench mode.
+    // Makes the failure of a benchmark that measured nothing in bench mode.
     pub(crate) fn not_measured() -> Self
         ensures { result ≡ Some not_measured_text }
     {
@@ -125,7 +126,7 @@ impl Failed {
         }
     }
 
-    // The outcome of a trial that failed so. That its message is text is known here, where the fields are.
+    // Makes the outcome of a trial that failed so. That the message is text is known only here, where the fields can be seen.
     pub(crate) fn into_outcome(self) -> Outcome
         ensures outcome { result ≡ Outcome.Failed self }
         ensures text { IfSome self IsUtf8 }
@@ -134,7 +135,7 @@ impl Failed {
         Outcome::Failed(self)
     }
 
-    /// The message, if there is one.
+    /// Returns the message, if there is one.
     pub fn message(&self) -> Option<&str>
         ensures { option_copied result ≡ self.now }
     {
@@ -146,7 +147,7 @@ impl Failed {
     }
 }
 
-// The message alone, whichever way it is kept, as the Rust crate shows it.
+// Shows the message alone, whichever way it is kept, as the Rust crate does.
 impl fmt::Debug for Failed {
     fn fmt<W: fmt::Write>(&self, f: &mut fmt::Formatter<W>) -> fmt::Result {
         f.debug_struct("Failed")

@@ -1,6 +1,6 @@
 use Rattle.std.proofs.Common.{◌≡◌, ◌≢◌, None, Some, rules, string_bytes}
 use Rattle.mimic_trial.specs.declared.outcome.Outcome.TheVariants.{Passed, Failed, Ignored}
-use Rattle.mimic_events.specs.Steps.{tail}
+use Rattle.mimic_events.specs.LineParts.{tail}
 use Rattle.mimic_events.proofs.EndedLines.{is_passed, is_ignored, is_failed, tail_some}
 use Rattle.mimic_events.proofs.lines.tested.Goals as goal
 

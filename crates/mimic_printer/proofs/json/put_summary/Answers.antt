@@ -3,4 +3,4 @@ use Rattle.mimic_printer.proofs.json.put_summary.Goals as goal
 
 pub returns : goal.returns
 unfolding json_summary
-returns g c = rw (← c.verdict.ensures) c.put_pieces.ensures
+returns g c = rw (← c.json_verdict.ensures) c.put_pieces.ensures

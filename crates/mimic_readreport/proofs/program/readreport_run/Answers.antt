@@ -1,10 +1,10 @@
 use Rattle.std.proofs.Common.{refl, Err}
-use Rattle.mimic_readreport.proofs.Telling.{put_begins}
+use Rattle.mimic_readreport.proofs.Printing.{put_begins}
 use Rattle.mimic_readreport.proofs.program.readreport_run.Goals as goal
 
 pub returns-in-Err : goal.returns-in-Err
 returns-in-Err g c = record {
-  told = Err c.in-Err.fault;
+  printed = Err c.in-Err.fault;
   left = c.in-Err.ensures;
   ended = (refl, put_begins _ _ _ _ _ c.line.ensures c.put_text.ensures);
 }

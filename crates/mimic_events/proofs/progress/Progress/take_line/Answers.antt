@@ -2,9 +2,9 @@ use Rattle.std.proofs.Common.{◌<◌, ◌≤◌, [], ◌∷◌, length, ap, ari
 use Rattle.std.proofs.lemmas.List.{length-append}
 use Rattle.mimic_printer.specs.Json.{Entry}
 use Rattle.mimic_events.specs.Contents.{label_read}
-use Rattle.mimic_events.specs.Machine.{next_of, state_with}
+use Rattle.mimic_events.specs.Progress.{next_of, state_with}
 use Rattle.mimic_events.proofs.Summaries.{counts_more}
-use Rattle.mimic_events.proofs.Machine.{takes_announcement, takes_outcome, takes_summary, takes_title}
+use Rattle.mimic_events.proofs.States.{takes_announcement, takes_outcome, takes_summary, takes_title}
 use Rattle.mimic_events.proofs.progress.Progress.take_line.Goals as goal
 use Rattle.mimic_events.proofs.progress.Progress.take_line.Goals.{in-Title+in-Some, in-Row+in_ok-label-in-Row+in-Some-2, in-Row-2+in-Some-summed, in-Outcome+in_ok-outcome-in-Outcome+in-Some-3}
 

@@ -1,6 +1,6 @@
 use Rattle.std.proofs.Common.{rules, ◌≡◌, ◌++◌, [], sym, ap, ◌∙◌, List, ℕ}
 use Rattle.std.proofs.lemmas.List.{nil_from_length}
-use Rattle.mimic_events.specs.Machine.{state_with, with_row}
+use Rattle.mimic_events.specs.Progress.{state_with, with_row}
 use Rattle.mimic_events.proofs.Readings.{refused, taken}
 use Rattle.mimic_events.proofs.row_reader.RowReader.end_line.Goals as goal
 

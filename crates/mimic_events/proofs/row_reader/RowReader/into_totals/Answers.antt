@@ -1,6 +1,6 @@
 use Rattle.std.proofs.Common.{rules, ◌≡◌, ◌≢◌, [], length, arith, ap}
 use Rattle.std.proofs.lemmas.List.{nil_from_length}
-use Rattle.mimic_events.specs.Machine.{state_with}
+use Rattle.mimic_events.specs.Progress.{state_with}
 use Rattle.mimic_events.proofs.Readings.{no_report, the_one_report}
 use Rattle.mimic_events.proofs.row_reader.RowReader.into_totals.Goals as goal
 

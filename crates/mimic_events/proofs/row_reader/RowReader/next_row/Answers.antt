@@ -1,5 +1,5 @@
 use Rattle.std.proofs.Common.{◌≡◌, ◌∙◌, false, rules, ◌++◌, ap, sym, append_assoc}
-use Rattle.mimic_events.specs.Machine.{HasNoEnd, state_text, state_with}
+use Rattle.mimic_events.specs.Progress.{HasNoEnd, state_text, state_with}
 use Rattle.mimic_events.proofs.Readings.{more_left}
 use Rattle.mimic_events.proofs.RowReaders.{line_read, rest_read, row_read}
 use Rattle.mimic_events.proofs.row_reader.RowReader.next_row.Goals as goal

@@ -1,0 +1,173 @@
+//! The options of a harness, as they are declared to `clap`.
+ghost use Rattle.std.specs.Prelude.{◌≡◌, false, IfOk, Some, codes, map};
+ghost use Rattle.clap.specs.Walk.{texts};
+ghost use Rattle.mimic_args.specs.CommandLine.{ReadsOnly, alone, choice_options, colour_rule, declared_of, excluding, filter_rule, format_rule, quiet_rule, flag_options, flag_rule, option_rule, options_of, plus, read_by, skip_rule, threads_rule, unstable_rule};
+ghost use Rattle.mimic_args.specs.Matched.{colour_name, colours, unstable_name, unstables};
+ghost use Rattle.mimic_text.specs.Formats.{format_name, formats};
+
+use clap::{Arg, ArgAction, Command, value_parser};
+use std::alloc::{AllocError, Global};
+
+static COLOURS: [&str; 3] = ["auto", "always", "never"];
+
+static FORMATS: [&str; 3] = ["pretty", "terse", "json"];
+
+static UNSTABLE: [&str; 1] = ["unstable-options"];
+
+// Makes a command with the flags that choose among trials.
+fn with_choices<'a>(alloc: Global) -> Result<Command<'a>, AllocError>
+    ensures { IfOk result (λ r. options_of r ≡ choice_options) }
+{
+    let c = Command::new(alloc, "harness");
+    let help = "Run ignored tests as well";
+    let c = with(c, flag(alloc, "include-ignored", help))?;
+    let c = with(c, flag(alloc, "ignored", "Run only ignored tests"))?;
+    let c = with(c, test(alloc)?)?;
+    let help = "Run and measure benchmarks; tests count as ignored";
+    let c = with(c, flag(alloc, "bench", help))?;
+    Ok(c)
+}
+
+fn test<'a>(alloc: Global) -> Result<Arg<'a>, AllocError>
+    ensures declared { IfOk result
+        (λ r. declared_of r ≡ excluding (alone (flag_rule (codes "test"))) (codes "bench")) }
+    ensures local { IfOk result (λ r. r.global ≡ false) }
+{
+    let help = "Run tests; benchmarks count as ignored";
+    excluded(flag(alloc, "test", help), "bench")
+}
+
+// Makes a command with all flags.
+pub(super) fn with_flags<'a>(alloc: Global) -> Result<Command<'a>, AllocError>
+    ensures { IfOk result (λ r. options_of r ≡ flag_options) }
+{
+    let c = with_choices(alloc)?;
+    let help = "List tests and benchmarks, and run none";
+    let c = with(c, flag(alloc, "list", help))?;
+    let help = "Print output of tests at once (no effect: it is never held back)";
+    let c = with(c, flag(alloc, "nocapture", help))?;
+    let help = "Print output of tests that pass (no effect: it is never held back)";
+    let c = with(c, flag(alloc, "show-output", help))?;
+    let help = "Match each FILTER exactly, not as a part of a full name";
+    let c = with(c, flag(alloc, "exact", help))?;
+    let c = with(c, quiet(alloc)?)?;
+    Ok(c)
+}
+
+fn quiet<'a>(alloc: Global) -> Result<Arg<'a>, AllocError>
+    ensures declared { IfOk result
+        (λ r. declared_of r ≡ excluding (alone quiet_rule) (codes "format")) }
+    ensures local { IfOk result (λ r. r.global ≡ false) }
+{
+    let quiet = flag(alloc, "quiet", "Use the terse format").short('q');
+    excluded(quiet, "format")
+}
+
+// Adds an argument to the command.
+pub(super) fn with<'a>(command: Command<'a>, arg: Arg<'a>) -> Result<Command<'a>, AllocError>
+    requires { arg.global ≡ false }
+    ensures { IfOk result
+        (λ r. options_of r ≡ plus (options_of command.entry) (declared_of arg.entry)) }
+{
+    command.arg(arg)
+}
+
+// Forbids a line to use the argument together with the other one.
+fn excluded<'a>(arg: Arg<'a>, other: &'a str) -> Result<Arg<'a>, AllocError>
+    ensures declared { IfOk result
+        (λ r. declared_of r ≡ excluding (declared_of arg.entry) other.entry.now) }
+    ensures local { IfOk result (λ r. r.global ≡ arg.entry.global) }
+{
+    arg.conflicts_with(other)
+}
+
+fn flag<'a>(alloc: Global, name: &'a str, help: &'a str) -> Arg<'a>
+    ensures declared { declared_of result ≡ alone (flag_rule name.entry.now) }
+    ensures local { result.global ≡ false }
+{
+    Arg::new(alloc, name)
+        .long(name)
+        .help(help)
+        .action(ArgAction::SetTrue)
+}
+
+fn option<'a>(alloc: Global, name: &'a str, value: &'a str, help: &'a str) -> Arg<'a>
+    ensures declared { declared_of result ≡ alone (option_rule name.entry.now) }
+    ensures local { result.global ≡ false }
+{
+    Arg::new(alloc, name)
+        .long(name)
+        .value_name(value)
+        .help(help)
+}
+
+pub(super) fn unstable<'a>(alloc: Global) -> Arg<'a>
+    ensures declared { ReadsOnly (map unstable_name unstables) (alone unstable_rule)
+        (declared_of result) }
+    ensures local { result.global ≡ false }
+{
+    let arg = Arg::new(alloc, "unstable").short('Z').value_name("FLAG");
+    let help = "Unstable options (no effect)";
+    one_of(arg.help(help), UNSTABLE.as_slice())
+}
+
+pub(super) fn test_threads<'a>(alloc: Global) -> Arg<'a>
+    ensures declared { declared_of result ≡ alone threads_rule }
+    ensures local { result.global ≡ false }
+{
+    let help = "Number of threads used for running tests in parallel";
+    let arg = option(alloc, "test-threads", "THREADS", help);
+    arg.value_parser(value_parser!(usize))
+}
+
+pub(super) fn logfile<'a>(alloc: Global) -> Arg<'a>
+    ensures declared { declared_of result ≡ alone (option_rule (codes "logfile")) }
+    ensures local { result.global ≡ false }
+{
+    let help = "Write the report to the file PATH";
+    option(alloc, "logfile", "PATH", help)
+}
+
+pub(super) fn skip<'a>(alloc: Global) -> Arg<'a>
+    ensures declared { declared_of result ≡ alone skip_rule }
+    ensures local { result.global ≡ false }
+{
+    let help = "Skip tests that match FILTER; may be given many times";
+    option(alloc, "skip", "FILTER", help).action(ArgAction::Append)
+}
+
+pub(super) fn colour<'a>(alloc: Global) -> Arg<'a>
+    ensures declared { ReadsOnly (map colour_name colours) (alone colour_rule)
+        (declared_of result) }
+    ensures local { result.global ≡ false }
+{
+    let help = "When to use colours";
+    one_of(option(alloc, "color", "WHEN", help), COLOURS.as_slice())
+}
+
+pub(super) fn format<'a>(alloc: Global) -> Arg<'a>
+    ensures declared { ReadsOnly (map format_name formats) (alone format_rule)
+        (declared_of result) }
+    ensures local { result.global ≡ false }
+{
+    let help = "How to write the report";
+    one_of(option(alloc, "format", "FORMAT", help), FORMATS.as_slice())
+}
+
+pub(super) fn filter<'a>(alloc: Global) -> Arg<'a>
+    ensures declared { declared_of result ≡ alone filter_rule }
+    ensures local { result.global ≡ false }
+{
+    let help = "Run only tests whose full name, `[kind] name`, contains one of the FILTERs";
+    let arg = Arg::new(alloc, "filter").value_name("FILTER").help(help);
+    arg.action(ArgAction::Append)
+}
+
+// Makes the argument take only these names as its value.
+fn one_of<'a>(arg: Arg<'a>, names: &'a [&'a str]) -> Arg<'a>
+    ensures declared { ReadsOnly (texts names.entry.now) (declared_of arg.entry)
+        (declared_of result) }
+    ensures local { result.global ≡ arg.entry.global }
+{
+    arg.value_parser(names)
+}

@@ -1,0 +1,115 @@
+-- What the private readers of parts of a line promise one another. No public clause names these words.
+use Rattle.std.specs.Prelude.{◌≡◌, ◌≢◌, ℕ, ◌+◌, ◌-◌, ◌<◌, ◌≤◌, ◌^◌, ◌==◌, nat_lt, if◌then◌else◌, Bool, List, [], ◌∷◌, ◌++◌, decimal, Option, Some, None, IsUtf8}
+use Rattle.std.specs.Borrow.{Bor}
+use Rattle.std.specs.Str.Parse.{AllDigits}
+use Rattle.mimic_trial.specs.declared.outcome.Outcome.{Outcome}
+use Rattle.mimic_trial.specs.declared.outcome.Outcome.TheVariants.{Failed}
+use Rattle.mimic_trial.specs.Count.{is_measured}
+use Rattle.mimic_text.specs.Escape.{escape, escaped}
+use Rattle.mimic_printer.specs.Json.{json_end, json_line, kind_field, outcome_fields, time_key}
+use Rattle.mimic_text.specs.Seconds.{exact_seconds}
+use Rattle.mimic_trial.specs.Promise.{FitsTypes}
+
+-- ---- fronts
+
+-- the text is the front and then what was found; if nothing was found, the text doesn't begin with the front
+abbrev pub Follows : List ℕ → List ℕ → Option (Bor (List ℕ)) → Type 0
+Follows front text None = (rest : List ℕ) → text ≢ front ++ rest
+Follows front text (Some rest) = text ≡ front ++ rest.now
+
+-- ---- texts in quotes
+
+-- the byte that a backslash and a letter stand for
+abbrev pub named_of : ℕ → ℕ
+named_of letter =
+    if letter == 98 then 8
+    else (if letter == 116 then 9
+    else (if letter == 110 then 10
+    else (if letter == 102 then 12
+    else (if letter == 114 then 13
+    else letter))))
+
+-- the byte of two hexadecimal digits, the first of them 0 or 1
+abbrev pub control_of : ℕ → ℕ → ℕ
+control_of high low = (if high == 49 then 16 else 0) + (if nat_lt low 58 then low - 48 else low - 87)
+
+-- the byte of what follows a backslash and a u
+unfoldable pub after_u : List ℕ → ℕ
+after_u (c ∷ d ∷ high ∷ low ∷ rest) = control_of high low
+after_u text = 117
+
+-- the byte of what follows a backslash
+unfoldable pub after_backslash : List ℕ → ℕ
+after_backslash [] = 92
+after_backslash (letter ∷ rest) = if letter == 117 then after_u rest else named_of letter
+
+-- the byte that the spelling at the front would be of, whether or not it is the right spelling
+unfoldable pub candidate_of : List ℕ → ℕ
+candidate_of [] = 0
+candidate_of (b ∷ rest) = if b == 92 then after_backslash rest else b
+
+-- what was found is a value and a rest that spell the text, and no others spell it; if nothing was found, none do
+abbrev pub Reads : {V : Type 0} → (V → List ℕ → List ℕ) → List ℕ → Option (V × List ℕ) → Type 0
+Reads {V} spelled text None = (v : V) (rest : List ℕ) → text ≡ spelled v rest → ⊥
+Reads {V} spelled text (Some found) = (text ≡ spelled found.0 found.1)
+    × ((v : V) (rest : List ℕ) → text ≡ spelled v rest → (v ≡ found.0) × (rest ≡ found.1))
+
+-- a byte as it is spelled, and what follows
+abbrev pub ReadsByte : List ℕ → Option (ℕ × List ℕ) → Type 0
+ReadsByte = Reads (λ byte rest. escape byte ++ rest)
+
+-- a text up to a closing quote, and what follows the quote
+abbrev pub ReadsQuoted : List ℕ → Option (List ℕ × List ℕ) → Type 0
+ReadsQuoted = Reads (λ text rest. escaped text ++ 34 ∷ rest)
+
+-- the same after a front
+abbrev pub ReadsNamed : List ℕ → List ℕ → Option (List ℕ × List ℕ) → Type 0
+ReadsNamed front = Reads (λ text rest. front ++ (escaped text ++ 34 ∷ rest))
+
+-- the bytes begin with the spelling of the text, and the rest follows; no other text ends there at a quote
+pub record ReadsEscaped (bytes text rest : List ℕ) : Type 0 where
+  pub front : bytes ≡ escaped text ++ rest
+  pub only : (other after : List ℕ) → bytes ≡ escaped other ++ 34 ∷ after → (other ≡ text) × (34 ∷ after ≡ rest)
+
+-- ---- numbers
+
+-- no digit stands first
+abbrev pub EndsNumber : List ℕ → Type 0
+EndsNumber [] = Unit {0}
+EndsNumber (b ∷ bytes) = 48 ≤ b → b ≤ 57 → ⊥
+
+-- the digits at the front, all of them, and the rest
+pub record SplitsDigits (bytes front rest : List ℕ) : Type 0 where
+  pub parts : bytes ≡ front ++ rest
+  pub digits : AllDigits 10 front
+  pub stop : EndsNumber rest
+
+-- what was found is the number at the front, before the rest, and no other number ends there; else none does
+abbrev pub ReadsNumber : List ℕ → Option (ℕ × List ℕ) → Type 0
+ReadsNumber bytes None = (n : ℕ) (rest : List ℕ) → n < 2 ^ 64 → EndsNumber rest → bytes ≡ decimal n ++ rest → ⊥
+ReadsNumber bytes (Some found) = (found.0 < 2 ^ 64) × (bytes ≡ decimal found.0 ++ found.1) × EndsNumber found.1
+    × ((n : ℕ) (rest : List ℕ) → n < 2 ^ 64 → EndsNumber rest → bytes ≡ decimal n ++ rest
+    → (n ≡ found.0) × (rest ≡ found.1))
+
+-- ---- lines
+
+-- the text is what follows the name and its closing quote in the announcement of a trial of this kind
+abbrev pub IsKind : List ℕ → List ℕ → Type 0
+IsKind kind text = IsUtf8 kind × (text ≡ kind_field kind ++ json_end)
+
+-- what follows the name and the kind in the line of an outcome
+abbrev pub tail : Outcome → List ℕ
+tail outcome = json_line (outcome_fields outcome)
+
+-- the text is the tail of this outcome, which was measured or wasn't
+abbrev pub IsTail : Bool → Outcome → List ℕ → Type 0
+IsTail measured outcome text = (is_measured outcome ≡ measured) × FitsTypes outcome × (text ≡ tail outcome)
+
+-- what follows them if it failed with this message
+abbrev pub IsFailure : List ℕ → List ℕ → Type 0
+IsFailure message text = IsUtf8 message × (text ≡ tail (Failed (Some message)))
+
+-- what follows the counts of outcomes in a summary: how many trials were filtered out, and the nanoseconds
+abbrev pub IsTotals : ℕ × ℕ → List ℕ → Type 0
+IsTotals numbers text = (numbers.0 < 2 ^ 64) × (numbers.1 < 2 ^ 64)
+    × (text ≡ json_line (decimal numbers.0 ∷ time_key ∷ exact_seconds numbers.1 ∷ []))

@@ -1,0 +1,92 @@
+-- Reading bytes that come in pieces: what is kept of them, and what is known of those that were read. Of public clauses only those of a tally name these words.
+use Rattle.std.specs.Prelude.{◌≡◌, ◌⊎◌, ◌<◌, ℕ, Bool, true, false, List, ◌++◌, length, map, Option, Some, None}
+use Rattle.std.specs.List.{AllByRecursion, concat}
+use Rattle.mimic_printer.specs.Json.{Contents, Entry}
+use Rattle.mimic_events.specs.declared.report_reader.ReportReader.{ReportReader}
+use Rattle.mimic_events.specs.declared.report.Row.{Row}
+use Rattle.mimic_events.specs.declared.report.Totals.{Totals}
+use Rattle.mimic_events.specs.declared.row_reader.RowReader.{RowReader}
+use Rattle.mimic_events.specs.Contents.{Spells, entry_read, totals_of}
+use Rattle.mimic_events.specs.Progress.{Fits, HasNoEnd, IsCounted, IsLine, Runs, State, Step, start, state_with, state_text, with_row}
+use Rattle.mimic_events.specs.Reading.{Decodes}
+
+-- all bytes that came, if these are the rows that have ended: the lines that were taken, and the rest
+abbrev pub bytes_of : RowReader → List Entry → List ℕ
+bytes_of r entries = state_text (state_with r.progress entries) ++ r.rest.items
+
+-- the text begins with a line that leads nowhere
+pub record BeginsAstray (s : State) (text : List ℕ) : Type 0 where
+  pub line : List ℕ
+  pub more : List ℕ
+  pub parts : text ≡ line ++ more
+  pub whole : IsLine line
+  pub nowhere : (t : State) → Step s line t → ⊥
+
+-- no line of the rest can be taken: it has none, or its first one leads nowhere
+abbrev pub IsUnread : Bool → State → List ℕ → Type 0
+IsUnread false s rest = HasNoEnd rest
+IsUnread true s rest = BeginsAstray s rest
+
+-- lines at the front of the text lead from one state to the other, and the rest follows them
+pub record Leads (from : State) (text : List ℕ) (to : State) (rest : List ℕ) : Type 0 where
+  pub lines : List (List ℕ)
+  pub each : AllByRecursion IsLine lines
+  pub run : Runs from lines to
+  pub parts : text ≡ concat lines ++ rest
+
+-- whatever follows what was read, the state to which its front leads from the start comes after this one, or before it
+abbrev pub IsOnlyWay : State → Type 0
+IsOnlyWay s = (more : List ℕ) (t : State) (after : List ℕ) → Leads start (state_text s ++ more) t after
+    → Leads s more t after ⊎ Leads t after s more
+
+-- what is known between two pieces
+pub record Known (s : State) (rest : List ℕ) (stuck : Bool) : Type 0 where
+  pub fits : Fits s
+  pub way : IsOnlyWay s
+  pub unread : IsUnread stuck s rest
+
+-- what is known of a reader if these are the rows that have ended
+pub record IsSound (r : RowReader) (entries : List Entry) : Type 0 where
+  pub counted : IsCounted r.progress entries
+  pub known : Known (state_with r.progress entries) r.rest.items r.stuck
+
+-- ---- pieces
+
+-- the bytes are read, and with them the row that ended, if one did
+abbrev pub ReadsOn : RowReader → List ℕ → RowReader → Option Row → Type 0
+ReadsOn old bytes new row = (entries : List Entry) → IsSound old entries
+    → IsSound new (with_row entries row) × (bytes_of new (with_row entries row) ≡ bytes_of old entries ++ bytes)
+
+-- the front of the piece ends a row, and what is left of it follows
+pub record ReadsRow (old : RowReader) (piece : List ℕ) (new : RowReader) (row : Row) (left : List ℕ) : Type 0 where
+  pub front : List ℕ
+  pub parts : piece ≡ front ++ left
+  pub shorter : length left < length piece
+  pub read : ReadsOn old front new (Some row)
+
+-- ---- the end
+
+-- a report of these rows, with the numbers that belong to no row
+abbrev pub report_with : List Entry → Totals → Contents
+report_with entries totals = record {
+  entries = entries;
+  filtered_out = totals.counts.num_filtered_out;
+  nanos = totals.nanos;
+}
+
+-- the bytes are the one report of these rows and these numbers, or no report
+abbrev pub SumsUp : List ℕ → List Entry → Option Totals → Type 0
+SumsUp bytes entries None = Decodes Spells bytes None
+SumsUp bytes entries (Some totals) = Decodes Spells bytes (Some (report_with entries totals))
+    × (totals ≡ totals_of (report_with entries totals))
+
+-- ---- with the rows
+
+abbrev pub rows_so_far : ReportReader → List Entry
+rows_so_far r = map entry_read r.rows.items
+
+abbrev pub bytes_so_far : ReportReader → List ℕ
+bytes_so_far r = bytes_of r.reader (rows_so_far r)
+
+abbrev pub IsSoundSoFar : ReportReader → Type 0
+IsSoundSoFar r = IsSound r.reader (rows_so_far r)
