@@ -22,8 +22,8 @@ use libtest_mimic::{ArgumentsError, Clock, Failed, Outcome, RunError, Task, Tria
 use measured::Measured;
 use mimic_main::{Machine, MonotonicClock, Program, Status, StillClock};
 use std::alloc::Global;
+use std::fs::Files;
 use std::io::Eprint;
-use std::rt::{Stderr, Stdout};
 use std::thread;
 use std::time::Duration;
 
@@ -31,7 +31,7 @@ const BENCH_SUITE: Program<'static> = Program {
     name: "bench_suite",
     threads: 1,
     auto_colours: false,
-    tells_causes: true,
+    prints_causes: true,
 };
 
 // What a failing test says.
@@ -113,7 +113,7 @@ impl<M: std::rt::Clock + Drop> Task for Waiting<M> {
     }
 }
 
-fn waiting_tests<M: Machine>(
+fn waiting_tests<M: Machine + Copy + Drop + Send>(
     rt: &M,
     count: usize,
     millis: u64,
@@ -141,27 +141,18 @@ fn failure(alloc: Global) -> Failed {
     }
 }
 
-// Tells why the words ask for nothing.
-fn refuse<M: Machine + 'static>(rt: &M, error: ArgumentsError) -> Status {
+// Prints why the words ask for nothing.
+fn refuse<M: Machine>(rt: &M, error: ArgumentsError) -> Status {
     let alloc = rt.alloc();
     let none: Vec<Trial<Unit>> = Vec::new(alloc);
-    let out: Stdout = rt.stdout();
-    let mut err: Stderr = rt.stderr();
-    let (_, status) = BENCH_SUITE.harness_run(
-        rt,
-        rt,
-        alloc,
-        Err(error),
-        none,
-        out,
-        &mut err,
-        StillClock,
-    );
-    status
+    BENCH_SUITE.run_line(rt, Err(error), Ok(none))
 }
 
 // Makes the tests and runs them, and prints what that took.
-fn measure<M: Machine + Eprint + 'static>(rt: &M, asked: &Asked) -> Result<Status, RunError> {
+fn measure<M: Machine + Files + Eprint + Copy + Drop + Send + 'static>(
+    rt: &M,
+    asked: &Asked,
+) -> Result<Status, RunError> {
     let alloc = rt.alloc();
     let mut clock = MonotonicClock::new(rt);
     let start = clock.now();
@@ -182,7 +173,7 @@ fn measure<M: Machine + Eprint + 'static>(rt: &M, asked: &Asked) -> Result<Statu
 }
 
 // Runs the tests, which it took so long to make, and prints what that took.
-fn run_tests<M: Machine + Eprint + 'static, R: Task + Send + 'static>(
+fn run_tests<M: Machine + Files + Eprint, R: Task + Send + 'static>(
     rt: &M,
     asked: &Asked,
     made: Duration,
@@ -192,17 +183,17 @@ fn run_tests<M: Machine + Eprint + 'static, R: Task + Send + 'static>(
 {
     let alloc = rt.alloc();
     let args = asked.arguments(alloc)?;
-    let out: Stdout = rt.stdout();
-    let mut err: Stderr = rt.stderr();
+    let host = rt.host();
+    let mut err = rt.stderr();
     let mut clock = MonotonicClock::new(rt);
     let start = clock.now();
     let (_, status) = BENCH_SUITE.harness_run(
-        rt,
-        rt,
+        &host,
+        &host,
         alloc,
         Ok(args),
         tests,
-        out,
+        rt.stdout(),
         &mut err,
         StillClock,
     );

@@ -1,5 +1,6 @@
 //! What words ask for.
 use crate::asked::{Asked, Runners};
+use std::alloc::{AllocError, Global};
 use std::test::Fail;
 
 // Words behind the name, and the failing tests, the work, the runners and the logfile that they ask for.
@@ -34,37 +35,44 @@ const REFUSED: [&str; 11] = [
     "bench_suite 7 terse 2 wait 5 fail_every 2",
 ];
 
+// Whether it is what the row says, of seven tests in terse by two threads.
+fn is_asked(asked: &Option<Asked>, row: &(&str, usize, u64, Runners, Option<&str>)) -> bool {
+    let Some(asked) = asked else {
+        return false;
+    };
+    let (_, fail_every, work, runners, logfile) = row;
+    asked.count == 7
+        && asked.format.name() == "terse"
+        && asked.threads == 2
+        && asked.fail_every == *fail_every
+        && asked.work == *work
+        && asked.runners == *runners
+        && asked.logfile.as_ref().map(String::as_str) == *logfile
+}
+
 #[test]
 fn asks_for_what_its_words_say(rt: HostRuntime) -> Result<(), Fail> {
-    let alloc = rt.alloc();
-    for (text, fail_every, work, runners, logfile) in ASKED {
-        let line = format!(in alloc; "bench_suite 7 terse 2{text}")?;
-        let Some(asked) = asked_by(rt, line.as_str())? else {
-            assert!(rt; false, "{text}");
-            break;
-        };
-        assert_eq!(rt; asked.count, 7, "{text}");
-        assert_eq!(rt; asked.format.name(), "terse", "{text}");
-        assert_eq!(rt; asked.threads, 2, "{text}");
-        assert_eq!(rt; asked.fail_every, fail_every, "{text}");
-        assert_eq!(rt; asked.work, work, "{text}");
-        assert!(rt; asked.runners == runners, "{text}");
-        assert_eq!(rt;
-            asked.logfile.as_ref().map(String::as_str),
-            logfile,
-            "{text}"
-        );
-    }
-    for line in REFUSED {
-        assert!(rt; asked_by(rt, line)?.is_none(), "{line}");
+    for row in &ASKED {
+        let line = format!(in rt.alloc(); "bench_suite 7 terse 2{}", row.0)?;
+        let asked = asked_by(rt.alloc(), line.as_str())?;
+        assert!(rt; is_asked(&asked, row), "{line}");
     }
     Ok(())
 }
 
-fn asked_by(rt: HostRuntime, line: &str) -> Result<Option<Asked>, Fail> {
-    let mut words = Vec::new(rt.alloc());
+#[test]
+fn refuses_other_words(rt: HostRuntime) -> Result<(), Fail> {
+    for line in &REFUSED {
+        let asked = asked_by(rt.alloc(), line)?;
+        assert!(rt; asked.is_none(), "{line}");
+    }
+    Ok(())
+}
+
+fn asked_by(alloc: Global, line: &str) -> Result<Option<Asked>, AllocError> {
+    let mut words = Vec::new(alloc);
     for word in line.split(' ') {
-        words.push(String::from_str(rt.alloc(), word)?)?;
+        words.push(String::from_str(alloc, word)?)?;
     }
     Ok(Asked::of_words(words.into_iter()))
 }

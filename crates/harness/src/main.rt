@@ -1,7 +1,7 @@
 //! A harness of 17 trials, which reads a command line.
 #![tactic(auto)]
 
-use libtest_mimic::{Failed, Measurement, RunError, Trial};
+use libtest_mimic::{Arguments, Failed, Measurement, RunError, Trial};
 use mimic_main::{Machine, Program, Status};
 use mimic_testkit::{MIXED_BAG, trials_of};
 
@@ -9,15 +9,15 @@ const HARNESS: Program<'static> = Program {
     name: "harness",
     threads: 4,
     auto_colours: false,
-    tells_causes: false,
+    prints_causes: false,
 };
 
 fn main(rt: HostRuntime) -> Status {
     HARNESS.end(&rt, run_mixed_bag(&rt))
 }
 
-fn run_mixed_bag<M: Machine + 'static>(rt: &M) -> Result<Status, RunError> {
-    let alloc = rt.alloc();
+fn run_mixed_bag<M: Machine + 'static>(machine: &M) -> Result<Status, RunError> {
+    let alloc = machine.alloc();
     let trials = trials_of!(alloc, MIXED_BAG);
-    Ok(HARNESS.run(rt, trials))
+    Ok(HARNESS.run_line(machine, Arguments::from_args(machine, alloc), Ok(trials)))
 }

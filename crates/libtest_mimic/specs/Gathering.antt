@@ -1,4 +1,4 @@
--- What the rows of workers are: that they run the trials, what they answered, and what is refused.
+-- What the rows of workers are: that they run the trials, what they returned, and what is refused.
 use Rattle.std.specs.Prelude.{◌≡◌, ◌<◌, ◌≤◌, ℕ, Bool, List, [], length, map, vec_capacity, vec_len}
 use Rattle.std.specs.List.{range_with_len}
 use Rattle.std.specs.List.Sorted.{IsPermutation}
@@ -63,11 +63,12 @@ module _ {R : Type 0} (gives : Gives R) (test_mode : Bool) (items : List (Assign
     pub answered : AreOutcomes gives test_mode items outcomes
     pub whole : IsPermutation order (range_with_len 0 (length items))
 
-  -- what stands after rows were refused: where a write failed, a beginning of the rows of what the workers answered
+  -- what stands after rows were refused: if a write failed, a beginning of the rows of what the workers returned
   abbrev pub GatheringRefused : Printer → List TestInfo → Shown → Shown → RunError → Type 0
   GatheringRefused p infos old new OutOfMemory = ⊥
   GatheringRefused p infos old new (Write fault) =
-      (order : List ℕ) × (outcomes : List Outcome) × Gathered order outcomes × Stopped old new (rows_text_of p infos order outcomes)
+      (order : List ℕ) × (outcomes : List Outcome) × Gathered order outcomes
+      × Stopped old new (rows_text_of p infos order outcomes)
   GatheringRefused p infos old new ZeroThreads = ⊥
   GatheringRefused p infos old new Spawn = ⊥
   GatheringRefused p infos old new (Arrival place) = (place < length infos) × Follows old new

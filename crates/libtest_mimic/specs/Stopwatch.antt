@@ -1,4 +1,4 @@
--- What a watch tells of the readings that it kept.
+-- What follows from the readings that a watch kept.
 use Rattle.std.specs.Prelude.{◌≡◌, ℕ, ◌-◌, Option, None, Some}
 use Rattle.libtest_mimic.specs.declared.stopwatch.Readings.{Readings}
 use Rattle.libtest_mimic.specs.declared.stopwatch.Readings.TheVariants.{Fresh, Running, Stopped}
@@ -14,7 +14,7 @@ watched Fresh = nothing
 watched (Running started) = start started
 watched (Stopped started stopped) = start_and_stop started stopped
 
--- the second reading minus the first, and 0 where the clock went back (our own: whole nanoseconds)
+-- the second reading minus the first, and 0 if the clock went back (our own: whole nanoseconds)
 abbrev pub elapsed_of : Watched → Option ℕ
 elapsed_of nothing = None
 elapsed_of (start started) = None

@@ -7,6 +7,7 @@ use Rattle.mimic_printer.specs.declared.Printer.{Printer}
 use Rattle.mimic_printer.specs.Widths.{kind_width_of, name_width_of}
 use Rattle.mimic_trial.specs.declared.trial.Trial.{Trial}
 use Rattle.mimic_trial.specs.Places.{Placed}
+use Rattle.mimic_trial.specs.Promise.{Gives}
 use Rattle.mimic_printer.specs.Row.{rows_at, Label, PrintedRow, labels_of}
 use Rattle.libtest_mimic.specs.Selection.{IsSelection}
 
@@ -20,6 +21,25 @@ printer_for args auto_colours labels = record {
   kind_width = kind_width_of labels;
 }
 
+-- what a run is about: which outcomes its runners may give, what is asked of it, the trials that are handed in, and what holds if
+-- the arguments leave it open: how many threads run them, and whether their report has colours
+pub record Asked (R : Type 0) : Type 1 where
+  pub gives : Gives R
+  pub args : Arguments
+  pub trials : List (Trial R)
+  pub default_threads : ℕ
+  pub auto_colours : Bool
+
+-- what is asked of a run of these trials by such arguments
+abbrev pub asking : {R : Type 0} → Gives R → ℕ → Bool → List (Trial R) → Arguments → Asked R
+asking gives default_threads auto_colours trials args = record {
+  gives = gives;
+  args = args;
+  trials = trials;
+  default_threads = default_threads;
+  auto_colours = auto_colours;
+}
+
 -- a suite: what is asked, the selected trials, the printer of their report, and how many trials were filtered out
 pub record Suite (R : Type 0) : Type 0 where
   pub args : Arguments
@@ -27,7 +47,7 @@ pub record Suite (R : Type 0) : Type 0 where
   pub printer : Printer
   pub filtered_out : ℕ
 
--- the suite of selected trials, where the caller says whether there are colours if the arguments leave it open
+-- the suite of selected trials; the caller says whether there are colours if the arguments leave it open
 abbrev pub suite_of : {R : Type 0} → Arguments → Bool → List (Trial R) → ℕ → Suite R
 suite_of args auto_colours selected filtered_out = record {
   args = args;
@@ -43,7 +63,12 @@ filtered_out_of trials selected = length trials - length selected
 -- P holds of the suite of the trials that the arguments select of those handed in; the others are filtered out
 abbrev pub OfSuite : {R : Type 0} → Arguments → Bool → List (Trial R) → (Suite R → Type 0) → Type 0
 OfSuite {R} args auto_colours trials P =
-    (selected : List (Trial R)) × IsSelection args trials selected × P (suite_of args auto_colours selected (filtered_out_of trials selected))
+    (selected : List (Trial R)) × IsSelection args trials selected
+    × P (suite_of args auto_colours selected (filtered_out_of trials selected))
+
+-- P holds of the suite that a run is asked for
+abbrev pub OfAsked : {R : Type 0} → Asked R → (Suite R → Type 0) → Type 0
+OfAsked asked P = OfSuite asked.args asked.auto_colours asked.trials P
 
 -- the places of the suite's trials in their order: 0, 1, ..
 abbrev pub in_order : {R : Type 0} → Suite R → List ℕ

@@ -3,6 +3,5 @@
 pub use crate::running::gathering::{Started, gather_rows};
 pub use mimic_pool::{
     Arrival, Board, BoardReports, Desk, Handles, Inbox, MemoryReports, Missing, Reports, Share,
-    Start, Untold, deal, deal_next, empty_shares, hands_on_first_reports, join_all, prepare,
-    start_all, work,
+    Start, Untold, deal, deal_next, empty_shares, join_all, prepare, start_all, work,
 };

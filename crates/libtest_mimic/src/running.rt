@@ -1,20 +1,20 @@
 //! Runs trials and writes their report.
-ghost use Rattle.std.specs.Prelude.{◌≡◌, ◌≢◌, ◌-◌, ◌^◌, ◌<◌, ◌≤◌, [], true, false, Err, IfOk, vec_len};
-ghost use Rattle.mimic_printer.specs.Sink.{faults_of, shown};
-ghost use Rattle.mimic_trial.specs.Count.{total_of};
+ghost use Rattle.std.specs.Prelude.{◌≡◌, ◌≢◌, ◌-◌, ◌^◌, ◌<◌, ◌≤◌, [], false, Err};
+ghost use Rattle.mimic_printer.specs.Sink.{HasFaultLeft, faults_of, shown};
 ghost use Rattle.mimic_trial.specs.Trial.{AllCanRun};
-ghost use Rattle.libtest_mimic.specs.Run.{HasAnswer, HasJson, HasLines, HasRows, Lists, OnNothingWritten, Reports, threads_of};
+ghost use Rattle.mimic_args.specs.Arguments.{threads_of};
+ghost use Rattle.libtest_mimic.specs.Run.{OnNothingWritten, Reports, Runs, RunsBy, done};
 ghost use Rattle.libtest_mimic.specs.declared.running.RunError.TheVariants.{ZeroThreads};
 ghost use Rattle.libtest_mimic.specs.Steps.{selected_suite};
 ghost use Rattle.libtest_mimic.specs.Stopwatch.{IsFresh, IsRunning};
-ghost use Rattle.libtest_mimic.specs.Suite.{OfSuite};
+ghost use Rattle.libtest_mimic.specs.Suite.{OfSuite, asking};
 
 mod arrivals;
 pub(crate) mod gathering;
 mod in_order;
 mod in_workers;
 mod list;
-mod selected;
+mod selection;
 mod summary;
 pub(crate) mod tally;
 
@@ -26,7 +26,7 @@ use mimic_args::Arguments;
 use mimic_pool::Spawner;
 use mimic_printer::{Sink, WriteFault};
 use mimic_trial::{Conclusion, Task, Trial};
-use selected::{Selected, select};
+use selection::{Selection, select};
 use std::alloc::{AllocError, AllocFailed, Global};
 use std::io::Write;
 use thiserror::Error;
@@ -46,7 +46,7 @@ pub enum RunError {
     /// A worker could not be started. The title alone was written, and the workers that were started were joined.
     #[error("cannot start a worker")]
     Spawn,
-    /// An outcome that a worker reported differs from what it answered in the end. It is that of the trial at this place
+    /// An outcome that a worker reported differs from what it returned in the end. It is that of the trial at this place
     /// among the selected ones, counted from 0, the least one if there are several. Any part of the report may have been
     /// written.
     #[error("outcome of trial {place} differs from its worker's answer")]
@@ -72,44 +72,33 @@ pub fn run<R: Task + Send + 'static, W: Write, C: Clock, T: Spawner + 'static>(
     default_threads: usize,
     auto_colours: bool,
 ) -> Result<Conclusion, RunError>
-    requires room { faults_of sink.old < 2 ^ 64 - 1 }
+    requires room { HasFaultLeft sink.old }
     requires fresh { IsFresh watch.old }
     requires runnable { AllCanRun R.can_run tests.items }
     requires some_thread { 1 ≤ default_threads }
 
-    // If a list is asked, it has the selected trials, and five zeros are returned.
-    ensures listed { args.now.list ≡ true → OfSuite args.now auto_colours tests.items
-        (λ suite. Lists suite (shown W.contents sink.old) (shown W.contents sink.new) result) }
-    ensures watched { args.now.list ≡ true → IsRunning watch.new }
+    // What every run does: a list if one is asked, counts that add up, the same rows up to their order, and JSON that is read back.
+    ensures runs { Runs (asking R.gives default_threads auto_colours tests.items args.now)
+        (done W.contents sink.old sink.new watch.new result) }
 
-    // Else a report has them, for every number of threads.
-    ensures reported { args.now.list ≡ false → OfSuite args.now auto_colours tests.items
-        (λ suite. Reports R.gives (threads_of args.now default_threads) suite (shown W.contents sink.old) (shown W.contents sink.new) watch.new result) }
+    // Without a list there is a report of the selected trials, for every number of threads.
+    ensures reported { RunsBy (threads_of args.now default_threads)
+        (asking R.gives default_threads auto_colours tests.items args.now)
+        (done W.contents sink.old sink.new watch.new result) }
 
     // Without a thread no trial can run.
-    ensures zero_threads { args.now.list ≡ false → threads_of args.now default_threads ≡ 0 → OfSuite args.now auto_colours tests.items
-        (λ suite. suite.trials ≢ [] → result ≡ Err ZeroThreads) }
+    ensures zero_threads { args.now.list ≡ false → threads_of args.now default_threads ≡ 0
+        → OfSuite args.now auto_colours tests.items (λ suite. suite.trials ≢ [] → result ≡ Err ZeroThreads) }
 
     // Nothing was written, whatever is known of the writer's bytes.
     ensures unwritten { OnNothingWritten result (sink.new ≡ sink.old) }
-
-    // What it returns is fixed if each trial has just one own outcome.
-    ensures answer { HasAnswer R.gives args.now tests.items result }
-    ensures adds_up { args.now.list ≡ false → IfOk result (λ c. total_of c ≡ vec_len tests) }
-    ensures lines { HasLines args.now tests.items (shown W.contents sink.old) (shown W.contents sink.new) result }
-
-    // By any number of threads the report has the same rows, up to their order.
-    ensures rows { HasRows R.gives args.now auto_colours tests.items (shown W.contents sink.old) (shown W.contents sink.new) watch.new result }
-
-    // What it wrote in JSON is read back as the trials and their outcomes.
-    ensures json { HasJson R.gives args.now tests.items (shown W.contents sink.old) (shown W.contents sink.new) watch.new result }
 {
     watch.start();
     if args.list {
         return write_list(args, tests, sink);
     }
     let selected = select(args, tests, auto_colours);
-    let threads = args.test_threads.unwrap_or(default_threads);
+    let threads = args.threads(default_threads);
     run_with_threads(threads, rt, alloc, selected, sink, watch)
 }
 
@@ -118,15 +107,17 @@ fn run_with_threads<R: Task + Send + 'static, W: Write, C: Clock, T: Spawner + '
     threads: usize,
     rt: &T,
     alloc: Global,
-    selected: Selected<'_, R>,
+    selected: Selection<'_, R>,
     sink: &mut Sink<W>,
     watch: &mut Stopwatch<C>,
 ) -> Result<Conclusion, RunError>
-    requires room { faults_of sink.old < 2 ^ 64 - 1 }
+    requires room { HasFaultLeft sink.old }
     requires running { IsRunning watch.old }
     requires runnable { AllCanRun R.can_run selected.trials.items }
-    ensures reported { Reports R.gives threads (selected_suite selected.entry) (shown W.contents sink.old) (shown W.contents sink.new) watch.new result }
-    ensures zero_threads { threads ≡ 0 → selected.entry.trials.items ≢ [] → result ≡ Err ZeroThreads }
+    ensures reported { Reports R.gives threads (selected_suite selected.entry)
+        (shown W.contents sink.old) (shown W.contents sink.new) watch.new result }
+    ensures zero_threads { threads ≡ 0 → selected.entry.trials.items ≢ []
+        → result ≡ Err ZeroThreads }
     ensures unwritten { OnNothingWritten result (sink.new ≡ sink.old) }
 {
     if threads == 1 || selected.trials.is_empty() {
@@ -154,32 +145,20 @@ pub fn run_here<R: Task, W: Write, C: Clock>(
     watch: &mut Stopwatch<C>,
     auto_colours: bool,
 ) -> Result<Conclusion, RunError>
-    requires room { faults_of sink.old < 2 ^ 64 - 1 }
+    requires room { HasFaultLeft sink.old }
     requires fresh { IsFresh watch.old }
     requires runnable { AllCanRun R.can_run tests.items }
 
-    // If a list is asked, it has the selected trials, and five zeros are returned.
-    ensures listed { args.now.list ≡ true → OfSuite args.now auto_colours tests.items
-        (λ suite. Lists suite (shown W.contents sink.old) (shown W.contents sink.new) result) }
-    ensures watched { args.now.list ≡ true → IsRunning watch.new }
+    // What every run does, as of `run`.
+    ensures runs { Runs (asking R.gives 1 auto_colours tests.items args.now)
+        (done W.contents sink.old sink.new watch.new result) }
 
-    // Else a report has them, in their order: that of one thread.
-    ensures reported { args.now.list ≡ false → OfSuite args.now auto_colours tests.items
-        (λ suite. Reports R.gives 1 suite (shown W.contents sink.old) (shown W.contents sink.new) watch.new result) }
+    // Without a list there is a report of the selected trials, in their order: that of one thread.
+    ensures reported { RunsBy 1 (asking R.gives 1 auto_colours tests.items args.now)
+        (done W.contents sink.old sink.new watch.new result) }
 
     // Nothing was written, whatever is known of the writer's bytes.
     ensures unwritten { OnNothingWritten result (sink.new ≡ sink.old) }
-
-    // What it returns is fixed if each trial has just one own outcome.
-    ensures answer { HasAnswer R.gives args.now tests.items result }
-    ensures adds_up { args.now.list ≡ false → IfOk result (λ c. total_of c ≡ vec_len tests) }
-    ensures lines { HasLines args.now tests.items (shown W.contents sink.old) (shown W.contents sink.new) result }
-
-    // By any number of threads the report has the same rows, up to their order.
-    ensures rows { HasRows R.gives args.now auto_colours tests.items (shown W.contents sink.old) (shown W.contents sink.new) watch.new result }
-
-    // What it wrote in JSON is read back as the trials and their outcomes.
-    ensures json { HasJson R.gives args.now tests.items (shown W.contents sink.old) (shown W.contents sink.new) watch.new result }
 {
     watch.start();
     if args.list {

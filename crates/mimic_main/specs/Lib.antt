@@ -1,3 +1,4 @@
+pub mod Policy
 pub mod Output
 pub mod Run
 pub mod Ended

@@ -1,17 +1,19 @@
--- What a run into a buffered writer answers, and what the writer behind has got.
-use Rattle.std.specs.Prelude.{◌≡◌, ℕ, Bool, List, Option, Result, Ok, Err, true, false}
-use Rattle.mimic_args.specs.declared.Arguments.{Arguments}
-use Rattle.mimic_trial.specs.declared.trial.Trial.{Trial}
+-- What a run into a buffered writer returns, and what that writer has got.
+use Rattle.std.specs.Prelude.{◌≡◌, ℕ, List, [], length, Option, Result, Ok, Err, true, false}
 use Rattle.mimic_trial.specs.declared.outcome.conclusion.Conclusion.{Conclusion}
 use Rattle.libtest_mimic.specs.Stopwatch.{Watched}
 use Rattle.std.specs.declared.io.Error.{Error}
 use Rattle.mimic_printer.specs.declared.sink.WriteFault.TheVariants as WriteFault
 use Rattle.libtest_mimic.specs.declared.running.RunError.{RunError}
 use Rattle.libtest_mimic.specs.declared.running.RunError.TheVariants.{Write}
-use Rattle.libtest_mimic.specs.Promise.{Gives}
-use Rattle.libtest_mimic.specs.Run.{Lists, Reports, threads_of}
+use Rattle.libtest_mimic.specs.Run.{HasAnswer, Lists, Reports}
+use Rattle.mimic_args.specs.Arguments.{threads_of}
 use Rattle.libtest_mimic.specs.Sink.{Shown}
-use Rattle.libtest_mimic.specs.Suite.{OfSuite}
+use Rattle.libtest_mimic.specs.Suite.{Asked, OfSuite, Suite, asking}
+use Rattle.mimic_trial.specs.Count.{counts_of}
+use Rattle.libtest_mimic.specs.Count.{total_of}
+use Rattle.libtest_mimic.specs.Promise.{Gives}
+use Rattle.mimic_main.specs.declared.job.Job.{Job}
 use Rattle.mimic_main.specs.Output.{HandsOn}
 
 -- what a sink over such bytes shows that has counted no fault
@@ -23,21 +25,36 @@ abbrev pub IsFaultOf : Result Conclusion RunError → RunError → Type 0
 IsFaultOf (Ok c) fault = (error : Error) × (fault ≡ Write (WriteFault.Error error))
 IsFaultOf (Err e) fault = fault ≡ e
 
-module _ {R : Type 0} (gives : Gives R) (default_threads : ℕ) where
-  -- what a run left, where `auto` says whether it has colours of its own accord: the list of the selected trials where one is
-  -- asked, else their report, or what stands after either was refused
-  pub record Left (args : Arguments) (auto : Bool) (trials : List (Trial R)) (old new : Shown) (result : Result Conclusion RunError) : Type 0 where
-    pub watch : Watched
-    pub listed : args.list ≡ true → OfSuite args auto trials (λ suite. Lists suite old new result)
-    pub reported : args.list ≡ false → OfSuite args auto trials (λ suite. Reports gives (threads_of args default_threads) suite old new watch result)
+-- what a job asks
+abbrev pub asked_by : {R C : Type 0} → Gives R → Job R C → Asked R
+asked_by gives job = asking gives job.default_threads job.auto_colours job.tests.items job.args.now
 
-  -- from old bytes to new ones a run answered so
-  abbrev pub Ran : Arguments → Bool → List (Trial R) → Option (List ℕ) → Option (List ℕ) → Conclusion → Type 0
-  Ran args auto trials old new c = Left args auto trials (faultless old) (faultless new) (Ok c)
+-- P holds of the suite that a run is asked for
+abbrev pub OfAsked : {R : Type 0} → Asked R → (Suite R → Type 0) → Type 0
+OfAsked asked P = OfSuite asked.args asked.auto_colours asked.trials P
 
-  -- the writer got a beginning of the bytes that were there and of what some run left behind them in its sink, and this is the
-  -- fault of that run
-  abbrev pub GotBeginning : Arguments → Bool → List (Trial R) → Option (List ℕ) → Option (List ℕ) → RunError → Type 0
-  GotBeginning args auto trials old got fault =
-      (left : Shown) × (answer : Result Conclusion RunError) × Left args auto trials (faultless old) left answer × HandsOn left.bytes got
-      × IsFaultOf answer fault
+-- what a run left: the list of the selected trials if one is asked, else their report, or what stands after either was refused
+pub record Left {R : Type 0} (asked : Asked R) (old new : Shown) (result : Result Conclusion RunError) : Type 0 where
+  pub watch : Watched
+  pub listed : asked.args.list ≡ true → OfAsked asked (λ suite. Lists suite old new result)
+  pub reported : asked.args.list ≡ false
+      → OfAsked asked (λ suite. Reports asked.gives
+      (threads_of asked.args asked.default_threads) suite old new watch result)
+
+-- from old bytes to new ones a run answered so
+abbrev pub Ran : {R : Type 0} → Asked R → Option (List ℕ) → Option (List ℕ) → Conclusion → Type 0
+Ran asked old new c = Left asked (faultless old) (faultless new) (Ok c)
+
+-- the writer got a beginning of the bytes that were there and of what some run left after them in its sink, and this is the fault of
+-- that run
+abbrev pub GotBeginning : {R : Type 0} → Asked R → Option (List ℕ) → Option (List ℕ) → RunError → Type 0
+GotBeginning asked old got fault =
+    (left : Shown) × (answer : Result Conclusion RunError) × Left asked (faultless old) left answer
+    × HandsOn left.bytes got × IsFaultOf answer fault
+
+-- such counts a run may answer that is asked so: five zeros after a list; else, if each selected trial has just one own outcome, the
+-- counts of those; and in all as many as there are trials
+pub record IsLawful {R : Type 0} (asked : Asked R) (c : Conclusion) : Type 0 where
+  pub listed : asked.args.list ≡ true → c ≡ counts_of [] 0
+  pub answer : HasAnswer asked (Ok c)
+  pub adds_up : asked.args.list ≡ false → total_of c ≡ length asked.trials

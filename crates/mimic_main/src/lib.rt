@@ -19,21 +19,20 @@
 //! ```
 #![tactic(auto)]
 
-mod buffer;
 mod clock;
 mod colours;
+mod job;
 mod machine;
+mod output;
+mod policy;
 mod program;
-mod run;
 mod status;
 
-pub use buffer::{FlushPolicy, Output};
 pub use clock::{MonotonicClock, StillClock};
 pub use colours::shows_colours;
+pub use job::{Job, run_into};
 pub use machine::{Machine, Streams, run_cases, run_line, run_program};
+pub use output::Output;
+pub use policy::FlushPolicy;
 pub use program::Program;
-pub use run::run_into;
 pub use status::Status;
-
-#[cfg(test)]
-mod tests;

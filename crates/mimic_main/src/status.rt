@@ -3,6 +3,7 @@ ghost use Rattle.std.specs.Prelude.{◌≡◌};
 ghost use Rattle.std.specs.Process.{exit_status};
 ghost use Rattle.mimic_main.specs.Ended.{number_of};
 
+use libtest_mimic::Conclusion;
 use std::io::Eprint;
 use std::process::{ExitCode, Termination};
 
@@ -21,7 +22,9 @@ impl Status {
 
     pub(crate) const REFUSED_LINE: Status = Status { number: 2 };
 
-    pub(crate) const TRIALS_FAILED: Status = Status { number: 101 };
+    pub(crate) const TRIALS_FAILED: Status = Status {
+        number: Conclusion::FAILED,
+    };
 
     /// The number that a process ends with.
     pub fn number(&self) -> u8

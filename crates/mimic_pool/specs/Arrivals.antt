@@ -10,11 +10,11 @@ use Rattle.mimic_pool.specs.declared.desk.Arrival.TheVariants.{First, Again, Str
 abbrev pub has_come : ℕ → List Placed → Bool
 has_come place arrivals = list_any (λ a. place == a.0) arrivals
 
--- the arrival is at a place below n where nothing came before
+-- the arrival is at a place below n, and the first one there
 abbrev pub is_first : ℕ → List Placed → Placed → Bool
 is_first n earlier a = nat_lt a.0 n && not (has_come a.0 earlier)
 
--- the places below n where nothing came, rising
+-- the places below n at which nothing came, rising
 abbrev pub not_come : ℕ → List Placed → List ℕ
 not_come n arrivals = filter (λ place. not (has_come place arrivals)) (range_with_len 0 n)
 
@@ -22,13 +22,14 @@ not_come n arrivals = filter (λ place. not (has_come place arrivals)) (range_wi
 abbrev pub first_after : ℕ → List Placed → List Placed → List Placed
 first_after n earlier [] = []
 first_after n earlier (a ∷ arrivals) =
-    if is_first n earlier a then a ∷ first_after n (earlier ++ a ∷ []) arrivals else first_after n (earlier ++ a ∷ []) arrivals
+    if is_first n earlier a then a ∷ first_after n (earlier ++ a ∷ []) arrivals else first_after n
+    (earlier ++ a ∷ []) arrivals
 
 -- the first arrivals: at each place below n the first one, in the order in which they came (our own)
 abbrev pub first_arrivals : ℕ → List Placed → List Placed
 first_arrivals n arrivals = first_after n [] arrivals
 
--- the order of n places in a report: those of the first arrivals, and then those where nothing came, rising (our own)
+-- the order of n places in a report: those of the first arrivals, and then those at which nothing came, rising (our own)
 abbrev pub order_of : ℕ → List Placed → List ℕ
 order_of n arrivals = places_of (first_arrivals n arrivals) ++ not_come n arrivals
 
@@ -41,9 +42,10 @@ pub record Arrived : Type 0 where
 
 -- what a desk says of an arrival at the place
 abbrev pub arrival_of : Arrived → ℕ → Arrival
-arrival_of desk place = if nat_lt place desk.places then (if has_come place desk.rows then Again else First) else Stranger
+arrival_of desk place = if nat_lt place desk.places then
+    (if has_come place desk.rows then Again else First) else Stranger
 
--- the rows after one more arrival: it is their last where it is a first one
+-- the rows after one more arrival: it is their last if it is a first one
 abbrev pub rows_after : ℕ → List Placed → Placed → List Placed
 rows_after n rows a = if is_first n rows a then rows ++ a ∷ [] else rows
 
@@ -52,7 +54,7 @@ abbrev pub arrived_at : ℕ → List Placed → Option Outcome
 arrived_at place [] = None
 arrived_at place (row ∷ rows) = if place == row.0 then Some row.1 else arrived_at place rows
 
--- the places where nothing arrived, rising
+-- the places at which nothing arrived, rising
 abbrev pub missing_of : Arrived → List ℕ
 missing_of desk = not_come desk.places desk.rows
 

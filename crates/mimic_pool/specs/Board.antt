@@ -1,4 +1,4 @@
--- A board where workers report rows, each an outcome at a place, and what its calls make of it.
+-- A board that workers report rows to, each an outcome at a place, and what its calls make of it.
 use Rattle.std.specs.Prelude.{ℕ, ◌≡◌, ◌<◌, ◌≤◌, ◌+◌, ◌==◌, nat_lt, Bool, not, ◌&&◌, if◌then◌else◌, All, List, [], ◌∷◌, ◌++◌, drop, eqb, length, min, take}
 use Rattle.std.specs.List.{list_any, IsDistinct}
 use Rattle.mimic_trial.specs.Places.{Placed, places_of}
@@ -83,7 +83,7 @@ reports_of (report row ∷ calls) = row ∷ reports_of calls
 reports_of (take_one ∷ calls) = reports_of calls
 reports_of (close_one ∷ calls) = reports_of calls
 
--- what the calls on a new board gave, and behind it what still waits, is of each place the first report, in their order (our own)
+-- what the calls on a new board gave, and after it what still waits, is of each place the first report, in their order (our own)
 abbrev pub HandsOnFirstReports : Type 0
 HandsOnFirstReports =
     (places workers : ℕ) (calls : List Call) → let board = empty_board places workers in

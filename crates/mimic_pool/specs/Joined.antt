@@ -40,8 +40,11 @@ module _ {X : Type 0} (gives : Gives X) where
   -- what stands at the place is an outcome of the item there
   abbrev pub IsOutcomeAt : Bool → List (Assigned X) → List Outcome → ℕ → Type 0
   IsOutcomeAt mode items outcomes place =
-      (x : Assigned X) (o : Outcome) → IsOutcomeOf gives (slice_index_or items place x).ignored (slice_index_or items place x).runner mode (slice_index_or outcomes place o)
+      (x : Assigned X) (o : Outcome)
+      → IsOutcomeOf gives (slice_index_or items place x).ignored (slice_index_or items place x).runner mode
+      (slice_index_or outcomes place o)
 
   -- there is an outcome of each item, at its place
   abbrev pub AreOutcomes : Bool → List (Assigned X) → List Outcome → Type 0
-  AreOutcomes mode items outcomes = (length outcomes ≡ length items) × ((place : ℕ) → place < length items → IsOutcomeAt mode items outcomes place)
+  AreOutcomes mode items outcomes = (length outcomes ≡ length items)
+      × ((place : ℕ) → place < length items → IsOutcomeAt mode items outcomes place)

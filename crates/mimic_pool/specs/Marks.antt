@@ -38,7 +38,7 @@ kept_of (outcome.Failed failed) = outcome.Failed failed ∷ []
 kept_of outcome.Ignored = []
 kept_of (outcome.Measured measured) = outcome.Measured measured ∷ []
 
--- the outcome that a mark tells, beside the kept ones from its own on
+-- the outcome of a mark, where its own and all later kept ones are given
 abbrev pub outcome_by : Mark → List Outcome → Outcome
 outcome_by Free kept = outcome.Ignored
 outcome_by Passed kept = outcome.Passed
@@ -46,7 +46,7 @@ outcome_by Ignored kept = outcome.Ignored
 outcome_by Kept [] = outcome.Ignored
 outcome_by Kept (outcome ∷ kept) = outcome
 
--- the kept outcomes behind that of a mark
+-- the kept outcomes after that of a mark
 abbrev pub kept_after : Mark → List Outcome → List Outcome
 kept_after mark kept = drop (weight_of mark) kept
 
@@ -79,9 +79,10 @@ posted board = record {
   waiting = rows_of (waiting_marks board) (deque_items board.kept);
 }
 
--- a place is in the order exactly where it is marked, none stands there twice, what is kept belongs to the marks that wait, and there is room for all
+-- a place is in the order exactly if it is marked, none stands there twice, what is kept belongs to the marks that wait, and there is room for all
 pub record IsBoard (board : Inside) : Type 0 where
-  pub marked : (place : ℕ) → list_any (eqb place) board.order.items ≡ is_marked (slice_index_or board.marks.items place Free)
+  pub marked : (place : ℕ)
+      → list_any (eqb place) board.order.items ≡ is_marked (slice_index_or board.marks.items place Free)
   pub distinct : IsDistinct eqb board.order.items
   pub taken : board.taken ≤ length board.order.items
   pub kept : length (deque_items board.kept) ≡ weight_of_all (waiting_marks board)

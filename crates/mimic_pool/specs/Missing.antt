@@ -6,7 +6,8 @@ use Rattle.mimic_pool.specs.declared.desk.Missing.{Missing}
 -- the places of free seats, counted from this one on
 abbrev pub free_from : ℕ → List (Option Outcome) → List ℕ
 free_from place [] = []
-free_from place (seat ∷ seats) = if is_none seat then place ∷ free_from (place + 1) seats else free_from (place + 1) seats
+free_from place (seat ∷ seats) = if is_none seat then place ∷ free_from (place + 1) seats else free_from
+    (place + 1) seats
 
 -- the places that are still to come
 abbrev pub missing_items : Missing → List ℕ

@@ -14,12 +14,13 @@ seated_at order seats = flat_map (λ place. placed_if place (slice_index_or seat
 abbrev pub arrived_of : Inside → Arrived
 arrived_of desk = record { places = length desk.seats; rows = seated_at desk.order.items desk.seats }
 
--- a place is in the order exactly where its seat is taken; none stands there twice, and there is room for all
+-- a place is in the order exactly if its seat is taken; none stands there twice, and there is room for all
 pub record IsSeated (desk : Inside) : Type 0 where
   pub taken : (place : ℕ) → list_any (eqb place) desk.order.items ≡ is_some (slice_index_or desk.seats place None)
   pub distinct : IsDistinct eqb desk.order.items
   pub room : length desk.seats ≤ vec_capacity desk.order
 
--- where a seat is taken, its outcome is the joined one
+-- if a seat is taken, its outcome is the joined one
 abbrev pub SeatAgreesAt : List (Option Outcome) → List Outcome → ℕ → Type 0
-SeatAgreesAt seats joined place = (o : Outcome) → slice_index_or seats place None ≡ Some o → slice_get joined place ≡ Some o
+SeatAgreesAt seats joined place = (o : Outcome) → slice_index_or seats place None ≡ Some o
+    → slice_get joined place ≡ Some o

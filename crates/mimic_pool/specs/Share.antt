@@ -24,7 +24,9 @@ module _ {X : Type 0} where
   abbrev pub assigned_from : ℕ → List X → List Bool → List (Assigned X)
   assigned_from place [] flags = []
   assigned_from place (runner ∷ runners) [] = []
-  assigned_from place (runner ∷ runners) (flag ∷ flags) = record { place = place; runner = runner; ignored = flag } ∷ assigned_from (place + 1) runners flags
+  assigned_from place (runner ∷ runners)
+      (flag ∷ flags) = record { place = place; runner = runner; ignored = flag } ∷ assigned_from
+      (place + 1) runners flags
 
   -- the share of a worker: those whose place, divided by the number of workers, leaves the worker's own, in their order (our own)
   abbrev pub share_of : ℕ → ℕ → List (Assigned X) → List (Assigned X)
@@ -33,4 +35,5 @@ module _ {X : Type 0} where
   -- each worker's share holds the runners of its places, each with its place and its flag
   abbrev pub IsDealt : List X → List Bool → ℕ → List (Share X) → Type 0
   IsDealt runners flags workers shares =
-      (worker : ℕ) (d : Share X) → worker < workers → items_of (slice_index_or shares worker d) ≡ share_of workers worker (assigned_from 0 runners flags)
+      (worker : ℕ) (d : Share X) → worker < workers
+      → items_of (slice_index_or shares worker d) ≡ share_of workers worker (assigned_from 0 runners flags)

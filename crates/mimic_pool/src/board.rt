@@ -1,5 +1,5 @@
 //! The board that workers report rows to.
-ghost use Rattle.std.specs.Prelude.{◌≡◌, ◌≢◌, ◌++◌, ◌∷◌, [], ◌↔◌, ◌<◌, ◌≤◌, IfErr, IfNone, IfOk, IfSome, IsOk, IsTrue, List, slice_get};
+ghost use Rattle.std.specs.Prelude.{◌≡◌, ◌≢◌, ◌++◌, ◌∷◌, [], ◌↔◌, ◌<◌, ◌≤◌, IfErr, IfNone, IfOk, IfSome, IsOk, IsTrue, OnOk, List, slice_get};
 ghost use Rattle.std.specs.VecDeque.{deque_capacity, deque_items, deque_len};
 ghost use Rattle.mimic_trial.specs.Places.{Placed};
 ghost use Rattle.mimic_pool.specs.Arrivals.{first_arrivals};
@@ -53,9 +53,14 @@ impl Model for Board {
 impl Board {
     /// A board of `n` places for so many workers. Nothing was reported, and no worker has closed. All of its memory is taken
     /// here.
+    ///
+    /// Whatever calls workers and the taking thread make on it from here on, in whatever order: the rows that were taken, and
+    /// after them those that still wait, are of each place the first report, in the order of the reports. So no row that was
+    /// accepted is lost, doubled, changed or overtaken.
     pub fn new(alloc: Global, n: usize, workers: usize) -> Result<Board, AllocError>
         ensures empty { IfOk result (λ board. board ≡ empty_board n workers) }
         ensures agrees { IfOk result (λ board. Agrees board []) }
+        ensures law { OnOk result HandsOnFirstReports }
     {
         let mut marks = Vec::with_capacity(alloc, n)?;
         let order = Vec::with_capacity(alloc, n)?;
@@ -73,13 +78,14 @@ impl Board {
         })
     }
 
-    /// Accepts the first report of a place of the board: the row waits behind the others. Any other report is handed back,
+    /// Accepts the first report of a place of the board: the row waits after the others. Any other report is handed back,
     /// and changes nothing.
     pub fn report(&mut self, place: usize, outcome: Outcome) -> Result<(), Outcome>
         ensures accepted { IsOk result ↔ IsTrue (accepts self.old place) }
         ensures handed_back { IfErr result (λ back. back ≡ outcome) }
         ensures board { self.new ≡ after_report self.old (place, outcome) }
-        ensures agrees { (reports : List Placed) → Agrees self.old reports → Agrees self.new (reports ++ (place, outcome) ∷ []) }
+        ensures agrees { (reports : List Placed) → Agrees self.old reports
+            → Agrees self.new (reports ++ (place, outcome) ∷ []) }
     {
         if place >= self.marks.len() {
             return Err(outcome);
@@ -97,8 +103,10 @@ impl Board {
         ensures none { IfNone result ((self.old.waiting ≡ []) × (self.new ≡ self.old)) }
         ensures some { IfSome result (λ row. self.old.waiting ≡ row ∷ self.new.waiting) }
         ensures board { self.new ≡ after_take self.old }
-        ensures agrees { (reports : List Placed) → Agrees self.old reports → Agrees self.new reports }
-        ensures row { (reports : List Placed) → Agrees self.old reports → result ≡ slice_get (first_arrivals self.old.places reports) self.old.taken }
+        ensures agrees { (reports : List Placed) → Agrees self.old reports
+            → Agrees self.new reports }
+        ensures row { (reports : List Placed) → Agrees self.old reports
+            → result ≡ slice_get (first_arrivals self.old.places reports) self.old.taken }
     {
         if self.taken >= self.order.len() {
             return None;
@@ -112,7 +120,8 @@ impl Board {
     /// Closes one more worker. If all have closed, nothing changes.
     pub fn close_one(&mut self)
         ensures board { self.new ≡ after_close self.old }
-        ensures agrees { (reports : List Placed) → Agrees self.old reports → Agrees self.new reports }
+        ensures agrees { (reports : List Placed) → Agrees self.old reports
+            → Agrees self.new reports }
     {
         if self.closed < self.workers {
             self.closed += 1;
@@ -187,10 +196,3 @@ fn unmarked(mark: Mark, kept: &mut VecDeque<Outcome>) -> Outcome
         Mark::Free => unreachable!(),
     }
 }
-
-/// Whatever calls workers and the taking thread make on a board, in whatever order: the rows that were taken, and after
-/// them those that still wait, are of each place the first report, in the order of the reports. So no row that was accepted
-/// is lost, doubled, changed or overtaken.
-pub fn hands_on_first_reports()
-    ensures law { HandsOnFirstReports }
-{}

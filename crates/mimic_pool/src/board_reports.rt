@@ -3,7 +3,7 @@ ghost use Rattle.std.specs.Prelude.{◌≡◌};
 ghost use Rattle.mimic_pool.specs.Reports.{refused_to, told_to};
 
 use crate::reports::{Counts, Reports, Untold};
-use crate::shared::SharedBoard;
+use crate::shared_board::SharedBoard;
 use mimic_trial::Outcome;
 use std::alloc::Global;
 use std::sync::{Arc, Wait};
@@ -32,7 +32,7 @@ impl<R: Wait + Drop> Drop for Reporter<R> {
 }
 
 /// Rows of which copies are reported to the board that all workers share. The worker closes when this is dropped, whether or
-/// not its rows were told.
+/// not its rows were reported.
 ///
 /// A row is refused if no copy of it can be made, or if the board hands it back.
 #[derive(Drop)]
@@ -43,7 +43,7 @@ pub struct BoardReports<R: Wait + Drop> {
 }
 
 impl<R: Wait + Drop> BoardReports<R> {
-    // Nothing was told yet.
+    // Nothing was reported yet.
     pub(crate) fn new(rt: R, alloc: Global, board: Arc<SharedBoard>) -> Self
         ensures told { told_to result ≡ 0 }
         ensures refusals { refused_to result ≡ 0 }

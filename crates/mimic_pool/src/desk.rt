@@ -62,7 +62,8 @@ impl Desk {
         ensures answer { result ≡ arrival_of self.old place }
         ensures places { self.new.places ≡ self.old.places }
         ensures rows { self.new.rows ≡ rows_after self.old.places self.old.rows (place, outcome) }
-        ensures history { (arrivals : List Placed) → self.old.rows ≡ first_arrivals self.old.places arrivals
+        ensures history { (arrivals : List Placed)
+            → self.old.rows ≡ first_arrivals self.old.places arrivals
             → self.new.rows ≡ first_arrivals self.old.places (arrivals ++ (place, outcome) ∷ []) }
     {
         if place >= self.seats.len() {
@@ -93,21 +94,25 @@ impl Desk {
     /// The places at which nothing arrived, rising. Those of `order` and then these are all places, each once.
     pub fn missing(&self) -> Missing<'_>
         ensures places { missing_items result ≡ missing_of self.now }
-        ensures order { (arrivals : List Placed) → self.now.rows ≡ first_arrivals self.now.places arrivals
+        ensures order { (arrivals : List Placed)
+            → self.now.rows ≡ first_arrivals self.now.places arrivals
             → places_of self.now.rows ++ missing_items result ≡ order_of self.now.places arrivals }
-        ensures whole { IsPermutation (places_of self.now.rows ++ missing_items result) (range_with_len 0 self.now.places) }
+        ensures whole { IsPermutation (places_of self.now.rows ++ missing_items result)
+            (range_with_len 0 self.now.places) }
     {
         free_seats(&self.seats)
     }
 
-    /// Compares the first arrivals with the outcomes that workers answered, which stand by place. An `Err` names the
+    /// Compares the first arrivals with the outcomes that workers returned, which stand by place. An `Err` names the
     /// least place that differs. Places at which nothing arrived are passed over.
     pub fn settle(&self, joined: &[Outcome]) -> Result<(), usize>
         requires { length joined.now ≡ self.now.places }
         ensures settled { MatchResult result
             (λ _. (place : ℕ) → AgreesAt self.now.rows joined.now place)
-            (λ differs. (¬ AgreesAt self.now.rows joined.now differs) × ((place : ℕ) → place < differs → AgreesAt self.now.rows joined.now place)) }
-        ensures rows { OnOk result (self.now.rows ≡ placed_at (places_of self.now.rows) joined.now) }
+            (λ differs. (¬ AgreesAt self.now.rows joined.now differs)
+            × ((place : ℕ) → place < differs → AgreesAt self.now.rows joined.now place)) }
+        ensures rows { OnOk result
+            (self.now.rows ≡ placed_at (places_of self.now.rows) joined.now) }
         ensures below { IfErr result (λ place. place < self.now.places) }
     {
         first_difference(&self.seats, joined)
@@ -169,7 +174,8 @@ fn first_difference(seats: &Seats, joined: &[Outcome]) -> Result<(), usize>
     ensures below { IfErr result (λ place. place < length seats.now) }
     ensures found { MatchResult result
         (λ _. (place : ℕ) → SeatAgreesAt seats.now joined.now place)
-        (λ differs. (¬ SeatAgreesAt seats.now joined.now differs) × ((place : ℕ) → place < differs → SeatAgreesAt seats.now joined.now place)) }
+        (λ differs. (¬ SeatAgreesAt seats.now joined.now differs)
+        × ((place : ℕ) → place < differs → SeatAgreesAt seats.now joined.now place)) }
 {
     for place in 0..seats.len() {
         if !agrees(seats.get(place), &joined[place]) {
@@ -181,7 +187,8 @@ fn first_difference(seats: &Seats, joined: &[Outcome]) -> Result<(), usize>
 
 // Whether nothing lies there, or this outcome.
 fn agrees(seat: Option<&Outcome>, joined: &Outcome) -> bool
-    ensures { IsTrue result ↔ ((o : AnOutcome) → option_copied seat.entry ≡ Some o → joined.now ≡ o) }
+    ensures { IsTrue result ↔ ((o : AnOutcome) → option_copied seat.entry ≡ Some o
+        → joined.now ≡ o) }
 {
     match seat {
         Some(outcome) => *joined == *outcome,

@@ -6,7 +6,7 @@ ghost use Rattle.mimic_pool.specs.Reports.{refused_to, told_to};
 
 use crate::board::Board;
 use crate::board_reports::BoardReports;
-use crate::shared::SharedBoard;
+use crate::shared_board::SharedBoard;
 use mimic_trial::Outcome;
 use std::alloc::{AllocError, Global};
 use std::collections::VecDeque;
@@ -45,7 +45,7 @@ impl Inbox {
         })
     }
 
-    /// What one of the workers tells its rows to. No memory but that of copies is taken. Nothing is promised of what becomes of
+    /// What one of the workers reports its rows to. No memory but that of copies is taken. Nothing is promised of what becomes of
     /// the rows: they are behind a lock.
     pub fn reports<R: Wait + Drop>(
         &self,

@@ -23,12 +23,12 @@ mod memory_reports;
 mod reports;
 mod seats;
 mod share;
-mod shared;
+mod shared_board;
 mod start;
 mod threads;
 mod worker;
 
-pub use board::{Board, hands_on_first_reports};
+pub use board::Board;
 pub use board_reports::BoardReports;
 pub use desk::{Arrival, Desk, Missing};
 pub use inbox::Inbox;

@@ -6,7 +6,7 @@ use crate::reports::{Counts, Reports, Untold};
 use mimic_trial::Outcome;
 use std::alloc::{AllocError, Global};
 
-/// Rows that are told into a list.
+/// Reports that a list keeps.
 #[derive(Drop)]
 pub struct MemoryReports {
     rows: Vec<(usize, Outcome)>,
@@ -15,7 +15,7 @@ pub struct MemoryReports {
 }
 
 impl MemoryReports {
-    /// Nothing was told yet.
+    /// Nothing was reported yet.
     pub fn new(alloc: Global) -> Self
         ensures rows { rows_told result ≡ [] }
         ensures told { told_into result ≡ 0 }
@@ -28,7 +28,7 @@ impl MemoryReports {
         }
     }
 
-    /// The rows that were told, in their order: each a place and the outcome there.
+    /// The rows that were reported, in their order: each a place and the outcome there.
     pub fn rows(&self) -> &[(usize, Outcome)]
         ensures { result.now ≡ rows_told self.now }
     {
@@ -37,7 +37,8 @@ impl MemoryReports {
 
     // Adds a copy of the row. The counts stay.
     fn keep(&mut self, place: usize, outcome: &Outcome) -> Result<(), AllocError>
-        ensures kept { OnOk result (rows_told self.new ≡ rows_told self.old ++ (place, outcome.now) ∷ []) }
+        ensures kept { OnOk result
+            (rows_told self.new ≡ rows_told self.old ++ (place, outcome.now) ∷ []) }
         ensures refused { OnErr result (rows_told self.new ≡ rows_told self.old) }
         ensures counts { self.new.counts ≡ self.old.counts }
     {
@@ -52,12 +53,15 @@ impl Reports for MemoryReports {
 
     ghost refused_by = { refused_into };
 
-    /// Adds the row to the list, and counts it as told, or with `Untold` as refused.
+    /// Adds the row to the list, and counts it as reported, or with `Untold` as refused.
     fn tell(&mut self, place: usize, outcome: &Outcome) -> Result<(), Untold>
         requires room { (told_into self.old < u64.MAX) × (refused_into self.old < u64.MAX) }
-        ensures told { OnOk result ((told_into self.new ≡ told_into self.old + 1) × (refused_into self.new ≡ refused_into self.old)) }
-        ensures untold { OnErr result ((told_into self.new ≡ told_into self.old) × (refused_into self.new ≡ refused_into self.old + 1)) }
-        ensures kept { OnOk result (rows_told self.new ≡ rows_told self.old ++ (place, outcome.now) ∷ []) }
+        ensures told { OnOk result ((told_into self.new ≡ told_into self.old + 1)
+            × (refused_into self.new ≡ refused_into self.old)) }
+        ensures untold { OnErr result ((told_into self.new ≡ told_into self.old)
+            × (refused_into self.new ≡ refused_into self.old + 1)) }
+        ensures kept { OnOk result
+            (rows_told self.new ≡ rows_told self.old ++ (place, outcome.now) ∷ []) }
         ensures refused { OnErr result (rows_told self.new ≡ rows_told self.old) }
     {
         let kept = self.keep(place, outcome);

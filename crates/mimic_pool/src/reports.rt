@@ -7,32 +7,34 @@ use mimic_trial::Outcome;
 #[derive(Clone, Copy, Debug, PartialEq, Eq)]
 pub struct Untold;
 
-/// What rows are told to, each a place and the outcome there, and what counts them.
+/// What rows are reported to, each a place and the outcome there, and what counts them.
 ///
-/// What becomes of a row that was told is left open: it may be lost. So a worker answers all of its rows once more.
+/// What becomes of a row that was reported is left open: it may be lost. So a worker also returns all of its rows.
 pub trait Reports {
-    /// How many rows were told.
+    /// How many rows were reported.
     ghost told_of: { Self → ℕ };
 
-    /// How many rows could not be told.
+    /// How many rows could not be reported.
     ghost refused_by: { Self → ℕ };
 
-    /// Tells one row, and counts it as told, or with `Untold` as refused.
+    /// Reports one row, and counts it as reported, or with `Untold` as refused.
     fn tell(&mut self, place: usize, outcome: &Outcome) -> Result<(), Untold>
         requires room { (told_of self.old < u64.MAX) × (refused_by self.old < u64.MAX) }
-        ensures told { OnOk result ((told_of self.new ≡ told_of self.old + 1) × (refused_by self.new ≡ refused_by self.old)) }
-        ensures untold { OnErr result ((told_of self.new ≡ told_of self.old) × (refused_by self.new ≡ refused_by self.old + 1)) };
+        ensures told { OnOk result ((told_of self.new ≡ told_of self.old + 1)
+            × (refused_by self.new ≡ refused_by self.old)) }
+        ensures untold { OnErr result ((told_of self.new ≡ told_of self.old)
+            × (refused_by self.new ≡ refused_by self.old + 1)) };
 
-    /// How many rows could not be told.
+    /// How many rows could not be reported.
     fn refusals(&self) -> u64
         ensures { result ≡ refused_by self.now };
 
-    /// How many rows were told.
+    /// How many rows were reported.
     fn told(&self) -> u64
         ensures { result ≡ told_of self.now };
 }
 
-// How many rows were told, and how many could not be.
+// How many rows were reported, and how many could not be.
 #[derive(Drop)]
 pub(crate) struct Counts {
     pub(crate) told: u64,
@@ -40,7 +42,7 @@ pub(crate) struct Counts {
 }
 
 impl Counts {
-    // No row was told yet.
+    // No row was reported yet.
     pub(crate) fn new() -> Self
         ensures told { result.told ≡ 0 }
         ensures refusals { result.refusals ≡ 0 }
@@ -51,12 +53,14 @@ impl Counts {
         }
     }
 
-    // Counts one more row: as told if it was kept or reported, else as refused.
+    // Counts one more row, as reported or as refused.
     pub(crate) fn count<E: Drop>(&mut self, row: Result<(), E>) -> Result<(), Untold>
         requires room { (self.old.told < u64.MAX) × (self.old.refusals < u64.MAX) }
         ensures same { IsOk result ↔ IsOk row }
-        ensures told { OnOk result ((self.new.told ≡ self.old.told + 1) × (self.new.refusals ≡ self.old.refusals)) }
-        ensures untold { OnErr result ((self.new.told ≡ self.old.told) × (self.new.refusals ≡ self.old.refusals + 1)) }
+        ensures told { OnOk result ((self.new.told ≡ self.old.told + 1)
+            × (self.new.refusals ≡ self.old.refusals)) }
+        ensures untold { OnErr result ((self.new.told ≡ self.old.told)
+            × (self.new.refusals ≡ self.old.refusals + 1)) }
     {
         match row {
             Ok(()) => {

@@ -45,7 +45,8 @@ impl Seats {
     // Seats at `n` places, at which nothing lies.
     pub(crate) fn new(alloc: Global, n: usize) -> Result<Seats, AllocError>
         ensures len { IfOk result (λ seats. length seats ≡ n) }
-        ensures free { IfOk result (λ seats. (place : ℕ) → is_some (slice_index_or seats place None) ≡ false) }
+        ensures free { IfOk result
+            (λ seats. (place : ℕ) → is_some (slice_index_or seats place None) ≡ false) }
     {
         let mut seats = Vec::with_capacity(alloc, n)?;
         let kept = Vec::with_capacity(alloc, n)?;
@@ -89,7 +90,7 @@ impl Seats {
         }
     }
 
-    // Lays the outcome down at the place, where nothing lies.
+    // Lays the outcome down at the place, which must be free.
     pub(crate) fn put(&mut self, place: usize, outcome: Outcome)
         requires place { place < length self.old }
         requires free { is_some (slice_index_or self.old place None) ≡ false }

@@ -52,7 +52,8 @@ pub fn deal<T: Drop>(
     requires same_length { vec_len runners ≡ vec_len ignored }
     requires some_worker { 1 ≤ workers }
     ensures len { IfOk result (λ shares. vec_len shares ≡ workers) }
-    ensures dealt { IfOk result (λ shares. IsDealt runners.items ignored.items workers shares.items) }
+    ensures dealt { IfOk result
+        (λ shares. IsDealt runners.items ignored.items workers shares.items) }
 {
     let mut shares = empty_shares(alloc, runners.len(), workers)?;
     let mut place = 0;
@@ -94,7 +95,8 @@ pub fn deal_next<T: Drop>(
 ) -> Result<(), AllocError>
     requires some_worker { 1 ≤ vec_len shares.old }
     ensures len { vec_len shares.new ≡ vec_len shares.old }
-    ensures dealt { OnOk result ((runners : List T) (flags : List Bool) → length runners ≡ place → length flags ≡ place
+    ensures dealt { OnOk result ((runners : List T) (flags : List Bool) → length runners ≡ place
+        → length flags ≡ place
         → IsDealt runners flags (vec_len shares.old) shares.old.items
         → IsDealt (runners ++ runner ∷ []) (flags ++ ignored ∷ []) (vec_len shares.old) shares.new.items) }
     ensures refused { OnErr result (map items_of shares.new.items ≡ map items_of shares.old.items) }

@@ -3,16 +3,16 @@ ghost use Rattle.std.specs.Prelude.{◌≡◌, ◌≤◌, length, vec_capacity, 
 ghost use Rattle.mimic_pool.specs.Share.{items_of};
 
 use crate::share::Share;
-use crate::shared::SharedBoard;
+use crate::shared_board::SharedBoard;
 use mimic_trial::{Outcome, Task};
 use std::snapshot::Snapshot;
 use std::sync::Arc;
 use std::thread::Promise;
 
-/// What a worker answers: a place and the outcome there, for each trial of its share.
+/// What a worker returns: a place and the outcome there, for each trial of its share.
 pub type Rows = Vec<(usize, Outcome)>;
 
-/// What a worker starts with: its share, room for what it answers, and the board that it reports to.
+/// What a worker starts with: its share, room for what it returns, and the board that it reports to.
 #[derive(Drop)]
 pub struct Start<T> {
     pub(crate) share: Share<T>,
@@ -22,7 +22,7 @@ pub struct Start<T> {
     pub(crate) ghost fits: { length (items_of share) ≤ vec_capacity room },
 }
 
-/// What a worker's thread promises: it answers its share.
+/// What a worker's thread promises: it returns an outcome for each trial of its share.
 #[derive(Drop)]
 pub struct AnswersShare<T> {
     pub(crate) share: Snapshot<Share<T>>,

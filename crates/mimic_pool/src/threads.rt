@@ -26,7 +26,7 @@ impl<T: Threads + Wait + Copy + Drop + Send> Spawner for T {}
 /// The handles of workers that were started, in the order of their shares.
 pub type Handles<T> = Vec<PromisedHandle<Rows, AnswersShare<T>>>;
 
-/// What each worker starts with, one for each share: room for what it answers, and the board of the inbox, which is for as
+/// What each worker starts with, one for each share: room for what it returns, and the board of the inbox, which is for as
 /// many workers.
 pub fn prepare<T: Task>(
     alloc: Global,
@@ -61,7 +61,8 @@ pub fn start_all<T: Task + Send + 'static, R: Spawner + 'static>(
     requires fits { vec_len starts ≤ vec_capacity handles }
     ensures { MatchResult result
         (λ started. map job_of started.items ≡ jobs_of test_mode (shares_of starts.items))
-        (λ started. map job_of started.items ≡ take (vec_len started) (jobs_of test_mode (shares_of starts.items))) }
+        (λ started. map job_of started.items ≡ take (vec_len started)
+        (jobs_of test_mode (shares_of starts.items))) }
 {
     for start in starts {
         match start_worker(rt, alloc, start, test_mode) {
@@ -105,14 +106,15 @@ fn start_worker<T: Task + Send + 'static, R: Spawner + 'static>(
     started.ok()
 }
 
-/// Joins the workers one after another, and puts what they answered into `outcomes`, each at its place. If their shares
+/// Joins the workers one after another, and puts what they returned into `outcomes`, each at its place. If their shares
 /// were dealt from runners, each place has then an outcome of the runner there.
 pub fn join_all<T: Task + Send + 'static, R: Threads>(
     rt: &R,
     handles: Handles<T>,
     mut outcomes: Vec<Outcome>,
 ) -> Vec<Outcome>
-    ensures joined { (runners : List T) (flags : List Bool) (shares : List (Share T)) (test_mode : Bool)
+    ensures joined { (runners : List T) (flags : List Bool) (shares : List (Share T))
+        (test_mode : Bool)
         → AreReadyToJoin runners flags shares test_mode handles.items outcomes.items
         → AreOutcomes T.gives test_mode (assigned_from 0 runners flags) result.items }
     ensures len { vec_len result ≡ vec_len outcomes }

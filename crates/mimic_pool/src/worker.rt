@@ -7,9 +7,9 @@ use crate::reports::Reports;
 use crate::share::{Assigned, Share};
 use mimic_trial::{Outcome, Task, run_unless};
 
-/// Runs the share in its order, tells each row when its trial has ended, and returns all of them.
+/// Runs the share in its order, reports each row when its trial has ended, and returns all of them.
 ///
-/// A runner that is ignored is dropped without a call. A row that could not be told is returned all the same. All are
+/// A runner that is ignored is dropped without a call. A row that could not be reported is returned all the same. All are
 /// put into `room`, which has room for them.
 pub fn work<T: Task, R: Reports>(
     share: Share<T>,

@@ -1,4 +1,4 @@
--- What is read back of a run in JSON tells that run.
+-- What is read back of a run in JSON says what that run did.
 use Rattle.std.proofs.Common.{◌≡◌, ℕ, ◌-◌, ◌<◌, ◌^◌, List, [], length, false, Option, Some, None, IsSome, option_map, refl, sym, subst, arith}
 use Rattle.std.specs.Io.KnownBytes.{Appends}
 use Rattle.mimic_args.specs.declared.Arguments.{Arguments}

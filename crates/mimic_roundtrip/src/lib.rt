@@ -46,7 +46,8 @@ pub fn run_to_report<R: Task, C: Clock>(
     requires unlisted { args.now.list ≡ false }
     requires runnable { AllCanRun R.can_run tests.items }
     requires fresh { IsFresh watch.old }
-    ensures { IfOk result (λ told. TellsRun R.gives args.now tests.items watch.new told.0 (contents_read told.1)) }
+    ensures { IfOk result
+        (λ told. TellsRun R.gives args.now tests.items watch.new told.0 (contents_read told.1)) }
 {
     let mut sink = Sink::new(Vec::new(alloc));
     let conclusion = run_here(alloc, args, tests, &mut sink, watch, false)?;

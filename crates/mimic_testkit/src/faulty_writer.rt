@@ -122,7 +122,9 @@ impl FaultyWriter {
 
     /// Each place where a run can fail that asks for what this writer was asked for: each byte, write and flush.
     pub fn places(&self, alloc: Global) -> Result<Vec<Place>, AllocError>
-        ensures { IfOk result (λ places. length places.items ≡ length self.now.bytes.items + (self.now.writes + self.now.flushes)) }
+        ensures { IfOk result
+            (λ places. length places.items ≡ length self.now.bytes.items +
+            (self.now.writes + self.now.flushes)) }
     {
         let bytes = (0..self.bytes.len()).map(Place::Byte);
         let writes = (0..self.writes).map(|number| Place::Write(number + 1));
@@ -164,7 +166,8 @@ impl Write for FaultyWriter {
 
     fn write(&mut self, buf: &[u8]) -> io::Result<usize>
         ensures bound { WritesAtMost result buf.now }
-        ensures bytes { WriteAppends (Some self.old.bytes.items) (Some self.new.bytes.items) result buf.now }
+        ensures bytes { WriteAppends (Some self.old.bytes.items)
+            (Some self.new.bytes.items) result buf.now }
         ensures tells { OnErr result (self.new.has_failed ≡ true) }
         ensures counts { self.old.has_failed ≡ true → 1 ≤ self.new.calls_after }
     {

@@ -60,7 +60,8 @@ pub fn test_answer(
     answer: &Result<(), &'static str>,
 ) -> Result<Result<(), Failed>, AllocError>
     ensures passed { IfOk result (λ made. is_ok made ≡ is_ok answer.now) }
-    ensures message { IfOk result (λ made. IfErr made (λ failed. IfErr answer.now (λ message. failed ≡ Some message.now))) }
+    ensures message { IfOk result
+        (λ made. IfErr made (λ failed. IfErr answer.now (λ message. failed ≡ Some message.now))) }
 {
     Ok(match answer {
         Ok(()) => Ok(()),
@@ -76,7 +77,8 @@ pub fn benchmark_answer(
     ensures passed { IfOk result (λ made. is_ok made ≡ is_ok answer.now) }
     ensures measured { IfOk result (λ made. IfOk made (λ measurement. IfOk answer.now (λ pair.
         measurement ≡ Some (record { avg = pair.0; variance = pair.1 })))) }
-    ensures message { IfOk result (λ made. IfErr made (λ failed. IfErr answer.now (λ message. failed ≡ Some message.now))) }
+    ensures message { IfOk result
+        (λ made. IfErr made (λ failed. IfErr answer.now (λ message. failed ≡ Some message.now))) }
 {
     Ok(match answer {
         Ok((avg, variance)) => Ok(Some(Measurement {

@@ -2,7 +2,7 @@
 ghost use Rattle.std.specs.Prelude.{◌≡◌, ◌-◌, ◌^◌, ◌<◌, All, OnOk, length, map};
 ghost use Rattle.mimic_printer.specs.Report.{row_text, rows_text};
 ghost use Rattle.mimic_printer.specs.Row.{label_of, row_of, rows_at};
-ghost use Rattle.mimic_printer.specs.Sink.{Put, Puts, Shown, Writes, faults_of, shown};
+ghost use Rattle.mimic_printer.specs.Sink.{HasFaultLeft, Put, Puts, Shown, Writes, faults_of, shown};
 ghost use Rattle.mimic_trial.specs.Places.{placed_at};
 ghost use Rattle.libtest_mimic.specs.Steps.{told_text};
 
@@ -21,10 +21,11 @@ pub(super) fn write_arrivals<W: Write, T: Wait>(
     desk: &mut Desk,
     sink: &mut Sink<W>,
 ) -> Result<(), WriteFault>
-    requires room { faults_of sink.old < 2 ^ 64 - 1 }
+    requires room { HasFaultLeft sink.old }
     requires places { desk.old.places ≡ length infos.now }
     ensures places { desk.new.places ≡ desk.old.places }
-    ensures told { (base : Shown) → Put base (shown W.contents sink.old) (told_text printer.now infos.now desk.old)
+    ensures told { (base : Shown)
+        → Put base (shown W.contents sink.old) (told_text printer.now infos.now desk.old)
         → Writes base (shown W.contents sink.new) (told_text printer.now infos.now desk.new) result }
 {
     for _ in rt.forever() {
@@ -45,11 +46,12 @@ fn write_arrival<W: Write>(
     outcome: Outcome,
     sink: &mut Sink<W>,
 ) -> Result<(), WriteFault>
-    requires room { faults_of sink.old < 2 ^ 64 - 1 }
+    requires room { HasFaultLeft sink.old }
     requires places { desk.old.places ≡ length infos.now }
     ensures places { desk.new.places ≡ desk.old.places }
     ensures faults { OnOk result (faults_of sink.new ≡ faults_of sink.old) }
-    ensures told { (base : Shown) → Put base (shown W.contents sink.old) (told_text printer.now infos.now desk.old)
+    ensures told { (base : Shown)
+        → Put base (shown W.contents sink.old) (told_text printer.now infos.now desk.old)
         → Writes base (shown W.contents sink.new) (told_text printer.now infos.now desk.new) result }
 {
     match desk.arrive(place, outcome) {
@@ -73,7 +75,7 @@ pub(super) fn write_missing<W: Write>(
 ) -> Result<(), WriteFault>
     requires places { All (λ place. place < length infos.now) places.now }
     requires lengths { length infos.now ≡ length outcomes.now }
-    requires room { faults_of sink.old < 2 ^ 64 - 1 }
+    requires room { HasFaultLeft sink.old }
     ensures { Puts W.contents sink.old sink.new
         (rows_text printer.now (rows_at (map label_of infos.now) (placed_at places.now outcomes.now))) result }
 {
@@ -90,8 +92,9 @@ fn write_row<W: Write>(
     outcome: &Outcome,
     sink: &mut Sink<W>,
 ) -> Result<(), WriteFault>
-    requires { faults_of sink.old < 2 ^ 64 - 1 }
-    ensures { Puts W.contents sink.old sink.new (row_text printer.now (row_of info.now outcome.now)) result }
+    requires { HasFaultLeft sink.old }
+    ensures { Puts W.contents sink.old sink.new
+        (row_text printer.now (row_of info.now outcome.now)) result }
 {
     printer.print_test(sink, info)?;
     printer.print_single_outcome(sink, info, outcome)?;

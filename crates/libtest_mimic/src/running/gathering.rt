@@ -1,6 +1,6 @@
 //! Gathers the rows of workers.
 ghost use Rattle.std.specs.Prelude.{◌≡◌, ◌-◌, ◌^◌, ◌<◌, ◌≤◌, Bool, IfErr, List, MatchResult, length, vec_capacity, vec_len};
-ghost use Rattle.mimic_printer.specs.Sink.{Put, faults_of, shown};
+ghost use Rattle.mimic_printer.specs.Sink.{HasFaultLeft, Put, faults_of, shown};
 ghost use Rattle.mimic_trial.specs.Places.{placed_at, places_of};
 ghost use Rattle.mimic_pool.specs.Share.{assigned_from};
 ghost use Rattle.mimic_pool.specs.declared.share.Share.{Share};
@@ -29,7 +29,7 @@ pub struct Started<R: Task> {
 /// after the workers have been joined those that did not. Returns the order of the rows, and the outcome at each place.
 ///
 /// `infos` are by place, counted from 0. It is refused for a write fault, or with `Arrival` for the least place at which
-/// something else arrived first than its worker answered, also after a write fault.
+/// something else arrived first than its worker returned, also after a write fault.
 pub fn gather_rows<R: Task + Send + 'static, W: Write, T: Spawner + 'static>(
     rt: &T,
     printer: &Printer,
@@ -37,9 +37,10 @@ pub fn gather_rows<R: Task + Send + 'static, W: Write, T: Spawner + 'static>(
     started: Started<R>,
     sink: &mut Sink<W>,
 ) -> Result<(Vec<usize>, Vec<Outcome>), RunError>
-    requires room { faults_of sink.old < 2 ^ 64 - 1 }
+    requires room { HasFaultLeft sink.old }
     requires ready { IsReadyFor started (length infos.now) }
-    ensures rows { (runners : List R) (flags : List Bool) (shares : List (Share R)) (test_mode : Bool)
+    ensures rows { (runners : List R) (flags : List Bool) (shares : List (Share R))
+        (test_mode : Bool)
         → RunRunners runners flags shares test_mode started.handles.items (length infos.now)
         → MatchResult result
         (λ rows. Gathered R.gives test_mode (assigned_from 0 runners flags) rows.0.items rows.1.items
@@ -65,7 +66,7 @@ pub fn gather_rows<R: Task + Send + 'static, W: Write, T: Spawner + 'static>(
     Ok((order, outcomes))
 }
 
-// As many outcomes, each of which stands for one that a worker answers. They are put into `room` after the last row was
+// As many outcomes, each of which stands for one that a worker returns. They are put into `room` after the last row was
 // written, when the workers have let go what they ran: so the memory of both is there at once only after a write fault.
 fn placeholders(mut room: Vec<Outcome>, count: usize) -> Vec<Outcome>
     requires empty { vec_len room ≡ 0 }
@@ -78,7 +79,7 @@ fn placeholders(mut room: Vec<Outcome>, count: usize) -> Vec<Outcome>
     room
 }
 
-// Compares what arrived with what the workers answered.
+// Compares what arrived with what the workers returned.
 fn settle(desk: &Desk, outcomes: &[Outcome]) -> Result<(), RunError>
     requires { length outcomes.now ≡ desk.now.places }
     ensures { MatchResult result

@@ -1,13 +1,13 @@
 //! Runs trials in the calling thread, one after another.
 ghost use Rattle.std.specs.Prelude.{◌≡◌, ◌-◌, ◌^◌, ◌<◌, [], vec_len};
 ghost use Rattle.mimic_trial.specs.Trial.{AllCanRun};
-ghost use Rattle.mimic_printer.specs.Sink.{faults_of, shown};
+ghost use Rattle.mimic_printer.specs.Sink.{HasFaultLeft, faults_of, shown};
 ghost use Rattle.libtest_mimic.specs.Run.{OnNothingWritten, Reports};
 ghost use Rattle.libtest_mimic.specs.Steps.{HasCounted, HasRoomFor, RowsRun, WritesReport, selected_suite, suite_with};
 ghost use Rattle.libtest_mimic.specs.Stopwatch.{IsRunning};
 
 use crate::running::RunError;
-use crate::running::selected::Selected;
+use crate::running::selection::Selection;
 use crate::running::summary::write_summary;
 use crate::running::tally::Tally;
 use crate::select::is_ignored;
@@ -21,14 +21,15 @@ use std::io::Write;
 // Runs the trials in their order, and writes their report.
 pub(super) fn run_in_order<R: Task, W: Write, C: Clock>(
     alloc: Global,
-    selected: Selected<'_, R>,
+    selected: Selection<'_, R>,
     sink: &mut Sink<W>,
     watch: &mut Stopwatch<C>,
 ) -> Result<Conclusion, RunError>
     requires runnable { AllCanRun R.can_run selected.trials.items }
     requires running { IsRunning watch.old }
-    requires room { faults_of sink.old < 2 ^ 64 - 1 }
-    ensures reported { Reports R.gives 1 (selected_suite selected.entry) (shown W.contents sink.old) (shown W.contents sink.new) watch.new result }
+    requires room { HasFaultLeft sink.old }
+    ensures reported { Reports R.gives 1 (selected_suite selected.entry) (shown W.contents sink.old)
+        (shown W.contents sink.new) watch.new result }
     ensures unwritten { OnNothingWritten result (sink.new ≡ sink.old) }
 {
     let tally = Tally::with_capacity(alloc, selected.trials.len(), selected.filtered_out)?;
@@ -37,21 +38,22 @@ pub(super) fn run_in_order<R: Task, W: Write, C: Clock>(
 
 // Writes the whole report of the trials, which run in their order, and counts them.
 fn write_report<R: Task, W: Write, C: Clock>(
-    selected: Selected<'_, R>,
+    selected: Selection<'_, R>,
     tally: Tally,
     sink: &mut Sink<W>,
     watch: &mut Stopwatch<C>,
 ) -> Result<Conclusion, WriteFault>
-    requires room { faults_of sink.old < 2 ^ 64 - 1 }
+    requires room { HasFaultLeft sink.old }
     requires running { IsRunning watch.old }
     requires empty { HasCounted tally tally.conclusion.num_filtered_out [] }
     requires runnable { AllCanRun R.can_run selected.trials.items }
     requires capacity { HasRoomFor tally (vec_len selected.trials) }
-    ensures { WritesReport R.gives (suite_with selected.entry.args.now selected.entry.trials.items selected.entry.printer tally)
+    ensures { WritesReport R.gives
+        (suite_with selected.entry.args.now selected.entry.trials.items selected.entry.printer tally)
         (shown W.contents sink.old) (shown W.contents sink.new) watch.new result }
 {
     let mut tally = tally;
-    let Selected {
+    let Selection {
         args,
         trials,
         printer,
@@ -72,7 +74,7 @@ fn run_rows<R: Task, W: Write>(
     tally: &mut Tally,
     sink: &mut Sink<W>,
 ) -> Result<(), WriteFault>
-    requires room { faults_of sink.old < 2 ^ 64 - 1 }
+    requires room { HasFaultLeft sink.old }
     requires empty { HasCounted tally.old tally.old.conclusion.num_filtered_out [] }
     requires runnable { AllCanRun R.can_run trials.items }
     requires capacity { HasRoomFor tally.old (vec_len trials) }

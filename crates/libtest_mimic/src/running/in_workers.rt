@@ -1,6 +1,6 @@
 //! Runs trials in worker threads.
 ghost use Rattle.std.specs.Prelude.{◌≡◌, ◌≢◌, ◌-◌, ◌^◌, ◌<◌, ◌≤◌, [], All, Bool, IfOk, List, MatchResult, length, not, vec_len};
-ghost use Rattle.mimic_printer.specs.Sink.{Put, faults_of, shown};
+ghost use Rattle.mimic_printer.specs.Sink.{HasFaultLeft, Put, faults_of, shown};
 ghost use Rattle.mimic_trial.specs.Trial.{AllCanRun};
 ghost use Rattle.mimic_pool.specs.Share.{AllRunners, IsDealt, assigned_from};
 ghost use Rattle.libtest_mimic.specs.Gathering.{Gathered};
@@ -10,7 +10,7 @@ ghost use Rattle.libtest_mimic.specs.Stopwatch.{IsRunning};
 
 use crate::running::RunError;
 use crate::running::gathering::{Started, gather_rows};
-use crate::running::selected::Selected;
+use crate::running::selection::Selection;
 use crate::running::summary::write_summary;
 use crate::select::is_ignored;
 use crate::stopwatch::{Clock, Stopwatch};
@@ -27,7 +27,7 @@ use std::io::Write;
 pub(super) fn run_in_workers<R: Task + Send + 'static, W: Write, C: Clock, T: Spawner + 'static>(
     rt: &T,
     alloc: Global,
-    selected: Selected<'_, R>,
+    selected: Selection<'_, R>,
     threads: usize,
     sink: &mut Sink<W>,
     watch: &mut Stopwatch<C>,
@@ -36,24 +36,32 @@ pub(super) fn run_in_workers<R: Task + Send + 'static, W: Write, C: Clock, T: Sp
     requires some { selected.trials.items ≢ [] }
     requires runnable { AllCanRun R.can_run selected.trials.items }
     requires running { IsRunning watch.old }
-    requires room { faults_of sink.old < 2 ^ 64 - 1 }
-    ensures reported { Reports R.gives threads (selected_suite selected.entry) (shown W.contents sink.old) (shown W.contents sink.new) watch.new result }
+    requires room { HasFaultLeft sink.old }
+    ensures reported { Reports R.gives threads (selected_suite selected.entry)
+        (shown W.contents sink.old) (shown W.contents sink.new) watch.new result }
     ensures unwritten { OnNothingWritten result (sink.new ≡ sink.old) }
 {
-    let Selected {
+    let Selection {
         args,
         trials,
         printer,
         filtered_out,
     } = selected;
     let workers = threads.min(trials.len());
-    let (infos, shares) = take_apart(alloc, args, trials, workers)?;
+    let (infos, dealt) = take_apart(alloc, args, trials, workers)?;
     let infos = infos.as_slice();
-    let (order, outcomes) = write_rows(rt, alloc, &printer, infos, shares, !args.bench, sink)?;
+    let (order, outcomes) = write_rows(rt, &printer, infos, dealt, !args.bench, sink)?;
     printer.print_failures(sink, infos, &order, &outcomes)?;
     let conclusion = count_rows(&outcomes, filtered_out);
     write_summary(&printer, &conclusion, sink, watch)?;
     Ok(conclusion)
+}
+
+// What workers start from.
+#[derive(Drop)]
+struct Dealt<R> {
+    alloc: Global,
+    shares: Vec<Share<R>>,
 }
 
 // What is known of each trial, and the runners, dealt out to so many workers.
@@ -62,11 +70,12 @@ fn take_apart<R: Drop>(
     args: &Arguments,
     trials: Vec<Trial<R>>,
     workers: usize,
-) -> Result<(Vec<TestInfo>, Vec<Share<R>>), AllocError>
+) -> Result<(Vec<TestInfo>, Dealt<R>), AllocError>
     requires some_worker { 1 ≤ workers }
     requires no_more { workers ≤ vec_len trials }
-    ensures dealt { IfOk result (λ parts. AreDealt args.now trials.items parts.0.items parts.1.items) }
-    ensures len { IfOk result (λ parts. vec_len parts.1 ≡ workers) }
+    ensures dealt { IfOk result
+        (λ parts. AreDealt args.now trials.items parts.0.items parts.1.shares.items) }
+    ensures len { IfOk result (λ parts. vec_len parts.1.shares ≡ workers) }
 {
     let mut infos = Vec::with_capacity(alloc, trials.len())?;
     let mut shares = empty_shares(alloc, trials.len(), workers)?;
@@ -76,27 +85,27 @@ fn take_apart<R: Drop>(
         deal_next(&mut shares, infos.len(), runner, is_ignored)?;
         infos.push(info)?;
     }
-    Ok((infos, shares))
+    Ok((infos, Dealt { alloc, shares }))
 }
 
 // Runs each share in a worker, and writes the title and the rows. Returns the order of the rows and the outcome at each
 // place.
 //
-// But for copies of messages and the threads themselves, all memory is taken before the title.
+// All memory is taken before the title, except for copies of messages and for the threads.
 fn write_rows<R: Task + Send + 'static, W: Write, T: Spawner + 'static>(
     rt: &T,
-    alloc: Global,
     printer: &Printer,
     infos: &[TestInfo],
-    shares: Vec<Share<R>>,
+    dealt: Dealt<R>,
     test_mode: bool,
     sink: &mut Sink<W>,
 ) -> Result<(Vec<usize>, Vec<Outcome>), RunError>
-    requires room { faults_of sink.old < 2 ^ 64 - 1 }
-    requires some_worker { 1 ≤ vec_len shares }
-    requires runnable { All (λ share. AllRunners R.can_run share) shares.items }
-    ensures rows { (runners : List R) (flags : List Bool) → length runners ≡ length infos.now → length flags ≡ length infos.now
-        → IsDealt runners flags (vec_len shares) shares.items
+    requires room { HasFaultLeft sink.old }
+    requires some_worker { 1 ≤ vec_len dealt.shares }
+    requires runnable { All (λ share. AllRunners R.can_run share) dealt.shares.items }
+    ensures rows { (runners : List R) (flags : List Bool) → length runners ≡ length infos.now
+        → length flags ≡ length infos.now
+        → IsDealt runners flags (vec_len dealt.shares) dealt.shares.items
         → MatchResult result
         (λ rows. Gathered R.gives test_mode (assigned_from 0 runners flags) rows.0.items rows.1.items
         × Put (shown W.contents sink.old) (shown W.contents sink.new) (titled_rows printer.now infos.now rows.0.items rows.1.items))
@@ -104,6 +113,7 @@ fn write_rows<R: Task + Send + 'static, W: Write, T: Spawner + 'static>(
         (shown W.contents sink.old) (shown W.contents sink.new) e) }
     ensures unwritten { OnNothingWritten result (sink.new ≡ sink.old) }
 {
+    let Dealt { alloc, shares } = dealt;
     let count = infos.len();
     let inbox = Inbox::new(alloc, count, shares.len())?;
     let starts = prepare(alloc, shares, &inbox)?;

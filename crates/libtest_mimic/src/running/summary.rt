@@ -1,6 +1,6 @@
 //! The end of a report.
 ghost use Rattle.std.specs.Prelude.{◌-◌, ◌^◌, ◌<◌};
-ghost use Rattle.mimic_printer.specs.Sink.{faults_of, shown};
+ghost use Rattle.mimic_printer.specs.Sink.{HasFaultLeft, faults_of, shown};
 ghost use Rattle.libtest_mimic.specs.Steps.{WritesSummary};
 ghost use Rattle.libtest_mimic.specs.Stopwatch.{IsRunning};
 
@@ -16,9 +16,10 @@ pub(super) fn write_summary<W: Write, C: Clock>(
     sink: &mut Sink<W>,
     watch: &mut Stopwatch<C>,
 ) -> Result<(), WriteFault>
-    requires room { faults_of sink.old < 2 ^ 64 - 1 }
+    requires room { HasFaultLeft sink.old }
     requires running { IsRunning watch.old }
-    ensures { WritesSummary printer.now conclusion.now (shown W.contents sink.old) (shown W.contents sink.new) watch.new result }
+    ensures { WritesSummary printer.now conclusion.now (shown W.contents sink.old)
+        (shown W.contents sink.new) watch.new result }
 {
     watch.stop();
     let nanos = watch.elapsed().unwrap_or(0);

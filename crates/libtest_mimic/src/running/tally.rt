@@ -1,7 +1,7 @@
 //! What a run keeps of the trials that ran: their counts, and those that failed.
 ghost use Rattle.std.specs.Prelude.{ℕ, ◌≡◌, ◌+◌, ◌-◌, ◌^◌, ◌∷◌, ◌++◌, ◌<◌, [], IfOk, IsOk, List, vec_len};
 ghost use Rattle.mimic_printer.specs.Report.{failures_text};
-ghost use Rattle.mimic_printer.specs.Sink.{Puts, faults_of};
+ghost use Rattle.mimic_printer.specs.Sink.{HasFaultLeft, Puts, faults_of};
 
 use mimic_printer::{Printer, Sink, WriteFault};
 use mimic_trial::{Conclusion, Outcome, TestInfo};
@@ -41,7 +41,8 @@ impl Tally {
     pub(crate) fn record(&mut self, info: TestInfo, outcome: Outcome)
         requires counts { HasRoom self.old.conclusion }
         requires room { HasRoomFor self.old (vec_len self.old.failures + 1) }
-        ensures counted { (filtered_out : ℕ) (rows : List PrintedRow) → HasCounted self.old filtered_out rows
+        ensures counted { (filtered_out : ℕ) (rows : List PrintedRow)
+            → HasCounted self.old filtered_out rows
             → HasCounted self.new filtered_out (rows ++ row_of info outcome ∷ []) }
         ensures room { (count : ℕ) → HasRoomFor self.old count → HasRoomFor self.new count }
     {
@@ -57,8 +58,9 @@ impl Tally {
         printer: &Printer,
         sink: &mut Sink<W>,
     ) -> Result<(), WriteFault>
-        requires { faults_of sink.old < 2 ^ 64 - 1 }
-        ensures { (filtered_out : ℕ) (rows : List PrintedRow) → HasCounted self.now filtered_out rows
+        requires { HasFaultLeft sink.old }
+        ensures { (filtered_out : ℕ) (rows : List PrintedRow)
+            → HasCounted self.now filtered_out rows
             → Puts W.contents sink.old sink.new (failures_text printer.now rows) result }
     {
         printer.print_failures_of(sink, &self.failures)

@@ -1,28 +1,17 @@
 use Rattle.std.proofs.Common.{◌<◌, ◌^◌, arith, length}
-use Rattle.libtest_mimic.proofs.Answered.{adds_up, has_answer, has_json, has_lines, has_reports, has_rows}
+use Rattle.libtest_mimic.specs.Suite.{asking}
+use Rattle.libtest_mimic.proofs.Answered.{has_reports, runs, runs_list}
 use Rattle.libtest_mimic.proofs.running.run_here.Goals as goal
 
-pub returns-then-args-clause-listed : goal.returns-then-args-clause-listed
-returns-then-args-clause-listed g c listed = c.write_list.ensures.listed c.args.auto_colours
+pub returns-then-args-clause-runs : goal.returns-then-args-clause-runs
+returns-then-args-clause-runs g c = runs_list (asking g.R.Task.gives 1 c.args.auto_colours c.args.tests.items c.args.args.now) _ c.if-args.true c.start.ensures (c.write_list.ensures.listed c.args.auto_colours)
+
+pub returns-clause-runs : goal.returns-clause-runs
+returns-clause-runs g c =
+    let few : length c.args.tests.items < 2 ^ 64 = omega (arith, c.args.tests.ok.0, c.args.tests.ok.1, c.args.tests.small) in
+    runs (asking g.R.Task.gives 1 c.args.auto_colours c.args.tests.items c.args.args.now) _ c.select-selected.result _
+    c.select-selected.ensures.args c.select-selected.ensures.selection c.select-selected.ensures.printer c.select-selected.ensures.filtered_out c.run_in_order.ensures.reported c.if-args.false few
 
 pub returns-clause-reported : goal.returns-clause-reported
-returns-clause-reported g c unlisted = has_reports g.R.Task.gives _ c.args.args.now c.args.auto_colours c.args.tests.items c.select-selected.result _ _ _ _ c.select-selected.ensures.args c.select-selected.ensures.selection c.select-selected.ensures.printer c.select-selected.ensures.filtered_out c.run_in_order.ensures.reported
-
-pub returns-clause-answer : goal.returns-clause-answer
-returns-clause-answer g c = has_answer g.R.Task.gives _ c.args.args.now c.args.auto_colours c.args.tests.items c.select-selected.result _ _ _ _ c.select-selected.ensures.args c.select-selected.ensures.selection c.select-selected.ensures.printer c.select-selected.ensures.filtered_out c.run_in_order.ensures.reported
-
-pub returns-clause-adds_up : goal.returns-clause-adds_up
-returns-clause-adds_up g c unlisted = rw (c.args.tests.ok.0) (adds_up g.R.Task.gives _ c.args.args.now c.args.auto_colours c.args.tests.items c.select-selected.result _ _ _ _ c.select-selected.ensures.args c.select-selected.ensures.selection c.select-selected.ensures.printer c.select-selected.ensures.filtered_out c.run_in_order.ensures.reported)
-
-pub returns-clause-lines : goal.returns-clause-lines
-returns-clause-lines g c =
-    let few : length c.args.tests.items < 2 ^ 64 = omega (arith, c.args.tests.ok.0, c.args.tests.ok.1, c.args.tests.small) in
-    has_lines g.R.Task.gives _ c.args.args.now c.args.auto_colours c.args.tests.items c.select-selected.result _ _ _ _ c.select-selected.ensures.args c.select-selected.ensures.selection c.select-selected.ensures.printer c.select-selected.ensures.filtered_out c.run_in_order.ensures.reported few
-
-pub returns-clause-json : goal.returns-clause-json
-returns-clause-json g c =
-    let few : length c.args.tests.items < 2 ^ 64 = omega (arith, c.args.tests.ok.0, c.args.tests.ok.1, c.args.tests.small) in
-    has_json g.R.Task.gives _ c.args.args.now c.args.auto_colours c.args.tests.items c.select-selected.result _ _ _ _ c.select-selected.ensures.args c.select-selected.ensures.selection c.select-selected.ensures.printer c.select-selected.ensures.filtered_out c.run_in_order.ensures.reported few
-
-pub returns-clause-rows : goal.returns-clause-rows
-returns-clause-rows g c = has_rows g.R.Task.gives _ c.args.args.now c.args.auto_colours c.args.tests.items c.select-selected.result _ _ _ _ c.select-selected.ensures.args c.select-selected.ensures.selection c.select-selected.ensures.printer c.select-selected.ensures.filtered_out c.run_in_order.ensures.reported
+returns-clause-reported g c unlisted = has_reports (asking g.R.Task.gives 1 c.args.auto_colours c.args.tests.items c.args.args.now) _ c.select-selected.result _
+    c.select-selected.ensures.args c.select-selected.ensures.selection c.select-selected.ensures.printer c.select-selected.ensures.filtered_out c.run_in_order.ensures.reported

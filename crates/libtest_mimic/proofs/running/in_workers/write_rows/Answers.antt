@@ -14,11 +14,11 @@ pub returns-clause-rows : goal.returns-clause-rows
 returns-clause-rows g c = λ rs bs runners flags dealt.
     let started = c.in-Ok.ensures ∙ ap (jobs_of c.args.test_mode) c.in_ok-starts.ensures.shares in
     match_more c.gather_rows.result _ _ _ _
-    (c.gather_rows.ensures.rows rs bs c.args.shares.items c.args.test_mode (record {
-      some = omega (arith, c.args.shares.ok.0, c.requires.some_worker);
+    (c.gather_rows.ensures.rows rs bs c.args.dealt.shares.items c.args.test_mode (record {
+      some = omega (arith, c.args.dealt.shares.ok.0, c.requires.some_worker);
       runner_each = runners;
       flag_each = flags;
-      dealt = subst (λ (k : ℕ). IsDealt rs bs k c.args.shares.items) c.args.shares.ok.0 dealt;
+      dealt = subst (λ (k : ℕ). IsDealt rs bs k c.args.dealt.shares.items) c.args.dealt.shares.ok.0 dealt;
       started = started;
     }))
     (λ written rows. titled_all g.R.Task.gives c.args.test_mode (assigned_from 0 rs bs) c.args.printer.now c.args.infos.now _ _ _ _ refl c.in_ok-print_title.ensures written.0.items written.1.items rows)

@@ -1,6 +1,7 @@
 use Rattle.std.proofs.Common.{arith, ◌∙◌, ap, eqb, refl, sym}
 use Rattle.std.specs.List.{list_any}
 use Rattle.mimic_pool.specs.Marks.{is_marked}
+use Rattle.mimic_pool.proofs.Reporting.{all_calls}
 use Rattle.mimic_pool.proofs.Seating.{distinct_none}
 use Rattle.mimic_pool.proofs.board.Board.new.Goals as goal
 
@@ -19,3 +20,6 @@ invariant_of-result c =
       kept_room = let room = c.in_ok-kept.ensures.capacity in omega arith;
       closed = omega arith;
     }
+
+pub returns-clause-law : goal.returns-clause-law
+returns-clause-law c = all_calls

@@ -1,6 +1,6 @@
 use Rattle.std.proofs.Common.{◌≡◌, ◌+◌, ◌≤◌}
 use Rattle.std.specs.VecDeque.{deque_capacity, deque_len}
-use Rattle.mimic_pool.proofs.shared.SharedBoard.take_waiting.Given as goal
+use Rattle.mimic_pool.proofs.shared_board.SharedBoard.take_waiting.Given as goal
 
 abbrev pub invariant-loop : goal.invariant-loop
 invariant-loop g l = record {

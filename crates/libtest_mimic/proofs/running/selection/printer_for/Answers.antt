@@ -1,6 +1,6 @@
 use Rattle.std.proofs.Common.{◌∙◌, sym}
 use Rattle.libtest_mimic.proofs.Columns.{Printer-is}
-use Rattle.libtest_mimic.proofs.running.selected.printer_for.Goals as goal
+use Rattle.libtest_mimic.proofs.running.selection.printer_for.Goals as goal
 
 pub returns : goal.returns
 returns g c =

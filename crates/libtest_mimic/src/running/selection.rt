@@ -15,7 +15,7 @@ use mimic_trial::{Task, Trial};
 // What a run goes through: what is asked, the selected trials, the printer of their report, and how many others were
 // filtered out.
 #[derive(Drop)]
-pub(super) struct Selected<'a, R> {
+pub(super) struct Selection<'a, R> {
     pub(super) args: &'a Arguments,
     pub(super) trials: Vec<Trial<R>>,
     pub(super) printer: Printer,
@@ -27,17 +27,18 @@ pub(super) fn select<'a, R: Task>(
     args: &'a Arguments,
     tests: Vec<Trial<R>>,
     auto_colours: bool,
-) -> Selected<'a, R>
+) -> Selection<'a, R>
     ensures args { result.args.now ≡ args.now }
     ensures selection { IsSelection args.now tests.items result.trials.items }
     ensures runnable { AllCanRun R.can_run tests.items → AllCanRun R.can_run result.trials.items }
-    ensures printer { PrintsAs result.printer (printer_for args.now auto_colours (labels_of result.trials.items)) }
+    ensures printer { PrintsAs result.printer
+        (printer_for args.now auto_colours (labels_of result.trials.items)) }
     ensures filtered_out { result.filtered_out ≡ filtered_out_of tests.items result.trials.items }
 {
     let mut trials = tests;
     let filtered_out = drop_others(args, &mut trials);
     let printer = printer_for(args, trials.as_slice(), auto_colours);
-    Selected {
+    Selection {
         args,
         trials,
         printer,
@@ -73,8 +74,10 @@ fn printer_for<R>(args: &Arguments, trials: &[Trial<R>], auto_colours: bool) -> 
 
 // How wide its columns are: only pretty has some, so in other formats the trials are not gone over.
 fn columns_for<R>(format: FormatSetting, trials: &[Trial<R>]) -> (usize, usize)
-    ensures names { format ≡ FormatSetting.Pretty → result.0 ≡ name_width_of (labels_of trials.now) }
-    ensures kinds { format ≡ FormatSetting.Pretty → result.1 ≡ kind_width_of (labels_of trials.now) }
+    ensures names { format ≡ FormatSetting.Pretty
+        → result.0 ≡ name_width_of (labels_of trials.now) }
+    ensures kinds { format ≡ FormatSetting.Pretty
+        → result.1 ≡ kind_width_of (labels_of trials.now) }
 {
     match format {
         FormatSetting::Pretty => widths_of_trials(trials),

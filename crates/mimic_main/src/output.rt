@@ -1,63 +1,15 @@
-//! The buffer between a report and the system.
+//! The buffered output between a report and the system.
 ghost use Rattle.std.specs.Prelude.{◌≡◌, ◌↔◌, ◌+◌, ◌<◌, ◌≤◌, ◌-◌, ◌++◌, ℕ, [], drop, false, length, take, true, IfOk, IsErr, IsOk, IsTrue, Ok, OnErr, OnOk};
 ghost use Rattle.std.specs.Io.{WritesAtMost};
 ghost use Rattle.std.specs.Io.KnownBytes.{Appends, Keeps, WriteAppends};
-ghost use Rattle.mimic_main.specs.Output.{CountsLine, HandsOn, HasRoom, SamePolicy, StaysStopped, ends_line, flushes_by, given_to, goes_out, has_odd_lines, has_stopped, heeds_flush, heeds_text, waiting_of, writer_of};
-ghost use Rattle.mimic_main.specs.declared.buffer.TheConstants.{BLOCK};
+ghost use Rattle.mimic_main.specs.Output.{CountsLine, CanWait, HandsOn, SamePolicy, StaysStopped, ends_line, flushes_by, given_to, goes_out, has_odd_lines, has_stopped, waiting_of, writer_of};
+ghost use Rattle.mimic_main.specs.Policy.{acts_on_flush, goes_out_by};
+ghost use Rattle.mimic_main.specs.declared.output.TheConstants.{BLOCK};
 
+use crate::policy::FlushPolicy;
 use arrayvec::ArrayVec;
-use libtest_mimic::{Arguments, FormatSetting};
 use std::io;
 use std::io::{ErrorKind, Write};
-
-/// When a buffer hands its bytes on to its writer, besides when it has no room and when it is finished.
-#[derive(Clone, Copy, Debug, PartialEq, Eq)]
-pub enum FlushPolicy {
-    /// After each text.
-    Always,
-    /// At each flush.
-    OnFlush,
-    /// After each text that ends a line.
-    OnLineEnd,
-    /// After the first such text, and each second one from there: after a title and each row of two lines.
-    OnOddLineEnd,
-    /// After the second such text, and each second one from there: before each trial runs whose row is two lines, of which
-    /// the first announces it.
-    OnEvenLineEnd,
-    /// At no other time.
-    WhenFull,
-}
-
-impl FlushPolicy {
-    ghost use Rattle.libtest_mimic.specs.Run.{threads_of};
-    ghost use Rattle.mimic_main.specs.Output.{policy_for};
-
-    /// How the output of a run with these arguments is handed on, by so many threads if they name no number, to a terminal
-    /// or not. So a run that is killed has left the title and the row of each trial that has ended, in pretty and JSON.
-    ///
-    /// With one thread an announcement goes out before its trial runs, in one write with the row before it: a pretty report is
-    /// flushed there, and in JSON it is each second line, since the title comes first. With more threads the title goes out
-    /// before a worker starts, and a row in one write when its trial has ended.
-    ///
-    /// Terse has no lines but the first and the last ones, and goes out when they end, and on a terminal mark by mark. A list
-    /// goes out in blocks.
-    pub fn of_run(args: &Arguments, default_threads: usize, is_terminal: bool) -> FlushPolicy
-        ensures { result ≡ policy_for args.now (threads_of args.now default_threads) is_terminal }
-    {
-        if args.list {
-            return FlushPolicy::WhenFull;
-        }
-        let in_workers = args.test_threads.unwrap_or(default_threads) > 1;
-        match args.format_used() {
-            FormatSetting::Pretty if in_workers => FlushPolicy::OnLineEnd,
-            FormatSetting::Pretty => FlushPolicy::OnFlush,
-            FormatSetting::Terse if is_terminal => FlushPolicy::Always,
-            FormatSetting::Terse => FlushPolicy::OnLineEnd,
-            FormatSetting::Json if in_workers => FlushPolicy::OnOddLineEnd,
-            FormatSetting::Json => FlushPolicy::OnEvenLineEnd,
-        }
-    }
-}
 
 // How many bytes wait at most.
 const BLOCK: usize = 8192;
@@ -76,7 +28,7 @@ pub struct Output<W: Write> {
     has_odd_lines: bool,
     has_failed: bool,
     // The fault after the front of a text that was taken. The next call returns it.
-    untold: Option<io::Error>,
+    unreported: Option<io::Error>,
 }
 
 impl<W: Write> Output<W> {
@@ -93,7 +45,7 @@ impl<W: Write> Output<W> {
             policy,
             has_odd_lines: false,
             has_failed: false,
-            untold: None,
+            unreported: None,
         }
     }
 
@@ -101,7 +53,8 @@ impl<W: Write> Output<W> {
     pub fn finish(mut self) -> (W, io::Result<()>)
         ensures whole { OnOk result.1 (Keeps (given_to W.contents self) (W.contents result.0)) }
         ensures beginning { HandsOn (given_to W.contents self) (W.contents result.0) }
-        ensures stopped { has_stopped self ≡ true → IsErr result.1 × (W.contents result.0 ≡ W.contents (writer_of self)) }
+        ensures stopped { has_stopped self ≡ true → IsErr result.1
+            × (W.contents result.0 ≡ W.contents (writer_of self)) }
     {
         let finished = self.hand_on_and_flush();
         let Output {
@@ -110,7 +63,7 @@ impl<W: Write> Output<W> {
             policy: _,
             has_odd_lines: _,
             has_failed: _,
-            untold: _,
+            unreported: _,
         } = self;
         (writer, finished)
     }
@@ -119,7 +72,8 @@ impl<W: Write> Output<W> {
     fn hand_on(&mut self) -> io::Result<()>
         ensures bytes { Keeps (given_to W.contents self.old) (given_to W.contents self.new) }
         ensures empty { OnOk result (waiting_of self.new ≡ []) }
-        ensures front { (n : ℕ) × (n ≤ length (waiting_of self.old)) × (waiting_of self.new ≡ drop n (waiting_of self.old))
+        ensures front { (n : ℕ) × (n ≤ length (waiting_of self.old))
+            × (waiting_of self.new ≡ drop n (waiting_of self.old))
             × Appends (W.contents (writer_of self.old)) (W.contents (writer_of self.new)) (take n (waiting_of self.old)) }
         ensures same { SamePolicy self.old self.new }
         ensures stops { OnErr result (has_stopped self.new ≡ true) }
@@ -146,7 +100,7 @@ impl<W: Write> Output<W> {
         ensures same { SamePolicy self.old self.new }
         ensures stopped { has_stopped self.new ≡ has_stopped self.old }
     {
-        match self.untold.take() {
+        match self.unreported.take() {
             Some(error) => error,
             None => io::Error::from(ErrorKind::BrokenPipe),
         }
@@ -170,17 +124,19 @@ impl<W: Write> Output<W> {
     #[inline(never)]
     fn write_out(&mut self, text: &[u8], ends_line: bool) -> io::Result<usize>
         ensures bound { WritesAtMost result text.now }
-        ensures bytes { WriteAppends (given_to W.contents self.old) (given_to W.contents self.new) result text.now }
+        ensures bytes { WriteAppends (given_to W.contents self.old)
+            (given_to W.contents self.new) result text.now }
         ensures policy { flushes_by self.new ≡ flushes_by self.old }
         ensures lines { IfOk result (CountsLine self.old self.new text.now ends_line) }
-        ensures out { heeds_text (flushes_by self.old) ends_line (has_odd_lines self.old) ≡ true → OnOk result (waiting_of self.new ≡ []) }
+        ensures out { goes_out_by (flushes_by self.old) ends_line (has_odd_lines self.old) ≡ true
+            → OnOk result (waiting_of self.new ≡ []) }
         ensures stops { OnErr result (has_stopped self.new ≡ true) }
         ensures stopped { StaysStopped self.old self.new result }
     {
         if self.has_failed {
             return Err(self.earlier_fault());
         }
-        if text.len() >= BLOCK || self.heeds_text(ends_line) {
+        if text.len() >= BLOCK || self.goes_out(ends_line) {
             let count = self.write_through(text)?;
             self.has_odd_lines ^= ends_line && count == text.len();
             return Ok(count);
@@ -194,12 +150,13 @@ impl<W: Write> Output<W> {
     // Hands on what waits and then the text, in one write if both fit into a block and the writer takes them at once.
     fn write_through(&mut self, text: &[u8]) -> io::Result<usize>
         ensures bound { WritesAtMost result text.now }
-        ensures bytes { WriteAppends (given_to W.contents self.old) (given_to W.contents self.new) result text.now }
+        ensures bytes { WriteAppends (given_to W.contents self.old)
+            (given_to W.contents self.new) result text.now }
         ensures empty { OnOk result (waiting_of self.new ≡ []) }
         ensures same { SamePolicy self.old self.new }
         ensures stops { OnErr result (has_stopped self.new ≡ true) }
     {
-        if !self.waiting.is_empty() && self.has_room(text.len()) {
+        if !self.waiting.is_empty() && self.can_wait(text.len()) {
             return self.write_together(text);
         }
         self.hand_on()?;
@@ -215,7 +172,8 @@ impl<W: Write> Output<W> {
     fn write_together(&mut self, text: &[u8]) -> io::Result<usize>
         requires { length (waiting_of self.old) + length text.now ≤ BLOCK }
         ensures bound { WritesAtMost result text.now }
-        ensures bytes { WriteAppends (given_to W.contents self.old) (given_to W.contents self.new) result text.now }
+        ensures bytes { WriteAppends (given_to W.contents self.old)
+            (given_to W.contents self.new) result text.now }
         ensures empty { OnOk result (waiting_of self.new ≡ []) }
         ensures same { SamePolicy self.old self.new }
         ensures stops { OnErr result (has_stopped self.new ≡ true) }
@@ -225,8 +183,8 @@ impl<W: Write> Output<W> {
         let taken = take_back(&mut self.waiting, text.len());
         match fault {
             Some(error) if taken == 0 => Err(error),
-            untold => {
-                self.untold = untold;
+            unreported => {
+                self.unreported = unreported;
                 Ok(taken)
             }
         }
@@ -246,8 +204,8 @@ impl<W: Write> Output<W> {
     }
 
     // Whether a text goes out at once, which ends a line or not.
-    fn heeds_text(&self, ends_line: bool) -> bool
-        ensures { result ≡ heeds_text (flushes_by self.now) ends_line (has_odd_lines self.now) }
+    fn goes_out(&self, ends_line: bool) -> bool
+        ensures { result ≡ goes_out_by (flushes_by self.now) ends_line (has_odd_lines self.now) }
     {
         match self.policy {
             FlushPolicy::Always => true,
@@ -259,15 +217,15 @@ impl<W: Write> Output<W> {
     }
 
     // Whether what waits goes out at a flush.
-    fn heeds_flush(&self) -> bool
-        ensures { result ≡ heeds_flush (flushes_by self.now) }
+    fn acts_on_flush(&self) -> bool
+        ensures { result ≡ acts_on_flush (flushes_by self.now) }
     {
         matches!(self.policy, FlushPolicy::OnFlush)
     }
 
     // Whether so many bytes more can wait. A whole block does not.
-    fn has_room(&self, count: usize) -> bool
-        ensures { IsTrue result ↔ HasRoom self.now count }
+    fn can_wait(&self, count: usize) -> bool
+        ensures { IsTrue result ↔ CanWait self.now count }
     {
         count < BLOCK && count <= self.waiting.remaining_capacity()
     }
@@ -275,7 +233,8 @@ impl<W: Write> Output<W> {
 
 // Takes so many bytes back from the end of what waits, and returns how many of them wait no longer.
 fn take_back(waiting: &mut ArrayVec<u8, BLOCK>, count: usize) -> usize
-    ensures waiting { waiting.new.items ≡ take (length waiting.old.items - count) waiting.old.items }
+    ensures waiting { waiting.new.items ≡ take
+        (length waiting.old.items - count) waiting.old.items }
     ensures taken { result ≡ count - length waiting.old.items }
 {
     let left = waiting.len();
@@ -288,18 +247,21 @@ impl<W: Write> Write for Output<W> {
 
     fn write(&mut self, buf: &[u8]) -> io::Result<usize>
         ensures bound { WritesAtMost result buf.now }
-        ensures bytes { WriteAppends (given_to W.contents self.old) (given_to W.contents self.new) result buf.now }
+        ensures bytes { WriteAppends (given_to W.contents self.old)
+            (given_to W.contents self.new) result buf.now }
         ensures policy { flushes_by self.new ≡ flushes_by self.old }
         ensures lines { IfOk result (CountsLine self.old self.new buf.now (ends_line buf.now)) }
         ensures out { goes_out self.old buf.now ≡ true → OnOk result (waiting_of self.new ≡ []) }
-        ensures waits { goes_out self.old buf.now ≡ false → HasRoom self.old (length buf.now) → writer_of self.new ≡ writer_of self.old }
-        ensures taken { has_stopped self.old ≡ false → goes_out self.old buf.now ≡ false → HasRoom self.old (length buf.now)
+        ensures waits { goes_out self.old buf.now ≡ false → CanWait self.old (length buf.now)
+            → writer_of self.new ≡ writer_of self.old }
+        ensures taken { has_stopped self.old ≡ false → goes_out self.old buf.now ≡ false
+            → CanWait self.old (length buf.now)
             → (result ≡ Ok (length buf.now)) × (has_stopped self.new ≡ false) }
         ensures stops { OnErr result (has_stopped self.new ≡ true) }
         ensures stopped { StaysStopped self.old self.new result }
     {
         let ends_line = buf.ends_with(b"\n");
-        if self.has_failed || self.heeds_text(ends_line) || !self.has_room(buf.len()) {
+        if self.has_failed || self.goes_out(ends_line) || !self.can_wait(buf.len()) {
             return self.write_out(buf, ends_line);
         }
         self.keep(buf);
@@ -310,14 +272,17 @@ impl<W: Write> Write for Output<W> {
     fn flush(&mut self) -> io::Result<()>
         ensures bytes { Keeps (given_to W.contents self.old) (given_to W.contents self.new) }
         ensures same { SamePolicy self.old self.new }
-        ensures out { heeds_flush (flushes_by self.old) ≡ true → OnOk result (waiting_of self.new ≡ []) }
-        ensures waits { heeds_flush (flushes_by self.old) ≡ false → writer_of self.new ≡ writer_of self.old }
-        ensures unheeded { has_stopped self.old ≡ false → heeds_flush (flushes_by self.old) ≡ false
+        ensures out { acts_on_flush (flushes_by self.old) ≡ true
+            → OnOk result (waiting_of self.new ≡ []) }
+        ensures waits { acts_on_flush (flushes_by self.old) ≡ false
+            → writer_of self.new ≡ writer_of self.old }
+        ensures untouched { has_stopped self.old ≡ false
+            → acts_on_flush (flushes_by self.old) ≡ false
             → IsOk result × (self.new ≡ self.old) }
         ensures stops { OnErr result (has_stopped self.new ≡ true) }
         ensures stopped { StaysStopped self.old self.new result }
     {
-        if self.has_failed || self.heeds_flush() {
+        if self.has_failed || self.acts_on_flush() {
             self.hand_on_and_flush()?;
         }
         Ok(())
@@ -328,7 +293,8 @@ impl<W: Write> Write for Output<W> {
 fn put_all<W: Write>(writer: &mut W, bytes: &[u8]) -> (usize, io::Result<()>)
     ensures bound { result.0 ≤ length bytes.now }
     ensures all { OnOk result.1 (result.0 ≡ length bytes.now) }
-    ensures bytes { Appends (W.contents writer.old) (W.contents writer.new) (take result.0 bytes.now) }
+    ensures bytes { Appends (W.contents writer.old) (W.contents writer.new)
+        (take result.0 bytes.now) }
 {
     let mut taken = 0;
     while taken < bytes.len() {

@@ -1,7 +1,7 @@
 use Rattle.std.proofs.Common.{◌-◌, ℕ, List, length, take, sym, subst}
 use Rattle.std.specs.Io.KnownBytes.{Appends, append_known}
 use Rattle.mimic_main.proofs.TakenBack.{taken-back}
-use Rattle.mimic_main.proofs.buffer.Output.write_together.Goals as goal
+use Rattle.mimic_main.proofs.output.Output.write_together.Goals as goal
 
 pub returns-in_default-clause-bytes : goal.returns-in_default-clause-bytes
 returns-in_default-clause-bytes g c =

@@ -78,9 +78,9 @@ impl SharedBoard {
     {
         let board = self.lock(rt);
         // No wake-up is lost. This thread sleeps only if it saw, under the lock, that no row waits and not all workers have
-        // closed. Two things end that: a report where no row waited, and the last close. Each notifies once it has released
-        // the lock, and a notification after this thread has released it ends the sleep. A report behind a row that waits
-        // need not notify, since the report where none waited has done so or is about to.
+        // closed. Two things end that: a report while no row waits, and the last close. Each notifies once it has released
+        // the lock, and a notification after this thread has released it ends the sleep. A report after a row that waits
+        // need not notify, since the first of these has done so or is about to.
         let mut board = self.has_changed.wait_while(rt, board, |board| {
             !board.has_waiting() && !board.all_closed()
         });

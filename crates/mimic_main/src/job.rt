@@ -1,0 +1,96 @@
+//! What a run is about, and its run into a buffered writer.
+ghost use Rattle.std.specs.Prelude.{◌≡◌, ◌≤◌, Err, IfErr, IfOk, IsOk, Ok};
+ghost use Rattle.mimic_printer.specs.declared.sink.WriteFault.TheVariants.{Error};
+ghost use Rattle.libtest_mimic.specs.declared.running.RunError.TheVariants.{Write};
+ghost use Rattle.libtest_mimic.specs.Trial.{AllCanRun};
+ghost use Rattle.mimic_main.specs.Output.{given_to};
+ghost use Rattle.mimic_main.specs.Run.{GotBeginning, IsLawful, Ran, asked_by};
+
+use crate::output::Output;
+use crate::policy::FlushPolicy;
+use libtest_mimic::{
+    Arguments, Clock, Conclusion, RunError, Sink, Spawner, Stopwatch, Task, Trial, WriteFault, run,
+};
+use std::alloc::Global;
+use std::io;
+use std::io::Write;
+
+/// What a run is about.
+#[derive(Drop)]
+pub struct Job<'a, R, C> {
+    /// What is asked of it.
+    pub args: &'a Arguments,
+    /// The trials of which the arguments select.
+    pub tests: Vec<Trial<R>>,
+    /// What measures its time.
+    pub clock: C,
+    /// How many threads run the trials if the arguments leave it open, at least 1.
+    pub default_threads: usize,
+    /// Whether its report has colours if the arguments leave it open.
+    pub auto_colours: bool,
+}
+
+impl<R, C> Job<'_, R, C> {
+    // How its output is handed on, to a terminal or not.
+    pub(crate) fn policy(&self, is_terminal: bool) -> FlushPolicy {
+        FlushPolicy::of_run(self.args, self.default_threads, is_terminal)
+    }
+}
+
+/// Runs or lists the trials of the job, hands on what the buffer holds at the end, and gives the writer back.
+///
+/// A fault in handing on the last bytes is a fault of the run.
+pub fn run_into<R: Task + Send + 'static, W: Write, C: Clock + Drop, T: Spawner + 'static>(
+    rt: &T,
+    alloc: Global,
+    job: Job<'_, R, C>,
+    output: Output<W>,
+) -> (W, Result<Conclusion, RunError>)
+    requires runnable { AllCanRun R.can_run job.tests.items }
+    requires some_thread { 1 ≤ job.default_threads }
+    ensures ran { IfOk result.1
+        (Ran (asked_by R.gives job.entry) (given_to W.contents output) (W.contents result.0)) }
+    ensures beginning { IfErr result.1
+        (GotBeginning (asked_by R.gives job.entry) (given_to W.contents output) (W.contents result.0)) }
+    ensures lawful { IfOk result.1 (IsLawful (asked_by R.gives job.entry)) }
+{
+    let Job {
+        args,
+        tests,
+        clock,
+        default_threads,
+        auto_colours,
+    } = job;
+    let mut sink = Sink::new(output);
+    let mut watch = Stopwatch::new(clock);
+    let ran = run(
+        rt,
+        alloc,
+        args,
+        tests,
+        &mut sink,
+        &mut watch,
+        default_threads,
+        auto_colours,
+    );
+    let (writer, finished) = sink.into_inner().finish();
+    (writer, settled(ran, finished))
+}
+
+// What a run returned, if what was left could be handed on.
+fn settled(
+    ran: Result<Conclusion, RunError>,
+    finished: io::Result<()>,
+) -> Result<Conclusion, RunError>
+    ensures answered { IfOk result (λ c. ran ≡ Ok c) }
+    ensures finished { IsOk result → IsOk finished }
+    ensures kept { IsOk finished → result ≡ ran }
+    ensures refused { IfErr ran (λ fault. result ≡ Err fault) }
+    ensures cause { IsOk ran → IfErr finished (λ error. result ≡ Err (Write (Error error))) }
+{
+    let conclusion = ran?;
+    match finished {
+        Ok(()) => Ok(conclusion),
+        Err(error) => Err(RunError::Write(WriteFault::Error(error))),
+    }
+}
