@@ -1,8 +1,9 @@
 //! Which cases are found below a folder, what becomes of them, and what is said of a difference.
-use crate::case::first_difference;
+use crate::case::{FileCase, first_difference};
 use crate::folders::trials_below;
-use libtest_mimic::{Outcome, Task};
-use std::alloc::AllocError;
+use libtest_mimic::{Outcome, Task, Trial};
+use std::alloc::{AllocError, Global};
+use std::fs::Files;
 use std::test::Fail;
 use std::{env, fs};
 
@@ -35,22 +36,26 @@ const DIFFERENCES: [(&str, &str, &str); 5] = [
     ),
 ];
 
+// Whether this is said of the first difference.
+fn is_said(alloc: Global, row: &(&str, &str, &str)) -> Result<bool, AllocError> {
+    let (expected, answered, said) = row;
+    match first_difference(expected, answered) {
+        Some(difference) => Ok(difference.to_string(alloc)?.as_str() == *said),
+        None => Ok(false),
+    }
+}
+
 #[test]
 fn tells_the_first_difference(rt: HostRuntime) -> Result<(), AllocError> {
-    for (expected, answered, said) in DIFFERENCES {
-        match first_difference(expected, answered) {
-            Some(difference) => {
-                assert_eq!(rt; difference.to_string(rt.alloc())?.as_str(), said);
-            }
-            None => assert!(rt; false),
-        }
+    for row in &DIFFERENCES {
+        assert!(rt; is_said(rt.alloc(), row)?, "{}", row.2);
     }
     Ok(())
 }
 
 #[test]
 fn equal_texts_do_not_differ(rt: HostRuntime) {
-    for text in ["", "a", "a\nb\n"] {
+    for text in &["", "a", "a\nb\n"] {
         assert!(rt; first_difference(text, text).is_none());
     }
 }
@@ -96,43 +101,66 @@ const CASES: [(&str, &str, Option<&str>); 6] = [
     ("words", "umlaut", None),
 ];
 
+fn write_files<R: Files + AllocGlobal>(rt: &R, folder: &str) -> Result<(), Fail> {
+    let alloc = rt.alloc();
+    fs::create_dir_all(rt, format!(in alloc; "{folder}/words")?.as_str())?;
+    for (file, bytes) in &FILES {
+        fs::write(rt, format!(in alloc; "{folder}/{file}")?.as_str(), *bytes)?;
+    }
+    Ok(())
+}
+
+// Whether the case passes, or else fails with what is said, after the folder.
+fn ends_so<R: Files + AllocGlobal + Drop>(
+    case: FileCase<R>,
+    alloc: Global,
+    folder: &str,
+    said: Option<&str>,
+) -> Result<bool, AllocError> {
+    match (case.run(true), said) {
+        (Outcome::Passed, None) => Ok(true),
+        (Outcome::Failed(failed), Some(said)) => {
+            let message = failed.message().unwrap_or_default();
+            Ok(message.replace(alloc, folder, "")?.as_str() == said)
+        }
+        _ => Ok(false),
+    }
+}
+
+// Whether the trials are the cases, in order.
+fn are_cases<R: Files + AllocGlobal + Drop>(
+    trials: Vec<Trial<FileCase<R>>>,
+    alloc: Global,
+    folder: &str,
+) -> Result<bool, AllocError> {
+    if trials.len() != CASES.len() {
+        return Ok(false);
+    }
+    for (trial, (kind, name, said)) in trials.into_iter().zip(&CASES) {
+        let (info, case) = trial.into_parts();
+        let is_named = info.kind.as_str() == *kind && info.name.as_str() == *name;
+        let is_plain = !info.is_ignored && !info.is_bench;
+        if !is_named || !is_plain || !ends_so(case, alloc, folder, *said)? {
+            return Ok(false);
+        }
+    }
+    Ok(true)
+}
+
 #[test]
 fn finds_and_runs_cases(rt: HostRuntime) -> Result<(), Fail> {
     let alloc = rt.alloc();
     let folder = env::temp_dir(&rt)?
         .join(alloc, "example_files")?
         .into_string();
-    fs::create_dir_all(&rt, format!(in alloc; "{folder}/words")?.as_str())?;
-    for (file, bytes) in FILES {
-        fs::write(&rt, format!(in alloc; "{folder}/{file}")?.as_str(), bytes)?;
-    }
+    write_files(&rt, folder.as_str())?;
     let trials = trials_below(rt, &[folder.clone()?])?;
-    let mut cases = CASES.into_iter();
-    for trial in trials {
-        let (info, case) = trial.into_parts();
-        let Some((kind, name, said)) = cases.next() else {
-            assert!(rt; false);
-            break;
-        };
-        assert_eq!(rt; info.kind.as_str(), kind);
-        assert_eq!(rt; info.name.as_str(), name);
-        assert!(rt; !info.is_ignored && !info.is_bench);
-        match (case.run(true), said) {
-            (Outcome::Passed, None) => {}
-            (Outcome::Failed(failed), Some(said)) => {
-                let message = failed
-                    .message()
-                    .unwrap_or_default()
-                    .replace(alloc, folder.as_str(), "")?;
-                assert_eq!(rt; message.as_str(), said);
-            }
-            _ => assert!(rt; false),
-        }
-    }
-    assert!(rt; cases.next().is_none());
+    assert!(rt; are_cases(trials, alloc, folder.as_str())?);
     fs::remove_dir_all(&rt, folder.as_str())?;
     Ok(())
 }
+
+const MISSING: &str = "cannot read the folder : No such file or directory (os error 2)";
 
 // A folder that can't be read is a test that fails.
 #[test]
@@ -140,16 +168,8 @@ fn tells_of_a_missing_folder(rt: HostRuntime) -> Result<(), Fail> {
     let alloc = rt.alloc();
     for trial in trials_below(rt, &[String::from_str(alloc, "/nowhere")?])? {
         let (info, case) = trial.into_parts();
-        assert_eq!(rt; info.name.as_str(), "/nowhere");
-        match case.run(true) {
-            Outcome::Failed(failed) => {
-                assert_eq!(rt;
-                    failed.message(),
-                    Some("cannot read the folder /nowhere: No such file or directory (os error 2)")
-                );
-            }
-            _ => assert!(rt; false),
-        }
+        assert!(rt; info.name.as_str() == "/nowhere");
+        assert!(rt; ends_so(case, alloc, "/nowhere", Some(MISSING))?);
     }
     Ok(())
 }

@@ -11,3 +11,15 @@ mod runs;
 mod texts;
 mod threads;
 mod writers;
+
+// A text of four parts, and the same with the second and the third the other way round.
+macro_rules! in_both_orders {
+    ($title:literal, $first:literal, $second:literal, $end:literal) => {
+        [
+            concat!($title, $first, $second, $end),
+            concat!($title, $second, $first, $end),
+        ]
+    };
+}
+
+use in_both_orders;

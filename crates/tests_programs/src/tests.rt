@@ -2,5 +2,7 @@
 mod clocks;
 mod faults;
 mod harness;
+mod machines;
 mod outputs;
 mod programs;
+mod runs;

@@ -1,5 +1,6 @@
 //! Rows that arrive otherwise than their workers answer.
-ghost use Rattle.std.specs.Prelude.{All};
+ghost use Rattle.std.specs.Prelude.{All, length};
+ghost use Rattle.libtest_mimic.specs.Gathering.{IsReadyFor};
 ghost use Rattle.libtest_mimic.specs.Share.{AllRunners};
 
 use libtest_mimic::pool::{
@@ -16,7 +17,7 @@ const NAMES: [&str; 4] = ["a", "b", "c", "d"];
 // Tests of these names, without a kind.
 fn infos_of_all(alloc: Global) -> Result<Vec<TestInfo>, AllocError> {
     let mut infos = Vec::new(alloc);
-    for name in NAMES {
+    for name in &NAMES {
         infos.push(TestInfo {
             name: String::from_str(alloc, name)?,
             kind: String::new(alloc),
@@ -37,8 +38,26 @@ fn shares_of(alloc: Global, tests: usize) -> Result<Vec<Share<Known>>, AllocErro
     deal(alloc, runners, ignored, 2)
 }
 
+// The place that the rows are refused for, and how many faults the sink has counted then.
+fn gathered<T: Task + Send + 'static, R: Spawner + 'static>(
+    rt: &R,
+    infos: &[TestInfo],
+    started: Started<T>,
+    writer: FaultyWriter,
+) -> (Option<usize>, u64)
+    requires { IsReadyFor started (length infos.now) }
+{
+    let printer = Printer::new(FormatSetting::Json, false, 0, 0);
+    let mut sink = Sink::new(writer);
+    let differs = match gather_rows(rt, &printer, infos, started, &mut sink) {
+        Err(RunError::Arrival { place }) => Some(place),
+        _ => None,
+    };
+    (differs, sink.faults())
+}
+
 // Somebody reports the last and the second test as ignored before their workers start. The place that the rows are refused
-// for, and how many faults the sink has counted then.
+// for, and how many faults the sink has counted then, if a write at the place fails.
 fn gather_with_lies<T: Task + Send + 'static, R: Spawner + 'static>(
     rt: &R,
     alloc: Global,
@@ -69,13 +88,8 @@ fn gather_with_lies<T: Task + Send + 'static, R: Spawner + 'static>(
         desk,
         room,
     };
-    let printer = Printer::new(FormatSetting::Json, false, 0, 0);
-    let mut sink = Sink::new(FaultyWriter::new(alloc).failing(place, Fault::TakesNone));
-    let differs = match gather_rows(rt, &printer, infos, started, &mut sink) {
-        Err(RunError::Arrival { place }) => Some(place),
-        _ => None,
-    };
-    Ok((differs, sink.faults()))
+    let writer = FaultyWriter::new(alloc).failing(place, Fault::TakesNone);
+    Ok(gathered(rt, infos, started, writer))
 }
 
 // The least place that differs is named, and not the first to arrive; also after a write fault, here in the second row.
@@ -86,7 +100,7 @@ fn names_the_least_place_that_differs(rt: HostRuntime) -> Result<(), Fail> {
     for (place, faults) in [(Place::Nowhere, 0), (Place::Write(3), 1)] {
         let shares = shares_of(alloc, infos.len())?;
         let left = gather_with_lies(&rt, alloc, &infos, shares, place)?;
-        assert_eq!(rt; left, (Some(1), faults));
+        assert!(rt; left == (Some(1), faults));
     }
     Ok(())
 }

@@ -1,10 +1,11 @@
 //! Lists into writers that fail.
 use super::faulty_writer::FAULTS;
 use super::runs::{asking, run_into};
-use libtest_mimic::{FormatSetting, Outcome, Task, TestInfo, Trial};
+use libtest_mimic::{Arguments, FormatSetting, Outcome, Spawner, Task, TestInfo, Trial};
 use mimic_testkit::{Fault, FaultyWriter, Place};
 use std::alloc::{AllocError, Global};
 use std::io::ErrorKind;
+use std::process::Abort;
 use std::test::Fail;
 
 // What is listed and never run.
@@ -35,10 +36,9 @@ fn listed(
 }
 
 fn all_listed(alloc: Global) -> Result<Vec<Trial<Unrun>>, AllocError> {
-    let tests = vec![in alloc;
-        listed(alloc, "a", "b", false)?,
-        listed(alloc, "", "c", true)?,
-    ]?;
+    let mut tests = Vec::with_capacity(alloc, 2)?;
+    tests.push(listed(alloc, "a", "b", false)?)?;
+    tests.push(listed(alloc, "", "c", true)?)?;
     Ok(tests)
 }
 
@@ -59,6 +59,56 @@ fn may_stand(place: Place, len: usize) -> bool {
     }
 }
 
+// Whether the list is stopped by the fault of this writer, after a beginning of its text that may stand then, and the watch
+// runs on.
+fn stops<T: Spawner + 'static>(
+    rt: &T,
+    alloc: Global,
+    args: &Arguments,
+    writer: FaultyWriter,
+) -> Result<bool, AllocError> {
+    let (place, fault) = (writer.place, writer.fault);
+    let left = run_into(rt, alloc, args, all_listed(alloc)?, writer);
+    let bytes = left.writer.bytes.as_slice();
+    Ok(
+        left.is_stopped_by(Some(told_at(place, fault)))
+            && LIST.starts_with(bytes)
+            && may_stand(place, bytes.len())
+            && left.is_running,
+    )
+}
+
+// The places where a list that is written whole, so many bytes a write at most, can fail.
+fn places_of_list<T: Spawner + 'static>(
+    rt: &T,
+    alloc: Global,
+    args: &Arguments,
+    most: usize,
+) -> Result<Vec<Place>, Fail> {
+    let writer = FaultyWriter::new(alloc).taking(most);
+    let ample = run_into(rt, alloc, args, all_listed(alloc)?, writer).writer;
+    if ample.bytes.as_slice() != LIST || ample.flushes != 1 {
+        return Err(Fail::new("the list is not whole"));
+    }
+    Ok(ample.places(alloc)?)
+}
+
+// The list is stopped at this place in each way.
+fn check_place<T: Spawner + Abort + 'static>(
+    rt: &T,
+    alloc: Global,
+    args: &Arguments,
+    most: usize,
+    place: Place,
+) -> Result<(), AllocError> {
+    for (fault, lasts) in &FAULTS {
+        let mut writer = FaultyWriter::new(alloc).taking(most).failing(place, *fault);
+        writer.lasts = *lasts;
+        assert!(rt; stops(rt, alloc, args, writer)?, "{place:?}");
+    }
+    Ok(())
+}
+
 // The threads that a list has no use for, and the most bytes that a write takes.
 const LISTED: [(Option<usize>, usize); 4] = [(None, 1), (None, 3), (Some(2), 1), (Some(2), 3)];
 
@@ -68,26 +118,11 @@ const LISTED: [(Option<usize>, usize); 4] = [(None, 1), (None, 3), (Some(2), 1),
 #[test]
 fn stops_a_list_at_each_place(rt: HostRuntime) -> Result<(), Fail> {
     let alloc = rt.alloc();
-    for (threads, most) in LISTED {
-        let mut args = asking(alloc, FormatSetting::Json, threads);
+    for (threads, most) in &LISTED {
+        let mut args = asking(alloc, FormatSetting::Json, *threads);
         args.list = true;
-        let ample = FaultyWriter::new(alloc).taking(most);
-        let ample = run_into(&rt, alloc, &args, all_listed(alloc)?, ample).writer;
-        assert!(rt; ample.bytes.as_slice() == LIST);
-        assert_eq!(rt; ample.flushes, 1);
-        for place in ample.places(alloc)? {
-            for (fault, lasts) in FAULTS {
-                let mut writer = FaultyWriter::new(alloc).taking(most).failing(place, fault);
-                writer.lasts = lasts;
-                let left = run_into(&rt, alloc, &args, all_listed(alloc)?, writer);
-                assert!(rt;
-                    left.is_stopped_by(Some(told_at(place, fault))),
-                    "{place:?}"
-                );
-                assert!(rt; LIST.starts_with(&left.writer.bytes), "{place:?}");
-                assert!(rt; may_stand(place, left.writer.bytes.len()), "{place:?}");
-                assert!(rt; left.is_running, "{place:?}");
-            }
+        for place in &places_of_list(&rt, alloc, &args, *most)? {
+            check_place(&rt, alloc, &args, *most, *place)?;
         }
     }
     Ok(())

@@ -1,62 +1,65 @@
 //! Refused memory: what may be returned if the Nth allocation fails, for any N. `bench/refuse_memory` makes each fail in
 //! turn; without it none does, and a test shows what comes with ample memory alone. All that is handed in is made
 //! beforehand; if that fails, a test says nothing.
-use super::runs::{Left, Marks, asking, marking, outcome_with, roomy, run_into};
-use libtest_mimic::{Arguments, ArgumentsError, FormatSetting, Outcome, RunError, Trial};
+use super::in_both_orders;
+use super::runs::{Becomes, Left, asking, becoming, roomy, run_into};
+use libtest_mimic::{Arguments, ArgumentsError, FormatSetting, RunError, Spawner, Trial};
+use mimic_testkit::FaultyWriter;
 use std::alloc::{AllocError, Global};
 use std::test::Fail;
 
-// The title, both rows, and the summary of a run of two tests.
-const PARTS: [&[u8]; 4] = [
-    b"{ \"type\": \"suite\", \"event\": \"started\", \"test_count\": 2 }\n",
-    b"{ \"type\": \"test\", \"event\": \"started\", \"name\": \"a\" }\n{ \"type\": \"test\", \"name\": \"a\", \"event\": \"ok\" }\n",
-    b"{ \"type\": \"test\", \"event\": \"started\", \"name\": \"b\", \"kind\": \"k\" }\n{ \"type\": \"test\", \"name\": \"b\", \"kind\": \"k\", \"event\": \"failed\", \"stdout\": \"Error: \\\"Woops\\\"\\n\" }\n",
-    b"{ \"type\": \"suite\", \"event\": \"failed\", \"passed\": 1, \"failed\": 1, \"ignored\": 0, \"measured\": 0, \"filtered_out\": 0, \"exec_time\": 0 }\n",
-];
+const TITLE: &[u8] = b"{ \"type\": \"suite\", \"event\": \"started\", \"test_count\": 2 }\n";
 
-// Those parts in this order.
-fn joined(alloc: Global, order: [usize; 4]) -> Result<Vec<u8>, Fail> {
-    let mut bytes = Vec::new(alloc);
-    for part in order {
-        bytes.extend_from_slice(PARTS.get(part).ok_or("no such part")?)?;
-    }
-    Ok(bytes)
-}
+// The reports of a run of two tests.
+const REPORTS: [&str; 2] = in_both_orders!(
+    "{ \"type\": \"suite\", \"event\": \"started\", \"test_count\": 2 }\n",
+    "{ \"type\": \"test\", \"event\": \"started\", \"name\": \"a\" }\n{ \"type\": \"test\", \"name\": \"a\", \"event\": \"ok\" }\n",
+    "{ \"type\": \"test\", \"event\": \"started\", \"name\": \"b\", \"kind\": \"k\" }\n{ \"type\": \"test\", \"name\": \"b\", \"kind\": \"k\", \"event\": \"failed\", \"stdout\": \"Error: \\\"Woops\\\"\\n\" }\n",
+    "{ \"type\": \"suite\", \"event\": \"failed\", \"passed\": 1, \"failed\": 1, \"ignored\": 0, \"measured\": 0, \"filtered_out\": 0, \"exec_time\": 0 }\n"
+);
 
-fn two_tests(alloc: Global) -> Result<Vec<Trial<Marks>>, AllocError> {
-    let (first, _) = marking(alloc, "a", Outcome::Passed)?;
-    let (second, _) = marking(alloc, "b", outcome_with(alloc, Some("Woops"))?)?;
+fn two_tests(alloc: Global) -> Result<Vec<Trial<Becomes>>, AllocError> {
+    let mut tests = Vec::with_capacity(alloc, 2)?;
+    tests.push(becoming(alloc, "a", None)?)?;
     let kind = String::from_str(alloc, "k")?;
-    let tests = vec![in alloc; first, second.with_kind(kind)]?;
+    tests.push(becoming(alloc, "b", Some("Woops"))?.with_kind(kind))?;
     Ok(tests)
 }
 
+// What a run of the two tests with these arguments leaves.
+fn run_two<T: Spawner + 'static>(
+    rt: &T,
+    alloc: Global,
+    args: &Arguments,
+) -> Result<Left<FaultyWriter>, AllocError> {
+    let tests = two_tests(alloc)?;
+    Ok(run_into(rt, alloc, args, tests, roomy(alloc)?))
+}
+
 // Whether a run may leave this if it wants memory or, with workers, threads.
-fn is_allowed(left: &Left, threads: usize, reports: &[Vec<u8>; 2]) -> bool {
-    let bytes = &left.writer.bytes;
+fn is_allowed(left: &Left<FaultyWriter>, threads: usize) -> bool {
+    let bytes = left.writer.bytes.as_slice();
     match &left.answer {
-        Ok(_) => bytes == &reports[0] || threads > 1 && bytes == &reports[1],
+        Ok(_) => { bytes == REPORTS[0].as_bytes() || threads > 1 && bytes == REPORTS[1].as_bytes() }
         Err(RunError::OutOfMemory) => bytes.is_empty(),
-        Err(RunError::Spawn) => threads > 1 && bytes.as_slice() == PARTS[0],
+        Err(RunError::Spawn) => threads > 1 && bytes == TITLE,
         Err(_) => false,
     }
 }
 
 #[test]
 fn runs_whole_or_not_at_all(rt: HostRuntime) -> Result<(), Fail> {
-    let alloc = rt.alloc();
-    let reports = [joined(alloc, [0, 1, 2, 3])?, joined(alloc, [0, 2, 1, 3])?];
     for threads in [None, Some(1), Some(2)] {
-        let args = asking(alloc, FormatSetting::Json, threads);
-        let left = run_into(&rt, alloc, &args, two_tests(alloc)?, roomy(alloc)?);
-        assert!(rt;
-            is_allowed(&left, threads.unwrap_or(1), &reports),
-            "{threads:?}"
-        );
-        assert_eq!(rt; left.faults, 0);
+        let args = asking(rt.alloc(), FormatSetting::Json, threads);
+        let left = run_two(&rt, rt.alloc(), &args)?;
+        assert!(rt; is_allowed(&left, threads.unwrap_or(1)), "{threads:?}");
+        assert!(rt; left.faults == 0);
     }
     Ok(())
 }
+
+const NONE_SELECTED: &[u8] =
+    b"\nrunning 0 tests\n\ntest result: ok. 0 passed; 0 failed; 0 ignored; 0 measured; 2 filtered out; finished in 0.00s\n\n";
 
 // A list, and a run of no selected trial.
 #[test]
@@ -65,55 +68,46 @@ fn wants_no_memory_for_a_list(rt: HostRuntime) -> Result<(), Fail> {
     for threads in [None, Some(1), Some(2)] {
         let mut args = asking(alloc, FormatSetting::Pretty, threads);
         args.list = true;
-        let left = run_into(&rt, alloc, &args, two_tests(alloc)?, roomy(alloc)?);
+        let left = run_two(&rt, alloc, &args)?;
         assert!(rt; left.is_stopped_by(None), "{threads:?}");
         assert!(rt; left.writer.bytes.as_slice() == b"a: test\n[k] b: test\n".as_slice());
         args.list = false;
         args.skip.push(String::new(alloc))?;
-        let left = run_into(&rt, alloc, &args, two_tests(alloc)?, roomy(alloc)?);
+        let left = run_two(&rt, alloc, &args)?;
         assert!(rt; left.is_stopped_by(None), "{threads:?}");
-        assert!(rt;
-            left.writer
-                .bytes
-                .starts_with(b"\nrunning 0 tests\n\ntest result: ok.")
-        );
-        assert_eq!(rt;
-            left.writer
-                .bytes
-                .iter()
-                .filter(|byte| **byte == b'\n')
-                .count(),
-            5
-        );
+        assert!(rt; left.writer.bytes.as_slice() == NONE_SELECTED);
     }
     Ok(())
 }
 
+const WORDS: [&str; 7] = [
+    "harness",
+    "--skip",
+    "a",
+    "--format=json",
+    "--logfile",
+    "log",
+    "b",
+];
+
+// Whether these are what the words say.
+fn are_of_words(args: &Arguments) -> bool {
+    args.skip.len() == 1
+        && args.skip[0].as_str() == "a"
+        && args.filter.len() == 1
+        && args.filter[0].as_str() == "b"
+        && args.format == Some(FormatSetting::Json)
+        && args
+            .logfile
+            .as_ref()
+            .is_some_and(|path| path.as_str() == "log")
+}
+
 #[test]
-fn reads_a_line_or_wants_memory(rt: HostRuntime) -> Result<(), Fail> {
-    let alloc = rt.alloc();
-    let words = [
-        "harness",
-        "--skip",
-        "a",
-        "--format=json",
-        "--logfile",
-        "log",
-        "b",
-    ];
-    match &Arguments::from_iter(alloc, &words) {
-        Ok(args) => {
-            assert!(rt; args.skip.len() == 1 && args.skip[0].as_str() == "a");
-            assert!(rt; args.filter.len() == 1 && args.filter[0].as_str() == "b");
-            assert!(rt; args.format == Some(FormatSetting::Json));
-            assert!(rt;
-                args.logfile
-                    .as_ref()
-                    .is_some_and(|path| path.as_str() == "log")
-            );
-        }
+fn reads_a_line_or_wants_memory(rt: HostRuntime) {
+    match &Arguments::from_iter(rt.alloc(), &WORDS) {
+        Ok(args) => assert!(rt; are_of_words(args)),
         Err(ArgumentsError::OutOfMemory) => {}
         Err(_) => assert!(rt; false),
     }
-    Ok(())
 }

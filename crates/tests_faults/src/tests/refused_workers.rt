@@ -1,27 +1,51 @@
 //! Memory refused to workers. `bench/refuse_memory` refuses each request in turn, and looks for the errors that these tests
 //! return; if nothing is refused, each run is whole.
-use super::runs::{asking, marking, outcome_with, roomy, run_into};
+use super::runs::{Left, asking, becoming, roomy, run_into};
 use libtest_mimic::{FormatSetting, Outcome, RunError, Task, Trial};
+use mimic_testkit::FaultyWriter;
+use std::alloc::{AllocError, Global};
+use std::rt::Clock;
 use std::sync::Arc;
-use std::sync::atomic::{AtomicBool, Ordering};
+use std::sync::atomic::{AtomicU64, Ordering};
 use std::test::Fail;
 use std::thread;
 use std::time::Duration;
 
-// Says that it began and, some milliseconds later, that it has ended.
+// Counts that it began and, some milliseconds later, that it has ended.
 #[derive(Drop)]
-struct Slow {
-    rt: HostRuntime,
-    began: Arc<AtomicBool>,
-    ended: Arc<AtomicBool>,
+struct Slow<M> {
+    machine: M,
+    steps: Arc<AtomicU64>,
 }
 
-impl Task for Slow {
+impl<M: Clock + Drop> Task for Slow<M> {
     fn run(self, _test_mode: bool) -> Outcome {
-        self.began.store(true, Ordering::SeqCst);
-        thread::sleep(&self.rt, Duration::from_millis(20));
-        self.ended.store(true, Ordering::SeqCst);
+        self.steps.fetch_add(1, Ordering::SeqCst);
+        thread::sleep(&self.machine, Duration::from_millis(20));
+        self.steps.fetch_add(1, Ordering::SeqCst);
         Outcome::Passed
+    }
+}
+
+fn slow_trial<M: Clock + Drop>(
+    machine: M,
+    alloc: Global,
+    name: &str,
+    steps: &Arc<AtomicU64>,
+) -> Result<Trial<Slow<M>>, AllocError> {
+    let steps = Arc::try_clone(steps)?;
+    let name = String::from_str(alloc, name)?;
+    Ok(Trial::new(name, Slow { machine, steps }))
+}
+
+// The bytes that a run leaves by its answer, if a worker can't be started, or if there was no memory before; of a whole run
+// any.
+fn may_stand(left: &Left<FaultyWriter>) -> bool {
+    let bytes = left.writer.bytes.as_slice();
+    match &left.answer {
+        Ok(_) => true,
+        Err(RunError::Spawn) => bytes == b"\nrunning 2 tests\n".as_slice(),
+        Err(_) => bytes.is_empty(),
     }
 }
 
@@ -31,37 +55,20 @@ impl Task for Slow {
 fn joins_started_workers(rt: HostRuntime) -> Result<(), Fail> {
     let alloc = rt.alloc();
     let args = asking(alloc, FormatSetting::Pretty, Some(2));
-    let began = Arc::new(alloc, AtomicBool::new(false))?;
-    let ended = Arc::new(alloc, AtomicBool::new(false))?;
-    let slow = Slow {
-        rt,
-        began: began.clone()?,
-        ended: ended.clone()?,
-    };
-    let other = Slow {
-        rt,
-        began: Arc::new(alloc, AtomicBool::new(false))?,
-        ended: Arc::new(alloc, AtomicBool::new(false))?,
-    };
-    let tests = vec![in alloc;
-        Trial::new(String::from_str(alloc, "a")?, slow),
-        Trial::new(String::from_str(alloc, "b")?, other),
-    ]?;
+    let steps = Arc::new(alloc, AtomicU64::new(0))?;
+    let mut tests = Vec::with_capacity(alloc, 2)?;
+    tests.push(slow_trial(rt, alloc, "a", &steps)?)?;
+    tests.push(slow_trial(rt, alloc, "b", &steps)?)?;
     let left = run_into(&rt, alloc, &args, tests, roomy(alloc)?);
-    let has_ended = ended.load(Ordering::SeqCst);
-    thread::sleep(&rt, Duration::from_millis(10));
-    assert_eq!(rt; began.load(Ordering::SeqCst), has_ended);
-    assert_eq!(rt; left.faults, 0);
+    let taken = steps.load(Ordering::SeqCst);
+    thread::sleep(&rt, Duration::from_millis(30));
+    assert!(rt; taken % 2 == 0 && steps.load(Ordering::SeqCst) == taken);
+    assert!(rt; left.faults == 0);
+    assert!(rt; may_stand(&left));
     match left.answer {
         Ok(_) => Ok(()),
-        Err(RunError::Spawn) => {
-            assert!(rt; left.writer.bytes.as_slice() == b"\nrunning 2 tests\n".as_slice());
-            Err(Fail::new("a worker could not be started"))
-        }
-        Err(error) => {
-            assert!(rt; left.writer.bytes.is_empty());
-            Err(error.into())
-        }
+        Err(RunError::Spawn) => Err(Fail::new("a worker could not be started")),
+        Err(error) => Err(error.into()),
     }
 }
 
@@ -71,14 +78,14 @@ const WOOPS: &[u8] = br#"{ "type": "suite", "event": "started", "test_count": 1 
 { "type": "suite", "event": "failed", "passed": 0, "failed": 1, "ignored": 0, "measured": 0, "filtered_out": 0, "exec_time": 0 }
 "#;
 
-// The row of a failure whose copy was refused is written from what its worker returned when it was joined: a run with one worker
-// that returns `Ok` though a request was refused.
+// The row of a failure whose copy was refused is written from what its worker returned when it was joined: a run with one
+// worker that returns `Ok` though a request was refused.
 #[test]
 fn writes_a_row_that_could_not_be_copied(rt: HostRuntime) -> Result<(), Fail> {
     let alloc = rt.alloc();
     let args = asking(alloc, FormatSetting::Json, Some(2));
-    let (trial, _) = marking(alloc, "a", outcome_with(alloc, Some("Woops"))?)?;
-    let tests = vec![in alloc; trial]?;
+    let mut tests = Vec::with_capacity(alloc, 1)?;
+    tests.push(becoming(alloc, "a", Some("Woops"))?)?;
     let left = run_into(&rt, alloc, &args, tests, roomy(alloc)?);
     left.answer?;
     assert!(rt; left.writer.bytes.as_slice() == WOOPS);

@@ -1,4 +1,5 @@
 //! Runs of trials that are plain data, into writers that may fail.
+ghost use Rattle.std.specs.Prelude.{◌≤◌};
 ghost use Rattle.mimic_trial.specs.Trial.{AllCanRun};
 
 use libtest_mimic::{
@@ -7,21 +8,15 @@ use libtest_mimic::{
 };
 use mimic_testkit::{Fault, FaultyWriter, TwoReadings};
 use std::alloc::{AllocError, Global};
-use std::sync::Arc;
-use std::sync::atomic::{AtomicBool, Ordering};
+use std::io::Write;
 
-// Raises its flag, and becomes its outcome. It takes no memory.
+// A runner that becomes this outcome. It takes no memory.
 #[derive(Drop)]
-pub(super) struct Marks {
-    ran: Arc<AtomicBool>,
-    outcome: Outcome,
-}
+pub(super) struct Becomes(pub(super) Outcome);
 
-impl Task for Marks {
+impl Task for Becomes {
     fn run(self, _test_mode: bool) -> Outcome {
-        let Marks { ran, outcome } = self;
-        ran.store(true, Ordering::SeqCst);
-        outcome
+        self.0
     }
 }
 
@@ -36,16 +31,14 @@ pub(super) fn outcome_with(alloc: Global, message: Option<&str>) -> Result<Outco
     }
 }
 
-// A trial of this name that becomes the outcome, and the flag that it raises.
-pub(super) fn marking(
+// A trial of this name that fails with the message, or else passes.
+pub(super) fn becoming(
     alloc: Global,
     name: &str,
-    outcome: Outcome,
-) -> Result<(Trial<Marks>, Arc<AtomicBool>), AllocError> {
-    let flag = Arc::new(alloc, AtomicBool::new(false))?;
-    let ran = Arc::try_clone(&flag)?;
-    let trial = Trial::new(String::from_str(alloc, name)?, Marks { ran, outcome });
-    Ok((trial, flag))
+    message: Option<&str>,
+) -> Result<Trial<Becomes>, AllocError> {
+    let outcome = outcome_with(alloc, message)?;
+    Ok(Trial::new(String::from_str(alloc, name)?, Becomes(outcome)))
 }
 
 // What asks for this format, and for so many threads.
@@ -65,14 +58,30 @@ pub(super) fn roomy(alloc: Global) -> Result<FaultyWriter, AllocError> {
 
 // What a run leaves.
 #[derive(Drop)]
-pub(super) struct Left {
+pub(super) struct Left<W> {
     pub(super) answer: Result<Conclusion, RunError>,
     pub(super) faults: u64,
-    pub(super) writer: FaultyWriter,
+    pub(super) writer: W,
     pub(super) is_running: bool,
 }
 
-impl Left {
+impl<W> Left<W> {
+    // How many trials passed, failed, were ignored, were measured and were filtered out, unless the run was refused.
+    pub(super) fn counts(&self) -> Option<[u64; 5]> {
+        match &self.answer {
+            Ok(counts) => Some([
+                counts.num_passed,
+                counts.num_failed,
+                counts.num_ignored,
+                counts.num_measured,
+                counts.num_filtered_out,
+            ]),
+            Err(_) => None,
+        }
+    }
+}
+
+impl Left<FaultyWriter> {
     // Whether the run was refused for this fault, which it counted once, or not refused if there is none; and asked
     // nothing of the writer after it.
     pub(super) fn is_stopped_by(&self, fault: Option<Fault>) -> bool {
@@ -88,27 +97,64 @@ impl Left {
     }
 }
 
-// By `run` if the arguments give a number of threads, else by `run_here`.
+// By workers, as many as the arguments say, or else as there are processors.
+pub(super) fn run_in_workers<R: Task + Send + 'static, W: Write, T: Spawner + 'static>(
+    rt: &T,
+    alloc: Global,
+    args: &Arguments,
+    tests: Vec<Trial<R>>,
+    writer: W,
+    processors: usize,
+) -> Left<W>
+    requires runnable { AllCanRun R.can_run tests.items }
+    requires some_thread { 1 ≤ processors }
+{
+    let mut sink = Sink::new(writer);
+    let mut watch = Stopwatch::new(TwoReadings::still());
+    let answer = run(
+        rt, alloc, args, tests, &mut sink, &mut watch, processors, false,
+    );
+    Left {
+        answer,
+        faults: sink.faults(),
+        writer: sink.into_inner(),
+        is_running: watch.is_running(),
+    }
+}
+
+// By the calling thread.
+fn run_in_place<R: Task, W: Write>(
+    alloc: Global,
+    args: &Arguments,
+    tests: Vec<Trial<R>>,
+    writer: W,
+) -> Left<W>
+    requires { AllCanRun R.can_run tests.items }
+{
+    let mut sink = Sink::new(writer);
+    let mut watch = Stopwatch::new(TwoReadings::still());
+    let answer = run_here(alloc, args, tests, &mut sink, &mut watch, false);
+    Left {
+        answer,
+        faults: sink.faults(),
+        writer: sink.into_inner(),
+        is_running: watch.is_running(),
+    }
+}
+
+// By workers if the arguments give a number of threads, else by the calling thread.
 pub(super) fn run_into<R: Task + Send + 'static, T: Spawner + 'static>(
     rt: &T,
     alloc: Global,
     args: &Arguments,
     tests: Vec<Trial<R>>,
     writer: FaultyWriter,
-) -> Left
+) -> Left<FaultyWriter>
     requires { AllCanRun R.can_run tests.items }
 {
-    let mut sink = Sink::new(writer);
-    let mut watch = Stopwatch::new(TwoReadings::still());
-    let answer = if args.test_threads.is_some() {
-        run(rt, alloc, args, tests, &mut sink, &mut watch, 1, false)
+    if args.test_threads.is_some() {
+        run_in_workers(rt, alloc, args, tests, writer, 1)
     } else {
-        run_here(alloc, args, tests, &mut sink, &mut watch, false)
-    };
-    Left {
-        answer,
-        faults: sink.faults(),
-        writer: sink.into_inner(),
-        is_running: watch.is_running(),
+        run_in_place(alloc, args, tests, writer)
     }
 }

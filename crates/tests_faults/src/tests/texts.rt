@@ -1,5 +1,5 @@
 //! Names, kinds and messages that look like other parts of a report: what is written of them, and what is read back.
-use super::runs::{asking, marking, outcome_with, run_into};
+use super::runs::{Left, asking, becoming, outcome_with, run_into};
 use libtest_mimic::{FormatSetting, Outcome, Spawner};
 use mimic_events::{Feed, Report, read_report};
 use mimic_testkit::FaultyWriter;
@@ -94,7 +94,7 @@ const FAILED: &str = r#" }
 // The four lines of a run of this one trial.
 fn four_lines(alloc: Global, vector: Vector) -> Result<String, AllocError> {
     let mut text = String::new(alloc);
-    for part in [
+    for part in &[
         "{ \"type\": \"suite\", \"event\": \"started\", \"test_count\": 1 }\n",
         "{ \"type\": \"test\", \"event\": \"started\", \"name\": \"",
         vector.written,
@@ -151,10 +151,10 @@ fn shown(alloc: Global, vector: Vector) -> Result<String, AllocError> {
         ],
     };
     let mut text = String::new(alloc);
-    for part in announcement {
+    for part in &announcement {
         text.push_str(part)?;
     }
-    for part in end {
+    for part in &end {
         text.push_str(part)?;
     }
     Ok(text)
@@ -177,16 +177,12 @@ fn written<T: Spawner + 'static>(
     format: FormatSetting,
     threads: Option<usize>,
 ) -> Result<Vec<u8>, AllocError> {
-    let outcome = outcome_with(alloc, vector.message)?;
-    let (trial, _) = marking(alloc, vector.name, outcome)?;
-    let kind = String::from_str(alloc, vector.kind)?;
     let args = asking(alloc, format, threads);
-    let tests = vec![in alloc; trial.with_kind(kind)]?;
-    Ok(
-        run_into(rt, alloc, &args, tests, FaultyWriter::new(alloc))
-            .writer
-            .bytes,
-    )
+    let kind = String::from_str(alloc, vector.kind)?;
+    let mut tests = Vec::with_capacity(alloc, 1)?;
+    tests.push(becoming(alloc, vector.name, vector.message)?.with_kind(kind))?;
+    let left = run_into(rt, alloc, &args, tests, FaultyWriter::new(alloc));
+    Ok(left.writer.bytes)
 }
 
 // Whether the report has one row, of this trial.
@@ -201,83 +197,166 @@ fn is_of_one(report: Option<Report>, vector: Vector, outcome: &Outcome) -> bool 
     }
 }
 
-// By one thread and by a worker, and read back at once and byte by byte.
+// Whether a run of this trial writes its four lines, and they are read back as this trial, at once and byte by byte.
+fn is_read_back<T: Spawner + 'static>(
+    rt: &T,
+    alloc: Global,
+    vector: Vector,
+    threads: Option<usize>,
+) -> Result<bool, AllocError> {
+    let outcome = outcome_with(alloc, vector.message)?;
+    let text = four_lines(alloc, vector)?;
+    let written = written(rt, alloc, vector, FormatSetting::Json, threads)?;
+    let bytes = written.as_slice();
+    Ok(
+        bytes == text.as_str().as_bytes()
+            && is_of_one(read_report(alloc, bytes)?, vector, &outcome)
+            && is_of_one(fed(alloc, bytes)?, vector, &outcome),
+    )
+}
+
+// The same by one thread and by a worker, with its kind and without.
+fn is_read_back_each_way<T: Spawner + 'static>(
+    rt: &T,
+    alloc: Global,
+    vector: Vector,
+) -> Result<bool, AllocError> {
+    let bare = without_kind(vector);
+    Ok(
+        is_read_back(rt, alloc, vector, None)?
+            && is_read_back(rt, alloc, vector, Some(2))?
+            && is_read_back(rt, alloc, bare, None)?
+            && is_read_back(rt, alloc, bare, Some(2))?,
+    )
+}
+
 #[test]
 fn reads_back_hostile_texts(rt: HostRuntime) -> Result<(), Fail> {
-    let alloc = rt.alloc();
-    assert_eq!(rt; (CONTROLS.len(), CONTROLS_WRITTEN.len()), (32, 172));
-    for full in VECTORS {
-        for vector in [full, without_kind(full)] {
-            for threads in [None, Some(2)] {
-                let outcome = outcome_with(alloc, vector.message)?;
-                let written = written(&rt, alloc, vector, FormatSetting::Json, threads)?;
-                let bytes = written.as_slice();
-                assert!(rt; bytes == four_lines(alloc, vector)?.as_str().as_bytes());
-                assert!(rt; is_of_one(read_report(alloc, bytes)?, vector, &outcome));
-                assert!(rt; is_of_one(fed(alloc, bytes)?, vector, &outcome));
-            }
-        }
+    assert!(rt; CONTROLS.len() == 32 && CONTROLS_WRITTEN.len() == 172);
+    for vector in &VECTORS {
+        assert!(rt; is_read_back_each_way(&rt, rt.alloc(), *vector)?);
     }
     Ok(())
 }
 
+// Whether a run of this trial shows its texts as they are.
+fn is_shown<T: Spawner + 'static>(
+    rt: &T,
+    alloc: Global,
+    vector: Vector,
+    threads: Option<usize>,
+) -> Result<bool, AllocError> {
+    let text = shown(alloc, vector)?;
+    let bytes = written(rt, alloc, vector, FormatSetting::Pretty, threads)?;
+    Ok(bytes.as_slice() == text.as_str().as_bytes())
+}
+
+// The same by one thread and by a worker, with its kind and without.
+fn is_shown_each_way<T: Spawner + 'static>(
+    rt: &T,
+    alloc: Global,
+    vector: Vector,
+) -> Result<bool, AllocError> {
+    let bare = without_kind(vector);
+    Ok(
+        is_shown(rt, alloc, vector, None)?
+            && is_shown(rt, alloc, vector, Some(2))?
+            && is_shown(rt, alloc, bare, None)?
+            && is_shown(rt, alloc, bare, Some(2))?,
+    )
+}
+
 #[test]
 fn shows_hostile_texts(rt: HostRuntime) -> Result<(), Fail> {
-    let alloc = rt.alloc();
-    for full in VECTORS {
-        for vector in [full, without_kind(full)] {
-            for threads in [None, Some(2)] {
-                let bytes = written(&rt, alloc, vector, FormatSetting::Pretty, threads)?;
-                assert!(rt; bytes.as_slice() == shown(alloc, vector)?.as_str().as_bytes());
-            }
-        }
+    for vector in &VECTORS {
+        assert!(rt; is_shown_each_way(&rt, rt.alloc(), *vector)?);
     }
     Ok(())
 }
 
 // A name of one character in four bytes, and what is no text in its place: half of a pair, another spelling of `/`, the same
 // character cut short, one of two bytes cut short, and a byte that no text has.
+const NO_TEXTS: [&[u8]; 5] = [
+    b"\xed\xa0\x80",
+    b"\xc0\xaf",
+    b"\xf0\x9f\x98",
+    b"\xc3",
+    b"\xff",
+];
+
+// The text, which begins otherwise, with these bytes in place of that character.
+fn with_bytes(alloc: Global, text: &str, bytes: &[u8]) -> Result<Vec<u8>, AllocError> {
+    let mut altered = Vec::new(alloc);
+    for part in text.split("\u{1f600}") {
+        if !altered.is_empty() {
+            altered.extend_from_slice(bytes)?;
+        }
+        altered.extend_from_slice(part.as_bytes())?;
+    }
+    Ok(altered)
+}
+
+// Whether these bytes are read as a report: at once, and byte by byte.
+fn are_read(alloc: Global, bytes: &[u8]) -> Result<(bool, bool), AllocError> {
+    let at_once = read_report(alloc, bytes)?.is_some();
+    Ok((at_once, fed(alloc, bytes)?.is_some()))
+}
+
 #[test]
 fn reads_no_name_that_is_no_text(rt: HostRuntime) -> Result<(), Fail> {
     let alloc = rt.alloc();
     assert!(rt; "\u{1f600}".as_bytes() == b"\xf0\x9f\x98\x80".as_slice());
     let text = four_lines(alloc, VECTORS[5])?;
-    assert!(rt; read_report(alloc, text.as_str().as_bytes())?.is_some());
-    for bad in [
-        b"\xed\xa0\x80".as_slice(),
-        b"\xc0\xaf",
-        b"\xf0\x9f\x98",
-        b"\xc3",
-        b"\xff",
-    ] {
-        let mut bytes = Vec::new(alloc);
-        for (at, part) in text.as_str().split("\u{1f600}").enumerate() {
-            bytes.extend_from_slice(if at > 0 { bad } else { b"" })?;
-            bytes.extend_from_slice(part.as_bytes())?;
-        }
-        assert!(rt; read_report(alloc, bytes.as_slice())?.is_none());
-        assert!(rt; fed(alloc, bytes.as_slice())?.is_none());
+    assert!(rt; are_read(alloc, text.as_str().as_bytes())? == (true, true));
+    for bad in &NO_TEXTS {
+        let bytes = with_bytes(alloc, text.as_str(), bad)?;
+        assert!(rt; are_read(alloc, &bytes)? == (false, false));
     }
     Ok(())
 }
 
-// Each row has 70,013 bytes with its line end, the short name's too.
+// What a run of passing trials of these names leaves.
+fn run_named<T: Spawner + 'static>(
+    rt: &T,
+    alloc: Global,
+    names: &[&str],
+    threads: Option<usize>,
+) -> Result<Left<FaultyWriter>, AllocError> {
+    let args = asking(alloc, FormatSetting::Pretty, threads);
+    let mut tests = Vec::new(alloc);
+    for name in names {
+        tests.push(becoming(alloc, name, None)?)?;
+    }
+    Ok(run_into(rt, alloc, &args, tests, FaultyWriter::new(alloc)))
+}
+
+// Whether there is a line, of 70,013 bytes with its line end, which has this front, and a passing test's end.
+fn is_long_row(line: Option<&str>, front: &str) -> bool {
+    match line {
+        Some(line) => {
+            line.len() == 70_012 && line.starts_with(front) && line.ends_with(" ... ok")
+        }
+        None => false,
+    }
+}
+
+// Whether the rows behind the two lines of the title are as long, and three lines come after them.
+fn are_long_rows(text: &str) -> bool {
+    let mut lines = text.lines();
+    lines.next().is_some()
+        && lines.next().is_some()
+        && is_long_row(lines.next(), "test aaa")
+        && is_long_row(lines.next(), "test b  ")
+        && lines.count() == 3
+}
+
+// Each row is as long as the long name's, the short name's too.
 #[test]
 fn pads_to_a_long_name(rt: HostRuntime) -> Result<(), Fail> {
-    let alloc = rt.alloc();
-    let long = "a".repeat(alloc, 70_000)?;
-    for threads in [None, Some(1)] {
-        let (first, _) = marking(alloc, long.as_str(), Outcome::Passed)?;
-        let (second, _) = marking(alloc, "b", Outcome::Passed)?;
-        let args = asking(alloc, FormatSetting::Pretty, threads);
-        let tests = vec![in alloc; first, second]?;
-        let left = run_into(&rt, alloc, &args, tests, FaultyWriter::new(alloc));
-        let text = str::from_utf8(&left.writer.bytes)?;
-        for (line, front) in text.lines().skip(2).zip(["test aaa", "test b  "]) {
-            assert_eq!(rt; line.len() + 1, 70_013);
-            assert!(rt; line.starts_with(front) && line.ends_with(" ... ok"));
-        }
-        assert_eq!(rt; text.lines().count(), 7);
+    let long = "a".repeat(rt.alloc(), 70_000)?;
+    for threads in &[None, Some(1)] {
+        let left = run_named(&rt, rt.alloc(), &[long.as_str(), "b"], *threads)?;
+        assert!(rt; are_long_rows(str::from_utf8(&left.writer.bytes)?));
     }
     Ok(())
 }
@@ -288,14 +367,10 @@ const TWO_LINES: &[u8] =
 // In pretty a name stands as it is, and no line that it forges is counted.
 #[test]
 fn shows_a_name_of_two_lines(rt: HostRuntime) -> Result<(), Fail> {
-    let alloc = rt.alloc();
-    for threads in [None, Some(2)] {
-        let (trial, _) = marking(alloc, "a\nb", Outcome::Passed)?;
-        let args = asking(alloc, FormatSetting::Pretty, threads);
-        let tests = vec![in alloc; trial]?;
-        let left = run_into(&rt, alloc, &args, tests, FaultyWriter::new(alloc));
+    for threads in &[None, Some(2)] {
+        let left = run_named(&rt, rt.alloc(), &["a\nb"], *threads)?;
         assert!(rt; left.writer.bytes.as_slice() == TWO_LINES);
-        assert!(rt; matches!(left.answer, Ok(counts) if counts.num_passed == 1));
+        assert!(rt; left.counts() == Some([1, 0, 0, 0, 0]));
     }
     Ok(())
 }

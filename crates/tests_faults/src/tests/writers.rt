@@ -1,23 +1,17 @@
 //! Writers that fail: what they hold then, what a run returns, and which runners were called.
+ghost use Rattle.std.specs.Prelude.{◌^◌, ◌<◌};
+
 use super::faulty_writer::{FAULTS, FULL};
-use super::runs::{Left, Marks, asking, marking, outcome_with, run_into};
-use libtest_mimic::{FormatSetting, Outcome, Sink, Spawner, Trial, WriteFault};
+use super::in_both_orders;
+use super::runs::{Left, asking, outcome_with, run_into};
+use libtest_mimic::{FormatSetting, Outcome, Sink, Spawner, Task, Trial, WriteFault};
 use mimic_testkit::{Fault, FaultyWriter, Place};
 use std::alloc::{AllocError, Global};
 use std::io::ErrorKind;
+use std::process::Abort;
 use std::sync::Arc;
-use std::sync::atomic::{AtomicBool, Ordering};
+use std::sync::atomic::{AtomicU64, Ordering};
 use std::test::Fail;
-
-// A text of four parts, and the same with the second and the third the other way round.
-macro_rules! in_both_orders {
-    ($title:literal, $first:literal, $second:literal, $end:literal) => {
-        [
-            concat!($title, $first, $second, $end),
-            concat!($title, $second, $first, $end),
-        ]
-    };
-}
 
 // The reports of two passing tests in JSON.
 pub(super) const TWO_PASSING: [&str; 2] = in_both_orders!(
@@ -101,70 +95,206 @@ const JSON_OF_PASSING: Report = Report {
     len: 380,
 };
 
-fn two_tests(
-    alloc: Global,
-    report: Report,
-) -> Result<(Vec<Trial<Marks>>, [Arc<AtomicBool>; 2]), AllocError> {
-    let [first, second] = report.names;
-    let (first, first_ran) = marking(alloc, first, Outcome::Passed)?;
-    let outcome = outcome_with(alloc, report.message)?;
-    let (second, second_ran) = marking(alloc, second, outcome)?;
-    let tests = vec![in alloc; first, second]?;
-    Ok((tests, [first_ran, second_ran]))
+// Adds its weight to those of the trials that ran, and becomes its outcome.
+#[derive(Drop)]
+struct Marks {
+    ran: Arc<AtomicU64>,
+    weight: u64,
+    outcome: Outcome,
 }
 
-// What a run of the two tests leaves, and which of them ran.
+impl Task for Marks {
+    fn run(self, _test_mode: bool) -> Outcome {
+        self.ran.fetch_add(self.weight, Ordering::SeqCst);
+        self.outcome
+    }
+}
+
+// A trial of this name and weight that fails with the message, or else passes.
+fn marking(
+    alloc: Global,
+    name: &str,
+    weight: u64,
+    ran: &Arc<AtomicU64>,
+    message: Option<&str>,
+) -> Result<Trial<Marks>, AllocError> {
+    let runner = Marks {
+        ran: Arc::try_clone(ran)?,
+        weight,
+        outcome: outcome_with(alloc, message)?,
+    };
+    Ok(Trial::new(String::from_str(alloc, name)?, runner))
+}
+
+// The weights of the two tests.
+const FIRST: u64 = 1;
+
+const SECOND: u64 = 2;
+
+const BOTH: u64 = FIRST + SECOND;
+
+fn two_tests(
+    alloc: Global,
+    report: &Report,
+    ran: &Arc<AtomicU64>,
+) -> Result<Vec<Trial<Marks>>, AllocError> {
+    let mut tests = Vec::with_capacity(alloc, 2)?;
+    tests.push(marking(alloc, report.names[0], FIRST, ran, None)?)?;
+    tests.push(marking(alloc, report.names[1], SECOND, ran, report.message)?)?;
+    Ok(tests)
+}
+
+// What a run of the two tests leaves, and the sum of the weights of those that ran.
 fn run_two<T: Spawner + 'static>(
     rt: &T,
     alloc: Global,
-    report: Report,
+    report: &Report,
     threads: Option<usize>,
     writer: FaultyWriter,
-) -> Result<(Left, [bool; 2]), AllocError> {
+) -> Result<(Left<FaultyWriter>, u64), AllocError> {
     let args = asking(alloc, report.format, threads);
-    let (tests, [first, second]) = two_tests(alloc, report)?;
+    let ran = Arc::new(alloc, AtomicU64::new(0))?;
+    let tests = two_tests(alloc, report, &ran)?;
     let left = run_into(rt, alloc, &args, tests, writer);
-    let ran = [first.load(Ordering::SeqCst), second.load(Ordering::SeqCst)];
-    Ok((left, ran))
+    Ok((left, ran.load(Ordering::SeqCst)))
 }
 
-// The runs by one thread: their report, the most bytes that a write takes, the number of threads, and how many of the faults
-// are tried.
-const BY_ONE_THREAD: [(Report, usize, Option<usize>, usize); 7] = [
-    (PRETTY, 1, None, 1),
-    (PRETTY, 1, Some(1), 1),
-    (PRETTY, usize::MAX, None, 4),
-    (TERSE, 1, None, 1),
-    (TERSE, usize::MAX, Some(1), 4),
-    (JSON, 1, None, 1),
-    (JSON, usize::MAX, Some(1), 4),
+// Whether the bytes are a beginning of the report, with its rows in either order.
+fn begin_one(report: &Report, bytes: &[u8]) -> bool {
+    report.texts[0].as_bytes().starts_with(bytes) || report.texts[1].as_bytes().starts_with(bytes)
+}
+
+// A report, the most bytes that a write takes, and the number of threads.
+struct Run {
+    report: Report,
+    most: usize,
+    threads: Option<usize>,
+}
+
+// The weights of the tests that ran if so many bytes were written. Both run by workers once the title is written.
+fn weights_at(run: &Run, len: usize) -> u64 {
+    let report = &run.report;
+    let runs_at = match run.threads {
+        Some(2) => [report.rows_at, report.rows_at],
+        _ => report.runs_at,
+    };
+    if len >= runs_at[1] {
+        BOTH
+    } else if len >= runs_at[0] {
+        FIRST
+    } else {
+        0
+    }
+}
+
+// Whether the bytes are a beginning of the report. By workers its rows may stand in either order.
+fn stand(run: &Run, bytes: &[u8]) -> bool {
+    match run.threads {
+        Some(2) => begin_one(&run.report, bytes),
+        _ => run.report.texts[0].as_bytes().starts_with(bytes),
+    }
+}
+
+// Whether the run is stopped when the writer's room is full: what came before stands, nothing more is asked of the writer, and
+// the watch runs on if the summary had not begun.
+fn stops_at<T: Spawner + 'static>(
+    rt: &T,
+    alloc: Global,
+    run: &Run,
+    writer: FaultyWriter,
+    room: usize,
+) -> Result<bool, AllocError> {
+    let report = &run.report;
+    let fault = (room < report.len).then_some(writer.fault);
+    let (left, ran) = run_two(rt, alloc, report, run.threads, writer)?;
+    let bytes = left.writer.bytes.as_slice();
+    Ok(
+        left.is_stopped_by(fault)
+            && bytes.len() == room
+            && stand(run, bytes)
+            && left.is_running == (room < report.summary_at)
+            && ran == weights_at(run, room),
+    )
+}
+
+// A fault comes at each byte, and behind the last one.
+fn check_each_byte<T: Spawner + Abort + 'static>(
+    rt: &T,
+    alloc: Global,
+    run: &Run,
+    fault: Fault,
+    lasts: bool,
+) -> Result<(), AllocError> {
+    for room in 0..=run.report.len {
+        let mut writer = FaultyWriter::new(alloc)
+            .taking(run.most)
+            .failing(Place::Byte(room), fault);
+        writer.lasts = lasts;
+        assert!(rt; stops_at(rt, alloc, run, writer, room)?, "at {room}");
+    }
+    Ok(())
+}
+
+// Writes of one byte fail in one way, and whole writes in each.
+fn check_faults<T: Spawner + Abort + 'static>(
+    rt: &T,
+    alloc: Global,
+    run: &Run,
+) -> Result<(), AllocError> {
+    assert!(rt; run.report.texts[0].len() == run.report.len);
+    if run.most == 1 {
+        return check_each_byte(rt, alloc, run, FULL, false);
+    }
+    for (fault, lasts) in &FAULTS {
+        check_each_byte(rt, alloc, run, *fault, *lasts)?;
+    }
+    Ok(())
+}
+
+macro_rules! run {
+    ($report:expr, $most:expr, $threads:expr) => {
+        Run {
+            report: $report,
+            most: $most,
+            threads: $threads,
+        }
+    };
+}
+
+static BY_ONE_THREAD: [Run; 7] = [
+    run!(PRETTY, 1, None),
+    run!(PRETTY, 1, Some(1)),
+    run!(PRETTY, usize::MAX, None),
+    run!(TERSE, 1, None),
+    run!(TERSE, usize::MAX, Some(1)),
+    run!(JSON, 1, None),
+    run!(JSON, usize::MAX, Some(1)),
 ];
 
 // After a fault what came before it stands and nothing more is asked of the writer, be that well again or not; the
 // watch runs on if the summary had not begun.
 #[test]
 fn stops_at_each_byte(rt: HostRuntime) -> Result<(), Fail> {
-    let alloc = rt.alloc();
-    for (report, most, threads, faults) in BY_ONE_THREAD {
-        let text = report.texts[0].as_bytes();
-        assert_eq!(rt; text.len(), report.len);
-        for (fault, lasts) in FAULTS.into_iter().take(faults) {
-            for room in 0..=report.len {
-                let mut writer = FaultyWriter::new(alloc)
-                    .taking(most)
-                    .failing(Place::Byte(room), fault);
-                writer.lasts = lasts;
-                let (left, ran) = run_two(&rt, alloc, report, threads, writer)?;
-                let fault = (room < report.len).then_some(fault);
-                assert!(rt; left.is_stopped_by(fault), "at {room}");
-                assert!(rt;
-                    text.get(..room) == Some(left.writer.bytes.as_slice()),
-                    "at {room}"
-                );
-                assert_eq!(rt; left.is_running, room < report.summary_at, "at {room}");
-                assert_eq!(rt; ran, report.runs_at.map(|at| room >= at), "at {room}");
-            }
-        }
+    for run in &BY_ONE_THREAD {
+        check_faults(&rt, rt.alloc(), run)?;
+    }
+    Ok(())
+}
+
+static BY_WORKERS: [Run; 5] = [
+    run!(PRETTY, 1, Some(2)),
+    run!(PRETTY, usize::MAX, Some(2)),
+    run!(TERSE, 1, Some(2)),
+    run!(JSON_OF_PASSING, 1, Some(2)),
+    run!(JSON_OF_PASSING, usize::MAX, Some(2)),
+];
+
+// With two workers the rows stand in the one order or the other; all else is as with one thread, but both tests run once
+// the title is written.
+#[test]
+fn stops_workers_at_each_byte(rt: HostRuntime) -> Result<(), Fail> {
+    for run in &BY_WORKERS {
+        check_faults(&rt, rt.alloc(), run)?;
     }
     Ok(())
 }
@@ -176,99 +306,111 @@ const FLUSH_FAULTS: [Fault; 3] = [
     Fault::Error(ErrorKind::Interrupted),
 ];
 
-// Pretty flushes after each announcement and once at the end, the others once at the end: the flush that fails, how many
-// bytes stand then, and which tests ran.
-const FLUSHES: [(Report, u64, usize, [bool; 2]); 5] = [
-    (PRETTY, 1, 42, [false, false]),
-    (PRETTY, 2, 70, [true, false]),
-    (PRETTY, 3, 247, [true, true]),
-    (TERSE, 1, 189, [true, true]),
-    (JSON, 1, 470, [true, true]),
+// A report, the flush that fails, how many bytes stand then, and the weights of the tests that ran.
+struct Flush {
+    report: Report,
+    number: u64,
+    len: usize,
+    ran: u64,
+}
+
+macro_rules! flush {
+    ($report:expr, $number:expr, $len:expr, $ran:expr) => {
+        Flush {
+            report: $report,
+            number: $number,
+            len: $len,
+            ran: $ran,
+        }
+    };
+}
+
+// Pretty flushes after each announcement and once at the end, the others once at the end.
+static FLUSHES: [Flush; 5] = [
+    flush!(PRETTY, 1, 42, 0),
+    flush!(PRETTY, 2, 70, FIRST),
+    flush!(PRETTY, 3, 247, BOTH),
+    flush!(TERSE, 1, 189, BOTH),
+    flush!(JSON, 1, 470, BOTH),
 ];
+
+// Whether a run by so many threads is stopped by the flush.
+fn stops_at_flush<T: Spawner + 'static>(
+    rt: &T,
+    alloc: Global,
+    flush: &Flush,
+    fault: Fault,
+    threads: Option<usize>,
+) -> Result<bool, AllocError> {
+    let writer = FaultyWriter::new(alloc).failing(Place::Flush(flush.number), fault);
+    let (left, ran) = run_two(rt, alloc, &flush.report, threads, writer)?;
+    let bytes = left.writer.bytes.as_slice();
+    Ok(
+        left.is_stopped_by(Some(fault))
+            && bytes.len() == flush.len
+            && flush.report.texts[0].as_bytes().starts_with(bytes)
+            && left.is_running == (flush.len < flush.report.summary_at)
+            && ran == flush.ran,
+    )
+}
 
 #[test]
 fn stops_at_each_flush(rt: HostRuntime) -> Result<(), Fail> {
-    let alloc = rt.alloc();
-    for (report, flush, len, want) in FLUSHES {
+    for flush in &FLUSHES {
         for fault in FLUSH_FAULTS {
-            for threads in [None, Some(1)] {
-                let writer = FaultyWriter::new(alloc).failing(Place::Flush(flush), fault);
-                let (left, ran) = run_two(&rt, alloc, report, threads, writer)?;
-                let bytes = left.writer.bytes.as_slice();
-                assert!(rt; left.is_stopped_by(Some(fault)), "flush {flush}");
-                assert!(rt; report.texts[0].as_bytes().get(..len) == Some(bytes));
-                assert_eq!(rt; left.is_running, len < report.summary_at, "flush {flush}");
-                assert_eq!(rt; ran, want, "flush {flush}");
-            }
+            assert!(rt; stops_at_flush(&rt, rt.alloc(), flush, fault, None)?);
+            assert!(rt; stops_at_flush(&rt, rt.alloc(), flush, fault, Some(1))?);
         }
     }
     Ok(())
 }
 
-// Whether the bytes are a beginning of the report, with its rows in either order.
-fn begin_one(report: Report, bytes: &[u8]) -> bool {
-    report
-        .texts
-        .iter()
-        .any(|text| text.as_bytes().starts_with(bytes))
+// Whether a run by two workers is stopped by the flush of this number, if there are so many. Behind a flush that fails
+// nothing is written, and both tests run.
+fn stops_workers<T: Spawner + 'static>(
+    rt: &T,
+    alloc: Global,
+    report: &Report,
+    fault: Fault,
+    number: u64,
+    flushes: u64,
+) -> Result<bool, AllocError> {
+    let writer = FaultyWriter::new(alloc).failing(Place::Flush(number), fault);
+    let (left, ran) = run_two(rt, alloc, report, Some(2), writer)?;
+    let bytes = left.writer.bytes.as_slice();
+    let is_whole = bytes.len() == report.len;
+    Ok(
+        left.is_stopped_by((number <= flushes).then_some(fault))
+            && begin_one(report, bytes)
+            && is_whole == (number >= flushes)
+            && (is_whole || bytes.ends_with(b" ... "))
+            && ran == BOTH,
+    )
 }
 
-// The runs by two workers: their report, the most bytes that a write takes, and how many of the faults are tried.
-const BY_WORKERS: [(Report, usize, usize); 5] = [
-    (PRETTY, 1, 1),
-    (PRETTY, usize::MAX, 4),
-    (TERSE, 1, 1),
-    (JSON_OF_PASSING, 1, 1),
-    (JSON_OF_PASSING, usize::MAX, 4),
-];
-
-// With two workers the rows stand in the one order or the other; all else is as with one thread, but both tests run once
-// the title is written.
-#[test]
-fn stops_workers_at_each_byte(rt: HostRuntime) -> Result<(), Fail> {
-    let alloc = rt.alloc();
-    for (report, most, faults) in BY_WORKERS {
-        for (fault, lasts) in FAULTS.into_iter().take(faults) {
-            for room in 0..=report.len {
-                let mut writer = FaultyWriter::new(alloc)
-                    .taking(most)
-                    .failing(Place::Byte(room), fault);
-                writer.lasts = lasts;
-                let (left, ran) = run_two(&rt, alloc, report, Some(2), writer)?;
-                let fault = (room < report.len).then_some(fault);
-                assert!(rt; left.is_stopped_by(fault), "at {room}");
-                assert_eq!(rt; left.writer.bytes.len(), room);
-                assert!(rt; begin_one(report, &left.writer.bytes), "at {room}");
-                assert_eq!(rt; left.is_running, room < report.summary_at, "at {room}");
-                assert_eq!(rt; ran, [room >= report.rows_at; 2], "at {room}");
-            }
+// With two workers there are as many flushes as with one thread: so many, of which each fails in each way, and one more
+// doesn't.
+fn check_flushes<T: Spawner + Abort + 'static>(
+    rt: &T,
+    alloc: Global,
+    report: &Report,
+    flushes: u64,
+) -> Result<(), AllocError>
+    requires { flushes < 2 ^ 32 }
+{
+    for fault in FLUSH_FAULTS {
+        for number in 1..=flushes + 1 {
+            assert!(rt; stops_workers(rt, alloc, report, fault, number, flushes)?);
         }
     }
     Ok(())
 }
 
-// With two workers there are as many flushes as with one thread. After one that fails behind an announcement nothing is
-// written, and both tests run.
 #[test]
 fn stops_workers_at_each_flush(rt: HostRuntime) -> Result<(), Fail> {
-    let alloc = rt.alloc();
-    for (report, flushes) in [(PRETTY, 3), (TERSE, 1), (JSON_OF_PASSING, 1)] {
-        for fault in FLUSH_FAULTS {
-            for flush in 1..=flushes + 1 {
-                let writer = FaultyWriter::new(alloc).failing(Place::Flush(flush), fault);
-                let (left, ran) = run_two(&rt, alloc, report, Some(2), writer)?;
-                let bytes = left.writer.bytes.as_slice();
-                assert!(rt;
-                    left.is_stopped_by((flush <= flushes).then_some(fault)),
-                    "flush {flush}"
-                );
-                assert!(rt; begin_one(report, bytes), "flush {flush}");
-                assert_eq!(rt; flush >= flushes, bytes.len() == report.len);
-                assert!(rt; flush >= flushes || bytes.ends_with(b" ... "));
-                assert_eq!(rt; ran, [true, true]);
-            }
-        }
-    }
+    check_flushes(&rt, rt.alloc(), &PRETTY, 3)?;
+    check_flushes(&rt, rt.alloc(), &TERSE, 1)?;
+    check_flushes(&rt, rt.alloc(), &JSON_OF_PASSING, 1)?;
     Ok(())
 }
 
@@ -277,8 +419,8 @@ fn puts_nothing_into_a_full_writer(rt: HostRuntime) -> Result<(), Fail> {
     let writer = FaultyWriter::new(rt.alloc()).failing(Place::Byte(0), FULL);
     let mut sink = Sink::new(writer.for_ever());
     assert!(rt; sink.put(b"").is_ok());
-    assert_eq!(rt; sink.faults(), 0);
+    assert!(rt; sink.faults() == 0);
     assert!(rt; matches!(sink.put(b"a"), Err(WriteFault::Error(_))));
-    assert_eq!(rt; sink.faults(), 1);
+    assert!(rt; sink.faults() == 1);
     Ok(())
 }

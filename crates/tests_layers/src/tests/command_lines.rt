@@ -1,7 +1,10 @@
 //! Command lines, as words after the program's name, and what they give. What is refused is as in the Rust crate, and
 //! help has the same options in our own words.
+ghost use Rattle.std.specs.Prelude.{◌<◌, IfOk, length, vec_len};
+
+use super::shown::check_debug;
 use mimic_args::{Arguments, ArgumentsError, ColorSetting, FormatSetting, Line, UnknownFormat};
-use std::alloc::Global;
+use std::alloc::{AllocError, Global};
 use std::test::Fail;
 
 // Worked by hand: after two spaces, how an option is written, in as many columns as the longest and two more, and then
@@ -83,61 +86,98 @@ const LINES_READ: [(&str, &str); 7] = [
     ),
 ];
 
+// The words of a line, of which there is at least one.
+fn words_of(alloc: Global, line: &'static str) -> Result<Vec<&'static str>, AllocError>
+    ensures { IfOk result (λ words. 0 < vec_len words) }
+{
+    line.split(' ').collect(alloc)
+}
+
+// The arguments of a line: a copy of what is read from its words.
+fn copy_of_line(alloc: Global, line: &'static str) -> Result<Arguments, Fail> {
+    let words = words_of(alloc, line)?;
+    let args = Arguments::from_iter(alloc, words.as_slice())?;
+    Ok(args.try_clone(alloc)?)
+}
+
+// The same from the matches of a line.
+fn of_matches(alloc: Global, line: &'static str) -> Result<Arguments, Fail> {
+    let words = words_of(alloc, line)?;
+    let matches = Arguments::command(alloc)?.try_get_matches_from(words.as_slice())?;
+    Ok(Arguments::from_matches(alloc, &matches)?)
+}
+
 // A line gives its arguments, and so do its matches and a copy.
 #[test]
 fn reads_lines(rt: HostRuntime) -> Result<(), Fail> {
-    let alloc = rt.alloc();
-    for (line, text) in LINES_READ {
-        let words: Vec<&str> = line.split(' ').collect(alloc)?;
-        let matches = Arguments::command(alloc)?.try_get_matches_from(words.as_slice())?;
-        let args = Arguments::from_matches(alloc, &matches)?;
-        assert_eq!(rt; format!(in alloc; "{args:?}")?.as_str(), text);
-        let args = Arguments::from_iter(alloc, words.as_slice())?.try_clone(alloc)?;
-        assert_eq!(rt; format!(in alloc; "{args:?}")?.as_str(), text);
+    for (line, text) in &LINES_READ {
+        check_debug(&rt, rt.alloc(), &of_matches(rt.alloc(), line)?, text)?;
+        check_debug(&rt, rt.alloc(), &copy_of_line(rt.alloc(), line)?, text)?;
     }
     Ok(())
 }
 
+const FORMATS: [(&str, FormatSetting); 3] = [
+    ("pretty", FormatSetting::Pretty),
+    ("terse", FormatSetting::Terse),
+    ("json", FormatSetting::Json),
+];
+
 #[test]
-fn names_formats(rt: HostRuntime) -> Result<(), Fail> {
-    for (name, format) in [
-        ("pretty", FormatSetting::Pretty),
-        ("terse", FormatSetting::Terse),
-        ("json", FormatSetting::Json),
-    ] {
-        assert!(rt; name.parse::<FormatSetting>() == Ok(format), "{name}");
-        assert_eq!(rt; format.name(), name);
+fn names_formats(rt: HostRuntime) {
+    for (name, format) in &FORMATS {
+        assert!(rt; name.parse::<FormatSetting>() == Ok(*format));
+        assert!(rt; format.name() == *name);
     }
     assert!(rt; "JSON".parse::<FormatSetting>() == Err(UnknownFormat));
-    Ok(())
 }
 
-#[test]
-fn refuses_lines(rt: HostRuntime) -> Result<(), Fail> {
-    let alloc = rt.alloc();
-    let lines = [
-        ["harness", "--color", "blue"],
-        ["harness", "--test-threads", "x"],
-        ["harness", "--test-threads", "-1"],
-        ["harness", "-Z", "other"],
-        ["harness", "--format=pretty", "-q"],
-        ["harness", "--test-threads", "18446744073709551616"],
-        ["harness", "--color", "Auto"],
-        ["harness", "--skip", "-x"],
-        ["harness", "--list", "-V"],
-        ["harness", "--list=true", "a"],
-        ["harness", "--nope", "a"],
-        ["harness", "--format=xml", "a"],
-        ["harness", "--quiet", "--format=json"],
-        ["harness", "--lis", "a"],
-    ];
-    for line in &lines {
-        match &Arguments::from_iter(alloc, line) {
-            Err(ArgumentsError::Refused(text)) => assert!(rt; text.as_str().starts_with("error: ")),
-            _ => assert!(rt; false, "{line:?}"),
+// What comes of a line.
+#[derive(Clone, Copy, Debug, PartialEq, Eq)]
+enum Answer {
+    Taken,
+    // The whole text of help.
+    Help,
+    // A text that begins as errors do.
+    Refused,
+    Other,
+}
+
+fn answer_of(alloc: Global, words: &[&str]) -> Answer
+    requires { 0 < length words.now }
+{
+    match &Arguments::from_iter(alloc, words) {
+        Ok(_) => Answer::Taken,
+        Err(ArgumentsError::Help(text)) if text.as_str() == HELP => Answer::Help,
+        Err(ArgumentsError::Refused(text)) if text.as_str().starts_with("error: ") => {
+            Answer::Refused
         }
+        Err(_) => Answer::Other,
     }
-    Ok(())
+}
+
+const LINES_REFUSED: [[&str; 3]; 14] = [
+    ["harness", "--color", "blue"],
+    ["harness", "--test-threads", "x"],
+    ["harness", "--test-threads", "-1"],
+    ["harness", "-Z", "other"],
+    ["harness", "--format=pretty", "-q"],
+    ["harness", "--test-threads", "18446744073709551616"],
+    ["harness", "--color", "Auto"],
+    ["harness", "--skip", "-x"],
+    ["harness", "--list", "-V"],
+    ["harness", "--list=true", "a"],
+    ["harness", "--nope", "a"],
+    ["harness", "--format=xml", "a"],
+    ["harness", "--quiet", "--format=json"],
+    ["harness", "--lis", "a"],
+];
+
+#[test]
+fn refuses_lines(rt: HostRuntime) {
+    for line in &LINES_REFUSED {
+        assert!(rt; answer_of(rt.alloc(), line) == Answer::Refused, "{line:?}");
+    }
 }
 
 // Whether a line may not use the first word before the second.
@@ -150,61 +190,63 @@ fn is_refused(first: &str, second: &str) -> bool {
     }
 }
 
-#[test]
-fn takes_all_pairs_but_those_excluded(rt: HostRuntime) -> Result<(), Fail> {
-    let alloc = rt.alloc();
-    for first in &WORDS {
-        for second in &WORDS {
-            match &Arguments::from_iter(alloc, &["harness", *first, *second]) {
-                Ok(_) => assert!(rt; !is_refused(first, second), "{first} {second}"),
-                Err(ArgumentsError::Refused(text)) => {
-                    let by_clap = text.as_str().starts_with("error: ");
-                    assert!(rt; by_clap && is_refused(first, second), "{first} {second}");
-                }
-                Err(error) => assert!(rt; false, "{first} {second}: {error}"),
-            }
-        }
+// Whether a line of these words is refused, or taken, as it may be.
+fn is_answered_well(alloc: Global, first: &str, second: &str) -> bool {
+    match answer_of(alloc, &["harness", first, second]) {
+        Answer::Taken => !is_refused(first, second),
+        Answer::Refused => is_refused(first, second),
+        _ => false,
     }
-    Ok(())
 }
 
 #[test]
-fn shows_help(rt: HostRuntime) -> Result<(), Fail> {
-    let alloc = rt.alloc();
-    for word in ["-h", "--help"] {
-        match &Arguments::from_iter(alloc, &["harness", word]) {
-            Err(ArgumentsError::Help(text)) => assert_eq!(rt; text.as_str(), HELP),
-            _ => assert!(rt; false, "{word}"),
+fn takes_all_pairs_but_those_excluded(rt: HostRuntime) {
+    for first in &WORDS {
+        for second in &WORDS {
+            assert!(rt;
+                is_answered_well(rt.alloc(), first, second),
+                "{first} {second}"
+            );
         }
     }
-    Ok(())
+}
+
+#[test]
+fn shows_help(rt: HostRuntime) {
+    assert!(rt; answer_of(rt.alloc(), &["harness", "-h"]) == Answer::Help);
+    assert!(rt; answer_of(rt.alloc(), &["harness", "--help"]) == Answer::Help);
 }
 
 // The setting, whether the caller says so, whether there is a logfile, and whether a report has colours.
+const COLOURS: [(Option<ColorSetting>, bool, bool, bool); 4] = [
+    (Some(ColorSetting::Always), false, true, true),
+    (Some(ColorSetting::Auto), true, true, false),
+    (None, true, false, true),
+    (Some(ColorSetting::Never), true, false, false),
+];
+
 #[test]
 fn settles_colours(rt: HostRuntime) -> Result<(), Fail> {
     let alloc = rt.alloc();
-    let rows = [
-        (Some(ColorSetting::Always), false, true, true),
-        (Some(ColorSetting::Auto), true, true, false),
-        (None, true, false, true),
-        (Some(ColorSetting::Never), true, false, false),
-    ];
-    for (color, auto, has_logfile, want) in rows {
+    for (color, auto, has_logfile, want) in &COLOURS {
         let mut args = Arguments::new(alloc);
-        args.color = color;
-        if has_logfile {
+        args.color = *color;
+        if *has_logfile {
             args.logfile = Some(String::from_str(alloc, "log")?);
         }
-        assert_eq!(rt; args.colours(auto), want);
+        assert!(rt; args.colours(*auto) == *want);
     }
     assert!(rt; ColorSetting::default() == ColorSetting::Auto);
+    Ok(())
+}
+
+#[test]
+fn settles_the_format(rt: HostRuntime) {
     assert!(rt; FormatSetting::default() == FormatSetting::Pretty);
-    let mut args = Arguments::new(alloc);
+    let mut args = Arguments::new(rt.alloc());
     assert!(rt; args.format_used() == FormatSetting::Pretty);
     args.quiet = true;
     assert!(rt; args.format_used() == FormatSetting::Terse);
-    Ok(())
 }
 
 // Lines, and the words of their own and the filter that they give, if their options were read.
@@ -218,21 +260,31 @@ const LINES: [(&str, &str); 7] = [
     ("program --list -- --nope", "[\"--list\"] refused"),
 ];
 
-// What a line gives, as the table shows it.
-fn shown(alloc: Global, text: &str) -> Result<String, Fail> {
-    let words: Vec<&str> = text.split(' ').collect(alloc)?;
-    let Line { own, options } = Line::from_iter(alloc, words.as_slice())?;
-    let filter = match &options {
+fn line_of(alloc: Global, text: &'static str) -> Result<Line, Fail> {
+    let words = words_of(alloc, text)?;
+    Ok(Line::from_iter(alloc, words.as_slice())?)
+}
+
+// The filter that a line's options give, or that they were refused.
+fn filter_of(line: &Line) -> &str {
+    match &line.options {
         Ok(args) => args.filter.first().map_or("", String::as_str),
         Err(_) => "refused",
-    };
-    Ok(format!(in alloc; "{own:?} {filter}")?)
+    }
+}
+
+// What a line gives, as the table shows it.
+fn shown(alloc: Global, line: &Line) -> Result<String, AllocError> {
+    let filter = filter_of(line);
+    Ok(format!(in alloc; "{:?} {filter}", line.own)?)
 }
 
 #[test]
 fn reads_words_of_its_own(rt: HostRuntime) -> Result<(), Fail> {
-    for (text, expected) in LINES {
-        assert_eq!(rt; shown(rt.alloc(), text)?.as_str(), expected);
+    for (text, expected) in &LINES {
+        let line = line_of(rt.alloc(), text)?;
+        let shown = shown(rt.alloc(), &line)?;
+        assert!(rt; shown.as_str() == *expected, "{shown}");
     }
     Ok(())
 }
@@ -266,22 +318,28 @@ const OPERANDS: [(&str, Took); 12] = [
     ("program --help -- --nope", Took::Options),
 ];
 
-fn operands_of(alloc: Global, text: &str) -> Result<Took, Fail> {
-    let words: Vec<&str> = text.split(' ').collect(alloc)?;
-    let line = Line::from_iter(alloc, words.as_slice())?;
-    match line.into_operands(alloc, 1..=2, USAGE) {
-        Ok((args, operands)) => Ok(Took::Operands(operands.len(), args.list)),
-        Err(ArgumentsError::Help(told)) if told.as_str() == USAGE => Ok(Took::Help),
-        Err(ArgumentsError::Refused(told)) if told.as_str() == USAGE => Ok(Took::Refused),
-        Err(ArgumentsError::Refused(_)) => Ok(Took::Options),
-        Err(error) => Err(error.into()),
+// What a refusal of a line is. `None` is one for want of memory.
+fn refusal_of(error: &ArgumentsError) -> Option<Took> {
+    match error {
+        ArgumentsError::Help(told) if told.as_str() == USAGE => Some(Took::Help),
+        ArgumentsError::Refused(told) if told.as_str() == USAGE => Some(Took::Refused),
+        ArgumentsError::Refused(_) => Some(Took::Options),
+        _ => None,
+    }
+}
+
+fn operands_of(alloc: Global, line: Line) -> Option<Took> {
+    match &line.into_operands(alloc, 1..=2, USAGE) {
+        Ok((args, operands)) => Some(Took::Operands(operands.len(), args.list)),
+        Err(error) => refusal_of(error),
     }
 }
 
 #[test]
 fn takes_operands(rt: HostRuntime) -> Result<(), Fail> {
-    for (text, expected) in OPERANDS {
-        assert_eq!(rt; operands_of(rt.alloc(), text)?, expected, "{text}");
+    for (text, expected) in &OPERANDS {
+        let line = line_of(rt.alloc(), text)?;
+        assert!(rt; operands_of(rt.alloc(), line) == Some(*expected), "{text}");
     }
     Ok(())
 }

@@ -3,20 +3,21 @@ use mimic_args::{Arguments, ArgumentsError, ColorSetting, Line, UnstableFlags};
 use mimic_printer::{Printer, WriteFault};
 use mimic_text::{FormatSetting, UnknownFormat};
 use mimic_trial::{Conclusion, Failed, Measurement, Outcome, TestInfo, Trial};
-use std::alloc::Global;
+use std::alloc::{AllocError, Global};
 use std::fmt::{Debug, Display};
 use std::io;
 use std::io::ErrorKind;
 use std::process::Abort;
 use std::test::Fail;
 
-fn check_debug<T: Debug>(
+pub(super) fn check_debug<T: Debug>(
     rt: &impl Abort,
     alloc: Global,
     value: &T,
     text: &str,
 ) -> Result<(), Fail> {
-    assert_eq!(rt; format!(in alloc; "{value:?}")?.as_str(), text);
+    let shown = format!(in alloc; "{value:?}")?;
+    assert!(rt; shown.as_str() == text, "{shown}");
     Ok(())
 }
 
@@ -26,7 +27,8 @@ fn check_display<T: Display>(
     value: &T,
     text: &str,
 ) -> Result<(), Fail> {
-    assert_eq!(rt; format!(in alloc; "{value}")?.as_str(), text);
+    let shown = format!(in alloc; "{value}")?;
+    assert!(rt; shown.as_str() == text, "{shown}");
     Ok(())
 }
 
@@ -69,7 +71,12 @@ fn shows_plain_values(rt: HostRuntime) -> Result<(), Fail> {
     check_debug(&rt, alloc, &counts, text)?;
     let fault = WriteFault::Error(io::Error::from(ErrorKind::StorageFull));
     check_debug(&rt, alloc, &fault, "Error(Kind(StorageFull))")?;
-    check_debug(&rt, alloc, &WriteFault::Zero, "Zero")?;
+    check_debug(&rt, alloc, &WriteFault::Zero, "Zero")
+}
+
+#[test]
+fn shows_plain_outcomes(rt: HostRuntime) -> Result<(), Fail> {
+    let alloc = rt.alloc();
     check_debug(&rt, alloc, &Outcome::Passed, "Passed")?;
     check_debug(&rt, alloc, &Outcome::Ignored, "Ignored")?;
     let text = "Measured(Measurement { avg: 32, variance: 3 })";
@@ -82,60 +89,72 @@ fn shows_plain_values(rt: HostRuntime) -> Result<(), Fail> {
     )
 }
 
-// Values that own texts.
-#[test]
-fn shows_values_with_texts(rt: HostRuntime) -> Result<(), Fail> {
-    let alloc = rt.alloc();
-    let info = TestInfo {
-        name: String::from_str(alloc, "a\"b")?,
-        kind: String::from_str(alloc, "k")?,
+fn named(alloc: Global, name: &str, kind: &str) -> Result<TestInfo, AllocError> {
+    Ok(TestInfo {
+        name: String::from_str(alloc, name)?,
+        kind: String::from_str(alloc, kind)?,
         is_ignored: false,
         is_bench: true,
-    };
+    })
+}
+
+#[test]
+fn shows_trials(rt: HostRuntime) -> Result<(), Fail> {
+    let info = named(rt.alloc(), "a\"b", "k")?;
     let text = "TestInfo { name: \"a\\\"b\", kind: \"k\", is_ignored: false, is_bench: true }";
-    check_debug(&rt, alloc, &info, text)?;
-    let trial = Trial::from_parts(info, ());
+    check_debug(&rt, rt.alloc(), &info, text)?;
     let text =
         "Test { runner: <runner>, name: \"a\\\"b\", kind: \"k\", is_ignored: false, is_bench: true }";
-    check_debug(&rt, alloc, &trial, text)?;
-    let failed = Failed::with_message(String::from_str(alloc, "x\n")?);
-    check_debug(&rt, alloc, &failed, "Failed { msg: Some(\"x\\n\") }")?;
-    let text = "Failed(Failed { msg: Some(\"x\\n\") })";
-    check_debug(&rt, alloc, &Outcome::Failed(failed), text)?;
-    let text =
-        "Arguments { include_ignored: false, ignored: false, test: false, bench: false, list: false, nocapture: false, show_output: false, unstable_flags: None, exact: false, quiet: false, test_threads: None, logfile: None, skip: [], color: None, format: None, filter: [] }";
-    check_debug(&rt, alloc, &Arguments::new(alloc), text)?;
-    let line = Line {
-        own: vec![in alloc; String::from_str(alloc, "a")?]?,
-        options: Err(ArgumentsError::OutOfMemory),
-    };
-    check_debug(
-        &rt,
-        alloc,
-        &line,
-        "Line { own: [\"a\"], options: Err(OutOfMemory) }",
-    )
+    check_debug(&rt, rt.alloc(), &Trial::from_parts(info, ()), text)
 }
+
+#[test]
+fn shows_failures(rt: HostRuntime) -> Result<(), Fail> {
+    let failed = Failed::with_message(String::from_str(rt.alloc(), "x\n")?);
+    check_debug(&rt, rt.alloc(), &failed, "Failed { msg: Some(\"x\\n\") }")?;
+    let text = "Failed(Failed { msg: Some(\"x\\n\") })";
+    check_debug(&rt, rt.alloc(), &Outcome::Failed(failed), text)
+}
+
+const NO_ARGUMENTS: &str =
+    "Arguments { include_ignored: false, ignored: false, test: false, bench: false, list: false, nocapture: false, show_output: false, unstable_flags: None, exact: false, quiet: false, test_threads: None, logfile: None, skip: [], color: None, format: None, filter: [] }";
+
+#[test]
+fn shows_lines(rt: HostRuntime) -> Result<(), Fail> {
+    let alloc = rt.alloc();
+    check_debug(&rt, alloc, &Arguments::new(alloc), NO_ARGUMENTS)?;
+    let mut own = Vec::new(alloc);
+    own.push(String::from_str(alloc, "a")?)?;
+    let options = Err(ArgumentsError::OutOfMemory);
+    let text = "Line { own: [\"a\"], options: Err(OutOfMemory) }";
+    check_debug(&rt, alloc, &Line { own, options }, text)
+}
+
+fn help(alloc: Global, text: &str) -> Result<ArgumentsError, AllocError> {
+    Ok(ArgumentsError::Help(String::from_str(alloc, text)?))
+}
+
+fn refused(alloc: Global, text: &str) -> Result<ArgumentsError, AllocError> {
+    Ok(ArgumentsError::Refused(String::from_str(alloc, text)?))
+}
+
+const HELD: [&str; 3] = [
+    "",
+    "Usage: harness [OPTIONS] [FILTER]...\n",
+    "error: {0} \"x\"\n\n",
+];
 
 // Each error of a command line: what `Debug` shows of it, and its text, which is the held one if it holds one.
 #[test]
 fn tells_errors_of_command_lines(rt: HostRuntime) -> Result<(), Fail> {
     let alloc = rt.alloc();
-    check_debug(&rt, alloc, &ArgumentsError::OutOfMemory, "OutOfMemory")?;
-    check_display(&rt, alloc, &ArgumentsError::OutOfMemory, "out of memory")?;
-    for held in [
-        "",
-        "Usage: harness [OPTIONS] [FILTER]...\n",
-        "error: {0} \"x\"\n\n",
-    ] {
-        let help = ArgumentsError::Help(String::from_str(alloc, held)?);
-        check_display(&rt, alloc, &help, held)?;
-        let refused = ArgumentsError::Refused(String::from_str(alloc, held)?);
-        check_display(&rt, alloc, &refused, held)?;
+    for held in HELD {
+        check_display(&rt, alloc, &help(alloc, held)?, held)?;
+        check_display(&rt, alloc, &refused(alloc, held)?, held)?;
     }
-    let help = ArgumentsError::Help(String::from_str(alloc, "a\n")?);
-    check_debug(&rt, alloc, &help, "Help(\"a\\n\")")?;
-    let refused = ArgumentsError::Refused(String::from_str(alloc, "b")?);
-    check_debug(&rt, alloc, &refused, "Refused(\"b\")")?;
-    check_display(&rt, alloc, &UnknownFormat, "no such format")
+    check_display(&rt, alloc, &ArgumentsError::OutOfMemory, "out of memory")?;
+    check_display(&rt, alloc, &UnknownFormat, "no such format")?;
+    check_debug(&rt, alloc, &ArgumentsError::OutOfMemory, "OutOfMemory")?;
+    check_debug(&rt, alloc, &help(alloc, "a\n")?, "Help(\"a\\n\")")?;
+    check_debug(&rt, alloc, &refused(alloc, "b")?, "Refused(\"b\")")
 }

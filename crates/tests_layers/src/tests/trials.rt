@@ -1,40 +1,52 @@
 //! Trials and outcomes: calls one by one, with what no run shows of them.
 use mimic_trial::{BenchRunner, Failed, Measurement, Outcome, Runner, run_single};
+use std::alloc::{AllocError, Global};
 use std::fmt;
 use std::test::Fail;
+
+// The outcome of a benchmark that measures nothing, whose message is kept without memory.
+fn not_measured(alloc: Global) -> Result<Outcome, AllocError> {
+    let measures_nothing: Box<dyn FnOnce(bool) -> Result<Option<Measurement>, Failed> + Send> =
+        Box::new(alloc, |_mode: bool| Ok(None))?;
+    Ok(run_single(Runner::Bench(BenchRunner::new(measures_nothing)), false))
+}
+
+fn is_copied(alloc: Global, outcome: &Outcome) -> Result<bool, AllocError> {
+    Ok(outcome.try_clone(alloc)? == *outcome)
+}
+
+const MEASURED: Measurement = Measurement {
+    avg: 32,
+    variance: 3,
+};
 
 // A failure with a message, the message kept without memory, and the others.
 #[test]
 fn copies_outcomes(rt: HostRuntime) -> Result<(), Fail> {
     let alloc = rt.alloc();
-    let woops = Failed::with_message(String::from_str(alloc, "Woops")?);
-    let copy = woops.try_clone(alloc)?;
+    let failed = Failed::with_message(String::from_str(alloc, "Woops")?);
+    assert!(rt; is_copied(alloc, &Outcome::Failed(failed))?);
+    assert!(rt; is_copied(alloc, &Outcome::Failed(Failed::without_message()))?);
+    assert!(rt; is_copied(alloc, &not_measured(alloc)?)?);
+    assert!(rt; is_copied(alloc, &Outcome::Passed)?);
+    assert!(rt; is_copied(alloc, &Outcome::Ignored)?);
+    assert!(rt; is_copied(alloc, &Outcome::Measured(MEASURED))?);
+    Ok(())
+}
+
+#[test]
+fn copies_messages(rt: HostRuntime) -> Result<(), Fail> {
+    let woops = Failed::with_message(String::from_str(rt.alloc(), "Woops")?);
+    let copy = woops.try_clone(rt.alloc())?;
     assert!(rt; copy == woops);
-    assert_eq!(rt; copy.message(), Some("Woops"));
-    let measures_nothing: Box<dyn FnOnce(bool) -> Result<Option<Measurement>, Failed> + Send> =
-        Box::new(alloc, |_mode: bool| Ok(None))?;
-    let not_measured = run_single(Runner::Bench(BenchRunner::new(measures_nothing)), false);
-    let outcomes = [
-        Outcome::Passed,
-        Outcome::Failed(woops),
-        Outcome::Failed(Failed::without_message()),
-        not_measured,
-        Outcome::Ignored,
-        Outcome::Measured(Measurement {
-            avg: 32,
-            variance: 3,
-        }),
-    ];
-    for outcome in &outcomes {
-        assert!(rt; outcome.try_clone(alloc)? == *outcome);
-    }
+    assert!(rt; copy.message() == Some("Woops"));
     Ok(())
 }
 
 #[test]
 fn tells_failures_apart(rt: HostRuntime) -> Result<(), Fail> {
     let failed = Failed::with_message(String::from_str(rt.alloc(), "x")?);
-    assert_eq!(rt; failed.message(), Some("x"));
+    assert!(rt; failed.message() == Some("x"));
     assert!(rt; failed != Failed::without_message());
     assert!(rt; Failed::without_message() == Failed::without_message());
     Ok(())
@@ -51,33 +63,31 @@ impl fmt::Display for Mute {
 
 #[test]
 fn keeps_what_is_displayed(rt: HostRuntime) -> Result<(), Fail> {
-    assert_eq!(rt; Failed::from_display(rt.alloc(), &7)?.message(), Some("7"));
-    assert_eq!(rt; Failed::from_display(rt.alloc(), &"")?.message(), Some(""));
+    assert!(rt; Failed::from_display(rt.alloc(), &7)?.message() == Some("7"));
+    assert!(rt; Failed::from_display(rt.alloc(), &"")?.message() == Some(""));
     assert!(rt; Failed::from_display(rt.alloc(), &Mute).is_err());
     Ok(())
 }
 
+// Whether the check failed with this message, or without any.
+fn fails_with(checked: &Result<(), Failed>, message: Option<&str>) -> bool {
+    match checked {
+        Ok(()) => false,
+        Err(failed) => failed.message() == message,
+    }
+}
+
+const UNEQUAL: &str = "assertion `left == right` failed\n  left: \"a\"\n right: \"b\"";
+
 // What a check's failure says if its reason can be displayed, and if not.
 #[test]
-fn fails_because_of_what_it_says(rt: HostRuntime) -> Result<(), Fail> {
+fn fails_because_of_what_it_says(rt: HostRuntime) {
     let alloc = rt.alloc();
-    assert_eq!(rt; Failed::because(alloc, &7).message(), Some("7"));
-    assert_eq!(rt; Failed::because(alloc, &Mute).message(), None);
+    assert!(rt; Failed::because(alloc, &7).message() == Some("7"));
+    assert!(rt; Failed::because(alloc, &Mute).message() == None);
     assert!(rt; Failed::unless(alloc, true, &"wrong").is_ok());
     assert!(rt; Failed::unless_equal(alloc, &"a", &"a").is_ok());
-    let rows: [(Result<(), Failed>, Option<&str>); 3] = [
-        (Failed::unless(alloc, false, &"wrong"), Some("wrong")),
-        (Failed::unless(alloc, false, &Mute), None),
-        (
-            Failed::unless_equal(alloc, &"a", &"b"),
-            Some("assertion `left == right` failed\n  left: \"a\"\n right: \"b\""),
-        ),
-    ];
-    for (checked, message) in rows {
-        match checked {
-            Ok(()) => assert!(rt; false),
-            Err(failed) => assert_eq!(rt; failed.message(), message),
-        }
-    }
-    Ok(())
+    assert!(rt; fails_with(&Failed::unless(alloc, false, &"wrong"), Some("wrong")));
+    assert!(rt; fails_with(&Failed::unless(alloc, false, &Mute), None));
+    assert!(rt; fails_with(&Failed::unless_equal(alloc, &"a", &"b"), Some(UNEQUAL)));
 }

@@ -1,38 +1,84 @@
 //! The desk, beside a plain computation of what it is to show.
 ghost use Rattle.std.specs.Prelude.{◌≡◌};
 
-use super::numbered;
+use super::{Plain, numbered};
 use mimic_pool::{Arrival, Desk};
-use mimic_trial::Outcome;
 use std::alloc::{AllocError, Global};
 use std::process::Abort;
 use std::test::Fail;
 
+// Whether the desk shows this outcome at the place, or none.
+fn shows_at(desk: &Desk, place: usize, want: Option<Plain>) -> bool {
+    match (desk.outcome(place), want) {
+        (Some(outcome), Some(plain)) => plain.is(outcome),
+        (None, None) => true,
+        _ => false,
+    }
+}
+
+// What the desk returns if workers return these three outcomes.
+fn settled(alloc: Global, desk: &Desk, joined: [Plain; 3]) -> Result<Result<(), usize>, AllocError>
+    requires { desk.now.places ≡ 3 }
+{
+    let joined = vec![in alloc;
+        joined[0].outcome(alloc)?,
+        joined[1].outcome(alloc)?,
+        joined[2].outcome(alloc)?,
+    ]?;
+    Ok(desk.settle(&joined))
+}
+
+// The first two places at which nothing arrived.
+fn two_missing(desk: &Desk) -> [Option<usize>; 2] {
+    let mut missing = desk.missing();
+    let first = missing.next();
+    [first, missing.next()]
+}
+
+// Whether the desk shows arrivals at the places 2 and 0, which are numbered by them.
+fn shows_two_arrivals(desk: &Desk) -> bool {
+    desk.order() == [2, 0].as_slice()
+        && shows_at(desk, 2, Some(Plain::Measured(2, 0)))
+        && shows_at(desk, 1, None)
+        && shows_at(desk, 7, None)
+        && two_missing(desk) == [Some(1), None]
+}
+
+// What workers may return beside those two arrivals, and what the desk makes of it.
+const RETURNED: [([Plain; 3], Result<(), usize>); 2] = [
+    (
+        [Plain::Measured(0, 0), Plain::Ignored, Plain::Measured(2, 0)],
+        Ok(()),
+    ),
+    (
+        [Plain::Ignored, Plain::Ignored, Plain::Measured(2, 0)],
+        Err(0),
+    ),
+];
+
 #[test]
 fn keeps_first_arrivals(rt: HostRuntime) -> Result<(), Fail> {
     let mut desk = Desk::new(rt.alloc(), 3)?;
-    assert_eq!(rt; desk.arrive(2, Outcome::Passed), Arrival::First);
-    assert_eq!(rt; desk.arrive(2, Outcome::Ignored), Arrival::Again);
-    assert_eq!(rt; desk.arrive(7, Outcome::Passed), Arrival::Stranger);
-    assert_eq!(rt; desk.arrive(0, Outcome::Passed), Arrival::First);
-    assert_eq!(rt; desk.order(), [2, 0].as_slice());
-    assert!(rt; desk.outcome(2) == Some(&Outcome::Passed));
-    assert!(rt; desk.outcome(1).is_none());
-    assert!(rt; desk.outcome(7).is_none());
-    let mut missing = desk.missing();
-    assert_eq!(rt; missing.next(), Some(1));
-    assert_eq!(rt; missing.next(), None);
-    let joined = [Outcome::Passed, Outcome::Ignored, Outcome::Passed];
-    assert_eq!(rt; desk.settle(&joined), Ok(()));
-    let joined = [Outcome::Ignored, Outcome::Ignored, Outcome::Passed];
-    assert_eq!(rt; desk.settle(&joined), Err(0));
-    assert_eq!(rt; desk.into_order().as_slice(), [2, 0, 1].as_slice());
+    assert!(rt; desk.arrive(2, numbered(2)) == Arrival::First);
+    assert!(rt; desk.arrive(2, numbered(1)) == Arrival::Again);
+    assert!(rt; desk.arrive(7, numbered(2)) == Arrival::Stranger);
+    assert!(rt; desk.arrive(0, numbered(0)) == Arrival::First);
+    assert!(rt; shows_two_arrivals(&desk));
+    for (joined, answer) in RETURNED {
+        assert!(rt; settled(rt.alloc(), &desk, joined)? == answer);
+    }
+    assert!(rt; desk.into_order().as_slice() == [2, 0, 1].as_slice());
     Ok(())
 }
 
 // The number of the first arrival at the place.
 fn first_at(arrivals: &[usize], place: usize) -> Option<usize> {
-    arrivals.iter().position(|other| *other == place)
+    for number in 0..arrivals.len() {
+        if arrivals[number] == place {
+            return Some(number);
+        }
+    }
+    None
 }
 
 // What a desk of three places returns for the arrival of this number, if there is one.
@@ -47,31 +93,37 @@ fn expected_answer(arrivals: &[usize], number: usize) -> Option<Arrival> {
     })
 }
 
-// The places that came, in the order of their first arrivals, and those that are missing.
-fn expected_places(
-    alloc: Global,
-    arrivals: &[usize],
-) -> Result<(Vec<usize>, Vec<usize>), AllocError> {
+// The places that came, in the order of their first arrivals, and then those that are missing; and how many came.
+fn expected_order(alloc: Global, arrivals: &[usize]) -> Result<(Vec<usize>, usize), AllocError> {
     let mut order = Vec::new(alloc);
-    let mut missing = Vec::new(alloc);
-    for (number, place) in arrivals.iter().enumerate() {
-        if *place < 3 && first_at(arrivals, *place) == Some(number) {
-            order.push(*place)?;
+    for number in 0..arrivals.len() {
+        let place = arrivals[number];
+        if place < 3 && first_at(arrivals, place) == Some(number) {
+            order.push(place)?;
         }
     }
+    let came = order.len();
     for place in 0..3 {
         if first_at(arrivals, place).is_none() {
-            missing.push(place)?;
+            order.push(place)?;
         }
     }
-    Ok((order, missing))
+    Ok((order, came))
+}
+
+// What a desk of three places shows at the place.
+fn expected_at(arrivals: &[usize], place: usize) -> Option<Plain> {
+    match first_at(arrivals, place) {
+        Some(number) if place < 3 => Some(Plain::Measured(number as u64, 0)),
+        _ => None,
+    }
 }
 
 // The joined outcome at the place: the one that arrived first, or another one if the place is among the changed.
-fn joined_at(arrivals: &[usize], changed: [bool; 3], place: usize) -> Outcome {
-    match first_at(arrivals, place) {
-        Some(number) if changed.get(place) != Some(&true) => numbered(number),
-        _ => Outcome::Passed,
+fn joined_at(arrivals: &[usize], changed: [bool; 3], place: usize) -> Plain {
+    match expected_at(arrivals, place) {
+        Some(arrived) if changed.get(place) != Some(&true) => arrived,
+        _ => Plain::Passed,
     }
 }
 
@@ -95,21 +147,33 @@ fn arrives(desk: &mut Desk, arrivals: &[usize], number: usize) -> Option<Arrival
     }
 }
 
-fn shows(rt: &impl Abort, alloc: Global, desk: Desk, arrivals: &[usize]) -> Result<(), Fail> {
-    let (mut order, missing) = expected_places(alloc, arrivals)?;
-    assert_eq!(rt; desk.order(), order.as_slice());
-    assert_eq!(rt; Vec::from_iter(alloc, desk.missing())?, missing);
-    for place in 0..5 {
-        let first = first_at(arrivals, place).filter(|_| place < 3);
-        assert!(rt; desk.outcome(place) == first.map(numbered).as_ref());
+// The places that the desk shows: those that came, and then those that are missing; and how many came.
+fn shown_order(alloc: Global, desk: &Desk) -> Result<(Vec<usize>, usize), AllocError> {
+    let mut order = Vec::new(alloc);
+    order.extend_from_slice(desk.order())?;
+    for place in desk.missing() {
+        order.push(place)?;
     }
-    order.extend_from_slice(missing.as_slice())?;
-    assert_eq!(rt; desk.into_order(), order);
+    Ok((order, desk.order().len()))
+}
+
+fn shows(rt: &impl Abort, alloc: Global, desk: Desk, arrivals: &[usize]) -> Result<(), AllocError> {
+    for place in 0..5 {
+        assert!(rt; shows_at(&desk, place, expected_at(arrivals, place)));
+    }
+    let expected = expected_order(alloc, arrivals)?;
+    assert!(rt; shown_order(alloc, &desk)? == expected);
+    assert!(rt; desk.into_order() == expected.0);
     Ok(())
 }
 
 // Each set of the three places is changed in turn.
-fn settles(rt: &impl Abort, desk: &Desk, arrivals: &[usize])
+fn settles(
+    rt: &impl Abort,
+    alloc: Global,
+    desk: &Desk,
+    arrivals: &[usize],
+) -> Result<(), AllocError>
     requires { desk.now.places ≡ 3 }
 {
     for set in 0..8 {
@@ -119,11 +183,33 @@ fn settles(rt: &impl Abort, desk: &Desk, arrivals: &[usize])
             joined_at(arrivals, changed, 1),
             joined_at(arrivals, changed, 2),
         ];
-        assert_eq!(rt;
-            desk.settle(&joined),
-            expected_difference(arrivals, changed)
-        );
+        let want = expected_difference(arrivals, changed);
+        assert!(rt; settled(alloc, desk, joined)? == want);
     }
+    Ok(())
+}
+
+// The list of this number among those of so many arrivals.
+fn arrivals_of(alloc: Global, list: usize, len: usize) -> Result<Vec<usize>, AllocError> {
+    let mut arrivals = Vec::new(alloc);
+    let mut left = list;
+    for _ in 0..len {
+        arrivals.push(left % 4)?;
+        left /= 4;
+    }
+    Ok(arrivals)
+}
+
+// A desk of three places takes the arrivals, and shows what it is to.
+fn check_list(rt: &impl Abort, alloc: Global, arrivals: &[usize]) -> Result<(), Fail> {
+    let mut desk = Desk::new(alloc, 3)?;
+    assert!(rt; arrives(&mut desk, arrivals, 0) == expected_answer(arrivals, 0));
+    assert!(rt; arrives(&mut desk, arrivals, 1) == expected_answer(arrivals, 1));
+    assert!(rt; arrives(&mut desk, arrivals, 2) == expected_answer(arrivals, 2));
+    assert!(rt; arrives(&mut desk, arrivals, 3) == expected_answer(arrivals, 3));
+    settles(rt, alloc, &desk, arrivals)?;
+    shows(rt, alloc, desk, arrivals)?;
+    Ok(())
 }
 
 // All 341 lists of up to four arrivals at the places 0 to 3, of which the desk has three.
@@ -131,32 +217,8 @@ fn settles(rt: &impl Abort, desk: &Desk, arrivals: &[usize])
 fn shows_each_short_list(rt: HostRuntime) -> Result<(), Fail> {
     for (len, lists) in [(0, 1), (1, 4), (2, 16), (3, 64), (4, 256)] {
         for list in 0..lists {
-            let mut arrivals = Vec::new(rt.alloc());
-            for place in [list % 4, list / 4 % 4, list / 16 % 4, list / 64 % 4]
-                .into_iter()
-                .take(len)
-            {
-                arrivals.push(place)?;
-            }
-            let mut desk = Desk::new(rt.alloc(), 3)?;
-            assert_eq!(rt;
-                arrives(&mut desk, &arrivals, 0),
-                expected_answer(&arrivals, 0)
-            );
-            assert_eq!(rt;
-                arrives(&mut desk, &arrivals, 1),
-                expected_answer(&arrivals, 1)
-            );
-            assert_eq!(rt;
-                arrives(&mut desk, &arrivals, 2),
-                expected_answer(&arrivals, 2)
-            );
-            assert_eq!(rt;
-                arrives(&mut desk, &arrivals, 3),
-                expected_answer(&arrivals, 3)
-            );
-            settles(&rt, &desk, &arrivals);
-            shows(&rt, rt.alloc(), desk, &arrivals)?;
+            let arrivals = arrivals_of(rt.alloc(), list, len)?;
+            check_list(&rt, rt.alloc(), &arrivals)?;
         }
     }
     Ok(())

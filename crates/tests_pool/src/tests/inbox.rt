@@ -2,7 +2,7 @@
 ghost use Rattle.std.specs.Prelude.{All};
 ghost use Rattle.mimic_pool.specs.Share.{AllRunners};
 
-use super::numbered;
+use super::{Plain, numbered};
 use mimic_pool::{Inbox, Reports, Share, Untold, deal, join_all, prepare, start_all};
 use mimic_trial::{Failed, Outcome, Task};
 use std::alloc::{AllocError, Global};
@@ -13,21 +13,51 @@ use std::test::Fail;
 use std::thread;
 use std::thread::Threads;
 
+// Whether this row comes next.
+fn gives<R: Wait>(rt: &R, inbox: &mut Inbox, place: usize, row: Plain) -> bool {
+    match inbox.next(rt) {
+        Some((at, outcome)) => at == place && row.is(&outcome),
+        None => false,
+    }
+}
+
+// Whether all have closed and no row waits.
+fn is_at_end<R: Wait>(rt: &R, inbox: &mut Inbox) -> bool {
+    inbox.next(rt).is_none()
+}
+
 // What the board hands back is refused, and the worker closes all the same.
 #[test]
 fn refuses_what_the_board_hands_back(rt: HostRuntime) -> Result<(), Fail> {
     let mut inbox = Inbox::new(rt.alloc(), 2, 1)?;
     let mut reports = inbox.reports(rt, rt.alloc())?;
-    assert_eq!(rt; reports.tell(1, &Outcome::Passed), Ok(()));
-    assert_eq!(rt; reports.tell(1, &Outcome::Ignored), Err(Untold));
-    assert_eq!(rt; reports.tell(2, &Outcome::Passed), Err(Untold));
-    assert_eq!(rt; reports.told(), 1);
-    assert_eq!(rt; reports.refusals(), 2);
-    assert!(rt; inbox.next(&rt) == Some((1, Outcome::Passed)));
+    assert!(rt; reports.tell(1, &Outcome::Passed).is_ok());
+    assert!(rt; reports.tell(1, &Outcome::Ignored) == Err(Untold));
+    assert!(rt; reports.tell(2, &Outcome::Passed) == Err(Untold));
+    assert!(rt; reports.told() == 1 && reports.refusals() == 2);
+    assert!(rt; gives(&rt, &mut inbox, 1, Plain::Passed));
     drop(reports);
-    assert!(rt; inbox.next(&rt).is_none());
+    assert!(rt; is_at_end(&rt, &mut inbox));
     Ok(())
 }
+
+// Whether these rows come next, and no more.
+fn gives_all<R: Wait>(rt: &R, inbox: &mut Inbox, rows: &[(usize, Plain)]) -> bool {
+    let mut same = true;
+    for (place, row) in rows {
+        same = same && gives(rt, inbox, *place, *row);
+    }
+    same && is_at_end(rt, inbox)
+}
+
+// The rows of two workers behind the first one, which is taken while they report.
+const ROWS: [(usize, Plain); 5] = [
+    (0, Plain::Ignored),
+    (3, Plain::Measured(3, 0)),
+    (5, Plain::Measured(5, 0)),
+    (2, Plain::Passed),
+    (4, Plain::Ignored),
+];
 
 // Rows come in the order of their reports, whoever made them, also if some were taken between them.
 #[test]
@@ -35,43 +65,33 @@ fn gives_rows_in_the_order_of_their_reports(rt: HostRuntime) -> Result<(), Fail>
     let mut inbox = Inbox::new(rt.alloc(), 6, 2)?;
     let mut first = inbox.reports(rt, rt.alloc())?;
     let mut second = inbox.reports(rt, rt.alloc())?;
-    assert_eq!(rt; second.tell(1, &Outcome::Passed), Ok(()));
-    assert_eq!(rt; first.tell(0, &Outcome::Ignored), Ok(()));
-    assert_eq!(rt; second.tell(3, &numbered(3)), Ok(()));
-    assert!(rt; inbox.next(&rt) == Some((1, Outcome::Passed)));
-    assert_eq!(rt; second.tell(5, &numbered(5)), Ok(()));
-    assert_eq!(rt; first.tell(2, &Outcome::Passed), Ok(()));
+    assert!(rt; second.tell(1, &Outcome::Passed).is_ok());
+    assert!(rt; first.tell(0, &Outcome::Ignored).is_ok());
+    assert!(rt; second.tell(3, &numbered(3)).is_ok());
+    assert!(rt; gives(&rt, &mut inbox, 1, Plain::Passed));
+    assert!(rt; second.tell(5, &numbered(5)).is_ok());
+    assert!(rt; first.tell(2, &Outcome::Passed).is_ok());
     drop(first);
-    assert_eq!(rt; second.tell(4, &Outcome::Ignored), Ok(()));
+    assert!(rt; second.tell(4, &Outcome::Ignored).is_ok());
     drop(second);
-    for row in [
-        (0, Outcome::Ignored),
-        (3, numbered(3)),
-        (5, numbered(5)),
-        (2, Outcome::Passed),
-        (4, Outcome::Ignored),
-    ] {
-        assert!(rt; inbox.next(&rt) == Some(row));
-    }
-    assert!(rt; inbox.next(&rt).is_none());
+    assert!(rt; gives_all(&rt, &mut inbox, &ROWS));
     Ok(())
 }
 
 // An outcome that can't be copied is refused, and another row is reported after it.
 #[test]
 fn refuses_what_it_cannot_copy(rt: HostRuntime) -> Result<(), Fail> {
-    let woops = Failed::with_message(String::from_str(rt.alloc(), "Woops")?);
-    let woops = Outcome::Failed(woops);
+    let woops = Plain::Failed(Some("Woops"));
+    let outcome = woops.outcome(rt.alloc())?;
     let mut inbox = Inbox::new(rt.alloc(), 2, 1)?;
     let mut reports = inbox.reports(rt, rt.alloc())?;
-    let told = reports.tell(0, &woops);
-    assert_eq!(rt; reports.tell(1, &Outcome::Passed), Ok(()));
+    let told = reports.tell(0, &outcome);
+    assert!(rt; reports.tell(1, &Outcome::Passed).is_ok());
+    assert!(rt; reports.refusals() == u64::from(told.is_err()));
     if told.is_ok() {
-        assert!(rt; inbox.next(&rt) == Some((0, woops)));
-    } else {
-        assert_eq!(rt; reports.refusals(), 1);
+        assert!(rt; gives(&rt, &mut inbox, 0, woops));
     }
-    assert!(rt; inbox.next(&rt) == Some((1, Outcome::Passed)));
+    assert!(rt; gives(&rt, &mut inbox, 1, Plain::Passed));
     Ok(())
 }
 
@@ -82,13 +102,13 @@ fn a_worker_closes_when_its_reports_are_dropped(rt: HostRuntime) -> Result<(), F
     let silent = inbox.reports(rt, rt.alloc())?;
     let mut telling = inbox.reports(rt, rt.alloc())?;
     drop(silent);
-    assert_eq!(rt; telling.tell(1, &Outcome::Passed), Ok(()));
-    assert!(rt; inbox.next(&rt) == Some((1, Outcome::Passed)));
-    assert_eq!(rt; telling.tell(3, &Outcome::Ignored), Ok(()));
+    assert!(rt; telling.tell(1, &Outcome::Passed).is_ok());
+    assert!(rt; gives(&rt, &mut inbox, 1, Plain::Passed));
+    assert!(rt; telling.tell(3, &Outcome::Ignored).is_ok());
     drop(telling);
-    assert!(rt; inbox.next(&rt) == Some((3, Outcome::Ignored)));
-    assert!(rt; inbox.next(&rt).is_none());
-    assert!(rt; inbox.next(&rt).is_none());
+    assert!(rt; gives(&rt, &mut inbox, 3, Plain::Ignored));
+    assert!(rt; is_at_end(&rt, &mut inbox));
+    assert!(rt; is_at_end(&rt, &mut inbox));
     Ok(())
 }
 
@@ -194,8 +214,8 @@ fn two_workers_lose_nothing(rt: HostRuntime) -> Result<(), Fail> {
 }
 
 // Each task, each of one worker, or each third awaits as many rows as there are lower places, so the taking thread is often
-// asleep when one ends, or about to be. A wake-up that is lost leaves it asleep while rows wait. Then a task waits in vain, and
-// fails.
+// asleep when one ends, or about to be. A wake-up that is lost leaves it asleep while rows wait. Then a task waits in vain,
+// and fails.
 #[test]
 fn no_wake_up_is_lost(rt: HostRuntime) -> Result<(), Fail> {
     for step in [1, 2, 3] {

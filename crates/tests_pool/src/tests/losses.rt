@@ -1,8 +1,8 @@
 //! A desk that gets a list with losses, repeats and strangers.
 ghost use Rattle.std.specs.Prelude.{◌≡◌};
 
-use super::numbered;
-use super::workers::{Becomes, shares_of_five};
+use super::workers::shares_of_five;
+use super::{Plain, numbered};
 use mimic_pool::{Arrival, Desk, Reports, Untold, work};
 use mimic_trial::Outcome;
 use std::alloc::{AllocError, Global};
@@ -61,49 +61,35 @@ fn next_arrives(desk: &mut Desk, list: &mut Vec<(usize, Outcome)>) -> Option<Arr
     }
 }
 
-// What a desk returns for the three rows that stand in the list for one that was reported.
-const THREE: [Option<Arrival>; 3] = [
-    Some(Arrival::First),
-    Some(Arrival::Again),
-    Some(Arrival::Stranger),
-];
-
-fn three_arrive(desk: &mut Desk, list: &mut Vec<(usize, Outcome)>) -> [Option<Arrival>; 3]
+// Whether a desk takes the three rows that stand in the list for one that was reported as the first at its place, as one that
+// came before, and as a stranger.
+fn three_arrive(desk: &mut Desk, list: &mut Vec<(usize, Outcome)>) -> bool
     ensures { desk.new.places ≡ desk.old.places }
 {
-    let first = next_arrives(desk, list);
-    let second = next_arrives(desk, list);
-    [first, second, next_arrives(desk, list)]
+    next_arrives(desk, list) == Some(Arrival::First)
+        && next_arrives(desk, list) == Some(Arrival::Again)
+        && next_arrives(desk, list) == Some(Arrival::Stranger)
 }
 
-// The number of the outcome, if it is one that was numbered.
-fn number_of(outcome: &Outcome) -> Option<u64> {
-    match outcome {
-        Outcome::Measured(measurement) => Some(measurement.avg),
-        _ => None,
-    }
-}
-
-// The rows of the report: their places, and the numbers of their outcomes. The last place is ignored.
-const ROWS: [(usize, Option<u64>); 5] = [
-    (0, Some(0)),
-    (4, None),
-    (1, Some(1)),
-    (2, Some(2)),
-    (3, Some(3)),
+// The outcome at each place. The last one is ignored, whatever its runner is.
+const OUTCOMES: [Plain; 5] = [
+    Plain::Measured(0, 0),
+    Plain::Measured(1, 0),
+    Plain::Measured(2, 0),
+    Plain::Measured(3, 0),
+    Plain::Ignored,
 ];
 
-// How many of those rows arrived.
+// The places that arrived, and then those that are missing.
+const ORDER: [usize; 5] = [0, 4, 1, 2, 3];
+
+// How many arrived.
 const ARRIVED: usize = 3;
 
-// Of two workers' rows 0, 2, 4 and 1, 3 the list has 0, 4 and 1, each twice with a stranger behind. The desk keeps those, the
-// others are missing, and it agrees with what the workers return.
-#[test]
-fn settles_a_list_with_losses(rt: HostRuntime) -> Result<(), Fail> {
-    let alloc = rt.alloc();
-    let runners = [0, 1, 2, 3, 4].map(|place| Becomes(numbered(place)));
+// What arrives of the rows of two workers: the worker's that is dealt first comes last, and the list stands backwards.
+fn lossy_list(alloc: Global) -> Result<Vec<(usize, Outcome)>, Fail> {
     let mut list = Vec::new(alloc);
-    for share in shares_of_five(alloc, runners)? {
+    for share in shares_of_five(alloc, OUTCOMES)? {
         let room = Vec::with_capacity(alloc, share.len())?;
         let mut reports = Losing {
             told: 0,
@@ -115,32 +101,50 @@ fn settles_a_list_with_losses(rt: HostRuntime) -> Result<(), Fail> {
         if reports.arrivals.len() as u64 != reports.told.div_ceil(2).saturating_mul(3) {
             return Err(Fail::new("no memory for an arrival"));
         }
-        for row in reports.arrivals {
-            list.push(row)?;
-        }
+        list.append(&mut reports.arrivals)?;
     }
-    let mut desk = Desk::new(alloc, 5)?;
     list.reverse();
-    assert_eq!(rt; three_arrive(&mut desk, &mut list), THREE);
-    assert_eq!(rt; three_arrive(&mut desk, &mut list), THREE);
-    assert_eq!(rt; three_arrive(&mut desk, &mut list), THREE);
-    assert!(rt; list.is_empty());
-    assert_eq!(rt; desk.order(), [0, 4, 1].as_slice());
-    let joined = [
+    Ok(list)
+}
+
+// Whether the desk agrees with what the workers return.
+fn settles(alloc: Global, desk: &Desk) -> Result<bool, AllocError>
+    requires { desk.now.places ≡ 5 }
+{
+    let joined = vec![in alloc;
         numbered(0),
         numbered(1),
         numbered(2),
         numbered(3),
         Outcome::Ignored,
-    ];
-    assert_eq!(rt; desk.settle(&joined), Ok(()));
-    for (row, (place, number)) in ROWS.iter().enumerate() {
-        let arrived = desk.outcome(*place);
-        assert_eq!(rt; arrived.is_some(), row < ARRIVED);
-        let shown = arrived.or(joined.get(*place));
-        assert!(rt; shown.map(number_of) == Some(*number));
+    ]?;
+    Ok(desk.settle(&joined).is_ok())
+}
+
+// Whether the desk shows at the place what its worker returned, or nothing if the row was lost.
+fn shows(desk: &Desk, place: usize, has_arrived: bool) -> bool {
+    match (desk.outcome(place), OUTCOMES.get(place)) {
+        (Some(outcome), Some(returned)) => has_arrived && returned.is(outcome),
+        (None, _) => !has_arrived,
+        _ => false,
     }
-    let places = ROWS.map(|row| row.0);
-    assert_eq!(rt; desk.into_order().as_slice(), places.as_slice());
+}
+
+// Of two workers' rows 0, 2, 4 and 1, 3 the list has 0, 4 and 1, each twice with a stranger behind. The desk keeps those, the
+// others are missing, and it agrees with what the workers return.
+#[test]
+fn settles_a_list_with_losses(rt: HostRuntime) -> Result<(), Fail> {
+    let mut list = lossy_list(rt.alloc())?;
+    let mut desk = Desk::new(rt.alloc(), 5)?;
+    assert!(rt; three_arrive(&mut desk, &mut list));
+    assert!(rt; three_arrive(&mut desk, &mut list));
+    assert!(rt; three_arrive(&mut desk, &mut list));
+    assert!(rt; list.is_empty());
+    assert!(rt; desk.order() == ORDER.split_at(ARRIVED).0);
+    assert!(rt; settles(rt.alloc(), &desk)?);
+    for row in 0..ORDER.len() {
+        assert!(rt; shows(&desk, ORDER[row], row < ARRIVED));
+    }
+    assert!(rt; desk.into_order().as_slice() == ORDER.as_slice());
     Ok(())
 }

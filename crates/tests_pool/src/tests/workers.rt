@@ -1,14 +1,19 @@
 //! Shares and workers, over reports in memory.
+ghost use Rattle.std.specs.Prelude.{◌≤◌, length};
+ghost use Rattle.mimic_pool.specs.Share.{AllRunners};
+
+use super::Plain;
 use mimic_pool::{MemoryReports, Reports, Share, Untold, deal, work};
 use mimic_trial::{Failed, Measurement, Outcome, Runner, Task, TestRunner};
 use std::alloc::{AllocError, Global};
+use std::process::Abort;
 use std::sync::Arc;
-use std::sync::atomic::{AtomicBool, AtomicU64, Ordering};
+use std::sync::atomic::{AtomicU64, Ordering};
 use std::test::Fail;
 
 // A runner that is the outcome which it returns.
 #[derive(Drop)]
-pub(super) struct Becomes(pub(super) Outcome);
+pub(super) struct Becomes(Outcome);
 
 impl Task for Becomes {
     fn run(self, _test_mode: bool) -> Outcome {
@@ -16,131 +21,156 @@ impl Task for Becomes {
     }
 }
 
-fn passes() -> Becomes {
-    Becomes(Outcome::Passed)
-}
-
-// Whether each share has these places, and no more.
-fn have_places<T>(shares: &[Share<T>], dealt: &[&[usize]]) -> bool {
-    let mut same = shares.len() == dealt.len();
-    for (share, places) in shares.iter().zip(dealt) {
-        same = same && share.len() == places.len() && share.place(places.len()).is_none();
-        for i in 0..places.len() {
-            same = same && share.place(i) == places.get(i).copied();
-        }
+// Whether the share has these places, and no more.
+fn has_places<T>(share: &Share<T>, places: &[usize]) -> bool {
+    let mut same = share.len() == places.len() && share.place(places.len()).is_none();
+    for at in 0..places.len() {
+        same = same && share.place(at) == Some(places[at]);
     }
     same
+}
+
+// Whether dealing so many runners to so many workers gives them these places.
+fn are_dealt(alloc: Global, len: usize, dealt: &[&[usize]]) -> Result<bool, AllocError>
+    requires { 1 ≤ length dealt.now }
+{
+    let runners = vec![in alloc; (); len]?;
+    let ignored = vec![in alloc; false; len]?;
+    let shares = deal(alloc, runners, ignored, dealt.len())?;
+    let mut same = true;
+    for worker in 0..dealt.len() {
+        same = same && has_places(&shares[worker], dealt[worker]);
+    }
+    Ok(same)
 }
 
 #[test]
 fn deals_by_remainders(rt: HostRuntime) -> Result<(), Fail> {
-    let alloc = rt.alloc();
-    let five = vec![in alloc; passes(), passes(), passes(), passes(), passes()]?;
-    let flags = vec![in alloc; false, false, false, false, false]?;
-    let shares = deal(alloc, five, flags, 2)?;
-    assert!(rt; have_places(&shares, &[&[0, 2, 4], &[1, 3]]));
-    let two = vec![in alloc; passes(), passes()]?;
-    let shares = deal(alloc, two, vec![in alloc; false, true]?, 3)?;
-    assert!(rt; have_places(&shares, &[&[0], &[1], &[]]));
+    assert!(rt; are_dealt(rt.alloc(), 5, &[&[0, 2, 4], &[1, 3]])?);
+    assert!(rt; are_dealt(rt.alloc(), 2, &[&[0], &[1], &[]])?);
     Ok(())
 }
 
-// The shares of two workers of these runners at the places 0, 1, .. None is ignored but the last one.
-pub(super) fn shares_of_five(
-    alloc: Global,
-    runners: [Becomes; 5],
-) -> Result<Vec<Share<Becomes>>, AllocError> {
-    let [first, second, third, fourth, fifth] = runners;
-    let runners = vec![in alloc; first, second, third, fourth, fifth]?;
-    deal(
-        alloc,
-        runners,
-        vec![in alloc; false, false, false, false, true]?,
-        2,
-    )
+fn becoming(alloc: Global, outcome: Plain) -> Result<Becomes, AllocError> {
+    Ok(Becomes(outcome.outcome(alloc)?))
 }
 
-fn have_rows(rows: &[(usize, Outcome)], expected: &[(usize, Outcome)]) -> bool {
+// The shares of two workers of runners that return these outcomes at the places 0, 1, .. None is ignored but the last one.
+pub(super) fn shares_of_five(
+    alloc: Global,
+    outcomes: [Plain; 5],
+) -> Result<Vec<Share<Becomes>>, AllocError> {
+    let runners = vec![in alloc;
+        becoming(alloc, outcomes[0])?,
+        becoming(alloc, outcomes[1])?,
+        becoming(alloc, outcomes[2])?,
+        becoming(alloc, outcomes[3])?,
+        becoming(alloc, outcomes[4])?,
+    ]?;
+    let ignored = vec![in alloc; false, false, false, false, true]?;
+    deal(alloc, runners, ignored, 2)
+}
+
+fn is_row(row: &(usize, Outcome), expected: Option<&(usize, Plain)>) -> bool {
+    match expected {
+        Some((place, outcome)) => row.0 == *place && outcome.is(&row.1),
+        None => false,
+    }
+}
+
+fn have_rows(rows: &[(usize, Outcome)], expected: &[(usize, Plain)]) -> bool {
     let mut same = rows.len() == expected.len();
-    for (row, other) in rows.iter().zip(expected) {
-        same = same && row.0 == other.0 && row.1 == other.1;
+    for at in 0..rows.len() {
+        same = same && is_row(&rows[at], expected.get(at));
     }
     same
 }
 
+// What runners return, the last of which is ignored.
+const OUTCOMES: [Plain; 5] = [
+    Plain::Failed(Some("Woops")),
+    Plain::Passed,
+    Plain::Measured(32, 3),
+    Plain::Passed,
+    Plain::Passed,
+];
+
+// The rows of the two workers.
+static EVEN: [(usize, Plain); 3] = [
+    (0, Plain::Failed(Some("Woops"))),
+    (2, Plain::Measured(32, 3)),
+    (4, Plain::Ignored),
+];
+
+static ODD: [(usize, Plain); 2] = [(1, Plain::Passed), (3, Plain::Passed)];
+
+// The rows of the worker whose first place is this.
+fn rows_from(first: Option<usize>) -> &'static [(usize, Plain)] {
+    if first == Some(0) { &EVEN } else { &ODD }
+}
+
+// A worker returns these rows, and counts each as told or refused. If there was no memory for a copy, the row is returned
+// all the same.
+fn check_work<T: Task>(
+    rt: &impl Abort,
+    alloc: Global,
+    share: Share<T>,
+    test_mode: bool,
+    rows: &[(usize, Plain)],
+) -> Result<(), AllocError>
+    requires { AllRunners T.can_run share }
+{
+    let room = Vec::with_capacity(alloc, share.len())?;
+    let mut reports = MemoryReports::new(alloc);
+    let answer = work(share, test_mode, &mut reports, room);
+    assert!(rt; have_rows(&answer, rows));
+    assert!(rt; reports.told() + reports.refusals() == rows.len() as u64);
+    if reports.refusals() > 0 {
+        return Err(AllocError);
+    }
+    assert!(rt; have_rows(reports.rows(), rows));
+    Ok(())
+}
+
 #[test]
 fn tells_what_it_answers(rt: HostRuntime) -> Result<(), Fail> {
-    let alloc = rt.alloc();
-    let woops = Failed::with_message(String::from_str(alloc, "Woops")?);
-    let measured = Outcome::Measured(Measurement {
-        avg: 32,
-        variance: 3,
-    });
-    let runners = [
-        Becomes(Outcome::Failed(woops.try_clone(alloc)?)),
-        passes(),
-        Becomes(measured),
-        passes(),
-        passes(),
-    ];
-    let even = [
-        (0, Outcome::Failed(woops)),
-        (
-            2,
-            Outcome::Measured(Measurement {
-                avg: 32,
-                variance: 3,
-            }),
-        ),
-        (4, Outcome::Ignored),
-    ];
-    let odd = [(1, Outcome::Passed), (3, Outcome::Passed)];
-    let expected: [&[(usize, Outcome)]; 2] = [&even, &odd];
-    let shares = shares_of_five(alloc, runners)?;
-    for (share, rows) in shares.into_iter().zip(&expected) {
-        let room = Vec::with_capacity(alloc, share.len())?;
-        let mut reports = MemoryReports::new(alloc);
-        let answer = work(share, false, &mut reports, room);
-        assert!(rt; have_rows(&answer, rows));
-        assert_eq!(rt; reports.told() + reports.refusals(), rows.len() as u64);
-        if reports.refusals() > 0 {
-            // If there was no memory for a copy, the row is returned all the same.
-            return Err(Fail::from(AllocError));
-        }
-        assert!(rt; have_rows(reports.rows(), rows));
+    let shares = shares_of_five(rt.alloc(), OUTCOMES)?;
+    for share in shares {
+        let rows = rows_from(share.place(0));
+        check_work(&rt, rt.alloc(), share, false, rows)?;
     }
     Ok(())
 }
 
-// Boxed runners: the one that is ignored isn't called.
+// Boxed runners: the one that is ignored isn't called. Each that is adds its number.
 #[test]
 fn drops_what_is_ignored(rt: HostRuntime) -> Result<(), Fail> {
     let alloc = rt.alloc();
-    let first = Arc::new(alloc, AtomicBool::new(false))?;
-    let second = Arc::new(alloc, AtomicBool::new(false))?;
-    let first_flag = Arc::try_clone(&first)?;
-    let second_flag = Arc::try_clone(&second)?;
-    let calls_first: Box<dyn FnOnce() -> Result<(), Failed> + Send> = Box::new(alloc, move || {
-        first_flag.store(true, Ordering::SeqCst);
+    let called = Arc::new(alloc, AtomicU64::new(0))?;
+    let first = Arc::try_clone(&called)?;
+    let first: Box<dyn FnOnce() -> Result<(), Failed> + Send> = Box::new(alloc, move || {
+        first.fetch_add(1, Ordering::SeqCst);
         Ok(())
     })?;
-    let calls_second: Box<dyn FnOnce() -> Result<(), Failed> + Send> = Box::new(alloc, move || {
-        second_flag.store(true, Ordering::SeqCst);
+    let second = Arc::try_clone(&called)?;
+    let second: Box<dyn FnOnce() -> Result<(), Failed> + Send> = Box::new(alloc, move || {
+        second.fetch_add(2, Ordering::SeqCst);
         Ok(())
     })?;
     let runners = vec![in alloc;
-        Runner::Test(TestRunner::new(calls_first)),
-        Runner::Test(TestRunner::new(calls_second)),
+        Runner::Test(TestRunner::new(first)),
+        Runner::Test(TestRunner::new(second)),
     ]?;
-    let shares = deal(alloc, runners, vec![in alloc; true, false]?, 1)?;
-    for share in shares {
-        let room = Vec::with_capacity(alloc, share.len())?;
-        let mut reports = MemoryReports::new(alloc);
-        let answer = work(share, true, &mut reports, room);
-        assert!(rt; have_rows(&answer, &[(0, Outcome::Ignored), (1, Outcome::Passed)]));
+    for share in deal(alloc, runners, vec![in alloc; true, false]?, 1)? {
+        check_work(
+            &rt,
+            alloc,
+            share,
+            true,
+            &[(0, Plain::Ignored), (1, Plain::Passed)],
+        )?;
     }
-    assert!(rt; !first.load(Ordering::SeqCst));
-    assert!(rt; second.load(Ordering::SeqCst));
+    assert!(rt; called.load(Ordering::SeqCst) == 2);
     Ok(())
 }
 
@@ -184,32 +214,36 @@ impl Reports for Raises {
     }
 }
 
+// The shares of one worker of three such runners.
+fn counting_shares(alloc: Global, seen: &Arc<AtomicU64>) -> Result<Vec<Share<Counts>>, AllocError> {
+    let runners = vec![in alloc;
+        Counts(Arc::try_clone(seen)?),
+        Counts(Arc::try_clone(seen)?),
+        Counts(Arc::try_clone(seen)?),
+    ]?;
+    deal(alloc, runners, vec![in alloc; false, false, false]?, 1)
+}
+
+// The rows of those runners if each is reported before the next is called.
+const COUNTED: [(usize, Plain); 3] = [
+    (0, Plain::Measured(0, 0)),
+    (1, Plain::Measured(1, 0)),
+    (2, Plain::Measured(2, 0)),
+];
+
 // Each row is reported before the next runner is called.
 #[test]
 fn tells_when_a_trial_has_ended(rt: HostRuntime) -> Result<(), Fail> {
-    let alloc = rt.alloc();
-    let seen = Arc::new(alloc, AtomicU64::new(0))?;
-    let runners = vec![in alloc;
-        Counts(Arc::try_clone(&seen)?),
-        Counts(Arc::try_clone(&seen)?),
-        Counts(Arc::try_clone(&seen)?),
-    ]?;
-    let shares = deal(alloc, runners, vec![in alloc; false, false, false]?, 1)?;
-    for share in shares {
-        let room = Vec::with_capacity(alloc, share.len())?;
+    let seen = Arc::new(rt.alloc(), AtomicU64::new(0))?;
+    for share in counting_shares(rt.alloc(), &seen)? {
+        let room = Vec::with_capacity(rt.alloc(), share.len())?;
         let mut reports = Raises {
             told: 0,
             seen: Arc::try_clone(&seen)?,
         };
         let answer = work(share, false, &mut reports, room);
-        for (avg, row) in answer.iter().enumerate() {
-            let measured = Measurement {
-                avg: avg as u64,
-                variance: 0,
-            };
-            assert!(rt; row.1 == Outcome::Measured(measured));
-        }
+        assert!(rt; have_rows(&answer, &COUNTED));
     }
-    assert_eq!(rt; seen.load(Ordering::SeqCst), 3);
+    assert!(rt; seen.load(Ordering::SeqCst) == 3);
     Ok(())
 }

@@ -2,7 +2,7 @@
 use libtest_mimic::{
     Arguments, Conclusion, Failed, FormatSetting, Outcome, RunError, Sink, Task, Trial, WriteFault,
 };
-use mimic_main::{FlushPolicy, Output, StillClock, run_into};
+use mimic_main::{FlushPolicy, Job, Output, StillClock, run_into};
 use mimic_testkit::{Fault, FaultyWriter, Place};
 use std::alloc::{AllocError, Global};
 use std::io;
@@ -100,7 +100,14 @@ fn run_three<T: Threads + Wait + Copy + Drop + Send + 'static>(
     let seen = Arc::new(alloc, seen)?;
     let tests = three_tests(alloc, &seen)?;
     let output = Output::new(policy, Telling { writer, seen });
-    let (telling, ran) = run_into(rt, alloc, args, tests, output, StillClock, 1, false);
+    let job = Job {
+        args,
+        tests,
+        clock: StillClock,
+        default_threads: 1,
+        auto_colours: false,
+    };
+    let (telling, ran) = run_into(rt, alloc, job, output);
     assert_memory(&ran)?;
     Ok(Left {
         is_ok: ran.is_ok(),

@@ -1,11 +1,11 @@
 //! The program `harness` over memory: statuses, reports, lists and texts by the words of its command line.
+use super::runs::{Host, run_tests};
 use libtest_mimic::{Arguments, ArgumentsError, Line};
-use mimic_main::{Machine, Program, StillClock};
+use mimic_main::Program;
 use mimic_testkit::{Fault, FaultyWriter, MIXED_BAG, Place, known_trials};
 use std::alloc::{AllocError, Global};
 use std::env::FillError;
-use std::io::Eprint;
-use std::process::{ExitCode, Termination};
+use std::process::ExitCode;
 use std::rt::Env;
 use std::test::Fail;
 use std::{fs, io};
@@ -14,7 +14,7 @@ const HARNESS: Program<'static> = Program {
     name: "harness",
     threads: 4,
     auto_colours: false,
-    tells_causes: false,
+    prints_causes: false,
 };
 
 // What a run of the 17 trials leaves.
@@ -26,31 +26,28 @@ struct Left {
 }
 
 // Runs the trials in one thread, with these words on the command line.
-fn run_words<M: Machine + Eprint + 'static>(rt: &M, asked: &[&str]) -> Result<Left, Fail> {
+fn run_words<H: Host>(rt: &H, asked: &[&str]) -> Result<Left, Fail> {
     let mut words = vec![in rt.alloc(); "--test-threads", "1"]?;
     words.extend_from_slice(asked)?;
     run_only(rt, &words)
 }
 
 // Runs the trials with these words alone on the command line.
-fn run_only<M: Machine + Eprint + 'static>(rt: &M, asked: &[&str]) -> Result<Left, Fail> {
+fn run_only<H: Host>(rt: &H, asked: &[&str]) -> Result<Left, Fail> {
     let mut words = vec![in rt.alloc(); "harness"]?;
     words.extend_from_slice(asked)?;
     run_line(rt, Arguments::from_iter(rt.alloc(), words.as_slice()))
 }
 
 // Runs the trials as this line asks.
-fn run_line<M: Machine + Eprint + 'static>(
-    rt: &M,
-    line: Result<Arguments, ArgumentsError>,
-) -> Result<Left, Fail> {
+fn run_line<H: Host>(rt: &H, line: Result<Arguments, ArgumentsError>) -> Result<Left, Fail> {
     let alloc = rt.alloc();
     let trials = known_trials(alloc, &MIXED_BAG)?;
     let out = FaultyWriter::new(alloc);
     let mut err: Vec<u8> = Vec::new(alloc);
-    let (out, status) = HARNESS.harness_run(rt, rt, alloc, line, trials, out, &mut err, StillClock);
+    let (out, status) = run_tests(rt, &HARNESS, line, trials, out, &mut err);
     Ok(Left {
-        status: status.report(rt),
+        status,
         out: String::from_utf8(out.bytes)?,
         err: String::from_utf8(err)?,
     })
@@ -498,10 +495,8 @@ fn refuses_words_that_are_no_text(rt: HostRuntime) -> Result<(), Fail> {
         let out = FaultyWriter::new(alloc);
         let mut err: Vec<u8> = Vec::new(alloc);
         let line = Arguments::from_args(&(RawLine { words }, alloc), alloc);
-        let (out, answered) = HARNESS.harness_run(
-            &rt, &rt, alloc, line, trials, out, &mut err, StillClock,
-        );
-        assert_eq!(rt; answered.report(&rt), ExitCode::from(status));
+        let (out, ended) = run_tests(&rt, &HARNESS, line, trials, out, &mut err);
+        assert_eq!(rt; ended, ExitCode::from(status));
         assert!(rt; out.bytes.as_slice() == on_out.as_bytes());
         assert!(rt; err.as_slice() == on_err.as_bytes());
     }
@@ -539,10 +534,8 @@ fn ends_alike_if_nothing_can_be_printed(rt: HostRuntime) -> Result<(), Fail> {
             .failing(Place::Byte(2), full)
             .for_ever();
         let line = Arguments::from_iter(alloc, &["harness", option, value]);
-        let (out, answered) = HARNESS.harness_run(
-            &rt, &rt, alloc, line, trials, out, &mut err, StillClock,
-        );
-        assert_eq!(rt; answered.report(&rt), ExitCode::from(status));
+        let (out, ended) = run_tests(&rt, &HARNESS, line, trials, out, &mut err);
+        assert_eq!(rt; ended, ExitCode::from(status));
         assert!(rt; out.bytes.is_empty() && err.has_failed, "{option}");
     }
     Ok(())
@@ -565,10 +558,8 @@ fn tells_of_a_full_output(rt: HostRuntime) -> Result<(), Fail> {
             .for_ever();
         let mut err: Vec<u8> = Vec::new(alloc);
         let line = Arguments::from_iter(alloc, &words);
-        let (_, answered) = HARNESS.harness_run(
-            &rt, &rt, alloc, line, trials, out, &mut err, StillClock,
-        );
-        assert_eq!(rt; answered.report(&rt), ExitCode::from(status));
+        let (_, ended) = run_tests(&rt, &HARNESS, line, trials, out, &mut err);
+        assert_eq!(rt; ended, ExitCode::from(status));
         let text: &[u8] = if status == 1 {
             b"harness: cannot write the report\n"
         } else {

@@ -3,15 +3,16 @@ ghost use Rattle.std.specs.Prelude.{◌≤◌};
 ghost use Rattle.libtest_mimic.specs.Trial.{AllCanRun};
 
 use super::outputs::Marked;
+use super::runs::{Host, run_tests};
 use libtest_mimic::pool::{Arrival, Untold};
 use libtest_mimic::{
     Arguments, ArgumentsError, Failed, FormatSetting, Outcome, RunError, Task, Trial, WriteFault,
 };
-use mimic_main::{FlushPolicy, Machine, Program, StillClock};
+use mimic_main::{FlushPolicy, Program, StillClock};
 use mimic_testkit::{Fault, FaultyWriter, Place};
 use std::alloc::{AllocError, Global};
 use std::fmt::Debug;
-use std::io::{Eprint, ErrorKind, IsTerminal, Write};
+use std::io::{ErrorKind, IsTerminal, Write};
 use std::process::{Abort, ExitCode, Termination};
 use std::test::Fail;
 use std::{fs, io};
@@ -20,14 +21,14 @@ const PLAIN: Program<'static> = Program {
     name: "plain",
     threads: 4,
     auto_colours: false,
-    tells_causes: false,
+    prints_causes: false,
 };
 
 const TELLING: Program<'static> = Program {
     name: "telling",
     threads: 4,
     auto_colours: true,
-    tells_causes: true,
+    prints_causes: true,
 };
 
 // A test that passes.
@@ -72,8 +73,9 @@ struct Left<O> {
     status: ExitCode,
 }
 
-fn run_tests<M: Machine + Eprint + 'static, R: Task + Send + 'static, O: Write + IsTerminal + Drop>(
-    rt: &M,
+// Runs the tests, and keeps what is printed on standard error.
+fn run_program<H: Host, R: Task + Send + 'static, O: Write + IsTerminal + Drop>(
+    rt: &H,
     program: &Program<'_>,
     line: Result<Arguments, ArgumentsError>,
     tests: Vec<Trial<R>>,
@@ -84,15 +86,14 @@ fn run_tests<M: Machine + Eprint + 'static, R: Task + Send + 'static, O: Write +
 {
     let alloc = rt.alloc();
     let mut err: Vec<u8> = Vec::new(alloc);
-    let (out, status) = program.harness_run(rt, rt, alloc, line, tests, out, &mut err, StillClock);
-    let status = status.report(rt);
+    let (out, status) = run_tests(rt, program, line, tests, out, &mut err);
     let err = String::from_utf8(err)?;
     Ok(Left { out, err, status })
 }
 
 // Runs one test, which passes.
-fn run_one<M: Machine + Eprint + 'static, O: Write + IsTerminal + Drop>(
-    rt: &M,
+fn run_one<H: Host, O: Write + IsTerminal + Drop>(
+    rt: &H,
     program: &Program<'_>,
     line: Result<Arguments, ArgumentsError>,
     out: O,
@@ -101,7 +102,7 @@ fn run_one<M: Machine + Eprint + 'static, O: Write + IsTerminal + Drop>(
 {
     let alloc = rt.alloc();
     let tests = vec![in alloc; Trial::new(String::from_str(alloc, "a")?, Pass)]?;
-    run_tests(rt, program, line, tests, out)
+    run_program(rt, program, line, tests, out)
 }
 
 // Lines that gave no arguments, the status, and what is written on standard output and on standard error. An output that
@@ -182,7 +183,7 @@ fn shows_what_is_running(rt: HostRuntime) -> Result<(), Fail> {
             Trial::new(String::from_str(alloc, "a")?, first),
             Trial::new(String::from_str(alloc, "b")?, second),
         ]?;
-        let left = run_tests(&rt, &PLAIN, Ok(args), tests, out)?;
+        let left = run_program(&rt, &PLAIN, Ok(args), tests, out)?;
         assert_eq!(rt; left.status, ExitCode::SUCCESS, "{format:?} {is_logged}");
     }
     fs::remove_file(&rt, path)?;
@@ -235,7 +236,7 @@ fn shows_what_has_ended(rt: HostRuntime) -> Result<(), Fail> {
                 Trial::new(String::from_str(alloc, "b")?, second),
             ]?;
             let out = fs::create(&rt, if is_logged { "/dev/null" } else { path })?;
-            let left = run_tests(&rt, &PLAIN, Ok(args), tests, out)?;
+            let left = run_program(&rt, &PLAIN, Ok(args), tests, out)?;
             assert_eq!(rt; left.status, ExitCode::SUCCESS, "{format:?} {is_logged}");
         }
     }
@@ -280,7 +281,7 @@ fn runs_nothing_without_a_title(rt: HostRuntime) -> Result<(), Fail> {
             for name in ["a", "b", "c", "d"] {
                 tests.push(Trial::new(String::from_str(alloc, name)?, Leaves { rt, path }))?;
             }
-            let left = run_tests(&rt, &PLAIN, Ok(args), tests, narrow(alloc))?;
+            let left = run_program(&rt, &PLAIN, Ok(args), tests, narrow(alloc))?;
             assert_eq!(rt; left.status, ExitCode::from(1));
             assert_eq!(rt; left.err.as_str(), "plain: cannot write the report\n");
             assert!(rt; fs::read(&rt, path).is_err(), "{format:?} {threads}");
@@ -408,18 +409,14 @@ const REPORTS: [&str; 2] = [
 ];
 
 // Runs two tests that pass, by so many threads.
-fn run_two<M: Machine + Eprint + 'static>(
-    rt: &M,
-    threads: usize,
-    out: FaultyWriter,
-) -> Result<Left<FaultyWriter>, Fail> {
+fn run_two<H: Host>(rt: &H, threads: usize, out: FaultyWriter) -> Result<Left<FaultyWriter>, Fail> {
     let alloc = rt.alloc();
     let args = asking(alloc, FormatSetting::Json, Some(threads), None)?;
     let tests = vec![in alloc;
         Trial::new(String::from_str(alloc, "a")?, Pass),
         Trial::new(String::from_str(alloc, "b")?, Pass),
     ]?;
-    run_tests(rt, &TELLING, Ok(args), tests, out)
+    run_program(rt, &TELLING, Ok(args), tests, out)
 }
 
 // Whether the line tells of this fault. A write of nothing is told by the sink, or as an error by the buffer.
@@ -505,7 +502,7 @@ fn shows_values(rt: HostRuntime) -> Result<(), Fail> {
     check_debug(&rt, alloc, &FlushPolicy::OnOddLineEnd, "OnOddLineEnd")?;
     check_debug(&rt, alloc, &StillClock, "StillClock")?;
     let program =
-        "Program { name: \"telling\", threads: 4, auto_colours: true, tells_causes: true }";
+        "Program { name: \"telling\", threads: 4, auto_colours: true, prints_causes: true }";
     check_debug(&rt, alloc, &TELLING, program)?;
     let mut err: Vec<u8> = Vec::new(alloc);
     let status = PLAIN.refuse(RunError::Spawn, &mut err);

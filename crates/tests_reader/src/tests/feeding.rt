@@ -1,6 +1,6 @@
 //! What tests of reports share: a report of no trials, a report that is altered, and one that comes in pieces.
 use mimic_events::{Feed, Report};
-use std::alloc::Global;
+use std::alloc::{AllocError, Global};
 use std::test::Fail;
 
 pub(super) const NO_ROWS: &str = r#"{ "type": "suite", "event": "started", "test_count": 0 }
@@ -14,17 +14,19 @@ pub(super) fn altered(alloc: Global, report: &str, old: &str, new: &str) -> Resu
 }
 
 // What a feed returns for these pieces.
-pub(super) fn fed(alloc: Global, pieces: &[&[u8]]) -> Result<Option<Report>, Fail> {
+pub(super) fn fed(alloc: Global, pieces: &[&[u8]]) -> Result<Option<Report>, AllocError> {
     let mut feed = Feed::new(alloc)?;
     for piece in pieces {
         feed.feed(piece)?;
     }
-    let report = feed.finish()?;
-    Ok(report)
+    feed.finish()
 }
 
 // What a feed returns for these bytes, which come one by one.
-pub(super) fn fed_each_byte(alloc: Global, bytes: &[u8]) -> Result<Option<Report>, Fail> {
-    let pieces: Vec<&[u8]> = bytes.chunks(1).collect(alloc)?;
-    fed(alloc, &pieces)
+pub(super) fn fed_each_byte(alloc: Global, bytes: &[u8]) -> Result<Option<Report>, AllocError> {
+    let mut feed = Feed::new(alloc)?;
+    for byte in bytes.chunks(1) {
+        feed.feed(byte)?;
+    }
+    feed.finish()
 }

@@ -2,7 +2,7 @@
 use super::feeding::NO_ROWS;
 use mimic_readreport::readreport_run;
 use mimic_testkit::{Fault, FaultyWriter, Place};
-use std::alloc::Global;
+use std::alloc::{AllocError, Global};
 use std::io;
 use std::io::{ErrorKind, Read};
 use std::test::Fail;
@@ -19,20 +19,31 @@ const FLY: &str = r#"{ "type": "suite", "event": "started", "test_count": 1 }
 { "type": "suite", "event": "ok", "passed": 0, "failed": 0, "ignored": 1, "measured": 0, "filtered_out": 16, "exec_time": 0 }
 "#;
 
-// A report of two trials that passed, one that failed, four that were ignored and three that were measured.
-fn mixed_report(alloc: Global) -> Result<String, Fail> {
-    let title = "{ \"type\": \"suite\", \"event\": \"started\", \"test_count\": 10 }\n";
-    let mut report = String::from_str(alloc, title)?;
-    for (count, kind, fields) in [
-        (2, "test", "\"event\": \"ok\""),
-        (1, "test", "\"event\": \"failed\""),
-        (4, "test", "\"event\": \"ignored\""),
-        (3, "bench", "\"median\": 32, \"deviation\": 3"),
-    ] {
-        for _ in 0..count {
+// The rows of two trials that passed, one that failed, four that were ignored and three that were measured: how many, their
+// type, and their fields.
+const MIXED: [(usize, &str, &str); 4] = [
+    (2, "test", "\"event\": \"ok\""),
+    (1, "test", "\"event\": \"failed\""),
+    (4, "test", "\"event\": \"ignored\""),
+    (3, "bench", "\"median\": 32, \"deviation\": 3"),
+];
+
+// A report of those rows.
+fn mixed_report(alloc: Global) -> Result<String, AllocError> {
+    let mut report = String::new(alloc);
+    report.push_str("{ \"type\": \"suite\", \"event\": \"started\", \"test_count\": 10 }\n")?;
+    for (count, kind, fields) in &MIXED {
+        for _ in 0..*count {
             report.push_str("{ \"type\": \"test\", \"event\": \"started\", \"name\": \"t\" }\n")?;
-            let row = format!(in alloc; "{{ \"type\": \"{kind}\", \"name\": \"t\", {fields} }}\n")?;
-            report.push_str(row.as_str())?;
+            for part in &[
+                "{ \"type\": \"",
+                kind,
+                "\", \"name\": \"t\", ",
+                fields,
+                " }\n",
+            ] {
+                report.push_str(part)?;
+            }
         }
     }
     report.push_str(
@@ -72,13 +83,14 @@ impl Read for Input<'_> {
     }
 }
 
-// The status, and what the program left on its two outputs.
-fn run_over(
+// Whether the program leaves this on its two outputs, and its status says whether the second is empty.
+fn leaves(
     alloc: Global,
     bytes: &[u8],
     fault: Option<ErrorKind>,
     mut out: FaultyWriter,
-) -> Result<(u8, String, String), Fail> {
+    told: (&str, &str),
+) -> bool {
     let mut input = Input {
         left: bytes,
         fault,
@@ -86,97 +98,99 @@ fn run_over(
     };
     let mut err: Vec<u8> = Vec::new(alloc);
     let status = readreport_run(alloc, &mut input, &mut out, &mut err);
-    let out = String::from_utf8(out.bytes)?;
-    let err = String::from_utf8(err)?;
-    Ok((status, out, err))
+    status == u8::from(!told.1.is_empty())
+        && out.bytes.as_slice() == told.0.as_bytes()
+        && err.as_slice() == told.1.as_bytes()
 }
 
-// The reports have no rows, one, one with a kind, and ten, with seven different numbers.
+// Whether a reader and a writer that are well leave this.
+fn tells(alloc: Global, bytes: &[u8], out: &str, err: &str) -> bool {
+    leaves(alloc, bytes, None, FaultyWriter::new(alloc), (out, err))
+}
+
+// Reports of no rows, one, and one with a kind, and what is told of them.
+const REPORTS: [(&str, &str); 3] = [
+    (
+        NO_ROWS,
+        "0 trials: 0 passed; 0 failed; 0 ignored; 0 measured; 0 filtered out; 0 ns\n",
+    ),
+    (ONE_ROW, ONE_ROW_TOLD),
+    (
+        FLY,
+        "1 trials: 0 passed; 0 failed; 1 ignored; 0 measured; 16 filtered out; 0 ns\n",
+    ),
+];
+
+const ONE_ROW_TOLD: &str =
+    "1 trials: 0 passed; 0 failed; 0 ignored; 1 measured; 16 filtered out; 1000000005 ns\n";
+
+const MIXED_TOLD: &str =
+    "10 trials: 2 passed; 1 failed; 4 ignored; 3 measured; 16 filtered out; 5 ns\n";
+
+// Also one of ten rows, with seven different numbers.
 #[test]
 fn tells_reports(rt: HostRuntime) -> Result<(), Fail> {
-    let mixed = mixed_report(rt.alloc())?;
-    for (report, line) in [
-        (
-            NO_ROWS,
-            "0 trials: 0 passed; 0 failed; 0 ignored; 0 measured; 0 filtered out; 0 ns\n",
-        ),
-        (
-            ONE_ROW,
-            "1 trials: 0 passed; 0 failed; 0 ignored; 1 measured; 16 filtered out; 1000000005 ns\n",
-        ),
-        (
-            FLY,
-            "1 trials: 0 passed; 0 failed; 1 ignored; 0 measured; 16 filtered out; 0 ns\n",
-        ),
-        (
-            mixed.as_str(),
-            "10 trials: 2 passed; 1 failed; 4 ignored; 3 measured; 16 filtered out; 5 ns\n",
-        ),
-    ] {
-        let well = FaultyWriter::new(rt.alloc());
-        let (status, on_out, on_err) = run_over(rt.alloc(), report.as_bytes(), None, well)?;
-        assert_eq!(rt; status, 0);
-        assert_eq!(rt; on_out.as_str(), line);
-        assert_eq!(rt; on_err.as_str(), "");
+    for (report, line) in &REPORTS {
+        assert!(rt; tells(rt.alloc(), report.as_bytes(), line, ""), "{line}");
     }
+    let mixed = mixed_report(rt.alloc())?;
+    assert!(rt; tells(rt.alloc(), mixed.as_str().as_bytes(), MIXED_TOLD, ""));
     Ok(())
 }
 
 #[test]
-fn refuses_other_input(rt: HostRuntime) -> Result<(), Fail> {
-    for bytes in [
+fn refuses_other_input(rt: HostRuntime) {
+    let one_row = ONE_ROW.as_bytes();
+    for bytes in &[
         b"".as_slice(),
         b"\n",
         b"\xff",
-        &ONE_ROW.as_bytes()[1..],
-        &ONE_ROW.as_bytes()[..ONE_ROW.len() - 1],
+        &one_row[1..],
+        &one_row[..one_row.len() - 1],
     ] {
-        let well = FaultyWriter::new(rt.alloc());
-        let (status, on_out, on_err) = run_over(rt.alloc(), bytes, None, well)?;
-        assert_eq!(rt; status, 1);
-        assert_eq!(rt; on_out.as_str(), "");
-        assert_eq!(rt; on_err.as_str(), "not a report\n");
+        assert!(rt; tells(rt.alloc(), bytes, "", "not a report\n"));
     }
-    Ok(())
+}
+
+// Whether this is told of a fault behind so many bytes of a report of one row.
+fn tells_of_fault(alloc: Global, count: usize, kind: ErrorKind, told: &str) -> bool {
+    match ONE_ROW.as_bytes().get(..count) {
+        Some(bytes) => leaves(
+            alloc,
+            bytes,
+            Some(kind),
+            FaultyWriter::new(alloc),
+            ("", told),
+        ),
+        None => false,
+    }
 }
 
 // A read that fails in the middle, or when all has come, is reported as such, whatever came before it.
 #[test]
-fn tells_of_faulty_input(rt: HostRuntime) -> Result<(), Fail> {
-    for (count, kind, text) in [
-        (0, ErrorKind::BrokenPipe, "cannot read\n"),
-        (100, ErrorKind::BrokenPipe, "cannot read\n"),
-        (ONE_ROW.len(), ErrorKind::BrokenPipe, "cannot read\n"),
-        (ONE_ROW.len(), ErrorKind::OutOfMemory, "out of memory\n"),
-    ] {
-        let bytes = &ONE_ROW.as_bytes()[..count];
-        let well = FaultyWriter::new(rt.alloc());
-        let (status, on_out, on_err) = run_over(rt.alloc(), bytes, Some(kind), well)?;
-        assert_eq!(rt; status, 1);
-        assert_eq!(rt; on_out.as_str(), "");
-        assert_eq!(rt; on_err.as_str(), text);
+fn tells_of_faulty_input(rt: HostRuntime) {
+    let (alloc, len) = (rt.alloc(), ONE_ROW.len());
+    assert!(rt; tells_of_fault(alloc, 0, ErrorKind::BrokenPipe, "cannot read\n"));
+    assert!(rt; tells_of_fault(alloc, 100, ErrorKind::BrokenPipe, "cannot read\n"));
+    assert!(rt; tells_of_fault(alloc, len, ErrorKind::BrokenPipe, "cannot read\n"));
+    assert!(rt; tells_of_fault(alloc, len, ErrorKind::OutOfMemory, "out of memory\n"));
+}
+
+// Whether a write or a flush that fails at the place is told of, whatever its fault, and leaves this output.
+fn tells_of_full(alloc: Global, place: Place, out: &str) -> bool {
+    let mut is_told = true;
+    for fault in Fault::ALL {
+        let writer = FaultyWriter::new(alloc).failing(place, fault);
+        let told = (out, "cannot write\n");
+        is_told = is_told && leaves(alloc, ONE_ROW.as_bytes(), None, writer, told);
     }
-    Ok(())
+    is_told
 }
 
 // A beginning of the line may have been written when a write or the flush fails.
 #[test]
-fn tells_of_a_full_output(rt: HostRuntime) -> Result<(), Fail> {
-    let alloc = rt.alloc();
-    let line =
-        "1 trials: 0 passed; 0 failed; 0 ignored; 1 measured; 16 filtered out; 1000000005 ns\n";
-    for (place, out) in [
-        (Place::Byte(0), ""),
-        (Place::Byte(8), "1 trials"),
-        (Place::Flush(1), line),
-    ] {
-        for fault in Fault::ALL {
-            let writer = FaultyWriter::new(alloc).failing(place, fault);
-            let (status, on_out, on_err) = run_over(alloc, ONE_ROW.as_bytes(), None, writer)?;
-            assert_eq!(rt; status, 1);
-            assert_eq!(rt; on_out.as_str(), out);
-            assert_eq!(rt; on_err.as_str(), "cannot write\n");
-        }
-    }
-    Ok(())
+fn tells_of_a_full_output(rt: HostRuntime) {
+    assert!(rt; tells_of_full(rt.alloc(), Place::Byte(0), ""));
+    assert!(rt; tells_of_full(rt.alloc(), Place::Byte(8), "1 trials"));
+    assert!(rt; tells_of_full(rt.alloc(), Place::Flush(1), ONE_ROW_TOLD));
 }

@@ -4,7 +4,7 @@ use libtest_mimic::{
     Arguments, Conclusion, Failed, FormatSetting, Measurement, Outcome, Sink, Stopwatch, Trial,
     run_here,
 };
-use mimic_events::{Report, read_report};
+use mimic_events::{Report, Row, read_report};
 use mimic_roundtrip::run_to_report;
 use mimic_testkit::Answer::{Benchmark, Test};
 use mimic_testkit::{Answer, Entry, MIXED_BAG, TwoReadings, known_trials};
@@ -65,99 +65,131 @@ const ALIKE_REPORT: &str = r#"{ "type": "suite", "event": "started", "test_count
 { "type": "suite", "event": "ok", "passed": 2, "failed": 0, "ignored": 0, "measured": 0, "filtered_out": 0, "exec_time": 0 }
 "#;
 
-// Runs the trials of a table into memory. The clock reads these nanoseconds once, and one and a half seconds from then on.
+// Runs the trials of a table into memory, in JSON. The clock reads these nanoseconds once, and one and a half seconds from
+// then on.
 fn written(
     alloc: Global,
-    args: &Arguments,
+    bench: bool,
     table: &[Entry],
     first: u64,
 ) -> Result<(Conclusion, Vec<u8>), Fail> {
+    let mut args = Arguments::new(alloc);
+    args.format = Some(FormatSetting::Json);
+    args.bench = bench;
     let mut sink = Sink::new(Vec::new(alloc));
     let mut watch = Stopwatch::new(TwoReadings {
         first,
         second: 1_500_000_000,
     });
     let trials = known_trials(alloc, table)?;
-    let conclusion = run_here(alloc, args, trials, &mut sink, &mut watch, false)?;
+    let conclusion = run_here(alloc, &args, trials, &mut sink, &mut watch, false)?;
     Ok((conclusion, sink.into_inner()))
 }
 
-fn json_arguments(alloc: Global) -> Arguments {
-    let mut args = Arguments::new(alloc);
-    args.format = Some(FormatSetting::Json);
-    args
+// Whether the row is that of the trial.
+fn is_of_trial(alloc: Global, row: &Row, entry: &Entry, bench: bool) -> Result<bool, AllocError> {
+    let outcome = if entry.is_ignored {
+        Outcome::Ignored
+    } else {
+        outcome_of(alloc, entry.answer, bench)?
+    };
+    Ok(row.name.as_str() == entry.name && row.kind.as_str() == entry.kind && row.outcome == outcome)
 }
 
-// The report has a row for each of the 17 trials, and lasts one and a half seconds.
-fn check_report(rt: &impl Abort, alloc: Global, report: &Report, bench: bool) -> Result<(), Fail> {
-    assert_eq!(rt; report.filtered_out, 0);
-    assert_eq!(rt; report.nanos, 1_500_000_000);
-    assert_eq!(rt; report.rows.len(), MIXED_BAG.len());
-    for (row, entry) in report.rows.iter().zip(&MIXED_BAG) {
-        let outcome = if entry.is_ignored {
-            Outcome::Ignored
-        } else {
-            outcome_of(alloc, entry.answer, bench)?
-        };
-        assert_eq!(rt; row.name.as_str(), entry.name);
-        assert_eq!(rt; row.kind.as_str(), entry.kind);
-        assert!(rt; row.outcome == outcome, "{}", entry.name);
+// The report has a row for each trial of the table, in its order, and no others were filtered out.
+fn check_report(
+    rt: &impl Abort,
+    alloc: Global,
+    report: &Report,
+    table: &[Entry],
+    bench: bool,
+) -> Result<(), AllocError> {
+    assert!(rt; report.filtered_out == 0);
+    assert!(rt; report.rows.len() == table.len());
+    for (row, entry) in report.rows.iter().zip(table) {
+        assert!(rt; is_of_trial(alloc, row, entry, bench)?, "{}", entry.name);
     }
     Ok(())
 }
 
+// What is read from the bytes that a run wrote, which has the counts that the run returned.
+fn read_back(alloc: Global, bytes: &[u8], counts: &Conclusion) -> Result<Report, Fail> {
+    let report = read_report(alloc, bytes)?.ok_or("no report")?;
+    if report.counts() == *counts {
+        Ok(report)
+    } else {
+        Err(Fail::new("other counts"))
+    }
+}
+
+// The report lasts one and a half seconds.
 #[test]
 fn reads_back_what_a_run_wrote(rt: HostRuntime) -> Result<(), Fail> {
     let alloc = rt.alloc();
     for bench in [false, true] {
-        let mut args = json_arguments(alloc);
-        args.bench = bench;
-        let (conclusion, bytes) = written(alloc, &args, &MIXED_BAG, 0)?;
-        assert_eq!(rt; bytes.iter().filter(|byte| **byte == b'\n').count(), 36);
-        let report = read_report(alloc, bytes.as_slice())?.ok_or("no report")?;
-        assert!(rt; report.counts() == conclusion);
-        check_report(&rt, alloc, &report, bench)?;
+        let (conclusion, bytes) = written(alloc, bench, &MIXED_BAG, 0)?;
+        assert!(rt; str::from_utf8(&bytes)?.lines().count() == 36);
+        let report = read_back(alloc, &bytes, &conclusion)?;
+        assert!(rt; report.nanos == 1_500_000_000);
+        check_report(&rt, alloc, &report, &MIXED_BAG, bench)?;
     }
     Ok(())
 }
 
-// The report of two trials is read as the run wrote it, also byte by byte, and nothing that is written otherwise is.
+// Parts of the report of two trials, and what is no report in their place.
+const OTHERS: [(&str, &str); 8] = [
+    ("\"exec_time\": 0 }\n", "\"exec_time\": 0 }"),
+    ("\"exec_time\": 0 }\n", "\"exec_time\": 0 }\n\n"),
+    ("\"test_count\": 2", "\"test_count\": 02"),
+    ("\"test_count\": 2", "\"test_count\": 1"),
+    ("\"exec_time\": 0", "\"exec_time\": 0.50"),
+    ("\\n\" }", "\\u000a\" }"),
+    ("\"passed\": 1", "\"passed\": 2"),
+    (
+        "\"name\": \"failing_test\", \"event\": \"failed\"",
+        "\"name\": \"failing_tests\", \"event\": \"failed\"",
+    ),
+];
+
+// Whether the bytes are no report, at once or byte by byte.
+fn are_refused(alloc: Global, bytes: &[u8]) -> Result<bool, AllocError> {
+    let is_read = read_report(alloc, bytes)?.is_some();
+    let is_fed = fed_each_byte(alloc, bytes)?.is_some();
+    Ok(!is_read && !is_fed)
+}
+
+// Whether the bytes are the same report byte by byte.
+fn are_fed_as(alloc: Global, bytes: &[u8], want: &Report) -> Result<bool, AllocError> {
+    Ok(fed_each_byte(alloc, bytes)?.is_some_and(|report| report == *want))
+}
+
+// The report of two trials is read as the run wrote it, also byte by byte.
 #[test]
 fn reads_two_trials_as_they_were_written(rt: HostRuntime) -> Result<(), Fail> {
     let alloc = rt.alloc();
-    let args = json_arguments(alloc);
-    let (conclusion, bytes) = written(alloc, &args, &TWO_TRIALS, 1_500_000_000)?;
-    let text = String::from_utf8(bytes)?;
-    let report = read_report(alloc, text.as_str().as_bytes())?.ok_or("no report")?;
-    assert!(rt; report.counts() == conclusion);
-    assert_eq!(rt;
-        (report.rows.len(), report.filtered_out, report.nanos),
-        (2, 0, 0)
-    );
-    assert_eq!(rt; report.rows[0].name.as_str(), "succeeding_test");
-    assert!(rt; report.rows[0].outcome == Outcome::Passed);
-    assert_eq!(rt; report.rows[1].name.as_str(), "failing_test");
-    let message = String::from_str(alloc, "Woops")?;
-    assert!(rt; report.rows[1].outcome == Outcome::Failed(Failed::with_message(message)));
-    assert!(rt; fed_each_byte(alloc, text.as_str().as_bytes())? == Some(report));
-    for (old, new) in [
-        (text.as_str(), ""),
-        ("\"exec_time\": 0 }\n", "\"exec_time\": 0 }"),
-        ("\"exec_time\": 0 }\n", "\"exec_time\": 0 }\n\n"),
-        ("\"test_count\": 2", "\"test_count\": 02"),
-        ("\"test_count\": 2", "\"test_count\": 1"),
-        ("\"exec_time\": 0", "\"exec_time\": 0.50"),
-        ("\\n\" }", "\\u000a\" }"),
-        ("\"passed\": 1", "\"passed\": 2"),
-        (
-            "\"name\": \"failing_test\", \"event\": \"failed\"",
-            "\"name\": \"failing_tests\", \"event\": \"failed\"",
-        ),
-    ] {
-        let other = altered(alloc, text.as_str(), old, new)?;
-        let bytes = other.as_str().as_bytes();
-        assert!(rt; read_report(alloc, bytes)?.is_none(), "{new} for {old}");
-        assert!(rt; fed_each_byte(alloc, bytes)?.is_none(), "{new} for {old}");
+    let (conclusion, bytes) = written(alloc, false, &TWO_TRIALS, 1_500_000_000)?;
+    let report = read_back(alloc, &bytes, &conclusion)?;
+    assert!(rt; report.nanos == 0);
+    check_report(&rt, alloc, &report, &TWO_TRIALS, false)?;
+    assert!(rt; are_fed_as(alloc, &bytes, &report)?);
+    Ok(())
+}
+
+// Whether the text is no report with the one part in place of the other, at once or byte by byte.
+fn is_refused_with(alloc: Global, text: &str, old: &str, new: &str) -> Result<bool, Fail> {
+    let other = altered(alloc, text, old, new)?;
+    Ok(are_refused(alloc, other.as_str().as_bytes())?)
+}
+
+// Nothing is read that is written otherwise.
+#[test]
+fn refuses_what_no_run_wrote(rt: HostRuntime) -> Result<(), Fail> {
+    let alloc = rt.alloc();
+    assert!(rt; are_refused(alloc, b"")?);
+    let (_, bytes) = written(alloc, false, &TWO_TRIALS, 1_500_000_000)?;
+    let text = str::from_utf8(&bytes)?;
+    for (old, new) in &OTHERS {
+        assert!(rt; is_refused_with(alloc, text, old, new)?, "{new} for {old}");
     }
     Ok(())
 }
@@ -166,18 +198,11 @@ fn reads_two_trials_as_they_were_written(rt: HostRuntime) -> Result<(), Fail> {
 #[test]
 fn tells_names_from_kinds(rt: HostRuntime) -> Result<(), Fail> {
     let alloc = rt.alloc();
-    let args = json_arguments(alloc);
-    let (_, bytes) = written(alloc, &args, &ALIKE, 1_500_000_000)?;
+    let (conclusion, bytes) = written(alloc, false, &ALIKE, 1_500_000_000)?;
     assert!(rt; bytes.as_slice() == ALIKE_REPORT.as_bytes());
-    let report = read_report(alloc, bytes.as_slice())?.ok_or("no report")?;
-    assert_eq!(rt; report.rows.len(), 2);
-    for (row, entry) in report.rows.iter().zip(&ALIKE) {
-        assert_eq!(rt;
-            (row.name.as_str(), row.kind.as_str()),
-            (entry.name, entry.kind)
-        );
-    }
-    assert!(rt; fed_each_byte(alloc, bytes.as_slice())? == Some(report));
+    let report = read_back(alloc, &bytes, &conclusion)?;
+    check_report(&rt, alloc, &report, &ALIKE, false)?;
+    assert!(rt; are_fed_as(alloc, &bytes, &report)?);
     Ok(())
 }
 
@@ -197,6 +222,6 @@ fn returns_the_report_of_a_run(rt: HostRuntime) -> Result<(), Fail> {
     let mut watch = Stopwatch::new(clock);
     let (counts, report) = run_to_report(alloc, &args, tests, &mut watch)?;
     assert!(rt; report.counts() == counts);
-    assert_eq!(rt; report.rows.len(), 2);
+    assert!(rt; report.rows.len() == 2);
     Ok(())
 }

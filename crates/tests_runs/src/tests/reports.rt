@@ -1,11 +1,11 @@
 //! Whole reports over memory.
-use super::in_memory::run_ample;
+use super::in_memory::{Asked, Left, NOTHING, run_ample, run_by_clock, run_in_workers};
 use super::test_trial;
 use libtest_mimic::{
-    Arguments, ColorSetting, Conclusion, Failed, FormatSetting, Outcome, Sink, Stopwatch, Task,
-    Trial, run, run_here,
+    ColorSetting, Failed, FormatSetting, Outcome, RunError, Spawner, Stopwatch, Task, Trial,
 };
-use mimic_testkit::{MIXED_BAG, RaisedClock, TwoReadings, known_trials};
+use mimic_testkit::{Known, MIXED_BAG, RaisedClock, TwoReadings, known_trials};
+use std::alloc::{AllocError, Global};
 use std::process::ExitCode;
 use std::sync::Arc;
 use std::sync::atomic::{AtomicU64, Ordering};
@@ -70,116 +70,126 @@ const LOOKS: [Look; 4] = [
     },
 ];
 
+// What a run of one test that passes and one that fails leaves, each over a boxed closure.
+fn run_two(alloc: Global, asked: &Asked) -> Result<Left, Fail> {
+    let woops = String::from_str(alloc, "Woops")?;
+    let tests = vec![in alloc;
+        test_trial!(alloc, "succeeding_test", || Ok(())),
+        test_trial!(
+            alloc,
+            "failing_test",
+            move || Err(Failed::with_message(woops))
+        ),
+    ]?;
+    Ok(run_ample(alloc, asked, tests)?)
+}
+
 #[test]
 fn reports_two_tests(rt: HostRuntime) -> Result<(), Fail> {
-    let alloc = rt.alloc();
-    assert_eq!(rt; TWO_TESTS.len(), 247);
-    assert_eq!(rt; TWO_TESTS_COLOURED.len(), 274);
-    for look in LOOKS {
-        let mut args = Arguments::new(alloc);
-        args.format = look.format;
-        args.color = look.color;
-        let woops = String::from_str(alloc, "Woops")?;
-        let tests = vec![in alloc;
-            test_trial!(alloc, "succeeding_test", || Ok(())),
-            test_trial!(
-                alloc,
-                "failing_test",
-                move || Err(Failed::with_message(woops))
-            ),
-        ]?;
-        let (conclusion, writer) = run_ample(alloc, &args, tests)?;
-        assert_eq!(rt;
-            conclusion,
-            Conclusion {
-                num_filtered_out: 0,
-                num_passed: 1,
-                num_failed: 1,
-                num_ignored: 0,
-                num_measured: 0,
-            }
-        );
-        assert!(rt; conclusion.has_failed());
-        assert!(rt; conclusion.exit_code() == ExitCode::from(101));
-        assert!(rt; writer.bytes.as_slice() == look.report);
-        assert_eq!(rt; writer.flushes, look.flushes);
+    assert!(rt; TWO_TESTS.len() == 247);
+    assert!(rt; TWO_TESTS_COLOURED.len() == 274);
+    for look in &LOOKS {
+        let asked = Asked {
+            format: look.format,
+            color: look.color,
+            ..NOTHING
+        };
+        let left = run_two(rt.alloc(), &asked)?;
+        assert!(rt; left.counts() == [1, 1, 0, 0, 0]);
+        assert!(rt; left.conclusion.has_failed());
+        assert!(rt; left.conclusion.exit_code() == ExitCode::from(101));
+        assert!(rt; left.bytes() == look.report);
+        assert!(rt; left.writer.flushes == look.flushes);
     }
     Ok(())
+}
+
+fn run_none(alloc: Global, asked: &Asked, clock: TwoReadings) -> Result<Left, RunError> {
+    run_by_clock(alloc, asked, Vec::<Trial<Known>>::new(alloc), clock)
 }
 
 #[test]
 fn reports_no_tests(rt: HostRuntime) -> Result<(), Fail> {
-    let alloc = rt.alloc();
-    let (conclusion, writer) = run_ample(alloc, &Arguments::new(alloc), Vec::<Trial>::new(alloc))?;
-    assert!(rt; !conclusion.has_failed());
-    assert!(rt; conclusion.exit_code() == ExitCode::from(0));
-    assert!(rt; writer.bytes.as_slice() == NO_TESTS);
+    let left = run_none(rt.alloc(), &NOTHING, TwoReadings::still())?;
+    assert!(rt; !left.conclusion.has_failed());
+    assert!(rt; left.conclusion.exit_code() == ExitCode::from(0));
+    assert!(rt; left.bytes() == NO_TESTS);
     Ok(())
 }
 
-// The clock's readings, and the end of the report in pretty and in JSON.
+const PRETTY: Asked = Asked {
+    format: Some(FormatSetting::Pretty),
+    ..NOTHING
+};
+
+const JSON: Asked = Asked {
+    format: Some(FormatSetting::Json),
+    ..NOTHING
+};
+
+// The format, the clock's readings, and the end of the report.
+const READINGS: [(Asked, u64, u64, &[u8]); 12] = [
+    (PRETTY, 700, 1_500_000_700, b"finished in 1.50s\n\n"),
+    (PRETTY, 9, 4, b"finished in 0.00s\n\n"),
+    (PRETTY, 0, 4_999_999, b" 0.00s\n\n"),
+    (PRETTY, 0, 5_000_000, b" 0.01s\n\n"),
+    (PRETTY, 0, 995_000_000, b" 1.00s\n\n"),
+    (PRETTY, 0, u64::MAX, b"finished in 18446744073.71s\n\n"),
+    (JSON, 700, 1_500_000_700, b": 1.5 }\n"),
+    (JSON, 9, 4, b": 0 }\n"),
+    (JSON, 0, 4_999_999, b": 0.004999999 }\n"),
+    (JSON, 0, 5_000_000, b": 0.005 }\n"),
+    (JSON, 0, 995_000_000, b": 0.995 }\n"),
+    (JSON, 0, u64::MAX, b": 18446744073.709551615 }\n"),
+];
+
 #[test]
 fn tells_the_time(rt: HostRuntime) -> Result<(), Fail> {
-    let alloc = rt.alloc();
-    let readings: [(u64, u64, &[u8], &[u8]); 6] = [
-        (700, 1_500_000_700, b"finished in 1.50s\n\n", b": 1.5 }\n"),
-        (9, 4, b"finished in 0.00s\n\n", b": 0 }\n"),
-        (0, 4_999_999, b" 0.00s\n\n", b": 0.004999999 }\n"),
-        (0, 5_000_000, b" 0.01s\n\n", b": 0.005 }\n"),
-        (0, 995_000_000, b" 1.00s\n\n", b": 0.995 }\n"),
-        (
-            0,
-            u64::MAX,
-            b"finished in 18446744073.71s\n\n",
-            b": 18446744073.709551615 }\n",
-        ),
-    ];
-    for (first, second, pretty, json) in readings {
-        for (format, end) in [(FormatSetting::Pretty, pretty), (FormatSetting::Json, json)] {
-            let mut args = Arguments::new(alloc);
-            args.format = Some(format);
-            let mut sink = Sink::new(Vec::new(alloc));
-            let mut watch = Stopwatch::new(TwoReadings { first, second });
-            assert!(rt; watch.is_fresh());
-            run_here(
-                alloc,
-                &args,
-                Vec::<Trial>::new(alloc),
-                &mut sink,
-                &mut watch,
-                false,
-            )?;
-            assert_eq!(rt; watch.elapsed(), Some(second.saturating_sub(first)));
-            assert!(rt; sink.into_inner().ends_with(end));
-        }
+    assert!(rt; Stopwatch::new(TwoReadings::still()).is_fresh());
+    for (asked, first, second, end) in &READINGS {
+        let clock = TwoReadings {
+            first: *first,
+            second: *second,
+        };
+        let left = run_none(rt.alloc(), asked, clock)?;
+        assert!(rt; left.elapsed == Some(second.saturating_sub(*first)));
+        assert!(rt; left.bytes().ends_with(end));
     }
     Ok(())
 }
 
-// The end of a report of a second and a half.
-const LATER: [(FormatSetting, &[u8]); 2] = [
-    (FormatSetting::Pretty, b"; finished in 1.50s\n\n"),
-    (FormatSetting::Json, b", \"exec_time\": 1.5 }\n"),
-];
+const BY_WORKERS: Option<usize> = Some(2);
+
+// The ends of a report of a second and a half, in pretty and in JSON.
+const LATER: &[u8] = b"; finished in 1.50s\n\n";
+
+const LATER_JSON: &[u8] = b", \"exec_time\": 1.5 }\n";
+
+// Whether the run lasted a second and a half by its watch and its report, which has this end.
+fn is_later(left: &Left, end: &[u8]) -> bool {
+    left.elapsed == Some(1_500_000_000) && left.bytes().ends_with(end)
+}
+
+// What a run by two workers leaves that lasts a second and a half.
+fn run_later<T: Spawner + 'static>(
+    rt: &T,
+    alloc: Global,
+    mut asked: Asked,
+) -> Result<Left, RunError> {
+    asked.threads = BY_WORKERS;
+    let clock = TwoReadings {
+        first: 700,
+        second: 1_500_000_700,
+    };
+    let tests = known_trials(alloc, &MIXED_BAG[..2])?;
+    run_in_workers(rt, alloc, &asked, tests, clock)
+}
 
 // With workers it is told from the first two readings too.
 #[test]
 fn tells_the_time_of_workers(rt: HostRuntime) -> Result<(), Fail> {
-    let alloc = rt.alloc();
-    for (format, end) in LATER {
-        let mut args = Arguments::new(alloc);
-        args.format = Some(format);
-        args.test_threads = Some(2);
-        let mut sink = Sink::new(Vec::new(alloc));
-        let mut watch = Stopwatch::new(TwoReadings {
-            first: 700,
-            second: 1_500_000_700,
-        });
-        let tests = known_trials(alloc, &MIXED_BAG[..2])?;
-        run(&rt, alloc, &args, tests, &mut sink, &mut watch, 1, false)?;
-        assert_eq!(rt; watch.elapsed(), Some(1_500_000_000));
-        assert!(rt; sink.into_inner().ends_with(end));
-    }
+    assert!(rt; is_later(&run_later(&rt, rt.alloc(), PRETTY)?, LATER));
+    assert!(rt; is_later(&run_later(&rt, rt.alloc(), JSON)?, LATER_JSON));
     Ok(())
 }
 
@@ -194,30 +204,45 @@ impl Task for Raises {
     }
 }
 
+// What a run of one trial that raises the clock leaves, by so many workers or by the calling thread.
+fn run_raising<T: Spawner + 'static>(
+    rt: &T,
+    alloc: Global,
+    mut asked: Asked,
+    threads: Option<usize>,
+) -> Result<Left, RunError> {
+    asked.threads = threads;
+    let nanos = Arc::new(alloc, AtomicU64::new(0))?;
+    let raises = Raises(Arc::try_clone(&nanos)?);
+    let mut tests = Vec::with_capacity(alloc, 1)?;
+    tests.push(Trial::new(String::from_str(alloc, "a")?, raises))?;
+    let clock = RaisedClock { nanos };
+    if threads.is_some() {
+        run_in_workers(rt, alloc, &asked, tests, clock)
+    } else {
+        run_by_clock(alloc, &asked, tests, clock)
+    }
+}
+
 // The time reported is that which the trials took, by one thread and by a worker: a runner raises the clock while it runs.
 #[test]
 fn times_the_trials(rt: HostRuntime) -> Result<(), Fail> {
-    let alloc = rt.alloc();
-    for threads in [None, Some(2)] {
-        for (format, end) in LATER {
-            let nanos = Arc::new(alloc, AtomicU64::new(0))?;
-            let raises = Raises(nanos.clone()?);
-            let tests = vec![in alloc; Trial::new(String::from_str(alloc, "a")?, raises)]?;
-            let mut args = Arguments::new(alloc);
-            args.format = Some(format);
-            args.test_threads = threads;
-            let mut sink = Sink::new(Vec::new(alloc));
-            let mut watch = Stopwatch::new(RaisedClock { nanos });
-            if threads.is_some() {
-                run(&rt, alloc, &args, tests, &mut sink, &mut watch, 1, false)?;
-            } else {
-                run_here(alloc, &args, tests, &mut sink, &mut watch, false)?;
-            }
-            assert_eq!(rt; watch.elapsed(), Some(1_500_000_000));
-            assert!(rt; sink.into_inner().ends_with(end));
-        }
+    for threads in [None, BY_WORKERS] {
+        let left = run_raising(&rt, rt.alloc(), PRETTY, threads)?;
+        assert!(rt; is_later(&left, LATER));
+        let left = run_raising(&rt, rt.alloc(), JSON, threads)?;
+        assert!(rt; is_later(&left, LATER_JSON));
     }
     Ok(())
+}
+
+fn failing(alloc: Global, name: &str, failed: Failed) -> Result<Trial<Known>, AllocError> {
+    Ok(Trial::new(String::from_str(alloc, name)?, Known::Fails(failed)))
+}
+
+// A failure with this message.
+fn saying(alloc: Global, message: &str) -> Result<Failed, AllocError> {
+    Ok(Failed::with_message(String::from_str(alloc, message)?))
 }
 
 // Messages: none, an empty one, one of two lines, and a number that was displayed. A failure with an empty message has one
@@ -225,46 +250,36 @@ fn times_the_trials(rt: HostRuntime) -> Result<(), Fail> {
 #[test]
 fn shows_an_empty_message(rt: HostRuntime) -> Result<(), Fail> {
     let alloc = rt.alloc();
-    let empty = String::new(alloc);
-    let lines = String::from_str(alloc, "one\ntwo")?;
-    let seven = Failed::from_display(alloc, &7)?;
-    let tests = vec![in alloc;
-        test_trial!(alloc, "a", || Err(Failed::without_message())),
-        test_trial!(alloc, "b", move || Err(Failed::with_message(empty))),
-        test_trial!(alloc, "c", move || Err(Failed::with_message(lines))),
-        test_trial!(alloc, "f", move || Err(seven)),
-    ]?;
-    let (_, writer) = run_ample(alloc, &Arguments::new(alloc), tests)?;
-    assert!(rt; writer.bytes.as_slice() == MESSAGES);
+    let mut tests = Vec::with_capacity(alloc, 4)?;
+    tests.push(failing(alloc, "a", Failed::without_message())?)?;
+    tests.push(failing(alloc, "b", saying(alloc, "")?)?)?;
+    tests.push(failing(alloc, "c", saying(alloc, "one\ntwo")?)?)?;
+    tests.push(failing(alloc, "f", Failed::from_display(alloc, &7)?)?)?;
+    let left = run_ample(alloc, &NOTHING, tests)?;
+    assert!(rt; left.bytes() == MESSAGES);
     Ok(())
 }
+
+const ESCAPED: [&str; 4] = [
+    "{ \"type\": \"test\", \"name\": \"a\", \"event\": \"failed\" }\n",
+    "{ \"type\": \"test\", \"name\": \"b\", \"event\": \"failed\", \"stdout\": \"Error: \\\"\\\"\\n\" }\n",
+    "\"started\", \"name\": \"a\\\"b\\\\\\n\\u0001\u{7f}\" }\n",
+    "\"name\": \"a\\\"b\\\\\\n\\u0001\u{7f}\", \"event\": \"failed\", \"stdout\": \"Error: \\\"\\u0000\\b\\u000b\\u001f/\u{e9}\\t\\r\\f\\\"\\n\" }\n",
+];
 
 // Names and messages in JSON: no message, an empty one, and characters that are escaped and that are not.
 #[test]
 fn escapes_names_and_messages(rt: HostRuntime) -> Result<(), Fail> {
     let alloc = rt.alloc();
-    let empty = String::new(alloc);
-    let odd = String::from_str(alloc, "\u{0}\u{8}\u{b}\u{1f}/\u{e9}\t\r\u{c}")?;
-    let tests = vec![in alloc;
-        test_trial!(alloc, "a", || Err(Failed::without_message())),
-        test_trial!(alloc, "b", move || Err(Failed::with_message(empty))),
-        test_trial!(
-            alloc,
-            "a\"b\\\n\u{1}\u{7f}",
-            move || Err(Failed::with_message(odd))
-        ),
-    ]?;
-    let mut args = Arguments::new(alloc);
-    args.format = Some(FormatSetting::Json);
-    let (_, writer) = run_ample(alloc, &args, tests)?;
-    let text = String::from_utf8(writer.bytes)?;
-    for line in [
-        "{ \"type\": \"test\", \"name\": \"a\", \"event\": \"failed\" }\n",
-        "{ \"type\": \"test\", \"name\": \"b\", \"event\": \"failed\", \"stdout\": \"Error: \\\"\\\"\\n\" }\n",
-        "\"started\", \"name\": \"a\\\"b\\\\\\n\\u0001\u{7f}\" }\n",
-        "\"name\": \"a\\\"b\\\\\\n\\u0001\u{7f}\", \"event\": \"failed\", \"stdout\": \"Error: \\\"\\u0000\\b\\u000b\\u001f/\u{e9}\\t\\r\\f\\\"\\n\" }\n",
-    ] {
-        assert!(rt; text.as_str().contains(line), "{line}");
+    let odd = saying(alloc, "\u{0}\u{8}\u{b}\u{1f}/\u{e9}\t\r\u{c}")?;
+    let mut tests = Vec::with_capacity(alloc, 3)?;
+    tests.push(failing(alloc, "a", Failed::without_message())?)?;
+    tests.push(failing(alloc, "b", saying(alloc, "")?)?)?;
+    tests.push(failing(alloc, "a\"b\\\n\u{1}\u{7f}", odd)?)?;
+    let left = run_ample(alloc, &JSON, tests)?;
+    let text = str::from_utf8(left.bytes())?;
+    for line in &ESCAPED {
+        assert!(rt; text.contains(*line), "{line}");
     }
     Ok(())
 }

@@ -2,8 +2,8 @@
 ghost use Rattle.std.specs.Prelude.{◌≡◌, ◌+◌, ◌==◌, IfOk, None, if◌then◌else◌};
 ghost use Rattle.mimic_trial.specs.declared.outcome.Outcome.TheVariants.{Failed as AFailed, Passed as APassed};
 
-use super::in_memory::run_ample;
-use libtest_mimic::{Arguments, Failed, Outcome, Task, Trial};
+use super::in_memory::{NOTHING, run_ample};
+use libtest_mimic::{Failed, Outcome, Task, Trial};
 use std::alloc::{AllocError, Global};
 use std::test::Fail;
 
@@ -48,9 +48,9 @@ const SUMS: &[u8] =
 fn runs_plain_data(rt: HostRuntime) -> Result<(), Fail> {
     let alloc = rt.alloc();
     let trials = sums(alloc, &[(1, 1, 2), (2, 2, 5), (u32::MAX, 1, 1 << 32)])?;
-    let (conclusion, writer) = run_ample(alloc, &Arguments::new(alloc), trials)?;
-    assert!(rt; conclusion.has_failed());
-    assert!(rt; writer.bytes.as_slice() == SUMS);
+    let left = run_ample(alloc, &NOTHING, trials)?;
+    assert!(rt; left.conclusion.has_failed());
+    assert!(rt; left.bytes() == SUMS);
     Ok(())
 }
 
@@ -71,7 +71,7 @@ fn runs_closures_without_boxes(rt: HostRuntime) -> Result<(), Fail> {
         let name = String::from_str(alloc, word)?;
         trials.push(Trial::new(name, move || is_short(word)))?;
     }
-    let (conclusion, _) = run_ample(alloc, &Arguments::new(alloc), trials)?;
-    assert_eq!(rt; (conclusion.num_passed, conclusion.num_failed), (2, 1));
+    let left = run_ample(alloc, &NOTHING, trials)?;
+    assert!(rt; left.counts() == [2, 1, 0, 0, 0]);
     Ok(())
 }
