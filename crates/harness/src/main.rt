@@ -1,7 +1,9 @@
 //! A harness of 17 trials, which reads a command line.
 #![tactic(auto)]
 
-use libtest_mimic::{Arguments, Failed, Measurement, RunError, Trial};
+ghost use Rattle.libtest_mimic.specs.Trial.{AllCanRun};
+
+use libtest_mimic::{Arguments, Failed, Measurement, RunError, Task, Trial};
 use mimic_main::{Machine, Program, Status};
 use mimic_testkit::{MIXED_BAG, trials_of};
 
@@ -19,5 +21,16 @@ fn main(rt: HostRuntime) -> Status {
 fn run_mixed_bag<M: Machine + 'static>(machine: &M) -> Result<Status, RunError> {
     let alloc = machine.alloc();
     let trials = trials_of!(alloc, MIXED_BAG);
-    Ok(HARNESS.run_line(machine, Arguments::from_args(machine, alloc), Ok(trials)))
+    Ok(run_trials(machine, trials))
+}
+
+// Runs the trials as the command line asks.
+fn run_trials<M: Machine + 'static, R: Task + Send + 'static>(
+    machine: &M,
+    trials: Vec<Trial<R>>,
+) -> Status
+    requires { AllCanRun R.can_run trials.items }
+{
+    let line = Arguments::from_args(machine, machine.alloc());
+    HARNESS.run_line(machine, line, Ok(trials))
 }
