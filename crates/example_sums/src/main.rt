@@ -2,7 +2,7 @@
 #![tactic(auto)]
 
 use libtest_mimic::check_eq;
-use mimic_main::{Status, run_cases};
+use mimic_main::{Status, run_program, trials_of_cases};
 
 fn main(rt: HostRuntime) -> Status {
     let alloc = rt.alloc();
@@ -11,7 +11,8 @@ fn main(rt: HostRuntime) -> Status {
         ("2 + 2", (2, 2, 5)),
         ("7 + 0", (7, 0, 7)),
     ];
-    run_cases(&rt, "example_sums", sums, move |(left, right, total)| {
+    let tests = trials_of_cases(alloc, sums, move |(left, right, total)| {
         check_eq!(in alloc; u16::saturating_add(left, right), total)
-    })
+    });
+    run_program(&rt, "example_sums", tests)
 }

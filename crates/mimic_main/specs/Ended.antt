@@ -1,12 +1,10 @@
 -- How the program ends: its exit status, and what its output has got then.
-use Rattle.std.specs.Prelude.{◌≡◌, ◌⊎◌, ℕ, Bool, List, Option, IsNone, IsSome, if◌then◌else◌, Result, Ok, Err, IfOk, IfErr, nat_lt, ⊤}
+use Rattle.std.specs.Prelude.{◌≡◌, ℕ, Bool, List, Option, IsNone, IsSome, if◌then◌else◌, Result, Ok, Err, IfOk, IfErr, nat_lt, ⊤}
 use Rattle.mimic_args.specs.declared.Arguments.{Arguments}
 use Rattle.mimic_args.specs.declared.error.ArgumentsError.{ArgumentsError}
 use Rattle.mimic_args.specs.declared.error.ArgumentsError.TheVariants.{OutOfMemory, Help, Refused}
 use Rattle.mimic_trial.specs.declared.trial.Trial.{Trial}
 use Rattle.mimic_trial.specs.Promise.{Gives}
-use Rattle.mimic_trial.specs.Case.{AreTestsOf, OutcomesOf}
-use Rattle.mimic_trial.specs.declared.case.Case.{Case}
 use Rattle.mimic_trial.specs.declared.outcome.conclusion.Conclusion.{Conclusion}
 use Rattle.libtest_mimic.specs.CommandLine.{IsMeaningOf}
 use Rattle.libtest_mimic.specs.Suite.{Asked, asking}
@@ -71,15 +69,10 @@ abbrev pub EndsForLine : {R : Type 0} → Gives R → List (Trial R) → Result 
 EndsForLine gives trials line status = (threads : ℕ) × (auto : Bool)
     × EndsSomehow (asking gives threads auto trials) line status
 
--- the status is that of a program as it reads some command line
-abbrev pub EndsByLine : {R : Type 0} → Gives R → List (Trial R) → ℕ → Type 0
-EndsByLine gives trials status = (line : Result Arguments ArgumentsError) × IsReadLine line
-    × EndsForLine gives trials line status
+-- so ends a program as it reads some command line, of which nothing more is known
+abbrev pub IsOfReadLine : (Result Arguments ArgumentsError → ℕ → Type 0) → ℕ → Type 0
+IsOfReadLine Ends status = (line : Result Arguments ArgumentsError) × IsReadLine line × Ends line status
 
--- the status is that of a program over tests of these cases, as it reads some command line; or it is 1, if there was no memory
--- for the tests (our own)
-abbrev pub EndsOver : {N I F : Type 0} → (N → List ℕ) → (F → I → Result (Unit {0}) (Option (List ℕ)) → Type 0) → F
-    → List (N × I) → ℕ → Type 0
-EndsOver {I = I} {F = F} text returns check cases status = ((trials : List (Trial (Case I F)))
-    × AreTestsOf text check cases trials
-    × EndsByLine (OutcomesOf returns) trials status) ⊎ (status ≡ 1)
+-- the status is that of a program as it reads some command line, whatever the machine says of threads and colours
+abbrev pub EndsByLine : {R : Type 0} → Gives R → List (Trial R) → ℕ → Type 0
+EndsByLine gives trials = IsOfReadLine (EndsForLine gives trials)

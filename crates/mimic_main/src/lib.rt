@@ -3,7 +3,7 @@
 //!
 //! ```rust
 //! use libtest_mimic::check_eq;
-//! use mimic_main::{Status, run_cases};
+//! use mimic_main::{Status, run_program, trials_of_cases};
 //!
 //! fn main(rt: HostRuntime) -> Status {
 //!     let alloc = rt.alloc();
@@ -12,9 +12,10 @@
 //!         ("2 + 2", (2, 2, 5)),
 //!         ("7 + 0", (7, 0, 7)),
 //!     ];
-//!     run_cases(&rt, "example", sums, move |(left, right, total)| {
+//!     let tests = trials_of_cases(alloc, sums, move |(left, right, total)| {
 //!         check_eq!(in alloc; u16::saturating_add(left, right), total)
-//!     })
+//!     });
+//!     run_program(&rt, "example", tests)
 //! }
 //! ```
 #![tactic(auto)]
@@ -31,7 +32,7 @@ mod status;
 pub use clock::{MonotonicClock, StillClock};
 pub use colours::shows_colours;
 pub use job::{Job, run_into};
-pub use machine::{Machine, Streams, run_cases, run_line, run_program};
+pub use machine::{Machine, Streams, run_line, run_program, trials_of_cases};
 pub use output::Output;
 pub use policy::FlushPolicy;
 pub use program::Program;

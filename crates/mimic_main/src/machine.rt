@@ -5,7 +5,7 @@ ghost use Rattle.std.specs.Result.{is_ok};
 ghost use Rattle.libtest_mimic.specs.Suite.{asking};
 ghost use Rattle.libtest_mimic.specs.Trial.{AllCanRun};
 ghost use Rattle.mimic_trial.specs.Case.{AreTestsOf};
-ghost use Rattle.mimic_main.specs.Ended.{EndsByLine, EndsForLine, EndsOver, EndsSomehow, number_of};
+ghost use Rattle.mimic_main.specs.Ended.{EndsByLine, EndsForLine, EndsSomehow, IsOfReadLine, number_of};
 
 use crate::clock::MonotonicClock;
 use crate::colours::shows_colours;
@@ -98,7 +98,8 @@ pub fn run_program<M: Machine, R: Task + Send + 'static>(
     ensures refused { OnErr tests (number_of result ≡ 1) }
 {
     let line = Arguments::from_args(machine, machine.alloc());
-    Program::on(machine, name).run_line(machine, line, tests)
+    let program = Program::on(machine, name);
+    program.run_line(machine, line, tests)
 }
 
 /// Runs or lists the trials as `run_program` does, for a line that was read already, as by a program with words of its own
@@ -116,24 +117,9 @@ pub fn run_line<M: Machine, R: Task + Send + 'static>(
     Program::on(machine, name).run_line(machine, line, tests)
 }
 
-/// Runs or lists tests as `run_program` does, over cases of one check: each is its name and its input, and passes if the
-/// check returns `Ok`.
-pub fn run_cases<
-    M: Machine,
-    N: AsStr + Drop,
-    I: Drop + Send + 'static,
-    F: FnOnce(I) -> Result<(), Failed> + Copy + Drop + Send + 'static,
-    X: Into<RunError>,
->(machine: &M, name: &str, cases: Result<Vec<(N, I)>, X>, check: F) -> Status
-    requires { IfOk cases (λ made. All (λ case. F.pre check case.1) made.items) }
-    ensures made { IfOk cases (λ made. EndsOver N.text F.post check made.items (number_of result)) }
-    ensures refused { OnErr cases (number_of result ≡ 1) }
-{
-    run_program(machine, name, trials_of(machine.alloc(), cases, check))
-}
-
-// The trials of the cases, if these could be made.
-fn trials_of<
+/// Makes tests of a table for [`run_program`]: one for each case, in their order. A case is its name and its input, and passes if
+/// the check, which all share, returns `Ok` for its input. Returns `Err` if the table could not be made, or if an allocation fails.
+pub fn trials_of_cases<
     N: AsStr + Drop,
     I: Drop,
     F: FnOnce(I) -> Result<(), Failed> + Copy + Drop,
@@ -189,6 +175,22 @@ impl<'a> Program<'a> {
             auto_colours: shows_colours(machine, &machine.stdout()),
             prints_causes: true,
         }
+    }
+
+    /// Runs or lists the trials as the machine's command line asks, and returns what `main` is to return.
+    ///
+    /// Trials that are boxed closures are handed in here, by the function that makes the boxes.
+    pub fn run<M: Machine, R: Task + Send + 'static>(
+        &self,
+        machine: &M,
+        tests: Vec<Trial<R>>,
+    ) -> Status
+        requires runnable { AllCanRun R.can_run tests.items }
+        requires some_thread { 1 ≤ self.now.threads }
+        ensures { IsOfReadLine (EndsSomehow (asking R.gives self.now.threads self.now.auto_colours tests.items)) (number_of result) }
+    {
+        let line = Arguments::from_args(machine, machine.alloc());
+        self.run_line(machine, line, Ok(tests))
     }
 
     /// Runs or lists the trials as the line asks, on the machine's streams and by its clock, and returns what `main` is to

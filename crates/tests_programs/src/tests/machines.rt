@@ -1,11 +1,11 @@
-//! Programs on a machine whose parts are known.
+//! Whole programs, on a machine whose parts are known.
 ghost use Rattle.std.specs.Io.{WritesAtMost};
 ghost use Rattle.std.specs.Prelude.{IfOk};
 ghost use Rattle.libtest_mimic.specs.Trial.{AllCanRun};
 
 use super::runs::Host;
-use libtest_mimic::{Failed, Outcome, RunError, Task, Trial};
-use mimic_main::{Machine, run_program};
+use libtest_mimic::{Arguments, Failed, Line, Outcome, RunError, Task, Trial, WriteFault};
+use mimic_main::{Machine, run_line, run_program, trials_of_cases};
 use std::alloc::{Alloc, Global};
 use std::cell::Cell;
 use std::env::FillError;
@@ -21,6 +21,9 @@ use std::{io, thread};
 // The variables of an environment, each a name and a value.
 type Variables = &'static [(&'static str, &'static str)];
 
+// The words of a command line, which need not be text.
+type Words = &'static [&'static [u8]];
+
 // Bytes that a stream of the machine has got.
 type Bytes = Cell<Vec<u8>>;
 
@@ -30,12 +33,11 @@ type Bytes = Cell<Vec<u8>>;
 struct KnownMachine<'a, H> {
     host: H,
     alloc: Global,
-    words: &'static [&'static str],
+    words: Words,
     variables: Variables,
     is_terminal: bool,
     readings: Cell<u64>,
-    out: &'a Bytes,
-    err: &'a Bytes,
+    streams: &'a Streams,
 }
 
 impl<H> Env for KnownMachine<'_, H> {
@@ -49,7 +51,7 @@ impl<H> Env for KnownMachine<'_, H> {
     fn var(&self, name: &str, buf: &mut [u8]) -> Result<usize, FillError> {
         for (known, value) in self.variables {
             if *known == name {
-                return fill(value, buf);
+                return fill(value.as_bytes(), buf);
             }
         }
         Err(FillError::NotPresent)
@@ -60,11 +62,10 @@ impl<H> Env for KnownMachine<'_, H> {
     }
 }
 
-// Copies the text to the front of the buffer.
-fn fill(text: &str, buf: &mut [u8]) -> Result<usize, FillError>
+// Copies the bytes to the front of the buffer.
+fn fill(bytes: &[u8], buf: &mut [u8]) -> Result<usize, FillError>
     ensures { WritesAtMost result buf.new }
 {
-    let bytes = text.as_bytes();
     if bytes.len() > buf.len() {
         return Err(FillError::TooLong);
     }
@@ -135,7 +136,7 @@ impl<'a, H: Host> Machine for KnownMachine<'a, H> {
         Stream {
             alloc: self.alloc,
             is_terminal: self.is_terminal,
-            bytes: self.out,
+            bytes: &self.streams.out,
         }
     }
 
@@ -143,47 +144,65 @@ impl<'a, H: Host> Machine for KnownMachine<'a, H> {
         Stream {
             alloc: self.alloc,
             is_terminal: false,
-            bytes: self.err,
+            bytes: &self.streams.err,
         }
     }
 }
 
-// What a program leaves on its machine.
+// What the streams of a machine have got.
 #[derive(Drop)]
-struct Left {
-    status: ExitCode,
-    out: Vec<u8>,
-    err: Vec<u8>,
+struct Streams {
+    out: Bytes,
+    err: Bytes,
 }
 
-// Runs the tests on a machine of these variables, whose line has no options.
-fn run_on<H: Host, R: Task + Send + 'static>(
-    host: H,
-    alloc: Global,
-    variables: Variables,
-    is_terminal: bool,
-    tests: Result<Vec<Trial<R>>, RunError>,
-) -> Left
-    requires { IfOk tests (λ made. AllCanRun R.can_run made.items) }
-{
-    let (out, err) = (Cell::new(Vec::new(alloc)), Cell::new(Vec::new(alloc)));
-    let machine = KnownMachine {
-        host,
-        alloc,
-        words: &["program"],
-        variables,
-        is_terminal,
-        readings: Cell::new(0),
-        out: &out,
-        err: &err,
-    };
-    let status = run_program(&machine, "program", tests).report(&host);
-    Left {
-        status,
-        out: out.replace(Vec::new(alloc)),
-        err: err.replace(Vec::new(alloc)),
+impl Streams {
+    fn new(alloc: Global) -> Streams {
+        Streams {
+            out: Cell::new(Vec::new(alloc)),
+            err: Cell::new(Vec::new(alloc)),
+        }
+    }
+
+    // Whether standard error has got this text, and standard output nothing.
+    fn have_only_printed(self, alloc: Global, text: &str) -> bool {
+        let out = self.out.replace(Vec::new(alloc));
+        let err = self.err.replace(Vec::new(alloc));
+        out.is_empty() && err.as_slice() == text.as_bytes()
     }
 }
+
+// A machine of this line, which has no variables, and whose output is no terminal.
+fn known_machine<H>(
+    host: H,
+    alloc: Global,
+    words: Words,
+    streams: &Streams,
+) -> KnownMachine<'_, H> {
+    KnownMachine {
+        host,
+        alloc,
+        words,
+        variables: &[],
+        is_terminal: false,
+        readings: Cell::new(0),
+        streams,
+    }
+}
+
+// Runs the tests, and returns the status. This is the one place that calls `run_program`, and it promises nothing, so that no test
+// carries that contract.
+fn run_on<H: Host, R: Task + Send + 'static>(
+    machine: &KnownMachine<'_, H>,
+    tests: Result<Vec<Trial<R>>, RunError>,
+) -> ExitCode
+    requires { IfOk tests (λ made. AllCanRun R.can_run made.items) }
+{
+    run_program(machine, "program", tests).report(&machine.host)
+}
+
+// A line of the program's name alone.
+const NO_OPTIONS: Words = &[b"program"];
 
 // A test that passes.
 #[derive(Drop)]
@@ -210,37 +229,101 @@ const COLOURS: [(Variables, bool, bool); 10] = [
     (&[("TERM", "xterm"), ("NO_COLOR", "")], false, false),
 ];
 
-// Whether the report of a test that passed has colours or not, and the time that the clock measured.
-fn is_as_known(report: &[u8], is_coloured: bool) -> bool {
-    match str::from_utf8(report) {
-        Ok(report) => {
-            report.contains("\u{1b}[32mok") == is_coloured
-                && report.ends_with("; finished in 1.50s\n\n")
-        }
-        Err(_) => false,
-    }
+// Whether a test runs there, and its report has colours or not, and the time that the clock measured.
+fn shows_as_known<H: Host>(
+    host: H,
+    alloc: Global,
+    row: &(Variables, bool, bool),
+) -> Result<bool, Fail> {
+    let (variables, is_terminal, is_coloured) = row;
+    let streams = Streams::new(alloc);
+    let mut machine = known_machine(host, alloc, NO_OPTIONS, &streams);
+    machine.variables = variables;
+    machine.is_terminal = *is_terminal;
+    let tests = vec![in alloc; Trial::new(String::from_str(alloc, "a")?, Pass)]?;
+    let status = run_on(&machine, Ok(tests));
+    let report = String::from_utf8(streams.out.replace(Vec::new(alloc)))?;
+    let report = report.as_str();
+    Ok(
+        status == ExitCode::SUCCESS
+            && report.contains("\u{1b}[32mok") == *is_coloured
+            && report.ends_with("; finished in 1.50s\n\n"),
+    )
 }
 
 #[test]
 fn goes_by_its_machine(rt: HostRuntime) -> Result<(), Fail> {
-    let alloc = rt.alloc();
-    for (variables, is_terminal, is_coloured) in COLOURS {
-        let tests = vec![in alloc; Trial::new(String::from_str(alloc, "a")?, Pass)]?;
-        let left = run_on(rt, alloc, variables, is_terminal, Ok(tests));
-        assert!(rt; left.status == ExitCode::SUCCESS && left.err.is_empty());
-        assert!(rt; is_as_known(&left.out, is_coloured), "{variables:?}");
+    for row in &COLOURS {
+        assert!(rt; shows_as_known(rt, rt.alloc(), row)?, "{:?}", row.0);
     }
     Ok(())
 }
 
+// Whether the text is printed if this is why the tests could not be made.
+fn is_refused<H: Host>(host: H, alloc: Global, refusal: RunError, text: &str) -> bool {
+    let streams = Streams::new(alloc);
+    let machine = known_machine(host, alloc, NO_OPTIONS, &streams);
+    let tests: Result<Vec<Trial<Pass>>, RunError> = Err(refusal);
+    run_on(&machine, tests) == ExitCode::from(1) && streams.have_only_printed(alloc, text)
+}
+
 // If the tests could not be made, the reason is printed under the program's name.
 #[test]
-fn prints_why_tests_were_not_made(rt: HostRuntime) -> Result<(), Fail> {
+fn prints_why_tests_were_not_made(rt: HostRuntime) {
     let alloc = rt.alloc();
-    let tests: Result<Vec<Trial<Pass>>, RunError> = Err(RunError::Spawn);
-    let left = run_on(rt, alloc, &[], false, tests);
-    assert!(rt; left.status == ExitCode::from(1) && left.out.is_empty());
-    assert!(rt; left.err.as_slice() == b"program: cannot start a worker\n".as_slice());
+    let memory = "program: out of memory\n";
+    assert!(rt; is_refused(rt, alloc, RunError::OutOfMemory, memory));
+    let write = "program: cannot write the report to standard output: the writer took no byte\n";
+    assert!(rt; is_refused(rt, alloc, RunError::Write(WriteFault::Zero), write));
+    let threads = "program: no threads to run trials\n";
+    assert!(rt; is_refused(rt, alloc, RunError::ZeroThreads, threads));
+    let worker = "program: cannot start a worker\n";
+    assert!(rt; is_refused(rt, alloc, RunError::Spawn, worker));
+    let arrival = "program: outcome of trial 7 differs from its worker's answer\n";
+    assert!(rt; is_refused(rt, alloc, RunError::Arrival { place: 7 }, arrival));
+}
+
+// So it is by a program for a line that was read already, and if a table of cases could not be made.
+#[test]
+fn prints_under_its_name(rt: HostRuntime) {
+    let alloc = rt.alloc();
+    let streams = Streams::new(alloc);
+    let machine = known_machine(rt, alloc, NO_OPTIONS, &streams);
+    let cases: Result<Vec<(&str, u8)>, RunError> = Err(RunError::Spawn);
+    let tests = trials_of_cases(alloc, cases, |_input: u8| Ok(()));
+    let status = run_line(&machine, "by_line", Ok(Arguments::new(alloc)), tests).report(&rt);
+    assert!(rt; status == ExitCode::from(1));
+    assert!(rt; streams.have_only_printed(alloc, "by_line: cannot start a worker\n"));
+}
+
+// Lines without any word, even the program's name, and with a word that is no text, also after one that asks for help.
+const UNREADABLE: [Words; 3] = [
+    &[],
+    &[b"program", b"a", b"\xff"],
+    &[b"program", b"--help", b"\xff"],
+];
+
+// Whether the line is refused, and has no words of the program's own either.
+fn is_unreadable<H: Host>(host: H, alloc: Global, words: Words) -> Result<bool, Fail> {
+    let streams = Streams::new(alloc);
+    let machine = known_machine(host, alloc, words, &streams);
+    let tests = vec![in alloc; Trial::new(String::from_str(alloc, "a")?, Pass)]?;
+    let status = run_on(&machine, Ok(tests));
+    let line = Line::from_args(&machine, alloc);
+    let shown = format!(in alloc; "{line:?}")?;
+    Ok(
+        status == ExitCode::from(2)
+            && shown.as_str()
+                == "Line { own: [], options: Err(Refused(\"cannot read the arguments\")) }"
+            && streams.have_only_printed(alloc, "cannot read the arguments\n"),
+    )
+}
+
+#[test]
+fn refuses_words_that_are_no_text(rt: HostRuntime) -> Result<(), Fail> {
+    for words in &UNREADABLE {
+        assert!(rt; is_unreadable(rt, rt.alloc(), words)?);
+    }
     Ok(())
 }
 
@@ -274,7 +357,8 @@ fn runs_in_the_threads_of_its_machine(rt: HostRuntime) -> Result<(), Fail> {
         let running = running.clone()?;
         tests.push(Trial::new(format!(in alloc; "{number}")?, Meets { running, awaited }))?;
     }
-    let left = run_on(rt, alloc, &[], false, Ok(tests));
-    assert!(rt; left.status == ExitCode::SUCCESS);
+    let streams = Streams::new(alloc);
+    let machine = known_machine(rt, alloc, NO_OPTIONS, &streams);
+    assert!(rt; run_on(&machine, Ok(tests)) == ExitCode::SUCCESS);
     Ok(())
 }
