@@ -12,8 +12,6 @@
 
 mod asked;
 mod measured;
-#[cfg(test)]
-mod tests;
 
 ghost use Rattle.libtest_mimic.specs.Trial.{AllCanRun};
 

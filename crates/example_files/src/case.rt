@@ -52,7 +52,7 @@ fn read<M: Files + AllocGlobal>(rt: &M, path: &String) -> Result<String, Failed>
 
 // The first line, counted from 1, in which two texts differ.
 #[derive(Drop)]
-pub(crate) struct Difference<'a> {
+struct Difference<'a> {
     number: u64,
     expected: Side<'a>,
     answered: Side<'a>,
@@ -62,8 +62,8 @@ pub(crate) struct Difference<'a> {
 #[derive(Clone, Copy)]
 struct Side<'a>(Option<&'a str>);
 
-/// Line ends count as well: a text whose last line has none differs from one whose last line has one.
-pub(crate) fn first_difference<'a>(expected: &'a str, answered: &'a str) -> Option<Difference<'a>> {
+// Line ends count as well: a text whose last line has none differs from one whose last line has one.
+fn first_difference<'a>(expected: &'a str, answered: &'a str) -> Option<Difference<'a>> {
     let mut expected = expected.split_inclusive('\n');
     let mut answered = answered.split_inclusive('\n');
     for number in 1..u64::MAX {

@@ -5,8 +5,6 @@
 
 mod case;
 mod folders;
-#[cfg(test)]
-mod tests;
 
 use folders::trials_below;
 use libtest_mimic::Line;

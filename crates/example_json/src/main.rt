@@ -2,8 +2,6 @@
 #![tactic(auto)]
 
 mod suite;
-#[cfg(test)]
-mod tests;
 
 use libtest_mimic::Line;
 use mimic_main::{Status, run_line};

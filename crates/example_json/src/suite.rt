@@ -7,7 +7,7 @@ use std::rt::Files;
 use std::{fs, io};
 
 /// What the parser must do with a file.
-#[derive(Clone, Copy, PartialEq, Eq)]
+#[derive(Clone, Copy)]
 pub(crate) enum Expectation {
     Accept,
     Refuse,
@@ -94,7 +94,7 @@ fn trial<M: Files + AllocGlobal + Drop>(
         path,
         expectation,
     };
-    Ok(Trial::new(name, text).with_ignored_flag(expectation == Expectation::Either))
+    Ok(Trial::new(name, text).with_ignored_flag(matches!(expectation, Expectation::Either)))
 }
 
 impl Expectation {

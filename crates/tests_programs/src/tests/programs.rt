@@ -5,9 +5,7 @@ ghost use Rattle.libtest_mimic.specs.Trial.{AllCanRun};
 use super::outputs::Marked;
 use super::runs::{Host, run_tests};
 use libtest_mimic::pool::{Arrival, Untold};
-use libtest_mimic::{
-    Arguments, ArgumentsError, Failed, FormatSetting, Outcome, RunError, Task, Trial, WriteFault,
-};
+use libtest_mimic::{Arguments, Failed, FormatSetting, Outcome, RunError, Task, Trial, WriteFault};
 use mimic_main::{FlushPolicy, Program, StillClock};
 use mimic_testkit::{Fault, FaultyWriter, Place};
 use std::alloc::{AllocError, Global};
@@ -77,7 +75,7 @@ struct Left<O> {
 fn run_program<H: Host, R: Task + Send + 'static, O: Write + IsTerminal + Drop>(
     rt: &H,
     program: &Program<'_>,
-    line: Result<Arguments, ArgumentsError>,
+    args: Arguments,
     tests: Vec<Trial<R>>,
     out: O,
 ) -> Result<Left<O>, Fail>
@@ -86,7 +84,7 @@ fn run_program<H: Host, R: Task + Send + 'static, O: Write + IsTerminal + Drop>(
 {
     let alloc = rt.alloc();
     let mut err: Vec<u8> = Vec::new(alloc);
-    let (out, status) = run_tests(rt, program, line, tests, out, &mut err);
+    let (out, status) = run_tests(rt, program, Ok(args), tests, out, &mut err);
     let err = String::from_utf8(err)?;
     Ok(Left { out, err, status })
 }
@@ -95,115 +93,54 @@ fn run_program<H: Host, R: Task + Send + 'static, O: Write + IsTerminal + Drop>(
 fn run_one<H: Host, O: Write + IsTerminal + Drop>(
     rt: &H,
     program: &Program<'_>,
-    line: Result<Arguments, ArgumentsError>,
+    args: Arguments,
     out: O,
 ) -> Result<Left<O>, Fail>
     requires { 1 ≤ program.now.threads }
 {
     let alloc = rt.alloc();
     let tests = vec![in alloc; Trial::new(String::from_str(alloc, "a")?, Pass)]?;
-    run_program(rt, program, line, tests, out)
+    run_program(rt, program, args, tests, out)
 }
 
-// Lines that gave no arguments, the status, and what is written on standard output and on standard error. An output that
-// fails changes nothing of it but what it holds.
-#[test]
-fn says_why_a_line_gave_nothing(rt: HostRuntime) -> Result<(), Fail> {
-    let alloc = rt.alloc();
-    let rows: [(fn(String) -> ArgumentsError, u8, &str, &str); 3] = [
-        (ArgumentsError::Help, 0, "help\n", ""),
-        (ArgumentsError::Refused, 2, "", "help\n"),
-        (
-            |_| ArgumentsError::OutOfMemory,
-            1,
-            "",
-            "plain: out of memory\n",
-        ),
-    ];
-    let outs: [fn(Global) -> FaultyWriter; 2] = [FaultyWriter::new, narrow];
-    for (error, status, on_out, on_err) in rows {
-        for out in outs {
-            let text = String::from_str(alloc, "help\n")?;
-            let left = run_one(&rt, &PLAIN, Err(error(text)), out(alloc))?;
-            assert_eq!(rt; left.status, ExitCode::from(status));
-            assert!(rt; left.out.has_failed || left.out.bytes.as_slice() == on_out.as_bytes());
-            assert_eq!(rt; left.err.as_str(), on_err);
-        }
-    }
-    Ok(())
+// What a test finds in a file: this and nothing else when it runs, or this part at some time while it runs.
+#[derive(Clone, Copy, Debug)]
+enum Found {
+    Whole(&'static str),
+    InTime(&'static str),
 }
 
-// A test that passes where the file at the path holds this text when it runs.
+// A test that passes if it finds this in the file at the path.
 #[derive(Drop)]
-struct Looks {
+struct Finds {
     rt: HostRuntime,
     path: &'static str,
-    expected: &'static str,
+    found: Found,
 }
 
-impl Task for Looks {
-    fn run(self, _test_mode: bool) -> Outcome {
-        match fs::read(&self.rt, self.path) {
-            Ok(bytes) if bytes.as_slice() == self.expected.as_bytes() => Outcome::Passed,
-            _ => Outcome::Failed(Failed::without_message()),
+impl Finds {
+    fn has_found(&self, bytes: &[u8]) -> bool {
+        match (self.found, str::from_utf8(bytes)) {
+            (Found::Whole(text), Ok(report)) => report == text,
+            (Found::InTime(part), Ok(report)) => report.contains(part),
+            _ => false,
+        }
+    }
+
+    // How often it looks into the file.
+    fn looks(&self) -> u64 {
+        match self.found {
+            Found::Whole(_) => 1,
+            Found::InTime(_) => 1_000_000,
         }
     }
 }
 
-// What is out when the first and the second of two tests run in one thread, on standard output and in a logfile.
-#[test]
-fn shows_what_is_running(rt: HostRuntime) -> Result<(), Fail> {
-    let alloc = rt.alloc();
-    let path = "shows_what_is_running";
-    let pretty = [
-        "\nrunning 2 tests\ntest a ... ",
-        "\nrunning 2 tests\ntest a ... ok\ntest b ... ",
-    ];
-    let json = [
-        "{ \"type\": \"suite\", \"event\": \"started\", \"test_count\": 2 }\n\
-         { \"type\": \"test\", \"event\": \"started\", \"name\": \"a\" }\n",
-        "{ \"type\": \"suite\", \"event\": \"started\", \"test_count\": 2 }\n\
-         { \"type\": \"test\", \"event\": \"started\", \"name\": \"a\" }\n\
-         { \"type\": \"test\", \"name\": \"a\", \"event\": \"ok\" }\n\
-         { \"type\": \"test\", \"event\": \"started\", \"name\": \"b\" }\n",
-    ];
-    let rows: [(FormatSetting, bool, [&str; 2]); 6] = [
-        (FormatSetting::Pretty, false, pretty),
-        (FormatSetting::Pretty, true, pretty),
-        (FormatSetting::Terse, false, ["\nrunning 2 tests\n"; 2]),
-        (FormatSetting::Terse, true, ["\nrunning 2 tests\n"; 2]),
-        (FormatSetting::Json, false, json),
-        (FormatSetting::Json, true, json),
-    ];
-    for (format, is_logged, expected) in rows {
-        let args = asking(alloc, format, Some(1), is_logged.then_some(path))?;
-        let out = fs::create(&rt, if is_logged { "/dev/null" } else { path })?;
-        let [first, second] = expected.map(|expected| Looks { rt, path, expected });
-        let tests = vec![in alloc;
-            Trial::new(String::from_str(alloc, "a")?, first),
-            Trial::new(String::from_str(alloc, "b")?, second),
-        ]?;
-        let left = run_program(&rt, &PLAIN, Ok(args), tests, out)?;
-        assert_eq!(rt; left.status, ExitCode::SUCCESS, "{format:?} {is_logged}");
-    }
-    fs::remove_file(&rt, path)?;
-    Ok(())
-}
-
-// A test that passes once the file at the path holds the awaited text.
-#[derive(Drop)]
-struct Awaits {
-    rt: HostRuntime,
-    path: &'static str,
-    awaited: &'static str,
-}
-
-impl Task for Awaits {
+impl Task for Finds {
     fn run(self, _test_mode: bool) -> Outcome {
-        for _ in 0..1_000_000 {
+        for _ in 0..self.looks() {
             if let Ok(bytes) = fs::read(&self.rt, self.path)
-                && let Ok(report) = String::from_utf8(bytes)
-                && report.as_str().contains(self.awaited)
+                && self.has_found(&bytes)
             {
                 return Outcome::Passed;
             }
@@ -212,32 +149,82 @@ impl Task for Awaits {
     }
 }
 
-// With workers the title is out when the trials run, and in pretty and JSON the row of a trial when it has ended, while another
-// one still runs: on standard output and in a logfile.
+// A format, how many threads run two tests, and what the first and the second of them find.
+type Look = (FormatSetting, usize, Found, Found);
+
+const ONE_RUNS: &str = "{ \"type\": \"suite\", \"event\": \"started\", \"test_count\": 2 }\n\
+    { \"type\": \"test\", \"event\": \"started\", \"name\": \"a\" }\n";
+
+const OTHER_RUNS: &str = "{ \"type\": \"suite\", \"event\": \"started\", \"test_count\": 2 }\n\
+    { \"type\": \"test\", \"event\": \"started\", \"name\": \"a\" }\n\
+    { \"type\": \"test\", \"name\": \"a\", \"event\": \"ok\" }\n\
+    { \"type\": \"test\", \"event\": \"started\", \"name\": \"b\" }\n";
+
+// With one thread what came before, with the announcement of the running test. With workers the title when the tests run, and in
+// pretty and JSON the row of a test when it has ended, while the other one still runs.
+const LOOKS: [Look; 6] = [
+    (
+        FormatSetting::Pretty,
+        1,
+        Found::Whole("\nrunning 2 tests\ntest a ... "),
+        Found::Whole("\nrunning 2 tests\ntest a ... ok\ntest b ... "),
+    ),
+    (
+        FormatSetting::Terse,
+        1,
+        Found::Whole("\nrunning 2 tests\n"),
+        Found::Whole("\nrunning 2 tests\n"),
+    ),
+    (
+        FormatSetting::Json,
+        1,
+        Found::Whole(ONE_RUNS),
+        Found::Whole(OTHER_RUNS),
+    ),
+    (
+        FormatSetting::Pretty,
+        4,
+        Found::InTime("\nrunning 2 tests\n"),
+        Found::InTime("test a ... ok\n"),
+    ),
+    (
+        FormatSetting::Terse,
+        4,
+        Found::InTime("\nrunning 2 tests\n"),
+        Found::InTime("\nrunning 2 tests\n"),
+    ),
+    (
+        FormatSetting::Json,
+        4,
+        Found::InTime("\"test_count\": 2 }\n"),
+        Found::InTime("\"name\": \"a\", \"event\": \"ok\" }\n"),
+    ),
+];
+
+// The two tests, over the file at the path.
+fn finders(
+    rt: HostRuntime,
+    look: &Look,
+    path: &'static str,
+) -> Result<Vec<Trial<Finds>>, AllocError> {
+    let mut tests = Vec::new(rt.alloc());
+    for (name, found) in [("a", look.2), ("b", look.3)] {
+        let finds = Finds { rt, path, found };
+        tests.push(Trial::new(String::from_str(rt.alloc(), name)?, finds))?;
+    }
+    Ok(tests)
+}
+
+// On standard output and in a logfile.
 #[test]
-fn shows_what_has_ended(rt: HostRuntime) -> Result<(), Fail> {
-    let alloc = rt.alloc();
-    let path = "shows_what_has_ended";
-    let running = "\nrunning 2 tests\n";
-    for (format, title, row) in [
-        (FormatSetting::Pretty, running, "test a ... ok\n"),
-        (FormatSetting::Terse, running, running),
-        (
-            FormatSetting::Json,
-            "\"test_count\": 2 }\n",
-            "\"name\": \"a\", \"event\": \"ok\" }\n",
-        ),
-    ] {
-        for is_logged in [false, true] {
-            let args = asking(alloc, format, None, is_logged.then_some(path))?;
-            let [first, second] = [title, row].map(|awaited| Awaits { rt, path, awaited });
-            let tests = vec![in alloc;
-                Trial::new(String::from_str(alloc, "a")?, first),
-                Trial::new(String::from_str(alloc, "b")?, second),
-            ]?;
-            let out = fs::create(&rt, if is_logged { "/dev/null" } else { path })?;
-            let left = run_program(&rt, &PLAIN, Ok(args), tests, out)?;
-            assert_eq!(rt; left.status, ExitCode::SUCCESS, "{format:?} {is_logged}");
+fn shows_what_runs_and_what_has_ended(rt: HostRuntime) -> Result<(), Fail> {
+    let path = "shows_what_runs_and_what_has_ended";
+    for look in &LOOKS {
+        for logfile in [None, Some(path)] {
+            let args = asking(rt.alloc(), look.0, Some(look.1), logfile)?;
+            let out = fs::create(&rt, if logfile.is_some() { "/dev/null" } else { path })?;
+            let left = run_program(&rt, &PLAIN, args, finders(rt, look, path)?, out)?;
+            assert!(rt; left.status == ExitCode::SUCCESS, "{look:?}");
         }
     }
     fs::remove_file(&rt, path)?;
@@ -260,32 +247,39 @@ impl Task for Leaves {
     }
 }
 
-// If the title can't be written, on standard output or in a logfile, no trial is run.
+fn leavers(rt: HostRuntime, path: &'static str) -> Result<Vec<Trial<Leaves>>, AllocError> {
+    let mut tests = Vec::new(rt.alloc());
+    for name in ["a", "b", "c", "d"] {
+        tests.push(Trial::new(String::from_str(rt.alloc(), name)?, Leaves { rt, path }))?;
+    }
+    Ok(tests)
+}
+
+const UNTITLED: [(FormatSetting, usize, Option<&str>); 12] = [
+    (FormatSetting::Pretty, 1, None),
+    (FormatSetting::Pretty, 1, Some("/dev/full")),
+    (FormatSetting::Pretty, 4, None),
+    (FormatSetting::Pretty, 4, Some("/dev/full")),
+    (FormatSetting::Terse, 1, None),
+    (FormatSetting::Terse, 1, Some("/dev/full")),
+    (FormatSetting::Terse, 4, None),
+    (FormatSetting::Terse, 4, Some("/dev/full")),
+    (FormatSetting::Json, 1, None),
+    (FormatSetting::Json, 1, Some("/dev/full")),
+    (FormatSetting::Json, 4, None),
+    (FormatSetting::Json, 4, Some("/dev/full")),
+];
+
+// If the title can't be written, on standard output or in a logfile, no test is run.
 #[test]
 fn runs_nothing_without_a_title(rt: HostRuntime) -> Result<(), Fail> {
-    let alloc = rt.alloc();
     let path = "runs_nothing_without_a_title";
-    for format in [
-        FormatSetting::Pretty,
-        FormatSetting::Terse,
-        FormatSetting::Json,
-    ] {
-        for (threads, logfile) in [
-            (1, None),
-            (1, Some("/dev/full")),
-            (4, None),
-            (4, Some("/dev/full")),
-        ] {
-            let args = asking(alloc, format, Some(threads), logfile)?;
-            let mut tests = Vec::new(alloc);
-            for name in ["a", "b", "c", "d"] {
-                tests.push(Trial::new(String::from_str(alloc, name)?, Leaves { rt, path }))?;
-            }
-            let left = run_program(&rt, &PLAIN, Ok(args), tests, narrow(alloc))?;
-            assert_eq!(rt; left.status, ExitCode::from(1));
-            assert_eq!(rt; left.err.as_str(), "plain: cannot write the report\n");
-            assert!(rt; fs::read(&rt, path).is_err(), "{format:?} {threads}");
-        }
+    for row in &UNTITLED {
+        let args = asking(rt.alloc(), row.0, Some(row.1), row.2)?;
+        let left = run_program(&rt, &PLAIN, args, leavers(rt, path)?, narrow(rt.alloc()))?;
+        assert!(rt; left.status == ExitCode::from(1), "{row:?}");
+        assert!(rt; left.err.as_str() == "plain: cannot write the report\n");
+        assert!(rt; fs::read(&rt, path).is_err(), "{row:?}");
     }
     Ok(())
 }
@@ -326,66 +320,30 @@ const WRITES: [(FormatSetting, bool, usize, &str, &str); 8] = [
     (FormatSetting::Terse, true, 4, "\nrunning 1 test\n", "."),
 ];
 
-#[test]
-fn writes_at_once_what_comes_at_once(rt: HostRuntime) -> Result<(), Fail> {
-    let alloc = rt.alloc();
-    for (format, is_terminal, threads, first, second) in WRITES {
-        let args = asking(alloc, format, Some(threads), None)?;
-        let mut out = Marked::new(alloc, usize::MAX);
-        out.is_terminal = is_terminal;
-        let left = run_one(&rt, &PLAIN, Ok(args), out)?;
-        assert_eq!(rt; left.status, ExitCode::SUCCESS, "{format:?}");
-        let marks = left.out.marks.as_slice();
-        assert!(rt; marks.first() == Some(&first.len()), "{format:?} {threads}");
-        let len = first.len().saturating_add(second.len());
-        assert!(rt;
-            second.is_empty() || marks.get(1) == Some(&len),
-            "{format:?} {threads}"
-        );
-    }
-    Ok(())
+// Whether the first write of the row's report, and the second one if it is known, are as the row says.
+fn writes_so<H: Host>(
+    host: &H,
+    row: &(FormatSetting, bool, usize, &str, &str),
+) -> Result<bool, Fail> {
+    let alloc = host.alloc();
+    let (format, is_terminal, threads, first, second) = row;
+    let args = asking(alloc, *format, Some(*threads), None)?;
+    let mut out = Marked::new(alloc, usize::MAX);
+    out.is_terminal = *is_terminal;
+    let left = run_one(host, &PLAIN, args, out)?;
+    let marks = left.out.marks.as_slice();
+    let len = first.len().saturating_add(second.len());
+    Ok(
+        left.status == ExitCode::SUCCESS
+            && marks.first() == Some(&first.len())
+            && (second.is_empty() || marks.get(1) == Some(&len)),
+    )
 }
 
-// A report that can't be written, on standard output and in a logfile, with its cause and without.
 #[test]
-fn tells_faults(rt: HostRuntime) -> Result<(), Fail> {
-    let alloc = rt.alloc();
-    let cause = io::Error::from(ErrorKind::StorageFull);
-    let to_output = format!(in alloc;
-        "telling: cannot write the report to standard output: {cause}\n"
-    )?;
-    let rows: [(&Program<'_>, Option<&str>, &str); 6] = [
-        (&PLAIN, None, "plain: cannot write the report\n"),
-        (&TELLING, None, to_output.as_str()),
-        (
-            &PLAIN,
-            Some("/dev/full"),
-            "plain: cannot write the report\n",
-        ),
-        (
-            &TELLING,
-            Some("/dev/full"),
-            "telling: cannot write the report to /dev/full: No space left on device (os error 28)\n",
-        ),
-        (
-            &PLAIN,
-            Some("/nowhere/to/be"),
-            "plain: cannot create the logfile\n",
-        ),
-        (
-            &TELLING,
-            Some("/nowhere/to/be"),
-            "telling: cannot create the logfile /nowhere/to/be: No such file or directory (os error 2)\n",
-        ),
-    ];
-    for (program, logfile, text) in rows {
-        let mut args = Arguments::new(alloc);
-        if let Some(path) = logfile {
-            args.logfile = Some(String::from_str(alloc, path)?);
-        }
-        let left = run_one(&rt, program, Ok(args), narrow(alloc))?;
-        assert_eq!(rt; left.status, ExitCode::from(1));
-        assert_eq!(rt; left.err.as_str(), text);
+fn writes_at_once_what_comes_at_once(rt: HostRuntime) -> Result<(), Fail> {
+    for row in &WRITES {
+        assert!(rt; writes_so(&rt, row)?, "{:?} {}", row.0, row.2);
     }
     Ok(())
 }
@@ -416,7 +374,7 @@ fn run_two<H: Host>(rt: &H, threads: usize, out: FaultyWriter) -> Result<Left<Fa
         Trial::new(String::from_str(alloc, "a")?, Pass),
         Trial::new(String::from_str(alloc, "b")?, Pass),
     ]?;
-    run_program(rt, &TELLING, Ok(args), tests, out)
+    run_program(rt, &TELLING, args, tests, out)
 }
 
 // Whether the line tells of this fault. A write of nothing is told by the sink, or as an error by the buffer.
@@ -431,42 +389,56 @@ fn tells_cause(alloc: Global, line: &str, fault: Fault) -> Result<bool, Fail> {
     Ok(line == by_system.as_str() || is_zero && line == by_sink.as_str())
 }
 
-// A report into a writer that fails once: a beginning stands, nothing more is asked for, and the program tells it with its
-// cause. How many flushes there are is for the threads to say.
+// Whether a report into a writer that fails once is a beginning of a whole one, nothing more is asked for, and the program prints
+// the fault with its cause. How many flushes there are is for the threads to say.
+fn ends_so(
+    alloc: Global,
+    left: &Left<FaultyWriter>,
+    place: Place,
+    fault: Fault,
+) -> Result<bool, Fail> {
+    let bytes = left.out.bytes.as_slice();
+    let [report, reordered] = REPORTS;
+    let is_beginning = report.as_bytes().starts_with(bytes)
+        || reordered.as_bytes().starts_with(bytes);
+    let is_at_place = !matches!(place, Place::Byte(count) if count != bytes.len());
+    let is_printed = if left.out.has_failed {
+        tells_cause(alloc, left.err.as_str(), fault)?
+    } else {
+        left.err.is_empty()
+    };
+    let status = ExitCode::from(u8::from(left.out.has_failed));
+    let is_quiet = left.out.calls_after == 0;
+    Ok(is_beginning && is_at_place && is_printed && is_quiet && left.status == status)
+}
+
+// The first place, and the fault there, that leads to another end.
+fn first_wrong_end<H: Host>(host: &H, threads: usize) -> Result<Option<(Place, Fault)>, Fail> {
+    let alloc = host.alloc();
+    let whole = run_two(host, threads, FaultyWriter::new(alloc))?;
+    for place in whole.out.places(alloc)? {
+        for fault in Fault::ALL {
+            let writer = FaultyWriter::new(alloc).failing(place, fault);
+            let left = run_two(host, threads, writer)?;
+            if !ends_so(alloc, &left, place, fault)? {
+                return Ok(Some((place, fault)));
+            }
+        }
+    }
+    Ok(None)
+}
+
 #[test]
 fn ends_at_a_fault(rt: HostRuntime) -> Result<(), Fail> {
     let alloc = rt.alloc();
-    let new = FaultyWriter::new;
-    let [report, reordered] = REPORTS;
+    let count = REPORTS[0].len();
     for threads in [1, 2] {
-        assert_eq!(rt;
-            run_two(&rt, threads, new(alloc).taking(1))?.out.bytes.len(),
-            report.len()
-        );
-        let whole = run_two(&rt, threads, new(alloc))?;
-        assert_eq!(rt; whole.out.bytes.len(), report.len());
-        for place in whole.out.places(alloc)? {
-            for fault in Fault::ALL {
-                let left = run_two(&rt, threads, new(alloc).failing(place, fault))?;
-                let bytes = left.out.bytes.as_slice();
-                assert!(rt;
-                    report.as_bytes().starts_with(bytes) || reordered.as_bytes().starts_with(bytes)
-                );
-                assert!(rt;
-                    !matches!(place, Place::Byte(count) if count != bytes.len()),
-                    "{place:?}"
-                );
-                assert_eq!(rt; left.out.calls_after, 0, "{place:?}");
-                let status = ExitCode::from(u8::from(left.out.has_failed));
-                assert_eq!(rt; left.status, status, "{place:?}");
-                assert!(rt;
-                    !left.out.has_failed && left.err.is_empty()
-                        || tells_cause(alloc, left.err.as_str(), fault)?,
-                    "{place:?} {}",
-                    left.err
-                );
-            }
-        }
+        let whole = run_two(&rt, threads, FaultyWriter::new(alloc))?;
+        assert!(rt; whole.out.bytes.len() == count);
+        let by_bytes = run_two(&rt, threads, FaultyWriter::new(alloc).taking(1))?;
+        assert!(rt; by_bytes.out.bytes.len() == count);
+        let wrong = first_wrong_end(&rt, threads)?;
+        assert!(rt; wrong.is_none(), "{wrong:?}");
     }
     Ok(())
 }
