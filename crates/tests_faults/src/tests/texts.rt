@@ -215,26 +215,31 @@ fn is_read_back<T: Spawner + 'static>(
     )
 }
 
-// The same by one thread and by a worker, with its kind and without.
-fn is_read_back_each_way<T: Spawner + 'static>(
-    rt: &T,
-    alloc: Global,
-    vector: Vector,
-) -> Result<bool, AllocError> {
-    let bare = without_kind(vector);
-    Ok(
-        is_read_back(rt, alloc, vector, None)?
-            && is_read_back(rt, alloc, vector, Some(2))?
-            && is_read_back(rt, alloc, bare, None)?
-            && is_read_back(rt, alloc, bare, Some(2))?,
-    )
+// With its kind and without, by one thread and by a worker.
+const WAYS: [(bool, Option<usize>); 4] = [
+    (true, None),
+    (true, Some(2)),
+    (false, None),
+    (false, Some(2)),
+];
+
+// The trial with its kind, or without.
+fn with_kind_if(has_kind: bool, vector: Vector) -> Vector {
+    if has_kind {
+        vector
+    } else {
+        without_kind(vector)
+    }
 }
 
 #[test]
 fn reads_back_hostile_texts(rt: HostRuntime) -> Result<(), Fail> {
     assert!(rt; CONTROLS.len() == 32 && CONTROLS_WRITTEN.len() == 172);
     for vector in &VECTORS {
-        assert!(rt; is_read_back_each_way(&rt, rt.alloc(), *vector)?);
+        for (has_kind, threads) in &WAYS {
+            let vector = with_kind_if(*has_kind, *vector);
+            assert!(rt; is_read_back(&rt, rt.alloc(), vector, *threads)?);
+        }
     }
     Ok(())
 }
@@ -251,25 +256,13 @@ fn is_shown<T: Spawner + 'static>(
     Ok(bytes.as_slice() == text.as_str().as_bytes())
 }
 
-// The same by one thread and by a worker, with its kind and without.
-fn is_shown_each_way<T: Spawner + 'static>(
-    rt: &T,
-    alloc: Global,
-    vector: Vector,
-) -> Result<bool, AllocError> {
-    let bare = without_kind(vector);
-    Ok(
-        is_shown(rt, alloc, vector, None)?
-            && is_shown(rt, alloc, vector, Some(2))?
-            && is_shown(rt, alloc, bare, None)?
-            && is_shown(rt, alloc, bare, Some(2))?,
-    )
-}
-
 #[test]
 fn shows_hostile_texts(rt: HostRuntime) -> Result<(), Fail> {
     for vector in &VECTORS {
-        assert!(rt; is_shown_each_way(&rt, rt.alloc(), *vector)?);
+        for (has_kind, threads) in &WAYS {
+            let vector = with_kind_if(*has_kind, *vector);
+            assert!(rt; is_shown(&rt, rt.alloc(), vector, *threads)?);
+        }
     }
     Ok(())
 }

@@ -79,6 +79,18 @@ pub(super) struct Left {
 }
 
 impl Left {
+    fn of<C: Clock>(
+        conclusion: Conclusion,
+        sink: Sink<FaultyWriter>,
+        watch: &Stopwatch<C>,
+    ) -> Left {
+        Left {
+            conclusion,
+            writer: sink.into_inner(),
+            elapsed: watch.elapsed(),
+        }
+    }
+
     // How many trials passed, failed, were ignored, were measured and were filtered out.
     pub(super) fn counts(&self) -> [u64; 5] {
         [
@@ -108,11 +120,7 @@ pub(super) fn run_by_clock<R: Task, C: Clock + Drop>(
     let mut sink = Sink::new(FaultyWriter::new(alloc));
     let mut watch = Stopwatch::new(clock);
     let conclusion = run_here(alloc, &args, tests, &mut sink, &mut watch, false)?;
-    Ok(Left {
-        conclusion,
-        writer: sink.into_inner(),
-        elapsed: watch.elapsed(),
-    })
+    Ok(Left::of(conclusion, sink, &watch))
 }
 
 // By as many workers as are asked for, or else by one, with this clock.
@@ -129,11 +137,7 @@ pub(super) fn run_in_workers<R: Task + Send + 'static, C: Clock + Drop, T: Spawn
     let mut sink = Sink::new(FaultyWriter::new(alloc));
     let mut watch = Stopwatch::new(clock);
     let conclusion = run(rt, alloc, &args, tests, &mut sink, &mut watch, 1, false)?;
-    Ok(Left {
-        conclusion,
-        writer: sink.into_inner(),
-        elapsed: watch.elapsed(),
-    })
+    Ok(Left::of(conclusion, sink, &watch))
 }
 
 // By the calling thread, with a clock that stands still.
