@@ -1,6 +1,8 @@
-//! Tests the JSON parser against a folder of files, which are named as in the JSON test suite of Nicolas Seriot.
+//! Tests the JSON parser against a folder of files, which are named as in the JSON test suite of Nicolas Seriot. Reports of a harness
+//! are read by its reader, too.
 #![tactic(auto)]
 
+mod report;
 mod suite;
 
 use libtest_mimic::Line;
@@ -11,7 +13,8 @@ const USAGE: &str = "\
 usage: example_json DIR [-- OPTIONS]
 
 Runs a trial for each file of the folder: the parser must accept y_*.json and
-refuse n_*.json. It may do either with i_*.json, which are ignored trials.
+refuse n_*.json. It may do either with i_*.json, which are ignored trials. In
+r_*.json, which are reports of a harness, it must find what their reader finds.
 `example_json -- --help` shows the options.
 ";
 

@@ -1,4 +1,5 @@
 //! The trials of a folder.
+use crate::report::check_report;
 use libtest_mimic::{Failed, Outcome, RunError, Task, Trial};
 use serde_json::Value;
 use std::alloc::AllocError;
@@ -13,6 +14,8 @@ pub(crate) enum Expectation {
     Refuse,
     /// The standard leaves it open.
     Either,
+    /// Find what the reader of reports finds.
+    Report,
 }
 
 /// What a trial runs.
@@ -104,6 +107,7 @@ impl Expectation {
             ("y", _) => Some(Expectation::Accept),
             ("n", _) => Some(Expectation::Refuse),
             ("i", _) => Some(Expectation::Either),
+            ("r", _) => Some(Expectation::Report),
             _ => None,
         }
     }
@@ -132,6 +136,9 @@ fn check<M: Files + AllocGlobal>(
     let bytes = fs::read(rt, path.as_str()).map_err(|error| {
         Failed::because(alloc, &format_args!("cannot read {path}: {error}"))
     })?;
+    if let Expectation::Report = expectation {
+        return check_report(alloc, bytes.as_slice());
+    }
     match (expectation, Value::from_slice(alloc, bytes.as_slice())) {
         // A parser without memory has not judged the text.
         (_, Err(error)) if error.is_memory() => {

@@ -1,0 +1,216 @@
+-- The lines of a report are texts of objects.
+use Rattle.std.proofs.Common.{◌≡◌, ℕ, ◌<◌, ◌^◌, Bool, true, false, cond, ltb, List, [], ◌∷◌, ◌++◌, length, None, Some, decimal, refl, sym, ap, ap₂, ◌∙◌, subst, arith, append_assoc, append-nil, map}
+use Rattle.std.specs.Prelude.{codes, IfOk, Result, Ok, Err}
+use Rattle.std.specs.List.{AllByRecursion, concat, flat_map}
+use Rattle.std.proofs.lemmas.Bool.{ne_eqb}
+use Rattle.std.proofs.lemmas.List.{append_cancel_right, length-map}
+use Rattle.std.proofs.lemmas.List.Sums.{count_by-le-length}
+use Rattle.std.proofs.lemmas.List.Concat.{flat_map-append}
+use Rattle.mimic_text.specs.Escape.{escape, escaped}
+use Rattle.mimic_text.specs.Seconds.{exact_seconds}
+use Rattle.mimic_trial.specs.declared.outcome.Outcome.{Outcome}
+use Rattle.mimic_trial.specs.declared.outcome.Outcome.TheVariants.{Passed, Failed, Ignored, Measured}
+use Rattle.mimic_trial.specs.declared.outcome.conclusion.Conclusion.{Conclusion}
+use Rattle.mimic_trial.specs.Count.{counts_of, is_passed, is_failed, is_ignored_outcome, is_measured}
+use Rattle.mimic_trial.specs.Promise.{FitsTypes}
+use Rattle.mimic_printer.specs.Row.{Label}
+use Rattle.mimic_printer.specs.Json as ours
+use Rattle.mimic_printer.proofs.JsonLines.{lines_each}
+use Rattle.mimic_printer.specs.Json.{Contents, Entry, FitsEntry, HasNoEnd, IsJsonReport, IsLine, json_report, conclusion_of, entry_lines, report_lines, announcement_front, json_announcement, json_line, json_outcome, json_summary, json_title, json_verdict, kind_field, outcome_front, title_front}
+use Rattle.serde_json.specs.Read.{read}
+use Rattle.mimic_json.specs.Fields.{object_of, Field, FitsScalar, text, count, seconds}
+use Rattle.mimic_json.specs.Lines.{IsReadAs, AreReadAs, FitsCounts, LinesAreObjects, before_first, lines_of, entry_fields, report_fields, announcement_fields, outcome_fields, title_fields, summary_fields, kind_fields, event_fields, type_of}
+use Rattle.mimic_json.proofs.Members.{own_keys, HaveOwnKeys-own_keys, has_exactly}
+use Rattle.mimic_json.proofs.Times.{to_float-seconds_number}
+use Rattle.mimic_json.proofs.Objects.{object_text, later_text, object_document, object_read}
+
+kind_printed : (kind : List ℕ) (fs : List Field) → kind_field kind ++ later_text fs ≡ later_text (kind_fields kind ++ fs)
+unfolding escaped
+kind_printed [] fs = refl
+kind_printed (b ∷ bs) fs = simp append_assoc
+
+-- a name, the kind behind it, and what follows
+name_printed : (name kind : List ℕ) (fs : List Field) (end : List ℕ) → end ≡ later_text fs ++ 10 ∷ []
+    → escaped name ++ 34 ∷ (kind_field kind ++ end) ≡ ((escaped name ++ 34 ∷ []) ++ later_text (kind_fields kind ++ fs)) ++ 10 ∷ []
+name_printed name kind fs end e =
+    rw (e, ← kind_printed kind fs) (simp append_assoc)
+
+announcement_printed : (label : Label) → json_announcement label
+    ≡ object_text ((codes "type", text (codes "test")) ∷ (codes "event", text (codes "started")) ∷ (codes "name", text label.name) ∷ (kind_fields label.kind ++ [])) ++ 10 ∷ []
+unfolding json_announcement escaped
+announcement_printed label = ap (λ (r : List ℕ). announcement_front ++ r) (name_printed label.name label.kind [] (json_line []) refl)
+
+-- a failure's message in its quotes
+message_printed : (message rest : List ℕ) → escaped message ++ (codes "\\\"\\n\"" ++ rest) ≡ (escaped (message ++ codes "\"\n") ++ 34 ∷ []) ++ rest
+unfolding escaped
+message_printed message rest = rw (flat_map-append escape message (codes "\"\n")) (simp append_assoc)
+
+-- a number, and what follows
+then_fields : (digits : List ℕ) (fs : List Field) (end : List ℕ) → end ≡ later_text fs ++ 10 ∷ [] → digits ++ end ≡ (digits ++ later_text fs) ++ 10 ∷ []
+then_fields digits fs end e = ap (λ (r : List ℕ). digits ++ r) e ∙ sym (append_assoc digits (later_text fs) (10 ∷ []))
+
+number_printed : (key : List ℕ) (n : ℕ) (fs : List Field) (end : List ℕ) → end ≡ later_text fs ++ 10 ∷ [] → 44 ∷ 32 ∷ 34 ∷ (escaped key ++ 34 ∷ 58 ∷ 32 ∷ (decimal n ++ end)) ≡ later_text ((key, count n) ∷ fs) ++ 10 ∷ []
+number_printed key n fs end e = rw e (simp append_assoc)
+
+told_printed : (o : Outcome) → json_line (ours.outcome_fields o) ≡ later_text (event_fields o) ++ 10 ∷ []
+unfolding escaped
+told_printed Passed = refl
+told_printed (Failed None) = refl
+told_printed (Failed (Some message)) = ap (λ (r : List ℕ). codes ", \"event\": \"failed\", \"stdout\": \"Error: \\\"" ++ r)
+    (message_printed message (codes " }\n") ∙ sym (append_assoc (escaped (message ++ codes "\"\n") ++ 34 ∷ []) (codes " }") (10 ∷ [])))
+told_printed Ignored = refl
+told_printed (Measured m) = number_printed (codes "median") m.avg ((codes "deviation", count m.variance) ∷ []) _ (number_printed (codes "deviation") m.variance [] (codes " }\n") refl)
+
+outcome_printed : (label : Label) (o : Outcome) (measured : Bool) → json_line (outcome_front measured ∷ escaped label.name ∷ codes "\"" ∷ kind_field label.kind ∷ ours.outcome_fields o)
+    ≡ object_text ((codes "type", text (type_of measured)) ∷ (codes "name", text label.name) ∷ (kind_fields label.kind ++ event_fields o)) ++ 10 ∷ []
+unfolding escaped
+outcome_printed label o false = ap (λ (r : List ℕ). outcome_front false ++ r) (name_printed label.name label.kind (event_fields o) _ (told_printed o))
+outcome_printed label o true = ap (λ (r : List ℕ). outcome_front true ++ r) (name_printed label.name label.kind (event_fields o) _ (told_printed o))
+
+title_printed : (n : ℕ) → json_title n ≡ object_text (title_fields n) ++ 10 ∷ []
+unfolding json_title escaped
+title_printed n = ap (λ (r : List ℕ). codes "{ \"type\": \"suite\", \"event\": \"started\"" ++ r) (number_printed (codes "test_count") n [] (codes " }\n") refl)
+
+-- the counts of a summary, and its time
+counts_printed : (c : Conclusion) (nanos : ℕ) → concat (ours.number_field (codes ", \"passed\": ") c.num_passed
+    ∷ ours.number_field (codes ", \"failed\": ") c.num_failed ∷ ours.number_field (codes ", \"ignored\": ") c.num_ignored ∷ ours.number_field (codes ", \"measured\": ") c.num_measured
+    ∷ codes ", \"filtered_out\": " ∷ decimal c.num_filtered_out ∷ codes ", \"exec_time\": " ∷ exact_seconds nanos ∷ codes " }\n" ∷ [])
+    ≡ later_text ((codes "passed", count c.num_passed) ∷ (codes "failed", count c.num_failed) ∷ (codes "ignored", count c.num_ignored) ∷ (codes "measured", count c.num_measured)
+    ∷ (codes "filtered_out", count c.num_filtered_out) ∷ (codes "exec_time", seconds nanos) ∷ []) ++ 10 ∷ []
+unfolding escaped
+counts_printed c nanos =
+    let f5 : List Field = (codes "exec_time", seconds nanos) ∷ [] in
+    let f4 : List Field = (codes "filtered_out", count c.num_filtered_out) ∷ f5 in
+    let f3 : List Field = (codes "measured", count c.num_measured) ∷ f4 in
+    let f2 : List Field = (codes "ignored", count c.num_ignored) ∷ f3 in
+    let f1 : List Field = (codes "failed", count c.num_failed) ∷ f2 in
+    number_printed (codes "passed") c.num_passed f1 _
+    (number_printed (codes "failed") c.num_failed f2 _
+    (number_printed (codes "ignored") c.num_ignored f3 _
+    (number_printed (codes "measured") c.num_measured f4 _
+    (number_printed (codes "filtered_out") c.num_filtered_out f5 _
+    (ap (λ (r : List ℕ). codes ", \"exec_time\": " ++ r) (then_fields (exact_seconds nanos) [] (codes " }\n") refl))))))
+
+summary_at : (c : Conclusion) (nanos : ℕ) (b : Bool) → json_line (codes "{ \"type\": \"suite\", \"event\": \"" ∷ cond b (codes "failed") (codes "ok") ∷ ours.number_field (codes "\", \"passed\": ") c.num_passed
+    ∷ ours.number_field (codes ", \"failed\": ") c.num_failed ∷ ours.number_field (codes ", \"ignored\": ") c.num_ignored ∷ ours.number_field (codes ", \"measured\": ") c.num_measured
+    ∷ codes ", \"filtered_out\": " ∷ decimal c.num_filtered_out ∷ codes ", \"exec_time\": " ∷ exact_seconds nanos ∷ [])
+    ≡ object_text ((codes "type", text (codes "suite")) ∷ (codes "event", text (cond b (codes "failed") (codes "ok"))) ∷ (codes "passed", count c.num_passed)
+    ∷ (codes "failed", count c.num_failed) ∷ (codes "ignored", count c.num_ignored) ∷ (codes "measured", count c.num_measured)
+    ∷ (codes "filtered_out", count c.num_filtered_out) ∷ (codes "exec_time", seconds nanos) ∷ []) ++ 10 ∷ []
+unfolding escaped
+summary_at c nanos true = ap (λ (r : List ℕ). codes "{ \"type\": \"suite\", \"event\": \"failed\"" ++ r) (counts_printed c nanos)
+summary_at c nanos false = ap (λ (r : List ℕ). codes "{ \"type\": \"suite\", \"event\": \"ok\"" ++ r) (counts_printed c nanos)
+
+-- ---- what the lines say
+
+says : (line : List ℕ) (fs : List Field) → line ≡ object_text fs ++ 10 ∷ [] → AllByRecursion (λ g. FitsScalar g.1) fs → own_keys fs ≡ true → IsReadAs line fs
+says line fs e h own =
+    let keys = HaveOwnKeys-own_keys fs own in
+    record { front = object_text fs; parts = e; value = object_read fs h; spelled = object_document fs h; keys = keys; members = has_exactly fs keys }
+
+announcement_own : (name kind : List ℕ) → own_keys ((codes "type", text (codes "test")) ∷ (codes "event", text (codes "started")) ∷ (codes "name", text name) ∷ (kind_fields kind ++ [])) ≡ true
+announcement_own name [] = refl
+announcement_own name (b ∷ bs) = refl
+
+outcome_own : (label : Label) (kind : List ℕ) (o : Outcome) → own_keys ((codes "type", text (type_of (is_measured o))) ∷ (codes "name", text label.name) ∷ (kind_fields kind ++ event_fields o)) ≡ true
+outcome_own label [] Passed = refl
+outcome_own label (b ∷ bs) Passed = refl
+outcome_own label [] (Failed None) = refl
+outcome_own label (b ∷ bs) (Failed None) = refl
+outcome_own label [] (Failed (Some m)) = refl
+outcome_own label (b ∷ bs) (Failed (Some m)) = refl
+outcome_own label [] Ignored = refl
+outcome_own label (b ∷ bs) Ignored = refl
+outcome_own label [] (Measured m) = refl
+outcome_own label (b ∷ bs) (Measured m) = refl
+
+kind_fit : (kind : List ℕ) (fs : List Field) → AllByRecursion (λ g. FitsScalar g.1) fs → AllByRecursion (λ g. FitsScalar g.1) (kind_fields kind ++ fs)
+kind_fit [] fs h = h
+kind_fit (b ∷ bs) fs h = (tt, h)
+
+told_fit : (o : Outcome) → FitsTypes o → AllByRecursion (λ g. FitsScalar g.1) (event_fields o)
+told_fit Passed h = (tt, tt)
+told_fit (Failed None) h = (tt, tt)
+told_fit (Failed (Some message)) h = (tt, (tt, tt))
+told_fit Ignored h = (tt, tt)
+told_fit (Measured m) h = (h.0, (h.1, tt))
+
+pub announcement_says : (label : Label) → IsReadAs (json_announcement label) (announcement_fields label)
+announcement_says label =
+    let none = append-nil (kind_fields label.kind) in
+    subst (λ (fs : List Field). IsReadAs (json_announcement label) ((codes "type", text (codes "test")) ∷ (codes "event", text (codes "started")) ∷ (codes "name", text label.name) ∷ fs)) none
+    (says (json_announcement label) ((codes "type", text (codes "test")) ∷ (codes "event", text (codes "started")) ∷ (codes "name", text label.name) ∷ (kind_fields label.kind ++ [])) (announcement_printed label) (tt, (tt, (tt, kind_fit label.kind [] tt))) (announcement_own label.name label.kind))
+
+pub outcome_says : (label : Label) (o : Outcome) → FitsTypes o → IsReadAs (json_outcome label o) (outcome_fields label o)
+unfolding json_outcome
+outcome_says label o h = says (json_outcome label o) (outcome_fields label o) (outcome_printed label o (is_measured o)) (tt, (tt, kind_fit label.kind (event_fields o) (told_fit o h))) (outcome_own label label.kind o)
+
+pub title_says : (n : ℕ) → n < 2 ^ 64 → IsReadAs (json_title n) (title_fields n)
+title_says n h = says (json_title n) (title_fields n) (title_printed n) (tt, (tt, (h, tt))) refl
+
+pub summary_says : (c : Conclusion) (nanos : ℕ) → FitsCounts c → nanos < 2 ^ 64 → IsReadAs (json_summary c nanos) (summary_fields c nanos)
+unfolding json_summary
+summary_says c nanos h small =
+    says (json_summary c nanos) (summary_fields c nanos) (summary_at c nanos (ltb 0 c.num_failed)) (tt, (tt, (h.passed, (h.failed, (h.ignored, (h.measured, (h.filtered_out, (small, tt)))))))) refl
+
+-- ---- a whole report
+
+say_append : (ls ms : List (List ℕ)) (fs gs : List (List Field)) → AreReadAs ls fs → AreReadAs ms gs → AreReadAs (ls ++ ms) (fs ++ gs)
+say_append [] ms [] gs a b = b
+say_append [] ms (f ∷ fs) gs a b = absurd a
+say_append (l ∷ ls) ms [] gs a b = absurd a
+say_append (l ∷ ls) ms (f ∷ fs) gs a b = (a.0, say_append ls ms fs gs a.1 b)
+
+entries_say : (es : List Entry) → AllByRecursion FitsEntry es → AreReadAs (flat_map entry_lines es) (flat_map entry_fields es)
+entries_say [] h = tt
+entries_say (e ∷ es) h = (announcement_says e.label, (outcome_says e.label e.outcome h.0.outcome, entries_say es h.1))
+
+counts_fit : (os : List Outcome) (filtered_out : ℕ) → length os < 2 ^ 64 → filtered_out < 2 ^ 64 → FitsCounts (counts_of os filtered_out)
+counts_fit os filtered_out few h = record {
+  filtered_out = h;
+  passed = omega (arith, few, count_by-le-length is_passed os);
+  failed = omega (arith, few, count_by-le-length is_failed os);
+  ignored = omega (arith, few, count_by-le-length is_ignored_outcome os);
+  measured = omega (arith, few, count_by-le-length is_measured os);
+}
+
+pub report_says : (c : Contents) → AllByRecursion FitsEntry c.entries → length c.entries < 2 ^ 64 → c.filtered_out < 2 ^ 64 → c.nanos < 2 ^ 64 → AreReadAs (report_lines c) (report_fields c)
+report_says c fit few h small =
+    let os : List Outcome = map (λ (entry : Entry). entry.outcome) c.entries in
+    let count_few : length os < 2 ^ 64 = omega (arith, length-map c.entries (λ (entry : Entry). entry.outcome), few) in
+    (title_says (length c.entries) few, say_append (flat_map entry_lines c.entries) _ (flat_map entry_fields c.entries) _ (entries_say c.entries fit) (summary_says (conclusion_of c) c.nanos (counts_fit os c.filtered_out count_few h) small, tt))
+
+-- ---- the text of a whole report
+
+-- a front without a line end, and the line end after it, are the first line
+cut_front : (front rest : List ℕ) → HasNoEnd front → lines_of (front ++ 10 ∷ rest) ≡ (front ++ 10 ∷ []) ∷ lines_of rest
+cut_front [] rest h = refl
+cut_front (b ∷ front) rest h =
+    ap (λ (t : Bool). cond t ((b ∷ []) ∷ lines_of (front ++ 10 ∷ rest)) (before_first b (lines_of (front ++ 10 ∷ rest)))) (ne_eqb b 10 h.0)
+    ∙ ap (before_first b) (cut_front front rest h.1)
+
+cut_lines : (lines : List (List ℕ)) → AllByRecursion IsLine lines → lines_of (concat lines) ≡ lines
+cut_lines [] h = refl
+cut_lines (l ∷ lines) h =
+    let line : IsLine l = h.0 in
+    ap (λ (t : List ℕ). lines_of (t ++ concat lines)) line.parts ∙ ap lines_of (append_assoc line.front (10 ∷ []) (concat lines))
+    ∙ cut_front line.front (concat lines) line.whole ∙ ap₂ (λ (x : List ℕ) (y : List (List ℕ)). x ∷ y) (sym line.parts) (cut_lines lines h.1)
+
+text_reads : (bytes : List ℕ) (c : Contents) → IsJsonReport bytes c → length c.entries < 2 ^ 64 → AreReadAs (lines_of bytes) (report_fields c)
+unfolding json_report
+text_reads bytes c report few =
+    subst (λ (lines : List (List ℕ)). AreReadAs lines (report_fields c)) (sym (ap lines_of report.text ∙ cut_lines (report_lines c) (lines_each bytes c report few)))
+    (report_says c report.entries few report.filtered_out report.nanos)
+
+pub lines_are_objects : LinesAreObjects
+lines_are_objects = record { time = to_float-seconds_number; announcement = announcement_says; outcome = outcome_says; title = title_says; summary = summary_says; report = text_reads }
+
+-- ---- what a reader answers
+
+-- what a line says is what stands before its line end
+pub text_says : (bytes : List ℕ) (fields : List Field) → IsReadAs (bytes ++ 10 ∷ []) fields → read bytes ≡ Some (object_of fields)
+text_says bytes fields h = ap read (append_cancel_right bytes h.front (10 ∷ []) h.parts) ∙ h.value
+
+pub ok_follows : {E T : Type 0} (r : Result T E) (P Q : T → Type 0) → ((v : T) → P v → Q v) → IfOk r P → IfOk r Q
+ok_follows (Ok v) P Q f h = f v h
+ok_follows (Err e) P Q f h = tt
