@@ -20,7 +20,8 @@ Field = List ℕ × Scalar
 
 -- the seconds that these nanoseconds are: a whole number, or the float nearest to the quotient
 abbrev pub seconds_number : ℕ → Num
-seconds_number nanos = if nanos % 10 ^ 9 == 0 then unsigned (nanos / 10 ^ 9) else float (round binary64 false nanos (10 ^ 9))
+seconds_number nanos = if nanos % 10 ^ 9 == 0 then unsigned (nanos / 10 ^ 9)
+    else float (round binary64 false nanos (10 ^ 9))
 
 -- what it is in `serde_json`
 abbrev pub data_of : Scalar → Data

@@ -35,7 +35,8 @@ kind_fields (b ∷ bs) = (codes "kind", text (b ∷ bs)) ∷ []
 abbrev pub event_fields : Outcome → List Field
 event_fields Passed = (codes "event", text (codes "ok")) ∷ []
 event_fields (Failed None) = (codes "event", text (codes "failed")) ∷ []
-event_fields (Failed (Some message)) = (codes "event", text (codes "failed")) ∷ (codes "stdout", text (codes "Error: \"" ++ (message ++ codes "\"\n"))) ∷ []
+event_fields (Failed (Some message)) = (codes "event", text (codes "failed"))
+    ∷ (codes "stdout", text (codes "Error: \"" ++ (message ++ codes "\"\n"))) ∷ []
 event_fields Ignored = (codes "event", text (codes "ignored")) ∷ []
 event_fields (Measured m) = (codes "median", count m.avg) ∷ (codes "deviation", count m.variance) ∷ []
 
@@ -47,22 +48,26 @@ type_of true = codes "bench"
 -- the line that announces a trial
 abbrev pub announcement_fields : Label → List Field
 announcement_fields label =
-    (codes "type", text (codes "test")) ∷ (codes "event", text (codes "started")) ∷ (codes "name", text label.name) ∷ kind_fields label.kind
+    (codes "type", text (codes "test")) ∷ (codes "event", text (codes "started")) ∷ (codes "name", text label.name)
+    ∷ kind_fields label.kind
 
 -- the line of an outcome
 abbrev pub outcome_fields : Label → Outcome → List Field
 outcome_fields label outcome =
-    (codes "type", text (type_of (is_measured outcome))) ∷ (codes "name", text label.name) ∷ (kind_fields label.kind ++ event_fields outcome)
+    (codes "type", text (type_of (is_measured outcome))) ∷ (codes "name", text label.name)
+    ∷ (kind_fields label.kind ++ event_fields outcome)
 
 -- the line that begins a report of so many trials
 abbrev pub title_fields : ℕ → List Field
-title_fields n = (codes "type", text (codes "suite")) ∷ (codes "event", text (codes "started")) ∷ (codes "test_count", count n) ∷ []
+title_fields n = (codes "type", text (codes "suite")) ∷ (codes "event", text (codes "started"))
+    ∷ (codes "test_count", count n) ∷ []
 
 -- the line that ends a report
 abbrev pub summary_fields : Conclusion → ℕ → List Field
 summary_fields c nanos =
-    (codes "type", text (codes "suite")) ∷ (codes "event", text (json_verdict c.num_failed)) ∷ (codes "passed", count c.num_passed)
-    ∷ (codes "failed", count c.num_failed) ∷ (codes "ignored", count c.num_ignored) ∷ (codes "measured", count c.num_measured)
+    (codes "type", text (codes "suite")) ∷ (codes "event", text (json_verdict c.num_failed))
+    ∷ (codes "passed", count c.num_passed) ∷ (codes "failed", count c.num_failed)
+    ∷ (codes "ignored", count c.num_ignored) ∷ (codes "measured", count c.num_measured)
     ∷ (codes "filtered_out", count c.num_filtered_out) ∷ (codes "exec_time", seconds nanos) ∷ []
 
 -- each count is below 2^64
@@ -79,7 +84,8 @@ entry_fields entry = announcement_fields entry.label ∷ outcome_fields entry.la
 
 -- all lines of a report, in their order
 abbrev pub report_fields : Contents → List (List Field)
-report_fields c = title_fields (length c.entries) ∷ (flat_map entry_fields c.entries ++ summary_fields (conclusion_of c) c.nanos ∷ [])
+report_fields c = title_fields (length c.entries)
+    ∷ (flat_map entry_fields c.entries ++ summary_fields (conclusion_of c) c.nanos ∷ [])
 
 -- the first of the pieces with this byte before it
 abbrev pub before_first : ℕ → List (List ℕ) → List (List ℕ)
@@ -105,7 +111,9 @@ pub record LinesAreObjects : Type 0 where
   pub time : (nanos : ℕ) → to_float (seconds_number nanos) ≡ round binary64 false nanos (10 ^ 9)
   pub title : (n : ℕ) → n < 2 ^ 64 → IsReadAs (json_title n) (title_fields n)
   pub announcement : (label : Label) → IsReadAs (json_announcement label) (announcement_fields label)
-  pub outcome : (label : Label) (o : Outcome) → FitsTypes o → IsReadAs (json_outcome label o) (outcome_fields label o)
-  pub summary : (c : Conclusion) (nanos : ℕ) → FitsCounts c → nanos < 2 ^ 64 → IsReadAs (json_summary c nanos) (summary_fields c nanos)
+  pub outcome : (label : Label) (o : Outcome) → FitsTypes o
+      → IsReadAs (json_outcome label o) (outcome_fields label o)
+  pub summary : (c : Conclusion) (nanos : ℕ) → FitsCounts c → nanos < 2 ^ 64
+      → IsReadAs (json_summary c nanos) (summary_fields c nanos)
   pub report : (bytes : List ℕ) (c : Contents) → IsJsonReport bytes c → length c.entries < 2 ^ 64
       → AreReadAs (lines_of bytes) (report_fields c)
