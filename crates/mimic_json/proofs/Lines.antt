@@ -18,11 +18,11 @@ use Rattle.mimic_printer.specs.Json as ours
 use Rattle.mimic_printer.proofs.JsonLines.{lines_each}
 use Rattle.mimic_printer.specs.Json.{Contents, Entry, FitsEntry, HasNoEnd, IsJsonReport, IsLine, json_report, conclusion_of, entry_lines, report_lines, announcement_front, json_announcement, json_line, json_outcome, json_summary, json_title, json_verdict, kind_field, outcome_front, title_front}
 use Rattle.serde_json.specs.Read.{read}
-use Rattle.mimic_json.specs.Fields.{object_of, Field, FitsScalar, text, count, seconds}
+use Rattle.mimic_json.specs.Fields.{object_of, Field, text, count, seconds}
 use Rattle.mimic_json.specs.Lines.{IsReadAs, AreReadAs, FitsCounts, LinesAreObjects, before_first, lines_of, entry_fields, report_fields, announcement_fields, outcome_fields, title_fields, summary_fields, kind_fields, event_fields, type_of}
 use Rattle.mimic_json.proofs.Members.{own_keys, HaveOwnKeys-own_keys, has_exactly}
 use Rattle.mimic_json.proofs.Times.{to_float-seconds_number}
-use Rattle.mimic_json.proofs.Objects.{object_text, later_text, object_document, object_read}
+use Rattle.mimic_json.proofs.Objects.{FitsScalar, object_text, later_text, object_document, object_read}
 
 kind_printed : (kind : List ℕ) (fs : List Field) → kind_field kind ++ later_text fs ≡ later_text (kind_fields kind ++ fs)
 unfolding escaped

@@ -1,5 +1,6 @@
 -- The text of an object of fields, as our lines have it, is read as that object.
-use Rattle.std.proofs.Common.{◌≡◌, ℕ, true, false, List, [], ◌∷◌, ◌++◌, map, Option, Some, option_and_then, decimal, refl, sym, ap, ap₂, ◌∙◌, arith, inl, append_assoc, append-nil}
+use Rattle.std.proofs.Common.{◌≡◌, ℕ, ◌<◌, ◌^◌, true, false, List, [], ◌∷◌, ◌++◌, map, Option, Some, option_and_then, decimal, refl, sym, ap, ap₂, ◌∙◌, arith, inl, append_assoc, append-nil}
+use Rattle.std.specs.Prelude.{⊤}
 use Rattle.std.specs.List.{AllByRecursion}
 use Rattle.json.specs.Token.{Token}
 use Rattle.json.specs.Lex.{tokens}
@@ -15,9 +16,15 @@ use Rattle.serde_json.specs.Read.{read, max_depth, of_json, of_members}
 use Rattle.serde_json.proofs.Numbers.{number_of-decimal}
 use Rattle.mimic_text.specs.Escape.{escaped}
 use Rattle.mimic_text.specs.Seconds.{exact_seconds}
-use Rattle.mimic_json.specs.Fields.{Scalar, text, count, seconds, Field, FitsScalar, data_of, json_members, json_of, object_of, with_fields}
+use Rattle.mimic_json.specs.Fields.{Scalar, text, count, seconds, Field, data_of, json_members, json_of, object_of, with_fields}
 use Rattle.mimic_json.proofs.Escapes.{escaped_same}
 use Rattle.mimic_json.proofs.Times.{IsNumber-exact_seconds, number_of-exact_seconds}
+
+-- a number is below 2^64
+abbrev pub FitsScalar : Scalar → Type 0
+FitsScalar (text s) = ⊤
+FitsScalar (count n) = n < 2 ^ 64
+FitsScalar (seconds n) = n < 2 ^ 64
 
 -- ---- the text, in our words
 

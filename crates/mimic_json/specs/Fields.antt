@@ -1,5 +1,5 @@
 -- An object of texts and numbers, as another reader of JSON has it.
-use Rattle.std.specs.Prelude.{◌≡◌, ◌≢◌, None, Some, decimal, ℕ, ◌<◌, ◌^◌, ◌/◌, ◌%◌, ◌==◌, false, List, [], ◌∷◌, if◌then◌else◌, ⊤}
+use Rattle.std.specs.Prelude.{◌≡◌, ◌≢◌, None, Some, decimal, ℕ, ◌^◌, ◌/◌, ◌%◌, ◌==◌, false, List, [], ◌∷◌, if◌then◌else◌, ⊤}
 use Rattle.std.specs.List.{AllByRecursion}
 use Rattle.std.specs.Float.{binary64}
 use Rattle.std.specs.Float.Ieee.{round}
@@ -37,12 +37,6 @@ with_fields (f ∷ fs) found = with_fields fs (put f.0 (data_of f.1) found)
 -- the object of these fields and no other
 abbrev pub object_of : List Field → Data
 object_of fields = object (with_fields fields no_members)
-
--- a number is below 2^64
-abbrev pub FitsScalar : Scalar → Type 0
-FitsScalar (text s) = ⊤
-FitsScalar (count n) = n < 2 ^ 64
-FitsScalar (seconds n) = n < 2 ^ 64
 
 -- ---- the same before `serde_json` sorts it: the members in the order of the text, each number as it is spelled
 

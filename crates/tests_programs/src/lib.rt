@@ -1,4 +1,5 @@
-//! Tests of programs over memory: outputs, clocks, statuses, and `harness`. There is no code but these.
+//! Tests of programs over memory: outputs, clocks, faults, and whole programs on a machine whose parts are known. There is no code
+//! but these.
 #![tactic(auto)]
 
 #[cfg(test)]
