@@ -1,6 +1,6 @@
 //! Reports to a board.
 ghost use Rattle.std.specs.Prelude.{◌≡◌};
-ghost use Rattle.mimic_pool.specs.Reports.{refused_to, told_to};
+ghost use Rattle.mimic_pool.specs.Reports.{HasCountedAll, refused_to, told_to};
 
 use crate::reports::{Counts, Reports, Untold};
 use crate::shared_board::SharedBoard;
@@ -68,6 +68,8 @@ impl<R: Wait + Drop> Reports for BoardReports<R> {
     ghost told_of = { told_to };
 
     ghost refused_by = { refused_to };
+
+    ghost heard = { HasCountedAll };
 
     fn tell(&mut self, place: usize, outcome: &Outcome) -> Result<(), Untold> {
         let reported = self.report(place, outcome);

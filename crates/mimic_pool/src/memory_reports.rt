@@ -1,6 +1,6 @@
 //! Reports into a list in memory.
 ghost use Rattle.std.specs.Prelude.{◌≡◌, ◌++◌, ◌∷◌, ◌+◌, ◌<◌, [], OnErr, OnOk};
-ghost use Rattle.mimic_pool.specs.Reports.{refused_into, rows_told, told_into};
+ghost use Rattle.mimic_pool.specs.Reports.{MayHaveHeard, refused_into, rows_told, told_into};
 
 use crate::reports::{Counts, Reports, Untold};
 use mimic_trial::Outcome;
@@ -52,6 +52,8 @@ impl Reports for MemoryReports {
     ghost told_of = { told_into };
 
     ghost refused_by = { refused_into };
+
+    ghost heard = { MayHaveHeard };
 
     /// Adds the row to the list, and counts it as reported, or with `Untold` as refused.
     fn tell(&mut self, place: usize, outcome: &Outcome) -> Result<(), Untold>

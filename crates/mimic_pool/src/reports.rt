@@ -1,5 +1,6 @@
 //! What workers report their rows to.
-ghost use Rattle.std.specs.Prelude.{◌≡◌, ◌↔◌, ◌+◌, ◌<◌, ℕ, IsOk, OnErr, OnOk};
+ghost use Rattle.std.specs.Prelude.{◌≡◌, ◌↔◌, ◌++◌, ◌∷◌, ◌+◌, ◌<◌, [], ℕ, IsOk, List, OnErr, OnOk};
+ghost use Rattle.mimic_trial.specs.Places.{Placed};
 
 use mimic_trial::Outcome;
 
@@ -17,13 +18,18 @@ pub trait Reports {
     /// How many rows could not be reported.
     ghost refused_by: { Self → ℕ };
 
+    /// Whether it may have been handed these rows, one after another, reported or not.
+    ghost heard: { Self → List Placed → Type 0 };
+
     /// Reports one row, and counts it as reported, or with `Untold` as refused.
     fn tell(&mut self, place: usize, outcome: &Outcome) -> Result<(), Untold>
         requires room { (told_of self.old < u64.MAX) × (refused_by self.old < u64.MAX) }
         ensures told { OnOk result ((told_of self.new ≡ told_of self.old + 1)
             × (refused_by self.new ≡ refused_by self.old)) }
         ensures untold { OnErr result ((told_of self.new ≡ told_of self.old)
-            × (refused_by self.new ≡ refused_by self.old + 1)) };
+            × (refused_by self.new ≡ refused_by self.old + 1)) }
+        ensures heard { (rows : List Placed) → heard self.old rows
+            → heard self.new (rows ++ (place, outcome.now) ∷ []) };
 
     /// How many rows could not be reported.
     fn refusals(&self) -> u64

@@ -1,5 +1,6 @@
 //! What one worker does.
-ghost use Rattle.std.specs.Prelude.{◌≡◌, ◌+◌, ◌≤◌, ◌<◌, ◌^◌, length, vec_capacity, vec_len};
+ghost use Rattle.std.specs.Prelude.{◌≡◌, ◌++◌, ◌+◌, ◌≤◌, ◌<◌, ◌^◌, List, length, vec_capacity, vec_len};
+ghost use Rattle.mimic_trial.specs.Places.{Placed};
 ghost use Rattle.mimic_pool.specs.Answers.{Answers};
 ghost use Rattle.mimic_pool.specs.Share.{AllRunners, items_of};
 
@@ -25,6 +26,8 @@ pub fn work<T: Task, R: Reports>(
     ensures answers { Answers T.gives test_mode (items_of share) result.items }
     ensures counted { R.told_of reports.new + R.refused_by reports.new
         ≡ R.told_of reports.old + R.refused_by reports.old + length (items_of share) }
+    ensures heard { (rows : List Placed) → R.heard reports.old rows
+        → R.heard reports.new (rows ++ result.items) }
 {
     let Share { items } = share;
     for item in items {

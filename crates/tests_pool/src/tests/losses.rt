@@ -32,6 +32,8 @@ impl Reports for Losing {
 
     ghost refused_by = { λ _. 0 };
 
+    ghost heard = { λ _ _. Unit {0} };
+
     fn tell(&mut self, place: usize, outcome: &Outcome) -> Result<(), Untold> {
         self.told += 1;
         if self.told % 2 == 1 {

@@ -199,6 +199,8 @@ impl Reports for Raises {
 
     ghost refused_by = { λ _. 0 };
 
+    ghost heard = { λ _ _. Unit {0} };
+
     fn tell(&mut self, _place: usize, _outcome: &Outcome) -> Result<(), Untold> {
         self.told += 1;
         self.seen.store(self.told, Ordering::SeqCst);

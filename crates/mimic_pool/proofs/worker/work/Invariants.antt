@@ -1,5 +1,6 @@
 use Rattle.std.proofs.Common.{◌≡◌, ◌+◌, ◌≤◌, ◌^◌, ◌<◌, ◌++◌, List, vec_len, vec_capacity}
 use Rattle.std.specs.Vec.Iter.{into_iter_items, into_iter_len}
+use Rattle.mimic_trial.specs.Places.{Placed}
 use Rattle.mimic_pool.specs.Answers.{Answers}
 use Rattle.mimic_pool.proofs.worker.work.Given as goal
 
@@ -10,6 +11,7 @@ invariant-loop-item g l =
     let refused = g.R.Reports.refused_by l.reports in
     record {
       answers : (more : List _) → Answers g.T.Task.gives l.test_mode (into_iter_items l.item-iterator) more → Answers g.T.Task.gives l.test_mode l.fn.share.items.items (l.room.items ++ more);
+      heard : (rows : List Placed) → g.R.Reports.heard l.fn.reports rows → g.R.Reports.heard l.reports (rows ++ l.room.items);
       fits : vec_len l.room + left ≤ vec_capacity l.room;
       can_tell : told + left < 2 ^ 64;
       can_refuse : refused + left < 2 ^ 64;
