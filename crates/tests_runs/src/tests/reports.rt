@@ -193,13 +193,18 @@ fn tells_the_time_of_workers(rt: HostRuntime) -> Result<(), Fail> {
     Ok(())
 }
 
-// Raises the clock that a run reads.
-#[derive(Drop)]
+// Raises the clock that a run reads when it is dropped, whether or not it ran.
 struct Raises(Arc<AtomicU64>);
+
+impl Drop for Raises {
+    fn drop(self) {
+        let Raises(nanos) = self;
+        nanos.fetch_add(1_500_000_000, Ordering::SeqCst);
+    }
+}
 
 impl Task for Raises {
     fn run(self, _test_mode: bool) -> Outcome {
-        self.0.fetch_add(1_500_000_000, Ordering::SeqCst);
         Outcome::Passed
     }
 }
@@ -224,7 +229,7 @@ fn run_raising<T: Spawner + 'static>(
     }
 }
 
-// The time reported is that which the trials took, by one thread and by a worker: a runner raises the clock while it runs.
+// The time reported is that which the trials took, by one thread and by a worker: a runner raises the clock as it ends.
 #[test]
 fn times_the_trials(rt: HostRuntime) -> Result<(), Fail> {
     for threads in [None, BY_WORKERS] {
@@ -232,6 +237,21 @@ fn times_the_trials(rt: HostRuntime) -> Result<(), Fail> {
         assert!(rt; is_later(&left, LATER));
         let left = run_raising(&rt, rt.alloc(), JSON, threads)?;
         assert!(rt; is_later(&left, LATER_JSON));
+    }
+    Ok(())
+}
+
+// The selection takes time as well: a trial that is filtered out raises the clock.
+#[test]
+fn times_the_selection(rt: HostRuntime) -> Result<(), Fail> {
+    for threads in [None, BY_WORKERS] {
+        let asked = Asked {
+            skip: Some("a"),
+            ..PRETTY
+        };
+        let left = run_raising(&rt, rt.alloc(), asked, threads)?;
+        assert!(rt; left.counts() == [0, 0, 0, 0, 1]);
+        assert!(rt; is_later(&left, LATER));
     }
     Ok(())
 }
