@@ -1,4 +1,4 @@
-//! Writes the lines of a report in JSON.
+//! Writes the lines of a report in JSON, of trials that need no `TestInfo`. With a fault a beginning of a line was written.
 ghost use Rattle.std.specs.Prelude.{◌≡◌, ◌∷◌, [], Some, codes, drop, false, take};
 ghost use Rattle.std.specs.List.{concat};
 ghost use Rattle.mimic_printer.specs.Json.{json_announcement, json_outcome, json_summary, json_title, json_verdict, kind_field, outcome_front};
@@ -30,9 +30,9 @@ macro_rules! put_trial {
     };
 }
 
-// Writes the line that begins a report.
+/// Writes the line that begins a report: how many trials it shows.
 #[tactic(auto, unfolding(crate::specs::Json::json_title))]
-pub(super) fn put_title<W: Write>(sink: &mut Sink<W>, num_tests: u64) -> Result<(), WriteFault>
+pub fn put_title<W: Write>(sink: &mut Sink<W>, num_tests: u64) -> Result<(), WriteFault>
     requires { HasFaultLeft sink.old }
     ensures { Puts W.contents sink.old sink.new (json_title num_tests) result }
 {
@@ -44,9 +44,9 @@ pub(super) fn put_title<W: Write>(sink: &mut Sink<W>, num_tests: u64) -> Result<
     put_pieces(sink, &pieces)
 }
 
-// Writes the line that announces a trial.
+/// Writes the line that announces a trial, with its kind if that isn't empty.
 #[tactic(auto, unfolding(crate::specs::Json::json_announcement))]
-pub(super) fn put_announcement<'a, W: Write>(
+pub fn put_announcement<'a, W: Write>(
     sink: &mut Sink<W>,
     name: &'a str,
     kind: &'a str,
@@ -59,8 +59,8 @@ pub(super) fn put_announcement<'a, W: Write>(
     put_line(sink, front, name, kind, "\" }\n")
 }
 
-// Writes the line of an outcome.
-pub(super) fn put_outcome<'a, W: Write>(
+/// Writes the line of a trial's outcome, with its kind if that isn't empty.
+pub fn put_outcome<'a, W: Write>(
     sink: &mut Sink<W>,
     name: &'a str,
     kind: &'a str,
@@ -162,9 +162,9 @@ fn put_measurement<'a, W: Write>(
     )
 }
 
-// Writes the line that ends a report.
+/// Writes the line that ends a report: its verdict, its counts, and the time in nanoseconds as seconds.
 #[tactic(auto, unfolding(crate::specs::Json::json_summary))]
-pub(super) fn put_summary<W: Write>(
+pub fn put_summary<W: Write>(
     sink: &mut Sink<W>,
     conclusion: &Conclusion,
     nanos: u64,
