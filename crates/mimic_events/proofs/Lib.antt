@@ -12,3 +12,4 @@ pub mod States
 pub mod Summaries
 pub mod Tallies
 pub mod WholeLines
+pub mod Writing

@@ -6,3 +6,4 @@ pub mod Readers
 pub mod Reading
 pub mod Stage
 pub mod Tally
+pub mod Written

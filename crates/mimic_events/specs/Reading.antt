@@ -13,6 +13,10 @@ abbrev pub Decodes : {V : Type 0} → (V → List ℕ → Type 0) → List ℕ �
 Decodes {V} spells text None = (v : V) → spells v text → ⊥
 Decodes {V} spells text (Some found) = spells found text × ((v : V) → spells v text → v ≡ found)
 
+-- whatever a reader of these bytes finds, it is this value
+abbrev pub IsReadAs : {V : Type 0} → (V → List ℕ → Type 0) → List ℕ → V → Type 0
+IsReadAs {V} spells bytes value = (found : Option V) → Decodes spells bytes found → found ≡ Some value
+
 -- the text is a number below 2^64 in plain decimal
 abbrev pub IsNumber : ℕ → List ℕ → Type 0
 IsNumber n text = (n < 2 ^ 64) × (text ≡ decimal n)

@@ -37,7 +37,9 @@ mod row_reader;
 mod stage;
 mod summary;
 mod tally;
+mod write;
 
 pub use feed::{Feed, read_report};
 pub use report::{Report, Row, Totals};
 pub use tally::Tally;
+pub use write::write_report;

@@ -1,0 +1,85 @@
+//! Writes reports, as those that were read or built.
+ghost use Rattle.std.specs.Prelude.{◌≡◌, ◌<◌, ◌^◌, All, OnOk, true};
+ghost use Rattle.std.specs.List.{flat_map};
+ghost use Rattle.mimic_printer.specs.Json.{json_report};
+ghost use Rattle.mimic_printer.specs.Sink.{HasFaultLeft, Puts};
+ghost use Rattle.mimic_events.specs.Contents.{Spells, contents_read};
+ghost use Rattle.mimic_events.specs.Reading.{IsReadAs};
+ghost use Rattle.mimic_events.specs.Written.{FitsRow, row_lines};
+
+use crate::report::{Report, Row};
+use mimic_printer::json::{put_announcement, put_outcome, put_summary, put_title};
+use mimic_printer::{Sink, WriteFault};
+use mimic_trial::Outcome;
+use std::io::Write;
+
+/// Writes the report in JSON: the one text that `read_report` reads as this report. It takes no memory.
+///
+/// With a fault a beginning of the text was written.
+pub fn write_report<W: Write>(report: &Report, sink: &mut Sink<W>) -> Result<(), WriteFault>
+    requires { HasFaultLeft sink.old }
+    ensures written { Puts W.contents sink.old sink.new
+        (json_report (contents_read report.now)) result }
+    ensures spelled { OnOk result
+        (Spells (contents_read report.now) (json_report (contents_read report.now))) }
+    ensures reads_back { OnOk result
+        (IsReadAs Spells (json_report (contents_read report.now)) (contents_read report.now)) }
+{
+    prove!(numbers_fit(report));
+    put_title(sink, report.rows.len() as u64)?;
+    put_rows(sink, &report.rows)?;
+    put_summary(sink, &report.counts(), report.nanos)
+}
+
+// Shows that the numbers of a report fit.
+fn numbers_fit(report: &Report) -> bool
+    ensures filtered_out { report.now.filtered_out < 2 ^ 64 }
+    ensures nanos { report.now.nanos < 2 ^ 64 }
+    ensures always { result ≡ true }
+{
+    let _filtered_out = report.filtered_out;
+    let _nanos = report.nanos;
+    true
+}
+
+fn put_rows<W: Write>(sink: &mut Sink<W>, rows: &[Row]) -> Result<(), WriteFault>
+    requires { HasFaultLeft sink.old }
+    ensures written { Puts W.contents sink.old sink.new (flat_map row_lines rows.now) result }
+    ensures fits { OnOk result (All FitsRow rows.now) }
+{
+    for row in rows {
+        put_row(sink, row)?;
+    }
+    Ok(())
+}
+
+fn put_row<W: Write>(sink: &mut Sink<W>, row: &Row) -> Result<(), WriteFault>
+    requires { HasFaultLeft sink.old }
+    ensures written { Puts W.contents sink.old sink.new (row_lines row.now) result }
+    ensures fits { OnOk result (FitsRow row.now) }
+{
+    prove!(row_fits(row));
+    let (name, kind) = (row.name.as_str(), row.kind.as_str());
+    put_announcement(sink, name, kind)?;
+    put_outcome(sink, name, kind, &row.outcome)
+}
+
+// Shows that the name, the kind and the message of a row are text, and that its numbers fit.
+fn row_fits(row: &Row) -> bool
+    ensures fits { FitsRow row.now }
+    ensures always { result ≡ true }
+{
+    let (_name, _kind) = (row.name.as_str(), row.kind.as_str());
+    match &row.outcome {
+        Outcome::Passed | Outcome::Ignored => true,
+        Outcome::Measured(measurement) => {
+            let _avg = measurement.avg;
+            let _variance = measurement.variance;
+            true
+        }
+        Outcome::Failed(failed) => {
+            let _message = failed.message();
+            true
+        }
+    }
+}
