@@ -1,13 +1,16 @@
+pub mod Begun
 pub mod Digits
 pub mod EndedLines
 pub mod Escapes
 pub mod FewRows
 pub mod FirstLines
+pub mod Followers
 pub mod Fronts
 pub mod NamedLines
 pub mod QuotedTexts
 pub mod Readings
 pub mod RowReaders
+pub mod SoFar
 pub mod States
 pub mod Summaries
 pub mod Tallies

@@ -36,7 +36,7 @@ rows_run n old (e ∷ es) le fits =
     )
 
 -- a title and the lines of rows lead to the state after them
-abbrev behind : ℕ → List Entry → State
+abbrev pub behind : ℕ → List Entry → State
 behind n es = record { next = row_next; announced = n; entries = es }
 
 front_run : (n : ℕ) (es : List Entry) → n < 2 ^ 64 → length es ≤ n → AllByRecursion FitsEntry es → Runs start (json_title n ∷ flat_map entry_lines es) (behind n es)
@@ -62,6 +62,7 @@ longer s (l ∷ lines) t (next, step, run) =
 pub fresh : (s : State) (rest : List ℕ) → s ≡ start → rest ≡ [] → Known s rest false
 fresh s rest e none = subst (λ (u : State). Known u rest false) (sym e) (record {
   fits = record { announced = omega arith; entries = tt; next = refl };
+  led = record { lines = []; each = tt; run = refl; parts = refl };
   way = λ more t after lead. inl lead;
   unread = subst HasNoEnd (sym none) tt;
 })
@@ -85,13 +86,24 @@ over_line s line t u more after is step only lead = at lead.lines lead.each lead
         inl (record { lines = lines; each = each.1; run = subst (λ (v : State). Runs v lines u) next run.2; parts = same.1 })
 
 -- what led to the state leads over the line
-led_on : (s : State) (line : List ℕ) (t u : State) (more after : List ℕ) → IsLine line → Step s line t → Leads u after s (line ++ more) → Leads u after t more
+pub led_on : (s : State) (line : List ℕ) (t u : State) (more after : List ℕ) → IsLine line → Step s line t → Leads u after s (line ++ more) → Leads u after t more
 led_on s line t u more after is step lead = record {
   lines = lead.lines ++ line ∷ [];
   each = each_append lead.lines (line ∷ []) lead.each (is, tt);
   run = runs_append lead.lines (line ∷ []) u s t lead.run (t, step, refl);
   parts = lead.parts ∙ sym (append_assoc (concat lead.lines) line more) ∙ ap (λ (x : List ℕ). x ++ more) (ap (λ (x : List ℕ). concat lead.lines ++ x) (sym (append-nil line)) ∙ sym (concat-append lead.lines (line ∷ [])));
 }
+
+-- from the start, too
+led_from : (s : State) (line : List ℕ) (t : State) → IsLine line → Step s line t → state_text t ≡ state_text s ++ line → Leads start (state_text s) s [] → Leads start (state_text t) t []
+led_from s line t is step text led =
+    let moved : Leads start (state_text s ++ line) s (line ++ []) = record {
+      lines = led.lines;
+      each = led.each;
+      run = led.run;
+      parts = ap (λ (x : List ℕ). x ++ line) (led.parts ∙ append-nil (concat led.lines)) ∙ ap (λ (x : List ℕ). concat led.lines ++ x) (sym (append-nil line));
+    } in
+    subst (λ (x : List ℕ). Leads start x t []) (sym text) (led_on s line t start [] (state_text s ++ line) is step moved)
 
 way_on : (s : State) (line : List ℕ) (t : State) → IsOnlyWay s → state_text t ≡ state_text s ++ line → IsLine line → Step s line t → ((v : State) → Step s line v → v ≡ t) → IsOnlyWay t
 way_on s line t way text is step only = λ more u after lead.
@@ -118,6 +130,7 @@ taken s t rest end line left known last parts step only none =
       ap (λ (x : List ℕ). state_text t ++ x) none ∙ append-nil (state_text t) ∙ keeps.0 ∙ text,
       record {
         fits = keeps.1;
+        led = led_from s line t is step keeps.0 known.led;
         way = way_on s line t known.way keeps.0 is step only;
         unread = subst HasNoEnd (sym none) tt;
       },
@@ -132,6 +145,7 @@ refused s t rest end line left known last parts same none stays =
       ap (λ (x : List ℕ). state_text s ++ x) stays ∙ sym (append_assoc (state_text s) rest end),
       record {
         fits = known.fits;
+        led = known.led;
         way = known.way;
         unread = record { line = line; more = []; parts = stays ∙ sym parts ∙ sym (append-nil line); whole = is; nowhere = none };
       },
@@ -140,9 +154,10 @@ refused s t rest end line left known last parts same none stays =
 -- ---- a piece with no whole line
 
 pub more_left : (s : State) (rest piece : List ℕ) (stuck : Bool) → Known s rest stuck → (stuck ≡ false → HasNoEnd piece) → Known s (rest ++ piece) stuck
-more_left s rest piece false known whole = record { fits = known.fits; way = known.way; unread = no_end-append rest piece known.unread (whole refl) }
+more_left s rest piece false known whole = record { fits = known.fits; led = known.led; way = known.way; unread = no_end-append rest piece known.unread (whole refl) }
 more_left s rest piece true known whole = record {
   fits = known.fits;
+  led = known.led;
   way = known.way;
   unread = record {
     line = known.unread.line;
@@ -156,7 +171,7 @@ more_left s rest piece true known whole = record {
 -- ---- no more lines
 
 -- nothing leads on from an unread rest
-ended : (s : State) (rest : List ℕ) (stuck : Bool) (t : State) (after : List ℕ) → IsUnread stuck s rest → Leads s rest t after → (s ≡ t) × (rest ≡ after)
+pub ended : (s : State) (rest : List ℕ) (stuck : Bool) (t : State) (after : List ℕ) → IsUnread stuck s rest → Leads s rest t after → (s ≡ t) × (rest ≡ after)
 ended s rest stuck t after unread lead = at stuck unread lead.lines lead.each lead.run lead.parts
   where
     at : (b : Bool) → IsUnread b s rest → (lines : List (List ℕ)) → AllByRecursion IsLine lines → Runs s lines t → rest ≡ concat lines ++ after → (s ≡ t) × (rest ≡ after)
@@ -169,10 +184,10 @@ ended s rest stuck t after unread lead = at stuck unread lead.lines lead.each le
 -- ---- the one report
 
 -- the state after the summary of these contents
-abbrev over : Contents → State
+abbrev pub over : Contents → State
 over c = record { next = nothing_next c.filtered_out c.nanos; announced = length c.entries; entries = c.entries }
 
-report_leads : (bytes : List ℕ) (c : Contents) → IsJsonReport bytes c → length c.entries < 2 ^ 64 → Leads start bytes (over c) []
+pub report_leads : (bytes : List ℕ) (c : Contents) → IsJsonReport bytes c → length c.entries < 2 ^ 64 → Leads start bytes (over c) []
 unfolding json_report
 report_leads bytes c h few =
     let front = front_run (length c.entries) c.entries few (omega arith) h.entries in
@@ -201,7 +216,7 @@ report_was_read s rest stuck c known short h =
     ]
 
 -- the text of a reading that is over is the report of what was read
-report_read : (c : Contents) → Fits (over c) → IsJsonReport (state_text (over c)) c
+pub report_read : (c : Contents) → Fits (over c) → IsJsonReport (state_text (over c)) c
 unfolding json_report
 report_read c fits = record {
   text =
@@ -247,7 +262,7 @@ begun row_next s rest fits at = inr (record { announced = s.announced; rest = re
 begun (outcome_next label) s rest fits at = inr (record { announced = s.announced; rest = json_announcement label ++ rest; number = fits.announced; within = omega (arith, at.0); fits = fits.entries; parts = simp append_assoc })
 begun (nothing_next filtered_out nanos) s rest fits at = inr (record { announced = s.announced; rest = json_summary (counts_of (outcomes s.entries) filtered_out) nanos ++ rest; number = fits.announced; within = omega (arith, at.0); fits = fits.entries; parts = simp append_assoc })
 
-rows_lead : (bytes : List ℕ) (es : List Entry) (h : BeginsWith bytes es) → Leads start bytes (behind h.announced es) h.rest
+pub rows_lead : (bytes : List ℕ) (es : List Entry) (h : BeginsWith bytes es) → Leads start bytes (behind h.announced es) h.rest
 rows_lead bytes es h = record {
   lines = json_title h.announced ∷ flat_map entry_lines es;
   each = (title_line h.announced h.number, rows_each es h.fits);

@@ -12,9 +12,14 @@ use Rattle.mimic_events.specs.Reading.{Decodes, IsAnnouncement, IsOutcome, IsSum
 
 -- ---- a step
 
-fits_more : (entries : List Entry) (e : Entry) → AllByRecursion FitsEntry entries → FitsEntry e → AllByRecursion FitsEntry (entries ++ e ∷ [])
+pub fits_more : (entries : List Entry) (e : Entry) → AllByRecursion FitsEntry entries → FitsEntry e → AllByRecursion FitsEntry (entries ++ e ∷ [])
 fits_more [] e h one = (one, tt)
 fits_more (x ∷ entries) e h one = (h.0, fits_more entries e h.1 one)
+
+-- the lines of rows, and those of one more
+pub rows_more : (entries : List Entry) (e : Entry) → concat (flat_map entry_lines (entries ++ e ∷ [])) ≡ concat (flat_map entry_lines entries) ++ (json_announcement e.label ++ json_outcome e.label e.outcome)
+rows_more entries e =
+    ap concat (flat_map-append entry_lines entries (e ∷ [])) ∙ concat-append (flat_map entry_lines entries) (entry_lines e) ∙ simp append-nil
 
 -- a step adds its line to the text, and what fitted fits on
 abbrev Keeps : List ℕ → List ℕ → State → Type 0
@@ -34,8 +39,7 @@ keeps_from row_next old line new few fits at (inr (all, numbers, is, e)) =
 keeps_from (outcome_next label) old line new few fits at (outcome, is, e) =
     let one : Entry = record { label = label; outcome = outcome } in
     let there : State = record old { next = row_next; entries = old.entries ++ one ∷ [] } in
-    let lines : concat (flat_map entry_lines there.entries) ≡ concat (flat_map entry_lines old.entries) ++ (json_announcement label ++ json_outcome label outcome) =
-    ap concat (flat_map-append entry_lines old.entries (one ∷ [])) ∙ concat-append (flat_map entry_lines old.entries) (entry_lines one) ∙ simp append-nil in
+    let lines = rows_more old.entries one in
     let text : state_text there ≡ text_so_far (outcome_next label) old ++ line = rw (is.1, lines) (simp append_assoc) in
     subst (Keeps (text_so_far (outcome_next label) old) line) (sym e) (
       text,

@@ -8,11 +8,11 @@ use Rattle.std.proofs.lemmas.List.Folds.{concat-append}
 use Rattle.mimic_trial.specs.declared.outcome.Outcome.{Outcome}
 use Rattle.mimic_trial.specs.declared.outcome.conclusion.Conclusion.{Conclusion}
 use Rattle.mimic_trial.specs.Count.{counts_of}
-use Rattle.mimic_printer.specs.Json.{Contents, Entry, conclusion_of, entry_lines, FitsEntry, IsJsonReport, json_announcement, json_outcome, json_report, json_summary, json_title}
+use Rattle.mimic_printer.specs.Json.{Entry, conclusion_of, entry_lines, FitsEntry, IsJsonReport, json_announcement, json_outcome, json_report, json_summary, json_title}
 use Rattle.mimic_printer.specs.Row.{Label}
 use Rattle.mimic_printer.specs.Sink.{Shown, Put, Stopped, Writes}
 use Rattle.mimic_printer.proofs.Appending.{Puts_then, Stopped-more, stop2}
-use Rattle.mimic_events.specs.Contents.{Spells, contents_read, entry_read}
+use Rattle.mimic_events.specs.Contents.{contents_read, entry_read}
 use Rattle.mimic_events.specs.Reading.{Decodes, IsReadAs}
 use Rattle.mimic_events.specs.declared.report.Report.{Report}
 use Rattle.mimic_events.specs.declared.report.Row.{Row}

@@ -2,7 +2,7 @@
 use Rattle.std.specs.Prelude.{ℕ, List, length, map, string_bytes}
 use Rattle.mimic_printer.specs.Json.{Entry, Contents, IsJsonReport, conclusion_of}
 use Rattle.mimic_printer.specs.Row.{Label}
-use Rattle.mimic_events.specs.declared.lines.Label.{Label as LabelRead}
+use Rattle.mimic_events.specs.declared.report.Label.{Label as LabelRead}
 use Rattle.mimic_events.specs.declared.report.Row.{Row}
 use Rattle.mimic_events.specs.declared.report.Report.{Report}
 use Rattle.mimic_events.specs.declared.report.Totals.{Totals}

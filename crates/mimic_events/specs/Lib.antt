@@ -1,9 +1,11 @@
 pub mod Contents
 pub mod Feed
+pub mod Follower
 pub mod LineParts
 pub mod Progress
 pub mod Readers
 pub mod Reading
+pub mod SoFar
 pub mod Stage
 pub mod Tally
 pub mod Written

@@ -1,5 +1,5 @@
--- How a report is read line by line, as by a machine: which line may come next, and where it leads. Of public clauses only those of a tally name these words.
-use Rattle.std.specs.Prelude.{◌≡◌, ◌≢◌, ◌⊎◌, ℕ, ◌<◌, ◌≤◌, ◌^◌, List, [], ◌∷◌, ◌++◌, length, map, Bool, true, false, Option, Some, None}
+-- How a report is read line by line, as by a machine: which line may come next, and where it leads. Of public clauses only those of a tally and of a follower name these words.
+use Rattle.std.specs.Prelude.{◌≡◌, ◌≢◌, ◌⊎◌, ℕ, ◌+◌, ◌*◌, ◌<◌, ◌≤◌, ◌^◌, List, [], ◌∷◌, ◌++◌, length, map, Bool, true, false, Option, Some, None}
 use Rattle.std.specs.List.{AllByRecursion, concat, flat_map}
 use Rattle.mimic_trial.specs.declared.outcome.Outcome.{Outcome}
 use Rattle.mimic_trial.specs.Count.{counts_of}
@@ -45,6 +45,27 @@ next_of (stage.Over filtered_out nanos) = nothing_next filtered_out nanos
 -- the state if these are the rows that have ended: none of them is kept
 abbrev pub state_with : Progress → List Entry → State
 state_with p entries = record { next = next_of p.stage; announced = p.announced; entries = entries }
+
+-- how many rows the title announced, if it was read
+abbrev pub announced_from : Next → ℕ → Option ℕ
+announced_from title_next announced = None
+announced_from row_next announced = Some announced
+announced_from (outcome_next label) announced = Some announced
+announced_from (nothing_next filtered_out nanos) announced = Some announced
+
+-- the trial whose outcome comes next, if one does
+abbrev pub running_from : Next → Option Label
+running_from title_next = None
+running_from row_next = None
+running_from (outcome_next label) = Some label
+running_from (nothing_next filtered_out nanos) = None
+
+-- how many lines were read with so many rows: the title, two for each row, and an announcement or the summary
+abbrev pub lines_from : Next → ℕ → ℕ
+lines_from title_next rows = 0
+lines_from row_next rows = 2 * rows + 1
+lines_from (outcome_next label) rows = 2 * rows + 2
+lines_from (nothing_next filtered_out nanos) rows = 2 * rows + 2
 
 -- as many rows as these were counted, with their outcomes
 abbrev pub IsCounted : Progress → List Entry → Type 0

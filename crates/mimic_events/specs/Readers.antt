@@ -1,5 +1,5 @@
--- Reading bytes that come in pieces: what is kept of them, and what is known of those that were read. Of public clauses only those of a tally name these words.
-use Rattle.std.specs.Prelude.{◌≡◌, ◌⊎◌, ◌<◌, ℕ, Bool, true, false, List, ◌++◌, length, map, Option, Some, None}
+-- Reading bytes that come in pieces: what is kept of them, and what is known of those that were read. Of public clauses only those of a tally and of a follower name these words.
+use Rattle.std.specs.Prelude.{◌≡◌, ◌⊎◌, ◌<◌, ℕ, Bool, true, false, List, [], ◌++◌, length, map, Option, Some, None}
 use Rattle.std.specs.List.{AllByRecursion, concat}
 use Rattle.mimic_printer.specs.Json.{Contents, Entry}
 use Rattle.mimic_events.specs.declared.report_reader.ReportReader.{ReportReader}
@@ -42,6 +42,7 @@ IsOnlyWay s = (more : List ℕ) (t : State) (after : List ℕ) → Leads start (
 -- what is known between two pieces
 pub record Known (s : State) (rest : List ℕ) (stuck : Bool) : Type 0 where
   pub fits : Fits s
+  pub led : Leads start (state_text s) s []
   pub way : IsOnlyWay s
   pub unread : IsUnread stuck s rest
 

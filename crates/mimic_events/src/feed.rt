@@ -1,10 +1,11 @@
 //! Reads reports, whole and in pieces.
 ghost use Rattle.std.specs.Prelude.{◌≡◌, ◌++◌, [], true, false, IfOk, IsErr, MatchOption, OnErr, OnOk, map, option_map};
-ghost use Rattle.mimic_events.specs.Contents.{Spells, contents_read, entry_read};
-ghost use Rattle.mimic_events.specs.Feed.{AreEnded};
+ghost use Rattle.mimic_events.specs.Contents.{Spells, contents_read, entry_read, label_read};
+ghost use Rattle.mimic_events.specs.Feed.{AreEnded, FindsSoFar};
 ghost use Rattle.mimic_events.specs.Reading.{Decodes};
+ghost use Rattle.mimic_events.specs.SoFar.{BeginsWithTitle, IsFirstWrong, ShowsRunning};
 
-use crate::report::{Report, Row};
+use crate::report::{Label, Report, Row};
 use crate::report_reader::ReportReader;
 use std::alloc::{AllocError, Global};
 use std::marker::Model;
@@ -71,6 +72,40 @@ impl Feed {
             return None;
         }
         Some(self.reader.rows())
+    }
+
+    /// Returns how many trials the title announces: `None` before its line has ended, if it is no title, and after a
+    /// refused piece.
+    pub fn announced(&self) -> Option<u64>
+        ensures { FindsSoFar BeginsWithTitle self.now result }
+    {
+        if self.failed {
+            return None;
+        }
+        self.reader.reader.announced()
+    }
+
+    /// Returns the trial whose announcement stands without its outcome: `None` if there is none, and after a refused
+    /// piece. With workers there is none between rows.
+    pub fn running(&self) -> Option<&Label>
+        ensures { FindsSoFar ShowsRunning self.now
+            (option_map (λ label. label_read label.now) result) }
+    {
+        if self.failed {
+            return None;
+        }
+        self.reader.reader.running()
+    }
+
+    /// Returns the number, from 1, of the first ended line that no report has there: `None` if there is none, and after a
+    /// refused piece. Behind the summary no report has a line.
+    pub fn first_wrong_line(&self) -> Option<u128>
+        ensures { FindsSoFar IsFirstWrong self.now result }
+    {
+        if self.failed {
+            return None;
+        }
+        self.reader.reader.first_wrong_line()
     }
 
     /// Returns the report that all bytes are together, `None` if they are none, and `Err` after a refused piece.

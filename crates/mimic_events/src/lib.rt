@@ -27,6 +27,7 @@
 mod counts;
 mod ends;
 mod feed;
+mod follower;
 mod lines;
 mod numbers;
 mod progress;
@@ -40,6 +41,7 @@ mod tally;
 mod write;
 
 pub use feed::{Feed, read_report};
-pub use report::{Report, Row, Totals};
+pub use follower::Follower;
+pub use report::{Label, Report, Row, Totals};
 pub use tally::Tally;
 pub use write::write_report;

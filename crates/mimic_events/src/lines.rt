@@ -9,15 +9,9 @@ ghost use Rattle.mimic_events.specs.Reading.{Decodes, IsTitle, IsAnnouncement, I
 use crate::ends::{after, before};
 use crate::numbers::number_at;
 use crate::quoted_text::{after_quoted, quoted_after};
+use crate::report::Label;
 use mimic_trial::{Failed, Measurement, Outcome};
 use std::alloc::{AllocError, Global};
-
-// What a report shows of a trial.
-#[derive(Debug, Drop)]
-pub(crate) struct Label {
-    pub(crate) name: String,
-    pub(crate) kind: String,
-}
 
 // Returns the number of rows that a title line says.
 pub(crate) fn titled(line: &[u8]) -> Option<u64>

@@ -5,7 +5,7 @@ ghost use Rattle.mimic_trial.specs.Count.{total_of};
 ghost use Rattle.mimic_events.specs.Stage.{begun, most};
 
 use crate::lines::{announced, ended, titled};
-use crate::report::{Row, Totals};
+use crate::report::{Label, Row, Totals};
 use crate::stage::Stage;
 use crate::summary::summed;
 use memchr::memchr;
@@ -35,9 +35,10 @@ pub(crate) struct Progress {
 }
 
 impl Progress {
-    ghost use Rattle.std.specs.Prelude.{◌≡◌, [], List, IfOk};
+    ghost use Rattle.std.specs.Prelude.{◌≡◌, ◌+◌, [], List, IfOk, option_map};
     ghost use Rattle.mimic_printer.specs.Json.{Entry};
-    ghost use Rattle.mimic_events.specs.Progress.{IsCounted, Moves, HasTotals, start, state_with};
+    ghost use Rattle.mimic_events.specs.Contents.{label_read};
+    ghost use Rattle.mimic_events.specs.Progress.{IsCounted, Moves, HasTotals, announced_from, lines_from, next_of, running_from, start, state_with};
 
     // Makes a progress of no line yet.
     pub(crate) fn new() -> Self
@@ -98,6 +99,39 @@ impl Progress {
             Stage::Over(_, _) => return Ok(Taken::Astray),
         };
         Ok(Taken::Read(row))
+    }
+
+    // Returns how many rows the title announced, if it was read.
+    pub(crate) fn announced(&self) -> Option<u64>
+        ensures { result ≡ announced_from (next_of self.now.stage) self.now.announced }
+    {
+        match self.stage {
+            Stage::Title => None,
+            Stage::Row | Stage::Outcome(_) | Stage::Over(_, _) => Some(self.announced),
+        }
+    }
+
+    // Returns the trial that was announced, if its outcome comes next.
+    pub(crate) fn running(&self) -> Option<&Label>
+        ensures { option_map (λ label. label_read label.now) result
+            ≡ running_from (next_of self.now.stage) }
+    {
+        match &self.stage {
+            Stage::Outcome(label) => Some(label),
+            Stage::Title | Stage::Row | Stage::Over(_, _) => None,
+        }
+    }
+
+    // Returns the number of the line that comes next, from 1: before it are the title, and two lines for each row.
+    pub(crate) fn next_line(&self) -> u128
+        ensures { result ≡ lines_from (next_of self.now.stage) self.now.done + 1 }
+    {
+        let of_rows = 2 * u128::from(self.done);
+        match self.stage {
+            Stage::Title => 1,
+            Stage::Row => of_rows + 2,
+            Stage::Outcome(_) | Stage::Over(_, _) => of_rows + 3,
+        }
     }
 
     // Returns what the lines said in numbers, if the summary was the last of them.

@@ -5,6 +5,15 @@ ghost use Rattle.mimic_trial.specs.Count.{counts_of};
 use crate::counts::counts_of_rows;
 use mimic_trial::{Conclusion, Outcome};
 
+/// What a report shows of a trial before its outcome.
+#[derive(Debug, PartialEq, Eq, Drop)]
+pub struct Label {
+    /// The trial's name, without its kind.
+    pub name: String,
+    /// The trial's kind, which may be empty.
+    pub kind: String,
+}
+
 /// What a report says of one trial.
 #[derive(Debug, PartialEq, Eq, Drop)]
 pub struct Row {

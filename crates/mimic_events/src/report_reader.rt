@@ -6,7 +6,7 @@ use std::alloc::{AllocError, Global};
 // What was read, and the rows that have ended.
 #[derive(Debug, Drop)]
 pub(crate) struct ReportReader {
-    reader: RowReader,
+    pub(crate) reader: RowReader,
     rows: Vec<Row>,
 }
 

@@ -1,6 +1,6 @@
 //! Reads the rows of a report one after another, from bytes that come in pieces.
 use crate::progress::{Progress, Taken, first_line};
-use crate::report::{Row, Totals};
+use crate::report::{Label, Row, Totals};
 use std::alloc::{AllocError, Global};
 
 // What was read, and what was not. The rows are handed out as they end, and none is kept.
@@ -15,10 +15,13 @@ pub(crate) struct RowReader {
 }
 
 impl RowReader {
-    ghost use Rattle.std.specs.Prelude.{◌≡◌, [], false, List, IfOk, MatchOption, None};
+    ghost use Rattle.std.specs.Prelude.{◌≡◌, [], false, List, IfOk, MatchOption, None, option_map};
     ghost use Rattle.mimic_printer.specs.Json.{Entry};
+    ghost use Rattle.mimic_events.specs.Contents.{label_read};
     ghost use Rattle.mimic_events.specs.Progress.{IsLine};
     ghost use Rattle.mimic_events.specs.Readers.{IsSound, ReadsOn, ReadsRow, SumsUp, bytes_of};
+    ghost use Rattle.mimic_events.specs.Reading.{Decodes};
+    ghost use Rattle.mimic_events.specs.SoFar.{BeginsWithTitle, IsFirstWrong, ShowsRunning};
 
     // Makes a reader of no bytes yet.
     pub(crate) fn new(alloc: Global) -> Self
@@ -84,6 +87,34 @@ impl RowReader {
                 self.stuck = true;
                 Ok(None)
             }
+        }
+    }
+
+    // Returns how many rows the title announces, if it has ended.
+    pub(crate) fn announced(&self) -> Option<u64>
+        ensures { (entries : List Entry) → IsSound self.now entries
+            → Decodes BeginsWithTitle (bytes_of self.now entries) result }
+    {
+        self.progress.announced()
+    }
+
+    // Returns the trial whose announcement stands without its outcome.
+    pub(crate) fn running(&self) -> Option<&Label>
+        ensures { (entries : List Entry) → IsSound self.now entries → Decodes ShowsRunning
+            (bytes_of self.now entries) (option_map (λ label. label_read label.now) result) }
+    {
+        self.progress.running()
+    }
+
+    // Returns the number, from 1, of the first ended line that no report has there.
+    pub(crate) fn first_wrong_line(&self) -> Option<u128>
+        ensures { (entries : List Entry) → IsSound self.now entries
+            → Decodes IsFirstWrong (bytes_of self.now entries) result }
+    {
+        if self.stuck {
+            Some(self.progress.next_line())
+        } else {
+            None
         }
     }
 

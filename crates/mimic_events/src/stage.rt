@@ -1,5 +1,5 @@
 //! Which line of a report comes next.
-use crate::lines::Label;
+use crate::report::Label;
 
 // Which line comes next.
 #[derive(Debug, Drop)]

@@ -1,6 +1,7 @@
 //! Reads the numbers of a report, and keeps none of its rows.
 ghost use Rattle.std.specs.Prelude.{◌++◌, [], IfOk, List, ℕ};
 ghost use Rattle.mimic_events.specs.Reading.{Decodes};
+ghost use Rattle.mimic_events.specs.SoFar.{BeginsWithTitle, IsFirstWrong};
 ghost use Rattle.mimic_events.specs.Tally.{HasRead, SpellsTotals};
 
 use crate::report::Totals;
@@ -39,6 +40,20 @@ impl Tally {
             left = after;
         }
         Ok(tally)
+    }
+
+    /// Returns how many trials the title announces: `None` before its line has ended, and if it is no title.
+    pub fn announced(&self) -> Option<u64>
+        ensures { (bytes : List ℕ) → HasRead self.now bytes → Decodes BeginsWithTitle bytes result }
+    {
+        self.reader.announced()
+    }
+
+    /// Returns the number, from 1, of the first ended line that no report has there, and `None` if there is none.
+    pub fn first_wrong_line(&self) -> Option<u128>
+        ensures { (bytes : List ℕ) → HasRead self.now bytes → Decodes IsFirstWrong bytes result }
+    {
+        self.reader.first_wrong_line()
     }
 
     /// Returns the numbers of the report that all bytes are together, and `None` if they are none.
