@@ -8,7 +8,7 @@ use std::process::Abort;
 use std::test::Fail;
 
 // Every outcome, and every sort of character in names and in a message.
-const ALL_SORTS: &str = r#"{ "type": "suite", "event": "started", "test_count": 5 }
+pub(super) const ALL_SORTS: &str = r#"{ "type": "suite", "event": "started", "test_count": 5 }
 { "type": "test", "event": "started", "name": "a\"b\\\n\u0001é" }
 { "type": "test", "name": "a\"b\\\n\u0001é", "event": "ignored" }
 { "type": "test", "event": "started", "name": "" }
@@ -74,7 +74,7 @@ const ROWS_OF_ALL_SORTS: [(&str, Known); 5] = [
 ];
 
 // The report whose text is `ALL_SORTS`.
-fn all_sorts(alloc: Global) -> Result<Report, AllocError> {
+pub(super) fn all_sorts(alloc: Global) -> Result<Report, AllocError> {
     Ok(Report {
         rows: rows_of(alloc, &ROWS_OF_ALL_SORTS)?,
         filtered_out: u64::MAX,
@@ -83,7 +83,7 @@ fn all_sorts(alloc: Global) -> Result<Report, AllocError> {
 }
 
 // Two tests, one that passes and one that fails.
-const TWO_TESTS: &str = r#"{ "type": "suite", "event": "started", "test_count": 2 }
+pub(super) const TWO_TESTS: &str = r#"{ "type": "suite", "event": "started", "test_count": 2 }
 { "type": "test", "event": "started", "name": "succeeding_test" }
 { "type": "test", "name": "succeeding_test", "event": "ok" }
 { "type": "test", "event": "started", "name": "failing_test" }
@@ -97,7 +97,7 @@ const ROWS_OF_TWO_TESTS: [(&str, Known); 2] = [
 ];
 
 // The report whose text is `TWO_TESTS`.
-fn two_tests(alloc: Global) -> Result<Report, AllocError> {
+pub(super) fn two_tests(alloc: Global) -> Result<Report, AllocError> {
     Ok(Report {
         rows: rows_of(alloc, &ROWS_OF_TWO_TESTS)?,
         filtered_out: 0,
@@ -477,7 +477,7 @@ fn refuses_other_texts(rt: HostRuntime) -> Result<(), Fail> {
 }
 
 // A report of one ignored trial, with these fields for its name and its kind in its two lines.
-fn ignored_trial(alloc: Global, first: &str, second: &str) -> Result<String, Fail> {
+pub(super) fn ignored_trial(alloc: Global, first: &str, second: &str) -> Result<String, Fail> {
     Ok(format!(in alloc;
         "{{ \"type\": \"suite\", \"event\": \"started\", \"test_count\": 1 }}
 {{ \"type\": \"test\", \"event\": \"started\", {first} }}
@@ -488,7 +488,7 @@ fn ignored_trial(alloc: Global, first: &str, second: &str) -> Result<String, Fai
 }
 
 // Fields that both lines of a trial have, and the name and the kind that they stand for.
-const KINDS: [(&str, &str, &str); 5] = [
+pub(super) const KINDS: [(&str, &str, &str); 5] = [
     (r#""name": "fly", "kind": "banana""#, "fly", "banana"),
     (r#""name": "fly""#, "fly", ""),
     (r#""name": "a", "kind": "b""#, "a", "b"),
