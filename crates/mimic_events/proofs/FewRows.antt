@@ -31,7 +31,7 @@ rows_long (e ∷ es) =
     let rest : List ℕ = concat (flat_map entry_lines es) in
     omega (arith, some, rows_long es, length-append a (o ++ rest), length-append o rest)
 
-report_long : (c : Contents) → length c.entries ≤ length (json_report c)
+pub report_long : (c : Contents) → length c.entries ≤ length (json_report c)
 unfolding json_report
 report_long c =
     let rows : List (List ℕ) = flat_map entry_lines c.entries in

@@ -5,6 +5,7 @@ pub mod Escapes
 pub mod FewRows
 pub mod FirstLines
 pub mod Followers
+pub mod Forgetting
 pub mod Fronts
 pub mod NamedLines
 pub mod QuotedTexts

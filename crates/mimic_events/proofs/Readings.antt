@@ -113,7 +113,7 @@ way_on s line t way text is step only = λ more u after lead.
       | inr back ↦ inr (led_on s line t u more after is step back)
     ]
 
-line_with : (rest end : List ℕ) → HasNoEnd rest → IsLine end → IsLine (rest ++ end)
+pub line_with : (rest end : List ℕ) → HasNoEnd rest → IsLine end → IsLine (rest ++ end)
 line_with rest end h is = record {
   front = rest ++ is.front;
   parts = ap (λ (x : List ℕ). rest ++ x) is.parts ∙ sym (append_assoc rest is.front (10 ∷ []));
@@ -208,12 +208,15 @@ last_of_all c s rest lead = at lead.lines lead.run lead.parts
     at [] run e = (sym run, sym e)
     at (l ∷ lines) run e = absurd run.1
 
-report_was_read : (s : State) (rest : List ℕ) (stuck : Bool) (c : Contents) → Known s rest stuck → length rest < 2 ^ 64 → IsJsonReport (state_text s ++ rest) c → (s ≡ over c) × (rest ≡ [])
-report_was_read s rest stuck c known short h =
-    elim (known.way rest (over c) [] (report_leads (state_text s ++ rest) c h (few_rows s rest c known.fits short h))) [
+pub few_were_read : (s : State) (rest : List ℕ) (stuck : Bool) (c : Contents) → Known s rest stuck → length c.entries < 2 ^ 64 → IsJsonReport (state_text s ++ rest) c → (s ≡ over c) × (rest ≡ [])
+few_were_read s rest stuck c known few h =
+    elim (known.way rest (over c) [] (report_leads (state_text s ++ rest) c h few)) [
       | inl on ↦ ended s rest stuck (over c) [] known.unread on
       | inr back ↦ last_of_all c s rest back
     ]
+
+report_was_read : (s : State) (rest : List ℕ) (stuck : Bool) (c : Contents) → Known s rest stuck → length rest < 2 ^ 64 → IsJsonReport (state_text s ++ rest) c → (s ≡ over c) × (rest ≡ [])
+report_was_read s rest stuck c known short h = few_were_read s rest stuck c known (few_rows s rest c known.fits short h) h
 
 -- the text of a reading that is over is the report of what was read
 pub report_read : (c : Contents) → Fits (over c) → IsJsonReport (state_text (over c)) c

@@ -1,5 +1,5 @@
 -- Reading bytes that come in pieces: what is kept of them, and what is known of those that were read. Of public clauses only those of a tally and of a follower name these words.
-use Rattle.std.specs.Prelude.{◌≡◌, ◌⊎◌, ◌<◌, ℕ, Bool, true, false, List, [], ◌++◌, length, map, Option, Some, None}
+use Rattle.std.specs.Prelude.{◌≡◌, ◌≢◌, codes, ◌⊎◌, ◌<◌, ℕ, Bool, true, false, List, [], ◌++◌, length, map, Option, Some, None}
 use Rattle.std.specs.List.{AllByRecursion, concat}
 use Rattle.mimic_printer.specs.Json.{Contents, Entry}
 use Rattle.mimic_events.specs.declared.report_reader.ReportReader.{ReportReader}
@@ -13,6 +13,14 @@ use Rattle.mimic_events.specs.Reading.{Decodes}
 -- all bytes that came, if these are the rows that have ended: the lines that were taken, and the rest
 abbrev pub bytes_of : RowReader → List Entry → List ℕ
 bytes_of r entries = state_text (state_with r.progress entries) ++ r.rest.items
+
+-- what each line of a report begins with
+abbrev pub line_front : List ℕ
+line_front = codes "{ \"type\": \""
+
+-- whatever follows it, the text doesn't begin with this front
+abbrev pub NeverBegins : List ℕ → List ℕ → Type 0
+NeverBegins front text = (more rest : List ℕ) → text ++ more ≢ front ++ rest
 
 -- the text begins with a line that leads nowhere
 pub record BeginsAstray (s : State) (text : List ℕ) : Type 0 where

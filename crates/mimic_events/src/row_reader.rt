@@ -1,4 +1,8 @@
 //! Reads the rows of a report one after another, from bytes that come in pieces.
+ghost use Rattle.std.specs.Prelude.{◌≡◌, true};
+ghost use Rattle.mimic_events.specs.Readers.{NeverBegins, line_front};
+
+use crate::ends::after;
 use crate::progress::{Progress, Taken, first_line};
 use crate::report::{Label, Row, Totals};
 use std::alloc::{AllocError, Global};
@@ -8,20 +12,21 @@ use std::alloc::{AllocError, Global};
 pub(crate) struct RowReader {
     // What the lines that were taken said.
     progress: Progress,
-    // All that came after these lines.
+    // All that came after these lines, or what stands for it.
     rest: Vec<u8>,
     // Whether the rest begins with a line that doesn't belong there. If not, it has no whole line.
     stuck: bool,
 }
 
 impl RowReader {
-    ghost use Rattle.std.specs.Prelude.{◌≡◌, [], false, List, IfOk, MatchOption, None, option_map};
+    ghost use Rattle.std.specs.Prelude.{◌≡◌, [], false, List, IfOk, MatchOption, None, OnOk, option_map};
     ghost use Rattle.mimic_printer.specs.Json.{Entry};
     ghost use Rattle.mimic_events.specs.Contents.{label_read};
     ghost use Rattle.mimic_events.specs.Progress.{IsLine};
     ghost use Rattle.mimic_events.specs.Readers.{IsSound, ReadsOn, ReadsRow, SumsUp, bytes_of};
     ghost use Rattle.mimic_events.specs.Reading.{Decodes};
     ghost use Rattle.mimic_events.specs.SoFar.{BeginsWithTitle, IsFirstWrong, ShowsRunning};
+    ghost use Rattle.mimic_events.specs.Tally.{Forgets};
 
     // Makes a reader of no bytes yet.
     pub(crate) fn new(alloc: Global) -> Self
@@ -90,6 +95,22 @@ impl RowReader {
         }
     }
 
+    // Forgets the bytes from a line on that no report has there, also of a line that hasn't ended if no line of a report
+    // begins as it does. One byte stands for them: an empty line for lines that have ended. After an `Err` the reader is of
+    // no use.
+    pub(crate) fn forget(&mut self) -> Result<(), AllocError>
+        ensures { OnOk result (Forgets self.old self.new) }
+    {
+        if self.stuck {
+            self.rest.clear();
+            self.rest.push(b'\n')?;
+        } else if begins_no_line(&self.rest) {
+            self.rest.clear();
+            self.rest.push(b'-')?;
+        }
+        Ok(())
+    }
+
     // Returns how many rows the title announces, if it has ended.
     pub(crate) fn announced(&self) -> Option<u64>
         ensures { (entries : List Entry) → IsSound self.now entries
@@ -128,4 +149,12 @@ impl RowReader {
         }
         self.progress.into_totals()
     }
+}
+
+// Returns whether no line of a report begins with the bytes, whatever follows them.
+fn begins_no_line(bytes: &[u8]) -> bool
+    ensures { result ≡ true → NeverBegins line_front bytes.now }
+{
+    let front = br#"{ "type": ""#;
+    after(bytes, front).is_none() && after(front, bytes).is_none()
 }

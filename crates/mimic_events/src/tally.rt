@@ -10,11 +10,14 @@ use std::alloc::{AllocError, Global};
 
 /// Reads a report whose bytes come in pieces, cut anywhere, as a `Feed` does, but for its numbers alone.
 ///
-/// It keeps no row: only the line that has not ended, and all that follows a line that no report has there.
+/// It keeps no row: only the line that has not ended, unless that begins as no line of a report does. From the first line
+/// on that no report has there, it keeps nothing.
 #[derive(Drop)]
 pub struct Tally {
     alloc: Global,
     reader: RowReader,
+    // The number of bytes that came.
+    taken: u64,
 }
 
 impl Tally {
@@ -25,6 +28,7 @@ impl Tally {
         Tally {
             alloc,
             reader: RowReader::new(alloc),
+            taken: 0,
         }
     }
 
@@ -34,11 +38,17 @@ impl Tally {
             (λ tally. (bytes : List ℕ) → HasRead self bytes → HasRead tally (bytes ++ piece.now)) }
     {
         let mut tally = self;
+        // As if all bytes had been kept, there is no room for more than can be counted.
+        tally.taken = tally
+            .taken
+            .checked_add(piece.len() as u64)
+            .ok_or(AllocError)?;
         let mut left = piece;
         while let Some((row, after)) = tally.reader.next_row(tally.alloc, left)? {
             drop(row);
             left = after;
         }
+        tally.reader.forget()?;
         Ok(tally)
     }
 

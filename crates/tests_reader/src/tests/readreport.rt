@@ -128,6 +128,52 @@ const ONE_ROW_TOLD: &str =
 const MIXED_TOLD: &str =
     "10 trials: 2 passed; 1 failed; 4 ignored; 3 measured; 16 filtered out; 5 ns\n";
 
+// So many trials that passed. Their report takes more than 65,536 reads.
+const MANY: usize = 2_500;
+
+// The two lines of a trial that passed.
+const PASSED: &str = r#"{ "type": "test", "event": "started", "name": "t" }
+{ "type": "test", "name": "t", "event": "ok" }
+"#;
+
+// Their report.
+fn long_report(alloc: Global) -> Result<String, AllocError> {
+    let mut report = format!(in alloc;
+        "{{ \"type\": \"suite\", \"event\": \"started\", \"test_count\": {MANY} }}\n"
+    )?;
+    for _ in 0..MANY {
+        report.push_str(PASSED)?;
+    }
+    report.push_str(
+        "{ \"type\": \"suite\", \"event\": \"ok\", \"passed\": 2500, \"failed\": 0, \"ignored\": 0, \"measured\": 0, \"filtered_out\": 0, \"exec_time\": 0 }\n",
+    )?;
+    Ok(report)
+}
+
+const MANY_TOLD: &str =
+    "2500 trials: 2500 passed; 0 failed; 0 ignored; 0 measured; 0 filtered out; 0 ns\n";
+
+// It reads as long as there is input, also behind a report.
+#[test]
+fn reads_to_the_end_of_the_input(rt: HostRuntime) -> Result<(), Fail> {
+    let alloc = rt.alloc();
+    let report = long_report(alloc)?;
+    let bytes = report.as_str().as_bytes();
+    assert!(rt; tells(alloc, bytes, MANY_TOLD, ""));
+    let fault = Some(ErrorKind::BrokenPipe);
+    let told = ("", "cannot read\n");
+    assert!(rt;
+        leaves(
+            alloc,
+            b"no report\n\n\n",
+            fault,
+            FaultyWriter::new(alloc),
+            told
+        )
+    );
+    Ok(())
+}
+
 // Also one of ten rows, with seven different numbers.
 #[test]
 fn tells_reports(rt: HostRuntime) -> Result<(), Fail> {
