@@ -72,7 +72,9 @@ fn print_report<I: Read, O: Write>(alloc: Global, input: &mut I, out: &mut O) ->
     put_text(out, line.as_str())
 }
 
-// Feeds the input to its end, piece by piece. A read that was interrupted is tried again.
+// Feeds the input to its end, piece by piece. A read that was interrupted is tried again. Compiled into `main`, the loop takes
+// longer.
+#[inline(never)]
 fn tallied<I: Read>(alloc: Global, input: &mut I) -> Result<Tally, Fault>
     ensures read { IfOk result (λ tally. (all : List ℕ) × HasRead tally all
         × IfSome (I.remaining input.old) (λ bytes. all ≡ bytes)) }
