@@ -142,8 +142,8 @@ fn failure(alloc: Global) -> Failed {
 // Prints why the words ask for nothing.
 fn refuse<M: Machine>(rt: &M, error: ArgumentsError) -> Status {
     let alloc = rt.alloc();
-    let none: Vec<Trial<Unit>> = Vec::new(alloc);
-    BENCH_SUITE.run_line(rt, Err(error), Ok(none))
+    let none: Result<Vec<Trial<Unit>>, RunError> = Ok(Vec::new(alloc));
+    BENCH_SUITE.run_line(rt, Err(error), none)
 }
 
 // Makes the tests and runs them, and prints what that took.

@@ -1,5 +1,5 @@
 -- What a buffered output was given, and what of it waits.
-use Rattle.std.specs.Prelude.{◌≡◌, ◌+◌, ◌<◌, ◌≤◌, ℕ, Bool, true, not, List, [], ◌∷◌, length, Option, Result, IsErr, if◌then◌else◌, nat_eq}
+use Rattle.std.specs.Prelude.{◌≡◌, ◌≢◌, ◌+◌, ◌<◌, ◌≤◌, ℕ, Bool, true, not, List, [], ◌∷◌, length, Option, Result, Ok, IsErr, if◌then◌else◌, nat_eq}
 use Rattle.std.specs.List.{ends_with}
 use Rattle.std.specs.Io.KnownBytes.{Keeps, append_known}
 use Rattle.mimic_main.specs.declared.output.Output.{Output}
@@ -27,6 +27,10 @@ has_stopped output = output.has_failed
 abbrev pub StaysStopped : {W X E : Type 0} → Output W → Output W → Result X E → Type 0
 StaysStopped old new result = has_stopped old ≡ true → IsErr result × (writer_of new ≡ writer_of old)
     × (has_stopped new ≡ true)
+
+-- a text of which no byte was taken, though it has some, stops the output
+abbrev pub StopsAtNothing : {W E : Type 0} → Output W → List ℕ → Result ℕ E → Type 0
+StopsAtNothing new text result = text ≢ [] → result ≡ Ok 0 → has_stopped new ≡ true
 
 -- the bytes of the writer and then those that wait in the buffer, if they are known
 abbrev pub given_to : {W : Type 0} → (W → Option (List ℕ)) → Output W → Option (List ℕ)

@@ -14,6 +14,7 @@ use crate::status::Status;
 use libtest_mimic::{Arguments, ArgumentsError, Case, Failed, RunError, Spawner, Task, Trial};
 use std::alloc::Global;
 use std::convert::AsStr;
+use std::fmt::Display;
 use std::fs::Files;
 use std::io::{IsTerminal, Write};
 use std::num::NonZeroUsize;
@@ -85,13 +86,13 @@ impl<R: Env + AllocGlobal + Clock + Files + Streams + Spawner + 'static> Machine
 ///
 /// If the line does not say how many threads run them, it is as many as the machine can run at once. The report goes to
 /// standard output, in colours if [`shows_colours`](crate::shows_colours) says so, or into the logfile. A fault is printed on
-/// standard error with its cause. If the trials could not be made, that is printed too, and the status is 1.
+/// standard error with its cause. If the trials could not be made, the reason is printed there, and the status is 1.
 ///
 /// No contract says which words a process gets, so this one is about some line, and never excludes the statuses 0, 1 and 2.
-pub fn run_program<M: Machine, R: Task + Send + 'static>(
+pub fn run_program<M: Machine, R: Task + Send + 'static, X: Display + Drop>(
     machine: &M,
     name: &str,
-    tests: Result<Vec<Trial<R>>, RunError>,
+    tests: Result<Vec<Trial<R>>, X>,
 ) -> Status
     requires { IfOk tests (λ made. AllCanRun R.can_run made.items) }
     ensures made { IfOk tests (λ made. EndsByLine R.gives made.items (number_of result)) }
@@ -104,11 +105,11 @@ pub fn run_program<M: Machine, R: Task + Send + 'static>(
 
 /// Runs or lists the trials as `run_program` does, for a line that was read already, as by a program with words of its own
 /// (`Line` of `libtest_mimic`).
-pub fn run_line<M: Machine, R: Task + Send + 'static>(
+pub fn run_line<M: Machine, R: Task + Send + 'static, X: Display + Drop>(
     machine: &M,
     name: &str,
     line: Result<Arguments, ArgumentsError>,
-    tests: Result<Vec<Trial<R>>, RunError>,
+    tests: Result<Vec<Trial<R>>, X>,
 ) -> Status
     requires { IfOk tests (λ made. AllCanRun R.can_run made.items) }
     ensures made { IfOk tests (λ made. EndsForLine R.gives made.items line (number_of result)) }
@@ -190,16 +191,17 @@ impl<'a> Program<'a> {
         ensures { IsOfReadLine (EndsSomehow (asking R.gives self.now.threads self.now.auto_colours tests.items)) (number_of result) }
     {
         let line = Arguments::from_args(machine, machine.alloc());
-        self.run_line(machine, line, Ok(tests))
+        let made: Result<Vec<Trial<R>>, RunError> = Ok(tests);
+        self.run_line(machine, line, made)
     }
 
     /// Runs or lists the trials as the line asks, on the machine's streams and by its clock, and returns what `main` is to
-    /// return. If the trials could not be made, that is printed on standard error, and the status is 1.
-    pub fn run_line<M: Machine, R: Task + Send + 'static>(
+    /// return. If the trials could not be made, the reason is printed on standard error, and the status is 1.
+    pub fn run_line<M: Machine, R: Task + Send + 'static, X: Display + Drop>(
         &self,
         machine: &M,
         line: Result<Arguments, ArgumentsError>,
-        tests: Result<Vec<Trial<R>>, RunError>,
+        tests: Result<Vec<Trial<R>>, X>,
     ) -> Status
         requires runnable { IfOk tests (λ made. AllCanRun R.can_run made.items) }
         requires some_thread { 1 ≤ self.now.threads }
@@ -211,7 +213,7 @@ impl<'a> Program<'a> {
         let mut err = machine.stderr();
         let tests = match tests {
             Ok(tests) => tests,
-            Err(error) => return self.refuse(error, &mut err),
+            Err(reason) => return self.refuse(reason, &mut err),
         };
         let (_, status) = self.harness_run(
             &host,
@@ -226,15 +228,19 @@ impl<'a> Program<'a> {
         status
     }
 
-    /// What `main` is to return if making the trials may be refused: what their run returned, or 1 after the refusal
+    /// What `main` is to return if making the trials may be refused: what their run returned, or 1 after the reason
     /// is printed on standard error.
-    pub fn end<M: Machine>(&self, machine: &M, ended: Result<Status, RunError>) -> Status
+    pub fn end<M: Machine, X: Display + Drop>(
+        &self,
+        machine: &M,
+        ended: Result<Status, X>,
+    ) -> Status
         ensures ran { IfOk ended (λ status. result ≡ status) }
         ensures refused { OnErr ended (number_of result ≡ 1) }
     {
         match ended {
             Ok(status) => status,
-            Err(error) => self.refuse(error, &mut machine.stderr()),
+            Err(reason) => self.refuse(reason, &mut machine.stderr()),
         }
     }
 }

@@ -2,7 +2,7 @@
 ghost use Rattle.std.specs.Prelude.{◌≡◌, ◌↔◌, ◌+◌, ◌<◌, ◌≤◌, ◌-◌, ◌++◌, ℕ, [], drop, false, length, take, true, IfOk, IsErr, IsOk, IsTrue, Ok, OnErr, OnOk};
 ghost use Rattle.std.specs.Io.{WritesAtMost};
 ghost use Rattle.std.specs.Io.KnownBytes.{Appends, Keeps, WriteAppends};
-ghost use Rattle.mimic_main.specs.Output.{CountsLine, CanWait, HandsOn, SamePolicy, StaysStopped, ends_line, flushes_by, given_to, goes_out, has_odd_lines, has_stopped, waiting_of, writer_of};
+ghost use Rattle.mimic_main.specs.Output.{CountsLine, CanWait, HandsOn, SamePolicy, StaysStopped, StopsAtNothing, ends_line, flushes_by, given_to, goes_out, has_odd_lines, has_stopped, waiting_of, writer_of};
 ghost use Rattle.mimic_main.specs.Policy.{acts_on_flush, goes_out_by};
 ghost use Rattle.mimic_main.specs.declared.output.TheConstants.{BLOCK};
 
@@ -12,7 +12,7 @@ use std::io;
 use std::io::{ErrorKind, Write};
 
 // How many bytes wait at most.
-const BLOCK: usize = 8192;
+pub(crate) const BLOCK: usize = 8192;
 
 /// A buffered writer, in which up to 8192 bytes wait. It allocates nothing. What waits in one that is dropped and not finished
 /// is lost.
@@ -130,6 +130,7 @@ impl<W: Write> Output<W> {
         ensures lines { IfOk result (CountsLine self.old self.new text.now ends_line) }
         ensures out { goes_out_by (flushes_by self.old) ends_line (has_odd_lines self.old) ≡ true
             → OnOk result (waiting_of self.new ≡ []) }
+        ensures nothing { StopsAtNothing self.new text.now result }
         ensures stops { OnErr result (has_stopped self.new ≡ true) }
         ensures stopped { StaysStopped self.old self.new result }
     {
@@ -154,6 +155,7 @@ impl<W: Write> Output<W> {
             (given_to W.contents self.new) result text.now }
         ensures empty { OnOk result (waiting_of self.new ≡ []) }
         ensures same { SamePolicy self.old self.new }
+        ensures nothing { StopsAtNothing self.new text.now result }
         ensures stops { OnErr result (has_stopped self.new ≡ true) }
     {
         if !self.waiting.is_empty() && self.can_wait(text.len()) {
@@ -176,6 +178,7 @@ impl<W: Write> Output<W> {
             (given_to W.contents self.new) result text.now }
         ensures empty { OnOk result (waiting_of self.new ≡ []) }
         ensures same { SamePolicy self.old self.new }
+        ensures nothing { StopsAtNothing self.new text.now result }
         ensures stops { OnErr result (has_stopped self.new ≡ true) }
     {
         self.keep(text);
@@ -257,6 +260,7 @@ impl<W: Write> Write for Output<W> {
         ensures taken { has_stopped self.old ≡ false → goes_out self.old buf.now ≡ false
             → CanWait self.old (length buf.now)
             → (result ≡ Ok (length buf.now)) × (has_stopped self.new ≡ false) }
+        ensures nothing { StopsAtNothing self.new buf.now result }
         ensures stops { OnErr result (has_stopped self.new ≡ true) }
         ensures stopped { StaysStopped self.old self.new result }
     {

@@ -6,10 +6,12 @@ ghost use Rattle.mimic_main.specs.Ended.{Ended, GotWithout, IfOfRun, number_of, 
 ghost use Rattle.mimic_main.specs.Run.{GotBeginning, IsLawful, Ran, asked_by};
 
 use crate::job::{Job, run_into};
-use crate::output::Output;
+use crate::output::{BLOCK, Output};
 use crate::status::Status;
+use arrayvec::ArrayVec;
 use libtest_mimic::{Arguments, ArgumentsError, Clock, Conclusion, RunError, Spawner, Task, Trial};
 use std::alloc::Global;
+use std::fmt::Display;
 use std::fs::Files;
 use std::io::{IsTerminal, Write};
 use std::{fs, io};
@@ -122,7 +124,7 @@ impl Program<'_> {
             }
             ArgumentsError::Refused(text) => {
                 // The texts of `clap` end with a line end, and others do not.
-                let _ = writeln!(err, "{}", text.as_str().trim_end());
+                print_line(text.as_str().trim_end(), err);
                 Status::REFUSED_LINE
             }
         }
@@ -130,10 +132,11 @@ impl Program<'_> {
 
     /// Prints why there was no run, in one line on `err`, and returns the exit status 1. A fault in writing changes
     /// nothing.
-    pub fn refuse<E: Write>(&self, error: RunError, err: &mut E) -> Status
+    pub fn refuse<X: Display + Drop, E: Write>(&self, reason: X, err: &mut E) -> Status
         ensures { number_of result ≡ 1 }
     {
-        self.print_fault(&Fault::Run(error), None, err);
+        let name = self.name;
+        print_line(format_args!("{name}: {reason}"), err);
         Status::CANNOT_RUN
     }
 
@@ -141,17 +144,31 @@ impl Program<'_> {
     fn print_fault<E: Write>(&self, fault: &Fault, logfile: Option<&String>, err: &mut E) {
         let name = self.name;
         let place = logfile.map_or("standard output", |path| path.as_str());
-        let _ = match fault {
-            Fault::Logfile(error) if self.prints_causes => {
-                writeln!(err, "{name}: cannot create the logfile {place}: {error}")
+        match fault {
+            Fault::Logfile(error) if self.prints_causes => print_line(
+                format_args!("{name}: cannot create the logfile {place}: {error}"),
+                err,
+            ),
+            Fault::Logfile(_) => {
+                print_line(format_args!("{name}: cannot create the logfile"), err)
             }
-            Fault::Logfile(_) => writeln!(err, "{name}: cannot create the logfile"),
-            Fault::Run(RunError::Write(cause)) if self.prints_causes => {
-                writeln!(err, "{name}: cannot write the report to {place}: {cause}")
-            }
-            Fault::Run(error) => writeln!(err, "{name}: {error}"),
-        };
+            Fault::Run(RunError::Write(cause)) if self.prints_causes => print_line(
+                format_args!("{name}: cannot write the report to {place}: {cause}"),
+                err,
+            ),
+            Fault::Run(error) => print_line(format_args!("{name}: {error}"), err),
+        }
     }
+}
+
+// Prints a line, if it can be written. A line that a block holds is one write, so that no other program's text comes between its
+// parts.
+fn print_line<L: Display + Drop, E: Write>(line: L, err: &mut E) {
+    let mut text: ArrayVec<u8, BLOCK> = ArrayVec::new();
+    let _ = match writeln!(text, "{line}") {
+        Ok(()) => err.write_all(text.as_slice()),
+        Err(_) => writeln!(err, "{line}"),
+    };
 }
 
 impl<R: Task + Send + 'static, C: Clock + Drop> Job<'_, R, C> {

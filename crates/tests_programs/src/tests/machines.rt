@@ -4,11 +4,12 @@ ghost use Rattle.std.specs.Prelude.{IfOk};
 ghost use Rattle.libtest_mimic.specs.Trial.{AllCanRun};
 
 use super::runs::Host;
-use libtest_mimic::{Arguments, Failed, Line, Outcome, RunError, Task, Trial, WriteFault};
-use mimic_main::{Machine, run_line, run_program, trials_of_cases};
+use libtest_mimic::{Arguments, Failed, Line, Outcome, RunError, Task, Trial};
+use mimic_main::{Machine, Program, Status, run_line, run_program, trials_of_cases};
 use std::alloc::{Alloc, Global};
 use std::cell::Cell;
 use std::env::FillError;
+use std::fmt::Display;
 use std::io::{ErrorKind, IsTerminal, Write};
 use std::process::{ExitCode, Termination};
 use std::rt::{Clock, Env};
@@ -16,7 +17,7 @@ use std::sync::Arc;
 use std::sync::atomic::{AtomicUsize, Ordering};
 use std::test::Fail;
 use std::time::Duration;
-use std::{io, thread};
+use std::{fmt, io, thread};
 
 // The variables of an environment, each a name and a value.
 type Variables = &'static [(&'static str, &'static str)];
@@ -24,8 +25,21 @@ type Variables = &'static [(&'static str, &'static str)];
 // The words of a command line, which need not be text.
 type Words = &'static [&'static [u8]];
 
-// Bytes that a stream of the machine has got.
-type Bytes = Cell<Vec<u8>>;
+// What a stream of the machine has got.
+#[derive(Drop)]
+struct Got {
+    bytes: Cell<Vec<u8>>,
+    writes: Cell<usize>,
+}
+
+impl Got {
+    fn nothing(alloc: Global) -> Got {
+        Got {
+            bytes: Cell::new(Vec::new(alloc)),
+            writes: Cell::new(0),
+        }
+    }
+}
 
 // A machine that is known but for its host: its line, its variables, and whether its output is a terminal. Its clock reads one
 // and a half seconds more each time, and its streams can be read afterwards.
@@ -98,7 +112,7 @@ impl<H> Clock for KnownMachine<'_, H> {
 struct Stream<'a> {
     alloc: Global,
     is_terminal: bool,
-    bytes: &'a Bytes,
+    got: &'a Got,
 }
 
 impl IsTerminal for Stream<'_> {
@@ -109,9 +123,10 @@ impl IsTerminal for Stream<'_> {
 
 impl Write for Stream<'_> {
     fn write(&mut self, buf: &[u8]) -> io::Result<usize> {
-        let mut bytes = self.bytes.replace(Vec::new(self.alloc));
+        let mut bytes = self.got.bytes.replace(Vec::new(self.alloc));
         let extended = bytes.extend_from_slice(buf);
-        self.bytes.set(bytes);
+        self.got.bytes.set(bytes);
+        self.got.writes.set(self.got.writes.get().saturating_add(1));
         extended?;
         Ok(buf.len())
     }
@@ -136,7 +151,7 @@ impl<'a, H: Host> Machine for KnownMachine<'a, H> {
         Stream {
             alloc: self.alloc,
             is_terminal: self.is_terminal,
-            bytes: &self.streams.out,
+            got: &self.streams.out,
         }
     }
 
@@ -144,7 +159,7 @@ impl<'a, H: Host> Machine for KnownMachine<'a, H> {
         Stream {
             alloc: self.alloc,
             is_terminal: false,
-            bytes: &self.streams.err,
+            got: &self.streams.err,
         }
     }
 }
@@ -152,23 +167,24 @@ impl<'a, H: Host> Machine for KnownMachine<'a, H> {
 // What the streams of a machine have got.
 #[derive(Drop)]
 struct Streams {
-    out: Bytes,
-    err: Bytes,
+    out: Got,
+    err: Got,
 }
 
 impl Streams {
     fn new(alloc: Global) -> Streams {
         Streams {
-            out: Cell::new(Vec::new(alloc)),
-            err: Cell::new(Vec::new(alloc)),
+            out: Got::nothing(alloc),
+            err: Got::nothing(alloc),
         }
     }
 
-    // Whether standard error has got this text, and standard output nothing.
+    // Whether standard error has got this text in one write, and standard output nothing.
     fn have_only_printed(self, alloc: Global, text: &str) -> bool {
-        let out = self.out.replace(Vec::new(alloc));
-        let err = self.err.replace(Vec::new(alloc));
-        out.is_empty() && err.as_slice() == text.as_bytes()
+        let err = self.err.bytes.replace(Vec::new(alloc));
+        err.as_slice() == text.as_bytes()
+            && self.err.writes.get() == 1
+            && self.out.writes.get() == 0
     }
 }
 
@@ -242,7 +258,7 @@ fn shows_as_known<H: Host>(
     machine.is_terminal = *is_terminal;
     let tests = vec![in alloc; Trial::new(String::from_str(alloc, "a")?, Pass)]?;
     let status = run_on(&machine, Ok(tests));
-    let report = String::from_utf8(streams.out.replace(Vec::new(alloc)))?;
+    let report = String::from_utf8(streams.out.bytes.replace(Vec::new(alloc)))?;
     let report = report.as_str();
     Ok(
         status == ExitCode::SUCCESS
@@ -273,8 +289,6 @@ fn prints_why_tests_were_not_made(rt: HostRuntime) {
     let alloc = rt.alloc();
     let memory = "program: out of memory\n";
     assert!(rt; is_refused(rt, alloc, RunError::OutOfMemory, memory));
-    let write = "program: cannot write the report to standard output: the writer took no byte\n";
-    assert!(rt; is_refused(rt, alloc, RunError::Write(WriteFault::Zero), write));
     let threads = "program: no threads to run trials\n";
     assert!(rt; is_refused(rt, alloc, RunError::ZeroThreads, threads));
     let worker = "program: cannot start a worker\n";
@@ -283,7 +297,35 @@ fn prints_why_tests_were_not_made(rt: HostRuntime) {
     assert!(rt; is_refused(rt, alloc, RunError::Arrival { place: 7 }, arrival));
 }
 
-// So it is by a program for a line that was read already, and if a table of cases could not be made.
+// So it is if a program ends before it has a line, with a reason of its own.
+#[test]
+fn prints_why_it_ends(rt: HostRuntime) {
+    let alloc = rt.alloc();
+    let streams = Streams::new(alloc);
+    let machine = known_machine(rt, alloc, NO_OPTIONS, &streams);
+    let ended: Result<Status, Unmade> = Err(Unmade {
+        table: "primes",
+        row: 7,
+    });
+    let status = Program::on(&machine, "by_end").end(&machine, ended);
+    assert!(rt; status.report(&rt) == ExitCode::from(1));
+    assert!(rt; streams.have_only_printed(alloc, "by_end: no row 7 of primes\n"));
+}
+
+// Why there are no tests.
+#[derive(Clone, Copy)]
+struct Unmade {
+    table: &'static str,
+    row: usize,
+}
+
+impl Display for Unmade {
+    fn fmt<W: fmt::Write>(&self, f: &mut fmt::Formatter<W>) -> fmt::Result {
+        write!(f, "no row {} of {}", self.row, self.table)
+    }
+}
+
+// And by a program for a line that was read already, and if a table of cases could not be made.
 #[test]
 fn prints_under_its_name(rt: HostRuntime) {
     let alloc = rt.alloc();

@@ -79,6 +79,30 @@ fn hands_on_as_asked(rt: HostRuntime) -> Result<(), Fail> {
     Ok(())
 }
 
+// A line and two flushes. The writer may buffer, too, so a flush that is handed on reaches it though nothing waits, and so does the
+// end.
+#[test]
+fn flushes_its_writer_if_nothing_waits(rt: HostRuntime) -> Result<(), Fail> {
+    for (policy, flushes) in [
+        (FlushPolicy::Always, 1),
+        (FlushPolicy::OnFlush, 3),
+        (FlushPolicy::OnLineEnd, 1),
+        (FlushPolicy::OnOddLineEnd, 1),
+        (FlushPolicy::OnEvenLineEnd, 1),
+        (FlushPolicy::WhenFull, 1),
+    ] {
+        let mut output = marking(&rt, policy);
+        output.write_all(b"a\n")?;
+        output.flush()?;
+        output.flush()?;
+        let (writer, finished) = output.finish();
+        finished?;
+        assert_eq!(rt; writer.len, 2);
+        assert_eq!(rt; writer.flushes, flushes, "{policy:?}");
+    }
+    Ok(())
+}
+
 // A whole block waits, what comes behind it begins the next one, and a piece that fills a block by itself never waits.
 #[test]
 fn hands_on_whole_blocks(rt: HostRuntime) -> Result<(), Fail> {
