@@ -1,53 +1,59 @@
 //! One case: reads its files and compares.
 use crate::answer;
 use libtest_mimic::{Failed, Outcome, Task};
+use std::io::ErrorKind;
 use std::rt::Files;
-use std::{fmt, fs};
+use std::{fmt, fs, io};
 
-/// What a trial runs.
+/// What a trial runs: the pair of files at this path, without their ends.
 #[derive(Drop)]
-pub(crate) enum FileCase<M> {
-    /// The paths of what the function is given, and of what it must answer.
-    Pair {
-        rt: M,
-        input: String,
-        expected: String,
-    },
-    /// Why there is nothing to run.
-    Fault(String),
+pub(crate) struct FileCase<M> {
+    pub(crate) rt: M,
+    pub(crate) path: String,
 }
 
 impl<M: Files + AllocGlobal + Drop> Task for FileCase<M> {
     fn run(self, _test_mode: bool) -> Outcome {
-        match self {
-            FileCase::Pair {
-                rt,
-                input,
-                expected,
-            } => check(&rt, &input, &expected).into(),
-            FileCase::Fault(message) => Outcome::Failed(Failed::with_message(message)),
-        }
+        self.check().into()
     }
 }
 
-fn check<M: Files + AllocGlobal>(rt: &M, input: &String, expected: &String) -> Result<(), Failed> {
-    let alloc = rt.alloc();
-    let given = read(rt, input)?;
-    let wanted = read(rt, expected)?;
-    let answered = answer(alloc, given.as_str()).map_err(|error| Failed::because(alloc, &error))?;
-    match first_difference(wanted.as_str(), answered.as_str()) {
-        None => Ok(()),
-        Some(difference) => {
-            Err(Failed::because(alloc, &format_args!("{expected}: {difference}")))
+impl<M: Files + AllocGlobal> FileCase<M> {
+    fn check(&self) -> Result<(), Failed> {
+        let alloc = self.rt.alloc();
+        let given = self.read("in")?;
+        let wanted = self.read("out")?;
+        let answered = answer(alloc, given.as_str()).map_err(|error| Failed::because(
+            alloc, &error,
+        ))?;
+        match first_difference(wanted.as_str(), answered.as_str()) {
+            None => Ok(()),
+            Some(difference) => {
+                let path = &self.path;
+                Err(Failed::because(alloc, &format_args!("{path}.out: {difference}")))
+            }
         }
     }
-}
 
-// The text of a file. A file that is not UTF-8 can't be read.
-fn read<M: Files + AllocGlobal>(rt: &M, path: &String) -> Result<String, Failed> {
-    fs::read_to_string(rt, path.as_str()).map_err(|error| {
-        Failed::because(rt.alloc(), &format_args!("cannot read {path}: {error}"))
-    })
+    // The text of the file with this end. One that is not UTF-8 can't be read.
+    fn read(&self, end: &str) -> Result<String, Failed> {
+        let path = &self.path;
+        self.text(end).map_err(|error| {
+            Failed::because(
+                self.rt.alloc(),
+                &format_args!("cannot read {path}.{end}: {error}"),
+            )
+        })
+    }
+
+    // The same. What is no file is not opened, since a FIFO would be waited for.
+    fn text(&self, end: &str) -> io::Result<String> {
+        let path = format!(in self.rt.alloc(); "{}.{end}", self.path)?;
+        if !fs::metadata(&self.rt, path.as_str())?.is_file() {
+            return Err(io::Error::new(ErrorKind::InvalidInput, "it is no file"));
+        }
+        fs::read_to_string(&self.rt, path.as_str())
+    }
 }
 
 // The first line, counted from 1, in which two texts differ.

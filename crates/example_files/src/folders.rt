@@ -1,47 +1,78 @@
-//! Finds the cases below folders.
-use crate::case::FileCase;
-use libtest_mimic::{RunError, Trial};
-use std::alloc::{AllocError, Global};
+//! Finds the cases below folders. `case_of`, in the root of the crate, says which names are of cases: copy this module as it is.
+use crate::case_of;
+use std::alloc::{AllocError, AllocFailed, Global};
 use std::path::Path;
 use std::rt::Files;
 use std::{fs, io};
+use thiserror::Error;
 
-// Ordered as their trials are to be: the cases of a folder by name, then its sub-folders by name.
+/// A case below the folders.
+#[derive(Drop, PartialEq, Eq, PartialOrd, Ord)]
+pub(crate) struct Found {
+    /// Its name, as `case_of` has it.
+    pub(crate) name: String,
+    /// The path of its folder, and then its name.
+    pub(crate) path: String,
+    /// The path of its folder below the one that was given.
+    pub(crate) kind: String,
+}
+
+/// Why the cases are not known. What a folder holds that can't be read is not known, so no trial may be run then.
+#[derive(Debug, Drop, Error)]
+pub(crate) enum FolderError {
+    /// An allocation failed.
+    #[error("out of memory")]
+    OutOfMemory,
+    /// A folder, or an entry of it, can't be read.
+    #[error("cannot read the folder {path}: {error}")]
+    Unreadable { path: String, error: io::Error },
+}
+
+impl From<AllocError> for FolderError {
+    fn from(_error: AllocError) -> FolderError {
+        FolderError::OutOfMemory
+    }
+}
+
+impl<T: Drop> From<AllocFailed<T>> for FolderError {
+    fn from(_error: AllocFailed<T>) -> FolderError {
+        FolderError::OutOfMemory
+    }
+}
+
+// Ordered as they are to be returned: the cases of a folder by name, then its sub-folders by name.
 #[derive(Drop, PartialEq, Eq, PartialOrd, Ord)]
 enum Entry {
-    // Of which there is a file, `.in` or `.out`. The path is theirs without its end.
-    Case(Place),
-    Folder(Place),
+    Case(Found),
+    Folder(Folder),
 }
 
 #[derive(Drop, PartialEq, Eq, PartialOrd, Ord)]
-struct Place {
+struct Folder {
     path: String,
-    // The path of the folder below the one that was given.
+    // Its path below the folder that was given.
     kind: String,
 }
 
-/// A trial for each case below the folders. A folder that can't be read is a trial that fails.
-pub(crate) fn trials_below<M: Files + AllocGlobal + Copy + Drop>(
-    rt: M,
+/// Returns the cases below the folders: those of each folder by name, and then those of its sub-folders, which come by name, too.
+/// No link to a folder is followed, so that the walk can't go in circles.
+pub(crate) fn cases_below<M: Files + AllocGlobal + Copy + Drop>(
+    rt: &M,
     folders: &[String],
-) -> Result<Vec<Trial<FileCase<M>>>, RunError> {
+) -> Result<Vec<Found>, FolderError> {
     let alloc = rt.alloc();
-    let mut trials = Vec::new(alloc);
+    let mut cases = Vec::new(alloc);
     // What is left to look at, the next one last.
     let mut left = given(alloc, folders)?;
     // A bound for the proof: the walk ends when nothing is left.
     for _ in 0..u64::MAX {
         match left.pop() {
-            Some(Entry::Case(place)) => trials.push(pair(rt, place)?)?,
-            Some(Entry::Folder(place)) => match entries(&rt, &place) {
-                Ok(mut below) => left.append(&mut below)?,
-                Err(error) => trials.push(unreadable(alloc, place, &error)?)?,
-            },
+            Some(Entry::Case(found)) => cases.push(found)?,
+            Some(Entry::Folder(folder)) => left.append(&mut entries(rt, folder)?)?,
             None => break,
         }
     }
-    Ok(trials)
+    Ok(cases)
 }
 
 // The folders, the first of them last.
@@ -50,65 +81,75 @@ fn given(alloc: Global, folders: &[String]) -> Result<Vec<Entry>, AllocError> {
     for folder in folders.iter().rev() {
         let path = folder.clone()?;
         let kind = String::new(alloc);
-        left.push(Entry::Folder(Place { path, kind }))?;
+        left.push(Entry::Folder(Folder { path, kind }))?;
     }
     Ok(left)
 }
 
-// What a folder holds, the first of it last. Other files are passed over.
-fn entries<M: Files + AllocGlobal + Copy + Drop>(rt: &M, folder: &Place) -> io::Result<Vec<Entry>> {
-    let alloc = rt.alloc();
-    let mut found = Vec::new(alloc);
+// The cases and folders that a folder holds, the first of them last.
+fn entries<M: Files + AllocGlobal + Copy + Drop>(
+    rt: &M,
+    folder: Folder,
+) -> Result<Vec<Entry>, FolderError> {
+    match read_entries(rt, &folder) {
+        Ok(mut found) => {
+            found.sort_unstable();
+            // A case may have several files.
+            found.dedup();
+            found.reverse();
+            Ok(found)
+        }
+        Err(error) => Err(FolderError::Unreadable {
+            path: folder.path,
+            error,
+        }),
+    }
+}
+
+// The same in the order of the system. If the name of an entry isn't UTF-8, its type is not known either: it may be a folder.
+fn read_entries<M: Files + AllocGlobal + Copy + Drop>(
+    rt: &M,
+    folder: &Folder,
+) -> io::Result<Vec<Entry>> {
+    let mut found = Vec::new(rt.alloc());
     for entry in fs::read_dir(rt, folder.path.as_str())? {
         let entry = entry?;
-        let path = entry.path();
-        // What has a case's name is taken for one, so that the system is asked for few types: a folder of that name is a test
-        // that fails.
-        if let Some("in" | "out") = path.extension() {
-            let path = path.with_extension(alloc, "")?.into_string();
-            let kind = folder.kind.clone()?;
-            found.push(Entry::Case(Place { path, kind }))?;
-        } else if entry.file_type()?.is_dir() {
-            // The type is that of the entry itself: no link to a folder is followed, so that the walk can't go in circles.
-            let kind = Path::new(folder.kind.as_str()).join(alloc, entry.file_name())?;
-            let path = path.to_path_buf(alloc)?.into_string();
-            let kind = kind.into_string();
-            found.push(Entry::Folder(Place { path, kind }))?;
+        let file_type = entry.file_type()?;
+        if file_type.is_dir() {
+            found.push(Entry::Folder(folder.holding(rt.alloc(), entry.file_name())?))?;
+        } else if let Some(name) = case_of(entry.file_name())
+            && (file_type.is_file() || file_type.is_symlink() && leads_to_file(rt, entry.path()))
+        {
+            found.push(Entry::Case(folder.case(rt.alloc(), name)?))?;
         }
     }
-    found.sort_unstable();
-    // Both files of a pair are one case.
-    found.dedup();
-    found.reverse();
     Ok(found)
 }
 
-// The trial of a case. If one of its files is missing, it fails when that is read.
-fn pair<M: Files + AllocGlobal + Drop>(
-    rt: M,
-    case: Place,
-) -> Result<Trial<FileCase<M>>, AllocError> {
-    let alloc = rt.alloc();
-    let Place { path, kind } = case;
-    let name = Path::new(path.as_str()).file_name().unwrap_or_default();
-    let name = String::from_str(alloc, name)?;
-    let input = format!(in alloc; "{path}.in")?;
-    let expected = format!(in alloc; "{path}.out")?;
-    let pair = FileCase::Pair {
-        rt,
-        input,
-        expected,
-    };
-    Ok(Trial::new(name, pair).with_kind(kind))
+// Whether the link leads to a file. One that leads nowhere counts, so that its case fails when it is read.
+fn leads_to_file<M: Files>(rt: &M, link: Path<'_>) -> bool {
+    fs::metadata(rt, link).map_or(true, |target| target.is_file())
 }
 
-// The trial of a folder that can't be read, named by its path.
-fn unreadable<M>(
-    alloc: Global,
-    folder: Place,
-    error: &io::Error,
-) -> Result<Trial<FileCase<M>>, AllocError> {
-    let Place { path, kind } = folder;
-    let message = format!(in alloc; "cannot read the folder {path}: {error}")?;
-    Ok(Trial::new(path, FileCase::Fault(message)).with_kind(kind))
+impl Folder {
+    // The folder of this name in this folder.
+    fn holding(&self, alloc: Global, name: &str) -> Result<Folder, AllocError> {
+        Ok(Folder {
+            path: joined(alloc, &self.path, name)?,
+            kind: joined(alloc, &self.kind, name)?,
+        })
+    }
+
+    // The case of this name in this folder.
+    fn case(&self, alloc: Global, name: &str) -> Result<Found, AllocError> {
+        Ok(Found {
+            name: String::from_str(alloc, name)?,
+            path: joined(alloc, &self.path, name)?,
+            kind: self.kind.clone()?,
+        })
+    }
+}
+
+fn joined(alloc: Global, folder: &String, name: &str) -> Result<String, AllocError> {
+    Ok(Path::new(folder.as_str()).join(alloc, name)?.into_string())
 }

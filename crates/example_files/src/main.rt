@@ -6,10 +6,13 @@
 mod case;
 mod folders;
 
-use folders::trials_below;
-use libtest_mimic::Line;
+use case::FileCase;
+use folders::{FolderError, Found, cases_below};
+use libtest_mimic::{Line, Trial};
 use mimic_main::{Status, run_line};
 use std::alloc::{AllocError, Global};
+use std::path::Path;
+use std::rt::Files;
 
 const USAGE: &str = "\
 usage: example_files DIR.. [-- OPTIONS]
@@ -23,6 +26,15 @@ pub(crate) fn answer(alloc: Global, input: &str) -> Result<String, AllocError> {
     input.to_uppercase(alloc)
 }
 
+// The name of the case that a file of this name belongs to.
+pub(crate) fn case_of(file: &str) -> Option<&str> {
+    let file = Path::new(file);
+    match file.extension() {
+        Some("in" | "out") => file.file_stem(),
+        _ => None,
+    }
+}
+
 fn main(rt: HostRuntime) -> Status {
     let alloc = rt.alloc();
     let line = Line::from_args(&rt, alloc);
@@ -31,4 +43,16 @@ fn main(rt: HostRuntime) -> Status {
         Err(error) => (Err(error), Ok(Vec::new(alloc))),
     };
     run_line(&rt, "example_files", options, trials)
+}
+
+// A trial for each case below the folders.
+fn trials_below<M: Files + AllocGlobal + Copy + Drop>(
+    rt: M,
+    folders: &[String],
+) -> Result<Vec<Trial<FileCase<M>>>, FolderError> {
+    let mut trials = Vec::new(rt.alloc());
+    for Found { name, path, kind } in cases_below(&rt, folders)? {
+        trials.push(Trial::new(name, FileCase { rt, path }).with_kind(kind))?;
+    }
+    Ok(trials)
 }
