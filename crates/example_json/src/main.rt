@@ -1,5 +1,5 @@
-//! Tests the JSON parser against the files below a folder, which are named as in the JSON test suite of Nicolas Seriot. Reports of a
-//! harness are read by its reader, too.
+//! Tests the JSON parser against the files below a folder, which are named as in the JSON test suite of Nicolas Seriot. Reports of
+//! a harness are read by its reader, too.
 #![tactic(auto)]
 
 mod case;

@@ -154,33 +154,49 @@ fn first_wrong_place<T: Threads + Wait + Copy + Drop + Send + 'static>(
     Ok(None)
 }
 
-// A report in each format, by one thread and by two, and on a terminal, and a list.
-#[test]
-fn stops_at_each_place(rt: HostRuntime) -> Result<(), Fail> {
-    for (format, policies) in [
-        (
-            FormatSetting::Pretty,
-            [FlushPolicy::OnFlush, FlushPolicy::OnLineEnd],
-        ),
-        (
-            FormatSetting::Terse,
-            [FlushPolicy::OnLineEnd, FlushPolicy::Always],
-        ),
-        (
-            FormatSetting::Json,
-            [FlushPolicy::OnEvenLineEnd, FlushPolicy::OnOddLineEnd],
-        ),
-    ] {
-        let mut args = Arguments::new(rt.alloc());
-        args.format = Some(format);
-        for policy in policies {
-            let wrong = first_wrong_place(&rt, rt.alloc(), &args, policy)?;
-            assert!(rt; wrong.is_none(), "{format:?} {policy:?} {wrong:?}");
+// The same of a report in this format by each of the policies, and then of a list.
+fn first_wrong_in<T: Threads + Wait + Copy + Drop + Send + 'static>(
+    rt: &T,
+    alloc: Global,
+    format: FormatSetting,
+    policies: [FlushPolicy; 2],
+) -> Result<Option<(Place, Fault)>, Fail> {
+    let mut args = Arguments::new(alloc);
+    args.format = Some(format);
+    for policy in policies {
+        let wrong = first_wrong_place(rt, alloc, &args, policy)?;
+        if wrong.is_some() {
+            return Ok(wrong);
         }
-        args.list = true;
-        let wrong = first_wrong_place(&rt, rt.alloc(), &args, FlushPolicy::WhenFull)?;
-        assert!(rt; wrong.is_none(), "{format:?} {wrong:?}");
     }
+    args.list = true;
+    first_wrong_place(rt, alloc, &args, FlushPolicy::WhenFull)
+}
+
+// As a report by one thread and by two is handed on.
+#[test]
+fn stops_pretty_at_each_place(rt: HostRuntime) -> Result<(), Fail> {
+    let policies = [FlushPolicy::OnFlush, FlushPolicy::OnLineEnd];
+    let wrong = first_wrong_in(&rt, rt.alloc(), FormatSetting::Pretty, policies)?;
+    assert!(rt; wrong.is_none(), "{wrong:?}");
+    Ok(())
+}
+
+// As a report is handed on to a file and to a terminal.
+#[test]
+fn stops_terse_at_each_place(rt: HostRuntime) -> Result<(), Fail> {
+    let policies = [FlushPolicy::OnLineEnd, FlushPolicy::Always];
+    let wrong = first_wrong_in(&rt, rt.alloc(), FormatSetting::Terse, policies)?;
+    assert!(rt; wrong.is_none(), "{wrong:?}");
+    Ok(())
+}
+
+// As a report by one thread and by two is handed on.
+#[test]
+fn stops_json_at_each_place(rt: HostRuntime) -> Result<(), Fail> {
+    let policies = [FlushPolicy::OnEvenLineEnd, FlushPolicy::OnOddLineEnd];
+    let wrong = first_wrong_in(&rt, rt.alloc(), FormatSetting::Json, policies)?;
+    assert!(rt; wrong.is_none(), "{wrong:?}");
     Ok(())
 }
 

@@ -303,25 +303,22 @@ fn prints_why_it_ends(rt: HostRuntime) {
     let alloc = rt.alloc();
     let streams = Streams::new(alloc);
     let machine = known_machine(rt, alloc, NO_OPTIONS, &streams);
-    let ended: Result<Status, Unmade> = Err(Unmade {
-        table: "primes",
-        row: 7,
-    });
+    let ended: Result<Status, Unmade> = Err(Unmade { wrong: 2, all: 7 });
     let status = Program::on(&machine, "by_end").end(&machine, ended);
     assert!(rt; status.report(&rt) == ExitCode::from(1));
-    assert!(rt; streams.have_only_printed(alloc, "by_end: no row 7 of primes\n"));
+    assert!(rt; streams.have_only_printed(alloc, "by_end: 2 of 7 lines are wrong\n"));
 }
 
 // Why there are no tests.
 #[derive(Clone, Copy)]
 struct Unmade {
-    table: &'static str,
-    row: usize,
+    wrong: usize,
+    all: usize,
 }
 
 impl Display for Unmade {
     fn fmt<W: fmt::Write>(&self, f: &mut fmt::Formatter<W>) -> fmt::Result {
-        write!(f, "no row {} of {}", self.row, self.table)
+        write!(f, "{} of {} lines are wrong", self.wrong, self.all)
     }
 }
 
