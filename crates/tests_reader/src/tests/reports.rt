@@ -584,6 +584,39 @@ fn refuses_other_kinds(rt: HostRuntime) -> Result<(), Fail> {
 }
 
 // Whether a report that announces too many rows is none, nor is its title.
+// A report whose name, kind and message are one character each, no two of them the same.
+const ONE_CHARACTER_EACH: &str = r#"{ "type": "suite", "event": "started", "test_count": 1 }
+{ "type": "test", "event": "started", "name": "é", "kind": "è" }
+{ "type": "test", "name": "é", "kind": "è", "event": "failed", "stdout": "Error: \"ê\"\n" }
+{ "type": "suite", "event": "failed", "passed": 0, "failed": 1, "ignored": 0, "measured": 0, "filtered_out": 0, "exec_time": 0 }
+"#;
+
+// The text with these bytes in place of each such character.
+fn with_bytes(alloc: Global, text: &str, mark: &str, bytes: &[u8]) -> Result<Vec<u8>, AllocError> {
+    let mut changed = Vec::new(alloc);
+    for (number, part) in text.split(mark).enumerate() {
+        if number > 0 {
+            changed.extend_from_slice(bytes)?;
+        }
+        changed.extend_from_slice(part.as_bytes())?;
+    }
+    Ok(changed)
+}
+
+// With bytes that are no UTF-8 it is no report, wherever they stand. They aren't taken for a want of memory.
+#[test]
+fn refuses_what_is_no_text(rt: HostRuntime) -> Result<(), Fail> {
+    let alloc = rt.alloc();
+    assert!(rt; are_report(alloc, ONE_CHARACTER_EACH.as_bytes())?);
+    for mark in ["é", "è", "ê"] {
+        for bytes in [b"\xff".as_slice(), b"\xc3", b"\xed\xa0\x80", b"\xc0\xaf"] {
+            let changed = with_bytes(alloc, ONE_CHARACTER_EACH, mark, bytes)?;
+            assert!(rt; !are_report(alloc, changed.as_slice())?);
+        }
+    }
+    Ok(())
+}
+
 fn is_too_long(alloc: Global, report: &str, count: &str) -> Result<bool, Fail> {
     let text = altered(alloc, report, count, "18446744073709551615 }")?;
     let title = text.as_str().split_inclusive('\n').next().ok_or("no line")?;
