@@ -1,4 +1,5 @@
 //! Trials and outcomes: calls one by one, with what no run shows of them.
+use super::shown::check_debug;
 use mimic_trial::{BenchRunner, Failed, Measurement, Outcome, Runner, run_single};
 use std::alloc::{AllocError, Global};
 use std::fmt;
@@ -32,6 +33,13 @@ fn copies_outcomes(rt: HostRuntime) -> Result<(), Fail> {
     assert!(rt; is_copied(alloc, &Outcome::Ignored)?);
     assert!(rt; is_copied(alloc, &Outcome::Measured(MEASURED))?);
     Ok(())
+}
+
+// `Debug` shows the message that is kept without memory, too.
+#[test]
+fn shows_the_fixed_message(rt: HostRuntime) -> Result<(), Fail> {
+    let text = "Failed(Failed { msg: Some(\"bench runner returned `Ok(None)` in bench mode\") })";
+    check_debug(&rt, rt.alloc(), &not_measured(rt.alloc())?, text)
 }
 
 #[test]
