@@ -79,7 +79,11 @@ impl Readers {
         self.feed.feed(piece)?;
         self.tally = self.tally.feed(piece)?;
         let mut left = piece;
-        while let Some((_, after)) = self.follower.next_row(left)? {
+        // A bound for the proof: no more rows end than there are bytes.
+        for _ in 0..=piece.len() {
+            let Some((_, after)) = self.follower.next_row(left)? else {
+                break;
+            };
             self.rows = self.rows.saturating_add(1);
             left = after;
         }
