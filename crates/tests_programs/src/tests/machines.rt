@@ -297,18 +297,6 @@ fn prints_why_tests_were_not_made(rt: HostRuntime) {
     assert!(rt; is_refused(rt, alloc, RunError::Arrival { place: 7 }, arrival));
 }
 
-// So it is if a program ends before it has a line, with a reason of its own.
-#[test]
-fn prints_why_it_ends(rt: HostRuntime) {
-    let alloc = rt.alloc();
-    let streams = Streams::new(alloc);
-    let machine = known_machine(rt, alloc, NO_OPTIONS, &streams);
-    let ended: Result<Status, Unmade> = Err(Unmade { wrong: 2, all: 7 });
-    let status = Program::on(&machine, "by_end").end(&machine, ended);
-    assert!(rt; status.report(&rt) == ExitCode::from(1));
-    assert!(rt; streams.have_only_printed(alloc, "by_end: 2 of 7 lines are wrong\n"));
-}
-
 // Why there are no tests.
 #[derive(Clone, Copy)]
 struct Unmade {
@@ -322,7 +310,8 @@ impl Display for Unmade {
     }
 }
 
-// And by a program for a line that was read already, and if a table of cases could not be made.
+// So it is by a program for a line that was read already, if a table of cases could not be made, and by one that ends before it
+// has a line, with a reason of its own.
 #[test]
 fn prints_under_its_name(rt: HostRuntime) {
     let alloc = rt.alloc();
@@ -333,6 +322,14 @@ fn prints_under_its_name(rt: HostRuntime) {
     let status = run_line(&machine, "by_line", Ok(Arguments::new(alloc)), tests).report(&rt);
     assert!(rt; status == ExitCode::from(1));
     assert!(rt; streams.have_only_printed(alloc, "by_line: cannot start a worker\n"));
+    let streams = Streams::new(alloc);
+    let machine = known_machine(rt, alloc, NO_OPTIONS, &streams);
+    let ended: Result<Status, Unmade> = Err(Unmade { wrong: 2, all: 7 });
+    let status = Program::on(&machine, "by_end")
+        .end(&machine, ended)
+        .report(&rt);
+    assert!(rt; status == ExitCode::from(1));
+    assert!(rt; streams.have_only_printed(alloc, "by_end: 2 of 7 lines are wrong\n"));
 }
 
 // Lines without any word, even the program's name, and with a word that is no text, also after one that asks for help.
