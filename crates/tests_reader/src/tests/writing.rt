@@ -1,7 +1,7 @@
 //! Reports that are written: those that were built, those that were read, and those that a writer takes in part.
 use super::feeding::altered;
 use super::reports::{ALL_SORTS, KINDS, TWO_TESTS, all_sorts, ignored_trial, two_tests};
-use libtest_mimic::Sink;
+use libtest_mimic::{Sink, WriteFault};
 use mimic_events::{Report, read_report, write_report};
 use mimic_testkit::{Fault, FaultyWriter, Place};
 use std::alloc::{AllocError, Global};
@@ -56,6 +56,15 @@ fn writes_back_what_was_read(rt: HostRuntime) -> Result<(), Fail> {
     Ok(())
 }
 
+// Whether the report was refused by this fault of its writer.
+fn is_refused_by(written: Result<(), WriteFault>, fault: Fault) -> bool {
+    match (written, fault) {
+        (Err(WriteFault::Zero), Fault::TakesNone) => true,
+        (Err(WriteFault::Error(error)), Fault::Error(kind)) => error.kind() == kind,
+        _ => false,
+    }
+}
+
 // The writer fails so after this number of bytes: it has got these, and is asked for nothing more.
 fn check_fault(
     rt: &impl Abort,
@@ -67,7 +76,7 @@ fn check_fault(
     let writer = FaultyWriter::new(alloc).failing(Place::Byte(place), fault);
     let mut sink = Sink::new(writer);
     assert!(rt;
-        write_report(report, &mut sink).is_err(),
+        is_refused_by(write_report(report, &mut sink), fault),
         "{place}, {fault:?}"
     );
     assert!(rt; sink.faults() == 1, "{place}, {fault:?}");
