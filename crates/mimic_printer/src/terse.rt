@@ -11,8 +11,8 @@ use crate::{Printer, pretty};
 use mimic_trial::Outcome;
 use std::io::Write;
 
-// Writes the mark of an outcome, or the whole line of a measurement, as pretty has it. A fault is large: what hands one
-// on is inlined, here and in pretty, so that it isn't copied at each call.
+// Writes the mark of an outcome, or the whole line of a measurement, as pretty has it.
+#[tactic(auto, unfolding(crate::specs::Report::outcome_mark))]
 #[inline(always)]
 pub(super) fn put_outcome<W: Write>(
     sink: &mut Sink<W>,
@@ -23,10 +23,26 @@ pub(super) fn put_outcome<W: Write>(
     ensures { Puts W.contents sink.old sink.new (terse_outcome printer.now outcome.now) result }
 {
     match mark(outcome) {
-        Some(mark) => put_mark(sink, printer, outcome, mark)?,
-        None => pretty::put_outcome(sink, printer, outcome)?,
+        Some(mark) if !printer.colour => sink.put(mark.as_bytes())?,
+        _ => put_coloured_or_measured(sink, printer, outcome)?,
     }
     Ok(())
+}
+
+// Writes a mark with its colour, or the line of a measurement. It isn't inlined: a plain mark would pay for the room of its pieces.
+#[inline(never)]
+fn put_coloured_or_measured<W: Write>(
+    sink: &mut Sink<W>,
+    printer: &Printer,
+    outcome: &Outcome,
+) -> Result<(), WriteFault>
+    requires { HasFaultLeft sink.old }
+    ensures { Puts W.contents sink.old sink.new (terse_outcome printer.now outcome.now) result }
+{
+    match mark(outcome) {
+        Some(mark) => put_mark(sink, printer, outcome, mark),
+        None => pretty::put_outcome(sink, printer, outcome),
+    }
 }
 
 // Returns the mark of an outcome. A measurement has none, since its whole line is written.

@@ -59,7 +59,7 @@ fn write_arrival<W: Write>(
             let Some(outcome) = desk.outcome(place) else {
                 unreachable!()
             };
-            write_row(printer, &infos[place], outcome, sink)
+            printer.print_row(sink, &infos[place], outcome)
         }
         Arrival::Again | Arrival::Stranger => Ok(()),
     }
@@ -80,23 +80,7 @@ pub(super) fn write_missing<W: Write>(
         (rows_text printer.now (rows_at (map label_of infos.now) (placed_at places.now outcomes.now))) result }
 {
     for place in places {
-        write_row(printer, &infos[*place], &outcomes[*place], sink)?;
+        printer.print_row(sink, &infos[*place], &outcomes[*place])?;
     }
-    Ok(())
-}
-
-// Writes one row: its announcement and its outcome.
-fn write_row<W: Write>(
-    printer: &Printer,
-    info: &TestInfo,
-    outcome: &Outcome,
-    sink: &mut Sink<W>,
-) -> Result<(), WriteFault>
-    requires { HasFaultLeft sink.old }
-    ensures { Puts W.contents sink.old sink.new
-        (row_text printer.now (row_of info.now outcome.now)) result }
-{
-    printer.print_test(sink, info)?;
-    printer.print_single_outcome(sink, info, outcome)?;
     Ok(())
 }

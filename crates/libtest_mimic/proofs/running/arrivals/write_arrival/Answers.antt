@@ -25,6 +25,6 @@ returns-in-Some-clause-told g c base put =
     let outcome : c.in-Some.outcome.now ≡ c.args.outcome = cc in
     let label = label_at-info c.args.infos.now c.args.place c.index-infos-place.result (subst (λ (n : ℕ). c.args.place < n) c.requires.places first.0) c.index-infos-place.is in
     let text = told_more c.args.printer.now c.args.infos.now c.args.desk.now c.arrive.new.self c.args.place c.args.outcome c.index-infos-place.result rows label in
-    let P : Outcome → Type 0 = λ o. Puts g.W.Write.contents c.args.sink.now c.write_row.new.sink (row_text c.args.printer.now (row_of c.index-infos-place.result o)) c.write_row.result in
-    let Q : List ℕ → Type 0 = λ l. Writes base (shown g.W.Write.contents c.write_row.new.sink) l c.write_row.result in
-    subst Q (sym text) (Puts_then _ _ _ _ _ _ put (subst P outcome c.write_row.ensures))
+    let P : Outcome → Type 0 = λ o. Puts g.W.Write.contents c.args.sink.now c.print_row.new.sink (row_text c.args.printer.now (row_of c.index-infos-place.result o)) c.print_row.result in
+    let Q : List ℕ → Type 0 = λ l. Writes base (shown g.W.Write.contents c.print_row.new.sink) l c.print_row.result in
+    subst Q (sym text) (Puts_then _ _ _ _ _ _ put (subst P outcome c.print_row.ensures))
