@@ -1,7 +1,8 @@
 -- Arrivals, each an outcome at a place, and what a desk makes of them.
-use Rattle.std.specs.Prelude.{ℕ, ◌≡◌, ◌==◌, nat_lt, Bool, not, ◌&&◌, if◌then◌else◌, List, [], ◌∷◌, ◌++◌, Option, Some, None, filter, slice_get}
+use Rattle.std.specs.Prelude.{ℕ, ◌≡◌, ◌==◌, nat_lt, Bool, not, ◌&&◌, if◌then◌else◌, List, [], ◌∷◌, ◌++◌, Option, Some, None, All, filter, map, slice_get, unwrap_or}
 use Rattle.std.specs.List.{list_any, range_with_len}
 use Rattle.mimic_trial.specs.declared.outcome.Outcome.{Outcome}
+use Rattle.mimic_trial.specs.declared.outcome.Outcome.TheVariants.{Ignored}
 use Rattle.mimic_trial.specs.Places.{Placed, places_of}
 use Rattle.mimic_pool.specs.declared.desk.Arrival.{Arrival}
 use Rattle.mimic_pool.specs.declared.desk.Arrival.TheVariants.{First, Again, Stranger}
@@ -61,3 +62,7 @@ missing_of desk = not_come desk.places desk.rows
 -- an outcome that arrived at the place is the joined one there
 abbrev pub AgreesAt : List Placed → List Outcome → ℕ → Type 0
 AgreesAt rows joined place = (o : Outcome) → arrived_at place rows ≡ Some o → slice_get joined place ≡ Some o
+
+-- the outcome at each place of a desk: the one that arrived there, or Ignored if none did
+abbrev pub outcomes_by_place : Arrived → List Outcome
+outcomes_by_place desk = map (λ place. unwrap_or (arrived_at place desk.rows) Ignored) (range_with_len 0 desk.places)

@@ -15,6 +15,11 @@ abbrev pub put_all : List Placed → List Outcome → List Outcome
 put_all [] outcomes = outcomes
 put_all (row ∷ rows) outcomes = put_all rows (slice_set outcomes row.0 row.1)
 
+-- the outcomes after the rows of each worker were put at their places, one worker's after another's
+abbrev pub put_each : List (List Placed) → List Outcome → List Outcome
+put_each [] outcomes = outcomes
+put_each (rows ∷ more) outcomes = put_each more (put_all rows outcomes)
+
 module _ {X : Type 0} where
   -- the job of a started worker: the mode, and the items of its share
   abbrev pub job_of : {T : Type 0} → PromisedHandle T (AnswersShare X) → Bool × List (Assigned X)

@@ -3,6 +3,7 @@ pub mod Answers
 pub mod Joined
 pub mod Reports
 pub mod Arrivals
+pub mod Returned
 pub mod Missing
 pub mod Seats
 pub mod Board

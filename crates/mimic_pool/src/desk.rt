@@ -1,5 +1,5 @@
 //! The desk where outcomes arrive from the workers.
-ghost use Rattle.std.specs.Prelude.{◌≡◌, ◌++◌, ◌∷◌, [], ◌↔◌, ◌<◌, ◌≤◌, IfErr, IfOk, IsTrue, List, MatchResult, OnOk, Some, length, vec_capacity, vec_len, ℕ};
+ghost use Rattle.std.specs.Prelude.{◌≡◌, ◌++◌, ◌∷◌, [], ◌↔◌, ◌<◌, All, IfErr, IfOk, IsTrue, List, MatchResult, None, OnOk, Some, length, map, option_map, slice_get, slice_index_or, vec_items, vec_len, ℕ};
 ghost use Rattle.std.specs.Iterator.{YieldsFirst, item_count};
 ghost use Rattle.std.specs.List.{range_with_len};
 ghost use Rattle.std.specs.List.Sorted.{IsPermutation};
@@ -8,9 +8,11 @@ ghost use Rattle.mimic_trial.specs.Places.{Placed, placed_at, places_of};
 ghost use Rattle.mimic_trial.specs.declared.outcome.Outcome.{Outcome as AnOutcome};
 ghost use Rattle.mimic_pool.specs.Arrivals.{AgreesAt, arrival_of, arrived_at, first_arrivals, missing_of, order_of, rows_after};
 ghost use Rattle.mimic_pool.specs.Missing.{free_from, missing_items};
+ghost use Rattle.mimic_pool.specs.Returned.{HasAll, StandsFor};
 ghost use Rattle.mimic_pool.specs.Seats.{SeatAgreesAt};
 
 use crate::seats::Seats;
+use crate::start::Rows;
 use mimic_trial::Outcome;
 use std::alloc::{AllocError, Global};
 use std::marker::Model;
@@ -118,20 +120,45 @@ impl Desk {
         first_difference(&self.seats, joined)
     }
 
-    /// All places in the order of a report: those of `order`, and then those of `missing`. No memory is taken.
-    pub fn into_order(self) -> Vec<usize>
-        ensures places { result.items ≡ places_of self.rows ++ missing_of self }
-        ensures whole { IsPermutation result.items (range_with_len 0 self.places) }
+    /// Whether something arrived at each place, and each of the rows that workers returned is what arrived at its place.
+    /// Then the desk has all outcomes, and the rows need not be put at their places.
+    pub fn has_all(&self, joined: &[Rows]) -> bool
+        ensures all { IsTrue result ↔ HasAll self.now (map vec_items joined.now) }
+        ensures outcomes { IsTrue result → StandsFor self.now (map vec_items joined.now) }
     {
-        let Desk { seats, mut order } = self;
-        // Mostly all have come, and the seats need not be gone over.
-        if order.len() == seats.len() {
-            return order;
+        if self.order.len() < self.seats.len() {
+            return false;
         }
-        for place in free_seats(&seats) {
-            order.push_reserved(place);
+        for rows in joined {
+            if !lie_there(&self.seats, rows) {
+                return false;
+            }
         }
-        order
+        true
+    }
+
+    /// At each place at which nothing arrived, rising, the outcome of that place arrives. The `outcomes` stand by place.
+    pub fn arrive_missing(&mut self, outcomes: Vec<Outcome>)
+        requires { vec_len outcomes ≡ self.old.places }
+        ensures places { self.new.places ≡ self.old.places }
+        ensures rows { self.new.rows ≡ self.old.rows ++ placed_at (missing_of self.old) outcomes.items }
+        ensures whole { IsPermutation (places_of self.new.rows) (range_with_len 0 self.new.places) }
+    {
+        let mut place = 0;
+        for outcome in outcomes {
+            // If something arrived there before, this changes nothing.
+            self.arrive(place, outcome);
+            place += 1;
+        }
+    }
+
+    /// The first arrival of this number, counted from 0 in the order in which they came: its place, and its outcome.
+    pub fn row(&self, number: usize) -> Option<(usize, &Outcome)>
+        ensures { option_map (λ row. (row.0, row.1.now)) result ≡ slice_get self.now.rows number }
+    {
+        let place = *self.order.get(number)?;
+        let outcome = self.seats.get(place)?;
+        Some((place, outcome))
     }
 }
 
@@ -194,4 +221,16 @@ fn agrees(seat: Option<&Outcome>, joined: &Outcome) -> bool
         Some(outcome) => *joined == *outcome,
         None => true,
     }
+}
+
+// Whether each of the rows lies at its place.
+fn lie_there(seats: &Seats, rows: &[(usize, Outcome)]) -> bool
+    ensures { IsTrue result ↔ All (λ row. slice_index_or seats.now row.0 None ≡ Some row.1) rows.now }
+{
+    for (place, outcome) in rows {
+        if seats.get(*place) != Some(outcome) {
+            return false;
+        }
+    }
+    true
 }

@@ -36,5 +36,5 @@ pub use memory_reports::MemoryReports;
 pub use reports::{Reports, Untold};
 pub use share::{Share, deal, deal_next, empty_shares};
 pub use start::{AnswersShare, Rows, Start};
-pub use threads::{Handles, Spawner, join_all, prepare, start_all};
+pub use threads::{Handles, Spawner, join_all, prepare, put_joined, start_all};
 pub use worker::work;

@@ -1,8 +1,9 @@
 //! Worker threads, which run the shares and report their rows to a board.
-ghost use Rattle.std.specs.Prelude.{◌≡◌, ◌≤◌, All, Bool, List, IfOk, IfSome, MatchResult, length, map, take, vec_capacity, vec_len};
+ghost use Rattle.std.specs.Prelude.{◌≡◌, ◌≤◌, All, Bool, List, IfOk, IfSome, MatchResult, length, map, take, vec_capacity, vec_items, vec_len};
+ghost use Rattle.mimic_trial.specs.declared.outcome.Outcome.{Outcome as AnOutcome};
 ghost use Rattle.mimic_pool.specs.Answers.{Answers};
 ghost use Rattle.mimic_pool.specs.Inbox.{board_of};
-ghost use Rattle.mimic_pool.specs.Joined.{AreOutcomes, AreReadyToJoin, job_of, jobs_of, put_all, shares_of};
+ghost use Rattle.mimic_pool.specs.Joined.{AreOutcomes, AreReadyToJoin, job_of, jobs_of, put_all, put_each, shares_of};
 ghost use Rattle.mimic_pool.specs.declared.share.Share.{Share};
 ghost use Rattle.mimic_pool.specs.Share.{AllRunners, assigned_from, items_of};
 
@@ -106,21 +107,34 @@ fn start_worker<T: Task + Send + 'static, R: Spawner + 'static>(
     started.ok()
 }
 
-/// Joins the workers one after another, and puts what they returned into `outcomes`, each at its place. If their shares
-/// were dealt from runners, each place has then an outcome of the runner there.
+/// Joins the workers one after another, and keeps the rows that each returned in `joined`, which takes no memory. If their
+/// shares were dealt from runners, each place has an outcome of the runner there once all rows are put at their places.
 pub fn join_all<T: Task + Send + 'static, R: Threads>(
     rt: &R,
     handles: Handles<T>,
-    mut outcomes: Vec<Outcome>,
-) -> Vec<Outcome>
+    mut joined: Vec<Rows>,
+) -> Vec<Rows>
+    requires empty { vec_len joined ≡ 0 }
+    requires fits { vec_len handles ≤ vec_capacity joined }
     ensures joined { (runners : List T) (flags : List Bool) (shares : List (Share T))
-        (test_mode : Bool)
-        → AreReadyToJoin runners flags shares test_mode handles.items outcomes.items
-        → AreOutcomes T.gives test_mode (assigned_from 0 runners flags) result.items }
-    ensures len { vec_len result ≡ vec_len outcomes }
+        (test_mode : Bool) (outcomes : List AnOutcome)
+        → AreReadyToJoin runners flags shares test_mode handles.items outcomes
+        → AreOutcomes T.gives test_mode (assigned_from 0 runners flags) (put_each (map vec_items result.items) outcomes) }
+    ensures len { vec_len result ≡ vec_len handles }
 {
     for handle in handles {
-        let rows = handle.join(rt);
+        joined.push_reserved(handle.join(rt));
+    }
+    joined
+}
+
+/// Puts the rows that workers returned at their places, and returns the outcomes. A row that has no place there is passed
+/// over.
+pub fn put_joined(joined: Vec<Rows>, mut outcomes: Vec<Outcome>) -> Vec<Outcome>
+    ensures put { result.items ≡ put_each (map vec_items joined.items) outcomes.items }
+    ensures len { vec_len result ≡ vec_len outcomes }
+{
+    for rows in joined {
         outcomes = put_rows(rows, outcomes);
     }
     outcomes
