@@ -7,4 +7,6 @@ pub mod Joining
 pub mod Ordering
 pub mod Seating
 pub mod Settling
+pub mod Arriving
+pub mod Having
 pub mod Keeping

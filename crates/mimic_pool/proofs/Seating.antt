@@ -1,5 +1,6 @@
 -- What the seats and the order of a desk show.
 use Rattle.std.proofs.Common.{◌≡◌, ◌≢◌, ℕ, suc, zero, ◌+◌, ◌<◌, eqb, Bool, true, false, not, ◌||◌, cond, List, [], ◌∷◌, ◌++◌, Option, Some, None, is_some, is_none, filter, length, length-append, map, slice_index_or, slice_set, refl, sym, ◌∙◌, ap, subst, inl, inr, arith}
+use Rattle.std.specs.Prelude.{slice_get}
 use Rattle.std.specs.List.{list_any, IsDistinct, range_with_len}
 use Rattle.std.proofs.lemmas.Grind.{get_or-set_at}
 use Rattle.std.proofs.lemmas.List.{get_or-set_other, get_or_default}
@@ -47,7 +48,7 @@ module _ (x : ℕ) (rest : List Placed) where
   come_if p (Some o) some = refl
   come_if p None some = absurd (cc)
 
-  place_if : (o : Option Outcome) → is_some o ≡ true → map (λ r. r.0) (placed_if x o ++ rest) ≡ x ∷ map (λ r. r.0) rest
+  pub place_if : (o : Option Outcome) → is_some o ≡ true → map (λ r. r.0) (placed_if x o ++ rest) ≡ x ∷ map (λ r. r.0) rest
   place_if (Some o) some = refl
   place_if None some = absurd (cc)
 
@@ -97,6 +98,35 @@ module _ (seats : List (Option Outcome)) (order : List ℕ) (taken : (q : ℕ) �
   row_shown p =
       row_found seats order p (all_taken seats order taken)
       ∙ (ap (λ t. cond t (slice_index_or seats p None) None) (taken p) ∙ some_or_none (slice_index_or seats p None))
+
+-- ---- the row of one number
+
+later_row : (x number : ℕ) (rest : List Placed) (o : Option Outcome) → is_some o ≡ true → slice_get (placed_if x o ++ rest) (suc number) ≡ slice_get rest number
+later_row x number rest (Some o) some = refl
+later_row x number rest None some = absurd (cc)
+
+row_got : (seats : List (Option Outcome)) (order : List ℕ) (number p : ℕ) (o : Outcome) → AllTaken seats order → slice_get order number ≡ Some p
+    → slice_index_or seats p None ≡ Some o → slice_get (seated_at order seats) number ≡ Some (p, o)
+row_got seats [] number p o all at lies = absurd (cc)
+row_got seats (x ∷ xs) zero p o all at lies =
+    let same : x ≡ p = cc in
+    ap (λ q. slice_get (placed_if q (slice_index_or seats q None) ++ seated_at xs seats) 0) same ∙ ap (λ v. slice_get (placed_if p v ++ seated_at xs seats) 0) lies
+row_got seats (x ∷ xs) (suc number) p o all at lies =
+    later_row x number (seated_at xs seats) (slice_index_or seats x None) (taken_first seats x xs all) ∙ row_got seats xs number p o (taken_rest seats x xs all) at lies
+
+no_row_got : (seats : List (Option Outcome)) (order : List ℕ) (number : ℕ) → AllTaken seats order → slice_get order number ≡ None → slice_get (seated_at order seats) number ≡ None
+no_row_got seats [] number all at = refl
+no_row_got seats (x ∷ xs) zero all at = absurd (cc)
+no_row_got seats (x ∷ xs) (suc number) all at =
+    later_row x number (seated_at xs seats) (slice_index_or seats x None) (taken_first seats x xs all) ∙ no_row_got seats xs number (taken_rest seats x xs all) at
+
+module _ (seats : List (Option Outcome)) (order : List ℕ) (number : ℕ) (taken : (q : ℕ) → list_any (eqb q) order ≡ is_some (slice_index_or seats q None)) where
+  -- the row of this number is the outcome that lies at the place of this number
+  pub row_numbered : (p : ℕ) (o : Outcome) → slice_get order number ≡ Some p → slice_index_or seats p None ≡ Some o → slice_get (seated_at order seats) number ≡ Some (p, o)
+  row_numbered p o at lies = row_got seats order number p o (all_taken seats order taken) at lies
+
+  pub none_numbered : slice_get order number ≡ None → slice_get (seated_at order seats) number ≡ None
+  none_numbered at = no_row_got seats order number (all_taken seats order taken) at
 
 -- a seat that is not in the order is written: the rows stay
 pub shown_set : (seats : List (Option Outcome)) (order : List ℕ) (q : ℕ) (v : Option Outcome)

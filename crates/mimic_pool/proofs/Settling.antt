@@ -25,7 +25,7 @@ module _ (joined : List Outcome) (place : ℕ) (rest : List Placed) (are : rest 
   row_settled None agrees = are
   row_settled (Some o) agrees = ap (λ seat. placed_if place seat ++ rest) (sym (agrees o refl)) ∙ ap (λ rows. placed_if place (slice_get joined place) ++ rows) are
 
-all_settled : (seats : List (Option Outcome)) (order : List ℕ) (joined : List Outcome) → ((p : ℕ) → SeatAgreesAt seats joined p)
+pub all_settled : (seats : List (Option Outcome)) (order : List ℕ) (joined : List Outcome) → ((p : ℕ) → SeatAgreesAt seats joined p)
     → seated_at order seats ≡ placed_at (places_of (seated_at order seats)) joined
 all_settled seats [] joined all = refl
 all_settled seats (p ∷ order) joined all = row_settled joined p (seated_at order seats) (all_settled seats order joined all) (slice_index_or seats p None) (all p)

@@ -144,6 +144,9 @@ impl Desk {
         ensures rows { self.new.rows ≡ self.old.rows ++ placed_at (missing_of self.old) outcomes.items }
         ensures whole { IsPermutation (places_of self.new.rows) (range_with_len 0 self.new.places) }
     {
+        if self.order.len() == self.seats.len() {
+            return;
+        }
         let mut place = 0;
         for outcome in outcomes {
             // If something arrived there before, this changes nothing.
