@@ -1,8 +1,8 @@
 -- A desk that has all rows that were returned stands for them.
-use Rattle.std.proofs.Common.{◌≡◌, ◌∙◌, ◌↔◌, ℕ, ◌+◌, ◌<◌, ◌≤◌, eqb, Bool, true, false, not, Bor, List, [], ◌∷◌, ◌++◌, Option, Some, None, All, is_some, length, length-append, map, slice_index_or, slice_set, refl, sym, ap, subst, append-nil, arith}
+use Rattle.std.proofs.Common.{◌≡◌, ◌∙◌, ◌↔◌, ℕ, ◌+◌, ◌≤◌, Bool, true, false, not, Bor, List, [], ◌∷◌, ◌++◌, Option, Some, None, All, is_some, length, length-append, slice_index_or, slice_set, refl, sym, ap, subst, append-nil, arith}
 use Rattle.std.specs.Prelude.{slice_get, unwrap_or}
 use Rattle.std.specs.Option.{option_copied, option_eq}
-use Rattle.std.specs.List.{AllByRecursion, list_any, range_with_len}
+use Rattle.std.specs.List.{AllByRecursion, range_with_len}
 use Rattle.std.specs.List.Sorted.{IsPermutation}
 use Rattle.std.proofs.lemmas.List.{nil_from_length, set-get_or}
 use Rattle.std.proofs.lemmas.List.Elements.{recursion_from_All}
@@ -12,11 +12,11 @@ use Rattle.std.proofs.lemmas.Option.{get_or_from_slice_get, slice_get-get_or}
 use Rattle.mimic_trial.specs.declared.outcome.Outcome.{Outcome}
 use Rattle.mimic_trial.specs.declared.outcome.Outcome.TheVariants.{Ignored}
 use Rattle.mimic_trial.specs.Same.{outcome_decides, same_outcome}
-use Rattle.mimic_trial.specs.Places.{Placed, placed_at, places_of}
+use Rattle.mimic_trial.specs.Places.{Placed, places_of}
 use Rattle.mimic_pool.specs.Arrivals.{Arrived, arrived_at, missing_of, outcomes_by_place}
 use Rattle.mimic_pool.specs.Joined.{put_all, put_each}
 use Rattle.mimic_pool.specs.Returned.{HasAll, StandsFor}
-use Rattle.mimic_pool.specs.Seats.{IsSeated, arrived_of, seated_at}
+use Rattle.mimic_pool.specs.Seats.{IsSeated, arrived_of}
 use Rattle.mimic_pool.specs.declared.desk.Desk.TheInside.{Inside}
 use Rattle.mimic_pool.proofs.Seating.{order_shown, row_shown, shown_whole, some_below}
 use Rattle.mimic_pool.proofs.Settling.{all_settled}

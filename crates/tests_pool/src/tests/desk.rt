@@ -1,8 +1,9 @@
 //! The desk, beside a plain computation of what it is to show.
-ghost use Rattle.std.specs.Prelude.{◌≡◌};
+ghost use Rattle.std.specs.Prelude.{◌≡◌, IfOk, vec_len};
 
 use super::{Plain, numbered};
-use mimic_pool::{Arrival, Desk};
+use mimic_pool::{Arrival, Desk, Rows};
+use mimic_trial::Outcome;
 use std::alloc::{AllocError, Global};
 use std::process::Abort;
 use std::test::Fail;
@@ -16,16 +17,32 @@ fn shows_at(desk: &Desk, place: usize, want: Option<Plain>) -> bool {
     }
 }
 
+// The outcomes of three places.
+fn outcomes_of(alloc: Global, outcomes: [Plain; 3]) -> Result<Vec<Outcome>, AllocError>
+    ensures { IfOk result (λ made. vec_len made ≡ 3) }
+{
+    Ok(vec![in alloc;
+        outcomes[0].outcome(alloc)?,
+        outcomes[1].outcome(alloc)?,
+        outcomes[2].outcome(alloc)?,
+    ]?)
+}
+
 // What the desk returns if workers return these three outcomes.
 fn settled(alloc: Global, desk: &Desk, joined: [Plain; 3]) -> Result<Result<(), usize>, AllocError>
     requires { desk.now.places ≡ 3 }
 {
-    let joined = vec![in alloc;
-        joined[0].outcome(alloc)?,
-        joined[1].outcome(alloc)?,
-        joined[2].outcome(alloc)?,
-    ]?;
+    let joined = outcomes_of(alloc, joined)?;
     Ok(desk.settle(&joined))
+}
+
+// Whether the desk shows this row as the one of this number, or none.
+fn shows_row(desk: &Desk, number: usize, want: Option<(usize, Plain)>) -> bool {
+    match (desk.row(number), want) {
+        (Some((place, outcome)), Some((at, plain))) => place == at && plain.is(outcome),
+        (None, None) => true,
+        _ => false,
+    }
 }
 
 // The first two places at which nothing arrived.
@@ -42,6 +59,9 @@ fn shows_two_arrivals(desk: &Desk) -> bool {
         && shows_at(desk, 1, None)
         && shows_at(desk, 7, None)
         && two_missing(desk) == [Some(1), None]
+        && shows_row(desk, 0, Some((2, Plain::Measured(2, 0))))
+        && shows_row(desk, 1, Some((0, Plain::Measured(0, 0))))
+        && shows_row(desk, 2, None)
 }
 
 // What workers may return beside those two arrivals, and what the desk makes of it.
@@ -67,7 +87,102 @@ fn keeps_first_arrivals(rt: HostRuntime) -> Result<(), Fail> {
     for (joined, answer) in RETURNED {
         assert!(rt; settled(rt.alloc(), &desk, joined)? == answer);
     }
-    assert!(rt; desk.into_order().as_slice() == [2, 0, 1].as_slice());
+    Ok(())
+}
+
+// Lets the outcome that has the number of its place come to the desk, if there is one.
+fn comes(desk: &mut Desk, place: Option<&usize>)
+    ensures { desk.new.places ≡ desk.old.places }
+{
+    if let Some(place) = place {
+        desk.arrive(*place, numbered(*place));
+    }
+}
+
+// A desk of three places at which up to three outcomes arrived, in this order of their places.
+fn desk_with(alloc: Global, places: &[usize]) -> Result<Desk, AllocError>
+    ensures { IfOk result (λ desk. desk.places ≡ 3) }
+{
+    let mut desk = Desk::new(alloc, 3)?;
+    comes(&mut desk, places.get(0));
+    comes(&mut desk, places.get(1));
+    comes(&mut desk, places.get(2));
+    Ok(desk)
+}
+
+const FIRST: (usize, Plain) = (0, Plain::Measured(0, 0));
+
+const SECOND: (usize, Plain) = (1, Plain::Measured(1, 0));
+
+const THIRD: (usize, Plain) = (2, Plain::Measured(2, 0));
+
+// Which places arrived, what two workers return, and whether the desk has all of it.
+const RETURNED_ROWS: [(&[usize], [&[(usize, Plain)]; 2], bool); 8] = [
+    (&[2, 0, 1], [&[FIRST, THIRD], &[SECOND]], true),
+    // A place is missing, and its row is or isn't among those that are returned.
+    (&[2, 0], [&[FIRST, THIRD], &[SECOND]], false),
+    (&[2, 0], [&[FIRST, THIRD], &[]], false),
+    // An outcome differs.
+    (&[2, 0, 1], [&[FIRST, (2, Plain::Passed)], &[SECOND]], false),
+    (
+        &[2, 0, 1],
+        [&[FIRST, THIRD], &[(1, Plain::Measured(2, 0))]],
+        false,
+    ),
+    // The desk has no such place.
+    (
+        &[2, 0, 1],
+        [&[FIRST, THIRD], &[SECOND, (3, Plain::Passed)]],
+        false,
+    ),
+    // A row stands twice, and rows are missing.
+    (&[2, 0, 1], [&[FIRST, FIRST, THIRD], &[SECOND]], true),
+    (&[2, 0, 1], [&[FIRST], &[]], true),
+];
+
+fn rows_of(alloc: Global, rows: &[(usize, Plain)]) -> Result<Rows, AllocError> {
+    let mut made = Vec::with_capacity(alloc, rows.len())?;
+    for (place, outcome) in rows {
+        made.push((*place, outcome.outcome(alloc)?))?;
+    }
+    Ok(made)
+}
+
+#[test]
+fn has_all_that_is_returned(rt: HostRuntime) -> Result<(), Fail> {
+    let alloc = rt.alloc();
+    for (places, returned, has_all) in &RETURNED_ROWS {
+        let desk = desk_with(alloc, places)?;
+        let joined = vec![in alloc; rows_of(alloc, returned[0])?, rows_of(alloc, returned[1])?]?;
+        assert!(rt; desk.has_all(&joined) == *has_all);
+    }
+    Ok(())
+}
+
+// Which places arrived, and the rows of the desk once each missing one is ignored.
+const COMPLETED: [(&[usize], [(usize, Plain); 3]); 4] = [
+    (
+        &[],
+        [
+            (0, Plain::Ignored),
+            (1, Plain::Ignored),
+            (2, Plain::Ignored),
+        ],
+    ),
+    (&[1], [SECOND, (0, Plain::Ignored), (2, Plain::Ignored)]),
+    (&[2, 0], [THIRD, FIRST, (1, Plain::Ignored)]),
+    (&[2, 0, 1], [THIRD, FIRST, SECOND]),
+];
+
+#[test]
+fn the_missing_arrive_rising(rt: HostRuntime) -> Result<(), Fail> {
+    for (places, rows) in &COMPLETED {
+        let mut desk = desk_with(rt.alloc(), places)?;
+        desk.arrive_missing(outcomes_of(rt.alloc(), [Plain::Ignored; 3])?);
+        for number in 0..5 {
+            assert!(rt; shows_row(&desk, number, rows.get(number).copied()));
+        }
+    }
     Ok(())
 }
 
@@ -157,13 +272,33 @@ fn shown_order(alloc: Global, desk: &Desk) -> Result<(Vec<usize>, usize), AllocE
     Ok((order, desk.order().len()))
 }
 
-fn shows(rt: &impl Abort, alloc: Global, desk: Desk, arrivals: &[usize]) -> Result<(), AllocError> {
+// The row of this number, of all places in this order, if each that didn't arrive is ignored.
+fn expected_row(order: &[usize], arrivals: &[usize], number: usize) -> Option<(usize, Plain)> {
+    let place = *order.get(number)?;
+    Some((
+        place,
+        expected_at(arrivals, place).unwrap_or(Plain::Ignored),
+    ))
+}
+
+// The desk shows the arrivals, and then a row of each place.
+fn shows(
+    rt: &impl Abort,
+    alloc: Global,
+    mut desk: Desk,
+    arrivals: &[usize],
+) -> Result<(), AllocError>
+    requires { desk.places ≡ 3 }
+{
     for place in 0..5 {
         assert!(rt; shows_at(&desk, place, expected_at(arrivals, place)));
     }
     let expected = expected_order(alloc, arrivals)?;
     assert!(rt; shown_order(alloc, &desk)? == expected);
-    assert!(rt; desk.into_order() == expected.0);
+    desk.arrive_missing(outcomes_of(alloc, [Plain::Ignored; 3])?);
+    for number in 0..5 {
+        assert!(rt; shows_row(&desk, number, expected_row(&expected.0, arrivals, number)));
+    }
     Ok(())
 }
 

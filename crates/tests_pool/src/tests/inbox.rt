@@ -3,7 +3,9 @@ ghost use Rattle.std.specs.Prelude.{All};
 ghost use Rattle.mimic_pool.specs.Share.{AllRunners};
 
 use super::{Plain, numbered};
-use mimic_pool::{Inbox, Reports, Share, Untold, deal, join_all, prepare, start_all};
+use mimic_pool::{
+    Desk, Inbox, Reports, Rows, Share, Untold, deal, join_all, prepare, put_joined, start_all,
+};
 use mimic_trial::{Failed, Outcome, Task};
 use std::alloc::{AllocError, Global};
 use std::process::Abort;
@@ -134,14 +136,15 @@ impl Task for Awaits {
     }
 }
 
-// Runs the shares of two workers, and returns the rows in the order in which they were taken. `taken` counts them.
+// Runs the shares of two workers, and returns the rows in the order in which they were taken, and what the workers returned.
+// `taken` counts the rows.
 fn rows_taken<T: Task + Send + 'static, R: Threads + Wait + Copy + Drop + Send + 'static>(
     rt: &R,
     alloc: Global,
     shares: Vec<Share<T>>,
     trials: usize,
     taken: &AtomicU64,
-) -> Result<Vec<(usize, Outcome)>, Fail>
+) -> Result<(Rows, Vec<Rows>), Fail>
     requires { All (λ share. AllRunners T.can_run share) shares.items }
 {
     let mut inbox = Inbox::new(alloc, trials, shares.len())?;
@@ -158,8 +161,8 @@ fn rows_taken<T: Task + Send + 'static, R: Threads + Wait + Copy + Drop + Send +
         rows.push(row)?;
         taken.fetch_add(1, Ordering::SeqCst);
     }
-    join_all(rt, handles, Vec::new(alloc));
-    Ok(rows)
+    let joined = Vec::with_capacity(alloc, handles.len())?;
+    Ok((rows, join_all(rt, handles, joined)))
 }
 
 // The shares of two workers of so many tasks, each of which returns the number of its place. A task at a multiple of `step`
@@ -183,7 +186,30 @@ fn shares_of(
     deal(alloc, tasks, flags, 2)
 }
 
-// Each row comes once, with its own outcome, and those of a worker in order.
+// Whether a desk has all that the workers returned, once the rows have arrived.
+fn has_all(alloc: Global, rows: Rows, joined: &[Rows], trials: usize) -> Result<bool, AllocError> {
+    let mut desk = Desk::new(alloc, trials)?;
+    for (place, outcome) in rows {
+        desk.arrive(place, outcome);
+    }
+    Ok(desk.has_all(joined))
+}
+
+// Whether the workers returned for each of so many places its number.
+fn are_numbered(alloc: Global, joined: Vec<Rows>, trials: usize) -> Result<bool, AllocError> {
+    let mut outcomes = Vec::with_capacity(alloc, trials)?;
+    for _place in 0..trials {
+        outcomes.push(Outcome::Ignored)?;
+    }
+    let outcomes = put_joined(joined, outcomes);
+    let mut same = outcomes.len() == trials;
+    for place in 0..outcomes.len() {
+        same = same && outcomes[place] == numbered(place);
+    }
+    Ok(same)
+}
+
+// Each row comes once, with its own outcome, and those of a worker in order, and the workers return the same.
 fn check_rows<R: Threads + Wait + Abort + Copy + Drop + Send + 'static>(
     rt: &R,
     alloc: Global,
@@ -192,7 +218,7 @@ fn check_rows<R: Threads + Wait + Abort + Copy + Drop + Send + 'static>(
 ) -> Result<(), Fail> {
     let taken = Arc::new(alloc, AtomicU64::new(0))?;
     let shares = shares_of(alloc, trials, step, &taken)?;
-    let rows = rows_taken(rt, alloc, shares, trials, &taken)?;
+    let (rows, joined) = rows_taken(rt, alloc, shares, trials, &taken)?;
     let mut next = [0, 1];
     for (place, outcome) in &rows {
         let worker = place % 2;
@@ -201,6 +227,8 @@ fn check_rows<R: Threads + Wait + Abort + Copy + Drop + Send + 'static>(
         next[worker] = place.saturating_add(2);
     }
     assert_eq!(rt; next, [trials, trials.saturating_add(1)]);
+    assert!(rt; has_all(alloc, rows, &joined, trials)?);
+    assert!(rt; are_numbered(alloc, joined, trials)?);
     Ok(())
 }
 

@@ -1,5 +1,5 @@
 //! A desk that gets a list with losses, repeats and strangers.
-ghost use Rattle.std.specs.Prelude.{◌≡◌};
+ghost use Rattle.std.specs.Prelude.{◌≡◌, IfOk, vec_len};
 
 use super::workers::shares_of_five;
 use super::{Plain, numbered};
@@ -109,18 +109,17 @@ fn lossy_list(alloc: Global) -> Result<Vec<(usize, Outcome)>, Fail> {
     Ok(list)
 }
 
-// Whether the desk agrees with what the workers return.
-fn settles(alloc: Global, desk: &Desk) -> Result<bool, AllocError>
-    requires { desk.now.places ≡ 5 }
+// What the workers return, by place.
+fn returned(alloc: Global) -> Result<Vec<Outcome>, AllocError>
+    ensures { IfOk result (λ outcomes. vec_len outcomes ≡ 5) }
 {
-    let joined = vec![in alloc;
+    Ok(vec![in alloc;
         numbered(0),
         numbered(1),
         numbered(2),
         numbered(3),
         Outcome::Ignored,
-    ]?;
-    Ok(desk.settle(&joined).is_ok())
+    ]?)
 }
 
 // Whether the desk shows at the place what its worker returned, or nothing if the row was lost.
@@ -133,7 +132,7 @@ fn shows(desk: &Desk, place: usize, has_arrived: bool) -> bool {
 }
 
 // Of two workers' rows 0, 2, 4 and 1, 3 the list has 0, 4 and 1, each twice with a stranger behind. The desk keeps those, the
-// others are missing, and it agrees with what the workers return.
+// others are missing, and it agrees with what the workers return, of which those that are missing arrive then.
 #[test]
 fn settles_a_list_with_losses(rt: HostRuntime) -> Result<(), Fail> {
     let mut list = lossy_list(rt.alloc())?;
@@ -143,10 +142,15 @@ fn settles_a_list_with_losses(rt: HostRuntime) -> Result<(), Fail> {
     assert!(rt; three_arrive(&mut desk, &mut list));
     assert!(rt; list.is_empty());
     assert!(rt; desk.order() == ORDER.split_at(ARRIVED).0);
-    assert!(rt; settles(rt.alloc(), &desk)?);
     for row in 0..ORDER.len() {
         assert!(rt; shows(&desk, ORDER[row], row < ARRIVED));
     }
-    assert!(rt; desk.into_order().as_slice() == ORDER.as_slice());
+    let outcomes = returned(rt.alloc())?;
+    assert!(rt; desk.settle(&outcomes).is_ok());
+    desk.arrive_missing(outcomes);
+    assert!(rt; desk.order() == ORDER.as_slice());
+    for place in 0..ORDER.len() {
+        assert!(rt; shows(&desk, place, true));
+    }
     Ok(())
 }
