@@ -1,6 +1,6 @@
 -- The failures of a report: by place, and of the rows that failed alone.
-use Rattle.std.proofs.Common.{◌≡◌, ℕ, zero, suc, ◌+◌, ◌<◌, List, [], ◌∷◌, ◌++◌, Bool, true, false, cond, ◌||◌, filter, map, length, get_or, refl, sym, ap, ap₂, ◌∙◌, arith, add-one, append-nil, All}
-use Rattle.std.proofs.lemmas.List.{get_or-map, get_or_default, length-map}
+use Rattle.std.proofs.Common.{◌≡◌, ℕ, zero, suc, ◌+◌, ◌<◌, List, [], ◌∷◌, ◌++◌, Bool, true, false, cond, ◌||◌, Some, filter, map, length, get_or, slice_get, refl, sym, ap, ap₂, ◌∙◌, arith, add-one, append-nil, All}
+use Rattle.std.proofs.lemmas.List.{get_or-map, get_or_default}
 use Rattle.std.proofs.lemmas.List.Elements.{All-head, All-tail, filter-append}
 use Rattle.std.proofs.lemmas.Option.{slice_get_read}
 use Rattle.std.specs.List.{flat_map, list_any, range_with_len}
@@ -11,11 +11,8 @@ use Rattle.mimic_trial.specs.declared.outcome.Outcome.TheVariants.{Passed, Faile
 use Rattle.mimic_printer.specs.declared.Printer.{Printer}
 use Rattle.mimic_trial.specs.declared.trial.TestInfo.{TestInfo}
 use Rattle.mimic_trial.specs.Places.{placed_at, placed_if}
-use Rattle.mimic_printer.specs.Row.{label_at, rows_at, Label, PrintedRow, label_of, row_of, outcomes_of}
+use Rattle.mimic_printer.specs.Row.{rows_at, Label, PrintedRow, label_of, row_of, outcomes_of}
 use Rattle.mimic_trial.specs.Count.{is_failed}
-use Rattle.mimic_printer.specs.declared.failures.Rows.{Rows}
-use Rattle.mimic_printer.specs.declared.failures.Rows.TheVariants.{Kept, Placed}
-use Rattle.mimic_printer.specs.Failures.{HasItsPlaces, count_in, rows_in}
 use Rattle.mimic_printer.specs.Report.{failure_text, failed_name, row_failure, row_failed_name, failures_of, failures_if_any, failures_in, failures_text}
 
 -- ---- by place
@@ -35,37 +32,33 @@ length-rows_at infos (p ∷ ps) os n all =
     ap (λ l. length (rows_at (map label_of infos) l)) (placed-cons os p ps (get_or os p Passed) j (sym (get_or_default os p (get_or os p Passed) Passed j))) ∙ ap (λ m. suc m) next
 
 -- the row of a number is that of the info and the outcome at the place
-pub row_is_at : (infos : List TestInfo) (order : List ℕ) (os : List Outcome) (k p : ℕ) (t : TestInfo) (o : Outcome) (d : PrintedRow) → length infos ≡ length os → All (λ q. q < length infos) order
-    → k < length order → p ≡ get_or order k p → t ≡ get_or infos p t → o ≡ get_or os p o → get_or (rows_at (map label_of infos) (placed_at order os)) k d ≡ row_of t o
-row_is_at infos [] os k p t o d n all i e f g = absurd (omega arith)
-row_is_at infos (q ∷ qs) os zero p t o d n all i e f g =
-    let w : q < length infos = All-head (λ r. r < length infos) q qs all in
-    let j : p < length os = omega (arith, e) in
-    let first = placed-cons os p qs o j g in
-    let label : label_at (map label_of infos) p ≡ label_of t = get_or-map label_of infos p t _ (omega (arith, e)) ∙ ap label_of (sym f) in
-    ap (λ r. get_or (rows_at (map label_of infos) (placed_at (r ∷ qs) os)) 0 d) (sym e)
-    ∙ ap (λ l. get_or (rows_at (map label_of infos) l) 0 d) first
-    ∙ ap (λ l. record { label = l; outcome = o }) label
-row_is_at infos (q ∷ qs) os (suc k) p t o d n all i e f g =
-    let w : q < length infos = All-head (λ r. r < length infos) q qs all in
-    let j : q < length os = omega arith in
-    let first = placed-cons os q qs (get_or os q o) j (sym (get_or_default os q (get_or os q o) o j)) in
-    ap (λ l. get_or (rows_at (map label_of infos) l) (suc k) d) first
-    ∙ row_is_at infos qs os k p t o d n (All-tail (λ r. r < length infos) q qs all) (omega arith) e f g
-
-pub count_rows : (rows : Rows) → HasItsPlaces rows → count_in rows ≡ length (rows_in rows)
-count_rows (Kept rows) h = sym (length-map rows.now (λ p. row_of p.0 p.1))
-count_rows (Placed infos order os) h = sym (length-rows_at infos.now order.now os.now h.0 h.1)
+pub row_is_at : (infos : List TestInfo) (order : List ℕ) (os : List Outcome) (k : ℕ) (t : TestInfo) (o : Outcome) → length infos ≡ length os → All (λ p. p < length infos) order → k < length order
+    → slice_get (rows_at (map label_of infos) (placed_at order os)) k ≡ Some (row_of (get_or infos (get_or order k 0) t) (get_or os (get_or order k 0) o))
+row_is_at infos [] os k t o n all i = absurd (omega arith)
+row_is_at infos (p ∷ ps) os zero t o n all i =
+    let w : p < length infos = All-head (λ q. q < length infos) p ps all in
+    let j : p < length os = omega arith in
+    let outcome = get_or os p o in
+    ap (λ l. slice_get (rows_at (map label_of infos) l) 0) (placed-cons os p ps outcome j (sym (get_or_default os p outcome o j)))
+    ∙ ap (λ l. Some (record { label = l; outcome = outcome })) (get_or-map label_of infos p t _ w)
+row_is_at infos (p ∷ ps) os (suc k) t o n all i =
+    let w : p < length infos = All-head (λ q. q < length infos) p ps all in
+    let j : p < length os = omega arith in
+    let outcome = get_or os p o in
+    ap (λ l. slice_get (rows_at (map label_of infos) l) (suc k)) (placed-cons os p ps outcome j (sym (get_or_default os p outcome o j)))
+    ∙ row_is_at infos ps os k t o n (All-tail (λ q. q < length infos) p ps all) (omega arith)
 
 or-true : (b : Bool) → (b || true) ≡ true
 or-true true = refl
 or-true false = refl
 
--- whether the row of a number failed
-pub any-failed_row : (rows : List PrintedRow) (k : ℕ) (row : PrintedRow) → k < length rows → row ≡ get_or rows k row → is_failed row.outcome ≡ true → list_any is_failed (outcomes_of rows) ≡ true
-any-failed_row [] k row i e h = absurd (omega arith)
-any-failed_row (r ∷ rows) zero row i e h = ap (λ x. is_failed x.outcome || list_any is_failed (outcomes_of rows)) (sym e) ∙ ap (λ b. b || list_any is_failed (outcomes_of rows)) h
-any-failed_row (r ∷ rows) (suc k) row i e h = ap (λ b. is_failed r.outcome || b) (any-failed_row rows k row (omega arith) e h) ∙ or-true (is_failed r.outcome)
+-- if the row of a number failed, one of the rows did
+pub any-failed_row : (rows : List PrintedRow) (k : ℕ) (row : PrintedRow) → slice_get rows k ≡ Some row → is_failed row.outcome ≡ true → list_any is_failed (outcomes_of rows) ≡ true
+any-failed_row [] k row e h = cc
+any-failed_row (r ∷ rows) zero row e h =
+    let first : r ≡ row = cc in
+    ap (λ x. is_failed x.outcome || list_any is_failed (outcomes_of rows)) first ∙ ap (λ b. b || list_any is_failed (outcomes_of rows)) h
+any-failed_row (r ∷ rows) (suc k) row e h = ap (λ b. is_failed r.outcome || b) (any-failed_row rows k row e h) ∙ or-true (is_failed r.outcome)
 
 pub failures-some : (rows : List PrintedRow) → list_any is_failed (outcomes_of rows) ≡ true → failures_if_any rows ≡ failures_of rows
 unfolding failures_if_any

@@ -1,9 +1,9 @@
 //! Writes the failures at the end of a report: the messages of the trials that failed, and their names.
-ghost use Rattle.std.specs.Prelude.{◌≡◌, ◌<◌};
+ghost use Rattle.std.specs.Prelude.{◌≡◌, ◌<◌, List, Some, length, slice_get};
 ghost use Rattle.std.specs.List.{flat_map, list_any};
 ghost use Rattle.mimic_trial.specs.Count.{is_failed};
-ghost use Rattle.mimic_printer.specs.Row.{label_of, outcomes_of, row_of};
-ghost use Rattle.mimic_printer.specs.Failures.{HasItsPlaces, row_part, rows_in};
+ghost use Rattle.mimic_printer.specs.Row.{PrintedRow, label_of, outcomes_of, row_of};
+ghost use Rattle.mimic_printer.specs.Failures.{row_part};
 ghost use Rattle.mimic_printer.specs.Report.{failed_name, failure_text, failures_if_any, failures_of};
 ghost use Rattle.mimic_printer.specs.Sink.{HasFaultLeft, Puts};
 
@@ -12,51 +12,76 @@ use crate::sink::{Sink, WriteFault};
 use mimic_trial::{Outcome, TestInfo};
 use std::io::Write;
 
-/// The rows of which the failures are shown.
-#[derive(Clone, Copy)]
-pub(crate) enum Rows<'a> {
-    /// These, one after another.
-    Kept(&'a [(TestInfo, Outcome)]),
-    /// Those at the places of `order`, in that order. Infos and outcomes are by place.
-    Placed {
-        infos: &'a [TestInfo],
-        order: &'a [usize],
-        outcomes: &'a [Outcome],
-    },
+/// Rows of which the failures are shown, in whatever form they are held: each is a trial's info with its outcome. They are
+/// numbered from 0, and a printer asks for each up to three times.
+pub trait Rows {
+    /// Whether they may be shown. If an `impl` says nothing, they always may.
+    ghost can_show: { Self → Type 0 } = { λ _. Unit {0} };
+
+    /// The rows, in their order.
+    ghost rows_of: { Self → List PrintedRow };
+
+    /// Returns how many rows there are.
+    fn len(&self) -> usize
+        requires { can_show self.now }
+        ensures { result ≡ length (rows_of self.now) };
+
+    /// Returns the row of this number.
+    fn row(&self, number: usize) -> (&TestInfo, &Outcome)
+        requires can_show { can_show self.now }
+        requires within { number < length (rows_of self.now) }
+        ensures { slice_get (rows_of self.now) number
+            ≡ Some (row_of result.0.now result.1.now) };
 }
 
-impl<'a> Rows<'a> {
-    ghost use Rattle.std.specs.Prelude.{◌≡◌, ◌<◌, slice_index_or};
-    ghost use Rattle.mimic_printer.specs.Row.{row_of};
-    ghost use Rattle.mimic_printer.specs.Failures.{HasItsPlaces, count_in, rows_in};
+// Rows one after another.
+#[derive(Clone, Copy)]
+pub(crate) struct Kept<'a> {
+    pub(crate) rows: &'a [(TestInfo, Outcome)],
+}
 
-    fn len(self) -> usize
-        ensures { result ≡ count_in self.entry }
-    {
-        match self {
-            Rows::Kept(rows) => rows.len(),
-            Rows::Placed { order, .. } => order.len(),
-        }
+impl<'a> Rows for Kept<'a> {
+    ghost use Rattle.mimic_printer.specs.Row.{rows_from};
+
+    ghost rows_of = { λ kept. rows_from kept.rows.now };
+
+    fn len(&self) -> usize {
+        self.rows.len()
     }
 
-    // Returns the row of this number, counted from 0.
-    fn row(self, number: usize) -> (&'a TestInfo, &'a Outcome)
-        requires places { HasItsPlaces self }
-        requires within { number < count_in self }
-        ensures { row_of result.0.now result.1.now
-            ≡ slice_index_or (rows_in self.entry) number (row_of result.0.now result.1.now) }
-    {
-        match self {
-            Rows::Kept(rows) => (&rows[number].0, &rows[number].1),
-            Rows::Placed {
-                infos,
-                order,
-                outcomes,
-            } => {
-                let place = order[number];
-                (&infos[place], &outcomes[place])
-            }
-        }
+    fn row(&self, number: usize) -> (&TestInfo, &Outcome) {
+        let row = &self.rows[number];
+        (&row.0, &row.1)
+    }
+}
+
+// The rows at the places of `order`, in that order. Infos and outcomes are by place.
+#[derive(Clone, Copy)]
+pub(crate) struct Placed<'a> {
+    pub(crate) infos: &'a [TestInfo],
+    pub(crate) order: &'a [usize],
+    pub(crate) outcomes: &'a [Outcome],
+}
+
+impl<'a> Rows for Placed<'a> {
+    ghost use Rattle.std.specs.Prelude.{◌≡◌, ◌<◌, All, length, map};
+    ghost use Rattle.mimic_trial.specs.Places.{placed_at};
+    ghost use Rattle.mimic_printer.specs.Row.{label_of, rows_at};
+
+    // Each place has an info and an outcome.
+    ghost can_show = { λ placed. (length placed.infos.now ≡ length placed.outcomes.now)
+        × All (λ p. p < length placed.infos.now) placed.order.now };
+
+    ghost rows_of = { λ placed. rows_at (map label_of placed.infos.now)
+        (placed_at placed.order.now placed.outcomes.now) };
+
+    fn len(&self) -> usize {
+        self.order.len()
+    }
+
+    fn row(&self, number: usize) -> (&TestInfo, &Outcome) {
+        let place = self.order[number];
+        (&self.infos[place], &self.outcomes[place])
     }
 }
 
@@ -68,10 +93,10 @@ enum Part {
 }
 
 // Writes the failures of the rows, and nothing if none failed.
-pub(crate) fn put_if_any<W: Write>(sink: &mut Sink<W>, rows: Rows<'_>) -> Result<(), WriteFault>
+pub(crate) fn put_if_any<W: Write, R: Rows>(sink: &mut Sink<W>, rows: &R) -> Result<(), WriteFault>
     requires room { HasFaultLeft sink.old }
-    requires places { HasItsPlaces rows }
-    ensures { Puts W.contents sink.old sink.new (failures_if_any (rows_in rows.entry)) result }
+    requires can_show { R.can_show rows.now }
+    ensures { Puts W.contents sink.old sink.new (failures_if_any (R.rows_of rows.now)) result }
 {
     if any_failed(rows) {
         put_failures(sink, rows)
@@ -81,10 +106,9 @@ pub(crate) fn put_if_any<W: Write>(sink: &mut Sink<W>, rows: Rows<'_>) -> Result
 }
 
 // Returns whether one of the rows failed.
-#[tactic(auto, using(crate::proofs::FailedRows::count_rows))]
-fn any_failed(rows: Rows<'_>) -> bool
-    requires { HasItsPlaces rows }
-    ensures { result ≡ list_any is_failed (outcomes_of (rows_in rows.entry)) }
+fn any_failed<R: Rows>(rows: &R) -> bool
+    requires { R.can_show rows.now }
+    ensures { result ≡ list_any is_failed (outcomes_of (R.rows_of rows.now)) }
 {
     for number in 0..rows.len() {
         if matches!(rows.row(number).1, Outcome::Failed(_)) {
@@ -95,10 +119,10 @@ fn any_failed(rows: Rows<'_>) -> bool
 }
 
 // Writes the failures of the rows, of which one at least failed.
-fn put_failures<W: Write>(sink: &mut Sink<W>, rows: Rows<'_>) -> Result<(), WriteFault>
+fn put_failures<W: Write, R: Rows>(sink: &mut Sink<W>, rows: &R) -> Result<(), WriteFault>
     requires room { HasFaultLeft sink.old }
-    requires places { HasItsPlaces rows }
-    ensures { Puts W.contents sink.old sink.new (failures_of (rows_in rows.entry)) result }
+    requires can_show { R.can_show rows.now }
+    ensures { Puts W.contents sink.old sink.new (failures_of (R.rows_of rows.now)) result }
 {
     sink.put(b"\nfailures:\n\n")?;
     put_each(sink, rows, Part::Message)?;
@@ -107,11 +131,11 @@ fn put_failures<W: Write>(sink: &mut Sink<W>, rows: Rows<'_>) -> Result<(), Writ
 }
 
 // Writes this part of each row that failed.
-fn put_each<W: Write>(sink: &mut Sink<W>, rows: Rows<'_>, part: Part) -> Result<(), WriteFault>
+fn put_each<W: Write, R: Rows>(sink: &mut Sink<W>, rows: &R, part: Part) -> Result<(), WriteFault>
     requires room { HasFaultLeft sink.old }
-    requires places { HasItsPlaces rows }
+    requires can_show { R.can_show rows.now }
     ensures { Puts W.contents sink.old sink.new
-        (flat_map (row_part part) (rows_in rows.entry)) result }
+        (flat_map (row_part part) (R.rows_of rows.now)) result }
 {
     for number in 0..rows.len() {
         let (info, outcome) = rows.row(number);
