@@ -3,16 +3,16 @@ use Rattle.std.proofs.Common.{◌≡◌, ◌∙◌, ℕ, ◌+◌, ◌-◌, ◌%�
 use Rattle.std.specs.List.{range_with_len}
 use Rattle.std.specs.List.Sorted.{IsPermutation}
 use Rattle.std.specs.Prelude.{All, IfErr, IsErrAnd, MatchResult, slice_get}
-use Rattle.std.proofs.lemmas.List.{take_all}
+use Rattle.std.proofs.Math.Seq.{drop-append_seam}
 use Rattle.std.proofs.lemmas.List.Concat.{flat_map-append}
 use Rattle.std.proofs.lemmas.List.Elements.{All-cons, All-head, All-nil, All-tail}
 use Rattle.mimic_trial.specs.declared.outcome.Outcome.{Outcome}
 use Rattle.mimic_trial.specs.declared.trial.TestInfo.{TestInfo}
-use Rattle.mimic_trial.specs.Places.{placed_at, placed_if, places_of}
+use Rattle.mimic_trial.specs.Places.{Placed, places_of}
 use Rattle.mimic_pool.specs.declared.share.Assigned.{Assigned}
 use Rattle.mimic_pool.specs.declared.share.Share.{Share}
 use Rattle.mimic_pool.specs.Arrivals.{Arrived}
-use Rattle.mimic_pool.specs.Joined.{AreOutcomes, AreReadyToJoin, job_of, jobs_of}
+use Rattle.mimic_pool.specs.Joined.{AreOutcomes, AreReadyToJoin, job_of, jobs_of, put_each}
 use Rattle.mimic_pool.specs.Share.{AllRunners, IsDealt, assigned_from, share_of}
 use Rattle.mimic_pool.specs.declared.start.AnswersShare.{AnswersShare}
 use Rattle.std.specs.declared.thread.PromisedHandle.{PromisedHandle}
@@ -26,9 +26,9 @@ use Rattle.mimic_printer.proofs.Appending.{Put-Stopped, Put-refl, Put-trans, Sto
 use Rattle.libtest_mimic.specs.Run.{Follows, OnNothingWritten}
 use Rattle.libtest_mimic.specs.declared.running.RunError.{RunError}
 use Rattle.libtest_mimic.specs.declared.running.RunError.TheVariants.{OutOfMemory, Write, ZeroThreads, Spawn, Arrival}
-use Rattle.libtest_mimic.specs.Gathering.{Gathered, GatheringRefused, IsOfRows, NamesDifference, rows_text_of}
-use Rattle.libtest_mimic.specs.Steps.{RowsRefused, titled_rows, told_text}
-use Rattle.libtest_mimic.proofs.Arranged.{length_assigned, order_below}
+use Rattle.libtest_mimic.specs.Gathering.{Gathered, GatheringRefused, IsCompleted, IsDifference, IsGathered, IsOfRows, rows_text_of}
+use Rattle.libtest_mimic.specs.Steps.{RowsRefused, titled_told, told_text}
+use Rattle.libtest_mimic.proofs.Arranged.{length_assigned}
 use Rattle.libtest_mimic.proofs.Told.{rows_joined}
 
 -- an answer that is this error
@@ -97,27 +97,10 @@ module _ {R T : Type 0} (gives : Gives R) (mode : Bool) (rs : List R) (bs : List
         whole = subst (λ (k : ℕ). IsPermutation order (range_with_len 0 k)) (places ∙ all) whole;
       }
 
--- ---- the places that were missing
+-- ---- the rows that were missing
 
-rest_of : (xs ys : List ℕ) → drop (length xs) (xs ++ ys) ≡ ys
-rest_of [] ys = refl
-rest_of (x ∷ xs) ys = rest_of xs ys
-
--- the part of an order behind the places that were told
-pub order_rest : (xs ys order : List ℕ) (k : ℕ) → order ≡ xs ++ ys → k ≡ length xs → take (length order - k) (drop k order) ≡ ys
-order_rest xs ys order k e count =
-    let dropped : drop k order ≡ ys = ap (λ n. drop n order) count ∙ ap (drop (length xs)) e ∙ rest_of xs ys in
-    ap (take (length order - k)) dropped ∙ take_all (length order - k) ys (omega (arith, ap length e, length-append xs ys, count))
-
-All-behind : (P : ℕ → Type 0) (xs ys : List ℕ) → All P (xs ++ ys) → All P ys
-All-behind P [] ys h = h
-All-behind P (x ∷ xs) ys h = All-behind P xs ys (All-tail P x (xs ++ ys) h)
-
--- those places are below their number, too
-pub rest_below : (xs ys order : List ℕ) (k n : ℕ) → order ≡ xs ++ ys → k ≡ length xs → IsPermutation order (range_with_len 0 n) → All (λ p. p < n) (take (length order - k) (drop k order))
-rest_below xs ys order k n e count whole =
-    let P : List ℕ → Type 0 = λ l. All (λ p. p < n) l in
-    subst P (sym (order_rest xs ys order k e count)) (All-behind (λ p. p < n) xs ys (subst P e (order_below n order whole)))
+pub rest_of : (xs ys : List Placed) (k : ℕ) → k ≡ length xs → drop k (xs ++ ys) ≡ ys
+rest_of xs ys k e = ap (λ n. drop n (xs ++ ys)) e ∙ drop-append_seam xs ys
 
 -- ---- the texts
 
@@ -125,31 +108,39 @@ rest_below xs ys order k n e count whole =
 pub nothing_told : (p : Printer) (infos : List TestInfo) (desk : Arrived) (n : ℕ) → desk ≡ record { places = n; rows = [] } → (s : Shown) → Put s s (told_text p infos desk)
 nothing_told p infos desk n e s = subst (λ t. Put s s t) (sym (ap (told_text p infos) e)) (Put-refl s)
 
-module _ (p : Printer) (infos : List TestInfo) (desk : Arrived) (outs : List Outcome) (order missing : List ℕ)
-    (whole : order ≡ places_of desk.rows ++ missing) (settled : desk.rows ≡ placed_at (places_of desk.rows) outs) where
-  abbrev pub missing_text : List ℕ
-  missing_text = rows_text p (rows_at (map label_of infos) (placed_at missing outs))
+module _ (p : Printer) (infos : List TestInfo) (old new : Arrived) (joined : List (List Placed)) (done : IsCompleted old joined new) where
+  abbrev missing_text : List ℕ
+  missing_text = rows_text p (rows_at (map label_of infos) done.missing)
 
-  split : rows_text_of p infos order outs ≡ told_text p infos desk ++ missing_text
-  split =
-      let texts : List (ℕ × Outcome) → List ℕ = λ l. rows_text p (rows_at (map label_of infos) l) in
-      ap (λ l. texts (placed_at l outs)) whole
-      ∙ ap texts (flat_map-append (λ place. placed_if place (slice_get outs place)) (places_of desk.rows) missing)
-      ∙ rows_joined p (map label_of infos) (placed_at (places_of desk.rows) outs) (placed_at missing outs)
-      ∙ ap (λ l. texts l ++ missing_text) (sym settled)
+  -- the rows that were told, and then those that were missing
+  split : told_text p infos new ≡ told_text p infos old ++ missing_text
+  split = ap (λ l. rows_text p (rows_at (map label_of infos) l)) done.rows ∙ rows_joined p (map label_of infos) old.rows done.missing
+
+  -- all of them are what the workers returned
+  abbrev pub returned_text : List ℕ
+  returned_text = rows_text_of p infos (places_of new.rows) (put_each joined done.outcomes)
+
+  all_returned : told_text p infos new ≡ returned_text
+  all_returned = ap (λ l. rows_text p (rows_at (map label_of infos) l)) done.returned
 
   module _ (a b : Shown) where
     -- a fault in a row that was told
-    pub stopped_told : Stopped a b (told_text p infos desk) → Stopped a b (rows_text_of p infos order outs)
-    stopped_told s = subst (λ t. Stopped a b t) (sym split) (Stopped-more _ missing_text s)
+    pub stopped_told : Stopped a b (told_text p infos old) → Stopped a b returned_text
+    stopped_told s = subst (λ t. Stopped a b t) (sym split ∙ all_returned) (Stopped-more _ missing_text s)
 
-    module _ (c : Shown) (told : Put a b (told_text p infos desk)) where
+    module _ (c : Shown) (told : Put a b (told_text p infos old)) (k : ℕ) (count : k ≡ length old.rows) where
+      abbrev pub text_from : List ℕ
+      text_from = rows_text p (rows_at (map label_of infos) (drop k new.rows))
+
+      is_missing : text_from ≡ missing_text
+      is_missing = ap (λ l. rows_text p (rows_at (map label_of infos) l)) (ap (drop k) done.rows ∙ rest_of old.rows done.missing k count)
+
       -- a fault in a row that was missing
-      pub stopped_missing : Stopped b c missing_text → Stopped a c (rows_text_of p infos order outs)
-      stopped_missing s = subst (λ t. Stopped a c t) (sym split) (Put-Stopped _ _ told s)
+      pub stopped_missing : Stopped b c text_from → Stopped a c returned_text
+      stopped_missing s = subst (λ t. Stopped a c t) (sym split ∙ all_returned) (Put-Stopped _ _ told (subst (λ t. Stopped b c t) is_missing s))
 
-      pub put_all : Put b c missing_text → Put a c (rows_text_of p infos order outs)
-      put_all s = subst (λ t. Put a c t) (sym split) (Put-trans _ _ told s)
+      pub put_all : Put b c text_from → Put a c (told_text p infos new)
+      put_all s = subst (λ t. Put a c t) (sym split) (Put-trans _ _ told (subst (λ t. Put b c t) is_missing s))
 
 -- ---- the title and the rows
 
@@ -168,14 +159,14 @@ module _ {R : Type 0} (gives : Gives R) (mode : Bool) (items : List (Assigned R)
       (low, record { text = title_text p (length infos) ++ h.text; appended = Appends-trans a.bytes b.bytes c.bytes (title_text p (length infos)) h.text titled.appended h.appended; kept = omega (arith, titled.faults, h.kept); one = omega (arith, titled.faults, h.one) })
 
   -- and what stands after they were written
-  pub titled_all : (order : List ℕ) (outs : List Outcome) → Gathered gives mode items order outs × Put b c (rows_text_of p infos order outs)
-      → Gathered gives mode items order outs × Put a c (titled_rows p infos order outs)
-  titled_all order outs rows = (rows.0, Put-trans _ _ titled rows.1)
+  pub titled_all : (desk : Arrived) → IsGathered gives mode items desk × Put b c (told_text p infos desk) → IsGathered gives mode items desk × Put a c (titled_told p infos desk)
+  titled_all desk rows = (rows.0, Put-trans _ _ titled rows.1)
 
 -- a difference that is named
 pub differs_refused : {R : Type 0} (gives : Gives R) (mode : Bool) (items : List (Assigned R)) (p : Printer) (infos : List TestInfo) (a b : Shown)
-    (desk : Arrived) (outs : List Outcome) → desk.places ≡ length infos → Follows a b → (e : RunError) → NamesDifference desk outs e → GatheringRefused gives mode items p infos a b e
-differs_refused gives mode items p infos a b desk outs places h e named =
+    (desk : Arrived) (joined : List (List Placed)) → desk.places ≡ length infos → Follows a b → (e : RunError) → IsDifference desk joined e → GatheringRefused gives mode items p infos a b e
+differs_refused gives mode items p infos a b desk joined places h e differs =
+    let named = differs.named in
     subst (GatheringRefused gives mode items p infos a b) (sym named.named) (subst (λ (n : ℕ). named.place < n) places named.below, h)
 
 -- such a refusal comes when something was written

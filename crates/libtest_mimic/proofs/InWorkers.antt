@@ -11,7 +11,8 @@ use Rattle.mimic_trial.specs.declared.outcome.Outcome.{Outcome}
 use Rattle.mimic_trial.specs.declared.outcome.conclusion.Conclusion.{Conclusion}
 use Rattle.mimic_trial.specs.declared.trial.TestInfo.{TestInfo}
 use Rattle.mimic_trial.specs.Count.{counts_of}
-use Rattle.mimic_trial.specs.Places.{placed_at, places_of}
+use Rattle.mimic_trial.specs.Places.{Placed, placed_at, places_of}
+use Rattle.mimic_pool.specs.Arrivals.{Arrived}
 use Rattle.mimic_trial.specs.Promise.{Gives}
 use Rattle.mimic_trial.specs.Trial.{info_of, runner_of}
 use Rattle.mimic_pool.specs.declared.share.Share.{Share}
@@ -24,11 +25,12 @@ use Rattle.libtest_mimic.specs.declared.running.RunError.{RunError}
 use Rattle.libtest_mimic.specs.declared.running.RunError.TheVariants.{OutOfMemory, Write, ZeroThreads, Spawn, Arrival}
 use Rattle.libtest_mimic.specs.Arrangement.{IsArrangement}
 use Rattle.libtest_mimic.specs.Run.{ReportRefused, ReportedBy}
-use Rattle.libtest_mimic.specs.Gathering.{Gathered}
-use Rattle.libtest_mimic.specs.Steps.{AreParts, RowsRefused, titled_rows}
+use Rattle.libtest_mimic.specs.Gathering.{Gathered, IsGathered}
+use Rattle.libtest_mimic.specs.Steps.{AreParts, RowsRefused, titled_rows, titled_told}
 use Rattle.libtest_mimic.specs.Stopwatch.{Watched, IsRunning, elapsed_of}
 use Rattle.libtest_mimic.specs.Suite.{Suite, in_order, rows_of}
-use Rattle.libtest_mimic.proofs.Arranged.{arranged, counts_placed, flags_length, labels_apart, length_gathered, order_below, whole_gathered}
+use Rattle.libtest_mimic.proofs.Arranged.{arranged, flags_length, labels_apart, length_gathered, order_below, whole_gathered}
+use Rattle.libtest_mimic.proofs.OnlyOutcomes.{outcomes_of-rows_at}
 use Rattle.libtest_mimic.proofs.WholeReport.{reported, starts_failures, starts_summary, starts_title, starts_titled, titled}
 
 pub parts_shown : {R : Type 0} (args : Arguments) (trials : List (Trial R)) (infos shown : List TestInfo) (rs : List R) (bs : List Bool) → shown ≡ infos
@@ -77,20 +79,13 @@ module _ {R : Type 0} (gives : Gives R) (suite : Suite R) (infos : List TestInfo
     as_many_infos : length infos ≡ length outs
     as_many_infos = count ∙ sym (length_gathered gives suite.args suite.trials bs outs order parts.each_flag (of_trials order outs gathered))
 
-    -- what their printer wants
-    pub lengths : (outs' : List Outcome) → outs' ≡ outs → length infos ≡ length outs'
-    lengths outs' o = as_many_infos ∙ ap length (sym o)
+    -- each place has its info
+    pub below : All (λ p. p < length infos) order
+    below = subst (λ (n : ℕ). All (λ p. p < n) order) (sym as_many_infos) (order_below (length outs) order whole)
 
-    pub below : (order' : List ℕ) → order' ≡ order → All (λ p. p < length infos) order'
-    below order' o =
-        subst (λ (l : List ℕ). All (λ p. p < length infos) l) (sym o) (subst (λ (n : ℕ). All (λ p. p < n) order) (sym as_many_infos) (order_below (length outs) order whole))
-
-    -- and what it shows
-    shown_rows : (order' : List ℕ) (outs' : List Outcome) → order' ≡ order → outs' ≡ outs
-        → rows_at (map label_of infos) (placed_at order' outs') ≡ rows_of suite (placed_at order outs)
-    shown_rows order' outs' o u =
-        ap (λ l. rows_at (map label_of l) (placed_at order' outs')) parts.each_info ∙ ap (λ l. rows_at l (placed_at order' outs')) (labels_apart suite.trials)
-        ∙ ap₂ (λ l m. rows_at (labels_of suite.trials) (placed_at l m)) o u
+    -- and what the rows show
+    shown_rows : rows_at (map label_of infos) (placed_at order outs) ≡ rows_of suite (placed_at order outs)
+    shown_rows = ap (λ l. rows_at (map label_of l) (placed_at order outs)) parts.each_info ∙ ap (λ l. rows_at l (placed_at order outs)) (labels_apart suite.trials)
 
   -- ---- the report of some threads
 
@@ -115,36 +110,45 @@ module _ {R : Type 0} (gives : Gives R) (suite : Suite R) (infos : List TestInfo
     rows_refused a b w Spawn r h = (several, some, subst (λ (n : ℕ). Put a b (title_text suite.printer n)) count h, r)
     rows_refused a b w (Arrival place) r (low, h) = (several, subst (λ (n : ℕ). place < n) count low, h, r)
 
-    module _ (order : List ℕ) (outs : List Outcome) (gathered : GatheredOf order outs) (a c : Shown) (rows : Put a c (titled_rows suite.printer infos order outs)) where
-      all : IsArrangement gives suite.args suite.trials (placed_at order outs)
-      all = arrangement order outs gathered
+    module _ (desk : Arrived) (gathered : IsGathered gives (not suite.args.bench) (assigned_from 0 rs bs) desk) (a c : Shown) (rows : Put a c (titled_told suite.printer infos desk)) where
+      abbrev placed : List Placed
+      placed = placed_at (places_of desk.rows) gathered.outcomes
 
-      written : Put a c (titled gives suite (placed_at order outs) all)
-      written = subst (λ t. Put a c t) (titled_same order outs) rows
+      all : IsArrangement gives suite.args suite.trials placed
+      all = arrangement (places_of desk.rows) gathered.outcomes gathered.gathered
 
-      module _ (d : Shown) (order' : List ℕ) (outs' : List Outcome) (o : order' ≡ order) (u : outs' ≡ outs) where
-        abbrev shows : List PrintedRow
-        shows = rows_at (map label_of infos) (placed_at order' outs')
+      written : Put a c (titled gives suite placed all)
+      written =
+          let P : List ℕ → Type 0 = λ t. Put a c t in
+          let told : titled_told suite.printer infos desk ≡ titled_rows suite.printer infos (places_of desk.rows) gathered.outcomes =
+          ap (λ l. title_text suite.printer (length infos) ++ rows_text suite.printer (rows_at (map label_of infos) l)) gathered.rows in
+          subst P (told ∙ titled_same (places_of desk.rows) gathered.outcomes) rows
 
-        same : shows ≡ rows_of suite (placed_at order outs)
-        same = shown_rows order outs gathered order' outs' o u
+      abbrev shows : List PrintedRow
+      shows = rows_at (map label_of infos) desk.rows
 
+      same : shows ≡ rows_of suite placed
+      same = ap (rows_at (map label_of infos)) gathered.rows ∙ shown_rows (places_of desk.rows) gathered.outcomes gathered.gathered
+
+      module _ (d : Shown) where
         pub failures_refused : (w : Watched) (fault : WriteFault) → IsRunning w → Stopped c d (failures_text suite.printer shows) → ReportRefused gives threads suite a d w (Write fault)
         failures_refused w fault r s =
             let P : List PrintedRow → Type 0 = λ l. Stopped c d (failures_text suite.printer l) in
-            (places_of (placed_at order outs), all.places, in_some_order, some_thread, starts_failures gives suite (placed_at order outs) all a c d written w r (subst P same s))
+            (places_of placed, all.places, in_some_order, some_thread, starts_failures gives suite placed all a c d written w r (subst P same s))
 
-        module _ (failures : Put c d (failures_text suite.printer shows)) (x : Conclusion) (outs'' : List Outcome) (counted : x ≡ counts_of outs'' suite.filtered_out) (v : outs'' ≡ outs)
+        module _ (failures : Put c d (failures_text suite.printer shows)) (x : Conclusion) (counted : x ≡ counts_of (map (λ (row : Placed). row.1) desk.rows) suite.filtered_out)
             (f : Shown) (w : Watched) (nanos : ℕ) (time : elapsed_of w ≡ Some nanos) where
-          failed : Put c d (failures_text suite.printer (rows_of suite (placed_at order outs)))
+          failed : Put c d (failures_text suite.printer (rows_of suite placed))
           failed = let P : List PrintedRow → Type 0 = λ l. Put c d (failures_text suite.printer l) in subst P same failures
 
-          counts : x ≡ counts_of (outcomes_of (rows_of suite (placed_at order outs))) suite.filtered_out
-          counts = counted ∙ ap (λ l. counts_of l suite.filtered_out) v ∙ counts_placed (labels_of suite.trials) outs order suite.filtered_out (whole order outs gathered)
+          counts : x ≡ counts_of (outcomes_of (rows_of suite placed)) suite.filtered_out
+          counts =
+              let of : List Outcome → Conclusion = λ l. counts_of l suite.filtered_out in
+              counted ∙ ap (λ l. of (map (λ (row : Placed). row.1) l)) gathered.rows ∙ ap of (sym (outcomes_of-rows_at (labels_of suite.trials) placed))
 
           pub summary_refused : (fault : WriteFault) → Stopped d f (summary_text suite.printer x nanos) → ReportRefused gives threads suite a f w (Write fault)
           summary_refused fault s =
-              (places_of (placed_at order outs), all.places, in_some_order, some_thread, starts_summary gives suite (placed_at order outs) all a c d written failed f w nanos x counts time s)
+              (places_of placed, all.places, in_some_order, some_thread, starts_summary gives suite placed all a c d written failed f w nanos x counts time s)
 
           pub reported_by : nanos < 2 ^ 64 → Put d f (summary_text suite.printer x nanos) → ReportedBy gives threads suite a f w x
-          reported_by fits s = (placed_at order outs, in_some_order, some_thread, reported gives suite (placed_at order outs) all a c d written failed f w nanos x counts time fits s)
+          reported_by fits s = (placed, in_some_order, some_thread, reported gives suite placed all a c d written failed f w nanos x counts time fits s)

@@ -1,14 +1,14 @@
 -- What the rows of workers are: that they run the trials, what they returned, and what is refused.
-use Rattle.std.specs.Prelude.{◌≡◌, ◌<◌, ◌≤◌, ℕ, Bool, List, [], length, map, vec_capacity, vec_len}
+use Rattle.std.specs.Prelude.{◌≡◌, ◌<◌, ◌≤◌, ◌++◌, ℕ, Bool, List, [], length, map, Result, MatchResult, vec_capacity, vec_len}
 use Rattle.std.specs.List.{range_with_len}
 use Rattle.std.specs.List.Sorted.{IsPermutation}
 use Rattle.std.specs.declared.thread.PromisedHandle.{PromisedHandle}
 use Rattle.mimic_trial.specs.declared.outcome.Outcome.{Outcome}
 use Rattle.mimic_trial.specs.declared.trial.TestInfo.{TestInfo}
-use Rattle.mimic_trial.specs.Places.{placed_at}
+use Rattle.mimic_trial.specs.Places.{Placed, placed_at, places_of}
 use Rattle.mimic_trial.specs.Promise.{Gives}
 use Rattle.mimic_pool.specs.Arrivals.{AgreesAt, Arrived}
-use Rattle.mimic_pool.specs.Joined.{AreOutcomes, job_of, jobs_of}
+use Rattle.mimic_pool.specs.Joined.{AreOutcomes, job_of, jobs_of, put_each}
 use Rattle.mimic_pool.specs.Share.{IsDealt}
 use Rattle.mimic_pool.specs.declared.share.Assigned.{Assigned}
 use Rattle.mimic_pool.specs.declared.share.Share.{Share}
@@ -22,11 +22,13 @@ use Rattle.libtest_mimic.specs.declared.running.RunError.TheVariants.{OutOfMemor
 use Rattle.libtest_mimic.specs.declared.running.gathering.Started.{Started}
 use Rattle.libtest_mimic.specs.Run.{Follows}
 
--- nothing has arrived, and there is a place and room for an outcome of each of so many trials
+-- nothing has arrived, there is a place and room for an outcome of each of so many trials, and room for what each worker returns
 pub record IsReadyFor {R : Type 0} (started : Started R) (count : ℕ) : Type 0 where
   pub desk : started.desk ≡ record { places = count; rows = [] }
   pub empty : vec_len started.room ≡ 0
   pub fits : count ≤ vec_capacity started.room
+  pub none_joined : vec_len started.joined ≡ 0
+  pub fits_joined : vec_len started.handles ≤ vec_capacity started.joined
 
 -- the workers run these runners in this mode, one for each of so many trials, in shares that were dealt from them
 pub record RunRunners {R T : Type 0} (runners : List R) (flags : List Bool) (shares : List (Share R)) (test_mode : Bool)
@@ -49,6 +51,26 @@ pub record NamesDifference (desk : Arrived) (outcomes : List Outcome) (error : R
   pub differs : ¬ AgreesAt desk.rows outcomes place
   pub least : (earlier : ℕ) → earlier < place → AgreesAt desk.rows outcomes earlier
 
+-- each place has its row: those that had arrived stand first, and each has the outcome that the workers returned, if these were put
+-- over some outcomes, one for each place
+pub record IsCompleted (old : Arrived) (joined : List (List Placed)) (new : Arrived) : Type 0 where
+  pub outcomes : List Outcome
+  pub count : length outcomes ≡ old.places
+  pub missing : List Placed
+  pub rows : new.rows ≡ old.rows ++ missing
+  pub returned : new.rows ≡ placed_at (places_of new.rows) (put_each joined outcomes)
+  pub whole : IsPermutation (places_of new.rows) (range_with_len 0 old.places)
+
+-- something else arrived than the workers returned
+pub record IsDifference (desk : Arrived) (joined : List (List Placed)) (error : RunError) : Type 0 where
+  pub outcomes : List Outcome
+  pub count : length outcomes ≡ desk.places
+  pub named : NamesDifference desk (put_each joined outcomes) error
+
+-- the desk was completed with what the workers returned, unless something else had arrived
+abbrev pub Completes : {T : Type 0} → Arrived → List (List Placed) → Arrived → Result T RunError → Type 0
+Completes old joined new result = MatchResult result (λ _. IsCompleted old joined new) (IsDifference old joined)
+
 -- rows are refused for a write fault, or for an outcome that isn't the one that arrived
 abbrev pub IsOfRows : RunError → Type 0
 IsOfRows OutOfMemory = ⊥
@@ -62,6 +84,12 @@ module _ {R : Type 0} (gives : Gives R) (test_mode : Bool) (items : List (Assign
   pub record Gathered (order : List ℕ) (outcomes : List Outcome) : Type 0 where
     pub answered : AreOutcomes gives test_mode items outcomes
     pub whole : IsPermutation order (range_with_len 0 (length items))
+
+  -- an outcome of each item arrived at its place, and each place once
+  pub record IsGathered (desk : Arrived) : Type 0 where
+    pub outcomes : List Outcome
+    pub gathered : Gathered (places_of desk.rows) outcomes
+    pub rows : desk.rows ≡ placed_at (places_of desk.rows) outcomes
 
   -- what stands after rows were refused: if a write failed, a beginning of the rows of what the workers returned
   abbrev pub GatheringRefused : Printer → List TestInfo → Shown → Shown → RunError → Type 0

@@ -10,6 +10,7 @@ ghost use Rattle.libtest_mimic.specs.Stopwatch.{IsFresh, IsRunning};
 ghost use Rattle.libtest_mimic.specs.Suite.{OfSuite, asking};
 
 mod arrivals;
+mod desk_rows;
 pub(crate) mod gathering;
 mod in_order;
 mod in_workers;

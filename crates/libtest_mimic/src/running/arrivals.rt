@@ -1,9 +1,9 @@
 //! Writes rows as workers report them.
-ghost use Rattle.std.specs.Prelude.{◌≡◌, ◌-◌, ◌^◌, ◌<◌, All, OnOk, length, map};
-ghost use Rattle.mimic_printer.specs.Report.{row_text, rows_text};
-ghost use Rattle.mimic_printer.specs.Row.{label_of, row_of, rows_at};
+ghost use Rattle.std.specs.Prelude.{◌≡◌, ◌-◌, ◌^◌, ◌<◌, ◌≤◌, All, OnOk, drop, length, map};
+ghost use Rattle.mimic_printer.specs.Report.{rows_text};
+ghost use Rattle.mimic_printer.specs.Row.{label_of, rows_at};
 ghost use Rattle.mimic_printer.specs.Sink.{HasFaultLeft, Put, Puts, Shown, Writes, faults_of, shown};
-ghost use Rattle.mimic_trial.specs.Places.{placed_at};
+ghost use Rattle.mimic_trial.specs.Places.{places_of};
 ghost use Rattle.libtest_mimic.specs.Steps.{told_text};
 
 use mimic_pool::{Arrival, Desk, Inbox};
@@ -65,22 +65,25 @@ fn write_arrival<W: Write>(
     }
 }
 
-// Writes the rows of these places, which did not arrive.
+// Writes the rows from this number on, which arrived after the workers were joined.
 pub(super) fn write_missing<W: Write>(
     printer: &Printer,
     infos: &[TestInfo],
-    places: &[usize],
-    outcomes: &[Outcome],
+    desk: &Desk,
+    first: usize,
     sink: &mut Sink<W>,
 ) -> Result<(), WriteFault>
-    requires places { All (λ place. place < length infos.now) places.now }
-    requires lengths { length infos.now ≡ length outcomes.now }
+    requires places { All (λ place. place < length infos.now) (places_of desk.now.rows) }
+    requires first { first ≤ length desk.now.rows }
     requires room { HasFaultLeft sink.old }
     ensures { Puts W.contents sink.old sink.new
-        (rows_text printer.now (rows_at (map label_of infos.now) (placed_at places.now outcomes.now))) result }
+        (rows_text printer.now (rows_at (map label_of infos.now) (drop first desk.now.rows))) result }
 {
-    for place in places {
-        printer.print_row(sink, &infos[*place], &outcomes[*place])?;
+    for number in first..desk.order().len() {
+        let Some((place, outcome)) = desk.row(number) else {
+            unreachable!()
+        };
+        printer.print_row(sink, &infos[place], outcome)?;
     }
     Ok(())
 }

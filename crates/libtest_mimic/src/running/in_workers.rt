@@ -3,12 +3,13 @@ ghost use Rattle.std.specs.Prelude.{◌≡◌, ◌≢◌, ◌-◌, ◌^◌, ◌<
 ghost use Rattle.mimic_printer.specs.Sink.{HasFaultLeft, Put, faults_of, shown};
 ghost use Rattle.mimic_trial.specs.Trial.{AllCanRun};
 ghost use Rattle.mimic_pool.specs.Share.{AllRunners, IsDealt, assigned_from};
-ghost use Rattle.libtest_mimic.specs.Gathering.{Gathered};
+ghost use Rattle.libtest_mimic.specs.Gathering.{IsGathered};
 ghost use Rattle.libtest_mimic.specs.Run.{OnNothingWritten, Reports};
-ghost use Rattle.libtest_mimic.specs.Steps.{AreDealt, RowsRefused, selected_suite, titled_rows};
+ghost use Rattle.libtest_mimic.specs.Steps.{AreDealt, RowsRefused, selected_suite, titled_told};
 ghost use Rattle.libtest_mimic.specs.Stopwatch.{IsRunning};
 
 use crate::running::RunError;
+use crate::running::desk_rows::{DeskRows, count_outcomes};
 use crate::running::gathering::{Started, gather_rows};
 use crate::running::selection::Selection;
 use crate::running::summary::write_summary;
@@ -19,7 +20,7 @@ use mimic_pool::{
     Desk, Inbox, Share, Spawner, deal_next, empty_shares, join_all, prepare, start_all,
 };
 use mimic_printer::{Printer, Sink};
-use mimic_trial::{Conclusion, Outcome, Task, TestInfo, Trial, count_rows};
+use mimic_trial::{Conclusion, Task, TestInfo, Trial};
 use std::alloc::{AllocError, Global};
 use std::io::Write;
 
@@ -49,10 +50,9 @@ pub(super) fn run_in_workers<R: Task + Send + 'static, W: Write, C: Clock, T: Sp
     } = selected;
     let workers = threads.min(trials.len());
     let (infos, dealt) = take_apart(alloc, args, trials, workers)?;
-    let infos = infos.as_slice();
-    let (order, outcomes) = write_rows(rt, &printer, infos, dealt, !args.bench, sink)?;
-    printer.print_failures(sink, infos, &order, &outcomes)?;
-    let conclusion = count_rows(&outcomes, filtered_out);
+    let desk = write_rows(rt, &printer, &infos, dealt, !args.bench, sink)?;
+    printer.print_failures_in(sink, &DeskRows { infos: &infos, desk: &desk })?;
+    let conclusion = count_outcomes(&desk, filtered_out);
     write_summary(&printer, &conclusion, sink, watch)?;
     Ok(conclusion)
 }
@@ -88,8 +88,7 @@ fn take_apart<R: Drop>(
     Ok((infos, Dealt { alloc, shares }))
 }
 
-// Runs each share in a worker, and writes the title and the rows. Returns the order of the rows and the outcome at each
-// place.
+// Runs each share in a worker, and writes the title and the rows. Returns the desk where they arrived.
 //
 // All memory is taken before the title, except for copies of messages and for the threads.
 fn write_rows<R: Task + Send + 'static, W: Write, T: Spawner + 'static>(
@@ -99,7 +98,7 @@ fn write_rows<R: Task + Send + 'static, W: Write, T: Spawner + 'static>(
     dealt: Dealt<R>,
     test_mode: bool,
     sink: &mut Sink<W>,
-) -> Result<(Vec<usize>, Vec<Outcome>), RunError>
+) -> Result<Desk, RunError>
     requires room { HasFaultLeft sink.old }
     requires some_worker { 1 ≤ vec_len dealt.shares }
     requires runnable { All (λ share. AllRunners R.can_run share) dealt.shares.items }
@@ -107,8 +106,8 @@ fn write_rows<R: Task + Send + 'static, W: Write, T: Spawner + 'static>(
         → length flags ≡ length infos.now
         → IsDealt runners flags (vec_len dealt.shares) dealt.shares.items
         → MatchResult result
-        (λ rows. Gathered R.gives test_mode (assigned_from 0 runners flags) rows.0.items rows.1.items
-        × Put (shown W.contents sink.old) (shown W.contents sink.new) (titled_rows printer.now infos.now rows.0.items rows.1.items))
+        (λ desk. IsGathered R.gives test_mode (assigned_from 0 runners flags) desk
+        × Put (shown W.contents sink.old) (shown W.contents sink.new) (titled_told printer.now infos.now desk))
         (λ e. RowsRefused R.gives test_mode (assigned_from 0 runners flags) printer.now infos.now
         (shown W.contents sink.old) (shown W.contents sink.new) e) }
     ensures unwritten { OnNothingWritten result (sink.new ≡ sink.old) }
@@ -119,12 +118,13 @@ fn write_rows<R: Task + Send + 'static, W: Write, T: Spawner + 'static>(
     let starts = prepare(alloc, shares, &inbox)?;
     let handles = Vec::with_capacity(alloc, starts.len())?;
     let desk = Desk::new(alloc, count)?;
+    let joined = Vec::with_capacity(alloc, starts.len())?;
     let room = Vec::with_capacity(alloc, count)?;
     printer.print_title(sink, count as u64)?;
     let handles = match start_all(rt, alloc, starts, test_mode, handles) {
         Ok(handles) => handles,
         Err(started) => {
-            join_all(rt, started, room);
+            join_all(rt, started, joined);
             return Err(RunError::Spawn);
         }
     };
@@ -132,6 +132,7 @@ fn write_rows<R: Task + Send + 'static, W: Write, T: Spawner + 'static>(
         inbox,
         handles,
         desk,
+        joined,
         room,
     };
     gather_rows(rt, printer, infos, started, sink)

@@ -21,7 +21,7 @@ returns-clause-rows g c = λ rs bs runners flags dealt.
       dealt = subst (λ (k : ℕ). IsDealt rs bs k c.args.dealt.shares.items) c.args.dealt.shares.ok.0 dealt;
       started = started;
     }))
-    (λ written rows. titled_all g.R.Task.gives c.args.test_mode (assigned_from 0 rs bs) c.args.printer.now c.args.infos.now _ _ _ _ refl c.in_ok-print_title.ensures written.0.items written.1.items rows)
+    (λ desk rows. titled_all g.R.Task.gives c.args.test_mode (assigned_from 0 rs bs) c.args.printer.now c.args.infos.now _ _ _ _ refl c.in_ok-print_title.ensures desk rows)
     (λ e refused. after_title g.R.Task.gives c.args.test_mode (assigned_from 0 rs bs) c.args.printer.now c.args.infos.now _ _ _ _ refl c.in_ok-print_title.ensures e refused)
 
 pub returns-clause-unwritten : goal.returns-clause-unwritten
