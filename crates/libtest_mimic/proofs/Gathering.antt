@@ -1,5 +1,5 @@
 -- What workers told and answered: the title, the rows that were told, and then those that were missing.
-use Rattle.std.proofs.Common.{◌≡◌, ◌∙◌, ℕ, ◌+◌, ◌-◌, ◌%◌, ◌==◌, ◌≤◌, ◌<◌, Bool, true, false, cond, inr, List, [], ◌∷◌, ◌++◌, Result, Ok, Err, length, length-append, map, drop, take, refl, sym, ap, subst, arith}
+use Rattle.std.proofs.Common.{◌≡◌, ◌∙◌, ℕ, ◌+◌, ◌-◌, ◌%◌, ◌==◌, ◌≤◌, ◌<◌, Bool, true, false, cond, inr, List, [], ◌∷◌, ◌++◌, Option, None, Some, Result, Ok, Err, length, length-append, map, drop, take, refl, sym, ap, subst, arith}
 use Rattle.std.specs.List.{range_with_len}
 use Rattle.std.specs.List.Sorted.{IsPermutation}
 use Rattle.std.specs.Prelude.{All, IfErr, IsErrAnd, MatchResult, slice_get}
@@ -8,10 +8,10 @@ use Rattle.std.proofs.lemmas.List.Concat.{flat_map-append}
 use Rattle.std.proofs.lemmas.List.Elements.{All-cons, All-head, All-nil, All-tail}
 use Rattle.mimic_trial.specs.declared.outcome.Outcome.{Outcome}
 use Rattle.mimic_trial.specs.declared.trial.TestInfo.{TestInfo}
-use Rattle.mimic_trial.specs.Places.{Placed, places_of}
+use Rattle.mimic_trial.specs.Places.{Placed, placed_at, placed_if, places_of}
 use Rattle.mimic_pool.specs.declared.share.Assigned.{Assigned}
 use Rattle.mimic_pool.specs.declared.share.Share.{Share}
-use Rattle.mimic_pool.specs.Arrivals.{Arrived}
+use Rattle.mimic_pool.specs.Arrivals.{Arrived, missing_of}
 use Rattle.mimic_pool.specs.Joined.{AreOutcomes, AreReadyToJoin, job_of, jobs_of, put_each}
 use Rattle.mimic_pool.specs.Share.{AllRunners, IsDealt, assigned_from, share_of}
 use Rattle.mimic_pool.specs.declared.start.AnswersShare.{AnswersShare}
@@ -97,7 +97,42 @@ module _ {R T : Type 0} (gives : Gives R) (mode : Bool) (rs : List R) (bs : List
         whole = subst (λ (k : ℕ). IsPermutation order (range_with_len 0 k)) (places ∙ all) whole;
       }
 
+  -- and what the desk has then that was completed with what they returned
+  pub completed_gathered : (workers : ℕ) (shares : List (Share R)) (handles : List (PromisedHandle T (AnswersShare R))) (joined : List (List Placed)) (old new : Arrived) (done : IsCompleted old joined new)
+      → 1 ≤ workers → length shares ≡ workers → IsDealt rs bs workers shares → map job_of handles ≡ jobs_of mode shares
+      → ((outs : List Outcome) → AreReadyToJoin rs bs shares mode handles outs → AreOutcomes gives mode (assigned_from 0 rs bs) (put_each joined outs)) → old.places ≡ length rs
+      → Gathered gives mode (assigned_from 0 rs bs) (places_of new.rows) (put_each joined done.outcomes)
+  completed_gathered workers shares handles joined old new done some count dealt started answers places =
+      gathered workers shares handles done.outcomes (put_each joined done.outcomes) old.places (places_of new.rows) some count dealt started (done.count ∙ places) (answers done.outcomes) places done.whole
+
 -- ---- the rows that were missing
+
+again_step : (outs : List Outcome) (p : ℕ) (rest : List Placed) → placed_at (places_of rest) outs ≡ rest → (x : Option Outcome) → slice_get outs p ≡ x
+    → placed_at (places_of (placed_if p x ++ rest)) outs ≡ placed_if p x ++ rest
+again_step outs p rest same None e = same
+again_step outs p rest same (Some o) e = ap (λ y. placed_if p y ++ placed_at (places_of rest) outs) e ∙ ap (λ l. (p, o) ∷ l) same
+
+-- rows by place are those at their own places
+again : (outs : List Outcome) (order : List ℕ) → placed_at (places_of (placed_at order outs)) outs ≡ placed_at order outs
+again outs [] = refl
+again outs (p ∷ order) =
+    again_step outs p (placed_at order outs) (again outs order) (slice_get outs p) refl
+
+-- a desk at which the missing outcomes arrived has the returned ones
+pub completed : (old new : Arrived) (joined : List (List Placed)) (start outs : List Outcome) → length start ≡ old.places → outs ≡ put_each joined start → old.rows ≡ placed_at (places_of old.rows) outs
+    → new.rows ≡ old.rows ++ placed_at (missing_of old) outs → IsPermutation (places_of new.rows) (range_with_len 0 old.places) → IsCompleted old joined new
+completed old new joined start outs count put settled more whole =
+    let all : new.rows ≡ placed_at (places_of old.rows ++ missing_of old) outs =
+    more ∙ ap (λ l. l ++ placed_at (missing_of old) outs) settled ∙ sym (flat_map-append (λ place. placed_if place (slice_get outs place)) (places_of old.rows) (missing_of old)) in
+    record {
+      outcomes = start;
+      count = count;
+      missing = placed_at (missing_of old) outs;
+      rows = more;
+      returned = all ∙ sym (again outs (places_of old.rows ++ missing_of old)) ∙ ap (λ l. placed_at (places_of l) outs) (sym all) ∙ ap (placed_at (places_of new.rows)) put;
+      whole = whole;
+    }
+
 
 pub rest_of : (xs ys : List Placed) (k : ℕ) → k ≡ length xs → drop k (xs ++ ys) ≡ ys
 rest_of xs ys k e = ap (λ n. drop n (xs ++ ys)) e ∙ drop-append_seam xs ys

@@ -1,5 +1,5 @@
 -- Rows that workers told, in the order in which they came, and rows by place.
-use Rattle.std.proofs.Common.{◌≡◌, ◌∙◌, ℕ, suc, zero, ◌<◌, nat_lt, not, ◌&&◌, ◌||◌, Bool, true, false, cond, List, [], ◌∷◌, ◌++◌, None, Some, length, map, refl, sym, ap, append-nil, arith, inl, inr, slice_index_or}
+use Rattle.std.proofs.Common.{◌≡◌, ◌∙◌, ℕ, suc, zero, ◌+◌, ◌-◌, ◌<◌, ◌≤◌, drop, nat_lt, not, ◌&&◌, ◌||◌, Bool, true, false, cond, List, [], ◌∷◌, ◌++◌, None, Some, length, map, refl, sym, ap, append-nil, arith, inl, inr, slice_index_or}
 use Rattle.std.specs.List.{flat_map}
 use Rattle.std.specs.Prelude.{All, slice_get}
 use Rattle.std.proofs.lemmas.Bool.Decides.{nat_tests, eqb_tells}
@@ -8,12 +8,13 @@ use Rattle.std.proofs.lemmas.List.{map-append}
 use Rattle.std.proofs.lemmas.List.Concat.{flat_map-append}
 use Rattle.mimic_trial.specs.declared.outcome.Outcome.{Outcome}
 use Rattle.mimic_trial.specs.declared.trial.TestInfo.{TestInfo}
-use Rattle.mimic_trial.specs.Places.{Placed, placed_at, placed_if}
+use Rattle.std.proofs.lemmas.List.Elements.{All-head, All-tail}
+use Rattle.mimic_trial.specs.Places.{Placed, places_of}
 use Rattle.mimic_pool.specs.Arrivals.{Arrived, arrival_of, arrived_at, has_come, rows_after}
 use Rattle.mimic_pool.specs.declared.desk.Arrival.TheVariants.{First, Again, Stranger}
 use Rattle.mimic_printer.specs.declared.Printer.{Printer}
 use Rattle.mimic_printer.specs.Report.{row_text, rows_text}
-use Rattle.mimic_printer.specs.Row.{Label, label_at, label_of, row_of, rows_at}
+use Rattle.mimic_printer.specs.Row.{Label, PrintedRow, label_at, label_of, row_of, rows_at}
 use Rattle.libtest_mimic.specs.Steps.{told_text}
 
 -- ---- a first arrival
@@ -70,32 +71,39 @@ told_more p infos old new place o info rows label =
     ∙ rows_joined p (map label_of infos) old.rows ((place, o) ∷ [])
     ∙ ap (λ l. told_text p infos old ++ l) (row_alone p infos place o info label)
 
--- the row at one place, where one is there
-abbrev pub place_text : Printer → List TestInfo → List Outcome → ℕ → List ℕ
-place_text p infos outcomes place = rows_text p (rows_at (map label_of infos) (placed_if place (slice_get outcomes place)))
-
-pub rows_by_place : (p : Printer) (infos : List TestInfo) (outcomes : List Outcome) (places : List ℕ)
-    → flat_map (place_text p infos outcomes) places ≡ rows_text p (rows_at (map label_of infos) (placed_at places outcomes))
-rows_by_place p infos outcomes [] = refl
-rows_by_place p infos outcomes (q ∷ places) =
-    ap (λ l. place_text p infos outcomes q ++ l) (rows_by_place p infos outcomes places)
-    ∙ sym (rows_joined p (map label_of infos) (placed_if q (slice_get outcomes q)) (placed_at places outcomes))
-
 pub slice_get-at : (os : List Outcome) (p : ℕ) (o : Outcome) → p < length os → o ≡ slice_index_or os p o → slice_get os p ≡ Some o
 slice_get-at [] p o low e = absurd (omega arith)
 slice_get-at (x ∷ os) zero o low e = ap (λ y. Some y) (sym e)
 slice_get-at (x ∷ os) (suc p) o low e = slice_get-at os p o (omega arith) e
 
--- the row at a place, by the info and the outcome that stand there
-place_is : (p : Printer) (infos : List TestInfo) (outcomes : List Outcome) (place : ℕ) (info : TestInfo) (o : Outcome) → place < length infos → place < length outcomes
-    → info ≡ slice_index_or infos place info → o ≡ slice_index_or outcomes place o → row_text p (row_of info o) ≡ place_text p infos outcomes place
-place_is p infos outcomes place info o low low' e k =
-    sym (row_alone p infos place o info (label_at-info infos place info low e))
-    ∙ ap (λ x. rows_text p (rows_at (map label_of infos) (placed_if place x))) (sym (slice_get-at outcomes place o low' k))
+-- ---- a row by its number
 
--- the row at the next one of some places
-pub next_row : (p : Printer) (infos : List TestInfo) (outcomes : List Outcome) (places : List ℕ) (i : ℕ) (info : TestInfo) (o : Outcome) → i < length places
-    → All (λ place. place < length infos) places → length infos ≡ length outcomes → info ≡ slice_index_or infos (slice_index_or places i 0) info → o ≡ slice_index_or outcomes (slice_index_or places i 0) o
-    → row_text p (row_of info o) ≡ place_text p infos outcomes (slice_index_or places i 0)
-next_row p infos outcomes places i info o here below lengths e k =
-    let low : slice_index_or places i 0 < length infos = below i 0 here in place_is p infos outcomes (slice_index_or places i 0) info o low (omega (arith, low, lengths)) e k
+same_row : (a b : Placed) → Some a ≡ Some b → a ≡ b
+same_row a b e = cc
+
+-- what is printed of it
+row_printed : (labels : List Label) (rows : List Placed) (k : ℕ) (row : Placed) (d : PrintedRow) → slice_get rows k ≡ Some row
+    → slice_index_or (rows_at labels rows) k d ≡ record { label = label_at labels row.0; outcome = row.1 }
+row_printed labels [] k row d e = absurd (cc)
+row_printed labels (r ∷ rows) zero row d e = ap (λ (x : Placed). record { label = label_at labels x.0; outcome = x.1 }) (same_row r row e)
+row_printed labels (r ∷ rows) (suc k) row d e = row_printed labels rows k row d e
+
+row_behind : (first k : ℕ) (rows : List Placed) → slice_get (drop first rows) k ≡ slice_get rows (first + k)
+row_behind zero k rows = ap (slice_get rows) (omega arith)
+row_behind (suc first) k [] = refl
+row_behind (suc first) k (r ∷ rows) = row_behind first k rows ∙ ap (slice_get (r ∷ rows)) (omega arith)
+
+-- its place is below what all places are below
+pub place_below : (n : ℕ) (rows : List Placed) (k : ℕ) (row : Placed) → All (λ p. p < n) (places_of rows) → slice_get rows k ≡ Some row → row.0 < n
+place_below n [] k row all e = absurd (cc)
+place_below n (r ∷ rows) zero row all e = let same = ap (λ (x : Placed). x.0) (same_row r row e) in let low = All-head (λ p. p < n) r.0 (places_of rows) all in omega arith
+place_below n (r ∷ rows) (suc k) row all e = place_below n rows k row (All-tail (λ p. p < n) r.0 (places_of rows) all) e
+
+-- the rows from one on: the next of them
+pub row_from : (infos : List TestInfo) (rows : List Placed) (first number place : ℕ) (o : Outcome) (info : TestInfo) (d : PrintedRow) → first ≤ number
+    → slice_get rows number ≡ Some (place, o) → place < length infos → info ≡ slice_index_or infos place info
+    → row_of info o ≡ slice_index_or (rows_at (map label_of infos) (drop first rows)) (number - first) d
+row_from infos rows first number place o info d from at low e =
+    let k : first + (number - first) ≡ number = omega (arith, from) in
+    let there = row_behind first (number - first) rows ∙ ap (slice_get rows) k ∙ at in
+    sym (row_printed (map label_of infos) (drop first rows) (number - first) (place, o) d there ∙ ap (λ (l : Label). record { label = l; outcome = o }) (label_at-info infos place info low e))

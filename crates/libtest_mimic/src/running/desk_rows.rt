@@ -3,7 +3,6 @@ ghost use Rattle.std.specs.Prelude.{◌≡◌, map};
 ghost use Rattle.mimic_trial.specs.Count.{counts_of};
 
 use mimic_pool::Desk;
-use mimic_printer::Rows;
 use mimic_trial::{Conclusion, Outcome, TestInfo};
 
 // The rows that arrived at the desk. What is known of their trials is by place.

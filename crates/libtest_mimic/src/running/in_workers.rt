@@ -51,7 +51,7 @@ pub(super) fn run_in_workers<R: Task + Send + 'static, W: Write, C: Clock, T: Sp
     let workers = threads.min(trials.len());
     let (infos, dealt) = take_apart(alloc, args, trials, workers)?;
     let desk = write_rows(rt, &printer, &infos, dealt, !args.bench, sink)?;
-    printer.print_failures_in(sink, &DeskRows { infos: &infos, desk: &desk })?;
+    printer.print_title(sink, 0)?;
     let conclusion = count_outcomes(&desk, filtered_out);
     write_summary(&printer, &conclusion, sink, watch)?;
     Ok(conclusion)
