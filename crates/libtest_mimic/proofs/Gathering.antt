@@ -19,7 +19,7 @@ use Rattle.std.specs.declared.thread.PromisedHandle.{PromisedHandle}
 use Rattle.mimic_trial.specs.Promise.{Gives}
 use Rattle.mimic_printer.specs.declared.Printer.{Printer}
 use Rattle.mimic_printer.specs.Report.{rows_text, title_text}
-use Rattle.mimic_printer.specs.Row.{label_of, rows_at}
+use Rattle.mimic_printer.specs.Row.{Label, label_at, label_of, rows_at}
 use Rattle.mimic_printer.specs.Sink.{Put, Shown, Stopped, Writes}
 use Rattle.std.proofs.KnownBytes.{Appends-trans}
 use Rattle.mimic_printer.proofs.Appending.{Put-Stopped, Put-refl, Put-trans, Stopped-more}
@@ -29,7 +29,8 @@ use Rattle.libtest_mimic.specs.declared.running.RunError.TheVariants.{OutOfMemor
 use Rattle.libtest_mimic.specs.Gathering.{Gathered, GatheringRefused, IsCompleted, IsDifference, IsGathered, IsOfRows, rows_text_of}
 use Rattle.libtest_mimic.specs.Steps.{RowsRefused, titled_told, told_text}
 use Rattle.libtest_mimic.proofs.Arranged.{length_assigned}
-use Rattle.libtest_mimic.proofs.Told.{rows_joined}
+use Rattle.std.proofs.lemmas.List.{map-append}
+use Rattle.libtest_mimic.proofs.Told.{count_rows_at, rows_joined}
 
 -- an answer that is this error
 pub on_error : {T E : Type 0} (r : Result T E) (error : E) (P : T → Type 0) (Q : E → Type 0) → IsErrAnd r (λ e. e ≡ error) → Q error → MatchResult r P Q
@@ -134,8 +135,11 @@ completed old new joined start outs count put settled more whole =
     }
 
 
-pub rest_of : (xs ys : List Placed) (k : ℕ) → k ≡ length xs → drop k (xs ++ ys) ≡ ys
-rest_of xs ys k e = ap (λ n. drop n (xs ++ ys)) e ∙ drop-append_seam xs ys
+rest_of : (labels : List Label) (xs ys : List Placed) (k : ℕ) → k ≡ length xs → drop k (rows_at labels (xs ++ ys)) ≡ rows_at labels ys
+rest_of labels xs ys k e =
+    ap (λ n. drop n (rows_at labels (xs ++ ys))) (e ∙ sym (count_rows_at labels xs))
+    ∙ ap (drop (length (rows_at labels xs))) (map-append (λ (q : Placed). record { label = label_at labels q.0; outcome = q.1 }) xs ys)
+    ∙ drop-append_seam (rows_at labels xs) (rows_at labels ys)
 
 -- ---- the texts
 
@@ -165,10 +169,10 @@ module _ (p : Printer) (infos : List TestInfo) (old new : Arrived) (joined : Lis
 
     module _ (c : Shown) (told : Put a b (told_text p infos old)) (k : ℕ) (count : k ≡ length old.rows) where
       abbrev pub text_from : List ℕ
-      text_from = rows_text p (rows_at (map label_of infos) (drop k new.rows))
+      text_from = rows_text p (drop k (rows_at (map label_of infos) new.rows))
 
       is_missing : text_from ≡ missing_text
-      is_missing = ap (λ l. rows_text p (rows_at (map label_of infos) l)) (ap (drop k) done.rows ∙ rest_of old.rows done.missing k count)
+      is_missing = ap (rows_text p) (ap (λ l. drop k (rows_at (map label_of infos) l)) done.rows ∙ rest_of (map label_of infos) old.rows done.missing k count)
 
       -- a fault in a row that was missing
       pub stopped_missing : Stopped b c text_from → Stopped a c returned_text

@@ -4,7 +4,7 @@ use Rattle.std.specs.List.{flat_map}
 use Rattle.std.specs.Prelude.{All, slice_get}
 use Rattle.std.proofs.lemmas.Bool.Decides.{nat_tests, eqb_tells}
 use Rattle.std.proofs.lemmas.Bool.{eq-eqb}
-use Rattle.std.proofs.lemmas.List.{map-append}
+use Rattle.std.proofs.lemmas.List.{length-map, map-append}
 use Rattle.std.proofs.lemmas.List.Concat.{flat_map-append}
 use Rattle.mimic_trial.specs.declared.outcome.Outcome.{Outcome}
 use Rattle.mimic_trial.specs.declared.trial.TestInfo.{TestInfo}
@@ -81,17 +81,29 @@ slice_get-at (x ∷ os) (suc p) o low e = slice_get-at os p o (omega arith) e
 same_row : (a b : Placed) → Some a ≡ Some b → a ≡ b
 same_row a b e = cc
 
--- what is printed of it
-row_printed : (labels : List Label) (rows : List Placed) (k : ℕ) (row : Placed) (d : PrintedRow) → slice_get rows k ≡ Some row
-    → slice_index_or (rows_at labels rows) k d ≡ record { label = label_at labels row.0; outcome = row.1 }
-row_printed labels [] k row d e = absurd (cc)
-row_printed labels (r ∷ rows) zero row d e = ap (λ (x : Placed). record { label = label_at labels x.0; outcome = x.1 }) (same_row r row e)
-row_printed labels (r ∷ rows) (suc k) row d e = row_printed labels rows k row d e
+got : (rows : List PrintedRow) (k : ℕ) (row d : PrintedRow) → slice_get rows k ≡ Some row → row ≡ slice_index_or rows k d
+got [] k row d e = absurd (cc)
+got (r ∷ rows) zero row d e = let same : Some row ≡ Some r = sym e in cc
+got (r ∷ rows) (suc k) row d e = got rows k row d e
 
-row_behind : (first k : ℕ) (rows : List Placed) → slice_get (drop first rows) k ≡ slice_get rows (first + k)
-row_behind zero k rows = ap (slice_get rows) (omega arith)
-row_behind (suc first) k [] = refl
-row_behind (suc first) k (r ∷ rows) = row_behind first k rows ∙ ap (slice_get (r ∷ rows)) (omega arith)
+got_from : (first k : ℕ) (rows : List PrintedRow) (row d : PrintedRow) → first ≤ k → slice_get rows k ≡ Some row → row ≡ slice_index_or (drop first rows) (k - first) d
+got_from zero k rows row d from e = let same : k ≡ k - 0 = omega arith in got rows k row d e ∙ ap (λ n. slice_index_or rows n d) same
+got_from (suc first) k [] row d from e = absurd (cc)
+got_from (suc first) zero (r ∷ rows) row d from e = absurd (omega arith)
+got_from (suc first) (suc k) (r ∷ rows) row d from e =
+    let same : k - first ≡ suc k - suc first = omega arith in got_from first k rows row d (omega arith) e ∙ ap (λ n. slice_index_or (drop first rows) n d) same
+
+-- what is printed of it
+abbrev printed : List Label → Placed → PrintedRow
+printed labels row = record { label = label_at labels row.0; outcome = row.1 }
+
+row_printed : (labels : List Label) (rows : List Placed) (k : ℕ) (row : Placed) → slice_get rows k ≡ Some row → slice_get (rows_at labels rows) k ≡ Some (printed labels row)
+row_printed labels [] k row e = absurd (cc)
+row_printed labels (r ∷ rows) zero row e = ap (λ (x : Placed). Some (printed labels x)) (same_row r row e)
+row_printed labels (r ∷ rows) (suc k) row e = row_printed labels rows k row e
+
+pub count_rows_at : (labels : List Label) (rows : List Placed) → length (rows_at labels rows) ≡ length rows
+count_rows_at labels rows = length-map rows (printed labels)
 
 -- its place is below what all places are below
 pub place_below : (n : ℕ) (rows : List Placed) (k : ℕ) (row : Placed) → All (λ p. p < n) (places_of rows) → slice_get rows k ≡ Some row → row.0 < n
@@ -99,11 +111,20 @@ place_below n [] k row all e = absurd (cc)
 place_below n (r ∷ rows) zero row all e = let same = ap (λ (x : Placed). x.0) (same_row r row e) in let low = All-head (λ p. p < n) r.0 (places_of rows) all in omega arith
 place_below n (r ∷ rows) (suc k) row all e = place_below n rows k row (All-tail (λ p. p < n) r.0 (places_of rows) all) e
 
--- the rows from one on: the next of them
-pub row_from : (infos : List TestInfo) (rows : List Placed) (first number place : ℕ) (o : Outcome) (info : TestInfo) (d : PrintedRow) → first ≤ number
-    → slice_get rows number ≡ Some (place, o) → place < length infos → info ≡ slice_index_or infos place info
-    → row_of info o ≡ slice_index_or (rows_at (map label_of infos) (drop first rows)) (number - first) d
-row_from infos rows first number place o info d from at low e =
-    let k : first + (number - first) ≡ number = omega (arith, from) in
-    let there = row_behind first (number - first) rows ∙ ap (slice_get rows) k ∙ at in
-    sym (row_printed (map label_of infos) (drop first rows) (number - first) (place, o) d there ∙ ap (λ (l : Label). record { label = l; outcome = o }) (label_at-info infos place info low e))
+-- its outcome is the one of its number
+pub outcome_of_row : (rows : List Placed) (k : ℕ) (row : Placed) → slice_get rows k ≡ Some row → row.1 ≡ slice_index_or (map (λ (r : Placed). r.1) rows) k row.1
+outcome_of_row [] k row e = absurd (cc)
+outcome_of_row (r ∷ rows) zero row e = ap (λ (x : Placed). x.1) (sym (same_row r row e))
+outcome_of_row (r ∷ rows) (suc k) row e = outcome_of_row rows k row e
+
+module _ (infos : List TestInfo) (rows : List Placed) (number place : ℕ) (o : Outcome) (info : TestInfo) (at : slice_get rows number ≡ Some (place, o)) (low : place < length infos)
+    (is : info ≡ slice_index_or infos place info) where
+  -- it is printed by the info of its place
+  pub row_by_info : slice_get (rows_at (map label_of infos) rows) number ≡ Some (row_of info o)
+  row_by_info =
+      row_printed (map label_of infos) rows number (place, o) at
+      ∙ ap (λ (l : Label). Some (record { label = l; outcome = o })) (label_at-info infos place info low is)
+
+  -- also among the rows from one on
+  pub row_from : (first : ℕ) (d : PrintedRow) → first ≤ number → row_of info o ≡ slice_index_or (drop first (rows_at (map label_of infos) rows)) (number - first) d
+  row_from first d from = got_from first number (rows_at (map label_of infos) rows) (row_of info o) d from row_by_info

@@ -77,7 +77,7 @@ pub(super) fn write_missing<W: Write>(
     requires first { first ≤ length desk.now.rows }
     requires room { HasFaultLeft sink.old }
     ensures { Puts W.contents sink.old sink.new
-        (rows_text printer.now (rows_at (map label_of infos.now) (drop first desk.now.rows))) result }
+        (rows_text printer.now (drop first (rows_at (map label_of infos.now) desk.now.rows))) result }
 {
     for number in first..desk.order().len() {
         let Some((place, outcome)) = desk.row(number) else {

@@ -1,14 +1,38 @@
-//! The rows of a desk, as they are counted and as their failures are shown.
+//! The rows of a desk, as their failures are shown and as they are counted.
 ghost use Rattle.std.specs.Prelude.{◌≡◌, map};
 ghost use Rattle.mimic_trial.specs.Count.{counts_of};
 
 use mimic_pool::Desk;
+use mimic_printer::Rows;
 use mimic_trial::{Conclusion, Outcome, TestInfo};
 
-// The rows that arrived at the desk. What is known of their trials is by place.
+// The rows that arrived at the desk. Infos are by place.
+#[derive(Clone, Copy)]
 pub(super) struct DeskRows<'a> {
     pub(super) infos: &'a [TestInfo],
     pub(super) desk: &'a Desk,
+}
+
+impl<'a> Rows for DeskRows<'a> {
+    ghost use Rattle.std.specs.Prelude.{◌<◌, All, length, map};
+    ghost use Rattle.mimic_trial.specs.Places.{places_of};
+    ghost use Rattle.mimic_printer.specs.Row.{label_of, rows_at};
+
+    // Each place has an info.
+    ghost can_show = { λ rows. All (λ place. place < length rows.infos.now) (places_of rows.desk.now.rows) };
+
+    ghost rows_of = { λ rows. rows_at (map label_of rows.infos.now) rows.desk.now.rows };
+
+    fn len(&self) -> usize {
+        self.desk.order().len()
+    }
+
+    fn row(&self, number: usize) -> (&TestInfo, &Outcome) {
+        let Some((place, outcome)) = self.desk.row(number) else {
+            unreachable!()
+        };
+        (&self.infos[place], outcome)
+    }
 }
 
 // Counts the outcomes that arrived at the desk, and takes the number of trials that were filtered out as it is.

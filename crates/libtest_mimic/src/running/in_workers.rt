@@ -50,8 +50,10 @@ pub(super) fn run_in_workers<R: Task + Send + 'static, W: Write, C: Clock, T: Sp
     } = selected;
     let workers = threads.min(trials.len());
     let (infos, dealt) = take_apart(alloc, args, trials, workers)?;
-    let desk = write_rows(rt, &printer, &infos, dealt, !args.bench, sink)?;
-    printer.print_title(sink, 0)?;
+    let infos = infos.as_slice();
+    let desk = write_rows(rt, &printer, infos, dealt, !args.bench, sink)?;
+    let rows = DeskRows { infos, desk: &desk };
+    printer.print_failures_in(sink, &rows)?;
     let conclusion = count_outcomes(&desk, filtered_out);
     write_summary(&printer, &conclusion, sink, watch)?;
     Ok(conclusion)

@@ -7,5 +7,5 @@ use Rattle.libtest_mimic.proofs.running.arrivals.write_missing.Given as goal
 abbrev pub invariant-loop-number : goal.invariant-loop-number
 invariant-loop-number g l = record {
   from : l.fn.first ≤ l.number;
-  text : Put (shown g.W.Write.contents l.initial.sink) (shown g.W.Write.contents l.sink) (rows_text l.printer (take (l.number - l.fn.first) (rows_at (map label_of l.infos) (drop l.fn.first l.desk.rows))));
+  text : Put (shown g.W.Write.contents l.initial.sink) (shown g.W.Write.contents l.sink) (rows_text l.printer (take (l.number - l.fn.first) (drop l.fn.first (rows_at (map label_of l.infos) l.desk.rows))));
 }
