@@ -49,19 +49,6 @@ places_of-placed_at outs (p ∷ order) low =
     ap places_of (placed-next outs p order (All-head (λ p. p < length outs) p order low))
     ∙ ap (λ l. p ∷ l) (places_of-placed_at outs order (All-tail (λ p. p < length outs) p order low))
 
-outcomes_placed : (outs : List Outcome) (order : List ℕ) → All (λ p. p < length outs) order → map (λ (q : Placed). q.1) (placed_at order outs) ≡ map (outcome_at outs) order
-outcomes_placed outs [] low = refl
-outcomes_placed outs (p ∷ order) low =
-    ap (map (λ (q : Placed). q.1)) (placed-next outs p order (All-head (λ p. p < length outs) p order low))
-    ∙ ap (λ l. outcome_at outs p ∷ l) (outcomes_placed outs order (All-tail (λ p. p < length outs) p order low))
-
--- rows of all places have the counts of all outcomes
-pub counts_placed : (labels : List Label) (outs : List Outcome) (order : List ℕ) (n : ℕ) → IsPermutation order (range_with_len 0 (length outs))
-    → counts_of outs n ≡ counts_of (outcomes_of (rows_at labels (placed_at order outs))) n
-counts_placed labels outs order n whole =
-    let same = outcomes_of-rows_at labels (placed_at order outs) ∙ outcomes_placed outs order (order_below (length outs) order whole) in
-    sym (ap (λ l. counts_of l n) same ∙ counts_permuted _ outs n (all_permuted outs order whole))
-
 -- ---- trials that were taken apart
 
 module _ {R : Type 0} where

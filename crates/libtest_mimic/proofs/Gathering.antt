@@ -134,7 +134,6 @@ completed old new joined start outs count put settled more whole =
       whole = whole;
     }
 
-
 rest_of : (labels : List Label) (xs ys : List Placed) (k : ℕ) → k ≡ length xs → drop k (rows_at labels (xs ++ ys)) ≡ rows_at labels ys
 rest_of labels xs ys k e =
     ap (λ n. drop n (rows_at labels (xs ++ ys))) (e ∙ sym (count_rows_at labels xs))

@@ -80,10 +80,10 @@ pub(super) fn write_missing<W: Write>(
         (rows_text printer.now (drop first (rows_at (map label_of infos.now) desk.now.rows))) result }
 {
     for number in first..desk.order().len() {
-        let Some((place, outcome)) = desk.row(number) else {
+        let Some((place, returned)) = desk.row(number) else {
             unreachable!()
         };
-        printer.print_row(sink, &infos[place], outcome)?;
+        printer.print_row(sink, &infos[place], returned)?;
     }
     Ok(())
 }

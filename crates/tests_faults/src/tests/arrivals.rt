@@ -68,6 +68,7 @@ fn gather_with_lies<T: Task + Send + 'static, R: Spawner + 'static>(
     requires { All (λ share. AllRunners T.can_run share) shares.items }
 {
     let room = Vec::with_capacity(alloc, infos.len())?;
+    let joined = Vec::with_capacity(alloc, shares.len())?;
     let handles = Vec::with_capacity(alloc, shares.len())?;
     let desk = Desk::new(alloc, infos.len())?;
     let inbox = Inbox::new(alloc, infos.len(), shares.len())?;
@@ -78,7 +79,7 @@ fn gather_with_lies<T: Task + Send + 'static, R: Spawner + 'static>(
     let handles = match start_all(rt, alloc, starts, true, handles) {
         Ok(handles) => handles,
         Err(started) => {
-            join_all(rt, started, room);
+            join_all(rt, started, joined);
             return Err(Fail::new("a worker could not be started"));
         }
     };
@@ -86,6 +87,7 @@ fn gather_with_lies<T: Task + Send + 'static, R: Spawner + 'static>(
         inbox,
         handles,
         desk,
+        joined,
         room,
     };
     let writer = FaultyWriter::new(alloc).failing(place, Fault::TakesNone);
