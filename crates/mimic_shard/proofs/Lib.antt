@@ -1,2 +1,2 @@
-pub mod Shards
-pub mod Told
+pub mod AllShards
+pub mod MoreItems

@@ -1,6 +1,6 @@
 use Rattle.std.proofs.Common.{◌∙◌, ◌%◌, ◌∷◌, ◌++◌, [], ap, append_assoc, arith, eqb, length-append, refl, sym}
-use Rattle.mimic_shard.proofs.Shards.{shard_more}
-use Rattle.mimic_shard.proofs.Told.{shards_are_all}
+use Rattle.mimic_shard.proofs.MoreItems.{shard_more}
+use Rattle.mimic_shard.proofs.AllShards.{shards_are_all}
 use Rattle.mimic_shard.proofs.shard.shard_of.Goals as goal
 
 pub returns-in_err-push_if-clause-law : goal.returns-in_err-push_if-clause-law

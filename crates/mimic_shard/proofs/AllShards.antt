@@ -1,4 +1,4 @@
--- The shards of all indices have together each item once, and tell what it tells.
+-- The shards of all indices have together each item once, and each part of an item once.
 use Rattle.std.proofs.Common.{◌≡◌, ◌≢◌, ℕ, zero, suc, ◌+◌, ◌%◌, ◌<◌, ◌≤◌, Bool, true, false, cond, eqb, List, [], ◌∷◌, ◌++◌, refl, sym, ap, ap₂, subst, arith, inl, inr, append_assoc}
 use Rattle.std.specs.List.{flat_map, range_with_len}
 use Rattle.std.specs.Prelude.{IsPermutation}
@@ -51,24 +51,24 @@ module _ {X : Type 0} where
     go_once a zero h lt = absurd (omega (arith, h, lt))
     go_once a (suc n) h lt = elim (cases_eq k a) [ inl e ↦ here a n e | inr ne ↦ later a n ne (go_once (a + 1) n (apart a h ne) (omega (arith, lt))) ]
 
-module _ {X Y : Type 0} (tell : Y → List X) where
-  one_told : (b : Bool) (y : Y) (ys : List Y) → flat_map tell (cond b (y ∷ ys) ys) ≡ cond b (tell y ++ flat_map tell ys) (flat_map tell ys)
-  one_told true y ys = refl
-  one_told false y ys = refl
+module _ {X Y : Type 0} (parts : Y → List X) where
+  one_part : (b : Bool) (y : Y) (ys : List Y) → flat_map parts (cond b (y ∷ ys) ys) ≡ cond b (parts y ++ flat_map parts ys) (flat_map parts ys)
+  one_part true y ys = refl
+  one_part false y ys = refl
 
-  told_from : (count place : ℕ) (ys : List Y) → 0 < count → IsPermutation (flat_map (λ index. flat_map tell (shard_from count place index ys)) (range_with_len 0 count)) (flat_map tell ys)
-  told_from count place [] some = subst (λ (l : List X). IsPermutation l []) (sym (no_lists (range_with_len 0 count))) (IsPermutation-refl [])
-  told_from count place (y ∷ ys) some =
+  parts_from : (count place : ℕ) (ys : List Y) → 0 < count → IsPermutation (flat_map (λ index. flat_map parts (shard_from count place index ys)) (range_with_len 0 count)) (flat_map parts ys)
+  parts_from count place [] some = subst (λ (l : List X). IsPermutation l []) (sym (no_lists (range_with_len 0 count))) (IsPermutation-refl [])
+  parts_from count place (y ∷ ys) some =
       let below : place % count < count = mod_below place count some in
-      let f : ℕ → List X = λ index. flat_map tell (shard_from count (place + 1) index ys) in
-      let same = same_lists (λ index. flat_map tell (shard_from count place index (y ∷ ys))) (with_items f (place % count) (tell y)) (λ index. one_told (eqb (place % count) index) y (shard_from count (place + 1) index ys)) (range_with_len 0 count) in
-      subst (λ (l : List X). IsPermutation l (tell y ++ flat_map tell ys)) (sym same)
-      (IsPermutation-trans _ _ _ (go_once f (place % count) (tell y) 0 count (omega arith) (omega (arith, below))) (IsPermutation-append_right (tell y) _ _ (told_from count (place + 1) ys some)))
+      let f : ℕ → List X = λ index. flat_map parts (shard_from count (place + 1) index ys) in
+      let same = same_lists (λ index. flat_map parts (shard_from count place index (y ∷ ys))) (with_items f (place % count) (parts y)) (λ index. one_part (eqb (place % count) index) y (shard_from count (place + 1) index ys)) (range_with_len 0 count) in
+      subst (λ (l : List X). IsPermutation l (parts y ++ flat_map parts ys)) (sym same)
+      (IsPermutation-trans _ _ _ (go_once f (place % count) (parts y) 0 count (omega arith) (omega (arith, below))) (IsPermutation-append_right (parts y) _ _ (parts_from count (place + 1) ys some)))
 
-  pub told_of_shards : (count : ℕ) (ys : List Y) → 0 < count → IsPermutation (flat_map (λ index. flat_map tell (shard_from count 0 index ys)) (range_with_len 0 count)) (flat_map tell ys)
-  told_of_shards count ys some = told_from count 0 ys some
+  pub parts_of_shards : (count : ℕ) (ys : List Y) → 0 < count → IsPermutation (flat_map (λ index. flat_map parts (shard_from count 0 index ys)) (range_with_len 0 count)) (flat_map parts ys)
+  parts_of_shards count ys some = parts_from count 0 ys some
 
--- where each item tells itself
+-- each item is its only part
 module _ {X : Type 0} where
   itself : (xs : List X) → flat_map (λ (x : X). x ∷ []) xs ≡ xs
   itself [] = refl
@@ -76,6 +76,6 @@ module _ {X : Type 0} where
 
   pub shards_are_all : ShardsAreAll X
   shards_are_all count xs some =
-      let all = told_of_shards (λ (x : X). x ∷ []) count xs some in
+      let all = parts_of_shards (λ (x : X). x ∷ []) count xs some in
       let same = same_lists (λ index. flat_map (λ (x : X). x ∷ []) (shard_from count 0 index xs)) (λ index. shard_from count 0 index xs) (λ index. itself (shard_from count 0 index xs)) (range_with_len 0 count) in
       subst (λ (l : List X). IsPermutation l xs) same (subst (IsPermutation _) (itself xs) all)
