@@ -1,0 +1,100 @@
+-- One more report is joined.
+use Rattle.std.proofs.Common.{◌≡◌, ℕ, ◌+◌, List, [], ◌∷◌, ◌++◌, map, sum, fold, refl, sym, ap, subst, ◌∙◌, append-nil}
+use Rattle.std.specs.Prelude.{max, IsPermutation}
+use Rattle.std.specs.List.{flat_map, range_with_len}
+use Rattle.std.proofs.lemmas.List.Sorted.{IsPermutation-map, IsPermutation-refl, IsPermutation-trans, IsPermutation-append_left, IsPermutation-append_right}
+use Rattle.mimic_printer.specs.Json.{Entry}
+use Rattle.mimic_events.specs.Contents.{entry_read}
+use Rattle.mimic_shard.specs.Shard.{shard_of}
+use Rattle.mimic_shard.proofs.AllShards.{parts_of_shards}
+use Rattle.mimic_reports.specs.Turns.{before, rounds_of, in_turn}
+use Rattle.mimic_reports.proofs.Turns.{joined_rounds, shards_in_turn, turns_are_all}
+use Rattle.std.proofs.lemmas.List.Sums.{sum_by-append}
+use Rattle.std.proofs.lemmas.List.Concat.{flat_map-append}
+use Rattle.std.proofs.lemmas.List.{map-append}
+use Rattle.mimic_events.specs.declared.report.Report.{Report}
+use Rattle.mimic_events.specs.declared.report.Row.{Row}
+use Rattle.mimic_reports.specs.Joined.{EachInSomeOrder, IsJoined, JoinsInOrder, JoinsShards, all_of, entries_in, filtered_out_of, greatest, rows_in, time_of}
+
+abbrev pub rows_of : List Report → List Row
+rows_of reports = flat_map rows_in reports
+
+pub filtered_out-append : (xs ys : List Report) → filtered_out_of (xs ++ ys) ≡ filtered_out_of xs + filtered_out_of ys
+filtered_out-append xs ys = ap sum (map-append _ xs ys) ∙ sum_by-append _ (map (λ report. report.filtered_out) xs) (map (λ report. report.filtered_out) ys)
+
+pub rows-push : (xs : List Report) (r : Report) → rows_of (xs ++ r ∷ []) ≡ rows_of xs ++ r.rows.items
+rows-push xs r = flat_map-append _ xs (r ∷ []) ∙ ap (λ (l : List Row). rows_of xs ++ l) (append-nil r.rows.items)
+
+fold-push : (f : ℕ → ℕ → ℕ) (a n : ℕ) (ns : List ℕ) → fold f a (ns ++ n ∷ []) ≡ f (fold f a ns) n
+fold-push f a n [] = refl
+fold-push f a n (m ∷ ns) = fold-push f (f a m) n ns
+
+pub times-push : (xs : List Report) (r : Report) → greatest (map time_of (xs ++ r ∷ [])) ≡ max (greatest (map time_of xs)) r.nanos
+times-push xs r = ap greatest (map-append _ xs (r ∷ [])) ∙ fold-push max 0 r.nanos (map time_of xs)
+
+-- ---- reports of shards
+
+module _ {X : Type 0} where
+  pub concat_orders : (xss yss : List (List X)) → EachInSomeOrder xss yss → IsPermutation (all_of xss) (all_of yss)
+  concat_orders [] [] h = IsPermutation-refl []
+  concat_orders [] (ys ∷ yss) h = absurd h
+  concat_orders (xs ∷ xss) [] h = absurd h
+  concat_orders (xs ∷ xss) (ys ∷ yss) h =
+      IsPermutation-trans _ _ _ (IsPermutation-append_left (all_of xss) xs ys h.0) (IsPermutation-append_right ys (all_of xss) (all_of yss) (concat_orders xss yss h.1))
+
+  concat-map : (f : ℕ → List X) (is : List ℕ) → all_of (map f is) ≡ flat_map f is
+  concat-map f [] = refl
+  concat-map f (i ∷ is) = ap (λ (l : List X). f i ++ l) (concat-map f is)
+
+entries_joined : (reports : List Report) → map entry_read (rows_of reports) ≡ all_of (map entries_in reports)
+entries_joined [] = refl
+entries_joined (r ∷ reports) = map-append entry_read r.rows.items (rows_of reports) ∙ ap (λ (l : List Entry). entries_in r ++ l) (entries_joined reports)
+
+-- rows in turn are all rows
+flat : (rs : List Report) → flat_map (λ (xs : List Row). xs) (map rows_in rs) ≡ rows_of rs
+flat [] = refl
+flat (r ∷ rs) = ap (λ (l : List Row). r.rows.items ++ l) (flat rs)
+
+in_turn-rows : (reports : List Report) → IsPermutation (in_turn (map rows_in reports)) (rows_of reports)
+in_turn-rows reports = subst (IsPermutation (in_turn (map rows_in reports))) (flat reports) (turns_are_all (map rows_in reports))
+
+pub entries_turned : (reports : List Report) (whole : Report) → IsJoined reports whole → IsPermutation (entries_in whole) (all_of (map entries_in reports))
+entries_turned reports whole joined =
+    let turned : IsPermutation (entries_in whole) (map entry_read (rows_of reports)) =
+    subst (λ (l : List Row). IsPermutation (map entry_read l) (map entry_read (rows_of reports))) (sym joined.rows) (IsPermutation-map entry_read _ _ (in_turn-rows reports)) in
+    subst (IsPermutation (entries_in whole)) (entries_joined reports) turned
+
+pub joins_shards : JoinsShards
+joins_shards count entries reports whole some each joined =
+    let shards : ℕ → List Entry = λ index. all_of (shard_of count index entries) in
+    IsPermutation-trans _ _ _ (entries_turned reports whole joined)
+    (IsPermutation-trans _ _ _ (concat_orders (map entries_in reports) (map shards (range_with_len 0 count)) each)
+    (subst (λ (l : List Entry). IsPermutation l (all_of entries)) (sym (concat-map shards (range_with_len 0 count))) (parts_of_shards (λ es. es) count entries some)))
+
+-- ---- what is made of rows, in turn
+
+module _ {X Y : Type 0} (f : X → Y) where
+  before-map : (xs : List X) (rounds : List (List X)) → map (map f) (before xs rounds) ≡ before (map f xs) (map (map f) rounds)
+  before-map [] rounds = refl
+  before-map (x ∷ xs) [] = ap (λ (l : List (List Y)). (f x ∷ []) ∷ l) (before-map xs [])
+  before-map (x ∷ xs) (round ∷ rounds) = ap (λ (l : List (List Y)). (f x ∷ map f round) ∷ l) (before-map xs rounds)
+
+  rounds-map : (xss : List (List X)) → map (map f) (rounds_of xss) ≡ rounds_of (map (map f) xss)
+  rounds-map [] = refl
+  rounds-map (xs ∷ xss) = before-map xs (rounds_of xss) ∙ ap (before (map f xs)) (rounds-map xss)
+
+  joined-map : (rounds : List (List X)) → map f (joined_rounds rounds) ≡ joined_rounds (map (map f) rounds)
+  joined-map [] = refl
+  joined-map (round ∷ rounds) = map-append f round (joined_rounds rounds) ∙ ap (λ (l : List Y). map f round ++ l) (joined-map rounds)
+
+  pub in_turn-map : (xss : List (List X)) → map f (in_turn xss) ≡ in_turn (map (map f) xss)
+  in_turn-map xss = joined-map (rounds_of xss) ∙ ap joined_rounds (rounds-map xss)
+
+entries_of_rows : (reports : List Report) → map (map entry_read) (map rows_in reports) ≡ map entries_in reports
+entries_of_rows [] = refl
+entries_of_rows (r ∷ reports) = ap (λ l. entries_in r ∷ l) (entries_of_rows reports)
+
+pub joins_in_order : JoinsInOrder
+joins_in_order count entries reports whole some each joined =
+    ap (map entry_read) joined.rows ∙ (in_turn-map entry_read (map rows_in reports)
+    ∙ (ap in_turn (entries_of_rows reports ∙ each) ∙ shards_in_turn count entries some))

@@ -1,0 +1,11 @@
+use Rattle.std.specs.Prelude.{◌≡◌, ◌+◌, ◌++◌, length, map}
+use Rattle.std.specs.Vec.Iter.{into_iter_items}
+use Rattle.mimic_reports.specs.Turns.{in_turn}
+use Rattle.mimic_reports.proofs.join.taken_in_turn.Given as goal
+
+abbrev pub invariant-loop-list : goal.invariant-loop-list
+invariant-loop-list l = l.rows.items ++ in_turn (map into_iter_items l.lists.items) ≡ in_turn (map into_iter_items l.fn.lists.items)
+
+-- the rows that are left, and the lists
+abbrev pub decreases-loop-list : goal.decreases-loop-list
+decreases-loop-list l = length (in_turn (map into_iter_items l.lists.items)) + length l.lists.items

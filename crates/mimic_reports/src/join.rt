@@ -1,0 +1,123 @@
+//! The reports of shards as one.
+ghost use Rattle.std.specs.Prelude.{◌≡◌, ◌≤◌, ◌^◌, IfOk, MatchOption, map};
+ghost use Rattle.std.specs.Vec.Iter.{into_iter_items};
+ghost use Rattle.mimic_reports.specs.Joined.{CanBeShards, IsJoined, IsRefused, Joins, JoinLaws, filtered_out_of};
+ghost use Rattle.mimic_reports.specs.Turns.{in_turn};
+
+use crate::names::named_twice;
+use crate::numbers::uneven;
+use mimic_events::{Report, Row};
+use std::alloc::{AllocError, Global};
+use std::collections::VecDeque;
+use std::vec::IntoIter;
+use thiserror::Error;
+
+/// Why reports are not joined. Places count from 0.
+#[derive(Clone, Copy, Debug, PartialEq, Eq, Error)]
+pub enum Refusal {
+    /// There are not as many reports as shards.
+    #[error("the number of shards is {shards}, but that of reports is {reports}")]
+    Number { reports: usize, shards: usize },
+    /// The report at this place has more trials than one before it, or at least two less. No list has such shards.
+    #[error("its number of trials doesn't fit those of the reports before it")]
+    Uneven { place: usize },
+    /// In the report at this place, the kind and the name of this row stand in a report before it.
+    #[error("its trial is in a report before it too")]
+    NamedTwice { place: usize, row: usize },
+    /// The number of all trials that were filtered out doesn't fit in a `u64`.
+    #[error("too many trials were filtered out")]
+    TooMany,
+}
+
+/// Joins the reports of so many shards, which stand in the order of their indices, into one: it has the rows of all in turn,
+/// the number of all trials that were filtered out, and the time of the longest run, since they ran side by side.
+///
+/// In turn comes the first row of each report, then the second of each, and so on; a report without more rows is passed over.
+/// Reports that can't be those of the shards of one list are refused. The same kind and name in two reports is refused too,
+/// unless the suite has `equal_names`.
+#[tactic(auto, using(crate::proofs::Laws::join_laws))]
+pub fn joined(
+    alloc: Global,
+    reports: Vec<Report>,
+    shards: usize,
+    equal_names: bool,
+) -> Result<Result<Report, Refusal>, AllocError>
+    ensures joined { IfOk result (λ answer. Joins shards equal_names reports.items answer) }
+
+    // What holds of all reports that are joined: each row comes once, and the reports of all shards have each trial once.
+    ensures laws { JoinLaws }
+{
+    if let Some(refusal) = refusal_of(alloc, &reports, shards, equal_names)? {
+        return Ok(Err(refusal));
+    }
+    match whole(alloc, reports)? {
+        Some(report) => Ok(Ok(report)),
+        None => Ok(Err(Refusal::TooMany)),
+    }
+}
+
+// Returns why the reports can't be those of so many shards of one list, and `None` if they can.
+fn refusal_of(
+    alloc: Global,
+    reports: &[Report],
+    shards: usize,
+    equal_names: bool,
+) -> Result<Option<Refusal>, AllocError>
+    ensures { IfOk result (λ found. MatchOption found (CanBeShards shards equal_names reports.now)
+        (IsRefused shards equal_names reports.now)) }
+{
+    if reports.len() != shards {
+        let reports = reports.len();
+        return Ok(Some(Refusal::Number { reports, shards }));
+    }
+    if let Some(place) = uneven(reports) {
+        return Ok(Some(Refusal::Uneven { place }));
+    }
+    if equal_names {
+        return Ok(None);
+    }
+    match named_twice(alloc, reports)? {
+        Some((place, row)) => Ok(Some(Refusal::NamedTwice { place, row })),
+        None => Ok(None),
+    }
+}
+
+// Joins the reports, whatever they are. `None` says that too many trials were filtered out.
+fn whole(alloc: Global, reports: Vec<Report>) -> Result<Option<Report>, AllocError>
+    ensures { IfOk result (λ found. MatchOption found (2 ^ 64 ≤ filtered_out_of reports.items)
+        (IsJoined reports.items)) }
+{
+    let mut lists = VecDeque::new(alloc);
+    let mut filtered_out = 0_u64;
+    let mut nanos = 0;
+    for report in reports {
+        let Some(sum) = filtered_out.checked_add(report.filtered_out) else {
+            return Ok(None);
+        };
+        filtered_out = sum;
+        nanos = nanos.max(report.nanos);
+        lists.push_back(report.rows.into_iter())?;
+    }
+    let rows = taken_in_turn(alloc, lists)?;
+    Ok(Some(Report {
+        rows,
+        filtered_out,
+        nanos,
+    }))
+}
+
+// Takes the rows of the lists in turn. The first row of the first list comes, and what is left of that list goes behind the
+// others.
+fn taken_in_turn(alloc: Global, lists: VecDeque<IntoIter<Row>>) -> Result<Vec<Row>, AllocError>
+    ensures { IfOk result (λ rows. rows.items ≡ in_turn (map into_iter_items lists.items)) }
+{
+    let mut lists = lists;
+    let mut rows = Vec::new(alloc);
+    while let Some(mut list) = lists.pop_front() {
+        if let Some(row) = list.next() {
+            rows.push(row)?;
+            lists.push_back(list)?;
+        }
+    }
+    Ok(rows)
+}
