@@ -4,3 +4,6 @@ pub mod SeenNames
 pub mod Falls
 pub mod Fitting
 pub mod Laws
+pub mod ReadBytes
+pub mod ReadInputs
+pub mod JoinInputs

@@ -1,3 +1,5 @@
+pub mod Faults
+pub mod Inputs
 pub mod Joined
 pub mod Names
 pub mod Turns

@@ -1,0 +1,79 @@
+-- What inputs are that reports are read from, and what a join of them leaves.
+use Rattle.std.specs.Prelude.{◌≡◌, ℕ, ◌<◌, Bool, List, length, slice_index_or, take, Option, None, IfSome, Result, Ok, Err, ⊤}
+use Rattle.mimic_trial.specs.declared.outcome.conclusion.Conclusion.{Conclusion}
+use Rattle.mimic_printer.specs.Json.{Contents, conclusion_of, json_report}
+use Rattle.mimic_printer.specs.Sink.{Put, Shown, Stopped}
+use Rattle.mimic_events.specs.Contents.{Spells, contents_read}
+use Rattle.mimic_events.specs.SoFar.{IsFirstWrong}
+use Rattle.mimic_events.specs.declared.report.Report.{Report}
+use Rattle.mimic_reports.specs.Joined.{CanBeShards, IsJoined, IsRefused}
+use Rattle.mimic_reports.specs.Turns.{Each}
+use Rattle.mimic_reports.specs.declared.join.Refusal.{Refusal}
+use Rattle.mimic_reports.specs.declared.reading.ReadFault.{ReadFault}
+use Rattle.mimic_reports.specs.declared.reading.ReadFault.TheVariants as read
+use Rattle.mimic_reports.specs.declared.inputs.JoinFault.{JoinFault}
+use Rattle.mimic_reports.specs.declared.inputs.JoinFault.TheVariants as join
+
+-- the input's bytes, if they are known, are this report
+abbrev pub IsReportIn : Option (List ℕ) → Report → Type 0
+IsReportIn input report = IfSome input (Spells (contents_read report))
+
+-- the bytes are no report, and no ended line of theirs is wrong
+pub record IsCut (bytes : List ℕ) : Type 0 where
+  pub none : (contents : Contents) → ¬ Spells contents bytes
+  pub right : (number : ℕ) → ¬ IsFirstWrong number bytes
+
+-- why the input, if its bytes are known, gives no report
+abbrev pub GivesNone : Option (List ℕ) → ReadFault → Type 0
+GivesNone input read.OutOfMemory = ⊤
+GivesNone input (read.Input error) = ⊤
+GivesNone input (read.WrongLine number) = IfSome input (IsFirstWrong number)
+GivesNone input read.Cut = IfSome input IsCut
+
+-- ---- several inputs
+
+-- the inputs are these reports, in their order
+abbrev pub AreReportsIn : List (Option (List ℕ)) → List Report → Type 0
+AreReportsIn inputs reports = Each IsReportIn inputs reports
+
+-- the inputs before the place are reports, and the one at it gives none
+pub record FailsAt (inputs : List (Option (List ℕ))) (place : ℕ) (fault : ReadFault) : Type 0 where
+  pub within : place < length inputs
+  pub reports : List Report
+  pub before : AreReportsIn (take place inputs) reports
+  pub none : GivesNone (slice_index_or inputs place None) fault
+
+-- the inputs are reports of the shards, which are joined to this one
+pub record JoinTo (inputs : List (Option (List ℕ))) (shards : ℕ) (equal_names : Bool) (joined : Report) : Type 0 where
+  pub reports : List Report
+  pub read : AreReportsIn inputs reports
+  pub fit : CanBeShards shards equal_names reports
+  pub is : IsJoined reports joined
+
+-- the inputs are reports that are refused
+pub record AreRefused (inputs : List (Option (List ℕ))) (shards : ℕ) (equal_names : Bool) (refusal : Refusal) : Type 0 where
+  pub reports : List Report
+  pub read : AreReportsIn inputs reports
+  pub why : IsRefused shards equal_names reports refusal
+
+-- the text of a report in JSON
+abbrev pub text_of : Report → List ℕ
+text_of report = json_report (contents_read report)
+
+-- why the inputs give no list of reports
+abbrev pub CannotRead : List (Option (List ℕ)) → JoinFault → Type 0
+CannotRead inputs join.OutOfMemory = ⊤
+CannotRead inputs (join.Input place fault) = FailsAt inputs place fault
+CannotRead inputs (join.Refused refusal) = ⊥
+CannotRead inputs (join.Write fault) = ⊥
+
+-- what a join of the inputs leaves: the text of the joined report, with a write fault a beginning of it, and else nothing
+abbrev pub Leaves : List (Option (List ℕ)) → ℕ → Bool → Shown → Shown → Result Conclusion JoinFault → Type 0
+Leaves inputs shards equal_names old new (Ok counts) = (joined : Report) × JoinTo inputs shards equal_names joined
+    × Put old new (text_of joined) × (counts ≡ conclusion_of (contents_read joined))
+Leaves inputs shards equal_names old new (Err join.OutOfMemory) = new ≡ old
+Leaves inputs shards equal_names old new (Err (join.Input place fault)) = FailsAt inputs place fault × (new ≡ old)
+Leaves inputs shards equal_names old new (Err (join.Refused refusal)) =
+    AreRefused inputs shards equal_names refusal × (new ≡ old)
+Leaves inputs shards equal_names old new (Err (join.Write fault)) =
+    (joined : Report) × JoinTo inputs shards equal_names joined × Stopped old new (text_of joined)
