@@ -19,6 +19,8 @@
 //! ```
 #![tactic(auto)]
 
+mod shard;
+
 ghost use Rattle.std.specs.Prelude.{◌≡◌, false, IfOk};
 ghost use Rattle.mimic_text.specs.declared.formats.FormatSetting.TheVariants.{Json};
 ghost use Rattle.libtest_mimic.specs.Arguments.{format_of};
@@ -31,6 +33,7 @@ use libtest_mimic::{
     Arguments, Clock, Conclusion, RunError, Sink, Stopwatch, Task, Trial, run_here,
 };
 use mimic_events::{Report, read_report};
+pub use shard::run_shard;
 use std::alloc::Global;
 
 /// Runs the selected trials as `run_here` does, and returns its conclusion and its report, as it is read back.

@@ -1,0 +1,42 @@
+//! Runs the trials of one shard.
+ghost use Rattle.std.specs.Prelude.{◌≡◌, false, IfOk};
+ghost use Rattle.mimic_text.specs.declared.formats.FormatSetting.TheVariants.{Json};
+ghost use Rattle.libtest_mimic.specs.Arguments.{format_of};
+ghost use Rattle.libtest_mimic.specs.Stopwatch.{IsFresh};
+ghost use Rattle.libtest_mimic.specs.Trial.{AllCanRun};
+ghost use Rattle.mimic_events.specs.Contents.{contents_read};
+ghost use Rattle.mimic_roundtrip.specs.Joined.{ShardLaws, TellsTrials};
+ghost use Rattle.mimic_shard.specs.Shard.{shard_of};
+
+use crate::run_to_report;
+use libtest_mimic::{Arguments, Clock, Conclusion, RunError, Stopwatch, Task, Trial};
+use mimic_events::Report;
+use mimic_shard::{Shard, shard_of};
+use std::alloc::Global;
+
+/// Runs the selected trials of the shard, as `run_to_report` does.
+///
+/// The reports of all shards, joined by `mimic_reports::joined`, are a report of all trials.
+pub fn run_shard<R: Task, C: Clock>(
+    alloc: Global,
+    args: &Arguments,
+    shard: Shard,
+    tests: Vec<Trial<R>>,
+    watch: &mut Stopwatch<C>,
+) -> Result<(Conclusion, Report), RunError>
+    requires json { format_of args.now ≡ Json }
+    requires unlisted { args.now.list ≡ false }
+    requires runnable { AllCanRun R.can_run tests.items }
+    requires fresh { IsFresh watch.old }
+
+    // The report is one of the trials of this shard.
+    ensures tells { IfOk result
+        (λ told. TellsTrials R.gives args.now (shard_of shard.count shard.index tests.items)
+        (contents_read told.1)) }
+
+    // So is what any run writes of a shard, with any number of threads, and the joined report of all shards is one of all trials.
+    ensures laws { ShardLaws R.gives }
+{
+    let trials = shard_of(alloc, shard, tests)?;
+    run_to_report(alloc, args, trials, watch)
+}
