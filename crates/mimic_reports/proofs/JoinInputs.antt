@@ -7,8 +7,8 @@ use Rattle.mimic_printer.specs.declared.sink.WriteFault.{WriteFault}
 use Rattle.mimic_events.specs.declared.report.Report.{Report}
 use Rattle.mimic_reports.specs.Inputs.{AreReportsIn, JoinTo, Leaves, text_of}
 use Rattle.mimic_reports.specs.Joined.{Joins}
-use Rattle.mimic_reports.specs.declared.inputs.JoinFault.{JoinFault}
-use Rattle.mimic_reports.specs.declared.inputs.JoinFault.TheVariants.{Write}
+use Rattle.mimic_reports.specs.declared.faults.JoinFault.{JoinFault}
+use Rattle.mimic_reports.specs.declared.faults.JoinFault.TheVariants.{Write}
 use Rattle.mimic_reports.specs.declared.join.Refusal.{Refusal}
 
 -- reports that were read and joined

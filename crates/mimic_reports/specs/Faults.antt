@@ -1,7 +1,7 @@
 -- Which reader, and which line of it, a fault is in.
 use Rattle.std.specs.Prelude.{ℕ, ◌+◌, ◌*◌, Option, Some, None}
-use Rattle.mimic_reports.specs.declared.inputs.JoinFault.{JoinFault}
-use Rattle.mimic_reports.specs.declared.inputs.JoinFault.TheVariants as join
+use Rattle.mimic_reports.specs.declared.faults.JoinFault.{JoinFault}
+use Rattle.mimic_reports.specs.declared.faults.JoinFault.TheVariants as join
 use Rattle.mimic_reports.specs.declared.join.Refusal.{Refusal}
 use Rattle.mimic_reports.specs.declared.join.Refusal.TheVariants.{Number, Uneven, NamedTwice, TooMany}
 use Rattle.mimic_reports.specs.declared.reading.ReadFault.{ReadFault}

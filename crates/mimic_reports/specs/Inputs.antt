@@ -11,8 +11,8 @@ use Rattle.mimic_reports.specs.Turns.{Each}
 use Rattle.mimic_reports.specs.declared.join.Refusal.{Refusal}
 use Rattle.mimic_reports.specs.declared.reading.ReadFault.{ReadFault}
 use Rattle.mimic_reports.specs.declared.reading.ReadFault.TheVariants as read
-use Rattle.mimic_reports.specs.declared.inputs.JoinFault.{JoinFault}
-use Rattle.mimic_reports.specs.declared.inputs.JoinFault.TheVariants as join
+use Rattle.mimic_reports.specs.declared.faults.JoinFault.{JoinFault}
+use Rattle.mimic_reports.specs.declared.faults.JoinFault.TheVariants as join
 
 -- the input's bytes, if they are known, are this report
 abbrev pub IsReportIn : Option (List ℕ) → Report → Type 0
