@@ -1,0 +1,41 @@
+//! Where a report is read from.
+use std::fs::File;
+use std::io::{Read, Stdin};
+use std::{fs, io};
+
+// The name that stands for standard input.
+pub(crate) const STANDARD: &str = "-";
+
+/// A file, which is opened at the first read, or standard input.
+#[derive(Drop)]
+pub(crate) enum Input<'a> {
+    Named { rt: &'a HostRuntime, path: &'a str },
+    Open(File),
+    Standard(Stdin),
+}
+
+impl<'a> Input<'a> {
+    /// The input of this name.
+    pub(crate) fn new(rt: &'a HostRuntime, path: &'a str) -> Input<'a> {
+        if path == STANDARD {
+            Input::Standard(rt.stdin())
+        } else {
+            Input::Named { rt, path }
+        }
+    }
+}
+
+impl Read for Input<'_> {
+    fn read(&mut self, buf: &mut [u8]) -> io::Result<usize> {
+        if let Input::Named { rt, path } = self {
+            let file = fs::open(*rt, *path)?;
+            *self = Input::Open(file);
+        }
+        match self {
+            Input::Open(file) => file.read(buf),
+            Input::Standard(stdin) => stdin.read(buf),
+            // It was opened above.
+            Input::Named { .. } => Ok(0),
+        }
+    }
+}

@@ -1,0 +1,83 @@
+//! Joins the reports of the shards of a suite into one, which it prints in JSON.
+#![tactic(auto)]
+
+mod input;
+mod line;
+
+use input::Input;
+use line::{Join, LineError};
+use mimic_printer::Sink;
+use mimic_reports::{JoinFault, join_reports};
+use mimic_trial::Conclusion;
+use std::alloc::Global;
+use std::io::BufWriter;
+use std::process::ExitCode;
+
+// The exit statuses.
+const SUCCESS: u8 = 0;
+
+const REFUSED: u8 = 1;
+
+const USAGE: u8 = 2;
+
+const TRIALS_FAILED: u8 = 101;
+
+fn main(rt: HostRuntime) -> ExitCode {
+    let alloc = rt.alloc();
+    let status = match Join::from_args(&rt, alloc) {
+        Ok(join) => run(&rt, alloc, &join),
+        Err(error) => refuse(&rt, &error),
+    };
+    ExitCode::from(status)
+}
+
+// Prints the joined report, or why there is none.
+fn run(rt: &HostRuntime, alloc: Global, join: &Join) -> u8 {
+    match print_joined(rt, alloc, join) {
+        Ok(counts) if counts.has_failed() => TRIALS_FAILED,
+        Ok(_) => SUCCESS,
+        Err(fault) => {
+            let _ = eprintln!(rt; "reports: {}", fault.with_names(&join.files));
+            REFUSED
+        }
+    }
+}
+
+fn print_joined(rt: &HostRuntime, alloc: Global, join: &Join) -> Result<Conclusion, JoinFault> {
+    let mut inputs = Vec::new(alloc);
+    for file in &join.files {
+        inputs.push(Input::new(rt, file.as_str()))?;
+    }
+    let Ok(out) = BufWriter::new(alloc, rt.stdout()) else {
+        return Err(JoinFault::OutOfMemory);
+    };
+    join_reports(
+        alloc,
+        inputs,
+        join.shards,
+        join.equal_names,
+        &mut Sink::new(out),
+    )
+}
+
+// Prints help, or why the line was refused.
+fn refuse(rt: &HostRuntime, error: &LineError) -> u8 {
+    match error {
+        LineError::OutOfMemory => {
+            let _ = eprintln!(rt; "reports: out of memory");
+            REFUSED
+        }
+        LineError::Unread(error) => {
+            let _ = eprintln!(rt; "reports: cannot read the arguments: {error}");
+            USAGE
+        }
+        LineError::TwoInputs => {
+            let _ = eprintln!(rt; "reports: standard input can be read once only");
+            USAGE
+        }
+        LineError::Shown(error) => {
+            let _ = error.print(rt);
+            if error.use_stderr() { USAGE } else { SUCCESS }
+        }
+    }
+}

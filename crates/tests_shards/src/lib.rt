@@ -1,0 +1,6 @@
+//! Tests of shards: the pair of variables, reports that are joined or refused, and suites that run in shards. There is no code but
+//! these.
+#![tactic(auto)]
+
+#[cfg(test)]
+mod tests;
