@@ -1,18 +1,16 @@
 -- Which kinds and names a set has. No public clause names these words.
-use Rattle.std.specs.Prelude.{ℕ, Bool, ◌&&◌, ◌↔◌, List, IsTrue, Contains}
-use Rattle.std.specs.HashSet.{HashSet, contains_by}
+use Rattle.std.specs.Prelude.{ℕ, Bool, ◌&&◌, ◌↔◌, List, IsTrue, Contains, string_bytes}
+use Rattle.std.specs.HashSet.{HashSet, contains}
 use Rattle.std.specs.Str.{bytes_eq}
 use Rattle.mimic_printer.specs.Row.{Label}
-use denote.Ref.{Bor}
+use Rattle.mimic_reports.specs.Joined.{label_in}
+use Rattle.mimic_reports.specs.declared.names.Named.{Named}
 
--- a kind and a name, as a key of a set
-abbrev pub Key : Type 0
-Key = Bor (List ℕ) × Bor (List ℕ)
+-- both rows have the same kind and name
+abbrev pub is_named : Named → Named → Bool
+is_named a b = bytes_eq (string_bytes a.row.now.kind) (string_bytes b.row.now.kind)
+    && bytes_eq (string_bytes a.row.now.name) (string_bytes b.row.now.name)
 
--- the key has this kind and this name
-abbrev pub is_key : Label → Key → Bool
-is_key label key = bytes_eq label.kind key.0.now && bytes_eq label.name key.1.now
-
--- the set has the kinds and names of these labels
-abbrev pub HasLabels : {S : Type 0} → HashSet Key S → List Label → Type 0
-HasLabels set labels = (label : Label) → IsTrue (contains_by (is_key label) set) ↔ Contains labels label
+-- of all rows, the set has those with these kinds and names
+abbrev pub HasLabels : {S : Type 0} → HashSet Named S → List Label → Type 0
+HasLabels set labels = (named : Named) → IsTrue (contains is_named set named) ↔ Contains labels (label_in named.row.now)

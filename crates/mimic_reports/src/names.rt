@@ -8,6 +8,50 @@ ghost use Rattle.mimic_reports.specs.Names.{HasLabels};
 use mimic_events::{Report, Row};
 use std::alloc::{AllocError, Global};
 use std::collections::HashSet;
+use std::hash::{Hash, Hasher};
+
+// A row of which the kind and the name alone are compared. It takes no more memory than a reference.
+#[derive(Clone, Copy)]
+pub(crate) struct Named<'a> {
+    row: &'a Row,
+}
+
+impl PartialEq for Named<'_> {
+    ghost use Rattle.mimic_reports.specs.Names.{is_named};
+    ghost use Rattle.std.specs.Cmp.Rules.{comparing};
+    ghost use Rattle.std.proofs.Common.{rules};
+
+    ghost eq = { is_named };
+
+    ghost laws = { Prim.search (comparing, rules) };
+
+    fn eq(&self, other: &Self) -> bool {
+        self.row.kind == other.row.kind && self.row.name == other.row.name
+    }
+}
+
+impl Eq for Named<'_> {
+    ghost use Rattle.std.specs.Cmp.Rules.{comparing};
+    ghost use Rattle.std.proofs.Common.{rules};
+
+    ghost laws = { Prim.search (comparing, rules) };
+}
+
+impl Hash for Named<'_> {
+    ghost use Rattle.std.specs.Prelude.{◌++◌, string_bytes};
+    ghost use Rattle.std.specs.Hash as fed;
+    ghost use Rattle.std.specs.Cmp.Rules.{hashing};
+    ghost use Rattle.std.proofs.Common.{rules};
+
+    ghost hash_input = { λ x. fed.str (string_bytes x.row.now.kind) ++ fed.str (string_bytes x.row.now.name) };
+
+    ghost respects_eq = { Prim.search (hashing, rules) };
+
+    fn hash<H: Hasher>(&self, state: &mut H) {
+        self.row.kind.hash(state);
+        self.row.name.hash(state);
+    }
+}
 
 // Returns the place of the first report with a row whose kind and name stand in a report before it, and that of its first such
 // row.
@@ -29,26 +73,26 @@ pub(crate) fn named_twice(
 }
 
 // Returns the place of the first row whose kind and name were seen.
-fn seen_row(seen: &HashSet<(&str, &str)>, rows: &[Row]) -> Option<usize>
+fn seen_row(seen: &HashSet<Named<'_>>, rows: &[Row]) -> Option<usize>
     ensures { (labels : List Label) → HasLabels seen.now labels → MatchOption result
         (All (λ row. ¬ Contains labels (label_in row)) rows.now)
         (λ place. (place < length rows.now)
         × ((d : Row) → Contains labels (label_in (slice_index_or rows.now place d)))) }
 {
     for (place, row) in rows.iter().enumerate() {
-        if (&*seen).contains(&(row.kind.as_str(), row.name.as_str())) {
+        if (&*seen).contains(&Named { row }) {
             return Some(place);
         }
     }
     None
 }
 
-fn add_names<'a>(seen: &mut HashSet<(&'a str, &'a str)>, rows: &'a [Row]) -> Result<(), AllocError>
+fn add_names<'a>(seen: &mut HashSet<Named<'a>>, rows: &'a [Row]) -> Result<(), AllocError>
     ensures { OnOk result ((labels : List Label) → HasLabels seen.old labels
         → HasLabels seen.new (labels ++ map label_in rows.now)) }
 {
     for row in rows {
-        seen.insert((row.kind.as_str(), row.name.as_str()))?;
+        seen.insert(Named { row })?;
     }
     Ok(())
 }

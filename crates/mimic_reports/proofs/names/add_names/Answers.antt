@@ -3,15 +3,14 @@ use Rattle.std.proofs.lemmas.List.{take_all}
 use Rattle.mimic_events.specs.declared.report.Row.{Row}
 use Rattle.mimic_reports.specs.Joined.{label_in}
 use Rattle.mimic_reports.specs.Names.{HasLabels}
-use Rattle.mimic_reports.proofs.SeenNames.{grown, rows_more}
+use Rattle.mimic_reports.proofs.SeenNames.{grown, named, rows_more}
 use Rattle.mimic_reports.proofs.names.add_names.Goals as goal
 
 pub loop-row-preserved : goal.loop-row-preserved
 loop-row-preserved c = λ labels has.
     subst (HasLabels c.insert.new.self)
-    (rows_more c.args.rows.now c.loop-row.row-index c.row-item.result c.as_str.result.now c.as_str-in-loop-row.result.now labels c.loop-row-test.true c.row-item.is c.as_str.ensures.value c.as_str-in-loop-row.ensures.value)
-    (grown c.loop-row.seen c.insert.new.self _ c.as_str.result.now c.as_str-in-loop-row.result.now
-    (λ l. c.in_ok-insert.ensures.updates.0 (record { ref_ptr = (0, 0); now = l.kind }, record { ref_ptr = (0, 0); now = l.name })) (c.loop-row.invariant labels has))
+    (rows_more c.args.rows.now c.loop-row.row-index c.row-item.result labels c.loop-row-test.true c.row-item.is)
+    (grown c.loop-row.seen c.insert.new.self _ (named c.row-item.result) c.in_ok-insert.ensures.updates.0 (c.loop-row.invariant labels has))
 
 pub returns : goal.returns
 returns c = λ labels has.
