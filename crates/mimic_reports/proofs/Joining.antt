@@ -1,5 +1,5 @@
 -- One more report is joined.
-use Rattle.std.proofs.Common.{◌≡◌, ℕ, ◌+◌, List, [], ◌∷◌, ◌++◌, map, sum, fold, refl, sym, ap, subst, ◌∙◌, append-nil}
+use Rattle.std.proofs.Common.{◌≡◌, ℕ, ◌+◌, ◌<◌, ◌≤◌, arith, drop, get_or, length, take, take-append-drop, List, [], ◌∷◌, ◌++◌, map, sum, fold, refl, sym, ap, subst, ◌∙◌, append-nil}
 use Rattle.std.specs.Prelude.{max, IsPermutation}
 use Rattle.std.specs.List.{flat_map, range_with_len}
 use Rattle.std.proofs.lemmas.List.Sorted.{IsPermutation-map, IsPermutation-refl, IsPermutation-trans, IsPermutation-append_left, IsPermutation-append_right}
@@ -11,7 +11,7 @@ use Rattle.mimic_reports.specs.Turns.{before, rounds_of, in_turn}
 use Rattle.mimic_reports.proofs.Turns.{joined_rounds, shards_in_turn, turns_are_all}
 use Rattle.std.proofs.lemmas.List.Sums.{sum_by-append}
 use Rattle.std.proofs.lemmas.List.Concat.{flat_map-append}
-use Rattle.std.proofs.lemmas.List.{map-append}
+use Rattle.std.proofs.lemmas.List.{map-append, take_more}
 use Rattle.mimic_events.specs.declared.report.Report.{Report}
 use Rattle.mimic_events.specs.declared.report.Row.{Row}
 use Rattle.mimic_reports.specs.Joined.{EachInSomeOrder, IsJoined, JoinsInOrder, JoinsShards, all_of, entries_in, filtered_out_of, greatest, rows_in, time_of}
@@ -21,6 +21,16 @@ rows_of reports = flat_map rows_in reports
 
 pub filtered_out-append : (xs ys : List Report) → filtered_out_of (xs ++ ys) ≡ filtered_out_of xs + filtered_out_of ys
 filtered_out-append xs ys = ap sum (map-append _ xs ys) ∙ sum_by-append _ (map (λ report. report.filtered_out) xs) (map (λ report. report.filtered_out) ys)
+
+-- what the reports up to a place filtered out is a part of it all
+pub filtered_out-part : (xs : List Report) (i : ℕ) (r : Report) → i < length xs → r ≡ get_or xs i r → filtered_out_of (take i xs) + r.filtered_out ≤ filtered_out_of xs
+filtered_out-part xs i r lt is =
+    let front : filtered_out_of (take (i + 1) xs) ≡ filtered_out_of (take i xs) + filtered_out_of (r ∷ []) =
+    ap filtered_out_of (take_more xs i r lt ∙ ap (λ x. take i xs ++ x ∷ []) (sym is)) ∙ filtered_out-append (take i xs) (r ∷ []) in
+    let whole : filtered_out_of xs ≡ filtered_out_of (take (i + 1) xs) + filtered_out_of (drop (i + 1) xs) =
+    ap filtered_out_of (sym (take-append-drop (i + 1) xs)) ∙ filtered_out-append (take (i + 1) xs) (drop (i + 1) xs) in
+    let one : filtered_out_of (r ∷ []) ≡ r.filtered_out = omega arith in
+    omega (arith, front, whole, one)
 
 pub rows-push : (xs : List Report) (r : Report) → rows_of (xs ++ r ∷ []) ≡ rows_of xs ++ r.rows.items
 rows-push xs r = flat_map-append _ xs (r ∷ []) ∙ ap (λ (l : List Row). rows_of xs ++ l) (append-nil r.rows.items)

@@ -7,3 +7,4 @@ pub mod Laws
 pub mod ReadBytes
 pub mod ReadInputs
 pub mod JoinInputs
+pub mod JoinedText

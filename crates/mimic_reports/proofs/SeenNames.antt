@@ -4,7 +4,6 @@ use Rattle.std.specs.Prelude.{◌&&◌, All, Contains}
 use Rattle.std.specs.Bool.{Decides}
 use Rattle.std.specs.HashSet.{HashSet, contains}
 use Rattle.std.specs.List.{flat_map}
-use Rattle.std.specs.Str.{bytes_eq}
 use Rattle.std.proofs.lemmas.Bool.{cases_Bool, cases_lt}
 use Rattle.std.proofs.lemmas.Bool.Decides.{not_from_Decides}
 use Rattle.std.proofs.lemmas.Slice.Eq.{bytes_eq-Decides}

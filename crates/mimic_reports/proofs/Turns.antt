@@ -84,6 +84,17 @@ module _ {X : Type 0} where
         let k : length lists ≡ suc (length others) = ap length front in
         omega (arith, n, m, k)
 
+  -- a list that has no more is passed over
+  pub passed : {I : Type 0} (items : I → List X) (done : List X) (list : I) (lists others : List I) → lists ≡ list ∷ others → items list ≡ []
+      → done ++ in_turn (map items others) ≡ done ++ in_turn (map items lists)
+  passed items done list lists others front none = took_none done (items list) (map items others) none ∙ ap (λ l. done ++ in_turn (map items l)) (sym front)
+
+  pub passed-smaller : {I : Type 0} (items : I → List X) (list : I) (lists others : List I) → lists ≡ list ∷ others → items list ≡ []
+      → length (in_turn (map items others)) + length others < length (in_turn (map items lists)) + length lists
+  passed-smaller items list lists others front none =
+      let same : in_turn (map items others) ≡ in_turn (map items lists) = passed items [] list lists others front none in
+      omega (arith, ap length same, ap length front)
+
   -- ---- shards in turn
 
   no_items : (is : List ℕ) → in_turn {X = X} (map (λ (i : ℕ). []) is) ≡ []

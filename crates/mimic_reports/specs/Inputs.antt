@@ -6,7 +6,7 @@ use Rattle.mimic_printer.specs.Sink.{Put, Shown, Stopped}
 use Rattle.mimic_events.specs.Contents.{Spells, contents_read}
 use Rattle.mimic_events.specs.SoFar.{IsFirstWrong}
 use Rattle.mimic_events.specs.declared.report.Report.{Report}
-use Rattle.mimic_reports.specs.Joined.{CanBeShards, IsJoined, IsRefused}
+use Rattle.mimic_reports.specs.Joined.{CanBeShards, IsRefused, joined_contents}
 use Rattle.mimic_reports.specs.Turns.{Each}
 use Rattle.mimic_reports.specs.declared.join.Refusal.{Refusal}
 use Rattle.mimic_reports.specs.declared.reading.ReadFault.{ReadFault}
@@ -43,12 +43,11 @@ pub record FailsAt (inputs : List (Option (List ℕ))) (place : ℕ) (fault : Re
   pub before : AreReportsIn (take place inputs) reports
   pub none : GivesNone (slice_index_or inputs place None) fault
 
--- the inputs are reports of the shards, which are joined to this one
-pub record JoinTo (inputs : List (Option (List ℕ))) (shards : ℕ) (equal_names : Bool) (joined : Report) : Type 0 where
+-- the inputs are reports of the shards
+pub record AreShards (inputs : List (Option (List ℕ))) (shards : ℕ) (equal_names : Bool) : Type 0 where
   pub reports : List Report
   pub read : AreReportsIn inputs reports
   pub fit : CanBeShards shards equal_names reports
-  pub is : IsJoined reports joined
 
 -- the inputs are reports that are refused
 pub record AreRefused (inputs : List (Option (List ℕ))) (shards : ℕ) (equal_names : Bool) (refusal : Refusal) : Type 0 where
@@ -56,9 +55,9 @@ pub record AreRefused (inputs : List (Option (List ℕ))) (shards : ℕ) (equal_
   pub read : AreReportsIn inputs reports
   pub why : IsRefused shards equal_names reports refusal
 
--- the text of a report in JSON
-abbrev pub text_of : Report → List ℕ
-text_of report = json_report (contents_read report)
+-- the text of the joined report
+abbrev pub joined_text : List Report → List ℕ
+joined_text reports = json_report (joined_contents reports)
 
 -- why the inputs give no list of reports
 abbrev pub CannotRead : List (Option (List ℕ)) → JoinFault → Type 0
@@ -69,11 +68,11 @@ CannotRead inputs (join.Write fault) = ⊥
 
 -- what a join of the inputs leaves: the text of the joined report, with a write fault a beginning of it, and else nothing
 abbrev pub Leaves : List (Option (List ℕ)) → ℕ → Bool → Shown → Shown → Result Conclusion JoinFault → Type 0
-Leaves inputs shards equal_names old new (Ok counts) = (joined : Report) × JoinTo inputs shards equal_names joined
-    × Put old new (text_of joined) × (counts ≡ conclusion_of (contents_read joined))
+Leaves inputs shards equal_names old new (Ok counts) = (read : AreShards inputs shards equal_names)
+    × Put old new (joined_text read.reports) × (counts ≡ conclusion_of (joined_contents read.reports))
 Leaves inputs shards equal_names old new (Err join.OutOfMemory) = new ≡ old
 Leaves inputs shards equal_names old new (Err (join.Input place fault)) = FailsAt inputs place fault × (new ≡ old)
 Leaves inputs shards equal_names old new (Err (join.Refused refusal)) =
     AreRefused inputs shards equal_names refusal × (new ≡ old)
 Leaves inputs shards equal_names old new (Err (join.Write fault)) =
-    (joined : Report) × JoinTo inputs shards equal_names joined × Stopped old new (text_of joined)
+    (read : AreShards inputs shards equal_names) × Stopped old new (joined_text read.reports)

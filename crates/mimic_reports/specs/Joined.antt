@@ -1,7 +1,7 @@
 -- The reports of shards as one report.
 use Rattle.std.specs.Prelude.{◌≡◌, ◌≢◌, ◌↔◌, ℕ, ◌+◌, ◌<◌, ◌≤◌, ◌^◌, Bool, false, List, length, map, sum, max, fold, Contains, AllPairs, Result, MatchResult, slice_index_or, take, IsPermutation}
 use Rattle.std.specs.List.{flat_map, range_with_len}
-use Rattle.mimic_printer.specs.Json.{Entry}
+use Rattle.mimic_printer.specs.Json.{Contents, Entry}
 use Rattle.mimic_printer.specs.Row.{Label}
 use Rattle.mimic_events.specs.Contents.{entry_read}
 use Rattle.mimic_events.specs.declared.report.Report.{Report}
@@ -32,6 +32,14 @@ pub record IsJoined (reports : List Report) (joined : Report) : Type 0 where
   pub rows : joined.rows.items ≡ in_turn (map rows_in reports)
   pub filtered_out : joined.filtered_out ≡ filtered_out_of reports
   pub nanos : joined.nanos ≡ greatest (map time_of reports)
+
+-- what such a report says
+abbrev pub joined_contents : List Report → Contents
+joined_contents reports = record {
+  entries = map entry_read (in_turn (map rows_in reports));
+  filtered_out = filtered_out_of reports;
+  nanos = greatest (map time_of reports);
+}
 
 -- ---- what is refused
 

@@ -2,4 +2,5 @@ pub mod Faults
 pub mod Inputs
 pub mod Joined
 pub mod Names
+pub mod Text
 pub mod Turns

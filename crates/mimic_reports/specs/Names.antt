@@ -1,5 +1,5 @@
 -- Which kinds and names a set has. No public clause names these words.
-use Rattle.std.specs.Prelude.{ℕ, Bool, ◌&&◌, ◌↔◌, List, IsTrue, Contains, string_bytes}
+use Rattle.std.specs.Prelude.{Bool, ◌&&◌, ◌↔◌, List, IsTrue, Contains, string_bytes}
 use Rattle.std.specs.HashSet.{HashSet, contains}
 use Rattle.std.specs.Str.{bytes_eq}
 use Rattle.mimic_printer.specs.Row.{Label}

@@ -1,15 +1,20 @@
 //! Joins reports from readers into a writer.
-ghost use Rattle.std.specs.Prelude.{MatchResult, map};
-ghost use Rattle.mimic_printer.specs.Sink.{HasFaultLeft, Puts, shown};
-ghost use Rattle.mimic_reports.specs.Inputs.{AreReportsIn, CannotRead, Leaves, text_of};
+ghost use Rattle.std.specs.Prelude.{◌≡◌, IfOk, MatchResult, map};
+ghost use Rattle.mimic_printer.specs.Sink.{HasFaultLeft, shown};
+ghost use Rattle.mimic_reports.specs.Inputs.{AreReportsIn, CannotRead, Leaves};
+ghost use Rattle.mimic_reports.specs.Joined.{CanBeShards, IsRefused, joined_contents};
+ghost use Rattle.mimic_reports.specs.Text.{contents_of};
 
 use crate::faults::JoinFault;
-use crate::join::joined;
+use crate::join::{Refusal, refusal_of};
+use crate::numbers::totals;
+use crate::order::rows_in_turn;
 use crate::reading::read_from;
-use mimic_events::{Report, write_report};
-use mimic_printer::{Sink, WriteFault};
+use crate::text::Text;
+use mimic_events::Report;
+use mimic_printer::Sink;
 use mimic_trial::Conclusion;
-use std::alloc::Global;
+use std::alloc::{AllocError, Global};
 use std::io::{Read, Write};
 
 /// Reads the reports of so many shards, one reader after another, joins them as `joined` does, and writes the joined report in
@@ -28,12 +33,37 @@ pub fn join_reports<I: Read + Drop, O: Write>(
         (shown O.contents sink.old) (shown O.contents sink.new) result }
 {
     let reports = read_all(alloc, inputs)?;
-    let report = match joined(alloc, reports, shards, equal_names)? {
-        Ok(report) => report,
+    let text = match text_of(alloc, &reports, shards, equal_names)? {
+        Ok(text) => text,
         Err(refusal) => return Err(JoinFault::Refused(refusal)),
     };
-    put_whole(&report, sink)?;
-    Ok(report.counts())
+    text.put(sink)?;
+    Ok(text.counts())
+}
+
+// Returns what is to be written of the reports, or why they are refused.
+fn text_of(
+    alloc: Global,
+    reports: &[Report],
+    shards: usize,
+    equal_names: bool,
+) -> Result<Result<Text<'_>, Refusal>, AllocError>
+    ensures { IfOk result (λ answer. MatchResult answer
+        (λ text. CanBeShards shards equal_names reports.now × (contents_of text ≡ joined_contents reports.now))
+        (IsRefused shards equal_names reports.now)) }
+{
+    if let Some(refusal) = refusal_of(alloc, reports, shards, equal_names)? {
+        return Ok(Err(refusal));
+    }
+    let Some((filtered_out, nanos)) = totals(reports) else {
+        return Ok(Err(Refusal::TooMany));
+    };
+    let rows = rows_in_turn(alloc, reports)?;
+    Ok(Ok(Text {
+        rows,
+        filtered_out,
+        nanos,
+    }))
 }
 
 // Reads the report of each reader.
@@ -52,13 +82,4 @@ fn read_all<I: Read + Drop>(alloc: Global, inputs: Vec<I>) -> Result<Vec<Report>
         place += 1;
     }
     Ok(reports)
-}
-
-// Writes the report, and flushes it.
-fn put_whole<O: Write>(report: &Report, sink: &mut Sink<O>) -> Result<(), WriteFault>
-    requires { HasFaultLeft sink.old }
-    ensures { Puts O.contents sink.old sink.new (text_of report.now) result }
-{
-    write_report(report, sink)?;
-    sink.flush()
 }

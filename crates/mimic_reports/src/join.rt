@@ -5,7 +5,7 @@ ghost use Rattle.mimic_reports.specs.Joined.{CanBeShards, IsJoined, IsRefused, J
 ghost use Rattle.mimic_reports.specs.Turns.{in_turn};
 
 use crate::names::named_twice;
-use crate::numbers::uneven;
+use crate::numbers::{totals, uneven};
 use mimic_events::{Report, Row};
 use std::alloc::{AllocError, Global};
 use std::collections::VecDeque;
@@ -57,7 +57,7 @@ pub fn joined(
 }
 
 // Returns why the reports can't be those of so many shards of one list, and `None` if they can.
-fn refusal_of(
+pub(crate) fn refusal_of(
     alloc: Global,
     reports: &[Report],
     shards: usize,
@@ -87,15 +87,11 @@ fn whole(alloc: Global, reports: Vec<Report>) -> Result<Option<Report>, AllocErr
     ensures { IfOk result (λ found. MatchOption found (2 ^ 64 ≤ filtered_out_of reports.items)
         (IsJoined reports.items)) }
 {
+    let Some((filtered_out, nanos)) = totals(&reports) else {
+        return Ok(None);
+    };
     let mut lists = VecDeque::new(alloc);
-    let mut filtered_out = 0_u64;
-    let mut nanos = 0;
     for report in reports {
-        let Some(sum) = filtered_out.checked_add(report.filtered_out) else {
-            return Ok(None);
-        };
-        filtered_out = sum;
-        nanos = nanos.max(report.nanos);
         lists.push_back(report.rows.into_iter())?;
     }
     let rows = taken_in_turn(alloc, lists)?;

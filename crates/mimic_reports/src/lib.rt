@@ -6,7 +6,9 @@ mod inputs;
 mod join;
 mod names;
 mod numbers;
+mod order;
 mod reading;
+mod text;
 
 pub use faults::{JoinFault, NamedFault};
 pub use inputs::join_reports;

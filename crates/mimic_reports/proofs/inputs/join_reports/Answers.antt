@@ -1,13 +1,16 @@
-use Rattle.mimic_events.proofs.Writing.{same_counts}
-use Rattle.mimic_reports.proofs.JoinInputs.{join_to, write_leaves}
+use Rattle.std.proofs.Common.{◌∙◌, ap, subst}
+use Rattle.mimic_printer.specs.Json.{conclusion_of, json_report}
+use Rattle.mimic_printer.specs.Sink.{Put, Stopped, shown}
+use Rattle.mimic_reports.proofs.JoinInputs.{read_joined, write_leaves}
 use Rattle.mimic_reports.proofs.inputs.join_reports.Goals as goal
 
-pub returns-in_err-put_whole : goal.returns-in_err-put_whole
-returns-in_err-put_whole g c =
-    let to = join_to _ c.args.shards c.args.equal_names c.in_ok-reports.reports.items c.in_ok-report.field-0 c.in-Ok.report c.in_ok-reports.ensures c.in_ok-report.ensures.joined c.in-Ok.is in
-    write_leaves _ _ _ _ _ c.from_residual-in_err-put_whole.result c.in_err-put_whole.field-0.0 c.in-Ok.report c.from_residual-in_err-put_whole.ensures.1 to c.in_err-put_whole.ensures
+pub returns-in_err-put : goal.returns-in_err-put
+returns-in_err-put g c =
+    let j = read_joined _ c.args.shards c.args.equal_names c.in_ok-reports.reports.items c.deref.result.now c.in_ok-text.field-0 c.in-Ok.text c.in_ok-reports.ensures c.deref.ensures.value c.in_ok-text.ensures c.in-Ok.is in
+    write_leaves _ _ _ _ _ c.from_residual-in_err-put.result c.in_err-put.field-0.0 c.from_residual-in_err-put.ensures.1 j.0
+    (subst (λ x. Stopped (shown g.O.Write.contents c.args.sink.now) (shown g.O.Write.contents c.put.new.sink) (json_report x)) j.1 c.in_err-put.ensures)
 
 pub returns : goal.returns
 returns g c =
-    let to = join_to _ c.args.shards c.args.equal_names c.in_ok-reports.reports.items c.in_ok-report.field-0 c.in-Ok.report c.in_ok-reports.ensures c.in_ok-report.ensures.joined c.in-Ok.is in
-    (c.in-Ok.report, to, c.in_ok-put_whole.ensures, same_counts c.in-Ok.report c.counts.result c.counts.ensures)
+    let j = read_joined _ c.args.shards c.args.equal_names c.in_ok-reports.reports.items c.deref.result.now c.in_ok-text.field-0 c.in-Ok.text c.in_ok-reports.ensures c.deref.ensures.value c.in_ok-text.ensures c.in-Ok.is in
+    (j.0, subst (λ x. Put (shown g.O.Write.contents c.args.sink.now) (shown g.O.Write.contents c.put.new.sink) (json_report x)) j.1 c.in_ok-put.ensures, c.counts.ensures ∙ ap conclusion_of j.1)

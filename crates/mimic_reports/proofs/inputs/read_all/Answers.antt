@@ -19,6 +19,6 @@ loop-input-preserved g c =
       seen = append_assoc seen (c.in-Some.input ∷ []) _ ∙ (ap (λ l. seen ++ l) (sym c.in-Some.ensures.steps.0) ∙ before.seen);
       place = omega (arith, before.place, length-append seen (c.in-Some.input ∷ []));
       left = omega (arith, before.left, c.in-Some.ensures.steps);
-      read = subst (λ (l : List Report). AreReportsIn (map g.I.Read.remaining (seen ++ c.in-Some.input ∷ [])) l) (sym c.in_ok-push-in-Ok.ensures.items)
+      read = subst (λ (l : List Report). AreReportsIn (map g.I.Read.remaining (seen ++ c.in-Some.input ∷ [])) l) {x = c.loop-input.reports.items ++ c.in-Ok.report ∷ []} (sym c.in_ok-push-in-Ok.ensures.items)
           (reports_more g.I.Read.remaining seen c.loop-input.reports.items c.in-Some.input c.in-Ok.report before.read c.in-Ok.ensures);
     }
