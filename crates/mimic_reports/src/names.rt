@@ -62,7 +62,7 @@ pub(crate) fn named_twice(
     ensures { IfOk result (λ found. MatchOption found (AllPairs HaveOwnNames reports.now)
         (λ at. IsNamedTwice reports.now at.0 at.1)) }
 {
-    let mut seen = HashSet::new(alloc);
+    let mut seen = HashSet::with_capacity(alloc, rows_of(reports))?;
     for (place, report) in reports.iter().enumerate() {
         if let Some(row) = seen_row(&seen, &report.rows) {
             return Ok(Some((place, row)));
@@ -72,7 +72,17 @@ pub(crate) fn named_twice(
     Ok(None)
 }
 
+// Returns how many rows the reports have, as far as they can be counted.
+fn rows_of(reports: &[Report]) -> usize {
+    let mut rows = 0_usize;
+    for report in reports {
+        rows = rows.saturating_add(report.rows.len());
+    }
+    rows
+}
+
 // Returns the place of the first row whose kind and name were seen.
+#[inline(never)]
 fn seen_row(seen: &HashSet<Named<'_>>, rows: &[Row]) -> Option<usize>
     ensures { (labels : List Label) → HasLabels seen.now labels → MatchOption result
         (All (λ row. ¬ Contains labels (label_in row)) rows.now)
@@ -87,6 +97,7 @@ fn seen_row(seen: &HashSet<Named<'_>>, rows: &[Row]) -> Option<usize>
     None
 }
 
+#[inline(never)]
 fn add_names<'a>(seen: &mut HashSet<Named<'a>>, rows: &'a [Row]) -> Result<(), AllocError>
     ensures { OnOk result ((labels : List Label) → HasLabels seen.old labels
         → HasLabels seen.new (labels ++ map label_in rows.now)) }

@@ -27,6 +27,7 @@ fn lists_of(alloc: Global, reports: &[Report]) -> Result<VecDeque<&[Row]>, Alloc
 
 // Takes the rows of the lists in turn. The first row of the first list comes, and what is left of that list goes behind the
 // others.
+#[inline(never)]
 fn taken_in_turn<'a>(alloc: Global, lists: VecDeque<&'a [Row]>) -> Result<Vec<&'a Row>, AllocError>
     ensures { IfOk result (λ rows. map (λ row. row.now) rows.items ≡ in_turn (map (λ list. list.now) lists.entry.items)) }
 {

@@ -59,6 +59,7 @@ fn counts_of_rows(rows: &[&Row], filtered_out: u64) -> Conclusion
     counts
 }
 
+#[inline(never)]
 fn put_rows<W: Write>(sink: &mut Sink<W>, rows: &[&Row]) -> Result<(), WriteFault>
     requires { HasFaultLeft sink.old }
     ensures { Puts W.contents sink.old sink.new (flat_map (λ row. row_lines row.now) rows.now) result }

@@ -13,6 +13,9 @@ use std::alloc::Global;
 use std::io::BufWriter;
 use std::process::ExitCode;
 
+// How many bytes of a report wait at most before they go out.
+const BLOCK: usize = 65_536;
+
 // The exit statuses.
 const SUCCESS: u8 = 0;
 
@@ -48,7 +51,7 @@ fn print_joined(rt: &HostRuntime, alloc: Global, join: &Join) -> Result<Conclusi
     for file in &join.files {
         inputs.push(Input::new(rt, file.as_str()))?;
     }
-    let Ok(out) = BufWriter::new(alloc, rt.stdout()) else {
+    let Ok(out) = BufWriter::with_capacity(alloc, BLOCK, rt.stdout()) else {
         return Err(JoinFault::OutOfMemory);
     };
     join_reports(

@@ -6,7 +6,11 @@ use std::alloc::{AllocError, Global};
 use std::test::Fail;
 
 // A report with a row of each letter as its name, and so many trials that were filtered out.
-pub(super) fn report(alloc: Global, letters: &str, filtered_out: u64) -> Result<Report, AllocError> {
+pub(super) fn report(
+    alloc: Global,
+    letters: &str,
+    filtered_out: u64,
+) -> Result<Report, AllocError> {
     let mut rows = Vec::new(alloc);
     for at in 0..letters.len() {
         rows.push(Row {
@@ -65,13 +69,19 @@ const REFUSED: [(usize, &[(&str, u64)], Refusal, &str); 8] = [
     (
         3,
         &[("ac", 0), ("b", 0)],
-        Refusal::Number { reports: 2, shards: 3 },
+        Refusal::Number {
+            reports: 2,
+            shards: 3,
+        },
         "the number of shards is 3, but that of reports is 2",
     ),
     (
         0,
         &[("a", 0)],
-        Refusal::Number { reports: 1, shards: 0 },
+        Refusal::Number {
+            reports: 1,
+            shards: 0,
+        },
         "the number of shards is 0, but that of reports is 1",
     ),
     (
@@ -137,9 +147,12 @@ fn joins_equal_names(rt: HostRuntime) -> Result<(), Fail> {
     let refused = joined(alloc, reports(alloc, &table)?, 2, false)?;
     assert!(rt; refused == Err(Refusal::NamedTwice { place: 1, row: 1 }));
     let whole = joined(alloc, reports(alloc, &table)?, 2, true)?;
-    assert!(rt; whole.ok() == Some(Report {
-        nanos: 2,
-        ..report(alloc, "abaa", 0)?
-    }));
+    assert!(rt;
+        whole.ok()
+            == Some(Report {
+                nanos: 2,
+                ..report(alloc, "abaa", 0)?
+            })
+    );
     Ok(())
 }

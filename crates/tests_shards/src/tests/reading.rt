@@ -2,7 +2,7 @@
 use mimic_printer::Sink;
 use mimic_reports::{JoinFault, join_reports};
 use mimic_testkit::{Fault, FaultyWriter, Place};
-use std::alloc::{AllocError, Global};
+use std::alloc::Global;
 use std::io;
 use std::io::{ErrorKind, Read};
 use std::test::Fail;
@@ -96,12 +96,94 @@ fn joins_what_is_read(rt: HostRuntime) -> Result<(), Fail> {
     Ok(())
 }
 
-// What the second reader gives, and what is shown of it.
-fn odd_texts(alloc: Global) -> Result<Vec<(String, &'static str)>, AllocError> {
-    let mut texts = Vec::new(alloc);
-    let cut = SECOND.len() - 1;
-    texts.push((String::new(alloc), "B: the report is cut"))?;
-    texts.push((String::from_str(alloc, &SECOND[..cut])?, "B: the report is cut"))?;
-    texts.push((String::from_str(alloc, "no line")?, "B: the report is cut"))?;
-    Ok(texts)
+// What stands in the second report and is replaced, what comes in its place, and what is shown then.
+const ODD: [(&str, &str, &str); 9] = [
+    (SECOND, "", "B: the report is cut"),
+    (SECOND, "no line", "B: the report is cut"),
+    ("0.25 }\n", "0.25 }", "B: the report is cut"),
+    (
+        "{ \"type\": \"suite\", \"event\": \"ok\"",
+        "{",
+        "B: line 4: not what a report has there",
+    ),
+    (
+        "{ \"type\": \"suite\", \"event\": \"started\"",
+        "{",
+        "B: line 1: not what a report has there",
+    ),
+    (
+        "\"name\": \"c\", \"event\": \"ok\"",
+        "\"name\": \"d\", \"event\": \"ok\"",
+        "B: line 3: not what a report has there",
+    ),
+    (
+        "\"passed\": 1",
+        "\"passed\": 2",
+        "B: line 4: not what a report has there",
+    ),
+    (
+        "0.25 }\n",
+        "0.25 }\n\n",
+        "B: line 5: not what a report has there",
+    ),
+    (
+        SECOND,
+        FIRST,
+        "B: line 2: its trial is in a report before it too",
+    ),
+];
+
+// The text with the first such part exchanged.
+fn altered(alloc: Global, text: &str, old: &str, new: &str) -> Result<String, Fail> {
+    let (front, back) = text.split_once(old).ok_or("not in the text")?;
+    Ok(format!(in alloc; "{front}{new}{back}")?)
+}
+
+#[test]
+fn refuses_what_is_no_report(rt: HostRuntime) -> Result<(), Fail> {
+    let alloc = rt.alloc();
+    for (old, new, shown) in &ODD {
+        let second = altered(alloc, SECOND, old, new)?;
+        let (bytes, fault) = outcome_of(alloc, Slow::of(FIRST), Slow::of(second.as_str()))?;
+        let fault = fault.ok_or("joined")?;
+        assert!(rt; fault.as_str() == *shown, "{fault}");
+        assert!(rt; bytes.is_empty());
+    }
+    Ok(())
+}
+
+// The first reader fails behind its text, or its text is cut; what the second gives doesn't count.
+#[test]
+fn refuses_the_first_reader(rt: HostRuntime) -> Result<(), Fail> {
+    let alloc = rt.alloc();
+    let kind = ErrorKind::PermissionDenied;
+    let mut first = Slow::of(FIRST);
+    first.fails = Some(kind);
+    let (bytes, fault) = outcome_of(alloc, first, Slow::of("no line\n"))?;
+    let shown = format!(in alloc; "A: {}", io::Error::from(kind))?;
+    assert!(rt; fault.as_ref().map(String::as_str) == Some(shown.as_str()));
+    assert!(rt; bytes.is_empty());
+    let (bytes, fault) = outcome_of(alloc, Slow::of(""), Slow::of("no line\n"))?;
+    assert!(rt; fault.as_ref().map(String::as_str) == Some("A: the report is cut"));
+    assert!(rt; bytes.is_empty());
+    Ok(())
+}
+
+// A writer that fails after so many bytes has got these bytes of the joined report.
+#[test]
+fn stops_at_a_write_fault(rt: HostRuntime) -> Result<(), Fail> {
+    let alloc = rt.alloc();
+    for count in [0, 3, 60, 400] {
+        for fault in Fault::ALL {
+            let writer = FaultyWriter::new(alloc).failing(Place::Byte(count), fault);
+            let mut sink = Sink::new(writer);
+            let inputs = vec![in alloc; Slow::of(FIRST), Slow::of(SECOND)]?;
+            let joined = join_reports(alloc, inputs, 2, false, &mut sink);
+            assert!(rt; matches!(joined, Err(JoinFault::Write(_))));
+            let writer = sink.into_inner();
+            assert!(rt; str::from_utf8(&writer.bytes)? == &BOTH[..count]);
+            assert!(rt; writer.calls_after == 0);
+        }
+    }
+    Ok(())
 }

@@ -9,7 +9,12 @@ const GOOD: [(&str, &str, usize, usize); 6] = [
     ("4", "0", 4, 0),
     ("4", "3", 4, 3),
     ("0020", "019", 20, 19),
-    ("18446744073709551615", "18446744073709551614", usize::MAX, usize::MAX - 1),
+    (
+        "18446744073709551615",
+        "18446744073709551614",
+        usize::MAX,
+        usize::MAX - 1,
+    ),
     ("00000000000000000000007", "6", 7, 6),
 ];
 
@@ -17,7 +22,9 @@ const GOOD: [(&str, &str, usize, usize); 6] = [
 fn reads_good_pairs(rt: HostRuntime) -> Result<(), Fail> {
     assert!(rt; Shard::from_variables(None, None) == Ok(None));
     for (total, index, count, place) in &GOOD {
-        let shard = Shard::from_variables(Some(total), Some(index)).ok().flatten();
+        let shard = Shard::from_variables(Some(total), Some(index))
+            .ok()
+            .flatten();
         assert!(rt; shard == Shard::new(*place, *count), "{total} {index}");
         let shard = shard.ok_or("no shard")?;
         assert!(rt; (shard.index(), shard.count()) == (*place, *count));
@@ -57,20 +64,50 @@ fn refuses_odd_numbers(rt: HostRuntime) {
 
 // Pairs that name no shard, and what is shown.
 const REFUSED: [(Option<&str>, Option<&str>, &str); 7] = [
-    (Some("4"), None, "TEST_SHARD_INDEX is missing, but TEST_TOTAL_SHARDS is set"),
-    (None, Some("0"), "TEST_TOTAL_SHARDS is missing, but TEST_SHARD_INDEX is set"),
-    (None, Some(""), "TEST_TOTAL_SHARDS is missing, but TEST_SHARD_INDEX is set"),
-    (Some("0"), Some("0"), "TEST_TOTAL_SHARDS is not a number of shards"),
-    (Some("00"), Some("x"), "TEST_TOTAL_SHARDS is not a number of shards"),
-    (Some("4"), Some("4"), "TEST_SHARD_INDEX is not a number below TEST_TOTAL_SHARDS"),
-    (Some("1"), Some("1"), "TEST_SHARD_INDEX is not a number below TEST_TOTAL_SHARDS"),
+    (
+        Some("4"),
+        None,
+        "TEST_SHARD_INDEX is missing, but TEST_TOTAL_SHARDS is set",
+    ),
+    (
+        None,
+        Some("0"),
+        "TEST_TOTAL_SHARDS is missing, but TEST_SHARD_INDEX is set",
+    ),
+    (
+        None,
+        Some(""),
+        "TEST_TOTAL_SHARDS is missing, but TEST_SHARD_INDEX is set",
+    ),
+    (
+        Some("0"),
+        Some("0"),
+        "TEST_TOTAL_SHARDS is not a number of shards",
+    ),
+    (
+        Some("00"),
+        Some("x"),
+        "TEST_TOTAL_SHARDS is not a number of shards",
+    ),
+    (
+        Some("4"),
+        Some("4"),
+        "TEST_SHARD_INDEX is not a number below TEST_TOTAL_SHARDS",
+    ),
+    (
+        Some("1"),
+        Some("1"),
+        "TEST_SHARD_INDEX is not a number below TEST_TOTAL_SHARDS",
+    ),
 ];
 
 #[test]
 fn refuses_other_pairs(rt: HostRuntime) -> Result<(), Fail> {
     let alloc = rt.alloc();
     for (total, index, text) in &REFUSED {
-        let fault = Shard::from_variables(*total, *index).err().ok_or("a shard")?;
+        let fault = Shard::from_variables(*total, *index)
+            .err()
+            .ok_or("a shard")?;
         let shown = format!(in alloc; "{fault}")?;
         assert!(rt; shown.as_str() == *text, "{shown}");
     }
