@@ -18,7 +18,7 @@ ghost use Rattle.libtest_mimic.specs.Trial.{AllCanRun};
 use asked::{Asked, Runners};
 use libtest_mimic::{ArgumentsError, Clock, Failed, Outcome, RunError, Task, Trial};
 use measured::Measured;
-use mimic_main::{Machine, MonotonicClock, Program, Status, StillClock};
+use mimic_main::{Machine, MonotonicClock, Program, Sharding, Status, StillClock};
 use std::alloc::Global;
 use std::fs::Files;
 use std::io::Eprint;
@@ -143,7 +143,7 @@ fn failure(alloc: Global) -> Failed {
 fn refuse<M: Machine>(rt: &M, error: ArgumentsError) -> Status {
     let alloc = rt.alloc();
     let none: Result<Vec<Trial<Unit>>, RunError> = Ok(Vec::new(alloc));
-    BENCH_SUITE.run_line(rt, Err(error), none)
+    BENCH_SUITE.run_line(rt, Err(error), Ok(Sharding::none()), none)
 }
 
 // Makes the tests and runs them, and prints what that took.

@@ -9,7 +9,7 @@ mod report;
 use case::{Expectation, JsonFile};
 use folders::{FolderError, Found, cases_below};
 use libtest_mimic::{Line, Trial};
-use mimic_main::{Status, run_line};
+use mimic_main::{Sharding, Status, run_line};
 use std::rt::Files;
 
 const USAGE: &str = "\
@@ -33,7 +33,7 @@ fn main(rt: HostRuntime) -> Status {
         Ok((options, folders)) => (Ok(options), trials_below(rt, folders.as_slice())),
         Err(error) => (Err(error), Ok(Vec::new(alloc))),
     };
-    run_line(&rt, "example_json", options, trials)
+    run_line(&rt, "example_json", options, Sharding::from_env(&rt), trials)
 }
 
 // A trial for each case below the folders whose name says what is expected.

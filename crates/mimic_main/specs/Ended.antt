@@ -1,5 +1,5 @@
 -- How the program ends: its exit status, and what its output has got then.
-use Rattle.std.specs.Prelude.{◌≡◌, ℕ, Bool, List, Option, IsNone, IsSome, if◌then◌else◌, Result, Ok, Err, IfOk, IfErr, nat_lt, ⊤}
+use Rattle.std.specs.Prelude.{◌≡◌, ◌⊎◌, ℕ, Bool, List, Option, IsNone, IsSome, if◌then◌else◌, Result, Ok, Err, IfOk, IfErr, nat_lt, ⊤}
 use Rattle.mimic_args.specs.declared.Arguments.{Arguments}
 use Rattle.mimic_args.specs.declared.error.ArgumentsError.{ArgumentsError}
 use Rattle.mimic_args.specs.declared.error.ArgumentsError.TheVariants.{OutOfMemory, Help, Refused}
@@ -11,8 +11,11 @@ use Rattle.libtest_mimic.specs.Suite.{Asked, asking}
 use Rattle.libtest_mimic.specs.declared.running.RunError.{RunError}
 use Rattle.mimic_main.specs.declared.program.Fault.{Fault}
 use Rattle.mimic_main.specs.declared.program.Fault.TheVariants.{Logfile, Run}
+use Rattle.mimic_main.specs.declared.sharding.Sharding.{Sharding}
+use Rattle.mimic_main.specs.declared.sharding.ShardError.{ShardError}
 use Rattle.mimic_main.specs.declared.status.Status.{Status}
 use Rattle.mimic_main.specs.Run.{GotBeginning, IsLawful, Ran}
+use Rattle.mimic_main.specs.Sharding.{HasFilterOf, IsPartFault, IsReadSharding, trials_of}
 
 -- the number that a process ends with whose `main` returns this
 abbrev pub number_of : Status → ℕ
@@ -64,15 +67,41 @@ Ended ask (Err error) old got status = (status ≡ status_without error) × GotW
 abbrev pub EndsSomehow : {R : Type 0} → (Arguments → Asked R) → Result Arguments ArgumentsError → ℕ → Type 0
 EndsSomehow ask line status = (old : Option (List ℕ)) × (got : Option (List ℕ)) × Ended ask line old got status
 
--- the status is that of a program for this line, whatever the machine says of threads and colours
-abbrev pub EndsForLine : {R : Type 0} → Gives R → List (Trial R) → Result Arguments ArgumentsError → ℕ → Type 0
-EndsForLine gives trials line status = (threads : ℕ) × (auto : Bool)
-    × EndsSomehow (asking gives threads auto trials) line status
+-- 2 if no part of the trials can be taken, 1 if an allocation failed
+abbrev pub status_without_part : ShardError → ℕ
+status_without_part ShardError.OutOfMemory = 1
+status_without_part (ShardError.NotUtf8 name) = 2
+status_without_part (ShardError.NoShard fault) = 2
+status_without_part (ShardError.StatusFile path cause) = 2
+
+-- the status is that of a run of the shard's trials, with the filter of the environment if these arguments have none; or that of what
+-- is in its way
+abbrev pub EndsInPart : {R : Type 0} → (List (Trial R) → Arguments → Asked R) → List (Trial R) → Arguments → Sharding → ℕ → Type 0
+EndsInPart ask trials args sharding status =
+    ((asked : Arguments) × HasFilterOf sharding.filter args asked × EndsSomehow (ask (trials_of sharding trials)) (Ok asked) status)
+    ⊎ ((error : ShardError) × IsPartFault sharding error × (status ≡ status_without_part error))
+
+-- if the line gave no arguments, the status says why; else if the variables could not be read, it says that
+abbrev pub EndsAsAsked : {R : Type 0} → (List (Trial R) → Arguments → Asked R) → List (Trial R) → Result Arguments ArgumentsError
+    → Result Sharding ShardError → ℕ → Type 0
+EndsAsAsked ask trials (Err error) sharding status = status ≡ status_without error
+EndsAsAsked ask trials (Ok args) (Err error) status = status ≡ status_without_part error
+EndsAsAsked ask trials (Ok args) (Ok sharding) status = EndsInPart ask trials args sharding status
+
+-- the status is that of a program for this line and these variables, whatever the machine says of threads and colours
+abbrev pub EndsForLine : {R : Type 0} → Gives R → List (Trial R) → Result Arguments ArgumentsError → Result Sharding ShardError
+    → ℕ → Type 0
+EndsForLine gives trials line sharding status = (threads : ℕ) × (auto : Bool)
+    × EndsAsAsked (asking gives threads auto) trials line sharding status
 
 -- so ends a program as it reads some command line, of which nothing more is known
 abbrev pub IsOfReadLine : (Result Arguments ArgumentsError → ℕ → Type 0) → ℕ → Type 0
 IsOfReadLine Ends status = (line : Result Arguments ArgumentsError) × IsReadLine line × Ends line status
 
--- the status is that of a program as it reads some command line, whatever the machine says of threads and colours
+-- so ends a program as it reads some variables, of which nothing more is known
+abbrev pub IsOfReadVariables : (Result Sharding ShardError → ℕ → Type 0) → ℕ → Type 0
+IsOfReadVariables Ends status = (sharding : Result Sharding ShardError) × IsReadSharding sharding × Ends sharding status
+
+-- the status is that of a program as it reads some command line and some variables, whatever the machine says of threads and colours
 abbrev pub EndsByLine : {R : Type 0} → Gives R → List (Trial R) → ℕ → Type 0
-EndsByLine gives trials = IsOfReadLine (EndsForLine gives trials)
+EndsByLine gives trials = IsOfReadLine (λ line. IsOfReadVariables (EndsForLine gives trials line))

@@ -1,4 +1,5 @@
 pub mod Policy
 pub mod Output
 pub mod Run
+pub mod Sharding
 pub mod Ended

@@ -27,13 +27,16 @@ mod machine;
 mod output;
 mod policy;
 mod program;
+mod sharding;
 mod status;
 
 pub use clock::{MonotonicClock, StillClock};
 pub use colours::shows_colours;
 pub use job::{Job, run_into};
 pub use machine::{Machine, Streams, run_line, run_program, trials_of_cases};
+pub use mimic_shard::{Shard, ShardFault};
 pub use output::Output;
 pub use policy::FlushPolicy;
 pub use program::Program;
+pub use sharding::{ShardError, Sharding};
 pub use status::Status;

@@ -5,11 +5,12 @@ ghost use Rattle.std.specs.Result.{is_ok};
 ghost use Rattle.libtest_mimic.specs.Suite.{asking};
 ghost use Rattle.libtest_mimic.specs.Trial.{AllCanRun};
 ghost use Rattle.mimic_trial.specs.Case.{AreTestsOf};
-ghost use Rattle.mimic_main.specs.Ended.{EndsByLine, EndsForLine, EndsSomehow, IsOfReadLine, number_of};
+ghost use Rattle.mimic_main.specs.Ended.{EndsAsAsked, EndsByLine, EndsForLine, EndsInPart, EndsSomehow, IsOfReadLine, number_of};
 
 use crate::clock::MonotonicClock;
 use crate::colours::shows_colours;
 use crate::program::Program;
+use crate::sharding::{ShardError, Sharding};
 use crate::status::Status;
 use libtest_mimic::{Arguments, ArgumentsError, Case, Failed, RunError, Spawner, Task, Trial};
 use std::alloc::Global;
@@ -82,13 +83,14 @@ impl<R: Env + AllocGlobal + Clock + Files + Streams + Spawner + 'static> Machine
     }
 }
 
-/// Runs or lists the trials as the program's command line asks, and returns what its `main` is to return.
+/// Runs or lists the trials as the program's command line and its environment ask, and returns what its `main` is to return.
 ///
 /// If the line does not say how many threads run them, it is as many as the machine can run at once. The report goes to
 /// standard output, in colours if [`shows_colours`](crate::shows_colours) says so, or into the logfile. A fault is printed on
 /// standard error with its cause. If the trials could not be made, the reason is printed there, and the status is 1.
 ///
-/// No contract says which words a process gets, so this one is about some line, and never excludes the statuses 0, 1 and 2.
+/// No contract says which words and variables a process gets, so this one is about some of them, and never excludes the statuses
+/// 0, 1 and 2.
 pub fn run_program<M: Machine, R: Task + Send + 'static, X: Display + Drop>(
     machine: &M,
     name: &str,
@@ -99,23 +101,25 @@ pub fn run_program<M: Machine, R: Task + Send + 'static, X: Display + Drop>(
     ensures refused { OnErr tests (number_of result ≡ 1) }
 {
     let line = Arguments::from_args(machine, machine.alloc());
+    let sharding = Sharding::from_env(machine);
     let program = Program::on(machine, name);
-    program.run_line(machine, line, tests)
+    program.run_line(machine, line, sharding, tests)
 }
 
 /// Runs or lists the trials as `run_program` does, for a line that was read already, as by a program with words of its own
-/// (`Line` of `libtest_mimic`).
+/// (`Line` of `libtest_mimic`), and for variables that were read by [`Sharding::from_env`](crate::Sharding::from_env).
 pub fn run_line<M: Machine, R: Task + Send + 'static, X: Display + Drop>(
     machine: &M,
     name: &str,
     line: Result<Arguments, ArgumentsError>,
+    sharding: Result<Sharding, ShardError>,
     tests: Result<Vec<Trial<R>>, X>,
 ) -> Status
     requires { IfOk tests (λ made. AllCanRun R.can_run made.items) }
-    ensures made { IfOk tests (λ made. EndsForLine R.gives made.items line (number_of result)) }
+    ensures made { IfOk tests (λ made. EndsForLine R.gives made.items line sharding (number_of result)) }
     ensures refused { OnErr tests (number_of result ≡ 1) }
 {
-    Program::on(machine, name).run_line(machine, line, tests)
+    Program::on(machine, name).run_line(machine, line, sharding, tests)
 }
 
 /// Makes tests of a table for [`run_program`]: one for each case, in their order. A case is its name and its input, and passes if
@@ -178,7 +182,8 @@ impl<'a> Program<'a> {
         }
     }
 
-    /// Runs or lists the trials as the machine's command line asks, and returns what `main` is to return.
+    /// Runs or lists the trials as the machine's command line asks, whatever the variables of its environment hold, and returns
+    /// what `main` is to return.
     ///
     /// Trials that are boxed closures are handed in here, by the function that makes the boxes.
     pub fn run<M: Machine, R: Task + Send + 'static>(
@@ -192,39 +197,69 @@ impl<'a> Program<'a> {
     {
         let line = Arguments::from_args(machine, machine.alloc());
         let made: Result<Vec<Trial<R>>, RunError> = Ok(tests);
-        self.run_line(machine, line, made)
+        self.run_line(machine, line, Ok(Sharding::none()), made)
     }
 
-    /// Runs or lists the trials as the line asks, on the machine's streams and by its clock, and returns what `main` is to
-    /// return. If the trials could not be made, the reason is printed on standard error, and the status is 1.
+    /// Runs or lists the trials as the line and the variables ask, on the machine's streams and by its clock, and returns what
+    /// `main` is to return. A shard is named in one line on standard error.
+    ///
+    /// A fault is printed there, the first of these: the trials could not be made (status 1), the line was refused (2), the
+    /// variables were (2), the status file can't be touched (2), the logfile can't be made (1), the run was refused (1). If help
+    /// is asked for, it is printed whatever the variables hold. The status is 1, too, if there is no memory for any of this.
     pub fn run_line<M: Machine, R: Task + Send + 'static, X: Display + Drop>(
         &self,
         machine: &M,
         line: Result<Arguments, ArgumentsError>,
+        sharding: Result<Sharding, ShardError>,
         tests: Result<Vec<Trial<R>>, X>,
     ) -> Status
         requires runnable { IfOk tests (λ made. AllCanRun R.can_run made.items) }
         requires some_thread { 1 ≤ self.now.threads }
         ensures made { IfOk tests
-            (λ made. EndsSomehow (asking R.gives self.now.threads self.now.auto_colours made.items) line (number_of result)) }
+            (λ made. EndsAsAsked (asking R.gives self.now.threads self.now.auto_colours) made.items line sharding (number_of result)) }
         ensures refused { OnErr tests (number_of result ≡ 1) }
     {
-        let host = machine.host();
         let mut err = machine.stderr();
         let tests = match tests {
             Ok(tests) => tests,
             Err(reason) => return self.refuse(reason, &mut err),
         };
-        let (_, status) = self.harness_run(
-            &host,
-            &host,
-            machine.alloc(),
-            line,
-            tests,
-            machine.stdout(),
-            &mut err,
-            MonotonicClock::new(machine),
-        );
+        let args = match line {
+            Ok(args) => args,
+            Err(error) => return self.status_without(error, &mut machine.stdout(), &mut err),
+        };
+        match sharding {
+            Ok(sharding) => self.run_part(machine, args, sharding, tests, &mut err),
+            Err(error) => self.status_without_part(&error, &mut err),
+        }
+    }
+
+    // Runs or lists what these variables ask for, and prints which shard of the trials it is.
+    fn run_part<M: Machine, R: Task + Send + 'static>(
+        &self,
+        machine: &M,
+        args: Arguments,
+        sharding: Sharding,
+        tests: Vec<Trial<R>>,
+        err: &mut M::Stderr,
+    ) -> Status
+        requires runnable { AllCanRun R.can_run tests.items }
+        requires some_thread { 1 ≤ self.now.threads }
+        ensures { EndsInPart (asking R.gives self.now.threads self.now.auto_colours) tests.items args sharding (number_of result) }
+    {
+        let host = machine.host();
+        let alloc = machine.alloc();
+        let (shard, total) = (sharding.shard, tests.len());
+        let (args, tests) = match sharding.part(&host, machine, alloc, args, tests) {
+            Ok(part) => part,
+            Err(error) => return self.status_without_part(&error, err),
+        };
+        if let Some(shard) = shard {
+            self.print_shard(shard, tests.len(), total, err);
+        }
+        let (line, out) = (Ok(args), machine.stdout());
+        let clock = MonotonicClock::new(machine);
+        let (_, status) = self.harness_run(&host, &host, alloc, line, tests, out, err, clock);
         status
     }
 

@@ -2,14 +2,16 @@
 ghost use Rattle.std.specs.Prelude.{◌≡◌, ◌≤◌, IfErr, IfOk, IsNone, IsSome};
 ghost use Rattle.libtest_mimic.specs.Suite.{asking};
 ghost use Rattle.libtest_mimic.specs.Trial.{AllCanRun};
-ghost use Rattle.mimic_main.specs.Ended.{Ended, GotWithout, IfOfRun, number_of, status_of, status_without};
+ghost use Rattle.mimic_main.specs.Ended.{Ended, GotWithout, IfOfRun, number_of, status_of, status_without, status_without_part};
 ghost use Rattle.mimic_main.specs.Run.{GotBeginning, IsLawful, Ran, asked_by};
 
 use crate::job::{Job, run_into};
 use crate::output::{BLOCK, Output};
+use crate::sharding::ShardError;
 use crate::status::Status;
 use arrayvec::ArrayVec;
 use libtest_mimic::{Arguments, ArgumentsError, Clock, Conclusion, RunError, Spawner, Task, Trial};
+use mimic_shard::Shard;
 use std::alloc::Global;
 use std::fmt::Display;
 use std::fs::Files;
@@ -107,7 +109,7 @@ impl Program<'_> {
     }
 
     // Prints help, or why a line was refused, and returns the exit status.
-    fn status_without<O: Write, E: Write>(
+    pub(crate) fn status_without<O: Write, E: Write>(
         &self,
         error: ArgumentsError,
         out: &mut O,
@@ -128,6 +130,34 @@ impl Program<'_> {
                 Status::REFUSED_LINE
             }
         }
+    }
+
+    // Prints why no part of the trials runs, and returns the exit status.
+    pub(crate) fn status_without_part<E: Write>(&self, error: &ShardError, err: &mut E) -> Status
+        ensures { number_of result ≡ status_without_part error.now }
+    {
+        let name = self.name;
+        print_line(format_args!("{name}: {error}"), err);
+        match error {
+            ShardError::OutOfMemory => Status::CANNOT_RUN,
+            _ => Status::REFUSED_LINE,
+        }
+    }
+
+    // Prints which shard runs, of which so many trials are, of so many in all.
+    pub(crate) fn print_shard<E: Write>(
+        &self,
+        shard: Shard,
+        count: usize,
+        total: usize,
+        err: &mut E,
+    ) {
+        let (name, shards) = (self.name, shard.count());
+        let number = shard.index() + 1;
+        print_line(
+            format_args!("{name}: shard {number} of {shards}: {count} of {total} trials"),
+            err,
+        );
     }
 
     /// Prints why there was no run, in one line on `err`, and returns the exit status 1. A fault in writing changes
