@@ -1,7 +1,9 @@
 //! What no clause says of programs: when bytes go out, what is printed on standard error, and that nothing is done after a fault.
 mod clocks;
 mod faults;
+mod known_machine;
 mod machines;
 mod outputs;
 mod programs;
 mod runs;
+mod shards;

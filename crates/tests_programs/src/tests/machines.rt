@@ -1,224 +1,15 @@
 //! Whole programs, on a machine whose parts are known.
-ghost use Rattle.std.specs.Io.{WritesAtMost};
-ghost use Rattle.std.specs.Prelude.{IfOk};
-ghost use Rattle.libtest_mimic.specs.Trial.{AllCanRun};
-
+use super::known_machine::{NO_OPTIONS, Streams, Variables, Words, known_machine, run_on};
 use super::runs::Host;
 use libtest_mimic::{Arguments, Failed, Line, Outcome, RunError, Task, Trial};
-use mimic_main::{Machine, Program, Status, run_line, run_program, trials_of_cases};
-use std::alloc::{Alloc, Global};
-use std::cell::Cell;
-use std::env::FillError;
+use mimic_main::{Program, Sharding, Status, run_line, trials_of_cases};
+use std::alloc::Global;
 use std::fmt::Display;
-use std::io::{ErrorKind, IsTerminal, Write};
 use std::process::{ExitCode, Termination};
-use std::rt::{Clock, Env};
 use std::sync::Arc;
 use std::sync::atomic::{AtomicUsize, Ordering};
 use std::test::Fail;
-use std::time::Duration;
-use std::{fmt, io, thread};
-
-// The variables of an environment, each a name and a value.
-type Variables = &'static [(&'static str, &'static str)];
-
-// The words of a command line, which need not be text.
-type Words = &'static [&'static [u8]];
-
-// What a stream of the machine has got.
-#[derive(Drop)]
-struct Got {
-    bytes: Cell<Vec<u8>>,
-    writes: Cell<usize>,
-}
-
-impl Got {
-    fn nothing(alloc: Global) -> Got {
-        Got {
-            bytes: Cell::new(Vec::new(alloc)),
-            writes: Cell::new(0),
-        }
-    }
-}
-
-// A machine that is known but for its host: its line, its variables, and whether its output is a terminal. Its clock reads one
-// and a half seconds more each time, and its streams can be read afterwards.
-#[derive(Drop)]
-struct KnownMachine<'a, H> {
-    host: H,
-    alloc: Global,
-    words: Words,
-    variables: Variables,
-    is_terminal: bool,
-    readings: Cell<u64>,
-    streams: &'a Streams,
-}
-
-impl<H> Env for KnownMachine<'_, H> {
-    fn arg(&self, i: usize, buf: &mut [u8]) -> Result<usize, FillError> {
-        match self.words.get(i) {
-            Some(word) => fill(word, buf),
-            None => Err(FillError::NotPresent),
-        }
-    }
-
-    fn var(&self, name: &str, buf: &mut [u8]) -> Result<usize, FillError> {
-        for (known, value) in self.variables {
-            if *known == name {
-                return fill(value.as_bytes(), buf);
-            }
-        }
-        Err(FillError::NotPresent)
-    }
-
-    fn var_at(&self, _i: usize, _buf: &mut [u8]) -> Result<usize, FillError> {
-        Err(FillError::NotPresent)
-    }
-}
-
-// Copies the bytes to the front of the buffer.
-fn fill(bytes: &[u8], buf: &mut [u8]) -> Result<usize, FillError>
-    ensures { WritesAtMost result buf.new }
-{
-    if bytes.len() > buf.len() {
-        return Err(FillError::TooLong);
-    }
-    buf[..bytes.len()].copy_from_slice(bytes);
-    Ok(bytes.len())
-}
-
-impl<H> Alloc for KnownMachine<'_, H> {
-    type A = Global;
-
-    fn alloc(&self) -> Global {
-        self.alloc
-    }
-}
-
-impl<H> Clock for KnownMachine<'_, H> {
-    fn monotonic(&self) -> io::Result<Duration> {
-        let readings = self.readings.get();
-        self.readings.set(readings.saturating_add(1));
-        Ok(Duration::from_millis(readings.saturating_mul(1500)))
-    }
-
-    fn since_1970(&self) -> io::Result<Duration> {
-        Err(io::Error::from(ErrorKind::Unsupported))
-    }
-}
-
-// A stream of the machine.
-#[derive(Drop)]
-struct Stream<'a> {
-    alloc: Global,
-    is_terminal: bool,
-    got: &'a Got,
-}
-
-impl IsTerminal for Stream<'_> {
-    fn is_terminal(&self) -> bool {
-        self.is_terminal
-    }
-}
-
-impl Write for Stream<'_> {
-    fn write(&mut self, buf: &[u8]) -> io::Result<usize> {
-        let mut bytes = self.got.bytes.replace(Vec::new(self.alloc));
-        let extended = bytes.extend_from_slice(buf);
-        self.got.bytes.set(bytes);
-        self.got.writes.set(self.got.writes.get().saturating_add(1));
-        extended?;
-        Ok(buf.len())
-    }
-
-    fn flush(&mut self) -> io::Result<()> {
-        Ok(())
-    }
-}
-
-impl<'a, H: Host> Machine for KnownMachine<'a, H> {
-    type Host = H;
-
-    type Stdout = Stream<'a>;
-
-    type Stderr = Stream<'a>;
-
-    fn host(&self) -> H {
-        self.host
-    }
-
-    fn stdout(&self) -> Stream<'a> {
-        Stream {
-            alloc: self.alloc,
-            is_terminal: self.is_terminal,
-            got: &self.streams.out,
-        }
-    }
-
-    fn stderr(&self) -> Stream<'a> {
-        Stream {
-            alloc: self.alloc,
-            is_terminal: false,
-            got: &self.streams.err,
-        }
-    }
-}
-
-// What the streams of a machine have got.
-#[derive(Drop)]
-struct Streams {
-    out: Got,
-    err: Got,
-}
-
-impl Streams {
-    fn new(alloc: Global) -> Streams {
-        Streams {
-            out: Got::nothing(alloc),
-            err: Got::nothing(alloc),
-        }
-    }
-
-    // Whether standard error has got this text in one write, and standard output nothing.
-    fn have_only_printed(self, alloc: Global, text: &str) -> bool {
-        let err = self.err.bytes.replace(Vec::new(alloc));
-        err.as_slice() == text.as_bytes()
-            && self.err.writes.get() == 1
-            && self.out.writes.get() == 0
-    }
-}
-
-// A machine of this line, which has no variables, and whose output is no terminal.
-fn known_machine<H>(
-    host: H,
-    alloc: Global,
-    words: Words,
-    streams: &Streams,
-) -> KnownMachine<'_, H> {
-    KnownMachine {
-        host,
-        alloc,
-        words,
-        variables: &[],
-        is_terminal: false,
-        readings: Cell::new(0),
-        streams,
-    }
-}
-
-// Runs the tests, and returns the status. This is the one place that calls `run_program`, and it promises nothing, so that no test
-// carries that contract.
-fn run_on<H: Host, R: Task + Send + 'static>(
-    machine: &KnownMachine<'_, H>,
-    tests: Result<Vec<Trial<R>>, RunError>,
-) -> ExitCode
-    requires { IfOk tests (λ made. AllCanRun R.can_run made.items) }
-{
-    run_program(machine, "program", tests).report(&machine.host)
-}
-
-// A line of the program's name alone.
-const NO_OPTIONS: Words = &[b"program"];
+use std::{fmt, thread};
 
 // A test that passes.
 #[derive(Drop)]
@@ -233,16 +24,16 @@ impl Task for Pass {
 // Variables, whether the output is a terminal, and whether the report has colours: on a terminal that can show them, if `NO_COLOR`
 // is unset or empty.
 const COLOURS: [(Variables, bool, bool); 10] = [
-    (&[("TERM", "xterm-256color")], true, true),
-    (&[("TERM", "xterm-256color")], false, false),
-    (&[("TERM", "vt52")], true, true),
-    (&[("TERM", "")], true, true),
-    (&[("TERM", "dumb")], true, false),
+    (&[("TERM", b"xterm-256color")], true, true),
+    (&[("TERM", b"xterm-256color")], false, false),
+    (&[("TERM", b"vt52")], true, true),
+    (&[("TERM", b"")], true, true),
+    (&[("TERM", b"dumb")], true, false),
     (&[], true, false),
-    (&[("TERM", "xterm"), ("NO_COLOR", "1")], true, false),
-    (&[("TERM", "xterm"), ("NO_COLOR", "yes")], true, false),
-    (&[("TERM", "xterm"), ("NO_COLOR", "")], true, true),
-    (&[("TERM", "xterm"), ("NO_COLOR", "")], false, false),
+    (&[("TERM", b"xterm"), ("NO_COLOR", b"1")], true, false),
+    (&[("TERM", b"xterm"), ("NO_COLOR", b"yes")], true, false),
+    (&[("TERM", b"xterm"), ("NO_COLOR", b"")], true, true),
+    (&[("TERM", b"xterm"), ("NO_COLOR", b"")], false, false),
 ];
 
 // Whether a test runs there, and its report has colours or not, and the time that the clock measured.
@@ -319,7 +110,14 @@ fn prints_under_its_name(rt: HostRuntime) {
     let machine = known_machine(rt, alloc, NO_OPTIONS, &streams);
     let cases: Result<Vec<(&str, u8)>, RunError> = Err(RunError::Spawn);
     let tests = trials_of_cases(alloc, cases, |_input: u8| Ok(()));
-    let status = run_line(&machine, "by_line", Ok(Arguments::new(alloc)), tests).report(&rt);
+    let status = run_line(
+        &machine,
+        "by_line",
+        Ok(Arguments::new(alloc)),
+        Ok(Sharding::none()),
+        tests,
+    )
+    .report(&rt);
     assert!(rt; status == ExitCode::from(1));
     assert!(rt; streams.have_only_printed(alloc, "by_line: cannot start a worker\n"));
     let streams = Streams::new(alloc);
