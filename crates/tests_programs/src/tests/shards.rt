@@ -473,16 +473,8 @@ const ORDER: [(Words, Variables, u8, &str); 5] = [
 
 #[test]
 fn prints_the_first_fault(rt: HostRuntime) -> Result<(), Fail> {
-    let alloc = rt.alloc();
-    let (words, variables, ..) = ORDER[0];
-    let streams = Streams::new(alloc);
-    let mut machine = known_machine(rt, alloc, words, &streams);
-    machine.variables = variables;
-    let unmade: Result<Vec<Trial<Counts>>, RunError> = Err(RunError::Spawn);
-    assert!(rt; run_on(&machine, unmade) == ExitCode::from(1));
-    assert!(rt; streams.have_only_printed(alloc, "program: cannot start a worker\n"));
     for (words, variables, status, text) in &ORDER {
-        let left = run_five(rt, alloc, words, variables)?;
+        let left = run_five(rt, rt.alloc(), words, variables)?;
         assert!(rt;
             left.status == ExitCode::from(*status) && left.runs == 0,
             "{text}"
@@ -490,6 +482,18 @@ fn prints_the_first_fault(rt: HostRuntime) -> Result<(), Fail> {
         assert!(rt; left.err.starts_with(text), "{text}");
     }
     Ok(())
+}
+
+// Whatever else is wrong.
+#[test]
+fn prints_first_why_tests_were_not_made(rt: HostRuntime) {
+    let alloc = rt.alloc();
+    let streams = Streams::new(alloc);
+    let mut machine = known_machine(rt, alloc, &[b"program", b"--no-option"], &streams);
+    machine.variables = &[(TOTAL, b"x")];
+    let unmade: Result<Vec<Trial<Counts>>, RunError> = Err(RunError::Spawn);
+    assert!(rt; run_on(&machine, unmade) == ExitCode::from(1));
+    assert!(rt; streams.have_only_printed(alloc, "program: cannot start a worker\n"));
 }
 
 #[test]
