@@ -11,19 +11,18 @@ use Rattle.mimic_args.specs.declared.Arguments.{Arguments}
 use Rattle.mimic_trial.specs.declared.outcome.Outcome.{Outcome}
 use Rattle.mimic_trial.specs.declared.outcome.Outcome.TheVariants.{Passed}
 use Rattle.mimic_trial.specs.declared.trial.Trial.{Trial}
-use Rattle.mimic_trial.specs.Count.{counts_of}
 use Rattle.mimic_trial.specs.Places.{Placed, placed_at, placed_if, places_of}
 use Rattle.mimic_trial.specs.Promise.{Gives, IsOutcomeOf}
 use Rattle.mimic_trial.specs.Trial.{info_of, runner_of}
 use Rattle.mimic_pool.specs.declared.share.Assigned.{Assigned}
 use Rattle.mimic_pool.specs.Joined.{AreOutcomes}
 use Rattle.mimic_pool.specs.Share.{assigned_from}
-use Rattle.mimic_printer.specs.Row.{Label, label_of, labels_of, outcomes_of, rows_at}
+use Rattle.mimic_printer.specs.Row.{label_of, labels_of}
 use Rattle.libtest_mimic.specs.Arrangement.{IsArrangement, IsOwn, IsOwnAt}
 use Rattle.libtest_mimic.specs.Selection.{IsIgnored}
 use Rattle.libtest_mimic.specs.Gathering.{Gathered}
 use Rattle.libtest_mimic.specs.Steps.{AreFlags}
-use Rattle.libtest_mimic.proofs.OnlyOutcomes.{all_permuted, counts_permuted, outcome_at, outcomes_of-rows_at}
+use Rattle.libtest_mimic.proofs.OnlyOutcomes.{outcome_at}
 use Rattle.libtest_mimic.proofs.Told.{slice_get-at}
 
 -- ---- places

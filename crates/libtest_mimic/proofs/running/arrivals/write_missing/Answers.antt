@@ -1,9 +1,8 @@
-use Rattle.std.proofs.Common.{◌≡◌, ◌∙◌, ◌+◌, ◌-◌, ◌<◌, ℕ, List, Some, ap, arith, drop, length, map, rules, subst, sym, take}
-use Rattle.std.specs.Prelude.{slice_get}
+use Rattle.std.proofs.Common.{◌≡◌, ◌+◌, ◌-◌, ◌<◌, ℕ, List, ap, arith, drop, length, map, rules, subst, sym, take}
 use Rattle.std.proofs.lemmas.List.{length-drop, length-map, take_all}
 use Rattle.mimic_trial.specs.Places.{Placed}
 use Rattle.mimic_printer.specs.Report.{row_text, rows_text}
-use Rattle.mimic_printer.specs.Row.{label_at, label_of, row_of, rows_at}
+use Rattle.mimic_printer.specs.Row.{label_of, row_of, rows_at}
 use Rattle.mimic_printer.specs.Sink.{Put, Stopped, shown}
 use Rattle.mimic_printer.proofs.Appending.{Put-next, Puts-stopped, Stopped-next}
 use Rattle.libtest_mimic.proofs.Told.{count_rows_at, place_below, row_from}
