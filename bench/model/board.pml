@@ -585,9 +585,10 @@ settles:
     skip;
 #endif
 
-    /* libtest_mimic/src/running/gathering.rt: fn settle
+    /* libtest_mimic/src/running/gathering.rt: fn complete
+     * mimic_pool/src/desk.rt: fn has_all
      * mimic_pool/src/desk.rt: fn settle
-     * It must find nothing that differs. */
+     * They must find nothing that differs. */
     d_step {
         do
         :: place < N -> assert(seated[place] == 0 || seated[place] == answer[place]); place++
@@ -602,7 +603,7 @@ settles:
     fi;
 #endif
 
-    /* mimic_pool/src/desk.rt: fn into_order
+    /* mimic_pool/src/desk.rt: fn arrive_missing
      * libtest_mimic/src/running/arrivals.rt: fn write_missing */
     do
 #ifdef WRITES_ALL_AS_MISSING

@@ -1,4 +1,4 @@
-//! The shard that a program is told by variables of its environment.
+//! The shard that two variables of an environment name.
 ghost use Rattle.std.specs.Prelude.{◌<◌, ◌^◌, SomeIff};
 ghost use Rattle.std.specs.Option.{option_copied};
 ghost use Rattle.std.specs.Str.Parse.{IsNumeral, digits_value};
