@@ -29,7 +29,7 @@ pub enum JoinFault {
 impl JoinFault {
     ghost use Rattle.mimic_reports.specs.Faults.{line_of, place_of};
 
-    /// Returns the place, counted from 0, of the reader that the fault is in. `None` says that it is in none alone.
+    /// Returns the place, counted from 0, of the reader that the fault is in. `None` says that it is in no reader alone.
     pub fn place(&self) -> Option<usize>
         ensures { result ≡ place_of self.now }
     {
@@ -42,7 +42,8 @@ impl JoinFault {
         }
     }
 
-    /// Returns the number, counted from 1, of the line of that reader that the fault is in. `None` says that it is in none alone.
+    /// Returns the number, counted from 1, of the line of that reader that the fault is in. `None` says that it is in no line
+    /// alone.
     pub fn line(&self) -> Option<u128>
         ensures { result ≡ line_of self.now }
     {

@@ -49,7 +49,8 @@ fn text_of(
     equal_names: bool,
 ) -> Result<Result<Text<'_>, Refusal>, AllocError>
     ensures { IfOk result (λ answer. MatchResult answer
-        (λ text. CanBeShards shards equal_names reports.now × (contents_of text ≡ joined_contents reports.now))
+        (λ text. CanBeShards shards equal_names reports.now
+        × (contents_of text ≡ joined_contents reports.now))
         (IsRefused shards equal_names reports.now)) }
 {
     if let Some(refusal) = refusal_of(alloc, reports, shards, equal_names)? {

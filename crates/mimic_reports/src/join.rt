@@ -35,6 +35,8 @@ pub enum Refusal {
 /// In turn comes the first row of each report, then the second of each, and so on; a report without more rows is passed over.
 /// Reports that can't be those of the shards of one list are refused. The same kind and name in two reports is refused too,
 /// unless the suite has `equal_names`.
+/// It isn't seen if a report is of another suite, with names of its own and a number of trials that fits, nor if the flags of
+/// one run were others.
 #[tactic(auto, using(crate::proofs::Laws::join_laws))]
 pub fn joined(
     alloc: Global,

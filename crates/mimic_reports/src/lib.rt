@@ -1,4 +1,18 @@
-//! Reports of shards, joined.
+//! The reports of the shards of a suite, joined into one.
+//!
+//! ```rust
+//! use mimic_events::write_report;
+//! use mimic_printer::Sink;
+//! use mimic_reports::{join_reports, joined, read_from};
+//!
+//! let first = read_from(alloc, &mut first_file)?;
+//! let second = read_from(alloc, &mut second_file)?;
+//! let whole = joined(alloc, vec![in alloc; first, second]?, 2, false)??;
+//! write_report(&whole, &mut sink)?;
+//! // The same from readers to a writer, with less memory:
+//! let counts = join_reports(alloc, vec![in alloc; first_file, second_file]?, 2, false, &mut sink)?;
+//! assert!(rt; !counts.has_failed());
+//! ```
 #![tactic(auto)]
 
 mod faults;

@@ -43,7 +43,8 @@ impl Hash for Named<'_> {
     ghost use Rattle.std.specs.Cmp.Rules.{hashing};
     ghost use Rattle.std.proofs.Common.{rules};
 
-    ghost hash_input = { λ x. fed.str (string_bytes x.row.now.kind) ++ fed.str (string_bytes x.row.now.name) };
+    ghost hash_input = { λ x. fed.str (string_bytes x.row.now.kind)
+        ++ fed.str (string_bytes x.row.now.name) };
 
     ghost respects_eq = { Prim.search (hashing, rules) };
 

@@ -9,7 +9,8 @@ use std::collections::VecDeque;
 
 // Returns the rows of the reports in turn. They stay where they are, so that no second list of them is kept.
 pub(crate) fn rows_in_turn(alloc: Global, reports: &[Report]) -> Result<Vec<&Row>, AllocError>
-    ensures { IfOk result (λ rows. map (λ row. row.now) rows.items ≡ in_turn (map rows_in reports.now)) }
+    ensures { IfOk result
+        (λ rows. map (λ row. row.now) rows.items ≡ in_turn (map rows_in reports.now)) }
 {
     let lists = lists_of(alloc, reports)?;
     taken_in_turn(alloc, lists)
@@ -29,7 +30,8 @@ fn lists_of(alloc: Global, reports: &[Report]) -> Result<VecDeque<&[Row]>, Alloc
 // others.
 #[inline(never)]
 fn taken_in_turn<'a>(alloc: Global, lists: VecDeque<&'a [Row]>) -> Result<Vec<&'a Row>, AllocError>
-    ensures { IfOk result (λ rows. map (λ row. row.now) rows.items ≡ in_turn (map (λ list. list.now) lists.entry.items)) }
+    ensures { IfOk result (λ rows. map (λ row. row.now) rows.items
+        ≡ in_turn (map (λ list. list.now) lists.entry.items)) }
 {
     let mut lists = lists;
     let mut rows = Vec::new(alloc);

@@ -48,7 +48,8 @@ pub fn read_from<I: Read>(alloc: Global, input: &mut I) -> Result<Report, ReadFa
 // Feeds the input to its end, piece by piece, unless a line is wrong.
 #[inline(never)]
 fn fed<I: Read>(alloc: Global, input: &mut I) -> Result<Feed, ReadFault>
-    ensures read { IfOk result (λ feed. IfSome (I.remaining input.old) (λ bytes. feed.bytes ≡ bytes)) }
+    ensures read { IfOk result
+        (λ feed. IfSome (I.remaining input.old) (λ bytes. feed.bytes ≡ bytes)) }
     ensures running { IfOk result (λ feed. feed.failed ≡ false) }
     ensures right { IfOk result (λ feed. (number : ℕ) → ¬ IsFirstWrong number feed.bytes) }
     ensures fault { IfErr result (GivesNone (I.remaining input.old)) }

@@ -62,7 +62,8 @@ fn counts_of_rows(rows: &[&Row], filtered_out: u64) -> Conclusion
 #[inline(never)]
 fn put_rows<W: Write>(sink: &mut Sink<W>, rows: &[&Row]) -> Result<(), WriteFault>
     requires { HasFaultLeft sink.old }
-    ensures { Puts W.contents sink.old sink.new (flat_map (λ row. row_lines row.now) rows.now) result }
+    ensures { Puts W.contents sink.old sink.new
+        (flat_map (λ row. row_lines row.now) rows.now) result }
 {
     for row in rows {
         put_row(sink, row)?;

@@ -23,7 +23,8 @@ shards_of count xs = map (λ index. shard_of count index xs) (range_with_len 0 c
 
 -- The law of selection: what the arguments select of all shards is what they select of the whole list, each trial once.
 abbrev pub SelectsShards : Type 0 → Type 0
-SelectsShards R = (args : Arguments) (count : ℕ) (trials selected : List (Trial R)) (selections : List (List (Trial R))) → 0 < count
+SelectsShards R = (args : Arguments) (count : ℕ) (trials selected : List (Trial R)) (selections : List (List (Trial R)))
+    → 0 < count
     → Each (λ shard selection. IsSelection args shard selection) (shards_of count trials) selections
     → IsSelection args trials selected → IsPermutation (all_of selections) selected
 

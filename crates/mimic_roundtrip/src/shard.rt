@@ -34,7 +34,8 @@ pub fn run_shard<R: Task, C: Clock>(
         (λ told. TellsTrials R.gives args.now (shard_of shard.count shard.index tests.items)
         (contents_read told.1)) }
 
-    // So is what any run writes of a shard, with any number of threads, and the joined report of all shards is one of all trials.
+    // So is what any run writes of a shard, with any number of threads, and the joined report of all shards is one of all
+    // trials.
     ensures laws { ShardLaws R.gives }
 {
     let trials = shard_of(alloc, shard, tests)?;

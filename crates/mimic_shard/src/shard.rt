@@ -49,7 +49,8 @@ pub fn shard_of<R: Drop>(
     shard: Shard,
     tests: Vec<Trial<R>>,
 ) -> Result<Vec<Trial<R>>, AllocError>
-    ensures shard { IfOk result (λ kept. kept.items ≡ shard_of shard.count shard.index tests.items) }
+    ensures shard { IfOk result
+        (λ kept. kept.items ≡ shard_of shard.count shard.index tests.items) }
     ensures law { ShardsAreAll (Trial R) }
 {
     let mut kept = Vec::new(alloc);

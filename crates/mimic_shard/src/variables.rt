@@ -1,4 +1,4 @@
-//! The shard that two variables of an environment name.
+//! The shard that variables of the environment name.
 ghost use Rattle.std.specs.Prelude.{◌<◌, ◌^◌, SomeIff};
 ghost use Rattle.std.specs.Option.{option_copied};
 ghost use Rattle.std.specs.Str.Parse.{IsNumeral, digits_value};
@@ -59,7 +59,8 @@ fn named(total: &str, index: &str) -> Result<Shard, ShardFault>
 
 // The number that decimal digits alone write. `parse` also takes a sign.
 fn number(text: &str) -> Option<usize>
-    ensures { SomeIff result (IsNumeral 10 text.now × (digits_value 10 text.now < 2 ^ 64)) (digits_value 10 text.now) }
+    ensures { SomeIff result (IsNumeral 10 text.now × (digits_value 10 text.now < 2 ^ 64))
+        (digits_value 10 text.now) }
 {
     if text.starts_with('+') {
         return None;

@@ -63,8 +63,8 @@ fn joins_in_turn(rt: HostRuntime) -> Result<(), Fail> {
     Ok(())
 }
 
-// What is refused: the number of shards, the reports, why, the place and the line that are shown, and the text. A lost report, one
-// that stands twice, a foreign one, and sums that don't fit are among them.
+// What is refused: the number of shards, the reports, why, and what is shown. A lost report, one that stands twice, a foreign
+// one, and a sum that doesn't fit are among them.
 const REFUSED: [(usize, &[(&str, u64)], Refusal, &str); 8] = [
     (
         3,

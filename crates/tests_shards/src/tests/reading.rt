@@ -27,8 +27,8 @@ const BOTH: &str = r#"{ "type": "suite", "event": "started", "test_count": 2 }
 { "type": "suite", "event": "failed", "passed": 1, "failed": 1, "ignored": 0, "measured": 0, "filtered_out": 3, "exec_time": 1.5 }
 "#;
 
-// A reader over a text, which gives at most so many bytes a read. Each second read is interrupted, and behind the text it fails if
-// it is to.
+// A reader over a text, which gives at most so many bytes a read. Each second read is interrupted, and behind the text it
+// fails if it is to.
 #[derive(Drop)]
 struct Slow<'a> {
     text: &'a str,

@@ -1,5 +1,5 @@
 //! The 17 trials of `harness`, run in shards by one thread and a clock that stands still.
-use libtest_mimic::{Arguments, Stopwatch, run_here};
+use libtest_mimic::{Arguments, FormatSetting, Stopwatch, run_here};
 use mimic_printer::Sink;
 use mimic_reports::{join_reports, joined};
 use mimic_roundtrip::{run_shard, run_to_report};
@@ -10,6 +10,9 @@ use std::test::Fail;
 
 // What a run of the shard writes, or with none a run of all trials.
 fn written(alloc: Global, words: &[&str], shard: Option<Shard>) -> Result<Vec<u8>, Fail> {
+    if words.is_empty() {
+        return Err(Fail::new("no line"));
+    }
     let args = Arguments::from_iter(alloc, words).ok().ok_or("refused")?;
     let trials = known_trials(alloc, &MIXED_BAG)?;
     let trials = match shard {
@@ -129,9 +132,8 @@ fn lists_each_trial_once(rt: HostRuntime) -> Result<(), Fail> {
 #[test]
 fn joins_reports_of_runs(rt: HostRuntime) -> Result<(), Fail> {
     let alloc = rt.alloc();
-    let args = Arguments::from_iter(alloc, UNFILTERED[1])
-        .ok()
-        .ok_or("refused")?;
+    let mut args = Arguments::new(alloc);
+    args.format = Some(FormatSetting::Json);
     let trials = known_trials(alloc, &MIXED_BAG)?;
     let mut watch = Stopwatch::new(TwoReadings::still());
     let (_, whole) = run_to_report(alloc, &args, trials, &mut watch)?;
