@@ -68,7 +68,6 @@ fn gather_with_lies<T: Task + Send + 'static, R: Spawner + 'static>(
     requires { All (λ share. AllRunners T.can_run share) shares.items }
 {
     let room = Vec::with_capacity(alloc, infos.len())?;
-    let joined = Vec::with_capacity(alloc, shares.len())?;
     let handles = Vec::with_capacity(alloc, shares.len())?;
     let desk = Desk::new(alloc, infos.len())?;
     let inbox = Inbox::new(alloc, infos.len(), shares.len())?;
@@ -79,10 +78,12 @@ fn gather_with_lies<T: Task + Send + 'static, R: Spawner + 'static>(
     let handles = match start_all(rt, alloc, starts, true, handles) {
         Ok(handles) => handles,
         Err(started) => {
+            let joined = Vec::with_capacity(alloc, started.len())?;
             join_all(rt, started, joined);
             return Err(Fail::new("a worker could not be started"));
         }
     };
+    let joined = Vec::with_capacity(alloc, handles.len())?;
     let started = Started {
         inbox,
         handles,
