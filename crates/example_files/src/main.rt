@@ -42,7 +42,13 @@ fn main(rt: HostRuntime) -> Status {
         Ok((options, folders)) => (Ok(options), trials_below(rt, folders.as_slice())),
         Err(error) => (Err(error), Ok(Vec::new(alloc))),
     };
-    run_line(&rt, "example_files", options, Sharding::from_env(&rt), trials)
+    run_line(
+        &rt,
+        "example_files",
+        options,
+        Sharding::from_env(&rt),
+        trials,
+    )
 }
 
 // A trial for each case below the folders.
