@@ -360,7 +360,7 @@ ends:
 
 /* ---- The run ---- */
 
-/* libtest_mimic/src/running/arrivals.rt: fn write_row */
+/* mimic_printer/src/lib.rt: fn print_row */
 #define WRITE(list) \
     assert(!faulted); \
     assert(!came[place] && !late[place]); \
