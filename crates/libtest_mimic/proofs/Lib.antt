@@ -1,6 +1,7 @@
 pub mod Answered
 pub mod Arranged
 pub mod Columns
+pub mod Dealing
 pub mod FullName
 pub mod Gathering
 pub mod InWorkers

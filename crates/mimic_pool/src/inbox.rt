@@ -12,9 +12,13 @@ use std::alloc::{AllocError, Global};
 use std::collections::VecDeque;
 use std::snapshot::Snapshot;
 use std::sync::{Arc, Wait};
+use std::thread::yield_now;
 
 // How many rows are taken under one lock at most, so that writing them doesn't ask for it row by row.
 const BATCH: usize = 256;
+
+// How often the taking thread lets workers run, at most, before it asks for the lock.
+const MOST_TURNS: usize = 32;
 
 /// The rows that workers report to one board, in the order of their reports. Contracts see what the board is for, and not
 /// what lies behind its lock.
@@ -25,6 +29,8 @@ pub struct Inbox {
     board: Arc<SharedBoard>,
     // Rows that were taken from the board, and not yet from the inbox.
     batch: VecDeque<(usize, Outcome)>,
+    // How often workers run first before the next batch is taken.
+    turns: usize,
     // The board before anything was reported.
     empty: Snapshot<Board>,
 }
@@ -41,6 +47,7 @@ impl Inbox {
         Ok(Inbox {
             board,
             batch,
+            turns: 0,
             empty,
         })
     }
@@ -67,9 +74,24 @@ impl Inbox {
     /// and every row was taken. No contract promises which row it is, nor that there is one: the rows are behind a lock.
     pub fn next<R: Wait>(&mut self, rt: &R) -> Option<(usize, Outcome)> {
         if self.batch.is_empty() {
+            // Whoever asks for the lock keeps a worker from it. So if many rows came and none was left, workers run first, and
+            // more come under one lock.
+            let_others_run(self.turns);
             let most = self.batch.capacity();
             self.board.take_waiting(rt, most, &mut self.batch);
+            let taken = self.batch.len();
+            self.turns = if taken < most {
+                taken.min(MOST_TURNS)
+            } else {
+                0
+            };
         }
         self.batch.pop_front()
+    }
+}
+
+fn let_others_run(turns: usize) {
+    for _ in 0..turns {
+        yield_now();
     }
 }

@@ -4,6 +4,7 @@ ghost use Rattle.mimic_trial.specs.Places.{Placed};
 ghost use Rattle.mimic_pool.specs.Answers.{Answers};
 ghost use Rattle.mimic_pool.specs.Share.{AllRunners, items_of};
 
+use crate::remaining::Remaining;
 use crate::reports::Reports;
 use crate::share::{Assigned, Share};
 use mimic_trial::{Outcome, Task, run_unless};
@@ -29,8 +30,8 @@ pub fn work<T: Task, R: Reports>(
     ensures heard { (rows : List Placed) → R.heard reports.old rows
         → R.heard reports.new (rows ++ result.items) }
 {
-    let Share { items } = share;
-    for item in items {
+    let mut left = Remaining::new(share.items);
+    while let Some(item) = left.next() {
         let Assigned {
             place,
             runner,

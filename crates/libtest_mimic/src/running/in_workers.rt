@@ -17,7 +17,7 @@ use crate::select::is_ignored;
 use crate::stopwatch::{Clock, Stopwatch};
 use mimic_args::Arguments;
 use mimic_pool::{
-    Desk, Inbox, Share, Spawner, deal_next, empty_shares, join_all, prepare, start_all,
+    Desk, Inbox, Remaining, Share, Spawner, deal_next, empty_shares, join_all, prepare, start_all,
 };
 use mimic_printer::{Printer, Sink};
 use mimic_trial::{Conclusion, Task, TestInfo, Trial};
@@ -81,7 +81,8 @@ fn take_apart<R: Drop>(
 {
     let mut infos = Vec::with_capacity(alloc, trials.len())?;
     let mut shares = empty_shares(alloc, trials.len(), workers)?;
-    for trial in trials {
+    let mut left = Remaining::new(trials);
+    while let Some(trial) = left.next() {
         let is_ignored = is_ignored(args, &trial);
         let (info, runner) = trial.into_parts();
         deal_next(&mut shares, infos.len(), runner, is_ignored)?;

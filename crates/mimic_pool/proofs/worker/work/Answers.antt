@@ -1,9 +1,25 @@
-use Rattle.std.proofs.Common.{arith}
-use Rattle.mimic_pool.proofs.Working.{answers_done}
+use Rattle.std.proofs.Common.{rules, refl}
+use Rattle.std.proofs.lemmas.List.Elements.{All-rest}
+use Rattle.mimic_trial.specs.Places.{Placed}
+use Rattle.mimic_pool.proofs.Working.{answers_done, answers_next, heard_next}
 use Rattle.mimic_pool.proofs.worker.work.Goals as goal
 
+pub loop-item-preserved : goal.loop-item-preserved
+loop-item-preserved g c =
+    let before = c.loop-item.invariant in
+    let left = c.in-Some.ensures in
+    let room = c.loop-item.room.items in
+    let pushed = c.push_reserved.ensures.items in
+    let row : Placed = (c.in-Some.item.place, c.run_unless-outcome.result) in
+    record {
+      runnable = All-rest (λ item. g.T.Task.can_run item.runner) c.in-Some.item c.next.new.self c.loop-item.left left before.runnable;
+      answers = answers_next g.T.Task.gives c.args.test_mode _ room _ c.in-Some.item c.loop-item.left c.next.new.self row left pushed refl c.run_unless-outcome.ensures before.answers;
+      heard = λ rows heard. heard_next (g.R.Reports.heard c.tell.new.self) rows room _ row pushed (c.tell.ensures.heard _ (before.heard rows heard));
+      fits = search rules;
+      can_tell = search rules;
+      can_refuse = search rules;
+      counted = search rules;
+    }
+
 pub returns-clause-answers : goal.returns-clause-answers
-returns-clause-answers g c =
-    let none = c.in-None.ensures.steps.0 in
-    let ok = c.loop-item.item-iterator.rest.ok in
-    answers_done g.T.Task.gives c.args.test_mode _ _ c.loop-item.room.items (omega arith) c.loop-item.invariant.answers
+returns-clause-answers g c = answers_done g.T.Task.gives c.args.test_mode _ c.loop-item.room.items _ c.in_default.ensures.0 c.loop-item.invariant.answers
