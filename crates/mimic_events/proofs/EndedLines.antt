@@ -11,7 +11,7 @@ use Rattle.mimic_printer.specs.Json.{deviation_key, json_end, json_outcome, kind
 use Rattle.mimic_events.specs.LineParts.{ReadsNumber, IsFailure, IsTail, tail}
 use Rattle.mimic_events.specs.Reading.{Decodes, IsOutcome}
 
-outcome_is : (label : Label) (o : Outcome) → json_outcome label o ≡ outcome_front (is_measured o) ++ (escaped label.name ++ 34 ∷ (kind_field label.kind ++ tail o))
+pub outcome_is : (label : Label) (o : Outcome) → json_outcome label o ≡ outcome_front (is_measured o) ++ (escaped label.name ++ 34 ∷ (kind_field label.kind ++ tail o))
 unfolding json_outcome
 outcome_is label o = refl
 

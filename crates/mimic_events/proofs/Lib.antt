@@ -2,6 +2,7 @@ pub mod Begun
 pub mod Digits
 pub mod EndedLines
 pub mod Escapes
+pub mod FailedLines
 pub mod FewRows
 pub mod FirstLines
 pub mod Followers

@@ -21,7 +21,7 @@ named_some front line rest (Some x) e h =
 -- ---- the kind
 
 -- a kind that isn't empty stands in quotes
-quoted_kind : (b : ℕ) (kind rest : List ℕ) → kind_field (b ∷ kind) ++ rest ≡ kind_key ++ (escaped (b ∷ kind) ++ 34 ∷ rest)
+pub quoted_kind : (b : ℕ) (kind rest : List ℕ) → kind_field (b ∷ kind) ++ rest ≡ kind_key ++ (escaped (b ∷ kind) ++ 34 ∷ rest)
 quoted_kind b kind rest = ap (λ (x : List ℕ). kind_key ++ x) (append_assoc (escaped (b ∷ kind)) (34 ∷ []) rest)
 
 -- if the line doesn't end after the name, the kind stands in quotes

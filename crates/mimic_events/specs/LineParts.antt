@@ -6,9 +6,11 @@ use Rattle.mimic_trial.specs.declared.outcome.Outcome.{Outcome}
 use Rattle.mimic_trial.specs.declared.outcome.Outcome.TheVariants.{Failed}
 use Rattle.mimic_trial.specs.Count.{is_measured}
 use Rattle.mimic_text.specs.Escape.{escape, escaped}
-use Rattle.mimic_printer.specs.Json.{json_end, json_line, kind_field, outcome_fields, time_key}
+use Rattle.mimic_printer.specs.Row.{Label}
+use Rattle.mimic_printer.specs.Json.{Entry, FitsLabel, json_end, json_line, kind_field, outcome_fields, time_key}
 use Rattle.mimic_text.specs.Seconds.{exact_seconds}
 use Rattle.mimic_trial.specs.Promise.{FitsTypes}
+use Rattle.mimic_events.specs.Reading.{IsFailedLine}
 
 -- ---- fronts
 
@@ -108,6 +110,15 @@ IsTail measured outcome text = (is_measured outcome ≡ measured) × FitsTypes o
 -- what follows them if it failed with this message
 abbrev pub IsFailure : List ℕ → List ℕ → Type 0
 IsFailure message text = IsUtf8 message × (text ≡ tail (Failed (Some message)))
+
+-- what was found is the name and the kind of which the line says that they failed; if nothing was found, it says that of none
+abbrev pub SaysFailed : List ℕ → Option Label → Type 0
+SaysFailed line None = (entry : Entry) → IsFailedLine entry line → ⊥
+SaysFailed line (Some label) = FitsLabel label × ((entry : Entry) → IsFailedLine entry line → entry.label ≡ label)
+
+-- no other kind stands in the text before the tail of a failure
+abbrev pub SaysKind : List ℕ → List ℕ → Type 0
+SaysKind text kind = (other : List ℕ) (message : Option (List ℕ)) → text ≡ kind_field other ++ tail (Failed message) → other ≡ kind
 
 -- what follows the counts of outcomes in a summary: how many trials were filtered out, and the nanoseconds
 abbrev pub IsTotals : ℕ × ℕ → List ℕ → Type 0

@@ -1,9 +1,9 @@
 -- What readers return, and what they read.
-use Rattle.std.specs.Prelude.{◌≡◌, ℕ, ◌<◌, ◌^◌, List, map, decimal, Option, Some, None}
+use Rattle.std.specs.Prelude.{◌≡◌, ℕ, ◌<◌, ◌^◌, true, List, map, decimal, Option, Some, None}
 use Rattle.mimic_trial.specs.declared.outcome.Outcome.{Outcome}
 use Rattle.mimic_trial.specs.declared.outcome.conclusion.Conclusion.{Conclusion}
-use Rattle.mimic_trial.specs.Count.{counts_of}
-use Rattle.mimic_printer.specs.Json.{Entry, FitsLabel, json_title, json_announcement, json_outcome, json_summary}
+use Rattle.mimic_trial.specs.Count.{counts_of, is_failed}
+use Rattle.mimic_printer.specs.Json.{Entry, FitsEntry, FitsLabel, json_title, json_announcement, json_outcome, json_summary}
 use Rattle.mimic_printer.specs.Row.{Label}
 use Rattle.mimic_trial.specs.Promise.{FitsTypes}
 use Rattle.mimic_text.specs.Seconds.{exact_seconds}
@@ -36,6 +36,10 @@ IsAnnouncement label line = FitsLabel label × (line ≡ json_announcement label
 -- the line says this outcome of the trial of this name and kind
 abbrev pub IsOutcome : Label → Outcome → List ℕ → Type 0
 IsOutcome label outcome line = FitsTypes outcome × (line ≡ json_outcome label outcome)
+
+-- the line says that the entry's trial failed, with a message or without one
+abbrev pub IsFailedLine : Entry → List ℕ → Type 0
+IsFailedLine entry line = (is_failed entry.outcome ≡ true) × FitsEntry entry × (line ≡ json_outcome entry.label entry.outcome)
 
 -- the line ends a report of these rows, with so many trials filtered out and so many nanoseconds
 abbrev pub IsSummary : List Entry → ℕ × ℕ → List ℕ → Type 0

@@ -1,4 +1,5 @@
-//! Reads back the reports that a harness of `libtest_mimic` writes in JSON.
+//! Reads back the reports that a harness of `libtest_mimic` writes in JSON, and with [`read_failed_line`] the line of a failure
+//! alone.
 //!
 //! ```rust
 //! use mimic_events::Feed;
@@ -42,6 +43,7 @@ mod write;
 
 pub use feed::{Feed, read_report};
 pub use follower::Follower;
+pub use lines::read_failed_line;
 pub use report::{Label, Report, Row, Totals};
 pub use tally::Tally;
 pub use write::write_report;

@@ -1,15 +1,15 @@
 //! Reads the lines of a report, each with its line end.
 ghost use Rattle.std.specs.Prelude.{◌≡◌, ◌≢◌, ◌∷◌, ◌++◌, ℕ, List, IfOk, MatchOption, IsUtf8, codes, option_map, string_bytes, true, false};
 ghost use Rattle.mimic_text.specs.Escape.{escaped};
-ghost use Rattle.mimic_events.specs.Contents.{label_read};
+ghost use Rattle.mimic_events.specs.Contents.{entry_read, label_read};
 ghost use Rattle.mimic_printer.specs.Json.{kind_field};
-ghost use Rattle.mimic_events.specs.LineParts.{Follows, IsFailure, IsKind, IsTail};
-ghost use Rattle.mimic_events.specs.Reading.{Decodes, IsTitle, IsAnnouncement, IsOutcome};
+ghost use Rattle.mimic_events.specs.LineParts.{Follows, IsFailure, IsKind, IsTail, SaysFailed, SaysKind};
+ghost use Rattle.mimic_events.specs.Reading.{Decodes, IsTitle, IsAnnouncement, IsFailedLine, IsOutcome};
 
 use crate::ends::{after, before};
 use crate::numbers::number_at;
 use crate::quoted_text::{after_quoted, quoted_after};
-use crate::report::Label;
+use crate::report::{Label, Row};
 use mimic_trial::{Failed, Measurement, Outcome};
 use std::alloc::{AllocError, Global};
 
@@ -77,6 +77,53 @@ pub(crate) fn ended(
             Ok(outcome)
         }
         None => Ok(None),
+    }
+}
+
+/// Reads one line of a report, with its line end, which says that a trial failed: `None` if it says anything else, or no report
+/// has such a line.
+///
+/// The failure has a message if the line has `stdout`.
+pub fn read_failed_line(alloc: Global, line: &[u8]) -> Result<Option<Row>, AllocError>
+    ensures { IfOk result (λ found. Decodes IsFailedLine line.now (option_map entry_read found)) }
+{
+    let Some(label) = label_of(alloc, line)? else {
+        return Ok(None);
+    };
+    match ended(alloc, &label, line)? {
+        Some(Outcome::Failed(failed)) => Ok(Some(Row {
+            name: label.name,
+            kind: label.kind,
+            outcome: Outcome::Failed(failed),
+        })),
+        _ => Ok(None),
+    }
+}
+
+// Returns the trial of which the line says that it failed, if it is such a line.
+fn label_of(alloc: Global, line: &[u8]) -> Result<Option<Label>, AllocError>
+    ensures { IfOk result (λ label. SaysFailed line.now (option_map label_read label)) }
+{
+    let Some((name, rest)) = quoted_after(alloc, line, br#"{ "type": "test", "name": ""#)? else {
+        return Ok(None);
+    };
+    let kind = kind_at(alloc, rest)?;
+    let Some(name) = text_of(name) else {
+        return Ok(None);
+    };
+    match text_of(kind) {
+        Some(kind) => Ok(Some(Label { name, kind })),
+        None => Ok(None),
+    }
+}
+
+// Returns the kind that stands before the tail of a failure, if such a tail ends the text.
+fn kind_at(alloc: Global, rest: &[u8]) -> Result<Vec<u8>, AllocError>
+    ensures { IfOk result (λ kind. SaysKind rest.now kind.items) }
+{
+    match quoted_after(alloc, rest, br#", "kind": ""#)? {
+        Some((kind, _)) => Ok(kind),
+        None => Ok(Vec::new(alloc)),
     }
 }
 
