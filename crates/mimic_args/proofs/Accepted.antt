@@ -13,12 +13,12 @@ use Rattle.clap.specs.declared.builder.command.Command.{Command}
 use Rattle.clap.specs.declared.builder.value_parser.ValueParser.{ValueParser}
 use Rattle.clap.specs.declared.builder.value_parser.ValueParser.TheVariants as vp
 use Rattle.clap.specs.declared.parser.matches.ArgMatches.{ArgMatches}
-use Rattle.mimic_args.specs.CommandLine.{AreReaders, TakesOnly, alone, option_rule, parsed_options, plus, read_by, threads_rule, unstable_rule}
+use Rattle.mimic_args.specs.CommandLine.{AreReaders, TakesOnly, alone, option_rule, plus, read_by, threads_rule, unstable_rule}
 use Rattle.mimic_args.specs.Matched.{AreAccepted, IsNumber, IsNumberOf, IsReadFrom, colour_name, colours, entries_of, first_text, unstable_name, unstables}
 use Rattle.mimic_text.specs.Formats.{format_name, formats, named}
 use Rattle.mimic_args.specs.declared.Arguments.{Arguments}
 use Rattle.mimic_args.proofs.Passed.{IsReadBy, first_passed}
-use Rattle.mimic_args.proofs.SimpleLine.{is_simple_line}
+use Rattle.mimic_args.proofs.SimpleLine.{is_simple_line, parsed_options}
 
 same_order : (a b : Text) → bytes_eq a b ≡ true → bytes_eq b a ≡ true
 same_order a b e = (bytes_eq-Decides b a).1 (sym ((bytes_eq-Decides a b).0 e))

@@ -16,7 +16,7 @@ use Rattle.clap.specs.declared.builder.action.ArgAction.{ArgAction}
 use Rattle.clap.specs.declared.builder.action.ArgAction.TheVariants.{Set, Append, SetTrue, SetFalse, Count, Help, HelpShort, HelpLong, Version}
 use Rattle.clap.specs.declared.builder.value_parser.ValueParser.{ValueParser}
 use Rattle.clap.specs.declared.error.kind.ErrorKind.{ErrorKind}
-use Rattle.mimic_args.specs.CommandLine.{parsed_options, plus}
+use Rattle.mimic_args.specs.CommandLine.{line_options, plus}
 
 -- at most one kind
 One : Kinds → Type 0
@@ -176,11 +176,11 @@ of_level s leaf h words =
     in_turn _ _ (of_walk s leaf (walk_from h) words) (in_turn _ _ no_kind (in_turn _ _ (of_settle s.rules s.args_override_self (walk s.rules [] h words).held)
     (in_turn _ _ (of_defaults _ s.rules) (of_checks _ _ _))))
 
-of_line : (u c f : ValueParser) (words : List Text) → One (fault_of (parsed_options u c f) words)
+of_line : (words : List Text) → One (fault_of line_options words)
 unfolding plus
-of_line u c f words =
-    let app = parsed_options u c f in
-    subst One (sym (leaf_fault (built app) nothing_held (argument_words app words) refl)) (of_level (built app).top refl nothing_held (argument_words app words))
+of_line words =
+    subst One (sym (leaf_fault (built line_options) nothing_held (argument_words line_options words) refl))
+    (of_level (built line_options).top refl nothing_held (argument_words line_options words))
 
 only : (k : ErrorKind) (ks : Kinds) → One ks → IsAmong k ks → ks ≡ k ∷ []
 unfolding One
@@ -190,5 +190,5 @@ only k (x ∷ []) h (inr none) = absurd none
 only k (x ∷ y ∷ more) h among = absurd h
 
 -- a kind that may come is the only one
-pub only_fault : (u c f : ValueParser) (words : List Text) (k : ErrorKind) → IsAmong k (fault_of (parsed_options u c f) words) → fault_of (parsed_options u c f) words ≡ k ∷ []
-only_fault u c f words k among = only k (fault_of (parsed_options u c f) words) (of_line u c f words) among
+pub only_fault : (words : List Text) (k : ErrorKind) → IsAmong k (fault_of line_options words) → fault_of line_options words ≡ k ∷ []
+only_fault words k among = only k (fault_of line_options words) (of_line words) among

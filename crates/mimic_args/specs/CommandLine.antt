@@ -127,13 +127,17 @@ options_with test quiet unstable color format = plus (plus (plus (plus (plus (pl
 abbrev pub harness_options : ValueParser → ValueParser → ValueParser → Options
 harness_options = options_with (excluding (alone test_rule) (codes "bench")) (excluding (alone quiet_rule) (codes "format"))
 
--- the same options, where none excludes another: what a line is parsed by (our own)
-abbrev pub parsed_options : ValueParser → ValueParser → ValueParser → App
-parsed_options unstable color format = (options_with (alone test_rule) (alone quiet_rule) unstable color format).0
-
 -- the reader takes these texts and no other (`clap`'s)
 abbrev pub TakesOnly : List Text → ValueParser → Type 0
 TakesOnly names p = (listed : Bor (List (Bor Text))) × (p ≡ vp.Names listed) × (texts listed.now ≡ names)
+
+-- a value behind a reference; where it stands is of no account (our own)
+abbrev pub behind : {X : Type 0} → X → Bor X
+behind x = record { ref_ptr = (0, 0); now = x }
+
+-- the reader that takes these texts and no other (`clap`'s)
+abbrev pub reader_of : List Text → ValueParser
+reader_of names = vp.Names (behind (map behind names))
 
 -- it is declared as the argument, and its reader takes these texts and no other (our own)
 abbrev pub ReadsOnly : List Text → Declared → Declared → Type 0
@@ -145,33 +149,33 @@ pub record AreReaders (u c f : ValueParser) : Type 0 where
   pub color : TakesOnly (map colour_name colours) c
   pub format : TakesOnly (map format_name formats) f
 
--- with some readers of those values
-abbrev pub WithReaders : (App → Type 0) → Type 0
-WithReaders P = (unstable : ValueParser) × (color : ValueParser) × (format : ValueParser)
-    × AreReaders unstable color format × P (parsed_options unstable color format)
+-- what a line is parsed by: the same options, of which none excludes another (our own)
+abbrev pub line_options : App
+line_options = (options_with (alone test_rule) (alone quiet_rule) (reader_of (map unstable_name unstables))
+    (reader_of (map colour_name colours)) (reader_of (map format_name formats))).0
 
 -- the arguments are what the line means: `clap` finds no fault in it; each field is what the words hold for its id, both by
--- `clap`'s own definitions; every value was accepted; and nothing is asked that excludes another
-pub record Means (app : App) (words : List Text) (a : Arguments) : Type 0 where
-  pub no_fault : fault_of app words ≡ []
-  pub fields : IsReadFrom (matches_of app words) a
-  pub accepted : AreAccepted (matches_of app words) a
-  pub no_excluded : asks_for_excluded (matches_of app words) ≡ false
-
-abbrev pub IsMeaningOf : List Text → Arguments → Type 0
-IsMeaningOf words a = WithReaders (λ app. Means app words a)
+-- `clap`'s own definitions; every value was accepted; and no two options are asked that exclude one another
+pub record IsMeaningOf (words : List Text) (a : Arguments) : Type 0 where
+  pub no_fault : fault_of line_options words ≡ []
+  pub fields : IsReadFrom (matches_of line_options words) a
+  pub accepted : AreAccepted (matches_of line_options words) a
+  pub no_excluded : asks_for_excluded (matches_of line_options words) ≡ false
 
 -- the first fault that `clap` finds in a line is no call for help (`clap`'s)
 abbrev pub HasFault : Kinds → Type 0
 HasFault kinds = (k : ErrorKind) × (kinds ≡ k ∷ []) × (k ≡ DisplayHelp → ⊥)
 
+-- a line has no fault of its own, and asks for two options that exclude one another (the Rust crate's)
+abbrev pub IsExcluded : List Text → Type 0
+IsExcluded words = (fault_of line_options words ≡ []) × (asks_for_excluded (matches_of line_options words) ≡ true)
+
 -- why a line gives no arguments: an allocation failed; its first fault is a call for help; or it has another, or none and
--- asks for two things that exclude one another
+-- asks for two options that exclude one another
 abbrev pub IsRefusalOf : List Text → ArgumentsError → Type 0
 IsRefusalOf words OutOfMemory = Unit {0}
-IsRefusalOf words (Help text) = WithReaders (λ app. fault_of app words ≡ DisplayHelp ∷ [])
-IsRefusalOf words (Refused text) = WithReaders (λ app. HasFault (fault_of app words)
-    ⊎ ((fault_of app words ≡ []) × (asks_for_excluded (matches_of app words) ≡ true)))
+IsRefusalOf words (Help text) = fault_of line_options words ≡ DisplayHelp ∷ []
+IsRefusalOf words (Refused text) = HasFault (fault_of line_options words) ⊎ IsExcluded words
 
 -- the error of a line that gave no arguments: it says that memory ran out if an allocation failed, gives help if help was
 -- asked for, and else refuses the line (our own)
