@@ -1,7 +1,7 @@
 -- The command line of a harness, as `clap` reads it: the options with their spellings, and what a line means.
-use Rattle.std.specs.Prelude.{◌≡◌, ◌++◌, ◌∷◌, [], false, flat_map, List, map, Some, codes}
+use Rattle.std.specs.Prelude.{◌≡◌, ◌⊎◌, ◌++◌, ◌∷◌, [], false, true, flat_map, List, map, Some, codes}
 use Rattle.std.specs.Borrow.{Bor}
-use Rattle.clap.specs.Words.{args_of}
+use Rattle.clap.specs.Words.{args_of, Kinds, fault_of}
 use Rattle.clap.specs.Walk.{Rule, Text, rule_of, texts}
 use Rattle.clap.specs.Simple.{App, app_of, matches_of, new_app, new_rule, with_rule}
 use Rattle.clap.specs.declared.builder.action.ArgAction.TheVariants.{SetTrue, Append}
@@ -9,7 +9,9 @@ use Rattle.clap.specs.declared.builder.arg.Arg.{Arg}
 use Rattle.clap.specs.declared.builder.command.Command.{Command}
 use Rattle.clap.specs.declared.builder.value_parser.ValueParser.{ValueParser}
 use Rattle.clap.specs.declared.builder.value_parser.ValueParser.TheVariants as vp
-use Rattle.mimic_args.specs.Matched.{IsReadFrom, AreAccepted, IsFreeOfConflicts, colour_name, colours, unstable_name, unstables}
+use Rattle.clap.specs.declared.error.kind.ErrorKind.{ErrorKind}
+use Rattle.clap.specs.declared.error.kind.ErrorKind.TheVariants.{DisplayHelp}
+use Rattle.mimic_args.specs.Matched.{IsReadFrom, AreAccepted, asks_for_excluded, colour_name, colours, unstable_name, unstables}
 use Rattle.mimic_text.specs.Formats.{format_name, formats}
 use Rattle.mimic_args.specs.declared.Arguments.{Arguments}
 use Rattle.mimic_args.specs.declared.error.ArgumentsError.{ArgumentsError}
@@ -76,13 +78,9 @@ skip_rule = record (option_rule (codes "skip")) { action = Some Append }
 abbrev pub filter_rule : Rule
 filter_rule = record (new_rule (codes "filter")) { value_names = 1; action = Some Append }
 
--- the flags that choose among trials: `test` excludes `bench` (the Rust crate's)
-abbrev pub choice_options : Options
-choice_options = plus (plus (plus (plus (new_app (codes "harness"), [])
-    (alone (flag_rule (codes "include-ignored"))))
-    (alone (flag_rule (codes "ignored"))))
-    (excluding (alone (flag_rule (codes "test"))) (codes "bench")))
-    (alone (flag_rule (codes "bench")))
+-- `--test`
+abbrev pub test_rule : Rule
+test_rule = flag_rule (codes "test")
 
 -- `--quiet`, also `-q`
 abbrev pub quiet_rule : Rule
@@ -96,18 +94,27 @@ colour_rule = option_rule (codes "color")
 abbrev pub format_rule : Rule
 format_rule = option_rule (codes "format")
 
--- all flags: `quiet` excludes `format` (the Rust crate's)
-abbrev pub flag_options : Options
-flag_options = plus (plus (plus (plus (plus choice_options
+-- the flags that choose among trials, by what is declared of `--test`
+abbrev pub choice_options : Declared → Options
+choice_options test = plus (plus (plus (plus (new_app (codes "harness"), [])
+    (alone (flag_rule (codes "include-ignored"))))
+    (alone (flag_rule (codes "ignored"))))
+    test)
+    (alone (flag_rule (codes "bench")))
+
+-- all flags, by what is declared of `--test` and of `--quiet`
+abbrev pub flag_options : Declared → Declared → Options
+flag_options test quiet = plus (plus (plus (plus (plus (choice_options test)
     (alone (flag_rule (codes "list"))))
     (alone (flag_rule (codes "nocapture"))))
     (alone (flag_rule (codes "show-output"))))
     (alone (flag_rule (codes "exact"))))
-    (excluding (alone quiet_rule) (codes "format"))
+    quiet
 
--- all options, by the readers of the values of `-Z`, `--color` and `--format` (the Rust crate's, but for several filters)
-abbrev pub harness_options : ValueParser → ValueParser → ValueParser → Options
-harness_options unstable color format = plus (plus (plus (plus (plus (plus (plus flag_options
+-- all options, by these two flags and the readers of the values of `-Z`, `--color` and `--format` (the Rust crate's, but for
+-- several filters)
+abbrev pub options_with : Declared → Declared → ValueParser → ValueParser → ValueParser → Options
+options_with test quiet unstable color format = plus (plus (plus (plus (plus (plus (plus (flag_options test quiet)
     (read_by unstable (alone unstable_rule)))
     (alone threads_rule))
     (alone (option_rule (codes "logfile"))))
@@ -116,9 +123,21 @@ harness_options unstable color format = plus (plus (plus (plus (plus (plus (plus
     (read_by format (alone format_rule)))
     (alone filter_rule)
 
+-- what a harness declares: `test` excludes `bench`, and `quiet`, also `-q`, excludes `format` (the Rust crate's)
+abbrev pub harness_options : ValueParser → ValueParser → ValueParser → Options
+harness_options = options_with (excluding (alone test_rule) (codes "bench")) (excluding (alone quiet_rule) (codes "format"))
+
 -- the reader takes these texts and no other (`clap`'s)
 abbrev pub TakesOnly : List Text → ValueParser → Type 0
 TakesOnly names p = (listed : Bor (List (Bor Text))) × (p ≡ vp.Names listed) × (texts listed.now ≡ names)
+
+-- a value behind a reference; where it stands is of no account (our own)
+abbrev pub behind : {X : Type 0} → X → Bor X
+behind x = record { ref_ptr = (0, 0); now = x }
+
+-- the reader that takes these texts and no other (`clap`'s)
+abbrev pub reader_of : List Text → ValueParser
+reader_of names = vp.Names (behind (map behind names))
 
 -- it is declared as the argument, and its reader takes these texts and no other (our own)
 abbrev pub ReadsOnly : List Text → Declared → Declared → Type 0
@@ -130,13 +149,33 @@ pub record AreReaders (u c f : ValueParser) : Type 0 where
   pub color : TakesOnly (map colour_name colours) c
   pub format : TakesOnly (map format_name formats) f
 
--- the arguments are what the line means: each field is what the words hold for its id, by `clap`'s own definition of what
--- words hold; every value was accepted; and nothing is asked that excludes another
-abbrev pub IsMeaningOf : List Text → Arguments → Type 0
-IsMeaningOf words a = (unstable : ValueParser) × (color : ValueParser) × (format : ValueParser)
-    × AreReaders unstable color format
-    × (let entries = matches_of (harness_options unstable color format).0 words in
-    IsReadFrom entries a × AreAccepted entries a × IsFreeOfConflicts entries a)
+-- what a line is parsed by: the same options, of which none excludes another (our own)
+abbrev pub line_options : App
+line_options = (options_with (alone test_rule) (alone quiet_rule) (reader_of (map unstable_name unstables))
+    (reader_of (map colour_name colours)) (reader_of (map format_name formats))).0
+
+-- the arguments are what the line means: `clap` finds no fault in it; each field is what the words hold for its id, both by
+-- `clap`'s own definitions; every value was accepted; and no two options are asked that exclude one another
+pub record IsMeaningOf (words : List Text) (a : Arguments) : Type 0 where
+  pub no_fault : fault_of line_options words ≡ []
+  pub fields : IsReadFrom (matches_of line_options words) a
+  pub accepted : AreAccepted (matches_of line_options words) a
+  pub no_excluded : asks_for_excluded (matches_of line_options words) ≡ false
+
+-- the first fault that `clap` finds in a line is no call for help (`clap`'s)
+abbrev pub HasFault : Kinds → Type 0
+HasFault kinds = (k : ErrorKind) × (kinds ≡ k ∷ []) × (k ≡ DisplayHelp → ⊥)
+
+-- a line has no fault of its own, and asks for two options that exclude one another (the Rust crate's)
+abbrev pub IsExcluded : List Text → Type 0
+IsExcluded words = (fault_of line_options words ≡ []) × (asks_for_excluded (matches_of line_options words) ≡ true)
+
+-- why a line gives no arguments: an allocation failed; its first fault is a call for help; or it has another, or none and
+-- asks for two options that exclude one another
+abbrev pub IsRefusalOf : List Text → ArgumentsError → Type 0
+IsRefusalOf words OutOfMemory = Unit {0}
+IsRefusalOf words (Help text) = fault_of line_options words ≡ DisplayHelp ∷ []
+IsRefusalOf words (Refused text) = HasFault (fault_of line_options words) ⊎ IsExcluded words
 
 -- the error of a line that gave no arguments: it says that memory ran out if an allocation failed, gives help if help was
 -- asked for, and else refuses the line (our own)

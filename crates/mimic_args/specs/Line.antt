@@ -1,8 +1,8 @@
 -- A command line with words of the program's own.
-use Rattle.std.specs.Prelude.{◌≡◌, ◌≢◌, ◌≤◌, ◌<◌, ◌+◌, ◌++◌, ◌⊎◌, ℕ, Bool, List, None, Some, codes, drop, get_or, IfOk, length, map, nat_eq, string_bytes, take}
+use Rattle.std.specs.Prelude.{◌≡◌, ◌≢◌, ◌≤◌, ◌<◌, ◌+◌, ◌++◌, ◌⊎◌, ℕ, Bool, List, None, Some, codes, drop, get_or, IfErr, IfOk, length, map, nat_eq, string_bytes, take}
 use Rattle.std.specs.List.{find}
 use Rattle.clap.specs.Walk.{Text}
-use Rattle.mimic_args.specs.CommandLine.{IsMeaningOf}
+use Rattle.mimic_args.specs.CommandLine.{IsMeaningOf, IsRefusalOf}
 use Rattle.mimic_args.specs.declared.error.ArgumentsError.{ArgumentsError}
 use Rattle.mimic_args.specs.declared.error.ArgumentsError.TheVariants.{OutOfMemory, Help, Refused}
 use Rattle.mimic_args.specs.declared.line.Line.{Line}
@@ -17,13 +17,21 @@ pub record IsOwnLength (words : List Text) (own : ℕ) : Type 0 where
   pub others : (k : ℕ) → k < own → get_or words k separator ≢ separator
   pub ended : get_or words own separator ≡ separator
 
+-- the line that the harness gets: the program's name, and the words after the first `--` (our own)
+abbrev pub asked : List Text → ℕ → List Text
+asked words own = take 1 words ++ drop (own + 1) (drop 1 words)
+
 -- a line has the program's name, its own words, and after the first `--` what is asked of the harness. If the options are
 -- arguments, they are the meaning of that (our own)
 pub record IsLine (words : List Text) (line : Line) : Type 0 where
   pub own_length : ℕ
   pub is_own : IsOwnLength (drop 1 words) own_length
   pub own : map string_bytes line.own.items ≡ take own_length (drop 1 words)
-  pub options : IfOk line.options (IsMeaningOf (take 1 words ++ drop (own_length + 1) (drop 1 words)))
+  pub options : IfOk line.options (IsMeaningOf (asked words own_length))
+
+-- the same line, whose options are an error only for what is asked of the harness (our own)
+abbrev pub IsLineOf : List Text → Line → Type 0
+IsLineOf words line = (is : IsLine words line) × IfErr line.options (IsRefusalOf (asked words is.own_length))
 
 -- the program's own words on a line
 abbrev pub own_words : Line → List Text

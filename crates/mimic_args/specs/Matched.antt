@@ -1,6 +1,6 @@
 -- What each field of the arguments is, by what a parsed line holds under the id of its option. An entry is an id with the
 -- texts of its uses, as `clap` returns them.
-use Rattle.std.specs.Prelude.{◌≡◌, is_some, ◌<◌, ◌^◌, ℕ, Bool, true, false, List, [], ◌∷◌, Option, Some, None, codes, map, option_map, option_and_then, unwrap_or}
+use Rattle.std.specs.Prelude.{◌≡◌, ◌&&◌, ◌||◌, is_some, ◌<◌, ◌^◌, ℕ, Bool, false, List, [], ◌∷◌, Option, Some, None, codes, map, option_map, option_and_then, unwrap_or}
 use Rattle.std.specs.Str.{bytes_eq}
 use Rattle.mimic_text.specs.Formats.{format_name, formats, named}
 use Rattle.std.specs.Str.Parse.{IsNumeral, digits_value, without_leading_plus}
@@ -83,7 +83,7 @@ pub record AreAccepted (f : List Row) (a : Arguments) : Type 0 where
   pub format : is_some (first_text f (codes "format")) ≡ is_some a.format
   pub test_threads : is_some (first_text f (codes "test-threads")) ≡ is_some a.test_threads
 
--- tests and benchmarks are not both asked for, nor the terse format together with another
-pub record IsFreeOfConflicts (f : List Row) (a : Arguments) : Type 0 where
-  pub sort : a.test ≡ true → a.bench ≡ false
-  pub format : a.quiet ≡ true → first_text f (codes "format") ≡ None
+-- whether tests and benchmarks are both asked for, or the terse format together with another (the Rust crate's)
+abbrev pub asks_for_excluded : List Row → Bool
+asks_for_excluded f = (is_set f (codes "test") && is_set f (codes "bench"))
+    || (is_set f (codes "quiet") && is_some (first_text f (codes "format")))

@@ -1,5 +1,5 @@
 //! Reads arguments from a command line.
-ghost use Rattle.std.specs.Prelude.{IsFalse, ◌≡◌, ◌<◌, IfErr, IfOk, IsTrue, List, length, map, vec_len};
+ghost use Rattle.std.specs.Prelude.{◌≡◌, ◌<◌, IfErr, IfOk, List, false, length, map, vec_len};
 ghost use Rattle.clap.specs.Values.{kind_of};
 ghost use Rattle.clap.specs.Words.{Text};
 ghost use Rattle.clap.specs.declared.error.kind.ErrorKind.TheVariants as Kind;
@@ -8,18 +8,19 @@ ghost use Rattle.std.specs.IoError.{error_kind};
 ghost use Rattle.std.specs.Vec.Iter.{into_iter_len};
 ghost use Rattle.std.specs.declared.io.ErrorKind.TheVariants as IoKind;
 ghost use Rattle.mimic_args.specs.declared.error.ArgumentsError.TheVariants.{OutOfMemory};
-ghost use Rattle.mimic_args.specs.CommandLine.{IsErrorFor, AreReaders, IsMeaningOf, harness_options, options_of};
-ghost use Rattle.mimic_args.specs.Matched.{AreAccepted, IsFreeOfConflicts, IsReadFrom, entries_of};
+ghost use Rattle.mimic_args.specs.CommandLine.{IsErrorFor, AreReaders, IsMeaningOf, IsRefusalOf, declared_of, harness_options, options_of, options_with};
+ghost use Rattle.mimic_args.specs.Matched.{IsReadFrom, asks_for_excluded, entries_of};
 
 use crate::matches::{
     colour_of, format_of, is_set, text_of, text_under, texts_of, threads_of, unstable_of,
 };
 use crate::options::{
-    colour, filter, format, logfile, skip, test_threads, unstable, with, with_flags,
+    colour, excluded, filter, format, logfile, quiet, skip, test, test_threads, unstable, with,
+    with_flags,
 };
 use crate::{Arguments, ArgumentsError};
 use clap::error::ErrorKind;
-use clap::{ArgMatches, Command};
+use clap::{Arg, ArgMatches, Command};
 use std::alloc::{AllocError, Global};
 use std::convert::AsStr;
 use std::env::Args;
@@ -33,15 +34,9 @@ impl Arguments {
         ensures { IfOk result (λ r. (u : ValueParser) × (c : ValueParser) × (f : ValueParser)
             × AreReaders u c f × (options_of r ≡ harness_options u c f)) }
     {
-        let c = with_flags(alloc)?;
-        let c = with(c, unstable(alloc))?;
-        let c = with(c, test_threads(alloc))?;
-        let c = with(c, logfile(alloc))?;
-        let c = with(c, skip(alloc))?;
-        let c = with(c, colour(alloc))?;
-        let c = with(c, format(alloc))?;
-        let c = with(c, filter(alloc))?;
-        Ok(c)
+        let test = excluded(test(alloc), "bench")?;
+        let quiet = excluded(quiet(alloc), "format")?;
+        command_of(alloc, test, quiet)
     }
 
     /// Reads each field from what the matches hold under the id of its option. A text that names nothing, or is no
@@ -71,22 +66,22 @@ impl Arguments {
 
     /// Reads arguments from words, of which the first is the program's name.
     ///
-    /// It returns `Help` if help is asked, and `Refused` if the line can't be read.
+    /// It returns `Help` if the first fault of the line is a call for help. It returns `Refused` if that is another
+    /// fault, or if there is none and two options are asked that exclude one another.
     pub fn from_iter<S: AsStr>(alloc: Global, words: &[S]) -> Result<Arguments, ArgumentsError>
         requires { 0 < length words.now }
-        ensures { IfOk result (λ a. IsMeaningOf (map S.text words.now) a) }
+        ensures taken { IfOk result (λ a. IsMeaningOf (map S.text words.now) a) }
+        ensures refused { IfErr result (λ e. IsRefusalOf (map S.text words.now) e) }
     {
-        let matches = match Arguments::command(alloc)?.try_get_matches_from(words) {
+        let command = command_of(alloc, test(alloc), quiet(alloc))?;
+        let matches = match command.try_get_matches_from(words) {
             Ok(matches) => matches,
             Err(error) => return Err(error_of(alloc, &error)?),
         };
+        if asks_for_excluded(&matches) {
+            return Err(ArgumentsError::Refused(text_of_excluded(alloc, words)?));
+        }
         let args = Arguments::from_matches(alloc, &matches)?;
-        if !are_accepted(&matches, &args) {
-            return Err(refused_with(alloc, "a value can't be read")?);
-        }
-        if !is_free_of_conflicts(&matches, &args) {
-            return Err(refused_with(alloc, "the arguments exclude one another")?);
-        }
         Ok(args)
     }
 
@@ -133,32 +128,45 @@ pub(crate) fn words_of(alloc: Global, read: io::Result<Args>) -> Result<Vec<Stri
     Ok(words)
 }
 
-// Returns whether each value was accepted by its reader: the field is absent only if no value was given.
-fn are_accepted(matches: &ArgMatches<'_>, args: &Arguments) -> bool
-    ensures yes { IsTrue result → AreAccepted (entries_of matches.now) args.now }
-    ensures no { IsFalse result → AreAccepted (entries_of matches.now) args.now → ⊥ }
+// Declares the options of a harness, of which two flags are handed in.
+fn command_of<'a>(alloc: Global, test: Arg<'a>, quiet: Arg<'a>) -> Result<Command<'a>, AllocError>
+    requires { (test.global ≡ false) × (quiet.global ≡ false) }
+    ensures { IfOk result (λ r. (u : ValueParser) × (c : ValueParser) × (f : ValueParser)
+        × AreReaders u c f × (options_of r
+        ≡ options_with (declared_of test.entry) (declared_of quiet.entry) u c f)) }
 {
-    if text_under(matches, "unstable").is_some() != args.unstable_flags.is_some() {
-        return false;
-    }
-    if text_under(matches, "color").is_some() != args.color.is_some() {
-        return false;
-    }
-    if text_under(matches, "format").is_some() != args.format.is_some() {
-        return false;
-    }
-    text_under(matches, "test-threads").is_some() == args.test_threads.is_some()
+    let c = with_flags(alloc, test, quiet)?;
+    let c = with(c, unstable(alloc))?;
+    let c = with(c, test_threads(alloc))?;
+    let c = with(c, logfile(alloc))?;
+    let c = with(c, skip(alloc))?;
+    let c = with(c, colour(alloc))?;
+    let c = with(c, format(alloc))?;
+    let c = with(c, filter(alloc))?;
+    Ok(c)
 }
 
-// Returns whether nothing is asked that excludes another.
-fn is_free_of_conflicts(matches: &ArgMatches<'_>, args: &Arguments) -> bool
-    ensures yes { IsTrue result → IsFreeOfConflicts (entries_of matches.now) args.now }
-    ensures no { IsFalse result → IsFreeOfConflicts (entries_of matches.now) args.now → ⊥ }
+// Returns whether two options are asked that exclude one another.
+fn asks_for_excluded(matches: &ArgMatches<'_>) -> bool
+    ensures { result ≡ asks_for_excluded (entries_of matches.now) }
 {
-    if args.test && args.bench {
-        return false;
+    if is_set(matches, "test") && is_set(matches, "bench") {
+        return true;
     }
-    !(args.quiet && text_under(matches, "format").is_some())
+    is_set(matches, "quiet") && text_under(matches, "format").is_some()
+}
+
+// Returns the text by which `clap` refuses a line that asks for two options that exclude one another.
+fn text_of_excluded<S: AsStr>(alloc: Global, words: &[S]) -> Result<String, ArgumentsError>
+    ensures { IfErr result (λ e. e ≡ OutOfMemory) }
+{
+    let Err(error) = Arguments::command(alloc)?.try_get_matches_from(words) else {
+        return Ok(String::from_str(alloc, "the arguments exclude one another")?);
+    };
+    match error.kind() {
+        ErrorKind::OutOfMemory => Err(ArgumentsError::OutOfMemory),
+        _ => Ok(error.to_string(alloc)?),
+    }
 }
 
 // Says why the program's words were not read.

@@ -3,7 +3,7 @@ ghost use Rattle.std.specs.Prelude.{◌≡◌, ◌<◌, IfErr, IfOk, List, lengt
 ghost use Rattle.std.specs.List.{find};
 ghost use Rattle.std.specs.Range.{range_inclusive_end, range_inclusive_start};
 ghost use Rattle.clap.specs.Words.{Text};
-ghost use Rattle.mimic_args.specs.Line.{AreOperands, IsLine, IsOwnLength, RefusesOperands, is_option, own_words};
+ghost use Rattle.mimic_args.specs.Line.{AreOperands, IsLine, IsOwnLength, IsLineOf, RefusesOperands, is_option, own_words};
 
 use crate::command_line::words_of;
 use crate::copies::all_copied;
@@ -28,7 +28,7 @@ impl Line {
     /// Reads the line of these words, of which the first is the program's name.
     pub fn from_iter<S: AsStr>(alloc: Global, words: &[S]) -> Result<Line, AllocError>
         requires { 0 < length words.now }
-        ensures { IfOk result (λ line. IsLine (map S.text words.now) line) }
+        ensures { IfOk result (λ line. IsLineOf (map S.text words.now) line) }
     {
         let (program, words) = words.split_at(1);
         let own = own_length(words);

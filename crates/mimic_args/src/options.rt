@@ -1,7 +1,7 @@
 //! The options of a harness, as they are declared to `clap`.
 ghost use Rattle.std.specs.Prelude.{◌≡◌, false, IfOk, Some, codes, map};
 ghost use Rattle.clap.specs.Walk.{texts};
-ghost use Rattle.mimic_args.specs.CommandLine.{ReadsOnly, alone, choice_options, colour_rule, declared_of, excluding, filter_rule, format_rule, quiet_rule, flag_options, flag_rule, option_rule, options_of, plus, read_by, skip_rule, threads_rule, unstable_rule};
+ghost use Rattle.mimic_args.specs.CommandLine.{ReadsOnly, alone, choice_options, colour_rule, declared_of, excluding, filter_rule, format_rule, quiet_rule, flag_options, flag_rule, option_rule, options_of, plus, read_by, skip_rule, test_rule, threads_rule, unstable_rule};
 ghost use Rattle.mimic_args.specs.Matched.{colour_name, colours, unstable_name, unstables};
 ghost use Rattle.mimic_text.specs.Formats.{format_name, formats};
 
@@ -15,33 +15,31 @@ static FORMATS: [&str; 3] = ["pretty", "terse", "json"];
 static UNSTABLE: [&str; 1] = ["unstable-options"];
 
 // Makes a command with the flags that choose among trials.
-fn with_choices<'a>(alloc: Global) -> Result<Command<'a>, AllocError>
-    ensures { IfOk result (λ r. options_of r ≡ choice_options) }
+fn with_choices<'a>(alloc: Global, test: Arg<'a>) -> Result<Command<'a>, AllocError>
+    requires { test.global ≡ false }
+    ensures { IfOk result (λ r. options_of r ≡ choice_options (declared_of test.entry)) }
 {
     let c = Command::new(alloc, "harness");
     let help = "Run ignored tests as well";
     let c = with(c, flag(alloc, "include-ignored", help))?;
     let c = with(c, flag(alloc, "ignored", "Run only ignored tests"))?;
-    let c = with(c, test(alloc)?)?;
+    let c = with(c, test)?;
     let help = "Run and measure benchmarks; tests count as ignored";
     let c = with(c, flag(alloc, "bench", help))?;
     Ok(c)
 }
 
-fn test<'a>(alloc: Global) -> Result<Arg<'a>, AllocError>
-    ensures declared { IfOk result
-        (λ r. declared_of r ≡ excluding (alone (flag_rule (codes "test"))) (codes "bench")) }
-    ensures local { IfOk result (λ r. r.global ≡ false) }
+// Makes a command with all flags, of which two are handed in.
+pub(super) fn with_flags<'a>(
+    alloc: Global,
+    test: Arg<'a>,
+    quiet: Arg<'a>,
+) -> Result<Command<'a>, AllocError>
+    requires { (test.global ≡ false) × (quiet.global ≡ false) }
+    ensures { IfOk result (λ r. options_of r
+        ≡ flag_options (declared_of test.entry) (declared_of quiet.entry)) }
 {
-    let help = "Run tests; benchmarks count as ignored";
-    excluded(flag(alloc, "test", help), "bench")
-}
-
-// Makes a command with all flags.
-pub(super) fn with_flags<'a>(alloc: Global) -> Result<Command<'a>, AllocError>
-    ensures { IfOk result (λ r. options_of r ≡ flag_options) }
-{
-    let c = with_choices(alloc)?;
+    let c = with_choices(alloc, test)?;
     let help = "List tests and benchmarks, and run none";
     let c = with(c, flag(alloc, "list", help))?;
     let help = "Print output of tests at once (no effect: it is never held back)";
@@ -50,17 +48,8 @@ pub(super) fn with_flags<'a>(alloc: Global) -> Result<Command<'a>, AllocError>
     let c = with(c, flag(alloc, "show-output", help))?;
     let help = "Match each FILTER exactly, not as a part of a full name";
     let c = with(c, flag(alloc, "exact", help))?;
-    let c = with(c, quiet(alloc)?)?;
+    let c = with(c, quiet)?;
     Ok(c)
-}
-
-fn quiet<'a>(alloc: Global) -> Result<Arg<'a>, AllocError>
-    ensures declared { IfOk result
-        (λ r. declared_of r ≡ excluding (alone quiet_rule) (codes "format")) }
-    ensures local { IfOk result (λ r. r.global ≡ false) }
-{
-    let quiet = flag(alloc, "quiet", "Use the terse format").short('q');
-    excluded(quiet, "format")
 }
 
 // Adds an argument to the command.
@@ -73,7 +62,7 @@ pub(super) fn with<'a>(command: Command<'a>, arg: Arg<'a>) -> Result<Command<'a>
 }
 
 // Forbids a line to use the argument together with the other one.
-fn excluded<'a>(arg: Arg<'a>, other: &'a str) -> Result<Arg<'a>, AllocError>
+pub(super) fn excluded<'a>(arg: Arg<'a>, other: &'a str) -> Result<Arg<'a>, AllocError>
     ensures declared { IfOk result
         (λ r. declared_of r ≡ excluding (declared_of arg.entry) other.entry.now) }
     ensures local { IfOk result (λ r. r.global ≡ arg.entry.global) }
@@ -99,6 +88,20 @@ fn option<'a>(alloc: Global, name: &'a str, value: &'a str, help: &'a str) -> Ar
         .long(name)
         .value_name(value)
         .help(help)
+}
+
+pub(super) fn test<'a>(alloc: Global) -> Arg<'a>
+    ensures declared { declared_of result ≡ alone test_rule }
+    ensures local { result.global ≡ false }
+{
+    flag(alloc, "test", "Run tests; benchmarks count as ignored")
+}
+
+pub(super) fn quiet<'a>(alloc: Global) -> Arg<'a>
+    ensures declared { declared_of result ≡ alone quiet_rule }
+    ensures local { result.global ≡ false }
+{
+    flag(alloc, "quiet", "Use the terse format").short('q')
 }
 
 pub(super) fn unstable<'a>(alloc: Global) -> Arg<'a>

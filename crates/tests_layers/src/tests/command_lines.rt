@@ -1,6 +1,6 @@
 //! Command lines, as words after the program's name, and what they give. What is refused is as in the Rust crate, and
 //! help has the same options in our own words.
-ghost use Rattle.std.specs.Prelude.{◌<◌, IfOk, length, vec_len};
+ghost use Rattle.std.specs.Prelude.{◌<◌, IfOk, vec_len};
 
 use super::shown::check_debug;
 use mimic_args::{Arguments, ArgumentsError, ColorSetting, FormatSetting, Line, UnknownFormat};
@@ -132,52 +132,77 @@ fn names_formats(rt: HostRuntime) {
     assert!(rt; "JSON".parse::<FormatSetting>() == Err(UnknownFormat));
 }
 
-// What comes of a line.
-#[derive(Clone, Copy, Debug, PartialEq, Eq)]
-enum Answer {
-    Taken,
-    // The whole text of help.
-    Help,
-    // A text that begins as errors do.
-    Refused,
-    Other,
-}
-
-fn answer_of(alloc: Global, words: &[&str]) -> Answer
-    requires { 0 < length words.now }
-{
-    match &Arguments::from_iter(alloc, words) {
-        Ok(_) => Answer::Taken,
-        Err(ArgumentsError::Help(text)) if text.as_str() == HELP => Answer::Help,
-        Err(ArgumentsError::Refused(text)) if text.as_str().starts_with("error: ") => {
-            Answer::Refused
-        }
-        Err(_) => Answer::Other,
+// What comes of a line: `taken`, `help` if its whole text is printed, and else the first line of the refusal.
+fn answer_of(read: &Result<Arguments, ArgumentsError>) -> &str {
+    match read {
+        Ok(_) => "taken",
+        Err(ArgumentsError::Help(text)) if text.as_str() == HELP => "help",
+        Err(ArgumentsError::Refused(text)) => text.as_str().lines().next().unwrap_or("empty"),
+        Err(_) => "other",
     }
 }
 
-const LINES_REFUSED: [[&str; 3]; 14] = [
-    ["harness", "--color", "blue"],
-    ["harness", "--test-threads", "x"],
-    ["harness", "--test-threads", "-1"],
-    ["harness", "-Z", "other"],
-    ["harness", "--format=pretty", "-q"],
-    ["harness", "--test-threads", "18446744073709551616"],
-    ["harness", "--color", "Auto"],
-    ["harness", "--skip", "-x"],
-    ["harness", "--list", "-V"],
-    ["harness", "--list=true", "a"],
-    ["harness", "--nope", "a"],
-    ["harness", "--format=xml", "a"],
-    ["harness", "--quiet", "--format=json"],
-    ["harness", "--lis", "a"],
-];
+// Lines, and what comes of them. The texts are those of the Rust crate `clap`.
+const LINES_REFUSED: &str = "\
+harness --nope => error: unexpected argument '--nope' found
+harness --lis => error: unexpected argument '--lis' found
+harness -V => error: unexpected argument '-V' found
+harness -qx => error: unexpected argument '-x' found
+harness -Z => error: a value is required for '-Z <FLAG>' but none was supplied
+harness --test-threads => error: a value is required for '--test-threads <THREADS>' but none was supplied
+harness --logfile -q => error: a value is required for '--logfile <PATH>' but none was supplied
+harness --skip => error: a value is required for '--skip <FILTER>' but none was supplied
+harness --color => error: a value is required for '--color <WHEN>' but none was supplied
+harness --format --help => error: a value is required for '--format <FORMAT>' but none was supplied
+harness -Zunstable-options -Zunstable-options => error: the argument '-Z <FLAG>' cannot be used multiple times
+harness --test-threads=2 --test-threads=2 => error: the argument '--test-threads <THREADS>' cannot be used multiple times
+harness --logfile=a --logfile=b => error: the argument '--logfile <PATH>' cannot be used multiple times
+harness --skip=a --skip=a => taken
+harness --color=auto --color=never => error: the argument '--color <WHEN>' cannot be used multiple times
+harness --format=pretty --format=json => error: the argument '--format <FORMAT>' cannot be used multiple times
+harness --list --list => error: the argument '--list' cannot be used multiple times
+harness -qq => error: the argument '--quiet' cannot be used multiple times
+harness -Z= => error: a value is required for '-Z <FLAG>' but none was supplied
+harness --test-threads= => error: invalid value '' for '--test-threads <THREADS>': cannot parse integer from empty string
+harness --logfile= => taken
+harness --skip= => taken
+harness --color= => error: a value is required for '--color <WHEN>' but none was supplied
+harness --format= => error: a value is required for '--format <FORMAT>' but none was supplied
+harness -Z other => error: invalid value 'other' for '-Z <FLAG>'
+harness --test-threads=x => error: invalid value 'x' for '--test-threads <THREADS>': invalid digit found in string
+harness --test-threads=-1 => error: invalid value '-1' for '--test-threads <THREADS>': invalid digit found in string
+harness --test-threads -1 => error: unexpected argument '-1' found
+harness --test-threads=18446744073709551616 => error: invalid value '18446744073709551616' for '--test-threads <THREADS>': number too large to fit in target type
+harness --skip -x => error: unexpected argument '-x' found
+harness --color=Auto => error: invalid value 'Auto' for '--color <WHEN>'
+harness --format=xml => error: invalid value 'xml' for '--format <FORMAT>'
+harness --list=true => error: unexpected value 'true' for '--list' found; no more were expected
+harness --test --bench => error: the argument '--test' cannot be used with '--bench'
+harness --bench a --test => error: the argument '--bench' cannot be used with '--test'
+harness -q --format json => error: the argument '--quiet' cannot be used with '--format <FORMAT>'
+harness --format=json --quiet => error: the argument '--format <FORMAT>' cannot be used with '--quiet'
+harness --test --bench --nope => error: unexpected argument '--nope' found
+harness -h => help
+harness -h --test --bench => help
+harness --test --bench --help => help
+harness --help --format=json -q => help
+harness --quiet --format=json -h => help
+harness --help --nope => help
+harness --nope --help => error: unexpected argument '--nope' found
+harness --test -- --bench => taken
+harness --test --bench -- a => error: the argument '--test' cannot be used with '--bench'
+harness -- --nope => taken
+harness a b c d => taken";
 
 #[test]
-fn refuses_lines(rt: HostRuntime) {
-    for line in &LINES_REFUSED {
-        assert!(rt; answer_of(rt.alloc(), line) == Answer::Refused, "{line:?}");
+fn refuses_lines(rt: HostRuntime) -> Result<(), Fail> {
+    for row in LINES_REFUSED.lines() {
+        let (line, answer) = row.split_once(" => ").unwrap_or((row, ""));
+        let words = words_of(rt.alloc(), line)?;
+        let read = Arguments::from_iter(rt.alloc(), words.as_slice());
+        assert!(rt; answer_of(&read) == answer, "{row}");
     }
+    Ok(())
 }
 
 // Whether a line may not use the first word before the second.
@@ -192,10 +217,9 @@ fn is_refused(first: &str, second: &str) -> bool {
 
 // Whether a line of these words is refused, or taken, as it may be.
 fn is_answered_well(alloc: Global, first: &str, second: &str) -> bool {
-    match answer_of(alloc, &["harness", first, second]) {
-        Answer::Taken => !is_refused(first, second),
-        Answer::Refused => is_refused(first, second),
-        _ => false,
+    match answer_of(&Arguments::from_iter(alloc, &["harness", first, second])) {
+        "taken" => !is_refused(first, second),
+        answer => answer.starts_with("error: ") && is_refused(first, second),
     }
 }
 
@@ -209,12 +233,6 @@ fn takes_all_pairs_but_those_excluded(rt: HostRuntime) {
             );
         }
     }
-}
-
-#[test]
-fn shows_help(rt: HostRuntime) {
-    assert!(rt; answer_of(rt.alloc(), &["harness", "-h"]) == Answer::Help);
-    assert!(rt; answer_of(rt.alloc(), &["harness", "--help"]) == Answer::Help);
 }
 
 // The setting, whether the caller says so, whether there is a logfile, and whether a report has colours.

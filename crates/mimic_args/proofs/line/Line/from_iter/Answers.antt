@@ -2,8 +2,8 @@ use Rattle.std.proofs.Common.{arith, ◌≡◌, ◌∙◌, ◌+◌, ◌++◌, ap
 use Rattle.std.proofs.Math.ListN.{drop_of_length-le}
 use Rattle.std.proofs.lemmas.Bool.{cases_lt}
 use Rattle.std.proofs.lemmas.List.{map-append, drop-map, take-map}
-use Rattle.std.specs.Prelude.{IfOk, string_bytes}
-use Rattle.mimic_args.specs.CommandLine.{IsMeaningOf}
+use Rattle.std.specs.Prelude.{IfErr, IfOk, string_bytes}
+use Rattle.mimic_args.specs.CommandLine.{IsMeaningOf, IsRefusalOf}
 use Rattle.mimic_args.specs.Line.{IsOwnLength}
 use Rattle.mimic_args.proofs.line.Line.from_iter.Goals as goal
 
@@ -24,10 +24,12 @@ returns g c =
     ap (map text) (c.split_at-2.ensures.back ∙ cut) ∙ (sym (drop-map text (own + 1) rest) ∙ ap (drop (own + 1)) behind) in
     let asked : map string_bytes c.as_slice.result.now ≡ take 1 (map text words) ++ drop (own + 1) (drop 1 (map text words)) =
     ap (map string_bytes) (c.as_slice.ensures.value ∙ c.in_ok-append.ensures.items) ∙ (map-append string_bytes c.in_ok-line.line.items c.in_ok-all_copied.field-0.items
-    ∙ ap₂ (λ l r. l ++ r) (c.in_ok-line.ensures ∙ program) (c.in_ok-all_copied.ensures ∙ options)) in
-    record {
-      own_length = own;
-      is_own = subst (λ l. IsOwnLength l own) behind c.own_length-own.ensures;
-      own = c.in_ok-all_copied-2.ensures ∙ (sym (take-map text own rest) ∙ ap (take own) behind);
-      options = subst (λ l. IfOk c.from_iter.result (IsMeaningOf l)) asked c.from_iter.ensures;
-    }
+    ∙ ap₂ (λ l r. l ++ r) (c.in_ok-line.ensures ∙ program) (c.in_ok-all_copied.ensures ∙ options)) in (
+      record {
+        own_length = own;
+        is_own = subst (λ l. IsOwnLength l own) behind c.own_length-own.ensures;
+        own = c.in_ok-all_copied-2.ensures ∙ (sym (take-map text own rest) ∙ ap (take own) behind);
+        options = subst (λ l. IfOk c.from_iter.result (IsMeaningOf l)) asked c.from_iter.ensures.taken;
+      },
+      subst (λ l. IfErr c.from_iter.result (IsRefusalOf l)) asked c.from_iter.ensures.refused,
+    )
