@@ -1,4 +1,4 @@
--- The readers of the options take what `clap` took, so each value that stands in a line was accepted.
+-- Each value in a line that `clap` took is one that the readers of the options accept.
 use Rattle.std.proofs.Common.{◌≡◌, ◌∙◌, ap, Bool, false, is_some, List, map, None, Option, refl, Some, subst, sym, true, true≢false, ℕ, [], ◌∷◌}
 use Rattle.std.proofs.lemmas.Slice.Eq.{bytes_eq-Decides}
 use Rattle.std.specs.List.{list_any}
@@ -23,7 +23,7 @@ use Rattle.mimic_args.proofs.SimpleLine.{is_simple_line, parsed_options}
 same_order : (a b : Text) → bytes_eq a b ≡ true → bytes_eq b a ≡ true
 same_order a b e = (bytes_eq-Decides b a).1 (sym ((bytes_eq-Decides a b).0 e))
 
--- a text that is a name among those of the values names one of them
+-- a text among the names of the values names one of them
 names_one : {A : Type 0} (name : A → Text) (values : List A) (t : Text) → list_any (λ n. bytes_eq n t) (map name values) ≡ true → is_some (named name values t) ≡ true
 names_one name [] t e = absurd (true≢false (sym e))
 names_one name (a ∷ rest) t e = go (bytes_eq t (name a)) refl (λ more. names_one name rest t more)
@@ -44,7 +44,7 @@ taken_named name values p t only takes =
     let some = sym (list_any-map (λ n. bytes_eq n t) (λ n. n.now) only.0.now) ∙ listed in
     names_one name values t (ap (list_any (λ n. bytes_eq n t)) (sym only.2) ∙ some)
 
--- a value that is read by its name is there where the text is
+-- a value that is read by its name is there if the text is
 named_there : {A : Type 0} (name : A → Text) (values : List A) (first : Option Text) (r : Option A) → r ≡ option_and_then (named name values) first
     → ((t : Text) → first ≡ Some t → is_some (named name values t) ≡ true) → is_some first ≡ is_some r
 named_there name values None r is takes = sym (ap is_some is)

@@ -15,12 +15,12 @@ use Rattle.clap.specs.declared.builder.value_parser.ValueParser.{ValueParser}
 use Rattle.clap.specs.declared.builder.value_parser.ValueParser.TheVariants as vp
 use Rattle.mimic_args.specs.CommandLine.{behind, reader_of}
 
--- the reader of the same names that the definitions have
+-- the reader of the same names that stands in the definitions
 abbrev pub named_reader : ValueParser → ValueParser
 named_reader (vp.Names listed) = reader_of (texts listed.now)
 named_reader p = p
 
--- the argument with that reader, and with no word on others
+-- the argument with that reader, and without exclusions
 abbrev pub by_names : Rule → Rule
 by_names a = record a { parser = option_map named_reader a.parser; is_free = true }
 

@@ -1,4 +1,4 @@
--- A line with two options that exclude one another is refused by a parse that knows of it.
+-- A parse by the options with their exclusions refuses a line that asks for an excluded pair.
 use Rattle.std.proofs.Common.{◌≡◌, ◌∙◌, ◌++◌, ◌<◌, ◌&&◌, ◌||◌, ◌⊎◌, ap, arith, Bool, cond, false, flat_map, fold, inl, inr, is_some, length, List, map, None, not, Option, refl, Some, subst, suc, sym, true, true≢false, zero, ℕ, [], ◌∷◌}
 use Rattle.std.proofs.lemmas.List.Folds.{list_all-append, list_any-append, list_any_at}
 use Rattle.std.proofs.lemmas.Slice.Eq.{bytes_eq-Decides}
@@ -29,24 +29,24 @@ use Rattle.mimic_args.proofs.Used.{AllUsed, and, is_used, settled_used, walk_use
 -- ---- rows
 
 -- whether the text is `true`
-abbrev says_true : Option Text → Bool
-says_true o = option_map_or (λ t. bytes_eq t (codes "true")) o false
+abbrev is_true_text : Option Text → Bool
+is_true_text o = option_map_or (λ t. bytes_eq t (codes "true")) o false
 
--- whether values leave an option unasked, if they are its default
+-- whether an option with these values is not asked for
 abbrev is_off : Text → List Text → Bool
-is_off id ts = not (bytes_eq id (codes "format")) && not (says_true (slice_get ts 0))
+is_off id ts = not (bytes_eq id (codes "format")) && not (is_true_text (slice_get ts 0))
 
--- whether a row was made by the words, or leaves its option unasked
+-- whether the words made the row, or its option is not asked for
 abbrev is_sound : Row → Bool
 is_sound r = is_used r || is_off r.id r.values
 
-abbrev is_off_alone : Text → List Text → Bool
-is_off_alone id [] = true
-is_off_alone id (t ∷ ts) = is_off id (t ∷ ts)
+abbrev are_off : Text → List Text → Bool
+are_off id [] = true
+are_off id (t ∷ ts) = is_off id (t ∷ ts)
 
--- whether the default of an option leaves it unasked
-abbrev is_quiet : Rule → Bool
-is_quiet a = is_off_alone a.id a.defaults
+-- whether an option is not asked for by its default
+abbrev is_off_by_default : Rule → Bool
+is_off_by_default a = are_off a.id a.defaults
 
 or_left : (a b : Bool) → a ≡ true → (a || b) ≡ true
 or_left a b e = λ i. e i || b
@@ -72,23 +72,23 @@ at_end id change missing (r ∷ rs) none = go (bytes_eq r.id id) none (at_end id
     go true e later = absurd (true≢false e)
     go false e later = ap (λ z. r ∷ z) (later e)
 
-default_sound : (id : Text) (how : Reading) (ts : List Text) (rows : List Row) → has_row id rows ≡ false → is_off_alone id ts ≡ true
+default_sound : (id : Text) (how : Reading) (ts : List Text) (rows : List Row) → has_row id rows ≡ false → are_off id ts ≡ true
     → list_all is_sound rows ≡ true → list_all is_sound (default_rows id how ts rows) ≡ true
-default_sound id how [] rows none quiet all = all
-default_sound id how (t ∷ ts) rows none quiet all =
+default_sound id how [] rows none off all = all
+default_sound id how (t ∷ ts) rows none off all =
     let new : List Row = record { id = id; values = t ∷ ts; count = None; source = Some DefaultValue; reading = how } ∷ [] in
-    ap (list_all is_sound) (at_end id (more_values DefaultValue (t ∷ ts)) new rows none) ∙ list_all-append is_sound rows new ∙ and _ _ all (and _ _ quiet refl)
+    ap (list_all is_sound) (at_end id (more_values DefaultValue (t ∷ ts)) new rows none) ∙ list_all-append is_sound rows new ∙ and _ _ all (and _ _ off refl)
 
-rule_sound : (rows : List Row) (a : Rule) → is_quiet a ≡ true → list_all is_sound rows ≡ true → list_all is_sound (with_default rows a) ≡ true
-rule_sound rows a quiet all = go (has_row a.id rows) refl
+rule_sound : (rows : List Row) (a : Rule) → is_off_by_default a ≡ true → list_all is_sound rows ≡ true → list_all is_sound (with_default rows a) ≡ true
+rule_sound rows a off all = go (has_row a.id rows) refl
   where
     go : (b : Bool) → has_row a.id rows ≡ b → list_all is_sound (cond b rows (default_rows a.id (reading_by a) a.defaults rows)) ≡ true
     go true e = all
-    go false e = default_sound a.id (reading_by a) a.defaults rows e quiet all
+    go false e = default_sound a.id (reading_by a) a.defaults rows e off all
 
-rules_sound : (rows : List Row) (c : List Rule) → list_all is_quiet c ≡ true → list_all is_sound rows ≡ true → list_all is_sound (fold with_default rows c) ≡ true
-rules_sound rows [] quiet all = all
-rules_sound rows (a ∷ rest) quiet all = rules_sound (with_default rows a) rest (both _ _ quiet).1 (rule_sound rows a (both _ _ quiet).0 all)
+rules_sound : (rows : List Row) (c : List Rule) → list_all is_off_by_default c ≡ true → list_all is_sound rows ≡ true → list_all is_sound (fold with_default rows c) ≡ true
+rules_sound rows [] off all = all
+rules_sound rows (a ∷ rest) off all = rules_sound (with_default rows a) rest (both _ _ off).1 (rule_sound rows a (both _ _ off).0 all)
 
 -- each row of a line is sound
 line_sound : (words : List Text) → list_all is_sound (matches_of line_options words) ≡ true
@@ -100,7 +100,7 @@ line_sound words =
 
 -- ---- entries
 
--- an entry of these is sound, has what all have, and settles what any of them does
+-- an entry of the list: it is sound, P holds of it, and what holds of it holds of one of the list
 abbrev IsOne : (Entry → Type 0) → List Entry → Entry → Type 0
 IsOne P es e = (is_sound (row_of e) ≡ true) × P e × ((q : Entry → Bool) → q e ≡ true → list_any q es ≡ true)
 
@@ -127,12 +127,12 @@ and_false false b f = refl
 flag_used : (P : Entry → Type 0) (es : List Entry) (id : Text) → All P es → list_all is_sound (map row_of es) ≡ true → is_set (map row_of es) id ≡ true → IsUsed P es id
 flag_used P es id each all set = go (first_text (map row_of es) id) refl set
   where
-    go : (o : Option Text) → first_text (map row_of es) id ≡ o → says_true o ≡ true → IsUsed P es id
+    go : (o : Option Text) → first_text (map row_of es) id ≡ o → is_true_text o ≡ true → IsUsed P es id
     go None found says = absurd (true≢false (sym says))
     go (Some t) found says =
         let got = first_entry (IsOne P es) es id t (each_one P es each all) found in
         let e = got.0 in
-        let on : says_true (slice_get (texts e.1.vals.items) 0) ≡ true = ap says_true got.2 ∙ says in
+        let on : is_true_text (slice_get (texts e.1.vals.items) 0) ≡ true = ap is_true_text got.2 ∙ says in
         let off : is_off e.0.now (texts e.1.vals.items) ≡ false = and_false (not (bytes_eq e.0.now (codes "format"))) _ (ap not on) in
         (e, (bytes_eq-Decides e.0.now id).0 got.1, or_false _ _ got.3.0 off, got.3.1, got.3.2)
 
@@ -145,7 +145,7 @@ format_used P es each all some = go (first_text (map row_of es) (codes "format")
     go (Some t) found there =
         let got = first_entry (IsOne P es) es (codes "format") t (each_one P es each all) found in
         let e = got.0 in
-        let off : is_off e.0.now (texts e.1.vals.items) ≡ false = ap (λ b. not b && not (says_true (slice_get (texts e.1.vals.items) 0))) got.1 in
+        let off : is_off e.0.now (texts e.1.vals.items) ≡ false = ap (λ b. not b && not (is_true_text (slice_get (texts e.1.vals.items) 0))) got.1 in
         (e, (bytes_eq-Decides e.0.now (codes "format")).0 got.1, or_false _ _ got.3.0 off, got.3.1, got.3.2)
 
 -- ---- what is declared
@@ -178,7 +178,7 @@ excludes (x ∷ xs) id other e = elim (one_or_other _ _ (sym (list_any-append (i
       (suc later.0, later.1, omega (arith, later.2), later.3, later.4)
 ]
 
--- a command that was built of one with such an argument has it too
+-- the built command has the argument too
 kept_conflict : (old : Command) (m : ArgMatches) (p : IsParsedFrom old m) (id other : Text) → Excludes (args_of old) id other
     → (has_arg p.built id ≡ true) × (declares_conflict p.built id other ≡ true)
 kept_conflict old m p id other h =
@@ -208,7 +208,7 @@ not_both old m p id other excluded apart one two =
     (and _ _ (and _ _ two.2 far) (or_left _ (declares_conflict p.built two.0.0.now id) conflict)) in
     absurd (true≢false (sym hit ∙ clear))
 
--- a parse that knows of the exclusions takes no line with an excluded pair
+-- a parse by the options with their exclusions takes no line with an excluded pair
 pub excluded_refused : (old : Command) (m : ArgMatches) (u c f : ValueParser) (words : List Text) → AreReaders u c f → options_of old ≡ harness_options u c f
     → IsParsedFrom old m → HasMatchesOf (app_of old) words m → asks_for_excluded (matches_of line_options words) ≡ true → ⊥
 unfolding plus

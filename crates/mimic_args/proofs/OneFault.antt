@@ -1,4 +1,4 @@
--- `clap` names one kind for each line that it refuses, where the command has no subcommand.
+-- `clap` names one kind for each line that it refuses, if the command has no subcommand.
 use Rattle.std.proofs.Common.{◌≡◌, ◌==◌, ◌&&◌, ◌||◌, ap, Bool, cond, false, inl, inr, is_some, length, List, nat_lt, not, None, Option, refl, Some, subst, suc, sym, true, zero, ℕ, [], ◌∷◌}
 use Rattle.std.specs.Option.{option_map_or}
 use Rattle.std.specs.Prelude.{slice_get}
@@ -40,9 +40,9 @@ in_turn : (a b : Kinds) → One a → One b → One (or_else a b)
 in_turn [] b first later = later
 in_turn (k ∷ ks) b first later = first
 
-where_some : {X : Type 0} (f : X → Kinds) (o : Option X) (d : Kinds) → ((x : X) → One (f x)) → One d → One (option_map_or f o d)
-where_some f None d each none = none
-where_some f (Some x) d each none = each x
+if_some : {X : Type 0} (f : X → Kinds) (o : Option X) (d : Kinds) → ((x : X) → One (f x)) → One d → One (option_map_or f o d)
+if_some f None d each none = none
+if_some f (Some x) d each none = each x
 
 of_value : (i : Bool) (p : ValueParser) (t : Text) → One (value_kinds i p t)
 of_value i p t = either (accepts i p t) [] (refused_kind p ∷ []) no_kind (one _)
@@ -90,7 +90,7 @@ of_use again a ts rows =
     in_turn _ _ (of_range (unwrap_or_range a.range).start_inclusive (most_values a) (length ts)) (of_action (action_of a) again a (values_or_missing a ts) rows)
 
 of_settle : (c : List Rule) (again : Bool) (h : Held) → One (settle_fault c again h)
-of_settle c again h = where_some _ h.pending [] (λ p. where_some _ (arg_by_id c p.0) [] (λ a. of_use again a p.1 h.rows) no_kind) no_kind
+of_settle c again h = if_some _ h.pending [] (λ p. if_some _ (arg_by_id c p.0) [] (λ a. of_use again a p.1 h.rows) no_kind) no_kind
 
 of_react : (c : List Rule) (again : Bool) (a : Rule) (ts : List Text) (h : Held) → One (react_fault c again a ts h)
 of_react c again a ts h = in_turn _ _ (of_settle c again h) (of_use again a ts (settled c h).rows)
@@ -122,7 +122,7 @@ of_flags c again (suc k) flags skip h = of_bundle_step c again (slice_get (chars
 
 of_flag_word : (c : List Rule) (again : Bool) (found : Option (Text × Option Text)) (word : Text) (h : Held) → One (flag_word_fault c again found word h)
 of_flag_word c again (Some p) word h = of_long c again (arg_by_long c p.0) p.1 h
-of_flag_word c again None word h = where_some _ (short_of word) [] (λ flags. of_flags c again (length flags) flags h.skip (record h { skip = 0 })) no_kind
+of_flag_word c again None word h = if_some _ (short_of word) [] (λ flags. of_flags c again (length flags) flags h.skip (record h { skip = 0 })) no_kind
 
 no_subcommand : (waiting : Waiting) (word : Text) → subcommand_met [] waiting word ≡ None
 no_subcommand idle word = refl
@@ -144,7 +144,7 @@ of_stray s leaf = rw leaf (one _)
 
 of_step : (s : Shape) → s.is_leaf ≡ true → (position : ℕ) (h : Held) (step : Step) → One (step_fault s position h step)
 of_step s leaf position h value =
-    where_some _ (arg_by_index s.rules position) (stray_fault s) (λ a. of_positional s.rules s.args_override_self a h) (of_stray s leaf)
+    if_some _ (arg_by_index s.rules position) (stray_fault s) (λ a. of_positional s.rules s.args_override_self a h) (of_stray s leaf)
 of_step s leaf position h (next waiting) = no_kind
 of_step s leaf position h (trailing n) = no_kind
 of_step s leaf position h (subcommand name) = no_kind

@@ -1,4 +1,4 @@
--- Where a parse took a line, the first value of an option passed the reader that is declared of it.
+-- If a parse took a line, the first value of an option passed the reader that is declared for it.
 use Rattle.std.proofs.Common.{◌≡◌, ◌∙◌, ◌<◌, ap, arith, Bool, drop, false, filter, inl, inr, length, List, map, None, refl, Some, subst, suc, sym, true, zero, ℕ, [], ◌∷◌}
 use Rattle.std.proofs.lemmas.Bool.{cases_lt}
 use Rattle.std.proofs.lemmas.List.Elements.{All-drop, All-get_or}
@@ -74,7 +74,7 @@ head_value P [] t first all =
 head_value P (v ∷ vs) t first all =
     subst P (ap (λ o. unwrap_or o v.now) first) (All-get_or (λ w. P w.now) (v ∷ vs) 0 v (omega arith) all)
 
--- what is declared of the one option of an id
+-- what is declared for the one option of an id
 pub record IsReadBy (id : Text) (q : ValueParser) (rules : List Rule) : Type 0 where
   pub rule : Rule
   pub only : rules_of_id id rules ≡ rule ∷ []

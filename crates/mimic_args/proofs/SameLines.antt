@@ -13,7 +13,7 @@ use Rattle.mimic_args.proofs.SimpleLine.{parsed_options}
 named : (names : List Text) (p : ValueParser) → TakesOnly names p → named_reader p ≡ reader_of names
 named names p only = ap named_reader only.1 ∙ ap reader_of only.2
 
--- the options that a line is parsed by, of which the readers have the names alone
+-- the options that a line is parsed by have the readers of the definitions
 line_of : (u c f : ValueParser) → AreReaders u c f → parsed_options (named_reader u) (named_reader c) (named_reader f) ≡ line_options
 line_of u c f readers = λ i. parsed_options (named _ u readers.unstable i) (named _ c readers.color i) (named _ f readers.format i)
 

@@ -131,7 +131,7 @@ harness_options = options_with (excluding (alone test_rule) (codes "bench")) (ex
 abbrev pub TakesOnly : List Text → ValueParser → Type 0
 TakesOnly names p = (listed : Bor (List (Bor Text))) × (p ≡ vp.Names listed) × (texts listed.now ≡ names)
 
--- a value behind a reference; where it stands is of no account (our own)
+-- a value behind a reference, whose address does not matter (our own)
 abbrev pub behind : {X : Type 0} → X → Bor X
 behind x = record { ref_ptr = (0, 0); now = x }
 
