@@ -6,11 +6,7 @@ use std::alloc::{AllocError, Global};
 use std::test::Fail;
 
 // A report with a row of each letter as its name, and so many trials that were filtered out.
-pub(super) fn report(
-    alloc: Global,
-    letters: &str,
-    filtered_out: u64,
-) -> Result<Report, AllocError> {
+fn report(alloc: Global, letters: &str, filtered_out: u64) -> Result<Report, AllocError> {
     let mut rows = Vec::new(alloc);
     for at in 0..letters.len() {
         rows.push(Row {
@@ -35,37 +31,43 @@ fn reports(alloc: Global, table: &[(&str, u64)]) -> Result<Vec<Report>, AllocErr
     Ok(reports)
 }
 
-// What is joined: the letters and the trials filtered out of each report, and those of all.
-const JOINED: [(&[(&str, u64)], (&str, u64)); 6] = [
-    (&[], ("", 0)),
-    (&[("abc", 2)], ("abc", 2)),
-    (&[("adg", 0), ("be", 0), ("cf", 0)], ("abcdefg", 0)),
-    (&[("adg", 0), ("b", 1), ("", 2)], ("abdg", 3)),
-    (&[("", 1), ("a", 0), ("b", 0)], ("ab", 1)),
-    (&[("", 0), ("", 0)], ("", 0)),
+// Joins reports. This is the one place that calls `joined`, and it promises nothing, so that no test carries that contract.
+pub(super) fn join(
+    alloc: Global,
+    reports: Vec<Report>,
+    shards: usize,
+    equal_names: bool,
+) -> Result<Result<Report, Refusal>, AllocError> {
+    joined(alloc, reports, shards, equal_names)
+}
+
+// What is joined: whether the suite has equal names, and the letters and the trials filtered out of each report; and the letters
+// and the trials filtered out of all, and the longest time.
+const JOINED: [(bool, &[(&str, u64)], &str, u64, u64); 7] = [
+    (false, &[], "", 0, 0),
+    (false, &[("abc", 2)], "abc", 2, 3),
+    (false, &[("adg", 0), ("be", 0), ("cf", 0)], "abcdefg", 0, 3),
+    (false, &[("adg", 0), ("b", 1), ("", 2)], "abdg", 3, 3),
+    (false, &[("", 1), ("a", 0), ("b", 0)], "ab", 1, 1),
+    (false, &[("", 0), ("", 0)], "", 0, 0),
+    (true, &[("aa", 0), ("ba", 0)], "abaa", 0, 2),
 ];
 
 #[test]
 fn joins_in_turn(rt: HostRuntime) -> Result<(), Fail> {
     let alloc = rt.alloc();
-    for (table, (letters, filtered_out)) in &JOINED {
-        let whole = joined(alloc, reports(alloc, table)?, table.len(), false)?;
-        let whole = whole.ok().ok_or("refused")?;
-        let mut names = String::new(alloc);
-        for row in &whole.rows {
-            names.push_str(row.name.as_str())?;
-        }
-        assert!(rt; names.as_str() == *letters, "{names}");
-        assert!(rt; whole.filtered_out == *filtered_out);
-        let longest = table.iter().map(|one| one.0.len() as u64).max();
-        assert!(rt; whole.nanos == longest.unwrap_or(0));
+    for (equal_names, table, letters, filtered_out, nanos) in &JOINED {
+        let whole = join(alloc, reports(alloc, table)?, table.len(), *equal_names)?;
+        let mut wanted = report(alloc, letters, *filtered_out)?;
+        wanted.nanos = *nanos;
+        assert!(rt; whole == Ok(wanted), "{letters}");
     }
     Ok(())
 }
 
 // What is refused: the number of shards, the reports, why, and what is shown. A lost report, one that stands twice, a foreign
 // one, and a sum that doesn't fit are among them.
-const REFUSED: [(usize, &[(&str, u64)], Refusal, &str); 8] = [
+const REFUSED: [(usize, &[(&str, u64)], Refusal, &str); 9] = [
     (
         3,
         &[("ac", 0), ("b", 0)],
@@ -116,43 +118,35 @@ const REFUSED: [(usize, &[(&str, u64)], Refusal, &str); 8] = [
     ),
     (
         2,
+        &[("aa", 0), ("ba", 0)],
+        Refusal::NamedTwice { place: 1, row: 1 },
+        "B: line 4: its trial is in a report before it too",
+    ),
+    (
+        2,
         &[("a", u64::MAX), ("b", u64::MAX)],
         Refusal::TooMany,
         "too many trials were filtered out",
     ),
 ];
 
-#[test]
-fn refuses_other_reports(rt: HostRuntime) -> Result<(), Fail> {
-    let alloc = rt.alloc();
+// What is shown of a fault of the reports A, B and C.
+pub(super) fn shown(alloc: Global, fault: &JoinFault) -> Result<String, Fail> {
     let mut names = Vec::new(alloc);
     for name in ["A", "B", "C"] {
         names.push(String::from_str(alloc, name)?)?;
     }
-    for (shards, table, refusal, text) in &REFUSED {
-        let answer = joined(alloc, reports(alloc, table)?, *shards, false)?;
-        assert!(rt; answer == Err(*refusal), "{text}");
-        let fault = JoinFault::Refused(*refusal);
-        let shown = format!(in alloc; "{}", fault.with_names(&names))?;
-        assert!(rt; shown.as_str() == *text, "{shown}");
-    }
-    Ok(())
+    Ok(format!(in alloc; "{}", fault.with_names(&names))?)
 }
 
-// A suite with equal names: its reports are joined only if the caller says so.
 #[test]
-fn joins_equal_names(rt: HostRuntime) -> Result<(), Fail> {
+fn refuses_other_reports(rt: HostRuntime) -> Result<(), Fail> {
     let alloc = rt.alloc();
-    let table = [("aa", 0), ("ba", 0)];
-    let refused = joined(alloc, reports(alloc, &table)?, 2, false)?;
-    assert!(rt; refused == Err(Refusal::NamedTwice { place: 1, row: 1 }));
-    let whole = joined(alloc, reports(alloc, &table)?, 2, true)?;
-    assert!(rt;
-        whole.ok()
-            == Some(Report {
-                nanos: 2,
-                ..report(alloc, "abaa", 0)?
-            })
-    );
+    for (shards, table, refusal, text) in &REFUSED {
+        let answer = join(alloc, reports(alloc, table)?, *shards, false)?;
+        assert!(rt; answer == Err(*refusal), "{text}");
+        let shown = shown(alloc, &JoinFault::Refused(*refusal))?;
+        assert!(rt; shown.as_str() == *text, "{shown}");
+    }
     Ok(())
 }

@@ -1,10 +1,13 @@
 //! Reports that are read from readers, and what readers give that is no report.
+use super::joining::shown;
 use mimic_printer::Sink;
 use mimic_reports::{JoinFault, join_reports};
 use mimic_testkit::{Fault, FaultyWriter, Place};
+use mimic_trial::Conclusion;
 use std::alloc::Global;
 use std::io;
-use std::io::{ErrorKind, Read};
+use std::io::{ErrorKind, Read, Write};
+use std::process::Abort;
 use std::test::Fail;
 
 const FIRST: &str = r#"{ "type": "suite", "event": "started", "test_count": 1 }
@@ -68,23 +71,32 @@ impl<'a> Slow<'a> {
     }
 }
 
+// Joins what the readers of so many shards give, and returns the writer, and how that ended. This is the one place that calls
+// `join_reports`, and it promises nothing, so that no test carries that contract.
+pub(super) fn join_into<I: Read + Drop, W: Write>(
+    alloc: Global,
+    inputs: Vec<I>,
+    shards: usize,
+    writer: W,
+) -> (W, Result<Conclusion, JoinFault>) {
+    let mut sink = Sink::new(writer);
+    let joined = join_reports(alloc, inputs, shards, false, &mut sink);
+    (sink.into_inner(), joined)
+}
+
 // Joins what two readers give, and returns what was written, and the text of the fault.
 fn outcome_of(
     alloc: Global,
     first: Slow<'_>,
     second: Slow<'_>,
 ) -> Result<(Vec<u8>, Option<String>), Fail> {
-    let mut names = Vec::new(alloc);
-    for name in ["A", "B"] {
-        names.push(String::from_str(alloc, name)?)?;
-    }
     let inputs = vec![in alloc; first, second]?;
-    let mut sink = Sink::new(Vec::new(alloc));
-    let fault = match join_reports(alloc, inputs, 2, false, &mut sink) {
+    let (bytes, joined) = join_into(alloc, inputs, 2, Vec::new(alloc));
+    let fault = match joined {
         Ok(_) => None,
-        Err(fault) => Some(format!(in alloc; "{}", fault.with_names(&names))?),
+        Err(fault) => Some(shown(alloc, &fault)?),
     };
-    Ok((sink.into_inner(), fault))
+    Ok((bytes, fault))
 }
 
 #[test]
@@ -139,15 +151,32 @@ fn altered(alloc: Global, text: &str, old: &str, new: &str) -> Result<String, Fa
     Ok(format!(in alloc; "{front}{new}{back}")?)
 }
 
+// Checks that what the readers give is refused so, and nothing is written.
+fn check_refused(
+    rt: &impl Abort,
+    alloc: Global,
+    first: Slow<'_>,
+    second: Slow<'_>,
+    shown: &str,
+) -> Result<(), Fail> {
+    let (bytes, fault) = outcome_of(alloc, first, second)?;
+    let fault = fault.ok_or("joined")?;
+    assert!(rt; fault.as_str() == shown && bytes.is_empty(), "{fault}");
+    Ok(())
+}
+
 #[test]
 fn refuses_what_is_no_report(rt: HostRuntime) -> Result<(), Fail> {
     let alloc = rt.alloc();
     for (old, new, shown) in &ODD {
         let second = altered(alloc, SECOND, old, new)?;
-        let (bytes, fault) = outcome_of(alloc, Slow::of(FIRST), Slow::of(second.as_str()))?;
-        let fault = fault.ok_or("joined")?;
-        assert!(rt; fault.as_str() == *shown, "{fault}");
-        assert!(rt; bytes.is_empty());
+        check_refused(
+            &rt,
+            alloc,
+            Slow::of(FIRST),
+            Slow::of(second.as_str()),
+            shown,
+        )?;
     }
     Ok(())
 }
@@ -155,34 +184,38 @@ fn refuses_what_is_no_report(rt: HostRuntime) -> Result<(), Fail> {
 // The first reader fails behind its text, or its text is cut; what the second gives doesn't count.
 #[test]
 fn refuses_the_first_reader(rt: HostRuntime) -> Result<(), Fail> {
-    let alloc = rt.alloc();
-    let kind = ErrorKind::PermissionDenied;
     let mut first = Slow::of(FIRST);
-    first.fails = Some(kind);
-    let (bytes, fault) = outcome_of(alloc, first, Slow::of("no line\n"))?;
-    let shown = format!(in alloc; "A: {}", io::Error::from(kind))?;
-    assert!(rt; fault.as_ref().map(String::as_str) == Some(shown.as_str()));
-    assert!(rt; bytes.is_empty());
-    let (bytes, fault) = outcome_of(alloc, Slow::of(""), Slow::of("no line\n"))?;
-    assert!(rt; fault.as_ref().map(String::as_str) == Some("A: the report is cut"));
-    assert!(rt; bytes.is_empty());
-    Ok(())
+    first.fails = Some(ErrorKind::PermissionDenied);
+    check_refused(
+        &rt,
+        rt.alloc(),
+        first,
+        Slow::of("no line\n"),
+        "A: permission denied",
+    )?;
+    check_refused(
+        &rt,
+        rt.alloc(),
+        Slow::of(""),
+        Slow::of("no line\n"),
+        "A: the report is cut",
+    )
 }
 
-// A writer that fails after so many bytes has got these bytes of the joined report.
+// Whether a writer that fails after so many bytes has got these bytes of the joined report, and nothing more is written.
+fn stops_so(alloc: Global, count: usize, fault: Fault) -> Result<bool, Fail> {
+    let inputs = vec![in alloc; Slow::of(FIRST), Slow::of(SECOND)]?;
+    let writer = FaultyWriter::new(alloc).failing(Place::Byte(count), fault);
+    let (writer, joined) = join_into(alloc, inputs, 2, writer);
+    let is_refused = matches!(joined, Err(JoinFault::Write(_))) && writer.calls_after == 0;
+    Ok(is_refused && BOTH.as_bytes().get(..count) == Some(writer.bytes.as_slice()))
+}
+
 #[test]
 fn stops_at_a_write_fault(rt: HostRuntime) -> Result<(), Fail> {
-    let alloc = rt.alloc();
     for count in [0, 3, 60, 400] {
         for fault in Fault::ALL {
-            let writer = FaultyWriter::new(alloc).failing(Place::Byte(count), fault);
-            let mut sink = Sink::new(writer);
-            let inputs = vec![in alloc; Slow::of(FIRST), Slow::of(SECOND)]?;
-            let joined = join_reports(alloc, inputs, 2, false, &mut sink);
-            assert!(rt; matches!(joined, Err(JoinFault::Write(_))));
-            let writer = sink.into_inner();
-            assert!(rt; str::from_utf8(&writer.bytes)? == &BOTH[..count]);
-            assert!(rt; writer.calls_after == 0);
+            assert!(rt; stops_so(rt.alloc(), count, fault)?, "{count} {fault:?}");
         }
     }
     Ok(())

@@ -1,24 +1,34 @@
 //! The 17 trials of `harness`, run in shards by one thread and a clock that stands still.
-use libtest_mimic::{Arguments, FormatSetting, Stopwatch, run_here};
+use super::joining::join;
+use super::reading::join_into;
+use libtest_mimic::{Arguments, FormatSetting, Stopwatch, Trial, run_here};
+use mimic_events::Report;
 use mimic_printer::Sink;
-use mimic_reports::{join_reports, joined};
-use mimic_roundtrip::{run_shard, run_to_report};
+use mimic_roundtrip::run_shard;
 use mimic_shard::{Shard, shard_of};
-use mimic_testkit::{MIXED_BAG, TwoReadings, known_trials};
+use mimic_testkit::{Known, MIXED_BAG, TwoReadings, known_trials};
 use std::alloc::Global;
+use std::process::Abort;
 use std::test::Fail;
 
-// What a run of the shard writes, or with none a run of all trials.
-fn written(alloc: Global, words: &[&str], shard: Option<Shard>) -> Result<Vec<u8>, Fail> {
+// What the words of a line ask.
+fn asked(alloc: Global, words: &[&str]) -> Result<Arguments, Fail> {
     if words.is_empty() {
         return Err(Fail::new("no line"));
     }
-    let args = Arguments::from_iter(alloc, words).ok().ok_or("refused")?;
-    let trials = known_trials(alloc, &MIXED_BAG)?;
-    let trials = match shard {
-        Some(shard) => shard_of(alloc, shard, trials)?,
-        None => trials,
-    };
+    Ok(Arguments::from_iter(alloc, words).ok().ok_or("refused")?)
+}
+
+// The trials of a shard.
+fn trials_of(alloc: Global, index: usize, count: usize) -> Result<Vec<Trial<Known>>, Fail> {
+    let shard = Shard::new(index, count).ok_or("no shard")?;
+    Ok(shard_of(alloc, shard, known_trials(alloc, &MIXED_BAG)?)?)
+}
+
+// What a run of a shard writes. The first one of one is a run of all trials.
+fn written(alloc: Global, words: &[&str], index: usize, count: usize) -> Result<Vec<u8>, Fail> {
+    let args = asked(alloc, words)?;
+    let trials = trials_of(alloc, index, count)?;
     let mut sink = Sink::new(Vec::new(alloc));
     let mut watch = Stopwatch::new(TwoReadings::still());
     run_here(alloc, &args, trials, &mut sink, &mut watch, false)?;
@@ -29,7 +39,7 @@ fn written(alloc: Global, words: &[&str], shard: Option<Shard>) -> Result<Vec<u8
 fn parts(alloc: Global, words: &[&str], count: usize) -> Result<Vec<Vec<u8>>, Fail> {
     let mut parts = Vec::new(alloc);
     for index in 0..count {
-        parts.push(written(alloc, words, Shard::new(index, count))?)?;
+        parts.push(written(alloc, words, index, count)?)?;
     }
     Ok(parts)
 }
@@ -41,110 +51,130 @@ fn joined_of(alloc: Global, words: &[&str], count: usize) -> Result<Vec<u8>, Fai
     for part in &parts {
         inputs.push(part.as_slice())?;
     }
-    let mut sink = Sink::new(Vec::new(alloc));
-    join_reports(alloc, inputs, count, false, &mut sink)
-        .ok()
-        .ok_or("refused")?;
-    Ok(sink.into_inner())
+    let (bytes, joined) = join_into(alloc, inputs, count, Vec::new(alloc));
+    joined.ok().ok_or("refused")?;
+    Ok(bytes)
 }
 
-// Lines that drop no trial.
-const UNFILTERED: [&[&str]; 4] = [
-    &["suite", "--format=json"],
-    &["suite", "--format=json", "--include-ignored"],
-    &["suite", "--format=json", "--test"],
-    &["suite", "--format=json", "--bench"],
-];
-
-#[test]
-fn joins_whole_suites(rt: HostRuntime) -> Result<(), Fail> {
-    let alloc = rt.alloc();
-    for words in &UNFILTERED {
-        let whole = written(alloc, words, None)?;
-        for count in 1..21 {
-            assert!(rt; joined_of(alloc, words, count)? == whole, "{count} shards");
+// Whether the line stands in the text, and once.
+fn stands_once(line: &str, text: &str) -> bool {
+    let mut stands = false;
+    for other in text.lines() {
+        if other == line {
+            if stands {
+                return false;
+            }
+            stands = true;
         }
     }
-    Ok(())
+    stands
 }
-
-// Lines that drop trials.
-const FILTERED: [&[&str]; 5] = [
-    &["suite", "--format=json", "--skip", "o"],
-    &["suite", "--format=json", "--ignored"],
-    &[
-        "suite",
-        "--format=json",
-        "--ignored",
-        "--bench",
-        "--skip",
-        "banana",
-    ],
-    &["suite", "--format=json", "b", "ow"],
-    &["suite", "--format=json", "--exact", "nothing"],
-];
 
 // Whether the texts have the same lines, each once, in whatever order.
 fn have_same_lines(a: &str, b: &str) -> bool {
     for line in a.lines() {
-        if b.lines().filter(|other| *other == line).count() != 1 {
+        if !stands_once(line, b) {
             return false;
         }
     }
     a.lines().count() == b.lines().count()
 }
 
+// Lines that drop no trial, and lines that do, so that the rows of the joined report are in another order.
+const LINES: [(bool, &[&str]); 9] = [
+    (false, &["suite", "--format=json"]),
+    (false, &["suite", "--format=json", "--include-ignored"]),
+    (false, &["suite", "--format=json", "--test"]),
+    (false, &["suite", "--format=json", "--bench"]),
+    (true, &["suite", "--format=json", "--skip", "o"]),
+    (true, &["suite", "--format=json", "--ignored"]),
+    (
+        true,
+        &[
+            "suite",
+            "--format=json",
+            "--ignored",
+            "--bench",
+            "--skip",
+            "banana",
+        ],
+    ),
+    (true, &["suite", "--format=json", "b", "ow"]),
+    (true, &["suite", "--format=json", "--exact", "nothing"]),
+];
+
+// Checks that the joined report of so many shards is that of a whole run, but perhaps for its order.
+fn check_joined(
+    rt: &impl Abort,
+    alloc: Global,
+    drops: bool,
+    words: &[&str],
+    count: usize,
+) -> Result<(), Fail> {
+    let whole = written(alloc, words, 0, 1)?;
+    let joined = joined_of(alloc, words, count)?;
+    assert!(rt; drops || joined == whole, "{count} shards");
+    let (whole, joined) = (str::from_utf8(&whole)?, str::from_utf8(&joined)?);
+    assert!(rt; have_same_lines(whole, joined), "{count} shards");
+    assert!(rt; joined.lines().last() == whole.lines().last());
+    Ok(())
+}
+
 #[test]
-fn joins_filtered_suites(rt: HostRuntime) -> Result<(), Fail> {
-    let alloc = rt.alloc();
-    for words in &FILTERED {
-        let whole = written(alloc, words, None)?;
-        let whole = str::from_utf8(&whole)?;
+fn joins_suites(rt: HostRuntime) -> Result<(), Fail> {
+    for (drops, words) in &LINES {
         for count in 1..21 {
-            let joined = joined_of(alloc, words, count)?;
-            let joined = str::from_utf8(&joined)?;
-            assert!(rt; have_same_lines(whole, joined), "{count} shards");
-            assert!(rt; joined.lines().last() == whole.lines().last());
+            check_joined(&rt, rt.alloc(), *drops, words, count)?;
         }
     }
     Ok(())
+}
+
+// The lists of so many shards, one after another.
+fn lists(alloc: Global, count: usize) -> Result<String, Fail> {
+    let mut lists = String::new(alloc);
+    for part in &parts(alloc, &["suite", "--list"], count)? {
+        lists.push_str(str::from_utf8(part)?)?;
+    }
+    Ok(lists)
 }
 
 // The lists of all shards have the lines of the whole list.
 #[test]
 fn lists_each_trial_once(rt: HostRuntime) -> Result<(), Fail> {
     let alloc = rt.alloc();
-    let words = ["suite", "--list"];
-    let whole = written(alloc, &words, None)?;
-    let whole = str::from_utf8(&whole)?;
+    let whole = lists(alloc, 1)?;
     assert!(rt; whole.lines().count() == 17);
-    for count in 1..21 {
-        let mut lists = String::new(alloc);
-        for part in &parts(alloc, &words, count)? {
-            lists.push_str(str::from_utf8(part)?)?;
-        }
-        assert!(rt; have_same_lines(whole, lists.as_str()), "{count} shards");
+    for count in 2..21 {
+        let lists = lists(alloc, count)?;
+        assert!(rt;
+            have_same_lines(whole.as_str(), lists.as_str()),
+            "{count} shards"
+        );
     }
     Ok(())
+}
+
+// The report of a run of a shard.
+fn report_of(alloc: Global, index: usize, count: usize) -> Result<Report, Fail> {
+    let mut args = Arguments::new(alloc);
+    args.format = Some(FormatSetting::Json);
+    let shard = Shard::new(index, count).ok_or("no shard")?;
+    let trials = known_trials(alloc, &MIXED_BAG)?;
+    let mut watch = Stopwatch::new(TwoReadings::still());
+    let (_, report) = run_shard(alloc, &args, shard, trials, &mut watch)?;
+    Ok(report)
 }
 
 // A report that was joined is what one run reports.
 #[test]
 fn joins_reports_of_runs(rt: HostRuntime) -> Result<(), Fail> {
     let alloc = rt.alloc();
-    let mut args = Arguments::new(alloc);
-    args.format = Some(FormatSetting::Json);
-    let trials = known_trials(alloc, &MIXED_BAG)?;
-    let mut watch = Stopwatch::new(TwoReadings::still());
-    let (_, whole) = run_to_report(alloc, &args, trials, &mut watch)?;
     let mut reports = Vec::new(alloc);
     for index in 0..5 {
-        let shard = Shard::new(index, 5).ok_or("no shard")?;
-        let trials = known_trials(alloc, &MIXED_BAG)?;
-        let mut watch = Stopwatch::new(TwoReadings::still());
-        let (_, report) = run_shard(alloc, &args, shard, trials, &mut watch)?;
-        reports.push(report)?;
+        reports.push(report_of(alloc, index, 5)?)?;
     }
-    assert!(rt; joined(alloc, reports, 5, false)? == Ok(whole));
+    let whole = report_of(alloc, 0, 1)?;
+    assert!(rt; join(alloc, reports, 5, false)? == Ok(whole));
     Ok(())
 }

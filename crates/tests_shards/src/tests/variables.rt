@@ -1,6 +1,7 @@
 //! The pair of variables that names a shard.
-use mimic_shard::{Shard, ShardFault, shard_of};
+use mimic_shard::{Shard, shard_of};
 use mimic_trial::Trial;
+use std::alloc::{AllocError, Global};
 use std::test::Fail;
 
 // Good pairs: the total, the index, and both as numbers.
@@ -32,38 +33,8 @@ fn reads_good_pairs(rt: HostRuntime) -> Result<(), Fail> {
     Ok(())
 }
 
-// Texts that are no number.
-const ODD: [&str; 14] = [
-    "",
-    " ",
-    "+1",
-    "-1",
-    "1 ",
-    " 1",
-    "1\n",
-    "1.0",
-    "0x1",
-    "1e0",
-    "one",
-    "١",
-    "1_0",
-    "18446744073709551616",
-];
-
-#[test]
-fn refuses_odd_numbers(rt: HostRuntime) {
-    for text in &ODD {
-        let total = Shard::from_variables(Some(text), Some("0"));
-        assert!(rt; total == Err(ShardFault::OddTotal), "{text}");
-        let index = Shard::from_variables(Some("4"), Some(text));
-        assert!(rt; index == Err(ShardFault::OddIndex), "{text}");
-        let both = Shard::from_variables(Some(text), Some(text));
-        assert!(rt; both == Err(ShardFault::OddTotal), "{text}");
-    }
-}
-
 // Pairs that name no shard, and what is shown.
-const REFUSED: [(Option<&str>, Option<&str>, &str); 7] = [
+const REFUSED: [(Option<&str>, Option<&str>, &str); 9] = [
     (
         Some("4"),
         None,
@@ -90,6 +61,16 @@ const REFUSED: [(Option<&str>, Option<&str>, &str); 7] = [
         "TEST_TOTAL_SHARDS is not a number of shards",
     ),
     (
+        Some("18446744073709551616"),
+        Some("0"),
+        "TEST_TOTAL_SHARDS is not a number of shards",
+    ),
+    (
+        Some("4"),
+        Some("+1"),
+        "TEST_SHARD_INDEX is not a number below TEST_TOTAL_SHARDS",
+    ),
+    (
         Some("4"),
         Some("4"),
         "TEST_SHARD_INDEX is not a number below TEST_TOTAL_SHARDS",
@@ -101,14 +82,18 @@ const REFUSED: [(Option<&str>, Option<&str>, &str); 7] = [
     ),
 ];
 
+// What is shown of a pair that names no shard.
+fn shown(alloc: Global, total: Option<&str>, index: Option<&str>) -> Result<String, Fail> {
+    match Shard::from_variables(total, index) {
+        Err(fault) => Ok(format!(in alloc; "{fault}")?),
+        Ok(_) => Err(Fail::new("a shard")),
+    }
+}
+
 #[test]
 fn refuses_other_pairs(rt: HostRuntime) -> Result<(), Fail> {
-    let alloc = rt.alloc();
     for (total, index, text) in &REFUSED {
-        let fault = Shard::from_variables(*total, *index)
-            .err()
-            .ok_or("a shard")?;
-        let shown = format!(in alloc; "{fault}")?;
+        let shown = shown(rt.alloc(), *total, *index)?;
         assert!(rt; shown.as_str() == *text, "{shown}");
     }
     Ok(())
@@ -125,19 +110,29 @@ const SHARDS: [(usize, usize, &str); 7] = [
     (usize::MAX, 0, "a"),
 ];
 
+// Trials of the letters.
+fn letters(alloc: Global) -> Result<Vec<Trial<()>>, AllocError> {
+    let mut trials = Vec::new(alloc);
+    for name in ["a", "b", "c", "d", "e", "f", "g"] {
+        trials.push(Trial::new(String::from_str(alloc, name)?, ()))?;
+    }
+    Ok(trials)
+}
+
+// The letters of a shard.
+fn letters_of(alloc: Global, index: usize, count: usize) -> Result<String, Fail> {
+    let shard = Shard::new(index, count).ok_or("no shard")?;
+    let mut names = String::new(alloc);
+    for trial in &shard_of(alloc, shard, letters(alloc)?)? {
+        names.push_str(trial.name())?;
+    }
+    Ok(names)
+}
+
 #[test]
 fn takes_trials_of_a_shard(rt: HostRuntime) -> Result<(), Fail> {
-    let alloc = rt.alloc();
     for (count, index, letters) in &SHARDS {
-        let mut trials = Vec::new(alloc);
-        for name in ["a", "b", "c", "d", "e", "f", "g"] {
-            trials.push(Trial::new(String::from_str(alloc, name)?, ()))?;
-        }
-        let shard = Shard::new(*index, *count).ok_or("no shard")?;
-        let mut names = String::new(alloc);
-        for trial in &shard_of(alloc, shard, trials)? {
-            names.push_str(trial.name())?;
-        }
+        let names = letters_of(rt.alloc(), *index, *count)?;
         assert!(rt; names.as_str() == *letters, "{names}");
     }
     Ok(())
