@@ -116,7 +116,6 @@ fn check_joined(
     assert!(rt; drops || joined == whole, "{count} shards");
     let (whole, joined) = (str::from_utf8(&whole)?, str::from_utf8(&joined)?);
     assert!(rt; have_same_lines(whole, joined), "{count} shards");
-    assert!(rt; joined.lines().last() == whole.lines().last());
     Ok(())
 }
 
@@ -170,11 +169,7 @@ fn report_of(alloc: Global, index: usize, count: usize) -> Result<Report, Fail> 
 #[test]
 fn joins_reports_of_runs(rt: HostRuntime) -> Result<(), Fail> {
     let alloc = rt.alloc();
-    let mut reports = Vec::new(alloc);
-    for index in 0..5 {
-        reports.push(report_of(alloc, index, 5)?)?;
-    }
-    let whole = report_of(alloc, 0, 1)?;
-    assert!(rt; join(alloc, reports, 5, false)? == Ok(whole));
+    let reports = vec![in alloc; report_of(alloc, 0, 2)?, report_of(alloc, 1, 2)?]?;
+    assert!(rt; join(alloc, reports, 2, false)? == Ok(report_of(alloc, 0, 1)?));
     Ok(())
 }
