@@ -1,10 +1,12 @@
-pub mod Turns
-pub mod Joining
-pub mod SeenNames
 pub mod Falls
 pub mod Fitting
+pub mod JoinInputs
+pub mod JoinedText
+pub mod Joining
 pub mod Laws
 pub mod ReadBytes
 pub mod ReadInputs
-pub mod JoinInputs
-pub mod JoinedText
+pub mod SeenNames
+pub mod Spellings
+pub mod Turns
+pub mod WayBack

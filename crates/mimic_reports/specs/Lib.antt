@@ -4,3 +4,4 @@ pub mod Joined
 pub mod Names
 pub mod Text
 pub mod Turns
+pub mod Xml

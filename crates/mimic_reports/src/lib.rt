@@ -23,6 +23,7 @@ mod numbers;
 mod order;
 mod reading;
 mod text;
+mod xml;
 
 pub use faults::{JoinFault, NamedFault};
 pub use inputs::join_reports;
