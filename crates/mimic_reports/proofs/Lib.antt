@@ -1,4 +1,7 @@
+pub mod Documents
+pub mod Endings
 pub mod Falls
+pub mod FirstLines
 pub mod Fitting
 pub mod JoinInputs
 pub mod JoinedText
@@ -6,7 +9,11 @@ pub mod Joining
 pub mod Laws
 pub mod ReadBytes
 pub mod ReadInputs
+pub mod RowCounts
+pub mod RowsRead
 pub mod SeenNames
 pub mod Spellings
+pub mod SuiteText
+pub mod Totals
 pub mod Turns
 pub mod WayBack
