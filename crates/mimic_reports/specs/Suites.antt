@@ -1,5 +1,5 @@
 -- Reports that were read to be written in XML, and what a call that writes them leaves.
-use Rattle.std.specs.Prelude.{◌≡◌, ℕ, ◌+◌, ◌<◌, ◌≤◌, ◌⊎◌, ◌^◌, List, length, map, Option, IfSome, Result, Ok, Err}
+use Rattle.std.specs.Prelude.{◌≡◌, ℕ, ◌+◌, ◌<◌, ◌≤◌, ◌⊎◌, ◌^◌, List, length, map, Option, None, Some, IfSome, Result, Ok, Err}
 use Rattle.mimic_trial.specs.declared.outcome.conclusion.Conclusion.{Conclusion}
 use Rattle.mimic_trial.specs.Count.{counts_of}
 use Rattle.mimic_printer.specs.Json.{Entry}
@@ -84,6 +84,13 @@ LeftBy suites old new junit.TooMany = IsTooGreat (total (map numbers_in suites))
 LeftBy suites old new (junit.Input place fault) = (place < length suites) × (text : List ℕ) × Put old new text
 LeftBy suites old new (junit.Changed place) = (place < length suites) × (text : List ℕ) × Put old new text
 LeftBy suites old new (junit.Write fault) = (text : List ℕ) × Stopped old new text
+
+-- the place of the report that the fault is in
+abbrev pub place_of : JunitFault → Option ℕ
+place_of junit.TooMany = None
+place_of (junit.Input place fault) = Some place
+place_of (junit.Changed place) = Some place
+place_of (junit.Write fault) = None
 
 -- what a call that writes these reports leaves: the document of all of them, in their order
 abbrev pub LeavesDocument : {I : Type 0} → (I → Option (List ℕ)) → List (SuiteRead I) → Shown → Shown → Result (Unit {0}) JunitFault → Type 0

@@ -1,5 +1,6 @@
 //! How reports end.
 use mimic_events::Label;
+use std::fmt;
 
 /// How a report ended.
 #[derive(Debug, Drop)]
@@ -19,4 +20,14 @@ pub struct Stop {
     pub running: Option<Label>,
     /// The number, from 1, of the first line that no report has there. `None` says that all ended lines are those of a report.
     pub wrong_line: Option<u128>,
+}
+
+/// Shows why the report is none: which line is wrong, or that it is cut.
+impl fmt::Display for Stop {
+    fn fmt<W: fmt::Write>(&self, f: &mut fmt::Formatter<W>) -> fmt::Result {
+        match self.wrong_line {
+            Some(line) => write!(f, "line {line}: not what a report has there"),
+            None => write!(f, "the report is cut"),
+        }
+    }
 }

@@ -41,6 +41,21 @@ pub enum JunitFault {
     Write(WriteFault),
 }
 
+impl JunitFault {
+    ghost use Rattle.std.specs.Prelude.{◌≡◌};
+    ghost use Rattle.mimic_reports.specs.Suites.{place_of};
+
+    /// Returns the place of the report that the fault is in. `None` says that it is in none alone.
+    pub fn place(&self) -> Option<usize>
+        ensures { result ≡ place_of self.now }
+    {
+        match self {
+            JunitFault::Input { place, fault: _ } | JunitFault::Changed { place } => Some(*place),
+            JunitFault::TooMany | JunitFault::Write(_) => None,
+        }
+    }
+}
+
 // Returns the numbers of all reports together.
 fn total_of<I: Read>(suites: &[Suite<'_, I>]) -> Option<Numbers>
     ensures { MatchOption result (IsTooGreat (total (map numbers_in suites.now)))
