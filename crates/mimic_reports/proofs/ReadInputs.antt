@@ -7,7 +7,7 @@ use Rattle.mimic_reports.specs.Inputs.{AreReportsIn, FailsAt, GivesNone, IsRepor
 use Rattle.mimic_reports.specs.Turns.{Each}
 
 -- one more pair
-each_more : {A B : Type 0} (R : A → B → Type 0) (xs : List A) (ys : List B) (x : A) (y : B) → Each R xs ys → R x y → Each R (xs ++ x ∷ []) (ys ++ y ∷ [])
+pub each_more : {A B : Type 0} (R : A → B → Type 0) (xs : List A) (ys : List B) (x : A) (y : B) → Each R xs ys → R x y → Each R (xs ++ x ∷ []) (ys ++ y ∷ [])
 each_more R [] [] x y h r = (r, tt)
 each_more R [] (b ∷ ys) x y h r = absurd h
 each_more R (a ∷ xs) [] x y h r = absurd h

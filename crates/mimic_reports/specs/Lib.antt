@@ -1,6 +1,11 @@
 pub mod Faults
 pub mod Inputs
 pub mod Joined
+pub mod Junit
 pub mod Names
+pub mod Pieces
+pub mod Readings
+pub mod Suites
 pub mod Text
 pub mod Turns
+pub mod Xml

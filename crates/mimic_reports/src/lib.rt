@@ -15,16 +15,27 @@
 //! ```
 #![tactic(auto)]
 
+mod elements;
+mod ending;
 mod faults;
 mod inputs;
 mod join;
+mod junit;
 mod names;
 mod numbers;
 mod order;
+mod pieces;
 mod reading;
+mod rows;
+mod suite;
 mod text;
+mod xml;
 
+pub use ending::{Ending, Stop};
 pub use faults::{JoinFault, NamedFault};
 pub use inputs::join_reports;
 pub use join::{Refusal, joined};
+pub use junit::{JunitFault, write_junit};
 pub use reading::{ReadFault, read_from};
+pub use rows::InputFault;
+pub use suite::Suite;

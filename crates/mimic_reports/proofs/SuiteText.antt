@@ -1,0 +1,95 @@
+-- The element of a report, by its parts, and what is left of it with a fault.
+use Rattle.std.proofs.Common.{◌≡◌, ℕ, List, [], ◌∷◌, ◌++◌, Option, IfSome, Result, Ok, Err, length, map, codes, refl, sym, ap, subst, ◌∙◌, append-nil}
+use Rattle.std.specs.Prelude.{MatchResult}
+use Rattle.std.specs.List.{flat_map}
+use Rattle.std.specs.Result.{IsErrAnd}
+use Rattle.std.proofs.lemmas.List.Concat.{flat_map-append}
+use Rattle.mimic_printer.specs.Json.{Entry}
+use Rattle.mimic_printer.specs.Sink.{Put, Shown, Stopped, Writes}
+use Rattle.mimic_printer.proofs.Appending.{Put-Stopped, Put-trans, Puts_then, Stopped-more, stop2}
+use Rattle.mimic_events.specs.Contents.{entry_read}
+use Rattle.mimic_events.specs.declared.report.Row.{Row}
+use Rattle.mimic_reports.specs.declared.elements.Numbers.{Numbers}
+use Rattle.mimic_reports.specs.declared.junit.SuiteFault.{SuiteFault}
+use Rattle.mimic_reports.specs.declared.junit.SuiteFault.TheVariants as suite
+use Rattle.mimic_reports.specs.Junit.{Suite, case_text, ending_text, numbers_of, suite_start, suite_text}
+use Rattle.mimic_reports.specs.declared.suite.Rows.{Rows}
+use Rattle.mimic_reports.specs.declared.suite.Rows.TheVariants.{Again, Kept}
+use Rattle.mimic_reports.specs.declared.suite.Suite.{Suite as SuiteRead}
+use Rattle.mimic_reports.specs.Readings.{IsReading}
+use Rattle.mimic_reports.specs.Suites.{HasLeft, HasRows, IsShown, counts_in, numbers_counted, numbers_in}
+use Rattle.mimic_reports.proofs.RowCounts.{numbers_are, outcomes_kept}
+use Rattle.mimic_trial.specs.Count.{counts_of}
+use Rattle.mimic_trial.specs.declared.outcome.Outcome.{Outcome}
+use Rattle.mimic_trial.specs.declared.outcome.conclusion.Conclusion.{Conclusion}
+use Rattle.std.specs.Global.{Vec}
+
+abbrev pub last_part : List ℕ
+last_part = codes "  </testsuite>\n"
+
+module _ (s : Suite) (numbers : Numbers) (rows : List ℕ) (ended : ℕ) (n : numbers ≡ numbers_of s) (r : rows ≡ flat_map (case_text s.program) s.entries) (e : ended ≡ length s.entries) where
+  parts : suite_text s ≡ suite_start s.program numbers ++ (rows ++ (ending_text s.program ended s.ending ++ last_part))
+  unfolding suite_text
+  parts = rw (n, r, e) refl
+
+  pub stopped_start : {a b : Shown} → Stopped a b (suite_start s.program numbers) → Stopped a b (suite_text s)
+  stopped_start {a} {b} h = subst (Stopped a b) (sym parts) (Stopped-more _ _ h)
+
+  pub stopped_rows : {a b c : Shown} → Put a b (suite_start s.program numbers) → Stopped b c rows → Stopped a c (suite_text s)
+  stopped_rows {a} {b} {c} p q = subst (Stopped a c) (sym parts) (stop2 _ _ _ p q)
+
+  pub suite_put : {a b c d : Shown} → Put a b (suite_start s.program numbers) → Put b c rows → Put c d (ending_text s.program ended s.ending ++ last_part) → Put a d (suite_text s)
+  suite_put {a} {b} {c} {d} p q h = subst (Put a d) (sym parts) (Put-trans _ _ p (Put-trans _ _ q h))
+
+  pub suite_puts : {E T : Type 0} (a b c d : Shown) (x : Result T E) → Put a b (suite_start s.program numbers) → Put b c rows
+      → Writes c d (ending_text s.program ended s.ending ++ last_part) x → Writes a d (suite_text s) x
+  suite_puts a b c d x p q h = subst (λ (l : List ℕ). Writes a d l x) (sym parts) (Puts_then a b d _ _ x p (Puts_then b c d _ _ x q h))
+
+-- the rows that are kept
+pub rows_kept : (program : List ℕ) (rows : List Row) → flat_map (λ row. case_text program (entry_read row)) rows ≡ flat_map (case_text program) (map entry_read rows)
+rows_kept program [] = refl
+rows_kept program (row ∷ rows) = ap (λ (l : List ℕ). case_text program (entry_read row) ++ l) (rows_kept program rows)
+
+-- one more row
+pub one_more_row : (program : List ℕ) (entries : List Entry) (e : Entry) → flat_map (case_text program) (entries ++ e ∷ []) ≡ flat_map (case_text program) entries ++ case_text program e
+one_more_row program entries e =
+    flat_map-append (case_text program) entries (e ∷ []) ∙ ap (λ (l : List ℕ). flat_map (case_text program) entries ++ l) (append-nil (case_text program e))
+
+-- a fault
+pub err_left : {T : Type 0} (P : T → Type 0) (a b : Shown) (result : Result T SuiteFault) (fault : SuiteFault) → IsErrAnd result (λ f. f ≡ fault) → HasLeft a b fault
+    → MatchResult result P (HasLeft a b)
+err_left P a b (Ok x) fault h left = absurd h
+err_left P a b (Err f) fault h left = subst (HasLeft a b) (sym h) left
+
+-- a fault after what was written
+pub left_after : (a b c : Shown) (text : List ℕ) (fault : SuiteFault) → Put a b text → HasLeft b c fault → HasLeft a c fault
+left_after a b c text (suite.Input fault) p left = (text ++ left.0, Put-trans text left.0 p left.1)
+left_after a b c text suite.Changed p left = (text ++ left.0, Put-trans text left.0 p left.1)
+left_after a b c text (suite.Write fault) p left = (text ++ left.0, Put-Stopped text left.0 p left.1)
+
+-- ---- what is written of a report that was read
+
+module _ {I : Type 0} (remaining : I → Option (List ℕ)) (report : SuiteRead I) where
+  pub kept_shown : (rows : Vec Row) → report.rows ≡ Kept rows
+      → IsShown remaining report (record { program = report.program.now; entries = map entry_read rows.items; ending = report.ending })
+  kept_shown rows e = record {
+    program = refl;
+    numbers = sym (ap (λ (r : Rows I). numbers_counted (counts_in r) report.ending) e
+        ∙ numbers_are report.program.now (map entry_read rows.items) report.ending (counts_of (map (λ (row : Row). row.outcome) rows.items) 0)
+        (ap (λ (os : List Outcome). counts_of os 0) (outcomes_kept rows.items)));
+    rows = subst (λ (r : Rows I). HasRows remaining r report.ending (map entry_read rows.items) report.ending) (sym e) (refl, refl);
+  }
+
+  pub again_shown : (input : I) (counts : Conclusion) (numbers : Numbers) (written : Suite) → report.rows ≡ Again input counts → numbers ≡ numbers_in report
+      → written.program ≡ report.program.now → numbers_of written ≡ numbers → IfSome (remaining input) (IsReading written.entries written.ending)
+      → IsShown remaining report written
+  again_shown input counts numbers written e same program n reading = record {
+    program = program;
+    numbers = n ∙ same;
+    rows = subst (λ (r : Rows I). HasRows remaining r report.ending written.entries written.ending) (sym e) reading;
+  }
+
+-- a result of which more is known
+pub more_known : {T E : Type 0} (P Q : T → Type 0) (R : E → Type 0) (result : Result T E) → ((x : T) → P x → Q x) → MatchResult result P R → MatchResult result Q R
+more_known P Q R (Ok x) f h = f x h
+more_known P Q R (Err e) f h = h

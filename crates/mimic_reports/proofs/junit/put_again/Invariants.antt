@@ -1,0 +1,17 @@
+-- The rows that have come are counted, and were written.
+use Rattle.std.proofs.Common.{◌≡◌, List}
+use Rattle.std.specs.List.{flat_map}
+use Rattle.mimic_trial.specs.Count.{counts_of}
+use Rattle.mimic_printer.specs.Json.{Entry}
+use Rattle.mimic_printer.specs.Sink.{Put, shown}
+use Rattle.mimic_reports.specs.Junit.{case_text}
+use Rattle.mimic_reports.specs.Readings.{HasCome, IsReady}
+use Rattle.mimic_reports.proofs.RowCounts.{outcomes}
+use Rattle.mimic_reports.proofs.junit.put_again.Given as goal
+
+abbrev pub invariant-loop : goal.invariant-loop
+invariant-loop g l = record {
+  ready : IsReady l.rows;
+  come : (entries : List Entry) × HasCome g.I.Read.remaining (g.I.Read.remaining l.fn.input) l.rows entries × (l.counts ≡ counts_of (outcomes entries) 0)
+      × Put (shown g.W.Write.contents l.initial.sink) (shown g.W.Write.contents l.sink) (flat_map (case_text l.program) entries);
+}

@@ -1,0 +1,74 @@
+use Rattle.std.proofs.Common.{◌∙◌, ◌<◌, ◌∷◌, ◌++◌, List, [], ap, append_assoc, append-nil, arith, length, length-append, map, refl, subst, sym}
+use Rattle.std.proofs.lemmas.List.{nil_from_length}
+use Rattle.std.specs.List.{flat_map}
+use Rattle.std.specs.Vec.Iter.{into_iter_items}
+use Rattle.mimic_printer.specs.Sink.{Put, shown}
+use Rattle.mimic_printer.proofs.Appending.{Put-Stopped, Put-trans}
+use Rattle.mimic_reports.specs.Junit.{root_start, suite_text, total}
+use Rattle.mimic_reports.specs.Suites.{IsShown, LeftBy, numbers_in}
+use Rattle.mimic_reports.proofs.Documents.{close_part, leaves, one_more_suite, report_left, write_left}
+use Rattle.mimic_reports.proofs.ReadInputs.{each_more}
+use Rattle.mimic_reports.proofs.junit.write_junit.Goals as goal
+
+pub loop-suite-init : goal.loop-suite-init
+loop-suite-init g c =
+    let numbers = c.in-Some.ensures ∙ ap (λ l. total (map numbers_in l)) c.deref.ensures.value in
+    record {
+      seen = c.into_iter-suite-iterator.ensures.into_iter_gives.0;
+      place = refl;
+      left = omega (arith, c.into_iter-suite-iterator.ensures.into_iter_gives.1);
+      done = (
+        [],
+        tt,
+        subst (Put (shown g.W.Write.contents c.args.sink.now) (shown g.W.Write.contents c.put_root_start.new.sink))
+            (ap root_start numbers ∙ sym (append-nil (root_start (total (map numbers_in c.args.suites.items))))) c.in_ok-put_root_start.ensures,
+      );
+    }
+
+pub loop-suite-preserved : goal.loop-suite-preserved
+loop-suite-preserved g c =
+    let before = c.loop-suite.invariant in
+    let done = before.done in
+    let put = c.in_default-put_suite.ensures in
+    let seen = c.loop-suite.yielded in
+    record {
+      seen = append_assoc seen (c.in-Some-suite.suite ∷ []) _ ∙ (ap (λ l. seen ++ l) (sym c.in-Some-suite.ensures.steps.0) ∙ before.seen);
+      place = omega (arith, before.place, length-append seen (c.in-Some-suite.suite ∷ []));
+      left = omega (arith, before.left, c.in-Some-suite.ensures.steps);
+      done = (
+        done.0 ++ put.0 ∷ [],
+        each_more (IsShown g.I.Read.remaining) seen done.0 c.in-Some-suite.suite put.0 done.1 put.1,
+        one_more_suite (root_start (total (map numbers_in c.args.suites.items))) done.0 put.0 done.2 put.2,
+      );
+    }
+
+pub returns-in-Err-clause-document : goal.returns-in-Err-clause-document
+returns-in-Err-clause-document g c =
+    let before = c.loop-suite.invariant in
+    let done = before.done in
+    let seen = ap length before.seen in
+    let split = length-append c.loop-suite.yielded (into_iter_items c.loop-suite.suite-iterator) in
+    let next = ap length c.in-Some-suite.ensures.steps.0 in
+    let within : c.loop-suite.place < length c.args.suites.items = omega (arith, before.place, seen, split, next) in
+    subst (LeftBy c.args.suites.items (shown g.W.Write.contents c.args.sink.now) (shown g.W.Write.contents c.put_suite.new.sink)) (sym c.at.ensures)
+    (report_left c.args.suites.items _ _ _ (root_start (total (map numbers_in c.args.suites.items)) ++ flat_map suite_text done.0) c.in-Err.fault c.loop-suite.place within
+    done.2 c.in-Err.ensures)
+
+pub returns-in_err-put-clause-document : goal.returns-in_err-put-clause-document
+returns-in_err-put-clause-document g c =
+    write_left g.I.Read.remaining c.args.suites.items _ _ c.from_residual-in_err-put.result c.in_err-put.field-0.0 _ c.from_residual-in_err-put.ensures.1
+    (Put-Stopped (root_start (total (map numbers_in c.args.suites.items)) ++ flat_map suite_text c.loop-suite.invariant.done.0) close_part c.loop-suite.invariant.done.2
+    c.in_err-put.ensures.appends)
+
+pub returns-in_err-flush-clause-document : goal.returns-in_err-flush-clause-document
+returns-in_err-flush-clause-document g c =
+    let text : List _ = root_start (total (map numbers_in c.args.suites.items)) ++ flat_map suite_text c.loop-suite.invariant.done.0 in
+    write_left g.I.Read.remaining c.args.suites.items _ _ c.from_residual-in_err-flush.result c.in_err-flush.field-0.0 _ c.from_residual-in_err-flush.ensures.1
+    (Put-Stopped (text ++ close_part) [] (Put-trans text close_part c.loop-suite.invariant.done.2 c.in_ok-put.ensures.appends) c.in_err-flush.ensures)
+
+pub returns-clause-document : goal.returns-clause-document
+returns-clause-document g c =
+    let done = c.loop-suite.invariant.done in
+    let none = nil_from_length (into_iter_items c.loop-suite.suite-iterator) (omega (arith, c.in-None.ensures.steps.0, c.loop-suite.suite-iterator.rest.ok.0)) in
+    leaves g.I.Read.remaining c.args.suites.items c.loop-suite.yielded (into_iter_items c.loop-suite.suite-iterator) done.0 _ _ _ _ c.loop-suite.invariant.seen none
+    done.1 done.2 c.in_ok-put.ensures.appends c.in_ok-flush.ensures

@@ -1,0 +1,150 @@
+-- Reports in the XML that readers of JUnit's reports take. No standard fixes it: the elements and attributes are those that
+-- Jenkins, GitLab, Surefire and junitparser read; what stands in messages is our own.
+use Rattle.std.specs.Prelude.{ℕ, ◌+◌, ◌==◌, if◌then◌else◌, List, [], ◌∷◌, length, map, count_by, codes, decimal, Option, Some, None, string_bytes}
+use Rattle.std.specs.List.{concat, flat_map}
+use Rattle.mimic_trial.specs.declared.outcome.Outcome.{Outcome}
+use Rattle.mimic_trial.specs.declared.outcome.Outcome.TheVariants.{Passed, Failed, Ignored, Measured}
+use Rattle.mimic_trial.specs.Count.{is_failed, is_ignored_outcome}
+use Rattle.mimic_text.specs.Seconds.{exact_seconds}
+use Rattle.mimic_printer.specs.Json.{Entry}
+use Rattle.mimic_events.specs.declared.report.Label.{Label as LabelRead}
+use Rattle.mimic_reports.specs.declared.ending.Ending.{Ending}
+use Rattle.mimic_reports.specs.declared.ending.Ending.TheVariants.{Whole, Cut}
+use Rattle.mimic_reports.specs.declared.ending.Stop.{Stop}
+use Rattle.mimic_reports.specs.declared.elements.Numbers.{Numbers}
+use Rattle.mimic_reports.specs.declared.xml.Place.TheVariants.{Content, Value}
+use Rattle.mimic_reports.specs.Xml.{escaped}
+
+-- what is written of one report: the name of its program, its rows that have ended, and how it ended
+pub record Suite : Type 0 where
+  pub program : List ℕ
+  pub entries : List Entry
+  pub ending : Ending
+
+-- ---- numbers
+
+-- a report without its end has one more test, which is an error
+abbrev pub errors_of : Ending → ℕ
+errors_of (Whole nanos) = 0
+errors_of (Cut stop) = 1
+
+-- the time of the run, and 0 if the report doesn't say it
+abbrev pub nanos_of : Ending → ℕ
+nanos_of (Whole nanos) = nanos
+nanos_of (Cut stop) = 0
+
+-- the numbers of a report
+abbrev pub numbers_of : Suite → Numbers
+numbers_of s = record {
+  tests = length s.entries + errors_of s.ending;
+  failures = count_by is_failed (map (λ entry. entry.outcome) s.entries);
+  errors = errors_of s.ending;
+  skipped = count_by is_ignored_outcome (map (λ entry. entry.outcome) s.entries);
+  nanos = nanos_of s.ending;
+}
+
+-- the sums of two reports' numbers
+abbrev pub added : Numbers → Numbers → Numbers
+added a b = record {
+  tests = a.tests + b.tests;
+  failures = a.failures + b.failures;
+  errors = a.errors + b.errors;
+  skipped = a.skipped + b.skipped;
+  nanos = a.nanos + b.nanos;
+}
+
+-- the sums of all reports' numbers
+abbrev pub total : List Numbers → Numbers
+total [] = record { tests = 0; failures = 0; errors = 0; skipped = 0; nanos = 0 }
+total (n ∷ numbers) = added n (total numbers)
+
+-- ---- the beginnings of elements
+
+-- the attributes of the numbers, and the end of the tag
+abbrev pub numbers_part : Numbers → List (List ℕ)
+numbers_part n = codes " tests=\"" ∷ decimal n.tests ∷ codes "\" failures=\"" ∷ decimal n.failures ∷ codes "\" errors=\"" ∷ decimal n.errors
+    ∷ codes "\" skipped=\"" ∷ decimal n.skipped ∷ codes "\" time=\"" ∷ exact_seconds n.nanos ∷ codes "\">\n" ∷ []
+
+-- what stands before the first report
+unfoldable pub root_start : Numbers → List ℕ
+root_start n = concat (codes "<?xml version=\"1.0\" encoding=\"UTF-8\"?>\n<testsuites" ∷ numbers_part n)
+
+-- what stands before the rows of a report
+unfoldable pub suite_start : List ℕ → Numbers → List ℕ
+suite_start program n = concat (codes "  <testsuite name=\"" ∷ escaped Value program ∷ codes "\"" ∷ numbers_part n)
+
+-- ---- rows
+
+-- what stands between the program and a kind, and nothing before an empty one
+abbrev pub class_point : List ℕ → List ℕ
+class_point [] = []
+class_point (b ∷ kind) = codes "."
+
+-- the text up to the first line end
+unfoldable pub first_line : List ℕ → List ℕ
+first_line [] = []
+first_line (b ∷ rest) = if b == 10 then [] else b ∷ first_line rest
+
+-- what follows the name of a row: a failure has its message, the first line as an attribute and the whole as a text
+abbrev pub outcome_part : Outcome → List (List ℕ)
+outcome_part Passed = codes "\"/>\n" ∷ []
+outcome_part Ignored = codes "\"><skipped/></testcase>\n" ∷ []
+outcome_part (Failed None) = codes "\"><failure type=\"failed\"/></testcase>\n" ∷ []
+outcome_part (Failed (Some message)) = codes "\"><failure type=\"failed\" message=\"" ∷ escaped Value (first_line message) ∷ codes "\">"
+    ∷ escaped Content message ∷ codes "</failure></testcase>\n" ∷ []
+outcome_part (Measured m) = codes "\"><properties><property name=\"ns_per_iter\" value=\"" ∷ decimal m.avg
+    ∷ codes "\"/><property name=\"deviation\" value=\"" ∷ decimal m.variance ∷ codes "\"/></properties></testcase>\n" ∷ []
+
+-- the line, or with a message the lines, of a row
+unfoldable pub case_text : List ℕ → Entry → List ℕ
+case_text program entry = concat (codes "    <testcase classname=\"" ∷ escaped Value program ∷ class_point entry.label.kind
+    ∷ escaped Value entry.label.kind ∷ codes "\" name=\"" ∷ escaped Value entry.label.name ∷ outcome_part entry.outcome)
+
+-- ---- a report without its end
+
+-- the line that is wrong
+abbrev pub wrong_part : Option ℕ → List ℕ
+wrong_part None = []
+wrong_part (Some number) = concat (codes "line " ∷ decimal number ∷ codes " is no line of a report; " ∷ [])
+
+-- how far the report goes
+abbrev pub extent_part : ℕ → Option ℕ → List ℕ
+extent_part ended None = codes "no report"
+extent_part ended (Some announced) = concat (codes "the report ends after " ∷ decimal ended ∷ codes " of " ∷ decimal announced ∷ codes " trials" ∷ [])
+
+-- brackets around a kind, and nothing around an empty one
+abbrev pub opening : List ℕ → List ℕ
+opening [] = []
+opening (b ∷ kind) = codes "["
+
+abbrev pub closing : List ℕ → List ℕ
+closing [] = []
+closing (b ∷ kind) = codes "] "
+
+-- the trial that was announced and has not ended
+abbrev pub running_part : Option LabelRead → List ℕ
+running_part None = []
+running_part (Some label) = concat (codes "; running: " ∷ opening (string_bytes label.kind) ∷ escaped Value (string_bytes label.kind)
+    ∷ closing (string_bytes label.kind) ∷ escaped Value (string_bytes label.name) ∷ [])
+
+-- the line that says so, after so many rows
+unfoldable pub stop_text : List ℕ → ℕ → Stop → List ℕ
+stop_text program ended stop = concat (concat (codes "    <testcase classname=\"" ∷ escaped Value program
+    ∷ codes "\" name=\"(whole report)\"><error type=\"incomplete\" message=\"" ∷ [])
+    ∷ wrong_part stop.wrong_line ∷ extent_part ended stop.announced ∷ running_part stop.running ∷ codes "\"/></testcase>\n" ∷ [])
+
+-- what follows the rows
+abbrev pub ending_text : List ℕ → ℕ → Ending → List ℕ
+ending_text program ended (Whole nanos) = []
+ending_text program ended (Cut stop) = stop_text program ended stop
+
+-- ---- the whole
+
+-- the element of a report: each of its rows once, in their order
+unfoldable pub suite_text : Suite → List ℕ
+suite_text s = concat (suite_start s.program (numbers_of s) ∷ flat_map (case_text s.program) s.entries
+    ∷ ending_text s.program (length s.entries) s.ending ∷ codes "  </testsuite>\n" ∷ [])
+
+-- the document of reports: each of them once, in their order
+unfoldable pub junit_text : List Suite → List ℕ
+junit_text suites = concat (root_start (total (map numbers_of suites)) ∷ flat_map suite_text suites ∷ codes "</testsuites>\n" ∷ [])

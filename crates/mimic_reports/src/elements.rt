@@ -1,0 +1,263 @@
+//! Writes the elements of JUnit's XML.
+ghost use Rattle.std.specs.Prelude.{◌≡◌};
+ghost use Rattle.std.specs.Option.{option_copied};
+ghost use Rattle.mimic_printer.specs.Sink.{HasFaultLeft, Puts};
+ghost use Rattle.mimic_events.specs.Contents.{entry_read};
+ghost use Rattle.mimic_reports.specs.Junit.{case_text, class_point, closing, extent_part, first_line, opening, root_start, running_part, stop_text, suite_start, wrong_part};
+
+use crate::ending::Stop;
+use crate::pieces::{Piece, put_pieces};
+use mimic_events::{Label, Row};
+use mimic_printer::{Sink, WriteFault};
+use mimic_trial::Outcome;
+use std::io::Write;
+
+// What a report, or all reports together, say in numbers.
+#[derive(Clone, Copy, Debug, PartialEq, Eq)]
+pub(crate) struct Numbers {
+    pub(crate) tests: u128,
+    pub(crate) failures: u128,
+    pub(crate) errors: u128,
+    pub(crate) skipped: u128,
+    pub(crate) nanos: u64,
+}
+
+// Writes the beginning of an element that has the numbers as attributes.
+macro_rules! put_start {
+    ($sink:expr, $numbers:expr, $($front:expr),+) => {{
+        let pieces = [
+            $($front),+,
+            Piece::Text(" tests=\""),
+            Piece::Number($numbers.tests),
+            Piece::Text("\" failures=\""),
+            Piece::Number($numbers.failures),
+            Piece::Text("\" errors=\""),
+            Piece::Number($numbers.errors),
+            Piece::Text("\" skipped=\""),
+            Piece::Number($numbers.skipped),
+            Piece::Text("\" time=\""),
+            Piece::Seconds($numbers.nanos),
+            Piece::Text("\">\n"),
+        ];
+        put_pieces($sink, &pieces)
+    }};
+}
+
+// Writes the line of a row: its program, its kind, its name, and its end, which begins with the quote after the name.
+macro_rules! put_row {
+    ($sink:expr, $program:expr, $row:expr, $($end:expr),+) => {{
+        let kind = $row.kind.as_str();
+        let pieces = [
+            Piece::Text("    <testcase classname=\""),
+            Piece::Value($program),
+            Piece::Text(point(kind)),
+            Piece::Value(kind),
+            Piece::Text("\" name=\""),
+            Piece::Value($row.name.as_str()),
+            $($end),+
+        ];
+        put_pieces($sink, &pieces)
+    }};
+}
+
+// Writes what stands before the first report.
+#[tactic(auto, unfolding(crate::specs::Junit::root_start))]
+pub(crate) fn put_root_start<W: Write>(
+    sink: &mut Sink<W>,
+    numbers: &Numbers,
+) -> Result<(), WriteFault>
+    requires { HasFaultLeft sink.old }
+    ensures { Puts W.contents sink.old sink.new (root_start numbers.now) result }
+{
+    put_start!(
+        sink,
+        numbers,
+        Piece::Text("<?xml version=\"1.0\" encoding=\"UTF-8\"?>\n<testsuites")
+    )
+}
+
+// Writes what stands before the rows of a report.
+#[tactic(auto, unfolding(crate::specs::Junit::suite_start))]
+pub(crate) fn put_suite_start<'a, W: Write>(
+    sink: &mut Sink<W>,
+    program: &'a str,
+    numbers: &Numbers,
+) -> Result<(), WriteFault>
+    requires { HasFaultLeft sink.old }
+    ensures { Puts W.contents sink.old sink.new (suite_start program.now numbers.now) result }
+{
+    put_start!(
+        sink,
+        numbers,
+        Piece::Text("  <testsuite name=\""),
+        Piece::Value(program),
+        Piece::Text("\"")
+    )
+}
+
+fn point(kind: &str) -> &'static str
+    ensures { result.now ≡ class_point kind.now }
+{
+    if kind.is_empty() { "" } else { "." }
+}
+
+// Writes a row.
+#[tactic(auto, unfolding(crate::specs::Junit::case_text))]
+pub(crate) fn put_case<'a, W: Write>(
+    sink: &mut Sink<W>,
+    program: &'a str,
+    row: &'a Row,
+) -> Result<(), WriteFault>
+    requires { HasFaultLeft sink.old }
+    ensures { Puts W.contents sink.old sink.new (case_text program.now (entry_read row.now)) result }
+{
+    match &row.outcome {
+        Outcome::Passed => put_row!(sink, program, row, Piece::Text("\"/>\n")),
+        Outcome::Ignored => {
+            put_row!(
+                sink,
+                program,
+                row,
+                Piece::Text("\"><skipped/></testcase>\n")
+            )
+        }
+        Outcome::Failed(failed) => match failed.message() {
+            None => put_row!(
+                sink,
+                program,
+                row,
+                Piece::Text("\"><failure type=\"failed\"/></testcase>\n")
+            ),
+            Some(message) => put_row!(
+                sink,
+                program,
+                row,
+                Piece::Text("\"><failure type=\"failed\" message=\""),
+                Piece::FirstLine(message),
+                Piece::Text("\">"),
+                Piece::Content(message),
+                Piece::Text("</failure></testcase>\n")
+            ),
+        },
+        Outcome::Measured(measurement) => put_row!(
+            sink,
+            program,
+            row,
+            Piece::Text("\"><properties><property name=\"ns_per_iter\" value=\""),
+            Piece::Number(u128::from(measurement.avg)),
+            Piece::Text("\"/><property name=\"deviation\" value=\""),
+            Piece::Number(u128::from(measurement.variance)),
+            Piece::Text("\"/></properties></testcase>\n")
+        ),
+    }
+}
+
+// Writes that the report stopped after so many rows.
+pub(crate) fn put_stop<'a, W: Write>(
+    sink: &mut Sink<W>,
+    program: &'a str,
+    ended: u128,
+    stop: &'a Stop,
+) -> Result<(), WriteFault>
+    requires { HasFaultLeft sink.old }
+    ensures { Puts W.contents sink.old sink.new (stop_text program.now ended stop.now) result }
+{
+    let front = [
+        Piece::Text("    <testcase classname=\""),
+        Piece::Value(program),
+        Piece::Text("\" name=\"(whole report)\"><error type=\"incomplete\" message=\""),
+    ];
+    put_pieces(sink, &front)?;
+    put_wrong_line(sink, stop.wrong_line)?;
+    put_extent(sink, ended, stop.announced)?;
+    put_running(sink, stop.running.as_ref())?;
+    sink.put(b"\"/></testcase>\n")
+}
+
+fn put_wrong_line<W: Write>(sink: &mut Sink<W>, number: Option<u128>) -> Result<(), WriteFault>
+    requires { HasFaultLeft sink.old }
+    ensures { Puts W.contents sink.old sink.new (wrong_part number) result }
+{
+    let Some(number) = number else {
+        return sink.put(b"");
+    };
+    let pieces = [
+        Piece::Text("line "),
+        Piece::Number(number),
+        Piece::Text(" is no line of a report; "),
+    ];
+    put_pieces(sink, &pieces)
+}
+
+fn put_extent<W: Write>(
+    sink: &mut Sink<W>,
+    ended: u128,
+    announced: Option<u64>,
+) -> Result<(), WriteFault>
+    requires { HasFaultLeft sink.old }
+    ensures { Puts W.contents sink.old sink.new (extent_part ended announced) result }
+{
+    let Some(announced) = announced else {
+        return sink.put(b"no report");
+    };
+    let pieces = [
+        Piece::Text("the report ends after "),
+        Piece::Number(ended),
+        Piece::Text(" of "),
+        Piece::Number(u128::from(announced)),
+        Piece::Text(" trials"),
+    ];
+    put_pieces(sink, &pieces)
+}
+
+fn put_running<W: Write>(sink: &mut Sink<W>, running: Option<&Label>) -> Result<(), WriteFault>
+    requires { HasFaultLeft sink.old }
+    ensures { Puts W.contents sink.old sink.new
+        (running_part (option_copied running.entry)) result }
+{
+    let Some(label) = running else {
+        return sink.put(b"");
+    };
+    let kind = label.kind.as_str();
+    let (open, close) = brackets(kind);
+    let pieces = [
+        Piece::Text("; running: "),
+        Piece::Text(open),
+        Piece::Value(kind),
+        Piece::Text(close),
+        Piece::Value(label.name.as_str()),
+    ];
+    put_pieces(sink, &pieces)
+}
+
+// Returns what stands around a kind.
+fn brackets(kind: &str) -> (&'static str, &'static str)
+    ensures opening { result.0.now ≡ opening kind.now }
+    ensures closing { result.1.now ≡ closing kind.now }
+{
+    if kind.is_empty() {
+        ("", "")
+    } else {
+        ("[", "] ")
+    }
+}
+
+impl Numbers {
+    ghost use Rattle.std.specs.Prelude.{◌≡◌, MatchOption};
+    ghost use Rattle.mimic_reports.specs.Junit.{added};
+    ghost use Rattle.mimic_reports.specs.Suites.{IsTooGreat};
+
+    // Returns the sums of both, and `None` if one doesn't fit.
+    pub(crate) fn plus(&self, other: &Numbers) -> Option<Numbers>
+        ensures { MatchOption result (IsTooGreat (added self.now other.now))
+            (λ numbers. numbers ≡ added self.now other.now) }
+    {
+        Some(Numbers {
+            tests: self.tests.checked_add(other.tests)?,
+            failures: self.failures.checked_add(other.failures)?,
+            errors: self.errors.checked_add(other.errors)?,
+            skipped: self.skipped.checked_add(other.skipped)?,
+            nanos: self.nanos.checked_add(other.nanos)?,
+        })
+    }
+}

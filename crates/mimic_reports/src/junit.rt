@@ -1,0 +1,295 @@
+//! Writes reports as JUnit's XML.
+ghost use Rattle.std.specs.Prelude.{◌≡◌, ◌++◌, List, MatchOption, MatchResult, IfSome, codes, map};
+ghost use Rattle.std.specs.List.{flat_map};
+ghost use Rattle.mimic_trial.specs.Count.{counts_of};
+ghost use Rattle.mimic_printer.specs.Json.{Entry};
+ghost use Rattle.mimic_printer.specs.Sink.{HasFaultLeft, Put, Puts, shown};
+ghost use Rattle.mimic_events.specs.Contents.{entry_read};
+ghost use Rattle.mimic_reports.specs.Junit.{Suite as ShownSuite, case_text, ending_text, numbers_of, suite_text, total};
+ghost use Rattle.mimic_reports.specs.Readings.{IsReading};
+ghost use Rattle.mimic_reports.specs.Suites.{HasLeft, IsShown, IsTooGreat, LeavesDocument, numbers_in};
+ghost use Rattle.mimic_reports.specs.Xml.{ComesBack};
+ghost use Rattle.mimic_reports.specs.declared.junit.JunitFault.TheVariants.{Write as WriteStopped};
+ghost use Rattle.mimic_reports.specs.declared.junit.SuiteFault.TheVariants.{Input, Write as WriteFailed};
+ghost use Rattle.mimic_reports.specs.declared.rows.InputFault.TheVariants.{OutOfMemory};
+
+use crate::elements::{Numbers, put_case, put_root_start, put_stop, put_suite_start};
+use crate::ending::Ending;
+use crate::rows::{InputFault, RowsOf};
+use crate::suite::{Rows, Suite, counts_of_rows, numbers_counted, rows_counted};
+use mimic_events::Row;
+use mimic_printer::{Sink, WriteFault};
+use mimic_trial::Conclusion;
+use std::alloc::{AllocError, Global};
+use std::io::{ErrorKind, Read, Write};
+use thiserror::Error;
+
+/// Why a document was not written to its end. Places count from 0.
+#[derive(Debug, Drop, Error)]
+pub enum JunitFault {
+    /// The numbers of all reports together don't fit: their times pass a `u64`. Nothing was written.
+    #[error("the numbers of all reports together are too great")]
+    TooMany,
+    /// The report at this place couldn't be read again.
+    #[error("{fault}")]
+    Input { place: usize, fault: InputFault },
+    /// The report at this place has other numbers than when it was read first.
+    #[error("it changed while it was read")]
+    Changed { place: usize },
+    /// A write or a flush failed.
+    #[error("{0}")]
+    Write(WriteFault),
+}
+
+impl JunitFault {
+    ghost use Rattle.std.specs.Prelude.{◌≡◌};
+    ghost use Rattle.mimic_reports.specs.Suites.{place_of};
+
+    /// Returns the place of the report that the fault is in. `None` says that it is in none alone.
+    pub fn place(&self) -> Option<usize>
+        ensures { result ≡ place_of self.now }
+    {
+        match self {
+            JunitFault::Input { place, fault: _ } | JunitFault::Changed { place } => Some(*place),
+            JunitFault::TooMany | JunitFault::Write(_) => None,
+        }
+    }
+}
+
+// Returns the numbers of all reports together.
+fn total_of<I: Read>(suites: &[Suite<'_, I>]) -> Option<Numbers>
+    ensures { MatchOption result (IsTooGreat (total (map numbers_in suites.now)))
+        (λ numbers. numbers ≡ total (map numbers_in suites.now)) }
+{
+    let mut all = Numbers {
+        tests: 0,
+        failures: 0,
+        errors: 0,
+        skipped: 0,
+        nanos: 0,
+    };
+    for suite in suites {
+        all = all.plus(&suite.numbers())?;
+    }
+    Some(all)
+}
+
+/// Writes the reports, in their order, as one document of JUnit's XML, and flushes it.
+///
+/// Rows that are not kept are read again, each once. With a fault a beginning was written that is no document.
+#[tactic(auto, using(crate::proofs::WayBack::comes_back))]
+pub fn write_junit<I: Read + Drop, W: Write>(
+    alloc: Global,
+    suites: Vec<Suite<'_, I>>,
+    sink: &mut Sink<W>,
+) -> Result<(), JunitFault>
+    requires { HasFaultLeft sink.old }
+    ensures document { LeavesDocument I.remaining suites.entry.items (shown W.contents sink.old)
+        (shown W.contents sink.new) result }
+
+    // What stands in the document has one reading.
+    ensures law { ComesBack }
+{
+    let Some(numbers) = total_of(&suites) else {
+        return Err(JunitFault::TooMany);
+    };
+    put_root_start(sink, &numbers)?;
+    let mut place = 0;
+    for suite in suites {
+        if let Err(fault) = put_suite(alloc, suite, sink) {
+            return Err(fault.at(place));
+        }
+        place += 1;
+    }
+    sink.put(b"</testsuites>\n")?;
+    sink.flush()?;
+    Ok(())
+}
+
+// Why a report was not written to its end.
+#[derive(Debug, Drop)]
+pub(crate) enum SuiteFault {
+    Input(InputFault),
+    Changed,
+    Write(WriteFault),
+}
+
+impl SuiteFault {
+    ghost use Rattle.std.specs.Prelude.{◌≡◌};
+    ghost use Rattle.mimic_reports.specs.Suites.{at_place};
+
+    fn at(self, place: usize) -> JunitFault
+        ensures { result ≡ at_place self place }
+    {
+        match self {
+            SuiteFault::Input(fault) => JunitFault::Input { place, fault },
+            SuiteFault::Changed => JunitFault::Changed { place },
+            SuiteFault::Write(fault) => JunitFault::Write(fault),
+        }
+    }
+}
+
+// Writes a report.
+fn put_suite<I: Read + Drop, W: Write>(
+    alloc: Global,
+    suite: Suite<'_, I>,
+    sink: &mut Sink<W>,
+) -> Result<(), SuiteFault>
+    requires { HasFaultLeft sink.old }
+    ensures { MatchResult result (λ _. (written : ShownSuite)
+        × IsShown I.remaining suite.entry written
+        × Put (shown W.contents sink.old) (shown W.contents sink.new) (suite_text written))
+        (HasLeft (shown W.contents sink.old) (shown W.contents sink.new)) }
+{
+    let numbers = suite.numbers();
+    let Suite {
+        program,
+        ending,
+        rows,
+    } = suite;
+    match rows {
+        Rows::Kept(rows) => {
+            put_kept(sink, program, &rows, &ending)?;
+            Ok(())
+        }
+        Rows::Again { input, counts: _ } => put_counted(alloc, program, input, &numbers, sink),
+    }
+}
+
+// Writes a report whose rows are kept.
+fn put_kept<'a, W: Write>(
+    sink: &mut Sink<W>,
+    program: &'a str,
+    rows: &[Row],
+    ending: &'a Ending,
+) -> Result<(), WriteFault>
+    requires { HasFaultLeft sink.old }
+    ensures { Puts W.contents sink.old sink.new
+        (suite_text (record { program = program.now; entries = map entry_read rows.now; ending = ending.now }))
+        result }
+{
+    let counts = counts_of_rows(rows);
+    put_suite_start(sink, program, &numbers_counted(&counts, ending))?;
+    put_rows(sink, program, rows)?;
+    put_suite_end(sink, program, rows_counted(&counts), ending)
+}
+
+fn put_rows<'a, W: Write>(
+    sink: &mut Sink<W>,
+    program: &'a str,
+    rows: &[Row],
+) -> Result<(), WriteFault>
+    requires { HasFaultLeft sink.old }
+    ensures { Puts W.contents sink.old sink.new
+        (flat_map (λ row. case_text program.now (entry_read row)) rows.now) result }
+{
+    for row in rows {
+        put_case(sink, program, row)?;
+    }
+    Ok(())
+}
+
+// Writes what follows so many rows.
+fn put_suite_end<'a, W: Write>(
+    sink: &mut Sink<W>,
+    program: &'a str,
+    ended: u128,
+    ending: &'a Ending,
+) -> Result<(), WriteFault>
+    requires { HasFaultLeft sink.old }
+    ensures { Puts W.contents sink.old sink.new
+        (ending_text program.now ended ending.now ++ codes "  </testsuite>\n") result }
+{
+    match ending {
+        Ending::Whole { nanos: _ } => sink.put(b"  </testsuite>\n"),
+        Ending::Cut(stop) => {
+            put_stop(sink, program, ended, stop)?;
+            sink.put(b"  </testsuite>\n")
+        }
+    }
+}
+
+// Writes a report whose rows are read again, and should have these numbers.
+fn put_counted<'a, I: Read + Drop, W: Write>(
+    alloc: Global,
+    program: &'a str,
+    input: I,
+    numbers: &Numbers,
+    sink: &mut Sink<W>,
+) -> Result<(), SuiteFault>
+    requires { HasFaultLeft sink.old }
+    ensures { MatchResult result (λ _. (written : ShownSuite) × (written.program ≡ program.now)
+        × (numbers_of written ≡ numbers.now)
+        × IfSome (I.remaining input) (IsReading written.entries written.ending)
+        × Put (shown W.contents sink.old) (shown W.contents sink.new) (suite_text written))
+        (HasLeft (shown W.contents sink.old) (shown W.contents sink.new)) }
+{
+    put_suite_start(sink, program, numbers)?;
+    let (counts, ending) = put_again(alloc, program, input, sink)?;
+    if numbers_counted(&counts, &ending) != *numbers {
+        return Err(SuiteFault::Changed);
+    }
+    put_suite_end(sink, program, rows_counted(&counts), &ending)?;
+    Ok(())
+}
+
+// Writes the rows of an input as they come, and returns their counts and how the report ended.
+fn put_again<'a, I: Read + Drop, W: Write>(
+    alloc: Global,
+    program: &'a str,
+    input: I,
+    sink: &mut Sink<W>,
+) -> Result<(Conclusion, Ending), SuiteFault>
+    requires { HasFaultLeft sink.old }
+    ensures { MatchResult result (λ x. (entries : List Entry)
+        × (x.0 ≡ counts_of (map (λ entry. entry.outcome) entries) 0)
+        × IfSome (I.remaining input) (IsReading entries x.1)
+        × Put (shown W.contents sink.old) (shown W.contents sink.new)
+        (flat_map (case_text program.now) entries))
+        (HasLeft (shown W.contents sink.old) (shown W.contents sink.new)) }
+{
+    let mut rows = RowsOf::new(alloc, input)?;
+    let mut counts = Conclusion::empty(0);
+    for _ in 0..u64::MAX {
+        match rows.next_row()? {
+            Some(row) => {
+                put_case(sink, program, &row)?;
+                counts.count(&row.outcome);
+            }
+            None => return Ok((counts, rows.finish()?)),
+        }
+    }
+    Err(SuiteFault::Input(InputFault::Input(ErrorKind::Other.into())))
+}
+
+impl From<AllocError> for SuiteFault {
+    ghost from_gives = { λ _ fault. fault ≡ Input OutOfMemory };
+
+    fn from(_error: AllocError) -> SuiteFault {
+        SuiteFault::Input(InputFault::OutOfMemory)
+    }
+}
+
+impl From<InputFault> for SuiteFault {
+    ghost from_gives = { λ error fault. fault ≡ Input error };
+
+    fn from(error: InputFault) -> SuiteFault {
+        SuiteFault::Input(error)
+    }
+}
+
+impl From<WriteFault> for SuiteFault {
+    ghost from_gives = { λ error fault. fault ≡ WriteFailed error };
+
+    fn from(error: WriteFault) -> SuiteFault {
+        SuiteFault::Write(error)
+    }
+}
+
+impl From<WriteFault> for JunitFault {
+    ghost from_gives = { λ error fault. fault ≡ WriteStopped error };
+
+    fn from(error: WriteFault) -> JunitFault {
+        JunitFault::Write(error)
+    }
+}

@@ -1,0 +1,143 @@
+//! Reads reports that are to be written in XML.
+ghost use Rattle.std.specs.Prelude.{◌≡◌, ◌<◌, ◌^◌, List, IfOk, map};
+ghost use Rattle.mimic_trial.specs.Count.{counts_of};
+ghost use Rattle.mimic_printer.specs.Json.{Entry};
+ghost use Rattle.mimic_reports.specs.Suites.{IsReadFrom, KeepsRows, ReadsAgain, counts_in, numbers_counted, numbers_in, rows_counted};
+
+use crate::elements::Numbers;
+use crate::ending::Ending;
+use crate::rows::{InputFault, RowsOf};
+use mimic_events::Row;
+use mimic_trial::Conclusion;
+use std::alloc::Global;
+use std::io::{ErrorKind, Read};
+
+/// A report that was read, with the name of its program.
+#[derive(Drop)]
+pub struct Suite<'a, I: Read> {
+    pub(crate) program: &'a str,
+    pub(crate) ending: Ending,
+    pub(crate) rows: Rows<I>,
+}
+
+// Where the rows of a report are.
+#[derive(Drop)]
+pub(crate) enum Rows<I> {
+    // They are kept.
+    Kept(Vec<Row>),
+    // They are read again from this input. The outcomes were counted.
+    Again { input: I, counts: Conclusion },
+}
+
+impl<'a, I: Read + Drop> Suite<'a, I> {
+    /// Reads a report that can be read once only, and keeps its rows. Of what isn't a whole report these are the rows that have
+    /// ended, before the first line that no report has there.
+    pub fn kept(alloc: Global, program: &'a str, input: I) -> Result<Suite<'a, I>, InputFault>
+        ensures { IfOk result (λ suite. (entries : List Entry)
+            × IsReadFrom (I.remaining input) suite entries × KeepsRows suite.rows entries
+            × (suite.program.now ≡ program.now)) }
+    {
+        let mut rows = RowsOf::new(alloc, input)?;
+        let mut kept = Vec::new(alloc);
+        for _ in 0..u64::MAX {
+            match rows.next_row()? {
+                Some(row) => kept.push(row)?,
+                None => {
+                    return Ok(Suite {
+                        program,
+                        ending: rows.finish()?,
+                        rows: Rows::Kept(kept),
+                    });
+                }
+            }
+        }
+        Err(InputFault::Input(ErrorKind::Other.into()))
+    }
+
+    /// Reads a report to its end, and keeps none of its rows: they are read from `again` when the report is written.
+    pub fn counted(
+        alloc: Global,
+        program: &'a str,
+        input: I,
+        again: I,
+    ) -> Result<Suite<'a, I>, InputFault>
+        ensures { IfOk result (λ suite. (entries : List Entry)
+            × IsReadFrom (I.remaining input) suite entries × ReadsAgain suite.rows again
+            × (suite.program.now ≡ program.now)) }
+    {
+        let mut rows = RowsOf::new(alloc, input)?;
+        let mut counts = Conclusion::empty(0);
+        for _ in 0..u64::MAX {
+            match rows.next_row()? {
+                Some(row) => counts.count(&row.outcome),
+                None => {
+                    return Ok(Suite {
+                        program,
+                        ending: rows.finish()?,
+                        rows: Rows::Again {
+                            input: again,
+                            counts,
+                        },
+                    });
+                }
+            }
+        }
+        Err(InputFault::Input(ErrorKind::Other.into()))
+    }
+}
+
+impl<I: Read> Suite<'_, I> {
+    /// Returns how the report ended.
+    pub fn ending(&self) -> &Ending
+        ensures { result.now ≡ self.now.ending }
+    {
+        &self.ending
+    }
+
+    // Returns the numbers of the report.
+    pub(crate) fn numbers(&self) -> Numbers
+        ensures { result ≡ numbers_in self.now }
+    {
+        match &self.rows {
+            Rows::Kept(rows) => numbers_counted(&counts_of_rows(rows), &self.ending),
+            Rows::Again { input: _, counts } => numbers_counted(counts, &self.ending),
+        }
+    }
+}
+
+// Returns the numbers of a report whose outcomes were counted.
+pub(crate) fn numbers_counted(counts: &Conclusion, ending: &Ending) -> Numbers
+    ensures { result ≡ numbers_counted counts.now ending.now }
+{
+    let (errors, nanos) = match ending {
+        Ending::Whole { nanos } => (0, *nanos),
+        Ending::Cut(_) => (1, 0),
+    };
+    Numbers {
+        tests: rows_counted(counts) + errors,
+        failures: u128::from(counts.num_failed),
+        errors,
+        skipped: u128::from(counts.num_ignored),
+        nanos,
+    }
+}
+
+// Returns how many rows were counted.
+pub(crate) fn rows_counted(counts: &Conclusion) -> u128
+    ensures count { result ≡ rows_counted counts.now }
+    ensures fits { result < 2 ^ 66 }
+{
+    let (passed, failed) = (counts.num_passed, counts.num_failed);
+    let (ignored, measured) = (counts.num_ignored, counts.num_measured);
+    u128::from(passed) + (u128::from(failed) + (u128::from(ignored) + u128::from(measured)))
+}
+
+pub(crate) fn counts_of_rows(rows: &[Row]) -> Conclusion
+    ensures { result ≡ counts_of (map (λ row. row.outcome) rows.now) 0 }
+{
+    let mut counts = Conclusion::empty(0);
+    for row in rows {
+        counts.count(&row.outcome);
+    }
+    counts
+}
