@@ -13,6 +13,21 @@ pub(crate) struct Join {
     pub(crate) files: Vec<String>,
 }
 
+/// The reports in these files are to be printed as JUnit's XML.
+#[derive(Debug, Drop)]
+pub(crate) struct Junit {
+    /// The name of their program. `None` stands for that of each file.
+    pub(crate) name: Option<String>,
+    pub(crate) files: Vec<String>,
+}
+
+/// What a line asks for.
+#[derive(Debug, Drop)]
+pub(crate) enum Line {
+    Join(Join),
+    Junit(Junit),
+}
+
 /// Why a line asks for nothing.
 #[derive(Debug, Drop)]
 pub(crate) enum LineError {
@@ -25,42 +40,73 @@ pub(crate) enum LineError {
     Shown(clap::Error),
 }
 
-impl Join {
+impl Line {
     /// Reads the program's line.
-    pub(crate) fn from_args(rt: &HostRuntime, alloc: Global) -> Result<Join, LineError> {
+    pub(crate) fn from_args(rt: &HostRuntime, alloc: Global) -> Result<Line, LineError> {
         let words: Vec<String> = env::args(rt).map_err(LineError::Unread)?.collect(alloc)?;
         let matches = command(alloc)?
             .try_get_matches_from(words.as_slice())
             .map_err(LineError::Shown)?;
-        match matches.subcommand_matches("join") {
-            Some(join) => Join::from_matches(alloc, join),
+        if let Some(join) = matches.subcommand_matches("join") {
+            return Ok(Line::Join(Join::from_matches(alloc, join)?));
+        }
+        match matches.subcommand_matches("junit") {
+            Some(junit) => Ok(Line::Junit(Junit::from_matches(alloc, junit)?)),
             // `clap` has refused a line without a subcommand.
             None => Err(LineError::OutOfMemory),
         }
     }
+}
 
+impl Join {
     fn from_matches(alloc: Global, matches: &ArgMatches<'_>) -> Result<Join, LineError> {
-        let mut files = Vec::new(alloc);
-        let mut inputs = 0_u64;
-        for file in matches.get_strs("FILE").unwrap_or(&[]) {
-            if *file == STANDARD {
-                inputs = inputs.saturating_add(1);
-            }
-            files.push(String::from_str(alloc, file)?)?;
-        }
-        if inputs > 1 {
-            return Err(LineError::TwoInputs);
-        }
         Ok(Join {
             // It is required.
             shards: matches.get_one::<usize>("shards").unwrap_or(0),
             equal_names: matches.get_flag("equal-names"),
-            files,
+            files: files_of(alloc, matches)?,
         })
     }
 }
 
+impl Junit {
+    fn from_matches(alloc: Global, matches: &ArgMatches<'_>) -> Result<Junit, LineError> {
+        let name = match matches.get_str("name") {
+            Some(name) => Some(String::from_str(alloc, name)?),
+            None => None,
+        };
+        Ok(Junit {
+            name,
+            files: files_of(alloc, matches)?,
+        })
+    }
+}
+
+// Returns the names of the files, of which one at most is standard input.
+fn files_of(alloc: Global, matches: &ArgMatches<'_>) -> Result<Vec<String>, LineError> {
+    let mut files = Vec::new(alloc);
+    let mut inputs = 0_u64;
+    for file in matches.get_strs("FILE").unwrap_or(&[]) {
+        if *file == STANDARD {
+            inputs = inputs.saturating_add(1);
+        }
+        files.push(String::from_str(alloc, file)?)?;
+    }
+    if inputs > 1 {
+        return Err(LineError::TwoInputs);
+    }
+    Ok(files)
+}
+
 fn command<'a>(alloc: Global) -> Result<Command<'a>, AllocError> {
+    Command::new(alloc, "reports")
+        .about("Reads reports in JSON")
+        .subcommand_required(true)
+        .subcommand(join_command(alloc)?)?
+        .subcommand(junit_command(alloc)?)
+}
+
+fn join_command<'a>(alloc: Global) -> Result<Command<'a>, AllocError> {
     let shards = Arg::new(alloc, "shards")
         .long("shards")
         .value_name("N")
@@ -75,15 +121,26 @@ fn command<'a>(alloc: Global) -> Result<Command<'a>, AllocError> {
         .required(true)
         .action(ArgAction::Append)
         .help("The shards' reports in JSON, from index 0 on; - is standard input");
-    let join = Command::new(alloc, "join")
+    Command::new(alloc, "join")
         .about("Print one report of all shards")
         .arg(shards)?
         .arg(equal_names)?
-        .arg(files)?;
-    Command::new(alloc, "reports")
-        .about("Reads reports in JSON")
-        .subcommand_required(true)
-        .subcommand(join)
+        .arg(files)
+}
+
+fn junit_command<'a>(alloc: Global) -> Result<Command<'a>, AllocError> {
+    let name = Arg::new(alloc, "name")
+        .long("name")
+        .value_name("PROGRAM")
+        .help("The name of the program; else that of each file, without its ending");
+    let files = Arg::new(alloc, "FILE")
+        .required(true)
+        .action(ArgAction::Append)
+        .help("Reports in JSON; - is standard input");
+    Command::new(alloc, "junit")
+        .about("Print reports as JUnit's XML")
+        .arg(name)?
+        .arg(files)
 }
 
 impl From<AllocError> for LineError {

@@ -1,11 +1,12 @@
-//! Joins the reports of the shards of a suite into one, which it prints in JSON.
+//! Reads reports in JSON: joins those of shards into one, and prints them as JUnit's XML.
 #![tactic(auto)]
 
 mod input;
+mod junit;
 mod line;
 
 use input::Input;
-use line::{Join, LineError};
+use line::{Join, Line, LineError};
 use mimic_printer::Sink;
 use mimic_reports::{JoinFault, join_reports};
 use mimic_trial::Conclusion;
@@ -27,8 +28,9 @@ const TRIALS_FAILED: u8 = 101;
 
 fn main(rt: HostRuntime) -> ExitCode {
     let alloc = rt.alloc();
-    let status = match Join::from_args(&rt, alloc) {
-        Ok(join) => run(&rt, alloc, &join),
+    let status = match Line::from_args(&rt, alloc) {
+        Ok(Line::Join(join)) => run(&rt, alloc, &join),
+        Ok(Line::Junit(junit)) => junit::run(&rt, alloc, &junit),
         Err(error) => refuse(&rt, &error),
     };
     ExitCode::from(status)

@@ -1,0 +1,117 @@
+//! Prints reports as JUnit's XML.
+use crate::input::{Input, STANDARD};
+use crate::line::Junit;
+use crate::{BLOCK, REFUSED, SUCCESS};
+use mimic_printer::Sink;
+use mimic_reports::{Ending, InputFault, JunitFault, Suite, write_junit};
+use std::alloc::Global;
+use std::io::BufWriter;
+use std::path::Path;
+use std::{fmt, fs};
+
+// The name of the program of standard input.
+const NAMELESS: &str = "report";
+
+// Prints the document of all reports that could be read, and says of each other file why it is none.
+pub(crate) fn run(rt: &HostRuntime, alloc: Global, junit: &Junit) -> u8 {
+    let mut sources = Sources {
+        files: Vec::new(alloc),
+        suites: Vec::new(alloc),
+        status: SUCCESS,
+    };
+    for file in &junit.files {
+        let file = file.as_str();
+        match read(rt, alloc, name_of(junit, file), file) {
+            Ok(suite) => sources = sources.with(rt, file, suite),
+            Err(fault) => sources.status = refuse(rt, file, &fault),
+        }
+    }
+    sources.print(rt, alloc)
+}
+
+// The reports that could be read, and the names of their files.
+#[derive(Drop)]
+struct Sources<'a> {
+    files: Vec<&'a str>,
+    suites: Vec<Suite<'a, Input<'a>>>,
+    status: u8,
+}
+
+impl<'a> Sources<'a> {
+    fn with(self, rt: &HostRuntime, file: &'a str, suite: Suite<'a, Input<'a>>) -> Sources<'a> {
+        let mut sources = self;
+        if let Ending::Cut(stop) = suite.ending() {
+            sources.status = refuse(rt, file, stop);
+        }
+        if sources.files.push(file).is_err() || sources.suites.push(suite).is_err() {
+            sources.status = refuse(rt, file, &InputFault::OutOfMemory);
+        }
+        sources
+    }
+
+    fn print(self, rt: &HostRuntime, alloc: Global) -> u8 {
+        let Sources {
+            files,
+            suites,
+            status,
+        } = self;
+        let Ok(out) = BufWriter::with_capacity(alloc, BLOCK, rt.stdout()) else {
+            return refuse_all(rt, &InputFault::OutOfMemory);
+        };
+        match write_junit(alloc, suites, &mut Sink::new(out)) {
+            Ok(()) => status,
+            Err(fault) => refuse_at(rt, &files, &fault),
+        }
+    }
+}
+
+// Says why the document has no end.
+fn refuse_at(rt: &HostRuntime, files: &[&str], fault: &JunitFault) -> u8 {
+    match fault.place() {
+        Some(place) => refuse(rt, files.get(place).unwrap_or(&STANDARD), fault),
+        None => refuse_all(rt, fault),
+    }
+}
+
+// Reads a report. A regular file is read again when it is written, so that its rows are not kept.
+fn read<'a>(
+    rt: &'a HostRuntime,
+    alloc: Global,
+    name: &'a str,
+    file: &'a str,
+) -> Result<Suite<'a, Input<'a>>, InputFault> {
+    let input = Input::new(rt, file);
+    if file != STANDARD && is_regular(rt, file) {
+        Suite::counted(alloc, name, input, Input::new(rt, file))
+    } else {
+        Suite::kept(alloc, name, input)
+    }
+}
+
+fn is_regular(rt: &HostRuntime, file: &str) -> bool {
+    match fs::metadata(rt, file) {
+        Ok(metadata) => metadata.is_file(),
+        Err(_) => false,
+    }
+}
+
+// The name of the program: that of the line, or of the file without its folder and its ending.
+fn name_of<'a>(junit: &'a Junit, file: &'a str) -> &'a str {
+    if let Some(name) = &junit.name {
+        return name.as_str();
+    }
+    if file == STANDARD {
+        return NAMELESS;
+    }
+    Path::new(file).file_stem().unwrap_or(file)
+}
+
+fn refuse<F: fmt::Display>(rt: &HostRuntime, file: &str, fault: &F) -> u8 {
+    let _ = eprintln!(rt; "reports: {file}: {fault}");
+    REFUSED
+}
+
+fn refuse_all<F: fmt::Display>(rt: &HostRuntime, fault: &F) -> u8 {
+    let _ = eprintln!(rt; "reports: {fault}");
+    REFUSED
+}
