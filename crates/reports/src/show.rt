@@ -7,7 +7,6 @@ use mimic_main::shows_colours;
 use mimic_printer::Sink;
 use mimic_reports::{ReadFault, ShowFault, read_from, show_failures, show_report};
 use std::alloc::Global;
-use std::fmt;
 use std::io::BufWriter;
 
 // Prints the report of the file, or why it has none.
@@ -15,17 +14,15 @@ pub(crate) fn run(rt: &HostRuntime, alloc: Global, show: &Show) -> u8 {
     let file = show.file.as_str();
     let report = match read_from(alloc, &mut Input::new(rt, file)) {
         Ok(report) => report,
-        Err(ReadFault::WrongLine(line)) => {
-            let fault = ReadFault::WrongLine(line);
-            let _ = eprintln!(rt; "reports: {file}: line {line}: {fault}");
-            return REFUSED;
-        }
         Err(fault) => return refuse(rt, file, &fault),
     };
     let status = status_of(&report);
     match print(rt, alloc, show, report) {
         Ok(()) => status,
-        Err(fault) => refuse(rt, file, &fault),
+        Err(fault) => {
+            let _ = eprintln!(rt; "reports: {fault}");
+            REFUSED
+        }
     }
 }
 
@@ -55,7 +52,12 @@ fn print(rt: &HostRuntime, alloc: Global, show: &Show, report: Report) -> Result
     }
 }
 
-fn refuse<F: fmt::Display>(rt: &HostRuntime, file: &str, fault: &F) -> u8 {
-    let _ = eprintln!(rt; "reports: {file}: {fault}");
+// Says why the file has no report.
+fn refuse(rt: &HostRuntime, file: &str, fault: &ReadFault) -> u8 {
+    if let ReadFault::WrongLine(line) = fault {
+        let _ = eprintln!(rt; "reports: {file}: line {line}: {fault}");
+    } else {
+        let _ = eprintln!(rt; "reports: {file}: {fault}");
+    }
     REFUSED
 }
