@@ -12,6 +12,7 @@ pub mod ReadInputs
 pub mod RowCounts
 pub mod RowsRead
 pub mod SeenNames
+pub mod Showing
 pub mod Spellings
 pub mod SuiteText
 pub mod Totals

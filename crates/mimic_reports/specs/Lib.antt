@@ -5,6 +5,7 @@ pub mod Junit
 pub mod Names
 pub mod Pieces
 pub mod Readings
+pub mod Show
 pub mod Suites
 pub mod Text
 pub mod Turns

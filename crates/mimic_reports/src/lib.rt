@@ -1,9 +1,9 @@
-//! The reports of the shards of a suite, joined into one.
+//! Reports: those of the shards of a suite joined into one, or printed as JUnit's XML or as the harness prints them.
 //!
 //! ```rust
 //! use mimic_events::write_report;
 //! use mimic_printer::Sink;
-//! use mimic_reports::{join_reports, joined, read_from};
+//! use mimic_reports::{join_reports, joined, read_from, show_report};
 //!
 //! let first = read_from(alloc, &mut first_file)?;
 //! let second = read_from(alloc, &mut second_file)?;
@@ -12,6 +12,8 @@
 //! // The same from readers to a writer, with less memory:
 //! let counts = join_reports(alloc, vec![in alloc; first_file, second_file]?, 2, false, &mut sink)?;
 //! assert!(rt; !counts.has_failed());
+//! // The same in pretty, without colours:
+//! show_report(alloc, whole, false, &mut terminal)?;
 //! ```
 #![tactic(auto)]
 
@@ -27,6 +29,7 @@ mod order;
 mod pieces;
 mod reading;
 mod rows;
+mod show;
 mod suite;
 mod text;
 mod xml;
@@ -38,4 +41,5 @@ pub use join::{Refusal, joined};
 pub use junit::{JunitFault, write_junit};
 pub use reading::{ReadFault, read_from};
 pub use rows::InputFault;
+pub use show::{ShowFault, show_failures, show_report};
 pub use suite::Suite;

@@ -5,6 +5,9 @@ use clap::{Arg, ArgAction, ArgMatches, Command, value_parser};
 use std::alloc::{AllocError, AllocFailed, Global};
 use std::{env, io};
 
+// What `--color` takes.
+static COLOURS: [&str; 3] = ["auto", "always", "never"];
+
 /// The reports in these files are to be joined, as those of so many shards.
 #[derive(Debug, Drop)]
 pub(crate) struct Join {
@@ -21,11 +24,29 @@ pub(crate) struct Junit {
     pub(crate) files: Vec<String>,
 }
 
+/// When a report has colours.
+#[derive(Clone, Copy, Debug)]
+pub(crate) enum Colours {
+    /// If standard output shows some, as for a report of the harness.
+    Auto,
+    Always,
+    Never,
+}
+
+/// The report in this file is to be printed as the harness prints it, or its failures alone.
+#[derive(Debug, Drop)]
+pub(crate) struct Show {
+    pub(crate) only_failed: bool,
+    pub(crate) colours: Colours,
+    pub(crate) file: String,
+}
+
 /// What a line asks for.
 #[derive(Debug, Drop)]
 pub(crate) enum Line {
     Join(Join),
     Junit(Junit),
+    Show(Show),
 }
 
 /// Why a line asks for nothing.
@@ -50,8 +71,11 @@ impl Line {
         if let Some(join) = matches.subcommand_matches("join") {
             return Ok(Line::Join(Join::from_matches(alloc, join)?));
         }
-        match matches.subcommand_matches("junit") {
-            Some(junit) => Ok(Line::Junit(Junit::from_matches(alloc, junit)?)),
+        if let Some(junit) = matches.subcommand_matches("junit") {
+            return Ok(Line::Junit(Junit::from_matches(alloc, junit)?));
+        }
+        match matches.subcommand_matches("show") {
+            Some(show) => Ok(Line::Show(Show::from_matches(alloc, show)?)),
             // `clap` has refused a line without a subcommand.
             None => Err(LineError::OutOfMemory),
         }
@@ -82,6 +106,21 @@ impl Junit {
     }
 }
 
+impl Show {
+    fn from_matches(alloc: Global, matches: &ArgMatches<'_>) -> Result<Show, LineError> {
+        Ok(Show {
+            only_failed: matches.get_flag("failed"),
+            colours: match matches.get_str("color") {
+                Some("always") => Colours::Always,
+                Some("never") => Colours::Never,
+                _ => Colours::Auto,
+            },
+            // It is required.
+            file: String::from_str(alloc, matches.get_str("FILE").unwrap_or(STANDARD))?,
+        })
+    }
+}
+
 // Returns the names of the files, of which one at most is standard input.
 fn files_of(alloc: Global, matches: &ArgMatches<'_>) -> Result<Vec<String>, LineError> {
     let mut files = Vec::new(alloc);
@@ -103,7 +142,8 @@ fn command<'a>(alloc: Global) -> Result<Command<'a>, AllocError> {
         .about("Reads reports in JSON")
         .subcommand_required(true)
         .subcommand(join_command(alloc)?)?
-        .subcommand(junit_command(alloc)?)
+        .subcommand(junit_command(alloc)?)?
+        .subcommand(show_command(alloc)?)
 }
 
 fn join_command<'a>(alloc: Global) -> Result<Command<'a>, AllocError> {
@@ -141,6 +181,26 @@ fn junit_command<'a>(alloc: Global) -> Result<Command<'a>, AllocError> {
         .about("Print reports as JUnit's XML")
         .arg(name)?
         .arg(files)
+}
+
+fn show_command<'a>(alloc: Global) -> Result<Command<'a>, AllocError> {
+    let failed = Arg::new(alloc, "failed")
+        .long("failed")
+        .action(ArgAction::SetTrue)
+        .help("Print the failures alone");
+    let color = Arg::new(alloc, "color")
+        .long("color")
+        .value_name("WHEN")
+        .value_parser(COLOURS.as_slice())
+        .help("When to use colours");
+    let file = Arg::new(alloc, "FILE")
+        .required(true)
+        .help("A report in JSON; - is standard input");
+    Command::new(alloc, "show")
+        .about("Print a report as the harness does")
+        .arg(failed)?
+        .arg(color)?
+        .arg(file)
 }
 
 impl From<AllocError> for LineError {

@@ -1,9 +1,10 @@
-//! Reads reports in JSON: joins those of shards into one, and prints them as JUnit's XML.
+//! Reads reports in JSON: joins those of shards into one, and prints them as JUnit's XML or as the harness does.
 #![tactic(auto)]
 
 mod input;
 mod junit;
 mod line;
+mod show;
 
 use input::Input;
 use line::{Join, Line, LineError};
@@ -31,6 +32,7 @@ fn main(rt: HostRuntime) -> ExitCode {
     let status = match Line::from_args(&rt, alloc) {
         Ok(Line::Join(join)) => run(&rt, alloc, &join),
         Ok(Line::Junit(junit)) => junit::run(&rt, alloc, &junit),
+        Ok(Line::Show(show)) => show::run(&rt, alloc, &show),
         Err(error) => refuse(&rt, &error),
     };
     ExitCode::from(status)

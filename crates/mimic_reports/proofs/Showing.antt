@@ -1,0 +1,57 @@
+-- Reports as they are printed: the parts of their text, and how printing stops.
+use Rattle.std.proofs.Common.{◌≡◌, ◌∙◌, ℕ, suc, Bool, List, [], ◌∷◌, ◌++◌, ap, ap₂, length, map, refl, sym}
+use Rattle.std.proofs.lemmas.List.{map-append}
+use Rattle.std.specs.List.{flat_map}
+use Rattle.mimic_text.specs.declared.formats.FormatSetting.TheVariants.{Pretty}
+use Rattle.mimic_trial.specs.Count.{counts_of}
+use Rattle.mimic_trial.specs.declared.outcome.Outcome.{Outcome}
+use Rattle.mimic_trial.specs.declared.outcome.conclusion.Conclusion.{Conclusion}
+use Rattle.mimic_trial.specs.declared.trial.TestInfo.{TestInfo}
+use Rattle.mimic_printer.specs.declared.Printer.{Printer}
+use Rattle.mimic_printer.specs.Report.{failures_text, report_text, row_text, summary_text, title_text}
+use Rattle.mimic_printer.specs.Row.{label_of, outcomes_of, row_of, rows_from}
+use Rattle.mimic_printer.specs.Widths.{kind_width_of, name_width_of}
+use Rattle.mimic_events.specs.declared.report.Row.{Row}
+use Rattle.mimic_reports.specs.Show.{labels_in, pretty_printer, printed_row}
+
+-- ---- rows
+
+labels-same : (rows : List (TestInfo × Outcome)) → labels_in (rows_from rows) ≡ map (λ row. label_of row.0) rows
+labels-same [] = refl
+labels-same (row ∷ rows) = ap (λ l. label_of row.0 ∷ l) (labels-same rows)
+
+length-same : (rows : List (TestInfo × Outcome)) → length (rows_from rows) ≡ length rows
+length-same [] = refl
+length-same (row ∷ rows) = ap (λ n. suc n) (length-same rows)
+
+text-same : (p : Printer) (rows : List (TestInfo × Outcome)) → flat_map (row_text p) (rows_from rows) ≡ flat_map (λ row. row_text p (row_of row.0 row.1)) rows
+text-same p [] = refl
+text-same p (row ∷ rows) = ap (λ t. row_text p (row_of row.0 row.1) ++ t) (text-same p rows)
+
+-- the printer of these columns
+pub printer-same : (colours : Bool) (rows : List (TestInfo × Outcome)) (n k : ℕ) → n ≡ name_width_of (map (λ row. label_of row.0) rows) → k ≡ kind_width_of (map (λ row. label_of row.0) rows)
+    → record { format = Pretty; colour = colours; name_width = n; kind_width = k } ≡ pretty_printer colours (rows_from rows)
+printer-same colours rows n k names kinds =
+    let made : ℕ → ℕ → Printer = λ a b. record { format = Pretty; colour = colours; name_width = a; kind_width = b } in
+    ap₂ made (names ∙ ap name_width_of (sym (labels-same rows))) (kinds ∙ ap kind_width_of (sym (labels-same rows)))
+
+-- one more row, whatever its flags
+pub one-more : (before after : List (TestInfo × Outcome)) (info : TestInfo) (rows : List Row) (row : Row) → label_of info ≡ (printed_row row).label → rows_from before ≡ map printed_row rows
+    → after ≡ before ++ (info, row.outcome) ∷ [] → rows_from after ≡ map printed_row (rows ++ row ∷ [])
+one-more before after info rows row label so_far e =
+    ap rows_from e ∙ map-append (λ (p : TestInfo × Outcome). row_of p.0 p.1) before ((info, row.outcome) ∷ [])
+    ∙ ap₂ (λ xs l. xs ++ (record { label = l; outcome = row.outcome }) ∷ []) so_far label
+    ∙ sym (map-append printed_row rows (row ∷ []))
+
+-- ---- text
+
+-- the text of a report, part by part
+pub text-parts : (p : Printer) (rows : List (TestInfo × Outcome)) (n : ℕ) (counts : Conclusion) (nanos : ℕ) → n ≡ length rows → counts ≡ counts_of (outcomes_of (rows_from rows)) counts.num_filtered_out
+    → report_text p (rows_from rows) counts.num_filtered_out nanos
+    ≡ title_text p n ++ (flat_map (λ row. row_text p (row_of row.0 row.1)) rows ++ (failures_text p (rows_from rows) ++ (summary_text p counts nanos ++ [])))
+unfolding report_text
+text-parts p rows n counts nanos count same =
+    let parts : ℕ → List ℕ → Conclusion → List ℕ = λ k t s. title_text p k ++ (t ++ (failures_text p (rows_from rows) ++ (summary_text p s nanos ++ []))) in
+    ap (λ k. parts k (flat_map (row_text p) (rows_from rows)) (counts_of (outcomes_of (rows_from rows)) counts.num_filtered_out)) (length-same rows ∙ sym count)
+    ∙ ap (λ t. parts n t (counts_of (outcomes_of (rows_from rows)) counts.num_filtered_out)) (text-same p rows)
+    ∙ ap (λ s. parts n (flat_map (λ row. row_text p (row_of row.0 row.1)) rows) s) (sym same)

@@ -1,0 +1,50 @@
+-- Reports as the harness prints them in pretty.
+use Rattle.std.specs.Prelude.{◌≡◌, ℕ, Bool, List, Result, Ok, Err, map, string_bytes}
+use Rattle.mimic_text.specs.declared.formats.FormatSetting.TheVariants.{Pretty}
+use Rattle.mimic_printer.specs.declared.Printer.{Printer}
+use Rattle.mimic_printer.specs.Report.{failures_if_any, report_text}
+use Rattle.mimic_printer.specs.Row.{Label, PrintedRow}
+use Rattle.mimic_printer.specs.Sink.{Put, Shown, Stopped}
+use Rattle.mimic_printer.specs.Widths.{kind_width_of, name_width_of}
+use Rattle.mimic_events.specs.declared.report.Report.{Report}
+use Rattle.mimic_events.specs.declared.report.Row.{Row}
+use Rattle.mimic_reports.specs.declared.show.ShowFault.{ShowFault}
+use Rattle.mimic_reports.specs.declared.show.ShowFault.TheVariants as fault
+
+-- what is printed of a row that was read: its kind, its name and its outcome
+abbrev pub printed_row : Row → PrintedRow
+printed_row row = record {
+  label = record { kind = string_bytes row.kind; name = string_bytes row.name };
+  outcome = row.outcome;
+}
+
+-- the rows of a report, in their order
+abbrev pub printed_rows : Report → List PrintedRow
+printed_rows report = map printed_row report.rows.items
+
+-- what stands before the outcomes of rows
+abbrev pub labels_in : List PrintedRow → List Label
+labels_in rows = map (λ row. row.label) rows
+
+-- the printer of a run with these rows, in pretty: its columns are as wide as they need (the Rust crate's)
+abbrev pub pretty_printer : Bool → List PrintedRow → Printer
+pretty_printer colours rows = record {
+  format = Pretty;
+  colour = colours;
+  name_width = name_width_of (labels_in rows);
+  kind_width = kind_width_of (labels_in rows);
+}
+
+-- what the harness prints in pretty of the run that a report is of
+abbrev pub pretty_report : Bool → Report → List ℕ
+pretty_report colours report = report_text (pretty_printer colours (printed_rows report)) (printed_rows report) report.filtered_out report.nanos
+
+-- and what it prints of the failures alone
+abbrev pub pretty_failures : Report → List ℕ
+pretty_failures report = failures_if_any (printed_rows report)
+
+-- with Ok the text was appended, with a fault of the writer a beginning of it, and without memory nothing
+abbrev pub Shows : List ℕ → Shown → Shown → Result (Unit {0}) ShowFault → Type 0
+Shows text old new (Ok done) = Put old new text
+Shows text old new (Err fault.OutOfMemory) = new ≡ old
+Shows text old new (Err (fault.Write error)) = Stopped old new text

@@ -1,0 +1,182 @@
+//! Prints reports as the harness prints them in pretty.
+ghost use Rattle.std.specs.Prelude.{◌≡◌, IfOk, map, max};
+ghost use Rattle.std.specs.List.{flat_map};
+ghost use Rattle.mimic_trial.specs.Count.{counts_of};
+ghost use Rattle.mimic_printer.specs.Report.{failures_if_any, report_text, row_text};
+ghost use Rattle.mimic_printer.specs.Row.{label_of, outcomes_of, row_of, rows_from};
+ghost use Rattle.mimic_printer.specs.Sink.{HasFaultLeft, Puts, shown};
+ghost use Rattle.mimic_printer.specs.Widths.{kind_chars, kind_width_of, name_chars, name_width_of};
+ghost use Rattle.mimic_reports.specs.Show.{Shows, pretty_failures, pretty_printer, pretty_report, printed_row};
+ghost use Rattle.mimic_reports.specs.declared.show.ShowFault.TheVariants.{OutOfMemory, Write as WriteStopped};
+
+use mimic_events::{Report, Row};
+use mimic_printer::{Printer, Sink, WriteFault, widths};
+use mimic_text::FormatSetting;
+use mimic_trial::{Conclusion, Outcome, TestInfo};
+use std::alloc::{AllocError, Global};
+use std::io::Write;
+use std::slice;
+use thiserror::Error;
+
+/// Why a report was not printed to its end.
+#[derive(Debug, Drop, Error)]
+pub enum ShowFault {
+    /// An allocation failed. Nothing was written.
+    #[error("out of memory")]
+    OutOfMemory,
+    /// A write or a flush failed. A beginning was written.
+    #[error("{0}")]
+    Write(WriteFault),
+}
+
+/// Prints the report as the harness prints a run in pretty, with or without colours, and flushes it: the title, each row once
+/// in its order, the failures and the summary.
+///
+/// Memory is taken for the list of the rows, and none for their texts.
+pub fn show_report<W: Write>(
+    alloc: Global,
+    report: Report,
+    colours: bool,
+    sink: &mut Sink<W>,
+) -> Result<(), ShowFault>
+    requires { HasFaultLeft sink.old }
+    ensures { Shows (pretty_report colours report) (shown W.contents sink.old)
+        (shown W.contents sink.new) result }
+{
+    let (counts, nanos) = (report.counts(), report.nanos);
+    let rows = rows_to_print(alloc, report.rows)?;
+    put_report(sink, &printer_for(&rows, colours), &rows, &counts, nanos)?;
+    Ok(())
+}
+
+/// Prints the failures of the report alone, as the harness prints them in pretty, and flushes them. Nothing is written if no trial
+/// failed.
+pub fn show_failures<W: Write>(
+    alloc: Global,
+    report: Report,
+    sink: &mut Sink<W>,
+) -> Result<(), ShowFault>
+    requires { HasFaultLeft sink.old }
+    ensures { Shows (pretty_failures report) (shown W.contents sink.old)
+        (shown W.contents sink.new) result }
+{
+    let rows = rows_to_print(alloc, report.rows)?;
+    put_failures(sink, &rows)?;
+    Ok(())
+}
+
+// Returns the rows as a printer takes them. Their texts stay where they are. A printer looks at neither flag.
+fn rows_to_print(alloc: Global, rows: Vec<Row>) -> Result<Vec<(TestInfo, Outcome)>, AllocError>
+    ensures { IfOk result
+        (λ printed. rows_from printed.items ≡ map printed_row rows.items) }
+{
+    let mut printed = Vec::with_capacity(alloc, rows.len())?;
+    for row in rows {
+        let Row {
+            name,
+            kind,
+            outcome,
+        } = row;
+        let info = TestInfo {
+            name,
+            kind,
+            is_ignored: false,
+            is_bench: false,
+        };
+        printed.push((info, outcome))?;
+    }
+    Ok(printed)
+}
+
+// Returns the printer of a run with these rows.
+fn printer_for(rows: &[(TestInfo, Outcome)], colours: bool) -> Printer
+    ensures { result ≡ pretty_printer colours (rows_from rows.now) }
+{
+    let (name_width, kind_width) = columns_for(rows);
+    Printer {
+        format: FormatSetting::Pretty,
+        colour: colours,
+        name_width,
+        kind_width,
+    }
+}
+
+fn columns_for(rows: &[(TestInfo, Outcome)]) -> (usize, usize)
+    ensures names { result.0 ≡ name_width_of (map (λ row. label_of row.0) rows.now) }
+    ensures kinds { result.1 ≡ kind_width_of (map (λ row. label_of row.0) rows.now) }
+{
+    rows.iter()
+        .fold((0, 0), |columns, row| wide_enough(columns, &row.0))
+}
+
+// Widens the columns to what the trial takes, if that is more.
+fn wide_enough(columns: (usize, usize), info: &TestInfo) -> (usize, usize)
+    ensures names { result.0 ≡ max (name_chars (label_of info.now)) columns.0 }
+    ensures kinds { result.1 ≡ max (kind_chars (label_of info.now)) columns.1 }
+{
+    let (name, kind) = widths(slice::from_ref(info));
+    (name.max(columns.0), kind.max(columns.1))
+}
+
+// Writes the whole report of the rows, if these are its counts.
+fn put_report<W: Write>(
+    sink: &mut Sink<W>,
+    printer: &Printer,
+    rows: &[(TestInfo, Outcome)],
+    counts: &Conclusion,
+    nanos: u64,
+) -> Result<(), WriteFault>
+    requires room { HasFaultLeft sink.old }
+    requires counts { counts.now
+        ≡ counts_of (outcomes_of (rows_from rows.now)) counts.now.num_filtered_out }
+    ensures { Puts W.contents sink.old sink.new
+        (report_text printer.now (rows_from rows.now) counts.now.num_filtered_out nanos) result }
+{
+    printer.print_title(sink, rows.len() as u64)?;
+    put_rows(sink, printer, rows)?;
+    printer.print_failures_of(sink, rows)?;
+    printer.print_summary(sink, counts, nanos)?;
+    sink.flush()
+}
+
+fn put_rows<W: Write>(
+    sink: &mut Sink<W>,
+    printer: &Printer,
+    rows: &[(TestInfo, Outcome)],
+) -> Result<(), WriteFault>
+    requires { HasFaultLeft sink.old }
+    ensures { Puts W.contents sink.old sink.new
+        (flat_map (λ row. row_text printer.now (row_of row.0 row.1)) rows.now) result }
+{
+    for row in rows {
+        printer.print_row(sink, &row.0, &row.1)?;
+    }
+    Ok(())
+}
+
+fn put_failures<W: Write>(
+    sink: &mut Sink<W>,
+    rows: &[(TestInfo, Outcome)],
+) -> Result<(), WriteFault>
+    requires { HasFaultLeft sink.old }
+    ensures { Puts W.contents sink.old sink.new (failures_if_any (rows_from rows.now)) result }
+{
+    Printer::new(FormatSetting::Pretty, false, 0, 0).print_failures_of(sink, rows)?;
+    sink.flush()
+}
+
+impl From<AllocError> for ShowFault {
+    ghost from_gives = { λ _ fault. fault ≡ OutOfMemory };
+
+    fn from(_error: AllocError) -> ShowFault {
+        ShowFault::OutOfMemory
+    }
+}
+
+impl From<WriteFault> for ShowFault {
+    ghost from_gives = { λ error fault. fault ≡ WriteStopped error };
+
+    fn from(error: WriteFault) -> ShowFault {
+        ShowFault::Write(error)
+    }
+}

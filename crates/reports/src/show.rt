@@ -1,0 +1,63 @@
+//! Prints a report as the harness prints it in pretty.
+use crate::input::Input;
+use crate::line::{Colours, Show};
+use crate::{BLOCK, REFUSED, SUCCESS, TRIALS_FAILED};
+use mimic_events::Report;
+use mimic_main::shows_colours;
+use mimic_printer::Sink;
+use mimic_reports::{ReadFault, ShowFault, read_from, show_failures, show_report};
+use std::alloc::Global;
+use std::io::BufWriter;
+
+// Prints the report of the file, or why it has none.
+pub(crate) fn run(rt: &HostRuntime, alloc: Global, show: &Show) -> u8 {
+    let file = show.file.as_str();
+    let report = match read_from(alloc, &mut Input::new(rt, file)) {
+        Ok(report) => report,
+        Err(fault) => return refuse(rt, file, &fault),
+    };
+    let status = status_of(&report);
+    match print(rt, alloc, show, report) {
+        Ok(()) => status,
+        Err(fault) => {
+            let _ = eprintln!(rt; "reports: {fault}");
+            REFUSED
+        }
+    }
+}
+
+fn status_of(report: &Report) -> u8 {
+    if report.counts().has_failed() {
+        TRIALS_FAILED
+    } else {
+        SUCCESS
+    }
+}
+
+fn print(rt: &HostRuntime, alloc: Global, show: &Show, report: Report) -> Result<(), ShowFault> {
+    let out = rt.stdout();
+    let colours = match show.colours {
+        Colours::Auto => shows_colours(rt, &out),
+        Colours::Always => true,
+        Colours::Never => false,
+    };
+    let Ok(out) = BufWriter::with_capacity(alloc, BLOCK, out) else {
+        return Err(ShowFault::OutOfMemory);
+    };
+    let mut sink = Sink::new(out);
+    if show.only_failed {
+        show_failures(alloc, report, &mut sink)
+    } else {
+        show_report(alloc, report, colours, &mut sink)
+    }
+}
+
+// Says why the file has no report.
+fn refuse(rt: &HostRuntime, file: &str, fault: &ReadFault) -> u8 {
+    if let ReadFault::WrongLine(line) = fault {
+        let _ = eprintln!(rt; "reports: {file}: line {line}: {fault}");
+    } else {
+        let _ = eprintln!(rt; "reports: {file}: {fault}");
+    }
+    REFUSED
+}
