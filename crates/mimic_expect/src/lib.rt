@@ -1,0 +1,6 @@
+//! What of reports is not as a file of known failures says.
+#![tactic(auto)]
+
+mod known;
+
+pub use known::{Expectation, KnownFault, read_known};
