@@ -1,2 +1,4 @@
+pub mod Expect
+pub mod Keys
 pub mod Known
 pub mod Lines

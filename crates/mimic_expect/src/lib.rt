@@ -1,6 +1,7 @@
 //! What of reports is not as a file of known failures says.
 #![tactic(auto)]
 
+mod key;
 mod known;
 
 pub use known::{Expectation, KnownFault, read_known};
