@@ -1,1 +1,2 @@
 mod KnownLines
+mod Pools

@@ -3,5 +3,6 @@
 
 mod key;
 mod known;
+mod pool;
 
 pub use known::{Expectation, KnownFault, read_known};
