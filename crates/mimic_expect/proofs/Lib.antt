@@ -1,2 +1,4 @@
 mod KnownLines
+pub mod Laws
+mod Meeting
 mod Pools

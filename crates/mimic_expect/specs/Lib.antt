@@ -1,4 +1,5 @@
 pub mod Expect
+pub mod Judging
 pub mod Keys
 pub mod Known
 pub mod Lines
