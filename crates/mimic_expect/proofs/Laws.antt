@@ -7,7 +7,7 @@ use Rattle.std.specs.Option.{is_some, option_or}
 use Rattle.std.proofs.lemmas.List.Sorted.{IsPermutation-cons, IsPermutation-middle, IsPermutation-refl, IsPermutation-sym, IsPermutation-trans}
 use Rattle.mimic_printer.specs.Json.{Entry}
 use Rattle.mimic_printer.specs.Row.{Label}
-use Rattle.mimic_expect.specs.Expect.{Fits, Key, any_in, key_in, keyed, left_by, meets, message_of, met_by, same_key, unmet_by, with_row, without}
+use Rattle.mimic_expect.specs.Expect.{Fits, Key, MatchingLaw, any_in, key_in, keyed, left_by, meets, message_of, met_by, same_key, unmet_by, with_row, without}
 use Rattle.mimic_expect.specs.Keys.{same_key-decides}
 use Rattle.mimic_expect.specs.Known.{Expected}
 use Rattle.mimic_expect.proofs.Meeting.{keeps}
@@ -194,6 +194,16 @@ meeting left (row ∷ rows) h = at (meets left row) refl (meeting (without left 
     at (Some x) e rest = one_met left row rows x e (met left row x h e) rest
     at None e rest = none_met left row rows h e rest
 
--- of any known failures and any failed rows
-pub known_meet : (expected : List Expected) (failed : List Entry) → Meeting (keyed expected) failed
-known_meet expected failed = meeting (keyed expected) failed (own_keys expected)
+values_keyed : (expected : List Expected) → values (keyed expected) ≡ expected
+values_keyed [] = refl
+values_keyed (e ∷ expected) = ap (λ (l : List Expected). e ∷ l) (values_keyed expected)
+
+pub matching_law : MatchingLaw
+matching_law expected failures =
+    let m = meeting (keyed expected) failures (own_keys expected) in
+    record {
+      lines = subst (λ (l : List Expected). IsPermutation l (map (λ (m : Expected × Entry). m.0) (met_by (keyed expected) failures) ++ values (left_by (keyed expected) failures))) (values_keyed expected) m.expected;
+      rows = m.failed;
+      fit = m.fit;
+      rest = m.rest;
+    }

@@ -1,5 +1,5 @@
 -- What failures meet.
-use Rattle.std.proofs.Common.{◌≡◌, ℕ, ◌+◌, ◌<◌, Bool, true, false, cond, List, [], ◌∷◌, ◌++◌, length, map, get_or, refl, sym, ap, ap₂, subst, ◌∙◌, append_assoc, append-nil, arith, drop, drop-cons, take, zero, suc}
+use Rattle.std.proofs.Common.{◌≡◌, ℕ, ◌+◌, ◌<◌, Bool, true, false, cond, List, [], ◌∷◌, ◌++◌, length, map, get_or, refl, sym, ap, ap₂, ◌∙◌, append_assoc, append-nil, arith, drop, drop-cons, take, suc}
 use Rattle.std.proofs.lemmas.List.{get_or-map, map-append, take_more}
 use Rattle.mimic_events.specs.Contents.{entry_read}
 use Rattle.mimic_events.specs.declared.report.Row.{Row}
@@ -11,7 +11,7 @@ use Rattle.std.specs.Prelude.{Option, None, Some}
 use Rattle.std.specs.Map.{lookup, remove_entry}
 use Rattle.std.specs.Option.{is_some, option_or}
 use Rattle.mimic_printer.specs.Json.{Entry}
-use Rattle.mimic_expect.specs.Expect.{Key, any_in, key_in, left_by, meets, same_key, unmet_by, without}
+use Rattle.mimic_expect.specs.Expect.{Key, any_in, key_in, meets, same_key, unmet_by, without}
 
 module _ {X : Type 0} where
   pub keeps : (test : Key → Bool) (left : List (Key × X)) → lookup test left ≡ None → remove_entry test left ≡ left

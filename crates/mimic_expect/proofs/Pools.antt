@@ -1,11 +1,10 @@
 -- Which of many keys are left, and the first one of them.
-use Rattle.std.proofs.Common.{◌≡◌, ◌⊎◌, ℕ, zero, suc, ◌+◌, ◌<◌, ◌≤◌, Bool, true, false, cond, List, [], ◌∷◌, ◌++◌, length, map, drop, take, get_or, refl, sym, ap, ap₂, subst, ◌∙◌, append_assoc, append-nil, length-append, length-drop, length-take-le, drop-cons, set, ◌≢◌, inl, inr, arith, add-one}
+use Rattle.std.proofs.Common.{◌≡◌, ◌⊎◌, ℕ, zero, suc, ◌+◌, ◌<◌, ◌≤◌, Bool, true, false, cond, List, [], ◌∷◌, ◌++◌, length, map, drop, take, get_or, refl, sym, ap, ap₂, subst, ◌∙◌, length-take-le, drop-cons, set, ◌≢◌, inl, inr, arith, add-one}
 use Rattle.std.specs.Prelude.{Option, None, Some, not, unwrap_or}
 use Rattle.std.specs.Cmp.{decided}
 use Rattle.std.specs.HashMap.{HashMap, get}
 use Rattle.std.specs.Map.{lookup, remove_entry, update}
-use Rattle.std.proofs.lemmas.Bool.{lt-ltb, le-ltb, cases_lt, cases_Bool}
-use Rattle.std.proofs.lemmas.Bool.Decides.{not_from_Decides}
+use Rattle.std.proofs.lemmas.Bool.{lt-ltb, le-ltb, cases_lt}
 use Rattle.std.proofs.lemmas.List.{get_or-drop, get_or-map, get_or-set_other, get_or-set_same, get_or_default, length-map, map-append, take_more}
 use Rattle.mimic_expect.specs.Expect.{Key, same_key}
 use Rattle.mimic_expect.specs.Keys.{is_same, key_read, same_key-decides}

@@ -1,6 +1,6 @@
 -- Which known failures were met by the rows of reports, and what else the rows say (our own).
-use Rattle.std.specs.Prelude.{◌≡◌, ◌&&◌, ◌⊎◌, ℕ, Bool, true, false, cond, List, [], ◌∷◌, ◌++◌, filter, map, Option, Some, None}
-use Rattle.std.specs.List.{flat_map}
+use Rattle.std.specs.Prelude.{◌≡◌, ◌&&◌, ◌⊎◌, ℕ, Bool, true, false, cond, List, [], ◌∷◌, ◌++◌, filter, map, IsPermutation, Option, Some, None}
+use Rattle.std.specs.List.{AllByRecursion, flat_map}
 use Rattle.std.specs.Map.{lookup, remove_entry}
 use Rattle.std.specs.Option.{is_some, option_eq, option_or}
 use Rattle.std.specs.Str.{bytes_eq}
@@ -31,6 +31,10 @@ abbrev pub same_key : Key → Key → Bool
 same_key a b = bytes_eq a.label.kind b.label.kind && (bytes_eq a.label.name b.label.name && option_eq bytes_eq a.message b.message)
 
 -- ---- failures meet expectations, one after another
+
+-- the expectations, each by its key
+abbrev pub keyed : List Expected → List (Key × Expected)
+keyed expected = map (λ e. (key_in e.entry, e)) expected
 
 -- what a failure meets, of what is left: the first one of its message, and if there is none the first one of any message
 abbrev pub meets : {X : Type 0} → List (Key × X) → Entry → Option X
@@ -65,6 +69,20 @@ pub record Fits (expected : Expected) (row : Entry) : Type 0 where
   pub label : expected.entry.label ≡ row.label
   pub message : (message_of expected.entry.outcome ≡ None) ⊎ (message_of expected.entry.outcome ≡ message_of row.outcome)
 
+-- each expectation is met once or is left, each failure meets one or none, what meets fits, and no failure that meets none fits
+-- what is left
+pub record IsMatching (expected : List Expected) (failures : List Entry) : Type 0 where
+  pub lines : IsPermutation expected (map (λ m. m.0) (met_by (keyed expected) failures)
+      ++ map (λ x. x.1) (left_by (keyed expected) failures))
+  pub rows : IsPermutation failures (map (λ m. m.1) (met_by (keyed expected) failures) ++ unmet_by (keyed expected) failures)
+  pub fit : AllByRecursion (λ m. Fits m.0 m.1) (met_by (keyed expected) failures)
+  pub rest : AllByRecursion (λ row. AllByRecursion (λ x. Fits x.1 row → ⊥) (left_by (keyed expected) failures))
+      (unmet_by (keyed expected) failures)
+
+-- so it is with all known failures and all failures
+abbrev pub MatchingLaw : Type 0
+MatchingLaw = (expected : List Expected) (failures : List Entry) → IsMatching expected failures
+
 -- ---- rows answer what is left
 
 -- for each expectation the first row left with its kind and name
@@ -97,9 +115,6 @@ abbrev pub fate : Bool → Expected × Option Entry → List Finding
 fate are_all (e, Some row) = finding_of e row row.outcome
 fate are_all (e, None) = cond are_all (AbsentLine e ∷ []) []
 
-abbrev pub keyed : List Expected → List (Key × Expected)
-keyed expected = map (λ e. (key_in e.entry, e)) expected
-
 abbrev pub labelled : List Entry → List (Key × Entry)
 labelled rows = map (λ row. (any_in row, row)) rows
 
@@ -121,8 +136,12 @@ abbrev pub others_in : List Expected → List Entry → List Entry
 others_in expected rows = unmet_by (keyed expected) (rows_with is_failed rows)
     ++ (rows_with has_passed rows ++ rows_with is_ignored_outcome rows)
 
--- what the lines say that are left, in their order, and then the failures that answer nothing, in theirs
+-- what lines say with the rows that can answer them, and then the failures that answer none
+abbrev pub findings_with : List Expected → List Entry → Bool → List Finding
+findings_with left rows are_all = flat_map (fate are_all) (answers (labelled rows) left)
+    ++ map FailedRow (rows_with is_failed (map (λ x. x.1) (unanswered (labelled rows) left)))
+
+-- what is unexpected of the rows: first what the lines say that are left, in their order, and then the failures that are left, in
+-- theirs
 abbrev pub findings : List Expected → List Entry → Bool → List Finding
-findings expected rows are_all =
-    flat_map (fate are_all) (answers (labelled (others_in expected rows)) (left_in expected rows))
-    ++ map FailedRow (rows_with is_failed (map (λ x. x.1) (unanswered (labelled (others_in expected rows)) (left_in expected rows))))
+findings expected rows are_all = findings_with (left_in expected rows) (others_in expected rows) are_all

@@ -6,10 +6,8 @@ use Rattle.std.specs.Option.{option_copied, option_eq}
 use Rattle.std.specs.Str.{bytes_eq}
 use Rattle.std.specs.Hash as fed
 use Rattle.std.proofs.lemmas.Slice.Eq.{bytes_eq-Decides}
-use Rattle.mimic_printer.specs.Row.{Label}
 use Rattle.mimic_expect.specs.Expect.{Key, same_key}
 use Rattle.mimic_expect.specs.declared.key.Key.{Key as Found}
-use denote.Ref.{Bor}
 
 abbrev pub key_read : Found → Key
 key_read key = record { label = record { kind = key.kind.now; name = key.name.now }; message = option_copied key.message }

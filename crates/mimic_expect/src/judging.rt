@@ -1,13 +1,15 @@
 //! Judges the rows of reports by known failures.
-ghost use Rattle.std.specs.Prelude.{◌≡◌, ◌<◌, List, ℕ, All, IfOk, filter, length, map, slice_index_or};
+ghost use Rattle.std.specs.Prelude.{◌≡◌, ◌<◌, ◌++◌, List, ℕ, All, IfOk, OnOk, filter, length, map, option_map, slice_index_or};
+ghost use Rattle.std.specs.Map.{lookup, remove_entry};
+ghost use Rattle.std.specs.Option.{is_some, option_to_list};
 ghost use Rattle.mimic_trial.specs.Count.{is_failed, is_ignored_outcome};
+ghost use Rattle.mimic_printer.specs.Json.{Entry};
 ghost use Rattle.mimic_events.specs.Contents.{entry_read};
-ghost use Rattle.mimic_expect.specs.Expect.{Key as KeyRead, any_in, has_passed, key_in, left_by, meets, unmet_by, without};
-ghost use Rattle.mimic_expect.specs.Judging.{entries_read};
+ghost use Rattle.mimic_expect.specs.Expect.{FailedRow, Key as KeyRead, answers, any_in, fate, findings, findings_with, has_passed, key_in, keyed, left_by, meets, met_by, rows_with, same_key, unanswered, unmet_by, without};
+ghost use Rattle.mimic_expect.specs.Judging.{entries_read, expected_at, finding_read, row_at, said};
 ghost use Rattle.mimic_expect.specs.Keys.{key_read};
 ghost use Rattle.mimic_expect.specs.Known.{Expected, expected_read};
 ghost use Rattle.mimic_expect.specs.Pool.{HasLeft};
-ghost use Rattle.std.specs.Option.{is_some};
 
 use crate::key::Key;
 use crate::known::Expectation;
@@ -129,4 +131,189 @@ fn expectations_at<'a>(
         }
     }
     Ok(found)
+}
+
+// Returns the rows that can answer an expectation, in the order in which they do.
+fn others_in<'a>(
+    alloc: Global,
+    unmet: Vec<&'a Row>,
+    rows: &'a [Row],
+) -> Result<Vec<&'a Row>, AllocError>
+    ensures { IfOk result (λ others. map (λ row. row.now) others.items
+        ≡ map (λ row. row.now) unmet.entry.items ++ (filter (λ row. has_passed row.outcome) rows.now
+        ++ filter (λ row. is_ignored_outcome row.outcome) rows.now)) }
+{
+    let mut others = unmet;
+    others.extend_from_slice(&passed_in(alloc, rows)?)?;
+    others.extend_from_slice(&ignored_in(alloc, rows)?)?;
+    Ok(others)
+}
+
+// Takes the row that answers the expectation.
+fn answer<'a>(
+    others: &mut Pool<'a>,
+    rows: &[&'a Row],
+    expectation: &'a Expectation,
+) -> Option<&'a Row>
+    ensures { (left : List (KeyRead × ℕ)) → HasLeft others.old left
+        → (option_map (λ row. entry_read row.now) result ≡ row_at (entries_read rows.now)
+        (lookup (same_key (any_in (entry_read expectation.now.row))) left))
+        × HasLeft others.new (remove_entry (same_key (any_in (entry_read expectation.now.row))) left) }
+{
+    let place = others.take(&Key::any(&expectation.row))?;
+    match rows.get(place) {
+        Some(row) => Some(*row),
+        None => None,
+    }
+}
+
+// Returns what a line says with the row that answers it.
+fn finding<'a>(
+    expectation: &'a Expectation,
+    row: Option<&'a Row>,
+    are_all: bool,
+) -> Option<Unexpected<'a>>
+    ensures { option_to_list (option_map finding_read result)
+        ≡ fate are_all (expected_read expectation.now, option_map (λ row. entry_read row.now) row.entry) }
+{
+    let Some(row) = row else {
+        return if are_all {
+            Some(Unexpected::Absent(expectation))
+        } else {
+            None
+        };
+    };
+    match &row.outcome {
+        Outcome::Failed(_) => Some(Unexpected::AnotherMessage { expectation, row }),
+        Outcome::Passed | Outcome::Measured(_) => Some(Unexpected::Passed(expectation)),
+        Outcome::Ignored => None,
+    }
+}
+
+// Adds what the lines say that are left, and takes the rows that answer them.
+fn add_findings<'a>(
+    unexpected: &mut Vec<Unexpected<'a>>,
+    others: &mut Pool<'a>,
+    rows: &[&'a Row],
+    left: &[&'a Expectation],
+    are_all: bool,
+) -> Result<(), AllocError>
+    ensures { (items : List (KeyRead × ℕ)) → HasLeft others.old items → OnOk result
+        ((map finding_read unexpected.new.items ≡ map finding_read unexpected.old.items
+        ++ said are_all (entries_read rows.now) (answers items (expected_at left.now)))
+        × HasLeft others.new (unanswered items (expected_at left.now))) }
+{
+    for expectation in left {
+        let row = answer(others, rows, expectation);
+        if let Some(found) = finding(expectation, row, are_all) {
+            unexpected.push(found)?;
+        }
+    }
+    Ok(())
+}
+
+// Returns the rows at these places.
+fn rows_at<'a>(
+    alloc: Global,
+    rows: &[&'a Row],
+    places: &[usize],
+) -> Result<Vec<&'a Row>, AllocError>
+    ensures { IfOk result (λ found. All (λ place. place < length rows.now) places.now → (d : Entry)
+        → entries_read found.items
+        ≡ map (λ place. slice_index_or (entries_read rows.now) place d) places.now) }
+{
+    let mut found = Vec::new(alloc);
+    for place in places {
+        if let Some(row) = rows.get(*place) {
+            found.push(*row)?;
+        }
+    }
+    Ok(found)
+}
+
+// Adds the failures among the rows.
+fn add_failures<'a>(
+    unexpected: &mut Vec<Unexpected<'a>>,
+    rows: &[&'a Row],
+) -> Result<(), AllocError>
+    ensures { OnOk result (map finding_read unexpected.new.items ≡ map finding_read unexpected.old.items
+        ++ map FailedRow (rows_with is_failed (entries_read rows.now))) }
+{
+    for row in rows {
+        if let Outcome::Failed(_) = &row.outcome {
+            unexpected.push(Unexpected::Failed(*row))?;
+        }
+    }
+    Ok(())
+}
+
+/// What rows say, judged by known failures.
+#[derive(Debug, Drop)]
+pub struct Judgement<'a> {
+    /// The number of failures that are as a line says.
+    pub met: usize,
+    /// What is unexpected: first what the lines say that no failure met, in their order, and then the failures that no line
+    /// expects, in the order of their rows.
+    pub unexpected: Vec<Unexpected<'a>>,
+}
+
+/// Judges the rows by the known failures.
+///
+/// A failure meets one expectation of its kind and name: the first one of its message that is left, or else the first one of any
+/// message. What is left then is answered by a row of its kind and name that has met nothing: by a failure, which has another
+/// message, or else by one that passed or was measured, or else by an ignored one, of which nothing is said. Expectations that no
+/// row answers are absent; they count only if `are_all` says that all trials are among the rows.
+pub fn judge<'a>(
+    alloc: Global,
+    known: &'a [Expectation],
+    rows: &'a [Row],
+    are_all: bool,
+) -> Result<Judgement<'a>, AllocError>
+    ensures met { IfOk result (λ judgement. judgement.met ≡ length (met_by
+        (keyed (map expected_read known.now)) (rows_with is_failed (map entry_read rows.now)))) }
+    ensures unexpected { IfOk result (λ judgement. map finding_read judgement.unexpected.items
+        ≡ findings (map expected_read known.now) (map entry_read rows.now) are_all) }
+{
+    let failed = failed_in(alloc, rows)?;
+    let (left, unmet) = meeting(alloc, known, &failed)?;
+    let met = failed.len() - unmet.len();
+    let others = others_in(alloc, unmet, rows)?;
+    let unexpected = findings_of(alloc, &left, &others, are_all)?;
+    Ok(Judgement { met, unexpected })
+}
+
+// Returns the expectations that no failure meets, and the failures that meet none.
+fn meeting<'a>(
+    alloc: Global,
+    known: &'a [Expectation],
+    failed: &[&'a Row],
+) -> Result<(Vec<&'a Expectation>, Vec<&'a Row>), AllocError>
+    ensures { IfOk result (λ found. (expected_at found.0.items
+        ≡ map (λ x. x.1) (left_by (keyed (map expected_read known.now)) (entries_read failed.now)))
+        × (entries_read found.1.items
+        ≡ unmet_by (keyed (map expected_read known.now)) (entries_read failed.now))) }
+{
+    let mut pool = Pool::new(alloc, keys_of(alloc, known)?)?;
+    let unmet = unmet_in(alloc, &mut pool, failed)?;
+    let places = pool.left(alloc)?;
+    let left = expectations_at(alloc, known, &places)?;
+    Ok((left, unmet))
+}
+
+// Returns what the expectations that are left say with the rows that can answer them, and then the failures that answer none.
+fn findings_of<'a>(
+    alloc: Global,
+    left: &[&'a Expectation],
+    others: &[&'a Row],
+    are_all: bool,
+) -> Result<Vec<Unexpected<'a>>, AllocError>
+    ensures { IfOk result (λ unexpected. map finding_read unexpected.items
+        ≡ findings_with (expected_at left.now) (entries_read others.now) are_all) }
+{
+    let mut pool = Pool::new(alloc, labels_of(alloc, others)?)?;
+    let mut unexpected = Vec::new(alloc);
+    add_findings(&mut unexpected, &mut pool, others, left, are_all)?;
+    let places = pool.left(alloc)?;
+    add_failures(&mut unexpected, &rows_at(alloc, others, &places)?)?;
+    Ok(unexpected)
 }

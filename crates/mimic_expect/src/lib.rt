@@ -6,5 +6,5 @@ mod key;
 mod known;
 mod pool;
 
-pub use judging::Unexpected;
+pub use judging::{Judgement, Unexpected, judge};
 pub use known::{Expectation, KnownFault, read_known};

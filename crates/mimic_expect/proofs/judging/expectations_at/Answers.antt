@@ -1,4 +1,4 @@
-use Rattle.std.proofs.Common.{◌≡◌, ◌<◌, ◌∙◌, ap, arith, get_or, length, map, sym}
+use Rattle.std.proofs.Common.{◌∙◌, ap, arith, get_or, map}
 use Rattle.std.proofs.lemmas.List.{take_all}
 use Rattle.mimic_expect.specs.Known.{expected_read}
 use Rattle.mimic_expect.proofs.Meeting.{places_more}

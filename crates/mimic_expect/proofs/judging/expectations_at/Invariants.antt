@@ -1,4 +1,4 @@
-use Rattle.std.proofs.Common.{◌≡◌, ◌<◌, ℕ, List, length, map, take}
+use Rattle.std.proofs.Common.{◌≡◌, ◌<◌, length, map, take}
 use Rattle.std.specs.Prelude.{All, slice_index_or}
 use Rattle.mimic_expect.specs.Known.{Expected, expected_read}
 use Rattle.mimic_expect.proofs.judging.expectations_at.Given as goal

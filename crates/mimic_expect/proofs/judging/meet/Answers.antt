@@ -1,4 +1,4 @@
-use Rattle.std.proofs.Common.{◌≡◌, ◌∙◌, subst, sym}
+use Rattle.std.proofs.Common.{◌∙◌, subst, sym}
 use Rattle.mimic_events.specs.Contents.{entry_read}
 use Rattle.mimic_expect.specs.Keys.{key_read}
 use Rattle.mimic_expect.specs.Pool.{HasLeft}

@@ -1,4 +1,4 @@
-use Rattle.std.proofs.Common.{◌≡◌, ◌++◌, ◌∷◌, [], ◌∙◌, ap, append-nil, arith, cond, length, subst, sym, map}
+use Rattle.std.proofs.Common.{◌++◌, ◌∙◌, ap, append-nil, arith, subst, sym}
 use Rattle.std.proofs.lemmas.List.{drop_all}
 use Rattle.mimic_events.specs.Contents.{entry_read}
 use Rattle.mimic_expect.specs.Expect.{left_by, unmet_by, without}

@@ -1,4 +1,4 @@
-use Rattle.std.proofs.Common.{◌≡◌, ◌++◌, [], ◌∙◌, ap, append-nil, map, sym, cond, ◌∷◌, length, arith}
+use Rattle.std.proofs.Common.{◌++◌, [], ◌∙◌, ap, append-nil, map, sym, cond, ◌∷◌, length, arith}
 use Rattle.std.proofs.lemmas.List.{take_all}
 use Rattle.mimic_expect.specs.Keys.{key_read}
 use Rattle.mimic_expect.specs.Pool.{left_from}

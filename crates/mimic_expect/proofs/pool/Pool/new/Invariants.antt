@@ -1,4 +1,4 @@
-use Rattle.std.proofs.Common.{◌≡◌, ℕ, ◌+◌, ◌<◌, ◌≤◌, List, drop, get_or, length, map, unwrap_or}
+use Rattle.std.proofs.Common.{◌≡◌, ℕ, ◌+◌, ◌<◌, ◌≤◌, drop, get_or, length, map, unwrap_or}
 use Rattle.std.specs.HashMap.{get}
 use Rattle.mimic_expect.specs.Expect.{Key}
 use Rattle.mimic_expect.specs.Keys.{is_same, key_read}

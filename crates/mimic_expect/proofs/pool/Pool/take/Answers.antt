@@ -1,5 +1,4 @@
-use Rattle.std.proofs.Common.{◌≡◌, ◌<◌, ◌∙◌, Some, arith, refl, rules, sym, ap, get_or, length}
-use Rattle.std.proofs.lemmas.Bool.{ltb-false}
+use Rattle.std.proofs.Common.{◌≡◌, ◌∙◌, arith, refl, sym, ap, get_or, length}
 use Rattle.std.specs.Option.{is_some}
 use Rattle.std.specs.HashMap.{get}
 use Rattle.mimic_expect.specs.Keys.{is_same}
