@@ -1,10 +1,12 @@
 //! What of reports is not as a file of known failures says.
 #![tactic(auto)]
 
+mod expect;
 mod judging;
 mod key;
 mod known;
 mod pool;
 
+pub use expect::Judge;
 pub use judging::{Judgement, Unexpected, judge};
 pub use known::{Expectation, KnownFault, read_known};
