@@ -1,5 +1,5 @@
 -- Which known failures were met by the rows of reports, and what else the rows say (our own).
-use Rattle.std.specs.Prelude.{◌≡◌, ◌&&◌, ◌⊎◌, ℕ, Bool, true, false, cond, List, [], ◌∷◌, ◌++◌, filter, map, IsPermutation, Option, Some, None}
+use Rattle.std.specs.Prelude.{◌≡◌, ◌&&◌, ◌⊎◌, ℕ, Bool, true, false, cond, List, [], ◌∷◌, ◌++◌, filter, map, not, IsPermutation, Option, Some, None}
 use Rattle.std.specs.List.{AllByRecursion, flat_map}
 use Rattle.std.specs.Map.{lookup, remove_entry}
 use Rattle.std.specs.Option.{is_some, option_eq, option_or}
@@ -145,3 +145,8 @@ findings_with left rows are_all = flat_map (fate are_all) (answers (labelled row
 -- theirs
 abbrev pub findings : List Expected → List Entry → Bool → List Finding
 findings expected rows are_all = findings_with (left_in expected rows) (others_in expected rows) are_all
+
+-- the finding makes the rows unexpected: each does, but if it is lax a line whose trial passed does not
+abbrev pub counts : Bool → Finding → Bool
+counts lax (PassedLine e) = not lax
+counts lax other = true

@@ -1,11 +1,12 @@
 //! Judges the rows of reports by known failures.
 ghost use Rattle.std.specs.Prelude.{◌≡◌, ◌<◌, ◌++◌, List, ℕ, All, IfOk, OnOk, filter, length, map, option_map, slice_index_or};
+ghost use Rattle.std.specs.List.{list_any};
 ghost use Rattle.std.specs.Map.{lookup, remove_entry};
 ghost use Rattle.std.specs.Option.{is_some, option_to_list};
 ghost use Rattle.mimic_trial.specs.Count.{is_failed, is_ignored_outcome};
 ghost use Rattle.mimic_printer.specs.Json.{Entry};
 ghost use Rattle.mimic_events.specs.Contents.{entry_read};
-ghost use Rattle.mimic_expect.specs.Expect.{FailedRow, Key as KeyRead, answers, any_in, fate, findings, findings_with, has_passed, key_in, keyed, left_by, meets, met_by, rows_with, same_key, unanswered, unmet_by, without};
+ghost use Rattle.mimic_expect.specs.Expect.{FailedRow, Key as KeyRead, answers, any_in, counts, fate, findings, findings_with, has_passed, key_in, keyed, left_by, meets, met_by, rows_with, same_key, unanswered, unmet_by, without};
 ghost use Rattle.mimic_expect.specs.Judging.{entries_read, expected_at, finding_read, row_at, said};
 ghost use Rattle.mimic_expect.specs.Keys.{key_read};
 ghost use Rattle.mimic_expect.specs.Known.{Expected, expected_read};
@@ -316,4 +317,27 @@ fn findings_of<'a>(
     let places = pool.left(alloc)?;
     add_failures(&mut unexpected, &rows_at(alloc, others, &places)?)?;
     Ok(unexpected)
+}
+
+impl Judgement<'_> {
+    /// Whether anything is unexpected that counts: with `lax` a line whose trial passed doesn't.
+    pub fn is_unexpected(&self, lax: bool) -> bool
+        ensures { result ≡ list_any (λ found. counts lax (finding_read found)) self.now.unexpected.items }
+    {
+        self.unexpected.iter().any(|found| found.counts(lax))
+    }
+}
+
+impl Unexpected<'_> {
+    // Whether it makes the judgement one with unexpected rows.
+    fn counts(&self, lax: bool) -> bool
+        ensures { result ≡ counts lax (finding_read self.now) }
+    {
+        match self {
+            Unexpected::Passed(_) => !lax,
+            Unexpected::Failed(_) | Unexpected::AnotherMessage { .. } | Unexpected::Absent(_) => {
+                true
+            }
+        }
+    }
 }
