@@ -1,4 +1,5 @@
 pub mod Expect
+pub mod FindingText
 pub mod Judge
 pub mod Judging
 pub mod Keys

@@ -6,6 +6,7 @@ mod judging;
 mod key;
 mod known;
 mod pool;
+mod unexpected;
 
 pub use expect::Judge;
 pub use judging::{Judgement, Unexpected, judge};
