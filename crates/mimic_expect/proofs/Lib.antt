@@ -1,0 +1,7 @@
+mod Answering
+mod Judgements
+mod KnownLines
+pub mod Laws
+mod Meeting
+mod Numbers
+mod Pools

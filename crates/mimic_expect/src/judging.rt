@@ -1,0 +1,343 @@
+//! Judges the rows of reports by known failures.
+ghost use Rattle.std.specs.Prelude.{◌≡◌, ◌<◌, ◌++◌, List, ℕ, All, IfOk, OnOk, filter, length, map, option_map, slice_index_or};
+ghost use Rattle.std.specs.List.{list_any};
+ghost use Rattle.std.specs.Map.{lookup, remove_entry};
+ghost use Rattle.std.specs.Option.{is_some, option_to_list};
+ghost use Rattle.mimic_trial.specs.Count.{is_failed, is_ignored_outcome};
+ghost use Rattle.mimic_printer.specs.Json.{Entry};
+ghost use Rattle.mimic_events.specs.Contents.{entry_read};
+ghost use Rattle.mimic_expect.specs.Expect.{FailedRow, Key as KeyRead, answers, any_in, counts, fate, findings, findings_with, has_passed, key_in, keyed, left_by, meets, met_by, rows_with, same_key, unanswered, unmet_by, without};
+ghost use Rattle.mimic_expect.specs.Judging.{entries_read, expected_at, finding_read, row_at, said};
+ghost use Rattle.mimic_expect.specs.Keys.{key_read};
+ghost use Rattle.mimic_expect.specs.Known.{Expected, expected_read};
+ghost use Rattle.mimic_expect.specs.Pool.{HasLeft};
+
+use crate::key::Key;
+use crate::known::Expectation;
+use crate::pool::Pool;
+use mimic_events::Row;
+use mimic_trial::Outcome;
+use std::alloc::{AllocError, Global};
+
+/// What is not as the known failures say.
+#[derive(Debug, Clone, Copy)]
+pub enum Unexpected<'a> {
+    /// The row failed, and no line expects that.
+    Failed(&'a Row),
+    /// The row failed with another message than the line says.
+    AnotherMessage {
+        expectation: &'a Expectation,
+        row: &'a Row,
+    },
+    /// The trial of the line passed or was measured.
+    Passed(&'a Expectation),
+    /// No row of the trial of the line is there.
+    Absent(&'a Expectation),
+}
+
+// Returns the keys of the expectations.
+fn keys_of(alloc: Global, known: &[Expectation]) -> Result<Vec<Key<'_>>, AllocError>
+    ensures { IfOk result (λ keys. map key_read keys.items
+        ≡ map (λ expectation. key_in (entry_read expectation.row)) known.now) }
+{
+    let mut keys = Vec::new(alloc);
+    for expectation in known {
+        keys.push(Key::of(&expectation.row))?;
+    }
+    Ok(keys)
+}
+
+// Returns the kinds and names of the rows.
+fn labels_of<'a>(alloc: Global, rows: &[&'a Row]) -> Result<Vec<Key<'a>>, AllocError>
+    ensures { IfOk result (λ keys. map key_read keys.items
+        ≡ map any_in (entries_read rows.now)) }
+{
+    let mut keys = Vec::new(alloc);
+    for row in rows {
+        keys.push(Key::any(row))?;
+    }
+    Ok(keys)
+}
+
+fn failed_in(alloc: Global, rows: &[Row]) -> Result<Vec<&Row>, AllocError>
+    ensures { IfOk result
+        (λ found. map (λ row. row.now) found.items ≡ filter (λ row. is_failed row.outcome) rows.now) }
+{
+    rows.iter()
+        .filter(|row| matches!(row.outcome, Outcome::Failed(_)))
+        .collect(alloc)
+}
+
+fn passed_in(alloc: Global, rows: &[Row]) -> Result<Vec<&Row>, AllocError>
+    ensures { IfOk result
+        (λ found. map (λ row. row.now) found.items ≡ filter (λ row. has_passed row.outcome) rows.now) }
+{
+    rows.iter()
+        .filter(|row| matches!(row.outcome, Outcome::Passed | Outcome::Measured(_)))
+        .collect(alloc)
+}
+
+fn ignored_in(alloc: Global, rows: &[Row]) -> Result<Vec<&Row>, AllocError>
+    ensures { IfOk result
+        (λ found. map (λ row. row.now) found.items
+        ≡ filter (λ row. is_ignored_outcome row.outcome) rows.now) }
+{
+    rows.iter()
+        .filter(|row| matches!(row.outcome, Outcome::Ignored))
+        .collect(alloc)
+}
+
+// Takes what the failure meets, if anything.
+fn meet<'a>(pool: &mut Pool<'a>, row: &'a Row) -> bool
+    ensures { (left : List (KeyRead × ℕ)) → HasLeft pool.old left
+        → (result ≡ is_some (meets left (entry_read row.now)))
+        × HasLeft pool.new (without left (entry_read row.now)) }
+{
+    pool.take(&Key::of(row)).is_some() || pool.take(&Key::any(row)).is_some()
+}
+
+// Returns the failures that meet nothing, and takes from the pool what the others meet.
+fn unmet_in<'a>(
+    alloc: Global,
+    pool: &mut Pool<'a>,
+    failed: &[&'a Row],
+) -> Result<Vec<&'a Row>, AllocError>
+    ensures { (left : List (KeyRead × ℕ)) → HasLeft pool.old left → IfOk result
+        (λ unmet. (entries_read unmet.items ≡ unmet_by left (entries_read failed.now))
+        × HasLeft pool.new (left_by left (entries_read failed.now))) }
+{
+    let mut unmet = Vec::new(alloc);
+    for row in failed {
+        if !meet(pool, row) {
+            unmet.push(*row)?;
+        }
+    }
+    Ok(unmet)
+}
+
+// Returns the expectations at these places.
+fn expectations_at<'a>(
+    alloc: Global,
+    known: &'a [Expectation],
+    places: &[usize],
+) -> Result<Vec<&'a Expectation>, AllocError>
+    ensures { IfOk result (λ found. All (λ place. place < length known.now) places.now → (d : Expected)
+        → map (λ e. expected_read e.now) found.items
+        ≡ map (λ place. slice_index_or (map expected_read known.now) place d) places.now) }
+{
+    let mut found = Vec::new(alloc);
+    for place in places {
+        if let Some(expectation) = known.get(*place) {
+            found.push(expectation)?;
+        }
+    }
+    Ok(found)
+}
+
+// Returns the rows that can answer an expectation, in the order in which they do.
+fn others_in<'a>(
+    alloc: Global,
+    unmet: Vec<&'a Row>,
+    rows: &'a [Row],
+) -> Result<Vec<&'a Row>, AllocError>
+    ensures { IfOk result (λ others. map (λ row. row.now) others.items
+        ≡ map (λ row. row.now) unmet.entry.items ++ (filter (λ row. has_passed row.outcome) rows.now
+        ++ filter (λ row. is_ignored_outcome row.outcome) rows.now)) }
+{
+    let mut others = unmet;
+    others.extend_from_slice(&passed_in(alloc, rows)?)?;
+    others.extend_from_slice(&ignored_in(alloc, rows)?)?;
+    Ok(others)
+}
+
+// Takes the row that answers the expectation.
+fn answer<'a>(
+    others: &mut Pool<'a>,
+    rows: &[&'a Row],
+    expectation: &'a Expectation,
+) -> Option<&'a Row>
+    ensures { (left : List (KeyRead × ℕ)) → HasLeft others.old left
+        → (option_map (λ row. entry_read row.now) result ≡ row_at (entries_read rows.now)
+        (lookup (same_key (any_in (entry_read expectation.now.row))) left))
+        × HasLeft others.new (remove_entry (same_key (any_in (entry_read expectation.now.row))) left) }
+{
+    let place = others.take(&Key::any(&expectation.row))?;
+    match rows.get(place) {
+        Some(row) => Some(*row),
+        None => None,
+    }
+}
+
+// Returns what a line says with the row that answers it.
+fn finding<'a>(
+    expectation: &'a Expectation,
+    row: Option<&'a Row>,
+    are_all: bool,
+) -> Option<Unexpected<'a>>
+    ensures { option_to_list (option_map finding_read result)
+        ≡ fate are_all (expected_read expectation.now, option_map (λ row. entry_read row.now) row.entry) }
+{
+    let Some(row) = row else {
+        return if are_all {
+            Some(Unexpected::Absent(expectation))
+        } else {
+            None
+        };
+    };
+    match &row.outcome {
+        Outcome::Failed(_) => Some(Unexpected::AnotherMessage { expectation, row }),
+        Outcome::Passed | Outcome::Measured(_) => Some(Unexpected::Passed(expectation)),
+        Outcome::Ignored => None,
+    }
+}
+
+// Adds what the lines say that are left, and takes the rows that answer them.
+fn add_findings<'a>(
+    unexpected: &mut Vec<Unexpected<'a>>,
+    others: &mut Pool<'a>,
+    rows: &[&'a Row],
+    left: &[&'a Expectation],
+    are_all: bool,
+) -> Result<(), AllocError>
+    ensures { (items : List (KeyRead × ℕ)) → HasLeft others.old items → OnOk result
+        ((map finding_read unexpected.new.items ≡ map finding_read unexpected.old.items
+        ++ said are_all (entries_read rows.now) (answers items (expected_at left.now)))
+        × HasLeft others.new (unanswered items (expected_at left.now))) }
+{
+    for expectation in left {
+        let row = answer(others, rows, expectation);
+        if let Some(found) = finding(expectation, row, are_all) {
+            unexpected.push(found)?;
+        }
+    }
+    Ok(())
+}
+
+// Returns the rows at these places.
+fn rows_at<'a>(
+    alloc: Global,
+    rows: &[&'a Row],
+    places: &[usize],
+) -> Result<Vec<&'a Row>, AllocError>
+    ensures { IfOk result (λ found. All (λ place. place < length rows.now) places.now → (d : Entry)
+        → entries_read found.items
+        ≡ map (λ place. slice_index_or (entries_read rows.now) place d) places.now) }
+{
+    let mut found = Vec::new(alloc);
+    for place in places {
+        if let Some(row) = rows.get(*place) {
+            found.push(*row)?;
+        }
+    }
+    Ok(found)
+}
+
+// Adds the failures among the rows.
+fn add_failures<'a>(
+    unexpected: &mut Vec<Unexpected<'a>>,
+    rows: &[&'a Row],
+) -> Result<(), AllocError>
+    ensures { OnOk result (map finding_read unexpected.new.items ≡ map finding_read unexpected.old.items
+        ++ map FailedRow (rows_with is_failed (entries_read rows.now))) }
+{
+    for row in rows {
+        if let Outcome::Failed(_) = &row.outcome {
+            unexpected.push(Unexpected::Failed(*row))?;
+        }
+    }
+    Ok(())
+}
+
+/// What rows say, judged by known failures.
+#[derive(Debug, Drop)]
+pub struct Judgement<'a> {
+    /// The number of failures that are as a line says.
+    pub met: usize,
+    /// What is unexpected: first what the lines say that no failure met, in their order, and then the failures that no line
+    /// expects, in the order of their rows.
+    pub unexpected: Vec<Unexpected<'a>>,
+}
+
+/// Judges the rows by the known failures.
+///
+/// A failure meets one expectation of its kind and name: the first one of its message that is left, or else the first one of any
+/// message. What is left then is answered by a row of its kind and name that has met nothing: by a failure, which has another
+/// message, or else by one that passed or was measured, or else by an ignored one, of which nothing is said. Expectations that no
+/// row answers are absent; they count only if `are_all` says that all trials are among the rows.
+pub fn judge<'a>(
+    alloc: Global,
+    known: &'a [Expectation],
+    rows: &'a [Row],
+    are_all: bool,
+) -> Result<Judgement<'a>, AllocError>
+    ensures met { IfOk result (λ judgement. judgement.met ≡ length (met_by
+        (keyed (map expected_read known.now)) (rows_with is_failed (map entry_read rows.now)))) }
+    ensures unexpected { IfOk result (λ judgement. map finding_read judgement.unexpected.items
+        ≡ findings (map expected_read known.now) (map entry_read rows.now) are_all) }
+{
+    let failed = failed_in(alloc, rows)?;
+    let (left, unmet) = meeting(alloc, known, &failed)?;
+    let met = failed.len() - unmet.len();
+    let others = others_in(alloc, unmet, rows)?;
+    let unexpected = findings_of(alloc, &left, &others, are_all)?;
+    Ok(Judgement { met, unexpected })
+}
+
+// Returns the expectations that no failure meets, and the failures that meet none.
+fn meeting<'a>(
+    alloc: Global,
+    known: &'a [Expectation],
+    failed: &[&'a Row],
+) -> Result<(Vec<&'a Expectation>, Vec<&'a Row>), AllocError>
+    ensures { IfOk result (λ found. (expected_at found.0.items
+        ≡ map (λ x. x.1) (left_by (keyed (map expected_read known.now)) (entries_read failed.now)))
+        × (entries_read found.1.items
+        ≡ unmet_by (keyed (map expected_read known.now)) (entries_read failed.now))) }
+{
+    let mut pool = Pool::new(alloc, keys_of(alloc, known)?)?;
+    let unmet = unmet_in(alloc, &mut pool, failed)?;
+    let places = pool.left(alloc)?;
+    let left = expectations_at(alloc, known, &places)?;
+    Ok((left, unmet))
+}
+
+// Returns what the expectations that are left say with the rows that can answer them, and then the failures that answer none.
+fn findings_of<'a>(
+    alloc: Global,
+    left: &[&'a Expectation],
+    others: &[&'a Row],
+    are_all: bool,
+) -> Result<Vec<Unexpected<'a>>, AllocError>
+    ensures { IfOk result (λ unexpected. map finding_read unexpected.items
+        ≡ findings_with (expected_at left.now) (entries_read others.now) are_all) }
+{
+    let mut pool = Pool::new(alloc, labels_of(alloc, others)?)?;
+    let mut unexpected = Vec::new(alloc);
+    add_findings(&mut unexpected, &mut pool, others, left, are_all)?;
+    let places = pool.left(alloc)?;
+    add_failures(&mut unexpected, &rows_at(alloc, others, &places)?)?;
+    Ok(unexpected)
+}
+
+impl Judgement<'_> {
+    /// Whether anything is unexpected that counts: with `lax` a line whose trial passed doesn't.
+    pub fn is_unexpected(&self, lax: bool) -> bool
+        ensures { result ≡ list_any (λ found. counts lax (finding_read found)) self.now.unexpected.items }
+    {
+        self.unexpected.iter().any(|found| found.counts(lax))
+    }
+}
+
+impl Unexpected<'_> {
+    // Whether it makes the judgement one with unexpected rows.
+    fn counts(&self, lax: bool) -> bool
+        ensures { result ≡ counts lax (finding_read self.now) }
+    {
+        match self {
+            Unexpected::Passed(_) => !lax,
+            Unexpected::Failed(_) | Unexpected::AnotherMessage { .. } | Unexpected::Absent(_) => {
+                true
+            }
+        }
+    }
+}
