@@ -41,12 +41,22 @@ pub(crate) struct Show {
     pub(crate) file: String,
 }
 
+/// The reports in these files are to be compared with the known failures in a file.
+#[derive(Debug, Drop)]
+pub(crate) struct Expect {
+    /// Whether known failures may pass.
+    pub(crate) lax: bool,
+    pub(crate) known: String,
+    pub(crate) files: Vec<String>,
+}
+
 /// What a line asks for.
 #[derive(Debug, Drop)]
 pub(crate) enum Line {
     Join(Join),
     Junit(Junit),
     Show(Show),
+    Expect(Expect),
 }
 
 /// Why a line asks for nothing.
@@ -74,8 +84,11 @@ impl Line {
         if let Some(junit) = matches.subcommand_matches("junit") {
             return Ok(Line::Junit(Junit::from_matches(alloc, junit)?));
         }
-        match matches.subcommand_matches("show") {
-            Some(show) => Ok(Line::Show(Show::from_matches(alloc, show)?)),
+        if let Some(show) = matches.subcommand_matches("show") {
+            return Ok(Line::Show(Show::from_matches(alloc, show)?));
+        }
+        match matches.subcommand_matches("expect") {
+            Some(expect) => Ok(Line::Expect(Expect::from_matches(alloc, expect)?)),
             // `clap` has refused a line without a subcommand.
             None => Err(LineError::OutOfMemory),
         }
@@ -121,6 +134,22 @@ impl Show {
     }
 }
 
+impl Expect {
+    fn from_matches(alloc: Global, matches: &ArgMatches<'_>) -> Result<Expect, LineError> {
+        let known = matches.get_str("KNOWN").unwrap_or(STANDARD);
+        let files = files_of(alloc, matches)?;
+        if known == STANDARD && files.iter().any(|file| file.as_str() == STANDARD) {
+            return Err(LineError::TwoInputs);
+        }
+        Ok(Expect {
+            lax: matches.get_flag("lax"),
+            // It is required.
+            known: String::from_str(alloc, known)?,
+            files,
+        })
+    }
+}
+
 // Returns the names of the files, of which one at most is standard input.
 fn files_of(alloc: Global, matches: &ArgMatches<'_>) -> Result<Vec<String>, LineError> {
     let mut files = Vec::new(alloc);
@@ -143,7 +172,8 @@ fn command<'a>(alloc: Global) -> Result<Command<'a>, AllocError> {
         .subcommand_required(true)
         .subcommand(join_command(alloc)?)?
         .subcommand(junit_command(alloc)?)?
-        .subcommand(show_command(alloc)?)
+        .subcommand(show_command(alloc)?)?
+        .subcommand(expect_command(alloc)?)
 }
 
 fn join_command<'a>(alloc: Global) -> Result<Command<'a>, AllocError> {
@@ -201,6 +231,25 @@ fn show_command<'a>(alloc: Global) -> Result<Command<'a>, AllocError> {
         .arg(failed)?
         .arg(color)?
         .arg(file)
+}
+
+fn expect_command<'a>(alloc: Global) -> Result<Command<'a>, AllocError> {
+    let lax = Arg::new(alloc, "lax")
+        .long("lax")
+        .action(ArgAction::SetTrue)
+        .help("Let known failures pass");
+    let known = Arg::new(alloc, "KNOWN").required(true).help(
+        "Lines of failed trials of a report, with # comments between; - is standard input",
+    );
+    let files = Arg::new(alloc, "FILE")
+        .required(true)
+        .action(ArgAction::Append)
+        .help("Reports in JSON; - is standard input");
+    Command::new(alloc, "expect")
+        .about("Print what is not as known failures say")
+        .arg(lax)?
+        .arg(known)?
+        .arg(files)
 }
 
 impl From<AllocError> for LineError {

@@ -1,6 +1,7 @@
 //! Reads reports in JSON: joins those of shards into one, and prints them as JUnit's XML or as the harness does.
 #![tactic(auto)]
 
+mod expect;
 mod input;
 mod junit;
 mod line;
@@ -33,6 +34,7 @@ fn main(rt: HostRuntime) -> ExitCode {
         Ok(Line::Join(join)) => run(&rt, alloc, &join),
         Ok(Line::Junit(junit)) => junit::run(&rt, alloc, &junit),
         Ok(Line::Show(show)) => show::run(&rt, alloc, &show),
+        Ok(Line::Expect(expect)) => expect::run(&rt, alloc, &expect),
         Err(error) => refuse(&rt, &error),
     };
     ExitCode::from(status)
