@@ -28,7 +28,8 @@ abbrev pub any_in : Entry → Key
 any_in entry = record { label = entry.label; message = None }
 
 abbrev pub same_key : Key → Key → Bool
-same_key a b = bytes_eq a.label.kind b.label.kind && (bytes_eq a.label.name b.label.name && option_eq bytes_eq a.message b.message)
+same_key a b =
+    bytes_eq a.label.kind b.label.kind && (bytes_eq a.label.name b.label.name && option_eq bytes_eq a.message b.message)
 
 -- ---- failures meet expectations, one after another
 
@@ -53,7 +54,8 @@ left_by left (row ∷ rows) = left_by (without left row) rows
 -- the failures that meet nothing
 abbrev pub unmet_by : {X : Type 0} → List (Key × X) → List Entry → List Entry
 unmet_by left [] = []
-unmet_by left (row ∷ rows) = cond (is_some (meets left row)) (unmet_by (without left row) rows) (row ∷ unmet_by (without left row) rows)
+unmet_by left (row ∷ rows) =
+    cond (is_some (meets left row)) (unmet_by (without left row) rows) (row ∷ unmet_by (without left row) rows)
 
 abbrev pub with_row : {X : Type 0} → Option X → Entry → List (X × Entry) → List (X × Entry)
 with_row (Some x) row met = (x, row) ∷ met
@@ -131,7 +133,7 @@ has_passed other = false
 abbrev pub left_in : List Expected → List Entry → List Expected
 left_in expected rows = map (λ x. x.1) (left_by (keyed expected) (rows_with is_failed rows))
 
--- the rows that can answer them: failures that met nothing come before those that passed, and these before those that were ignored
+-- the rows that can answer them: first failures that met nothing, then rows that passed, and then ignored ones
 abbrev pub others_in : List Expected → List Entry → List Entry
 others_in expected rows = unmet_by (keyed expected) (rows_with is_failed rows)
     ++ (rows_with has_passed rows ++ rows_with is_ignored_outcome rows)
