@@ -152,3 +152,21 @@ findings expected rows are_all = findings_with (left_in expected rows) (others_i
 abbrev pub counts : Bool → Finding → Bool
 counts lax (PassedLine e) = not lax
 counts lax other = true
+
+-- ---- which finding it is
+
+abbrev pub is_failed_row : Finding → Bool
+is_failed_row (FailedRow row) = true
+is_failed_row other = false
+
+abbrev pub is_other_message : Finding → Bool
+is_other_message (OtherMessage e row) = true
+is_other_message other = false
+
+abbrev pub is_passed_line : Finding → Bool
+is_passed_line (PassedLine e) = true
+is_passed_line other = false
+
+abbrev pub is_absent_line : Finding → Bool
+is_absent_line (AbsentLine e) = true
+is_absent_line other = false
