@@ -28,7 +28,8 @@ abbrev pub any_in : Entry → Key
 any_in entry = record { label = entry.label; message = None }
 
 abbrev pub same_key : Key → Key → Bool
-same_key a b = bytes_eq a.label.kind b.label.kind && (bytes_eq a.label.name b.label.name && option_eq bytes_eq a.message b.message)
+same_key a b =
+    bytes_eq a.label.kind b.label.kind && (bytes_eq a.label.name b.label.name && option_eq bytes_eq a.message b.message)
 
 -- ---- failures meet expectations, one after another
 
@@ -53,7 +54,8 @@ left_by left (row ∷ rows) = left_by (without left row) rows
 -- the failures that meet nothing
 abbrev pub unmet_by : {X : Type 0} → List (Key × X) → List Entry → List Entry
 unmet_by left [] = []
-unmet_by left (row ∷ rows) = cond (is_some (meets left row)) (unmet_by (without left row) rows) (row ∷ unmet_by (without left row) rows)
+unmet_by left (row ∷ rows) =
+    cond (is_some (meets left row)) (unmet_by (without left row) rows) (row ∷ unmet_by (without left row) rows)
 
 abbrev pub with_row : {X : Type 0} → Option X → Entry → List (X × Entry) → List (X × Entry)
 with_row (Some x) row met = (x, row) ∷ met
@@ -131,7 +133,7 @@ has_passed other = false
 abbrev pub left_in : List Expected → List Entry → List Expected
 left_in expected rows = map (λ x. x.1) (left_by (keyed expected) (rows_with is_failed rows))
 
--- the rows that can answer them: failures that met nothing come before those that passed, and these before those that were ignored
+-- the rows that can answer them: first failures that met nothing, then rows that passed, and then ignored ones
 abbrev pub others_in : List Expected → List Entry → List Entry
 others_in expected rows = unmet_by (keyed expected) (rows_with is_failed rows)
     ++ (rows_with has_passed rows ++ rows_with is_ignored_outcome rows)
@@ -150,3 +152,21 @@ findings expected rows are_all = findings_with (left_in expected rows) (others_i
 abbrev pub counts : Bool → Finding → Bool
 counts lax (PassedLine e) = not lax
 counts lax other = true
+
+-- ---- which finding it is
+
+abbrev pub is_failed_row : Finding → Bool
+is_failed_row (FailedRow row) = true
+is_failed_row other = false
+
+abbrev pub is_other_message : Finding → Bool
+is_other_message (OtherMessage e row) = true
+is_other_message other = false
+
+abbrev pub is_passed_line : Finding → Bool
+is_passed_line (PassedLine e) = true
+is_passed_line other = false
+
+abbrev pub is_absent_line : Finding → Bool
+is_absent_line (AbsentLine e) = true
+is_absent_line other = false

@@ -64,7 +64,11 @@ same_key-decides a b =
 pub same_laws : IsEquivalence is_same
 same_laws =
     let e = decided same_key same_key-decides in
-    record { refl = λ x. e.refl (key_read x); symm = λ x y. e.symm (key_read x) (key_read y); congr = λ x y z h. e.congr (key_read x) (key_read y) (key_read z) h }
+    record {
+      refl = λ x. e.refl (key_read x);
+      symm = λ x y. e.symm (key_read x) (key_read y);
+      congr = λ x y z h. e.congr (key_read x) (key_read y) (key_read z) h;
+    }
 
 pub same_fed : (a b : Found) → is_same a b ≡ true → fed_key (key_read a) ≡ fed_key (key_read b)
 same_fed a b h = ap fed_key (key_is (key_read a) (key_read b) h)

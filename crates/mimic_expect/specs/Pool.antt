@@ -30,7 +30,8 @@ left_from first from (key ∷ keys) =
 -- each key leads to the next one that is the same, or to the end
 pub record AreChained (first : Key → Option ℕ) (next : List ℕ) (keys : List Key) : Type 0 where
   pub long : length next ≡ length keys
-  pub own : (key : Key) (number : ℕ) (d : Key) → first key ≡ Some number → number < length keys → slice_index_or keys number d ≡ key
+  pub own : (key : Key) (number : ℕ) (d : Key) → first key ≡ Some number → number < length keys
+      → slice_index_or keys number d ≡ key
   pub leads : (number : ℕ) (d : Key) → number < length keys → slice_index next number
       ≡ unwrap_or (first_from (number + 1) (drop (number + 1) keys) (slice_index_or keys number d)) (length keys)
 

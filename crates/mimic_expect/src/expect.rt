@@ -19,8 +19,9 @@ use std::alloc::{AllocError, Global};
 use std::collections::HashSet;
 use std::marker::Model;
 
-/// Judges rows that come one by one. It keeps those whose kind and name a known failure has, and no others. Contracts see the known
-/// failures and the rows that were kept.
+/// Judges rows that come one by one. It keeps those whose kind and name a known failure has, and no others.
+///
+/// Contracts see the known failures and the rows that were kept.
 #[derive(Drop)]
 pub struct Judge<'a> {
     known: &'a [Expectation],

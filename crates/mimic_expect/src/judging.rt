@@ -1,12 +1,12 @@
 //! Judges the rows of reports by known failures.
-ghost use Rattle.std.specs.Prelude.{◌≡◌, ◌<◌, ◌++◌, List, ℕ, All, IfOk, OnOk, filter, length, map, option_map, slice_index_or};
+ghost use Rattle.std.specs.Prelude.{◌≡◌, ◌<◌, ◌++◌, List, ℕ, All, IfOk, OnOk, count_by, filter, length, map, option_map, slice_index_or};
 ghost use Rattle.std.specs.List.{list_any};
 ghost use Rattle.std.specs.Map.{lookup, remove_entry};
 ghost use Rattle.std.specs.Option.{is_some, option_to_list};
 ghost use Rattle.mimic_trial.specs.Count.{is_failed, is_ignored_outcome};
 ghost use Rattle.mimic_printer.specs.Json.{Entry};
 ghost use Rattle.mimic_events.specs.Contents.{entry_read};
-ghost use Rattle.mimic_expect.specs.Expect.{FailedRow, Key as KeyRead, answers, any_in, counts, fate, findings, findings_with, has_passed, key_in, keyed, left_by, meets, met_by, rows_with, same_key, unanswered, unmet_by, without};
+ghost use Rattle.mimic_expect.specs.Expect.{FailedRow, Key as KeyRead, answers, any_in, counts, fate, findings, findings_with, has_passed, is_absent_line, is_failed_row, is_other_message, is_passed_line, key_in, keyed, left_by, meets, met_by, rows_with, same_key, unanswered, unmet_by, without};
 ghost use Rattle.mimic_expect.specs.Judging.{entries_read, expected_at, finding_read, row_at, said};
 ghost use Rattle.mimic_expect.specs.Keys.{key_read};
 ghost use Rattle.mimic_expect.specs.Known.{Expected, expected_read};
@@ -325,6 +325,46 @@ impl Judgement<'_> {
         ensures { result ≡ list_any (λ found. counts lax (finding_read found)) self.now.unexpected.items }
     {
         self.unexpected.iter().any(|found| found.counts(lax))
+    }
+
+    /// Counts the failures that no line expects.
+    pub fn failed(&self) -> usize
+        ensures { result ≡ count_by (λ found. is_failed_row (finding_read found)) self.now.unexpected.items }
+    {
+        self.unexpected
+            .iter()
+            .filter(|found| matches!(found, Unexpected::Failed(_)))
+            .count()
+    }
+
+    /// Counts the failures with another message than a line says.
+    pub fn another_message(&self) -> usize
+        ensures { result ≡ count_by (λ found. is_other_message (finding_read found)) self.now.unexpected.items }
+    {
+        self.unexpected
+            .iter()
+            .filter(|found| matches!(found, Unexpected::AnotherMessage { .. }))
+            .count()
+    }
+
+    /// Counts the lines whose trial passed or was measured.
+    pub fn passed(&self) -> usize
+        ensures { result ≡ count_by (λ found. is_passed_line (finding_read found)) self.now.unexpected.items }
+    {
+        self.unexpected
+            .iter()
+            .filter(|found| matches!(found, Unexpected::Passed(_)))
+            .count()
+    }
+
+    /// Counts the lines whose trial is absent.
+    pub fn absent(&self) -> usize
+        ensures { result ≡ count_by (λ found. is_absent_line (finding_read found)) self.now.unexpected.items }
+    {
+        self.unexpected
+            .iter()
+            .filter(|found| matches!(found, Unexpected::Absent(_)))
+            .count()
     }
 }
 

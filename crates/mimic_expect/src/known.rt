@@ -26,7 +26,8 @@ pub enum KnownFault {
     /// An allocation failed.
     #[error("out of memory")]
     OutOfMemory,
-    /// The line of this number, counted from 1, is the first that is neither empty, nor a comment, nor the line of a failed trial.
+    /// The line of this number, counted from 1, is the first that is neither empty nor a comment, and says of no trial that it
+    /// failed.
     #[error("not the line of a failed trial")]
     Line(usize),
 }
