@@ -187,18 +187,12 @@ fn print_judgement<W: Write + Drop>(
     out: W,
 ) -> Result<(), ShowFault> {
     let mut out = out;
-    let (mut failed, mut passed, mut messages, mut absent) = (failed, 0_u64, 0_u64, 0_u64);
     for unexpected in &judgement.unexpected {
-        let number = match unexpected {
-            Unexpected::Failed(_) => &mut failed,
-            Unexpected::Passed(_) => &mut passed,
-            Unexpected::AnotherMessage { .. } => &mut messages,
-            Unexpected::Absent(_) => &mut absent,
-        };
-        *number = number.saturating_add(1);
         out = print_line(unexpected, out)?;
     }
-    let met = judgement.met;
+    let failed = failed.saturating_add(judgement.failed() as u64);
+    let (met, passed) = (judgement.met, judgement.passed());
+    let (messages, absent) = (judgement.another_message(), judgement.absent());
     let line = format!(in alloc;
         "{met} known failures; {failed} failed; {passed} passed; {messages} with another message; {absent} absent\n"
     )?;
