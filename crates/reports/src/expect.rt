@@ -3,7 +3,7 @@ use crate::input::Input;
 use crate::line::Expect;
 use crate::{BLOCK, REFUSED, SUCCESS, TRIALS_FAILED};
 use mimic_events::Follower;
-use mimic_expect::{Expectation, Judge, Judgement, Unexpected, read_known};
+use mimic_expect::{Expectation, Judge, Judgement, KnownFault, Unexpected, read_known};
 use mimic_printer::Sink;
 use mimic_reports::ShowFault;
 use std::alloc::{AllocError, Global};
@@ -33,7 +33,7 @@ pub(crate) fn run(rt: &HostRuntime, alloc: Global, expect: &Expect) -> u8 {
     };
     let known = match known {
         Ok(known) => known,
-        Err(fault) => return refuse(rt, file, &fault),
+        Err(fault) => return refuse_known(rt, file, &fault),
     };
     let Ok(out) = BufWriter::with_capacity(alloc, BLOCK, rt.stdout()) else {
         return refuse_all(rt, &ShowFault::OutOfMemory);
@@ -200,6 +200,16 @@ fn print_judgement<W: Write + Drop>(
     sink.put(line.as_bytes())?;
     sink.flush()?;
     Ok(())
+}
+
+// Says why the file has no known failures.
+fn refuse_known(rt: &HostRuntime, file: &str, fault: &KnownFault) -> u8 {
+    if let KnownFault::Line(line) = fault {
+        let _ = eprintln!(rt; "reports: {file}: line {line}: {fault}");
+        REFUSED
+    } else {
+        refuse(rt, file, fault)
+    }
 }
 
 fn refuse<F: fmt::Display>(rt: &HostRuntime, file: &str, fault: &F) -> u8 {
