@@ -6,7 +6,7 @@ ghost use Rattle.std.specs.Option.{is_some, option_to_list};
 ghost use Rattle.mimic_trial.specs.Count.{is_failed, is_ignored_outcome};
 ghost use Rattle.mimic_printer.specs.Json.{Entry};
 ghost use Rattle.mimic_events.specs.Contents.{entry_read};
-ghost use Rattle.mimic_expect.specs.Expect.{FailedRow, Key as KeyRead, answers, any_in, counts, fate, findings, findings_with, has_passed, is_absent_line, is_failed_row, is_other_message, is_passed_line, key_in, keyed, left_by, meets, met_by, rows_with, same_key, unanswered, unmet_by, without};
+ghost use Rattle.mimic_expect.specs.Expect.{FailedRow, Key as KeyRead, MatchingLaw, answers, any_in, counts, fate, findings, findings_with, has_passed, is_absent_line, is_failed_row, is_other_message, is_passed_line, key_in, keyed, left_by, meets, met_by, rows_with, same_key, unanswered, unmet_by, without};
 ghost use Rattle.mimic_expect.specs.Judging.{entries_read, expected_at, finding_read, row_at, said};
 ghost use Rattle.mimic_expect.specs.Keys.{key_read};
 ghost use Rattle.mimic_expect.specs.Known.{Expected, expected_read};
@@ -274,6 +274,9 @@ pub fn judge<'a>(
         (keyed (map expected_read known.now)) (rows_with is_failed (map entry_read rows.now)))) }
     ensures unexpected { IfOk result (λ judgement. map finding_read judgement.unexpected.items
         ≡ findings (map expected_read known.now) (map entry_read rows.now) are_all) }
+
+    // What it means that failures meet expectations: each of either stands once, those that meet fit, and no others would.
+    ensures law { MatchingLaw }
 {
     let failed = failed_in(alloc, rows)?;
     let (left, unmet) = meeting(alloc, known, &failed)?;

@@ -5,6 +5,7 @@ use Rattle.mimic_expect.specs.Expect.{findings_with, has_passed, keyed, left_by,
 use Rattle.mimic_expect.specs.Judging.{entries_read, expected_at}
 use Rattle.mimic_expect.specs.Known.{expected_read}
 use Rattle.mimic_expect.proofs.Judgements.{counted, others_found, rows_found, second}
+use Rattle.mimic_expect.proofs.Laws.{matching_law}
 use Rattle.mimic_expect.proofs.judging.judge.Goals as goal
 
 pub overflow_sub-met : goal.overflow_sub-met
@@ -39,3 +40,18 @@ returns-clause-unexpected c =
     let others = ap entries_read c.deref-3.ensures.value
     ∙ (others_found c.args.rows.now c.in_ok-left.unmet.items c.in_ok-others.others.items c.in_ok-others.ensures ∙ ap (λ u. u ++ (rows_with has_passed rows ++ rows_with is_ignored_outcome rows)) unmet) in
     c.in_ok-unexpected.ensures ∙ ap₂ (λ l r. findings_with l r c.args.are_all) left others
+
+pub returns-in_err-failed-clause-law : goal.returns-in_err-failed-clause-law
+returns-in_err-failed-clause-law c = matching_law
+
+pub returns-in_err-left-clause-law : goal.returns-in_err-left-clause-law
+returns-in_err-left-clause-law c = matching_law
+
+pub returns-in_err-others-clause-law : goal.returns-in_err-others-clause-law
+returns-in_err-others-clause-law c = matching_law
+
+pub returns-in_err-unexpected-clause-law : goal.returns-in_err-unexpected-clause-law
+returns-in_err-unexpected-clause-law c = matching_law
+
+pub returns-clause-law : goal.returns-clause-law
+returns-clause-law c = matching_law
