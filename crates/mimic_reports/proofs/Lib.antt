@@ -1,5 +1,4 @@
 pub mod Documents
-pub mod Endings
 pub mod Falls
 pub mod FirstLines
 pub mod Fitting
@@ -7,10 +6,8 @@ pub mod JoinInputs
 pub mod JoinedText
 pub mod Joining
 pub mod Laws
-pub mod ReadBytes
 pub mod ReadInputs
 pub mod RowCounts
-pub mod RowsRead
 pub mod SeenNames
 pub mod Showing
 pub mod Spellings

@@ -12,7 +12,7 @@ use Rattle.mimic_printer.specs.Json.{Entry}
 use Rattle.mimic_events.specs.Contents.{entry_read}
 use Rattle.mimic_events.specs.Feed.{AreEnded}
 use Rattle.mimic_events.specs.declared.report.Row.{Row}
-use Rattle.mimic_reports.specs.declared.ending.Ending.{Ending}
+use Rattle.mimic_input.specs.declared.ending.Ending.{Ending}
 use Rattle.mimic_reports.specs.Junit.{numbers_of}
 use Rattle.mimic_reports.specs.Suites.{numbers_counted, rows_counted}
 

@@ -16,7 +16,7 @@ use Rattle.mimic_reports.specs.Junit.{Suite, case_text, ending_text, numbers_of,
 use Rattle.mimic_reports.specs.declared.suite.Rows.{Rows}
 use Rattle.mimic_reports.specs.declared.suite.Rows.TheVariants.{Again, Kept}
 use Rattle.mimic_reports.specs.declared.suite.Suite.{Suite as SuiteRead}
-use Rattle.mimic_reports.specs.Readings.{IsReading}
+use Rattle.mimic_input.specs.Readings.{IsReading}
 use Rattle.mimic_reports.specs.Suites.{HasLeft, HasRows, IsShown, counts_in, numbers_counted, numbers_in}
 use Rattle.mimic_reports.proofs.RowCounts.{numbers_are, outcomes_kept}
 use Rattle.mimic_trial.specs.Count.{counts_of}

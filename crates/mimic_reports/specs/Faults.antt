@@ -4,8 +4,8 @@ use Rattle.mimic_reports.specs.declared.faults.JoinFault.{JoinFault}
 use Rattle.mimic_reports.specs.declared.faults.JoinFault.TheVariants as join
 use Rattle.mimic_reports.specs.declared.join.Refusal.{Refusal}
 use Rattle.mimic_reports.specs.declared.join.Refusal.TheVariants.{Number, Uneven, NamedTwice, TooMany}
-use Rattle.mimic_reports.specs.declared.reading.ReadFault.{ReadFault}
-use Rattle.mimic_reports.specs.declared.reading.ReadFault.TheVariants as read
+use Rattle.mimic_input.specs.declared.reading.ReadFault.{ReadFault}
+use Rattle.mimic_input.specs.declared.reading.ReadFault.TheVariants as read
 
 -- the place of the report that is refused, if it is one
 abbrev pub refused_place : Refusal → Option ℕ

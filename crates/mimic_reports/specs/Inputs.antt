@@ -1,34 +1,16 @@
 -- What inputs are that reports are read from, and what a join of them leaves.
-use Rattle.std.specs.Prelude.{◌≡◌, ℕ, ◌<◌, Bool, List, length, slice_index_or, take, Option, None, IfSome, Result, Ok, Err, ⊤}
+use Rattle.std.specs.Prelude.{◌≡◌, ℕ, ◌<◌, Bool, List, length, slice_index_or, take, Option, None, Result, Ok, Err, ⊤}
 use Rattle.mimic_trial.specs.declared.outcome.conclusion.Conclusion.{Conclusion}
-use Rattle.mimic_printer.specs.Json.{Contents, conclusion_of, json_report}
+use Rattle.mimic_printer.specs.Json.{conclusion_of, json_report}
 use Rattle.mimic_printer.specs.Sink.{Put, Shown, Stopped}
-use Rattle.mimic_events.specs.Contents.{Spells, contents_read}
-use Rattle.mimic_events.specs.SoFar.{IsFirstWrong}
 use Rattle.mimic_events.specs.declared.report.Report.{Report}
+use Rattle.mimic_input.specs.Inputs.{GivesNone, IsReportIn}
+use Rattle.mimic_input.specs.declared.reading.ReadFault.{ReadFault}
 use Rattle.mimic_reports.specs.Joined.{CanBeShards, IsRefused, joined_contents}
 use Rattle.mimic_reports.specs.Turns.{Each}
 use Rattle.mimic_reports.specs.declared.join.Refusal.{Refusal}
-use Rattle.mimic_reports.specs.declared.reading.ReadFault.{ReadFault}
-use Rattle.mimic_reports.specs.declared.reading.ReadFault.TheVariants as read
 use Rattle.mimic_reports.specs.declared.faults.JoinFault.{JoinFault}
 use Rattle.mimic_reports.specs.declared.faults.JoinFault.TheVariants as join
-
--- the input's bytes, if they are known, are this report
-abbrev pub IsReportIn : Option (List ℕ) → Report → Type 0
-IsReportIn input report = IfSome input (Spells (contents_read report))
-
--- the bytes are no report, and no ended line of theirs is wrong
-pub record IsCut (bytes : List ℕ) : Type 0 where
-  pub none : (contents : Contents) → ¬ Spells contents bytes
-  pub right : (number : ℕ) → ¬ IsFirstWrong number bytes
-
--- why the input, if its bytes are known, gives no report
-abbrev pub GivesNone : Option (List ℕ) → ReadFault → Type 0
-GivesNone input read.OutOfMemory = ⊤
-GivesNone input (read.Input error) = ⊤
-GivesNone input (read.WrongLine number) = IfSome input (IsFirstWrong number)
-GivesNone input read.Cut = IfSome input IsCut
 
 -- ---- several inputs
 

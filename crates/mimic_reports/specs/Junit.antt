@@ -8,9 +8,9 @@ use Rattle.mimic_trial.specs.Count.{is_failed, is_ignored_outcome}
 use Rattle.mimic_text.specs.Seconds.{exact_seconds}
 use Rattle.mimic_printer.specs.Json.{Entry}
 use Rattle.mimic_events.specs.declared.report.Label.{Label as LabelRead}
-use Rattle.mimic_reports.specs.declared.ending.Ending.{Ending}
-use Rattle.mimic_reports.specs.declared.ending.Ending.TheVariants.{Whole, Cut}
-use Rattle.mimic_reports.specs.declared.ending.Stop.{Stop}
+use Rattle.mimic_input.specs.declared.ending.Ending.{Ending}
+use Rattle.mimic_input.specs.declared.ending.Ending.TheVariants.{Whole, Cut}
+use Rattle.mimic_input.specs.declared.ending.Stop.{Stop}
 use Rattle.mimic_reports.specs.declared.elements.Numbers.{Numbers}
 use Rattle.mimic_reports.specs.declared.xml.Place.TheVariants.{Content, Value}
 use Rattle.mimic_reports.specs.Xml.{escaped}
@@ -25,12 +25,12 @@ pub record Suite : Type 0 where
 
 -- a report without its end has one more test, which is an error
 abbrev pub errors_of : Ending → ℕ
-errors_of (Whole nanos) = 0
+errors_of (Whole filtered_out nanos) = 0
 errors_of (Cut stop) = 1
 
 -- the time of the run, and 0 if the report doesn't say it
 abbrev pub nanos_of : Ending → ℕ
-nanos_of (Whole nanos) = nanos
+nanos_of (Whole filtered_out nanos) = nanos
 nanos_of (Cut stop) = 0
 
 -- the numbers of a report
@@ -135,7 +135,7 @@ stop_text program ended stop = concat (concat (codes "    <testcase classname=\"
 
 -- what follows the rows
 abbrev pub ending_text : List ℕ → ℕ → Ending → List ℕ
-ending_text program ended (Whole nanos) = []
+ending_text program ended (Whole filtered_out nanos) = []
 ending_text program ended (Cut stop) = stop_text program ended stop
 
 -- ---- the whole

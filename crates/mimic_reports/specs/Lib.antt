@@ -4,7 +4,6 @@ pub mod Joined
 pub mod Junit
 pub mod Names
 pub mod Pieces
-pub mod Readings
 pub mod Show
 pub mod Suites
 pub mod Text

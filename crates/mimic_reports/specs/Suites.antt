@@ -6,7 +6,7 @@ use Rattle.mimic_printer.specs.Json.{Entry}
 use Rattle.mimic_printer.specs.Sink.{Put, Shown, Stopped}
 use Rattle.mimic_events.specs.Contents.{entry_read}
 use Rattle.mimic_reports.specs.declared.elements.Numbers.{Numbers}
-use Rattle.mimic_reports.specs.declared.ending.Ending.{Ending}
+use Rattle.mimic_input.specs.declared.ending.Ending.{Ending}
 use Rattle.mimic_reports.specs.declared.junit.JunitFault.{JunitFault}
 use Rattle.mimic_reports.specs.declared.junit.JunitFault.TheVariants as junit
 use Rattle.mimic_reports.specs.declared.junit.SuiteFault.{SuiteFault}
@@ -15,7 +15,7 @@ use Rattle.mimic_reports.specs.declared.suite.Rows.{Rows}
 use Rattle.mimic_reports.specs.declared.suite.Rows.TheVariants.{Kept, Again}
 use Rattle.mimic_reports.specs.declared.suite.Suite.{Suite as SuiteRead}
 use Rattle.mimic_reports.specs.Junit.{Suite, errors_of, junit_text, nanos_of, numbers_of, total}
-use Rattle.mimic_reports.specs.Readings.{IsReading}
+use Rattle.mimic_input.specs.Readings.{IsReading}
 use Rattle.mimic_reports.specs.Turns.{Each}
 
 -- ---- numbers

@@ -5,9 +5,9 @@ ghost use Rattle.mimic_printer.specs.Sink.{HasFaultLeft, Puts};
 ghost use Rattle.mimic_events.specs.Contents.{entry_read};
 ghost use Rattle.mimic_reports.specs.Junit.{case_text, class_point, closing, extent_part, first_line, opening, root_start, running_part, stop_text, suite_start, wrong_part};
 
-use crate::ending::Stop;
 use crate::pieces::{Piece, put_pieces};
 use mimic_events::{Label, Row};
+use mimic_input::Stop;
 use mimic_printer::{Sink, WriteFault};
 use mimic_trial::Outcome;
 use std::io::Write;

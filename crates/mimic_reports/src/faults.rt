@@ -3,7 +3,7 @@ ghost use Rattle.std.specs.Prelude.{◌≡◌};
 ghost use Rattle.mimic_reports.specs.declared.faults.JoinFault.TheVariants.{OutOfMemory, Write as WriteFailed};
 
 use crate::join::Refusal;
-use crate::reading::ReadFault;
+use mimic_input::ReadFault;
 use mimic_printer::WriteFault;
 use std::alloc::{AllocError, AllocFailed};
 use std::fmt;

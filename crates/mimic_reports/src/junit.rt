@@ -6,18 +6,17 @@ ghost use Rattle.mimic_printer.specs.Json.{Entry};
 ghost use Rattle.mimic_printer.specs.Sink.{HasFaultLeft, Put, Puts, shown};
 ghost use Rattle.mimic_events.specs.Contents.{entry_read};
 ghost use Rattle.mimic_reports.specs.Junit.{Suite as ShownSuite, case_text, ending_text, numbers_of, suite_text, total};
-ghost use Rattle.mimic_reports.specs.Readings.{IsReading};
+ghost use Rattle.mimic_input.specs.Readings.{IsReading};
 ghost use Rattle.mimic_reports.specs.Suites.{HasLeft, IsShown, IsTooGreat, LeavesDocument, numbers_in};
 ghost use Rattle.mimic_reports.specs.Xml.{ComesBack};
 ghost use Rattle.mimic_reports.specs.declared.junit.JunitFault.TheVariants.{Write as WriteStopped};
 ghost use Rattle.mimic_reports.specs.declared.junit.SuiteFault.TheVariants.{Input, Write as WriteFailed};
-ghost use Rattle.mimic_reports.specs.declared.rows.InputFault.TheVariants.{OutOfMemory};
+ghost use Rattle.mimic_input.specs.declared.rows.InputFault.TheVariants.{OutOfMemory};
 
 use crate::elements::{Numbers, put_case, put_root_start, put_stop, put_suite_start};
-use crate::ending::Ending;
-use crate::rows::{InputFault, RowsOf};
 use crate::suite::{Rows, Suite, counts_of_rows, numbers_counted, rows_counted};
 use mimic_events::Row;
+use mimic_input::{Ending, InputFault, InputRows};
 use mimic_printer::{Sink, WriteFault};
 use mimic_trial::Conclusion;
 use std::alloc::{AllocError, Global};
@@ -201,7 +200,7 @@ fn put_suite_end<'a, W: Write>(
         (ending_text program.now ended ending.now ++ codes "  </testsuite>\n") result }
 {
     match ending {
-        Ending::Whole { nanos: _ } => sink.put(b"  </testsuite>\n"),
+        Ending::Whole { .. } => sink.put(b"  </testsuite>\n"),
         Ending::Cut(stop) => {
             put_stop(sink, program, ended, stop)?;
             sink.put(b"  </testsuite>\n")
@@ -248,7 +247,7 @@ fn put_again<'a, I: Read + Drop, W: Write>(
         (flat_map (case_text program.now) entries))
         (HasLeft (shown W.contents sink.old) (shown W.contents sink.new)) }
 {
-    let mut rows = RowsOf::new(alloc, input)?;
+    let mut rows = InputRows::new(alloc, input)?;
     let mut counts = Conclusion::empty(0);
     for _ in 0..u64::MAX {
         match rows.next_row()? {

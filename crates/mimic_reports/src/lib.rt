@@ -18,7 +18,6 @@
 #![tactic(auto)]
 
 mod elements;
-mod ending;
 mod faults;
 mod inputs;
 mod join;
@@ -27,19 +26,16 @@ mod names;
 mod numbers;
 mod order;
 mod pieces;
-mod reading;
-mod rows;
 mod show;
 mod suite;
 mod text;
 mod xml;
 
-pub use ending::{Ending, Stop};
 pub use faults::{JoinFault, NamedFault};
 pub use inputs::join_reports;
 pub use join::{Refusal, joined};
 pub use junit::{JunitFault, write_junit};
-pub use reading::{ReadFault, read_from};
-pub use rows::InputFault;
 pub use show::{ShowFault, show_failures, show_report};
 pub use suite::Suite;
+
+pub use mimic_input::{Ending, InputFault, ReadFault, RowsRead, Stop, read_from, read_rows};

@@ -5,9 +5,8 @@ ghost use Rattle.mimic_printer.specs.Json.{Entry};
 ghost use Rattle.mimic_reports.specs.Suites.{IsReadFrom, KeepsRows, ReadsAgain, counts_in, numbers_counted, numbers_in, rows_counted};
 
 use crate::elements::Numbers;
-use crate::ending::Ending;
-use crate::rows::{InputFault, RowsOf};
 use mimic_events::Row;
+use mimic_input::{Ending, InputFault, InputRows, RowsRead, read_rows};
 use mimic_trial::Conclusion;
 use std::alloc::Global;
 use std::io::{ErrorKind, Read};
@@ -37,21 +36,12 @@ impl<'a, I: Read + Drop> Suite<'a, I> {
             × IsReadFrom (I.remaining input) suite entries × KeepsRows suite.rows entries
             × (suite.program.now ≡ program.now)) }
     {
-        let mut rows = RowsOf::new(alloc, input)?;
-        let mut kept = Vec::new(alloc);
-        for _ in 0..u64::MAX {
-            match rows.next_row()? {
-                Some(row) => kept.push(row)?,
-                None => {
-                    return Ok(Suite {
-                        program,
-                        ending: rows.finish()?,
-                        rows: Rows::Kept(kept),
-                    });
-                }
-            }
-        }
-        Err(InputFault::Input(ErrorKind::Other.into()))
+        let RowsRead { rows, ending } = read_rows(alloc, input)?;
+        Ok(Suite {
+            program,
+            ending,
+            rows: Rows::Kept(rows),
+        })
     }
 
     /// Reads a report to its end, and keeps none of its rows: they are read from `again` when the report is written.
@@ -65,7 +55,7 @@ impl<'a, I: Read + Drop> Suite<'a, I> {
             × IsReadFrom (I.remaining input) suite entries × ReadsAgain suite.rows again
             × (suite.program.now ≡ program.now)) }
     {
-        let mut rows = RowsOf::new(alloc, input)?;
+        let mut rows = InputRows::new(alloc, input)?;
         let mut counts = Conclusion::empty(0);
         for _ in 0..u64::MAX {
             match rows.next_row()? {
@@ -110,7 +100,10 @@ pub(crate) fn numbers_counted(counts: &Conclusion, ending: &Ending) -> Numbers
     ensures { result ≡ numbers_counted counts.now ending.now }
 {
     let (errors, nanos) = match ending {
-        Ending::Whole { nanos } => (0, *nanos),
+        Ending::Whole {
+            filtered_out: _,
+            nanos,
+        } => (0, *nanos),
         Ending::Cut(_) => (1, 0),
     };
     Numbers {

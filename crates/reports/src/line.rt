@@ -50,6 +50,19 @@ pub(crate) struct Expect {
     pub(crate) files: Vec<String>,
 }
 
+/// The reports in these two files are to be compared.
+#[derive(Debug, Drop)]
+pub(crate) struct Compare {
+    pub(crate) old: String,
+    pub(crate) new: String,
+}
+
+/// The report in this file is to be printed as a page of HTML.
+#[derive(Debug, Drop)]
+pub(crate) struct Page {
+    pub(crate) file: String,
+}
+
 /// What a line asks for.
 #[derive(Debug, Drop)]
 pub(crate) enum Line {
@@ -57,6 +70,9 @@ pub(crate) enum Line {
     Junit(Junit),
     Show(Show),
     Expect(Expect),
+    Compare(Compare),
+    Page(Page),
+    Watch,
 }
 
 /// Why a line asks for nothing.
@@ -87,11 +103,17 @@ impl Line {
         if let Some(show) = matches.subcommand_matches("show") {
             return Ok(Line::Show(Show::from_matches(alloc, show)?));
         }
-        match matches.subcommand_matches("expect") {
-            Some(expect) => Ok(Line::Expect(Expect::from_matches(alloc, expect)?)),
-            // `clap` has refused a line without a subcommand.
-            None => Err(LineError::OutOfMemory),
+        if let Some(expect) = matches.subcommand_matches("expect") {
+            return Ok(Line::Expect(Expect::from_matches(alloc, expect)?));
         }
+        if let Some(compare) = matches.subcommand_matches("compare") {
+            return Ok(Line::Compare(Compare::from_matches(alloc, compare)?));
+        }
+        if let Some(page) = matches.subcommand_matches("page") {
+            return Ok(Line::Page(Page::from_matches(alloc, page)?));
+        }
+        // `clap` has refused a line without a subcommand.
+        Ok(Line::Watch)
     }
 }
 
@@ -150,6 +172,30 @@ impl Expect {
     }
 }
 
+impl Compare {
+    fn from_matches(alloc: Global, matches: &ArgMatches<'_>) -> Result<Compare, LineError> {
+        // Both are required.
+        let old = matches.get_str("OLD").unwrap_or(STANDARD);
+        let new = matches.get_str("NEW").unwrap_or(STANDARD);
+        if old == STANDARD && new == STANDARD {
+            return Err(LineError::TwoInputs);
+        }
+        Ok(Compare {
+            old: String::from_str(alloc, old)?,
+            new: String::from_str(alloc, new)?,
+        })
+    }
+}
+
+impl Page {
+    fn from_matches(alloc: Global, matches: &ArgMatches<'_>) -> Result<Page, LineError> {
+        Ok(Page {
+            // It is required.
+            file: String::from_str(alloc, matches.get_str("FILE").unwrap_or(STANDARD))?,
+        })
+    }
+}
+
 // Returns the names of the files, of which one at most is standard input.
 fn files_of(alloc: Global, matches: &ArgMatches<'_>) -> Result<Vec<String>, LineError> {
     let mut files = Vec::new(alloc);
@@ -173,7 +219,10 @@ fn command<'a>(alloc: Global) -> Result<Command<'a>, AllocError> {
         .subcommand(join_command(alloc)?)?
         .subcommand(junit_command(alloc)?)?
         .subcommand(show_command(alloc)?)?
-        .subcommand(expect_command(alloc)?)
+        .subcommand(expect_command(alloc)?)?
+        .subcommand(compare_command(alloc)?)?
+        .subcommand(page_command(alloc)?)?
+        .subcommand(watch_command(alloc)?)
 }
 
 fn join_command<'a>(alloc: Global) -> Result<Command<'a>, AllocError> {
@@ -250,6 +299,32 @@ fn expect_command<'a>(alloc: Global) -> Result<Command<'a>, AllocError> {
         .arg(lax)?
         .arg(known)?
         .arg(files)
+}
+
+fn compare_command<'a>(alloc: Global) -> Result<Command<'a>, AllocError> {
+    let old = Arg::new(alloc, "OLD")
+        .required(true)
+        .help("A report in JSON; - is standard input");
+    let new = Arg::new(alloc, "NEW")
+        .required(true)
+        .help("A later report in JSON; - is standard input");
+    Command::new(alloc, "compare")
+        .about("Print what is not in a report as in an older one")
+        .arg(old)?
+        .arg(new)
+}
+
+fn page_command<'a>(alloc: Global) -> Result<Command<'a>, AllocError> {
+    let file = Arg::new(alloc, "FILE")
+        .required(true)
+        .help("A report in JSON; - is standard input");
+    Command::new(alloc, "page")
+        .about("Print a report as a page of HTML")
+        .arg(file)
+}
+
+fn watch_command<'a>(alloc: Global) -> Result<Command<'a>, AllocError> {
+    Ok(Command::new(alloc, "watch").about("Show the report on standard input as it comes"))
 }
 
 impl From<AllocError> for LineError {

@@ -1,11 +1,14 @@
 //! Reads reports in JSON: joins those of shards into one, and prints them as JUnit's XML or as the harness does.
 #![tactic(auto)]
 
+mod compare;
 mod expect;
 mod input;
 mod junit;
 mod line;
+mod page;
 mod show;
+mod watch;
 
 use input::Input;
 use line::{Join, Line, LineError};
@@ -35,6 +38,9 @@ fn main(rt: HostRuntime) -> ExitCode {
         Ok(Line::Junit(junit)) => junit::run(&rt, alloc, &junit),
         Ok(Line::Show(show)) => show::run(&rt, alloc, &show),
         Ok(Line::Expect(expect)) => expect::run(&rt, alloc, &expect),
+        Ok(Line::Compare(compare)) => compare::run(&rt, alloc, &compare),
+        Ok(Line::Page(page)) => page::run(&rt, alloc, &page),
+        Ok(Line::Watch) => watch::run(&rt, alloc),
         Err(error) => refuse(&rt, &error),
     };
     ExitCode::from(status)

@@ -7,9 +7,9 @@ use Rattle.mimic_printer.proofs.Appending.{Put-Stopped, Put-trans}
 use Rattle.mimic_events.specs.Contents.{entry_read}
 use Rattle.mimic_events.specs.declared.report.Row.{Row}
 use Rattle.mimic_reports.specs.declared.junit.SuiteFault.TheVariants.{Input, Write}
-use Rattle.mimic_reports.specs.declared.rows.InputFault.TheVariants.{OutOfMemory}
+use Rattle.mimic_input.specs.declared.rows.InputFault.TheVariants.{OutOfMemory}
 use Rattle.mimic_reports.specs.Junit.{case_text}
-use Rattle.mimic_reports.specs.Readings.{HasCome, HasEnded}
+use Rattle.mimic_input.specs.Readings.{HasCome, HasEnded}
 use Rattle.mimic_reports.proofs.RowCounts.{push, room}
 use Rattle.mimic_reports.proofs.SuiteText.{err_left, one_more_row}
 use Rattle.mimic_reports.proofs.junit.put_again.Goals as goal

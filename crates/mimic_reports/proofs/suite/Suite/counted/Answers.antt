@@ -3,7 +3,7 @@ use Rattle.std.specs.Prelude.{MatchOption}
 use Rattle.mimic_trial.specs.Count.{HasRoom}
 use Rattle.mimic_events.specs.Contents.{entry_read}
 use Rattle.mimic_events.specs.declared.report.Row.{Row}
-use Rattle.mimic_reports.specs.Readings.{HasCome, HasEnded}
+use Rattle.mimic_input.specs.Readings.{HasCome, HasEnded}
 use Rattle.mimic_reports.proofs.RowCounts.{push, room}
 use Rattle.mimic_reports.proofs.suite.Suite.counted.Goals as goal
 

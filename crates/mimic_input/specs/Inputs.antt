@@ -1,0 +1,24 @@
+-- What an input gives that is to be one report.
+use Rattle.std.specs.Prelude.{ℕ, List, Option, IfSome, ⊤}
+use Rattle.mimic_printer.specs.Json.{Contents}
+use Rattle.mimic_events.specs.Contents.{Spells, contents_read}
+use Rattle.mimic_events.specs.SoFar.{IsFirstWrong}
+use Rattle.mimic_events.specs.declared.report.Report.{Report}
+use Rattle.mimic_input.specs.declared.reading.ReadFault.{ReadFault}
+use Rattle.mimic_input.specs.declared.reading.ReadFault.TheVariants as read
+
+-- the input's bytes, if they are known, are this report
+abbrev pub IsReportIn : Option (List ℕ) → Report → Type 0
+IsReportIn input report = IfSome input (Spells (contents_read report))
+
+-- the bytes are no report, and no ended line of theirs is wrong
+pub record IsCut (bytes : List ℕ) : Type 0 where
+  pub none : (contents : Contents) → ¬ Spells contents bytes
+  pub right : (number : ℕ) → ¬ IsFirstWrong number bytes
+
+-- why the input, if its bytes are known, gives no report
+abbrev pub GivesNone : Option (List ℕ) → ReadFault → Type 0
+GivesNone input read.OutOfMemory = ⊤
+GivesNone input (read.Input error) = ⊤
+GivesNone input (read.WrongLine number) = IfSome input (IsFirstWrong number)
+GivesNone input read.Cut = IfSome input IsCut
