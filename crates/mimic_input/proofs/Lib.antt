@@ -1,3 +1,3 @@
 pub mod Endings
 pub mod ReadBytes
-pub mod RowsRead
+pub mod RowSteps

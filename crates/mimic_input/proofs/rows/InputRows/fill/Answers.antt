@@ -2,7 +2,7 @@ use Rattle.std.proofs.Common.{◌≡◌, [], ap, arith, length, refl}
 use Rattle.std.proofs.lemmas.Bool.Decides.{nat_tests}
 use Rattle.std.proofs.lemmas.List.{with_items_is}
 use Rattle.mimic_input.proofs.ReadBytes.{read_on}
-use Rattle.mimic_input.proofs.RowsRead.{at_end, piece_read}
+use Rattle.mimic_input.proofs.RowSteps.{at_end, piece_read}
 use Rattle.mimic_input.proofs.rows.InputRows.fill.Goals as goal
 
 pub returns-in-Ok-clause-ready : goal.returns-in-Ok-clause-ready

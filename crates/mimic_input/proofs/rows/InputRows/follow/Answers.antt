@@ -2,7 +2,7 @@ use Rattle.std.proofs.Common.{List, [], Option, ◌-◌, drop, refl, subst, take
 use Rattle.std.specs.Prelude.{MatchOption}
 use Rattle.mimic_events.specs.Follower.{FollowsOn, FollowsRow}
 use Rattle.mimic_events.specs.declared.report.Row.{Row}
-use Rattle.mimic_input.proofs.RowsRead.{none_came, row_came}
+use Rattle.mimic_input.proofs.RowSteps.{none_came, row_came}
 use Rattle.mimic_input.proofs.rows.InputRows.follow.Goals as goal
 use denote.Ref.{Bor}
 

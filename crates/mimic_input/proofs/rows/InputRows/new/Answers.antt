@@ -1,5 +1,5 @@
 use Rattle.std.proofs.Common.{refl}
-use Rattle.mimic_input.proofs.RowsRead.{no_rows}
+use Rattle.mimic_input.proofs.RowSteps.{no_rows}
 use Rattle.mimic_input.proofs.rows.InputRows.new.Goals as goal
 
 pub returns-clause-nothing : goal.returns-clause-nothing

@@ -3,7 +3,7 @@ use Rattle.std.specs.Prelude.{MatchOption}
 use Rattle.mimic_events.specs.Contents.{entry_read}
 use Rattle.mimic_events.specs.declared.report.Row.{Row}
 use Rattle.mimic_input.specs.Readings.{HasCome, pending}
-use Rattle.mimic_input.proofs.RowsRead.{at_wrong}
+use Rattle.mimic_input.proofs.RowSteps.{at_wrong}
 use Rattle.mimic_input.proofs.rows.InputRows.next_row.Goals as goal
 
 pub returns-in-Some-clause-rows : goal.returns-in-Some-clause-rows
