@@ -6,6 +6,7 @@ pub mod JoinInputs
 pub mod JoinedText
 pub mod Joining
 pub mod Laws
+pub mod Markup
 pub mod ReadInputs
 pub mod RowCounts
 pub mod SeenNames

@@ -87,7 +87,7 @@ plain_good : (b : ℕ) → 93 ≤ b → good (b ∷ []) b ≡ true
 unfolding good
 plain_good b h = grind (arith, nat_tests)
 
-high_spelled : (place : Place) (b : ℕ) → 93 ≤ b → spelled_byte place b ≡ b ∷ []
+pub high_spelled : (place : Place) (b : ℕ) → 93 ≤ b → spelled_byte place b ≡ b ∷ []
 high_spelled place b h = grind (arith, nat_tests)
 
 byte_good : (place : Place) (b : ℕ) → good (spelled_byte place b) b ≡ true
@@ -160,16 +160,16 @@ module _ (b : ℕ) (rest : List ℕ) where
   byte_alone e f = rw (e, f) refl
 
   module _ (place : Place) where
-    number_spelled : begins_number (b ∷ rest) ≡ true → spelling place b rest ≡ numbered (codes "5c")
+    pub number_spelled : begins_number (b ∷ rest) ≡ true → spelling place b rest ≡ numbered (codes "5c")
     number_spelled h = rw h refl
 
-    fffe_spelled : begins_fffe (b ∷ rest) ≡ true → spelling place b rest ≡ numbered (codes "fffe")
+    pub fffe_spelled : begins_fffe (b ∷ rest) ≡ true → spelling place b rest ≡ numbered (codes "fffe")
     fffe_spelled h = let s = begun_by 239 191 190 (b ∷ rest) h in rw (ap (begins_with 92 117 123) s.1, h) refl
 
-    ffff_spelled : begins_ffff (b ∷ rest) ≡ true → spelling place b rest ≡ numbered (codes "ffff")
+    pub ffff_spelled : begins_ffff (b ∷ rest) ≡ true → spelling place b rest ≡ numbered (codes "ffff")
     ffff_spelled h = let s = begun_by 239 191 191 (b ∷ rest) h in rw (ap (begins_with 92 117 123) s.1, ap (begins_with 239 191 190) s.1, h) refl
 
-    byte_spelled : begins_number (b ∷ rest) ≡ false → begins_fffe (b ∷ rest) ≡ false → begins_ffff (b ∷ rest) ≡ false → spelling place b rest ≡ spelled_byte place b
+    pub byte_spelled : begins_number (b ∷ rest) ≡ false → begins_fffe (b ∷ rest) ≡ false → begins_ffff (b ∷ rest) ≡ false → spelling place b rest ≡ spelled_byte place b
     byte_spelled n e f = rw (n, e, f) refl
 
     -- a spelling that begins with another byte than `&` and a backslash is that of this byte alone

@@ -1,7 +1,7 @@
 -- How texts stand in XML 1.0, in one spelling. A text is its bytes in UTF-8.
-use Rattle.std.specs.Prelude.{◌≡◌, ℕ, zero, suc, ◌/◌, ◌%◌, ◌<◌, ◌≤◌, ◌==◌, ◌&&◌, ◌||◌, not, nat_lt, length, take, if◌then◌else◌, Bool, false, List, [], ◌∷◌, ◌++◌, drop, codes, Option, Some, None}
+use Rattle.std.specs.Prelude.{◌≡◌, ℕ, zero, suc, ◌/◌, ◌%◌, ◌<◌, ◌≤◌, ◌==◌, ◌&&◌, ◌||◌, not, nat_lt, length, take, if◌then◌else◌, Bool, true, false, List, [], ◌∷◌, ◌++◌, drop, codes, Option, Some, None}
 use Rattle.std.specs.Char.{digit_char}
-use Rattle.std.specs.List.{concat}
+use Rattle.std.specs.List.{AllByRecursion, concat, list_any}
 use Rattle.std.specs.Str.{bytes_eq}
 use Rattle.std.specs.Str.Parse.{digits_value}
 use Rattle.mimic_reports.specs.declared.xml.Escape.{Escape}
@@ -134,6 +134,25 @@ abbrev pub unescaped : List ℕ → List ℕ
 unescaped text = unescaped_after None text
 
 -- ---- laws
+
+-- a byte that begins or ends markup in this place
+abbrev pub is_markup : Place → ℕ → Bool
+is_markup Content b = b == 38 || b == 60 || b == 62
+is_markup Value b = b == 38 || b == 60 || b == 62 || b == 34
+
+-- one of the entities that stand for such a byte, or for white space
+abbrev pub is_entity : List ℕ → Bool
+is_entity part = list_any (bytes_eq part)
+    (codes "&amp;" ∷ codes "&lt;" ∷ codes "&gt;" ∷ codes "&quot;" ∷ codes "&#9;" ∷ codes "&#10;" ∷ codes "&#13;" ∷ [])
+
+-- the part is an entity, or has no markup
+abbrev pub is_harmless : Place → List ℕ → Bool
+is_harmless place part = is_entity part || not (list_any (is_markup place) part)
+
+-- the law of markup: a spelling is made of harmless parts, so that no text begins, ends or hides an element
+abbrev pub HasNoMarkup : Type 0
+HasNoMarkup = (place : Place) (text : List ℕ)
+    → (parts : List (List ℕ)) × (escaped place text ≡ concat parts) × AllByRecursion (λ part. is_harmless place part ≡ true) parts
 
 -- the law of readings: a text comes back from its spelling, so that two texts never have the same
 abbrev pub ComesBack : Type 0
