@@ -84,7 +84,7 @@ whole_read (Some all) (Some rest) bytes entries announced totals gone last ended
     let filtered_out : t.contents.filtered_out ≡ totals.counts.num_filtered_out = sym (ap (λ (x : Totals). x.counts.num_filtered_out) t.numbers) in
     let nanos : t.contents.nanos ≡ totals.nanos = sym (ap (λ (x : Totals). x.nanos) t.numbers) in
     subst (λ (c : Contents). Spells c all) (ap₂ (λ (es : List Entry) (n : ℕ). record { entries = es; filtered_out = n; nanos = t.contents.nanos }) same filtered_out
-        ∙ ap (λ (n : ℕ). record { entries = entries; filtered_out = totals.counts.num_filtered_out; nanos = n }) nanos)
+    ∙ ap (λ (n : ℕ). record { entries = entries; filtered_out = totals.counts.num_filtered_out; nanos = n }) nanos)
     (subst (Spells t.contents) (sym (gone ∙ ap (λ (l : List ℕ). bytes ++ l) none ∙ append-nil bytes)) t.spelled)
 
 pub stop_read : (start end : Option (List ℕ)) (bytes : List ℕ) (entries : List Entry) (stop : Stop)

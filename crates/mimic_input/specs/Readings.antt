@@ -18,8 +18,8 @@ use Rattle.mimic_input.specs.declared.rows.InputRows.{InputRows}
 abbrev pub IsWhole : List ℕ → List Entry → ℕ → ℕ → Type 0
 IsWhole bytes entries filtered_out nanos = Spells (record { entries = entries; filtered_out = filtered_out; nanos = nanos }) bytes
 
--- a front of the bytes, all of them unless it has a wrong line, is no report: these rows have ended in it, and what is known of the
--- stop is what the front says
+-- a front of the bytes, all of them unless it has a wrong line, is no report: these rows have ended in it, and what is known of
+-- the stop is what the front says
 pub record IsStopped (bytes : List ℕ) (entries : List Entry) (stop : Stop) : Type 0 where
   pub front : List ℕ
   pub rest : List ℕ

@@ -26,8 +26,8 @@ pub enum InputFault {
     Input(io::Error),
 }
 
-/// The rows of the report that an input gives, one after another, up to its end or to the first line that no report has there. None
-/// is kept.
+/// The rows of the report that an input gives, one after another, up to its end or to the first line that no report has there.
+/// None is kept.
 ///
 /// It reads at most 64 KB at once.
 #[derive(Drop)]

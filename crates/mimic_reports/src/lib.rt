@@ -35,7 +35,6 @@ pub use faults::{JoinFault, NamedFault};
 pub use inputs::join_reports;
 pub use join::{Refusal, joined};
 pub use junit::{JunitFault, write_junit};
+pub use mimic_input::{Ending, InputFault, ReadFault, RowsRead, Stop, read_from, read_rows};
 pub use show::{ShowFault, show_failures, show_report};
 pub use suite::Suite;
-
-pub use mimic_input::{Ending, InputFault, ReadFault, RowsRead, Stop, read_from, read_rows};
