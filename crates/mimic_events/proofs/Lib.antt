@@ -9,6 +9,7 @@ pub mod Followers
 pub mod Forgetting
 pub mod Fronts
 pub mod NamedLines
+pub mod PlainLanes
 pub mod QuotedTexts
 pub mod Readings
 pub mod RowReaders

@@ -67,6 +67,10 @@ escaped-parts : (text plain left : List ℕ) → text ≡ plain ++ left → AreP
 unfolding escaped
 escaped-parts text plain left e p = ap escaped e ∙ flat_map-append escape plain left ∙ ap (λ (x : List ℕ). x ++ escaped left) (escaped-plain plain p)
 
+-- a text that stands for itself
+pub plain-same : (text plain rest line : List ℕ) → line ≡ plain ++ rest → ArePlain plain → plain ≡ text → line ≡ escaped text ++ rest
+plain-same text plain rest line e p same = e ∙ ap (λ (x : List ℕ). x ++ rest) (sym (escaped-plain plain p) ∙ ap escaped same)
+
 -- after what stands for itself
 pub plain-then : (text plain left line rest : List ℕ) (o : Option (Bor (List ℕ))) → text ≡ plain ++ left → ArePlain plain → line ≡ plain ++ rest → Follows (escaped left) rest o → Follows (escaped text) line o
 plain-then text plain left line rest o e p f h =

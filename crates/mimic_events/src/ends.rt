@@ -3,7 +3,8 @@ ghost use Rattle.std.specs.Prelude.{◌≡◌, ◌≢◌, ◌++◌, ℕ, List, M
 ghost use Rattle.std.specs.List.{concat};
 ghost use Rattle.mimic_events.specs.LineParts.{Follows};
 
-// Returns what follows the front, if the text begins with it.
+// Returns what follows the front, if the text begins with it. Compiled into its caller, a known front is compared in words.
+#[inline(always)]
 pub(crate) fn after<'a>(text: &'a [u8], front: &[u8]) -> Option<&'a [u8]>
     ensures { MatchOption result ((rest : List ℕ) → text.now ≢ front.now ++ rest)
         (λ rest. text.now ≡ front.now ++ rest.now) }

@@ -1,13 +1,18 @@
 //! Reads texts between the quotes of a JSON string.
-ghost use Rattle.std.specs.Prelude.{◌≡◌, ◌++◌, ◌∷◌, ◌<◌, [], IfOk, option_map};
+ghost use Rattle.std.specs.Prelude.{◌≡◌, ◌++◌, ◌∷◌, ◌+◌, ◌<◌, ◌≤◌, [], IfOk, length, option_map, slice_range};
 ghost use Rattle.mimic_text.specs.Escape.{ArePlain, escape, escaped};
 ghost use Rattle.mimic_events.specs.LineParts.{Follows, named_of, control_of, candidate_of, ReadsByte, ReadsEscaped, ReadsQuoted, ReadsNamed};
 
 use crate::ends::after;
 use mimic_text::{escape_byte, next_escape};
 use std::alloc::{AllocError, Global};
+use std::simd::prelude::*;
+
+// How many bytes are looked at at once.
+const LANES: usize = 16;
 
 // Returns the text in quotes after this front, which ends with the opening quote, and what follows the closing one.
+#[inline(always)]
 pub(crate) fn quoted_after<'a>(
     alloc: Global,
     line: &'a [u8],
@@ -24,6 +29,7 @@ pub(crate) fn quoted_after<'a>(
 }
 
 // Returns what follows this front, which ends with the opening quote, this text, and the closing quote.
+#[inline(always)]
 pub(crate) fn after_quoted<'a>(line: &'a [u8], front: &[u8], text: &str) -> Option<&'a [u8]>
     ensures { Follows (front.now ++ (escaped text.now ++ 34 ∷ [])) line.now result }
 {
@@ -36,6 +42,11 @@ pub(crate) fn after_quoted<'a>(line: &'a [u8], front: &[u8], text: &str) -> Opti
 fn after_escaped<'a>(line: &'a [u8], text: &[u8]) -> Option<&'a [u8]>
     ensures { Follows (escaped text.now) line.now result }
 {
+    let (same, others) = plain_at(line);
+    if same == text {
+        // Most texts stand for themselves.
+        return Some(others);
+    }
     let (plain, mut left) = plain_at(text);
     let mut rest = after(line, plain)?;
     while let [byte, others @ ..] = left {
@@ -63,7 +74,30 @@ fn plain_at(text: &[u8]) -> (&[u8], &[u8])
     ensures parts { text.now ≡ result.0.now ++ result.1.now }
     ensures plain { ArePlain result.0.now }
 {
-    text.split_at(next_escape(text).unwrap_or(text.len()))
+    let mut len = 0;
+    while text.len() - len >= LANES {
+        let plain = plain_lanes(text, len);
+        len += plain;
+        if plain < LANES {
+            return text.split_at(len);
+        }
+    }
+    let rest = &text[len..];
+    text.split_at(len + next_escape(rest).unwrap_or(rest.len()))
+}
+
+// Returns how many of the bytes from there on, looked at at once, come before the first that doesn't stand for itself.
+#[inline(always)]
+fn plain_lanes(text: &[u8], at: usize) -> usize
+    requires { at + LANES ≤ length text.now }
+    ensures within { result ≤ LANES }
+    ensures plain { ArePlain (slice_range text.now at (at + result)) }
+{
+    let bytes = u8x16::from_slice(&text[at..]);
+    let stops = bytes.simd_lt(u8x16::splat(b' '))
+        | bytes.simd_eq(u8x16::splat(b'"'))
+        | bytes.simd_eq(u8x16::splat(b'\\'));
+    (stops.to_bitmask().trailing_zeros() as usize).min(LANES)
 }
 
 // Returns the text up to the closing quote, and what follows that.
@@ -98,6 +132,10 @@ fn escaped_at(alloc: Global, bytes: &[u8]) -> Result<(Vec<u8>, &[u8]), AllocErro
 fn unescape(text: &[u8]) -> Option<(u8, &[u8])>
     ensures { ReadsByte text.now (option_map (λ found. (found.0, found.1.now)) result) }
 {
+    if let [b'"', ..] = text {
+        // No spelling begins with a quote.
+        return None;
+    }
     let byte = candidate(text);
     let rest = after_spelling(text, byte)?;
     Some((byte, rest))

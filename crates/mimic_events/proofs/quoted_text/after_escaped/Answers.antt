@@ -1,13 +1,13 @@
-use Rattle.std.proofs.Common.{◌≡◌, ◌++◌, ◌∙◌, Some, None, drop, sym}
-use Rattle.mimic_events.proofs.QuotedTexts.{plain-then, plain-stop, first-then, first-stop, behind-first, nothing-left}
+use Rattle.std.proofs.Common.{rules, ◌≡◌, ◌++◌, ◌∙◌, Some, None, drop, sym}
+use Rattle.mimic_events.proofs.QuotedTexts.{plain-same, plain-then, plain-stop, first-then, first-stop, behind-first, nothing-left}
 use Rattle.mimic_events.proofs.quoted_text.after_escaped.Goals as goal
 
 pub returns-in_err-rest : goal.returns-in_err-rest
 returns-in_err-rest c =
-    rw c.from_residual.ensures (plain-stop c.args.text.now c.plain_at.result.0.now c.plain_at.result.1.now c.args.line.now c.plain_at.ensures.parts c.plain_at.ensures.plain c.in_err-rest.ensures)
+    rw c.from_residual.ensures (plain-stop c.args.text.now c.plain_at-2.result.0.now c.plain_at-2.result.1.now c.args.line.now c.plain_at-2.ensures.parts c.plain_at-2.ensures.plain c.in_err-rest.ensures)
 
 pub loop-left-init : goal.loop-left-init
-loop-left-init c = λ o h. plain-then c.args.text.now c.plain_at.result.0.now c.plain_at.result.1.now c.args.line.now c.in_ok-rest.rest.now o c.plain_at.ensures.parts c.plain_at.ensures.plain c.in_ok-rest.ensures h
+loop-left-init c = λ o h. plain-then c.args.text.now c.plain_at-2.result.0.now c.plain_at-2.result.1.now c.args.line.now c.in_ok-rest.rest.now o c.plain_at-2.ensures.parts c.plain_at-2.ensures.plain c.in_ok-rest.ensures h
 
 pub returns-in_err-rest-2 : goal.returns-in_err-rest-2
 returns-in_err-rest-2 c =
@@ -31,3 +31,8 @@ loop-left-preserved c = λ o h.
 
 pub returns : goal.returns
 returns c = c.loop-left.invariant (Some c.loop-left.rest) (nothing-left c.loop-left.left.now c.loop-left.rest c.in_default.len_below)
+
+pub returns-then-eq : goal.returns-then-eq
+returns-then-eq c =
+    let same : c.plain_at.result.0.now ≡ c.args.text.now = search rules in
+    plain-same c.args.text.now c.plain_at.result.0.now c.plain_at.result.1.now c.args.line.now c.plain_at.ensures.parts c.plain_at.ensures.plain same
