@@ -10,6 +10,7 @@ pub mod Forgetting
 pub mod Fronts
 pub mod NamedLines
 pub mod PlainLanes
+pub mod PlainRows
 pub mod QuotedTexts
 pub mod Readings
 pub mod RowReaders

@@ -20,7 +20,7 @@ unfolding escaped
 starts bytes = record { front = refl; only = λ other after e. (other, refl, e) }
 
 -- no spelling begins with a quote
-no_quote : (b : ℕ) (x y : List ℕ) → 34 ∷ y ≢ escape b ++ x
+pub no_quote : (b : ℕ) (x y : List ℕ) → 34 ∷ y ≢ escape b ++ x
 unfolding candidate_of
 no_quote b x y e =
     let quote : b ≡ 34 = sym (again b x) ∙ ap candidate_of (sym e) in

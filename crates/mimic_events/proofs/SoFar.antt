@@ -89,7 +89,7 @@ running_read s rest stuck known label h =
         absurd (h.unended outcome (concat lines ++ rest) is.0 (e ∙ append_assoc l (concat lines) rest ∙ ap (λ (x : List ℕ). x ++ (concat lines ++ rest)) is.1))
 
 -- no outcome of the trial follows
-an_outcome : (label : Label) (outcome : Outcome) → FitsLabel label → FitsTypes outcome → IsLine (json_outcome label outcome)
+pub an_outcome : (label : Label) (outcome : Outcome) → FitsLabel label → FitsTypes outcome → IsLine (json_outcome label outcome)
 an_outcome label outcome named fits = (rows_each (record { label = label; outcome = outcome } ∷ []) (record { label = named; outcome = fits }, tt)).1.0
 
 unended : (s : State) (rest : List ℕ) (stuck : Bool) (label : Label) → s.next ≡ outcome_next label → FitsLabel label → IsUnread stuck s rest → (outcome : Outcome) (after : List ℕ) → FitsTypes outcome → rest ≢ json_outcome label outcome ++ after

@@ -1,9 +1,10 @@
 -- Pieces that the reader of a tally was fed one after another.
-use Rattle.std.proofs.Common.{◌≡◌, ℕ, List, [], ◌++◌, Option, None, Some, refl, ap, sym, subst, ◌∙◌, append_assoc, append-nil}
+use Rattle.std.proofs.Common.{◌≡◌, ℕ, List, [], ◌++◌, Option, None, Some, refl, ap, sym, subst, ◌∙◌, append_assoc, append-nil, arith, length, ◌≤◌}
+use Rattle.std.proofs.lemmas.List.{length-append}
 use Rattle.mimic_events.specs.declared.report.Row.{Row}
 use Rattle.mimic_events.specs.declared.row_reader.RowReader.{RowReader}
 use Rattle.mimic_events.specs.Progress.{with_row}
-use Rattle.mimic_events.specs.Readers.{ReadsOn, ReadsRow, bytes_of}
+use Rattle.mimic_events.specs.Readers.{PassesRows, ReadsOn, ReadsRow, bytes_of}
 use Rattle.mimic_events.specs.Tally.{Forgets, HasFed, IsAlike}
 use Rattle.mimic_events.proofs.Forgetting.{alike_more, alike_trans}
 
@@ -39,6 +40,25 @@ then_fed t u v piece left front after row f e read = record {
 -- up to the end of a row
 pub row_fed : (t u v : RowReader) (piece left after : List ℕ) (row : Row) → FeedsFront t piece u left → ReadsRow u left v row after → FeedsFront t piece v after
 row_fed t u v piece left after row f read = then_fed t u v piece left read.front after (Some row) f read.parts read.read
+
+-- and the rows that were passed behind it
+pub rows_fed : (t u v : RowReader) (piece left after : List ℕ) → FeedsFront t piece u left → PassesRows u left v after → FeedsFront t piece v after
+rows_fed t u v piece left after f passes = record {
+  front = f.front ++ passes.front;
+  parts = f.parts ∙ ap (λ (x : List ℕ). f.front ++ x) passes.parts ∙ sym (append_assoc f.front passes.front after);
+  fed = λ bytes h.
+      let before = f.fed bytes h in
+      let next = passes.read before.entries before.sound in
+      subst (HasFed v) (append_assoc bytes f.front passes.front) (record {
+        entries = before.entries ++ passes.rows;
+        sound = next.0;
+        alike = subst (IsAlike ((bytes ++ f.front) ++ passes.front)) (sym next.1) (alike_more (bytes ++ f.front) (bytes_of u before.entries) passes.front before.alike);
+      });
+}
+
+-- no more is left than there was
+pub rows_shorter : (u v : RowReader) (left after : List ℕ) → PassesRows u left v after → length after ≤ length left
+rows_shorter u v left after passes = omega (arith, ap length passes.parts, length-append passes.front after)
 
 -- all that is left
 rest_fed : (t u v : RowReader) (piece left : List ℕ) → FeedsFront t piece u left → ReadsOn u left v None → Feeds t piece v

@@ -3,11 +3,11 @@ use Rattle.std.specs.Prelude.{◌≡◌, ◌≢◌, ℕ, ◌+◌, ◌-◌, ◌<�
 use Rattle.std.specs.Borrow.{Bor}
 use Rattle.std.specs.Str.Parse.{AllDigits}
 use Rattle.mimic_trial.specs.declared.outcome.Outcome.{Outcome}
-use Rattle.mimic_trial.specs.declared.outcome.Outcome.TheVariants.{Failed}
+use Rattle.mimic_trial.specs.declared.outcome.Outcome.TheVariants.{Passed, Failed, Ignored, Measured}
 use Rattle.mimic_trial.specs.Count.{is_measured}
-use Rattle.mimic_text.specs.Escape.{escape, escaped}
+use Rattle.mimic_text.specs.Escape.{ArePlain, escape, escaped}
 use Rattle.mimic_printer.specs.Row.{Label}
-use Rattle.mimic_printer.specs.Json.{Entry, FitsLabel, json_end, json_line, kind_field, outcome_fields, time_key}
+use Rattle.mimic_printer.specs.Json.{Entry, FitsLabel, json_announcement, json_end, json_line, json_outcome, kind_field, outcome_fields, time_key}
 use Rattle.mimic_text.specs.Seconds.{exact_seconds}
 use Rattle.mimic_trial.specs.Promise.{FitsTypes}
 use Rattle.mimic_events.specs.Reading.{IsFailedLine}
@@ -73,6 +73,10 @@ pub record ReadsEscaped (bytes text rest : List ℕ) : Type 0 where
   pub front : bytes ≡ escaped text ++ rest
   pub only : (other after : List ℕ) → bytes ≡ escaped other ++ 34 ∷ after → (other ≡ text) × (34 ∷ after ≡ rest)
 
+-- the bytes are a text, and each of them stands for itself
+abbrev pub IsPlainText : List ℕ → Type 0
+IsPlainText text = IsUtf8 text × ArePlain text
+
 -- ---- numbers
 
 -- no digit stands first
@@ -124,3 +128,26 @@ SaysKind text kind = (other : List ℕ) (message : Option (List ℕ)) → text �
 abbrev pub IsTotals : ℕ × ℕ → List ℕ → Type 0
 IsTotals numbers text = (numbers.0 < 2 ^ 64) × (numbers.1 < 2 ^ 64)
     × (text ≡ json_line (decimal numbers.0 ∷ time_key ∷ exact_seconds numbers.1 ∷ []))
+
+-- ---- the two lines of a row
+
+-- the outcome is said in a word: it has no message and no numbers
+abbrev pub IsWord : Outcome → Type 0
+IsWord Passed = Unit {0}
+IsWord Ignored = Unit {0}
+IsWord (Failed None) = Unit {0}
+IsWord (Failed (Some message)) = ⊥
+IsWord (Measured m) = ⊥
+
+-- the bytes spell a name and a kind, each with its closing quote
+pub record SpellsLabel (bytes : List ℕ) : Type 0 where
+  pub label : Label
+  pub fits : FitsLabel label
+  pub spelled : bytes ≡ escaped label.name ++ 34 ∷ kind_field label.kind
+
+-- the text begins with the two lines of a row with this outcome, which is said in a word; the rest follows
+pub record BeginsRow (text : List ℕ) (outcome : Outcome) (rest : List ℕ) : Type 0 where
+  pub label : Label
+  pub fits : FitsLabel label
+  pub word : IsWord outcome
+  pub parts : text ≡ json_announcement label ++ (json_outcome label outcome ++ rest)

@@ -4,7 +4,7 @@ use Rattle.std.specs.List.{AllByRecursion, concat, flat_map}
 use Rattle.mimic_trial.specs.declared.outcome.Outcome.{Outcome}
 use Rattle.mimic_trial.specs.Count.{counts_of}
 use Rattle.mimic_printer.specs.Row.{Label}
-use Rattle.mimic_printer.specs.Json.{Entry, FitsEntry, FitsLabel, entry_lines, json_announcement, json_summary, json_title}
+use Rattle.mimic_printer.specs.Json.{Entry, FitsEntry, FitsLabel, entry_lines, json_announcement, json_outcome, json_summary, json_title}
 pub use Rattle.mimic_printer.specs.Json.{HasNoEnd, IsLine}
 use Rattle.mimic_events.specs.declared.stage.Stage.{Stage}
 use Rattle.mimic_events.specs.declared.stage.Stage.TheVariants as stage
@@ -146,6 +146,17 @@ Moves old entries line new Astray = IsCounted new entries
     × Takes false (state_with old entries) line (state_with new entries)
 Moves old entries line new (Read row) = IsCounted new (with_row entries row)
     × Takes true (state_with old entries) line (state_with new (with_row entries row))
+
+-- the text begins with the two lines of a row, which both belonged there, and the row was counted; the rest follows
+pub record CountsRow (old : Progress) (text : List ℕ) (new : Progress) (rest : List ℕ) : Type 0 where
+  pub entry : Entry
+  pub fits : FitsEntry entry
+  pub parts : text ≡ json_announcement entry.label ++ (json_outcome entry.label entry.outcome ++ rest)
+  pub counted : (entries : List Entry) → IsCounted old entries → IsCounted new (entries ++ entry ∷ [])
+  pub announced : (entries : List Entry) → IsCounted old entries
+      → Takes true (state_with old entries) (json_announcement entry.label) (record (state_with old entries) { next = outcome_next entry.label })
+  pub ended : (entries : List Entry) → IsCounted old entries
+      → Takes true (record (state_with old entries) { next = outcome_next entry.label }) (json_outcome entry.label entry.outcome) (state_with new (entries ++ entry ∷ []))
 
 -- the lines lead from one state to the other
 abbrev pub Runs : State → List (List ℕ) → State → Type 0

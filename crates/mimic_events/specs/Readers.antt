@@ -73,6 +73,14 @@ pub record ReadsRow (old : RowReader) (piece : List ℕ) (new : RowReader) (row 
   pub shorter : length left < length piece
   pub read : ReadsOn old front new (Some row)
 
+-- the front of the piece was read, and ended these rows; what is left of it follows
+pub record PassesRows (old : RowReader) (piece : List ℕ) (new : RowReader) (left : List ℕ) : Type 0 where
+  pub front : List ℕ
+  pub parts : piece ≡ front ++ left
+  pub rows : List Entry
+  pub read : (entries : List Entry) → IsSound old entries
+      → IsSound new (entries ++ rows) × (bytes_of new (entries ++ rows) ≡ bytes_of old entries ++ front)
+
 -- ---- the end
 
 -- a report of these rows, with the numbers that belong to no row

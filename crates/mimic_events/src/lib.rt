@@ -35,6 +35,7 @@ mod progress;
 mod quoted_text;
 mod report;
 mod report_reader;
+mod row_lines;
 mod row_reader;
 mod stage;
 mod summary;

@@ -6,6 +6,7 @@ ghost use Rattle.mimic_events.specs.Stage.{begun, most};
 
 use crate::lines::{announced, ended, titled};
 use crate::report::{Label, Row, Totals};
+use crate::row_lines::row_at;
 use crate::stage::Stage;
 use crate::summary::summed;
 use memchr::memchr;
@@ -38,7 +39,7 @@ impl Progress {
     ghost use Rattle.std.specs.Prelude.{◌≡◌, ◌+◌, [], List, IfOk, option_map};
     ghost use Rattle.mimic_printer.specs.Json.{Entry};
     ghost use Rattle.mimic_events.specs.Contents.{label_read};
-    ghost use Rattle.mimic_events.specs.Progress.{IsCounted, Moves, HasTotals, announced_from, lines_from, next_of, running_from, start, state_with};
+    ghost use Rattle.mimic_events.specs.Progress.{CountsRow, IsCounted, Moves, HasTotals, announced_from, lines_from, next_of, running_from, start, state_with};
 
     // Makes a progress of no line yet.
     pub(crate) fn new() -> Self
@@ -99,6 +100,22 @@ impl Progress {
             Stage::Over(_, _) => return Ok(Taken::Astray),
         };
         Ok(Taken::Read(row))
+    }
+
+    // Counts the row whose lines the text begins with, and returns what follows them, if a row comes next and `row_at` reads its
+    // lines. If not, nothing changes.
+    pub(crate) fn count_row<'a>(&mut self, text: &'a [u8]) -> Option<&'a [u8]>
+        ensures { MatchOption result (self.new ≡ self.old)
+            (λ rest. CountsRow self.old text.now self.new rest.now) }
+    {
+        match self.stage {
+            Stage::Row if self.done < self.announced => {}
+            _ => return None,
+        }
+        let (outcome, rest) = row_at(text)?;
+        self.done += 1;
+        self.counts.count(&outcome);
+        Some(rest)
     }
 
     // Returns how many rows the title announced, if it was read.

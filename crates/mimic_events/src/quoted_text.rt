@@ -1,12 +1,13 @@
 //! Reads texts between the quotes of a JSON string.
-ghost use Rattle.std.specs.Prelude.{◌≡◌, ◌++◌, ◌∷◌, ◌+◌, ◌<◌, ◌≤◌, [], IfOk, length, option_map, slice_range};
+ghost use Rattle.std.specs.Prelude.{◌≡◌, ◌++◌, ◌∷◌, ◌+◌, ◌<◌, ◌≤◌, [], IfOk, IfSome, length, option_map, slice_range};
 ghost use Rattle.mimic_text.specs.Escape.{ArePlain, escape, escaped};
-ghost use Rattle.mimic_events.specs.LineParts.{Follows, named_of, control_of, candidate_of, ReadsByte, ReadsEscaped, ReadsQuoted, ReadsNamed};
+ghost use Rattle.mimic_events.specs.LineParts.{Follows, IsPlainText, named_of, control_of, candidate_of, ReadsByte, ReadsEscaped, ReadsQuoted, ReadsNamed};
 
 use crate::ends::after;
 use mimic_text::{escape_byte, next_escape};
 use std::alloc::{AllocError, Global};
 use std::simd::prelude::*;
+use std::str;
 
 // How many bytes are looked at at once.
 const LANES: usize = 16;
@@ -26,6 +27,19 @@ pub(crate) fn quoted_after<'a>(
     };
     let found = quoted_at(alloc, rest)?;
     Ok(found)
+}
+
+// Returns the text up to the closing quote, and what follows that, if each of its bytes stands for itself.
+#[inline(always)]
+pub(crate) fn plain_text_at(bytes: &[u8]) -> Option<(&[u8], &[u8])>
+    ensures { IfSome result (λ found. IsPlainText found.0.now
+        × (bytes.now ≡ found.0.now ++ 34 ∷ found.1.now)) }
+{
+    let (text, rest) = plain_at(bytes);
+    match rest {
+        [b'"', rest @ ..] if str::from_utf8(text).is_ok() => Some((text, rest)),
+        _ => None,
+    }
 }
 
 // Returns what follows this front, which ends with the opening quote, this text, and the closing quote.

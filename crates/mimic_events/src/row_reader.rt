@@ -23,7 +23,7 @@ impl RowReader {
     ghost use Rattle.mimic_printer.specs.Json.{Entry};
     ghost use Rattle.mimic_events.specs.Contents.{label_read};
     ghost use Rattle.mimic_events.specs.Progress.{IsLine};
-    ghost use Rattle.mimic_events.specs.Readers.{IsSound, ReadsOn, ReadsRow, SumsUp, bytes_of};
+    ghost use Rattle.mimic_events.specs.Readers.{IsSound, PassesRows, ReadsOn, ReadsRow, SumsUp, bytes_of};
     ghost use Rattle.mimic_events.specs.Reading.{Decodes};
     ghost use Rattle.mimic_events.specs.SoFar.{BeginsWithTitle, IsFirstWrong, ShowsRunning};
     ghost use Rattle.mimic_events.specs.Tally.{Forgets};
@@ -63,6 +63,20 @@ impl RowReader {
         }
         self.rest.extend_from_slice(left)?;
         Ok(None)
+    }
+
+    // Reads the rows at the front of the piece that `count_row` counts, and returns what follows. It takes no memory.
+    pub(crate) fn pass_rows<'a>(&mut self, piece: &'a [u8]) -> &'a [u8]
+        ensures { PassesRows self.old piece.now self.new result.now }
+    {
+        let mut left = piece;
+        if self.stuck || !self.rest.is_empty() {
+            return left;
+        }
+        while let Some(after) = self.progress.count_row(left) {
+            left = after;
+        }
+        left
     }
 
     // Reads the end of a line, whose beginning is the rest, and returns the row that ended there.

@@ -43,10 +43,10 @@ impl Tally {
             .taken
             .checked_add(piece.len() as u64)
             .ok_or(AllocError)?;
-        let mut left = piece;
+        let mut left = tally.reader.pass_rows(piece);
         while let Some((row, after)) = tally.reader.next_row(tally.alloc, left)? {
             drop(row);
-            left = after;
+            left = tally.reader.pass_rows(after);
         }
         tally.reader.forget()?;
         Ok(tally)

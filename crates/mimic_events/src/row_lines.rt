@@ -1,0 +1,54 @@
+//! Reads the two lines of a row at once, and keeps nothing of them.
+ghost use Rattle.std.specs.Prelude.{◌≡◌, ◌++◌, IfSome};
+ghost use Rattle.mimic_events.specs.LineParts.{BeginsRow, IsWord, SpellsLabel, tail};
+
+use crate::ends::after;
+use crate::quoted_text::plain_text_at;
+use mimic_trial::{Failed, Outcome};
+
+// Returns the outcome of the row whose lines the text begins with, and what follows them. It takes no memory, so it returns
+// `None` also if the name or the kind has an escape, or the outcome a message or numbers.
+pub(crate) fn row_at(text: &[u8]) -> Option<(Outcome, &[u8])>
+    ensures { IfSome result (λ found. BeginsRow text.now found.0 found.1.now) }
+{
+    let rest = after(text, br#"{ "type": "test", "event": "started", "name": ""#)?;
+    let (label, rest) = label_at(rest)?;
+    let rest = after(rest, b" }\n")?;
+    let rest = after(rest, br#"{ "type": "test", "name": ""#)?;
+    // A name and a kind have one spelling.
+    let rest = after(rest, label)?;
+    word_at(rest)
+}
+
+// Splits the text after the name and the kind at its front.
+#[inline(always)]
+fn label_at(text: &[u8]) -> Option<(&[u8], &[u8])>
+    ensures { IfSome result (λ found. SpellsLabel found.0.now
+        × (text.now ≡ found.0.now ++ found.1.now)) }
+{
+    let (_name, rest) = plain_text_at(text)?;
+    let Some(kind) = after(rest, br#", "kind": ""#) else {
+        return Some(text.split_at(text.len() - rest.len()));
+    };
+    let (kind, rest) = plain_text_at(kind)?;
+    if kind.is_empty() {
+        return None;
+    }
+    Some(text.split_at(text.len() - rest.len()))
+}
+
+// Returns the outcome that is said in a word at the front of what follows the name and the kind, and what follows it.
+#[inline(always)]
+fn word_at(text: &[u8]) -> Option<(Outcome, &[u8])>
+    ensures { IfSome result (λ found. IsWord found.0
+        × (text.now ≡ tail found.0 ++ found.1.now)) }
+{
+    if let Some(rest) = after(text, b", \"event\": \"ok\" }\n") {
+        return Some((Outcome::Passed, rest));
+    }
+    if let Some(rest) = after(text, b", \"event\": \"ignored\" }\n") {
+        return Some((Outcome::Ignored, rest));
+    }
+    let rest = after(text, b", \"event\": \"failed\" }\n")?;
+    Some((Outcome::Failed(Failed::without_message()), rest))
+}
