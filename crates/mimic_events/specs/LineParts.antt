@@ -115,7 +115,7 @@ IsTail measured outcome text = (is_measured outcome ≡ measured) × FitsTypes o
 abbrev pub IsFailure : List ℕ → List ℕ → Type 0
 IsFailure message text = IsUtf8 message × (text ≡ tail (Failed (Some message)))
 
--- what was found is the name and the kind of which the line says that they failed; if nothing was found, it says that of none
+-- if the line says that a trial failed, the texts that were found are its name and kind; if none were found, it says it of none
 abbrev pub SaysFailed : List ℕ → Option Label → Type 0
 SaysFailed line None = (entry : Entry) → IsFailedLine entry line → ⊥
 SaysFailed line (Some label) = FitsLabel label × ((entry : Entry) → IsFailedLine entry line → entry.label ≡ label)

@@ -1,4 +1,4 @@
-use Rattle.std.proofs.Common.{◌+◌, ◌-◌, ◌≡◌, ℕ, refl, arith, ap, subst, sym, take, take_all, take-append-drop, drop, length-drop}
+use Rattle.std.proofs.Common.{◌+◌, ◌-◌, ◌≡◌, arith, subst, sym, take, take_all, take-append-drop, drop, length-drop}
 use Rattle.mimic_text.specs.Escape.{ArePlain}
 use Rattle.mimic_events.proofs.PlainLanes.{plain_more, plain_rest}
 use Rattle.mimic_events.proofs.quoted_text.plain_at.Goals as goal

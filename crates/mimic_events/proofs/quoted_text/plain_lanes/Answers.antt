@@ -1,4 +1,4 @@
-use Rattle.std.proofs.Common.{bit_or, ◌+◌, ◌-◌, ◌≡◌, ℕ, refl, arith, ap, subst, sym, take, drop}
+use Rattle.std.proofs.Common.{bit_or, ◌+◌, ◌-◌, ◌≡◌, ℕ, refl, arith, subst, sym, take, drop}
 use Rattle.std.proofs.lemmas.Simd.{zip2_splat, zip2_of_maps, length-chunk}
 use lib.Lanes.{chunk}
 use Rattle.mimic_text.specs.Escape.{ArePlain}

@@ -1,4 +1,4 @@
-use Rattle.std.proofs.Common.{◌≡◌, ◌≢◌, ◌++◌, ◌∷◌, [], rules, sym, ap, ◌∙◌, take-append-drop}
+use Rattle.std.proofs.Common.{◌≢◌, ◌++◌, [], rules, sym, ap, ◌∙◌, take-append-drop}
 use Rattle.mimic_printer.specs.Json.{kind_key}
 use Rattle.mimic_events.proofs.PlainRows.{plain_kind, plain_label}
 use Rattle.mimic_events.proofs.row_lines.label_at.Goals as goal

@@ -1,4 +1,4 @@
-use Rattle.std.proofs.Common.{◌≡◌, [], false, rules}
+use Rattle.std.proofs.Common.{◌≡◌, [], rules}
 use Rattle.std.proofs.lemmas.List.{nil_from_length}
 use Rattle.mimic_events.proofs.PlainRows.{nothing_passed, row_passed, row_shorter}
 use Rattle.mimic_events.proofs.row_reader.RowReader.pass_rows.Goals as goal
