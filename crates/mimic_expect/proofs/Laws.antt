@@ -36,14 +36,14 @@ all_but P test (x ∷ left) h = at (test x.0) (all_but P test left h.1)
     at true rest = h.1
     at false rest = (h.0, rest)
 
-all_without : (P : Key × Expected → Type 0) (left : Left) (row : Entry) → AllByRecursion P left → AllByRecursion P (without left row)
+pub all_without : (P : Key × Expected → Type 0) (left : Left) (row : Entry) → AllByRecursion P left → AllByRecursion P (without left row)
 all_without P left row h = at (is_some (lookup (same_key (key_in row)) left))
   where
     at : (b : Bool) → AllByRecursion P (cond b (remove_entry (same_key (key_in row)) left) (remove_entry (same_key (any_in row)) left))
     at true = all_but P (same_key (key_in row)) left h
     at false = all_but P (same_key (any_in row)) left h
 
-all_left : (P : Key × Expected → Type 0) (left : Left) (rows : List Entry) → AllByRecursion P left → AllByRecursion P (left_by left rows)
+pub all_left : (P : Key × Expected → Type 0) (left : Left) (rows : List Entry) → AllByRecursion P left → AllByRecursion P (left_by left rows)
 all_left P left [] h = h
 all_left P left (row ∷ rows) h = all_left P (without left row) rows (all_without P left row h)
 
@@ -129,7 +129,7 @@ none_fits left row h e = at (lookup (same_key (key_in row)) left) refl e
     at None found e =
         each_pair _ _ _ left (λ x own any fits. apart x.1 row own any fits) (no_key (key_in row) left h found) (no_key (any_in row) left h e)
 
-stays : (left : Left) (row : Entry) → meets left row ≡ None → without left row ≡ left
+pub stays : (left : Left) (row : Entry) → meets left row ≡ None → without left row ≡ left
 stays left row e = at (lookup (same_key (key_in row)) left) refl e
   where
     at : (o : Option Expected) → lookup (same_key (key_in row)) left ≡ o → option_or o (lookup (same_key (any_in row)) left) ≡ None → without left row ≡ left

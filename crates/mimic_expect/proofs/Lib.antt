@@ -5,3 +5,4 @@ pub mod Laws
 mod Meeting
 mod Numbers
 mod Pools
+pub mod Strangers

@@ -1,6 +1,6 @@
 -- Which known failures were met by the rows of reports, and what else the rows say (our own).
 use Rattle.std.specs.Prelude.{◌≡◌, ◌&&◌, ◌⊎◌, ℕ, Bool, true, false, cond, List, [], ◌∷◌, ◌++◌, filter, map, not, IsPermutation, Option, Some, None}
-use Rattle.std.specs.List.{AllByRecursion, flat_map}
+use Rattle.std.specs.List.{AllByRecursion, flat_map, list_any}
 use Rattle.std.specs.Map.{lookup, remove_entry}
 use Rattle.std.specs.Option.{is_some, option_eq, option_or}
 use Rattle.std.specs.Str.{bytes_eq}
@@ -147,6 +147,35 @@ findings_with left rows are_all = flat_map (fate are_all) (answers (labelled row
 -- theirs
 abbrev pub findings : List Expected → List Entry → Bool → List Finding
 findings expected rows are_all = findings_with (left_in expected rows) (others_in expected rows) are_all
+
+-- ---- rows that come one by one
+
+-- some known failure has the kind and name of the row
+abbrev pub is_known : List Expected → Entry → Bool
+is_known expected row = list_any (λ e. same_key (any_in e.entry) (any_in row)) expected
+
+abbrev pub known_rows : List Expected → List Entry → List Entry
+known_rows expected rows = filter (is_known expected) rows
+
+-- the failures whose kind and name no known failure has
+abbrev pub unknown_failures : List Expected → List Entry → List Entry
+unknown_failures expected rows = rows_with is_failed (filter (λ row. not (is_known expected row)) rows)
+
+-- what is unexpected, in the order in which it can be said while the rows come: first the failures whose kind and name no known
+-- failure has, and then the findings of the rows that are left
+abbrev pub findings_in_turn : List Expected → List Entry → Bool → List Finding
+findings_in_turn expected rows are_all =
+    map FailedRow (unknown_failures expected rows) ++ findings expected (known_rows expected rows) are_all
+
+-- both say the same findings, each as often, and the same failures meet the same lines
+pub record HasSame (expected : List Expected) (rows : List Entry) (are_all : Bool) : Type 0 where
+  pub findings : IsPermutation (findings expected rows are_all) (findings_in_turn expected rows are_all)
+  pub met : met_by (keyed expected) (rows_with is_failed (known_rows expected rows))
+      ≡ met_by (keyed expected) (rows_with is_failed rows)
+
+-- so it is with all known failures and all rows
+abbrev pub SameFindings : Type 0
+SameFindings = (expected : List Expected) (rows : List Entry) (are_all : Bool) → HasSame expected rows are_all
 
 -- the finding makes the rows unexpected: each does, but if it is lax a line whose trial passed does not
 abbrev pub counts : Bool → Finding → Bool

@@ -1,8 +1,10 @@
--- The line that is printed of what is unexpected (our own).
-use Rattle.std.specs.Prelude.{ℕ, List, [], ◌∷◌, ◌++◌, codes, decimal}
-use Rattle.std.specs.List.{concat}
+-- The lines that are printed of what is unexpected (our own).
+use Rattle.std.specs.Prelude.{ℕ, Bool, List, [], ◌∷◌, ◌++◌, codes, count_by, decimal, length}
+use Rattle.std.specs.List.{concat, flat_map}
+use Rattle.mimic_trial.specs.Count.{is_failed}
 use Rattle.mimic_printer.specs.Json.{Entry, json_outcome}
-use Rattle.mimic_expect.specs.Expect.{AbsentLine, FailedRow, Finding, OtherMessage, PassedLine}
+use Rattle.mimic_expect.specs.Expect.{AbsentLine, FailedRow, Finding, OtherMessage, PassedLine, findings_in_turn, is_absent_line, is_failed_row, is_other_message, is_passed_line, keyed, met_by, rows_with}
+use Rattle.mimic_expect.specs.Known.{Expected}
 
 -- the words, the number of a line, and the row as a report in JSON has it
 abbrev pub numbered_text : List ℕ → ℕ → Entry → List ℕ
@@ -14,3 +16,14 @@ finding_text (FailedRow row) = codes "failed: " ++ json_outcome row.label row.ou
 finding_text (OtherMessage e row) = numbered_text (codes "another message, line ") e.line row
 finding_text (PassedLine e) = numbered_text (codes "passed, line ") e.line e.entry
 finding_text (AbsentLine e) = numbered_text (codes "absent, line ") e.line e.entry
+
+-- the numbers: how many failures met a line, and how many findings there are of each kind
+abbrev pub numbers_text : ℕ → List Finding → List ℕ
+numbers_text met findings = concat (decimal met ∷ codes " known failures; " ∷ decimal (count_by is_failed_row findings) ∷ codes " failed; "
+    ∷ decimal (count_by is_passed_line findings) ∷ codes " passed; " ∷ decimal (count_by is_other_message findings)
+    ∷ codes " with another message; " ∷ decimal (count_by is_absent_line findings) ∷ codes " absent\n" ∷ [])
+
+-- what is printed of rows: a line of each finding, and a line of the numbers
+abbrev pub rows_text : List Expected → List Entry → Bool → List ℕ
+rows_text expected rows are_all = flat_map finding_text (findings_in_turn expected rows are_all)
+    ++ numbers_text (length (met_by (keyed expected) (rows_with is_failed rows))) (findings_in_turn expected rows are_all)
