@@ -1,4 +1,5 @@
 mod Answering
+pub mod Judged
 mod Judgements
 mod KnownLines
 pub mod Laws
@@ -6,3 +7,4 @@ mod Meeting
 mod Numbers
 mod Pools
 pub mod Strangers
+mod Verdicts

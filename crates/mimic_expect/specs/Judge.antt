@@ -1,24 +1,27 @@
--- Rows that come one by one (our own).
-use Rattle.std.specs.Prelude.{◌≡◌, Bool, List, [], ◌∷◌, ◌++◌, if◌then◌else◌, Option, None, Some}
-use Rattle.std.specs.Bool.{MatchBool}
-use Rattle.std.specs.List.{list_any}
-use Rattle.mimic_trial.specs.Count.{is_failed}
+-- Rows that are judged one by one. No public clause names these words.
+use Rattle.std.specs.Prelude.{◌≡◌, ℕ, Bool, List, ◌++◌, map, length}
+use Rattle.std.specs.List.{flat_map, list_any}
+use Rattle.mimic_printer.specs.Json.{Entry}
+use Rattle.mimic_printer.specs.Sink.{Put, Shown}
 use Rattle.mimic_events.specs.Contents.{entry_read}
-use Rattle.mimic_events.specs.declared.report.Row.{Row}
-use Rattle.mimic_expect.specs.Expect.{Key, any_in, same_key}
+use Rattle.mimic_expect.specs.Expect.{FailedRow, Key, any_in, known_rows, same_key, unknown_failures}
+use Rattle.mimic_expect.specs.FindingText.{finding_text}
+use Rattle.mimic_expect.specs.Known.{Expected}
 use Rattle.mimic_expect.specs.declared.known.Expectation.{Expectation}
 
 -- the known failures, and the rows that were kept
 pub record Judged : Type 0 where
-  pub known : List Expectation
-  pub rows : List Row
+  pub known : List Expected
+  pub rows : List Entry
 
 -- some known failure has this kind and name
 abbrev pub has_key : List Expectation → Key → Bool
 has_key known key = list_any (λ expectation. same_key (any_in (entry_read expectation.row)) key) known
 
--- a row with a known kind and name is kept, and of the others a failure is handed back
-abbrev pub HandsBack : Judged → Row → Judged → Option Row → Type 0
-HandsBack old row new back = MatchBool (has_key old.known (any_in (entry_read row)))
-    ((back ≡ None) × (new ≡ record old { rows = old.rows ++ row ∷ [] }))
-    ((back ≡ (if is_failed row.outcome then Some row else None)) × (new ≡ old))
+-- the rows were judged: those whose kind and name some known failure has are kept, and the failures among the others have lines,
+-- which are so many
+pub record Judges (old new : Judged) (rows : List Entry) (count : ℕ) (before after : Shown) : Type 0 where
+  pub known : new.known ≡ old.known
+  pub kept : new.rows ≡ old.rows ++ known_rows old.known rows
+  pub counted : count ≡ length (unknown_failures old.known rows)
+  pub put : Put before after (flat_map finding_text (map FailedRow (unknown_failures old.known rows)))

@@ -1,12 +1,14 @@
 -- What the private parts of judging promise. No public clause names these words.
-use Rattle.std.specs.Prelude.{ℕ, Bool, List, map, Option, None, Some}
-use Rattle.std.specs.List.{flat_map, slice_get}
+use Rattle.std.specs.Prelude.{ℕ, ◌+◌, Bool, List, [], ◌∷◌, ◌++◌, codes, count_by, decimal, map, Option, None, Some}
+use Rattle.std.specs.List.{concat, flat_map, slice_get}
 use Rattle.mimic_printer.specs.Json.{Entry}
 use Rattle.mimic_events.specs.Contents.{entry_read}
 use Rattle.mimic_events.specs.declared.report.Row.{Row}
-use Rattle.mimic_expect.specs.Expect.{AbsentLine, FailedRow, Finding, OtherMessage, PassedLine, fate}
+use Rattle.mimic_expect.specs.Expect.{AbsentLine, FailedRow, Finding, OtherMessage, PassedLine, fate, is_absent_line, is_failed_row, is_other_message, is_passed_line}
+use Rattle.mimic_expect.specs.FindingText.{finding_text}
 use Rattle.mimic_expect.specs.Known.{Expected, expected_read}
 use Rattle.mimic_expect.specs.declared.known.Expectation.{Expectation}
+use Rattle.mimic_expect.specs.declared.judging.Judgement.{Judgement}
 use Rattle.mimic_expect.specs.declared.judging.Unexpected.{Unexpected}
 use Rattle.mimic_expect.specs.declared.judging.Unexpected.TheVariants.{Failed, AnotherMessage, Passed, Absent}
 use denote.Ref.{Bor}
@@ -31,3 +33,19 @@ said are_all rows answered = flat_map (λ answer. fate are_all (answer.0, row_at
 
 abbrev pub expected_at : List (Bor Expectation) → List Expected
 expected_at expectations = map (λ expectation. expected_read expectation.now) expectations
+
+-- ---- the lines of a judgement
+
+abbrev pub count_in : (Finding → Bool) → Judgement → ℕ
+count_in test judgement = count_by (λ found. test (finding_read found)) judgement.unexpected.items
+
+-- the line of its numbers, to which so many failures count that were printed before
+abbrev pub judgement_numbers : Judgement → ℕ → List ℕ
+judgement_numbers judgement failed = concat (decimal judgement.met ∷ codes " known failures; "
+    ∷ decimal (failed + count_in is_failed_row judgement) ∷ codes " failed; " ∷ decimal (count_in is_passed_line judgement) ∷ codes " passed; "
+    ∷ decimal (count_in is_other_message judgement) ∷ codes " with another message; " ∷ decimal (count_in is_absent_line judgement)
+    ∷ codes " absent\n" ∷ [])
+
+-- its findings, each as one line, and its numbers
+abbrev pub judgement_text : Judgement → ℕ → List ℕ
+judgement_text judgement failed = flat_map (λ found. finding_text (finding_read found)) judgement.unexpected.items ++ judgement_numbers judgement failed

@@ -6,3 +6,4 @@ pub mod Keys
 pub mod Known
 pub mod Lines
 pub mod Pool
+pub mod Verdict

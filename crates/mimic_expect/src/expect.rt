@@ -1,53 +1,62 @@
 //! Judges rows that come one by one.
-ghost use Rattle.std.specs.Prelude.{◌≡◌, ◌++◌, ◌∷◌, [], IfOk, OnErr, length, map};
+ghost use Rattle.std.specs.Prelude.{◌≡◌, ◌∷◌, [], IfOk, MatchResult, cond, length, map};
+ghost use Rattle.std.specs.HashSet.{contains};
 ghost use Rattle.mimic_trial.specs.Count.{is_failed};
+ghost use Rattle.mimic_printer.specs.Sink.{HasFaultLeft, shown};
 ghost use Rattle.mimic_events.specs.Contents.{entry_read};
 ghost use Rattle.mimic_expect.specs.Expect.{findings, keyed, met_by, rows_with};
-ghost use Rattle.std.specs.HashSet.{contains};
-ghost use Rattle.mimic_expect.specs.Judge.{HandsBack, has_key};
+ghost use Rattle.mimic_expect.specs.Judge.{Judges, has_key};
 ghost use Rattle.mimic_expect.specs.Keys.{is_same, key_read};
 ghost use Rattle.mimic_expect.specs.declared.key.Key.{Key as Found};
 ghost use Rattle.mimic_expect.specs.Judging.{finding_read};
 ghost use Rattle.mimic_expect.specs.Known.{expected_read};
+ghost use Rattle.mimic_expect.specs.Verdict.{HasLeft};
 
-use crate::judging::{Judgement, judge};
+use crate::judging::{Judgement, Unexpected, judge};
 use crate::key::Key;
 use crate::known::Expectation;
+use crate::verdict::ExpectFault;
 use mimic_events::Row;
+use mimic_printer::Sink;
 use mimic_trial::Outcome;
 use std::alloc::{AllocError, Global};
 use std::collections::HashSet;
+use std::io::Write;
 use std::marker::Model;
 
-/// Judges rows that come one by one. It keeps those whose kind and name a known failure has, and no others.
-///
-/// Contracts see the known failures and the rows that were kept.
+// Judges rows that come one by one. It keeps those whose kind and name a known failure has, and no others.
+//
+// Contracts see the known failures and the rows that were kept.
 #[derive(Drop)]
-pub struct Judge<'a> {
+pub(crate) struct Judge<'a> {
     known: &'a [Expectation],
     labels: HashSet<Key<'a>>,
     rows: Vec<Row>,
 }
 
 impl<'a> Model for Judge<'a> {
-    ghost use Rattle.std.specs.Prelude.{◌≡◌};
+    ghost use Rattle.std.specs.Prelude.{◌≡◌, map};
     ghost use Rattle.std.specs.HashSet.{contains};
+    ghost use Rattle.mimic_events.specs.Contents.{entry_read};
     ghost use Rattle.mimic_expect.specs.Judge.{Judged, has_key};
     ghost use Rattle.mimic_expect.specs.Keys.{is_same, key_read};
+    ghost use Rattle.mimic_expect.specs.Known.{expected_read};
     ghost use Rattle.mimic_expect.specs.declared.key.Key.{Key as Found};
 
     ghost Value = { Judged };
 
-    ghost view = { λ j. record { known = j.known.now; rows = j.rows.items } };
+    ghost view = { λ j. record {
+        known = map expected_read j.known.now; rows = map entry_read j.rows.items
+    } };
 
     ghost invariant = { λ j. (key : Found) → contains is_same j.labels key
         ≡ has_key j.known.now (key_read key) };
 }
 
 impl<'a> Judge<'a> {
-    /// Makes a judge that has seen no row yet.
-    pub fn new(alloc: Global, known: &'a [Expectation]) -> Result<Judge<'a>, AllocError>
-        ensures { IfOk result (λ judge. judge ≡ record { known = known.now; rows = [] }) }
+    // Makes a judge that has seen no row yet.
+    pub(crate) fn new(alloc: Global, known: &'a [Expectation]) -> Result<Judge<'a>, AllocError>
+        ensures { IfOk result (λ judge. judge ≡ record { known = map expected_read known.now; rows = [] }) }
     {
         let labels = labels_in(alloc, known)?;
         Ok(Judge {
@@ -57,30 +66,36 @@ impl<'a> Judge<'a> {
         })
     }
 
-    /// Takes a row. It hands back a failure whose kind and name no known failure has, which is unexpected whatever follows.
-    ///
-    /// If an allocation fails, the row is lost.
-    pub fn row(&mut self, row: Row) -> Result<Option<Row>, AllocError>
-        ensures taken { IfOk result (HandsBack self.old row self.new) }
-        ensures failed { OnErr result (self.new ≡ self.old) }
+    // Takes a row. If it is a failure whose kind and name no known failure has, it is unexpected whatever follows: its line is
+    // written, and the result is true.
+    pub(crate) fn row<W: Write>(
+        &mut self,
+        row: Row,
+        sink: &mut Sink<W>,
+    ) -> Result<bool, ExpectFault>
+        requires { HasFaultLeft sink.old }
+        ensures { MatchResult result
+            (λ unknown. Judges self.old self.new (entry_read row ∷ []) (cond unknown 1 0)
+            (shown W.contents sink.old) (shown W.contents sink.new))
+            (HasLeft (shown W.contents sink.old) (shown W.contents sink.new)) }
     {
         if (&self.labels).contains(&Key::any(&row)) {
             self.rows.push(row)?;
-            return Ok(None);
+            return Ok(false);
         }
-        match &row.outcome {
-            Outcome::Failed(_) => Ok(Some(row)),
-            _ => Ok(None),
-        }
+        let Outcome::Failed(_) = &row.outcome else {
+            return Ok(false);
+        };
+        Unexpected::Failed(&row).put(sink)?;
+        Ok(true)
     }
 
-    /// Judges the rows that were kept, as [`judge`] does.
-    pub fn finish(&self, alloc: Global, are_all: bool) -> Result<Judgement<'_>, AllocError>
-        ensures met { IfOk result (λ judgement. judgement.met ≡ length (met_by
-            (keyed (map expected_read self.now.known))
-            (rows_with is_failed (map entry_read self.now.rows)))) }
+    // Judges the rows that were kept.
+    pub(crate) fn finish(&self, alloc: Global, are_all: bool) -> Result<Judgement<'_>, AllocError>
+        ensures met { IfOk result (λ judgement. judgement.met
+            ≡ length (met_by (keyed self.now.known) (rows_with is_failed self.now.rows))) }
         ensures unexpected { IfOk result (λ judgement. map finding_read judgement.unexpected.items
-            ≡ findings (map expected_read self.now.known) (map entry_read self.now.rows) are_all) }
+            ≡ findings self.now.known self.now.rows are_all) }
     {
         judge(alloc, self.known, &self.rows, are_all)
     }

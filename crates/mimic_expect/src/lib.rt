@@ -1,19 +1,11 @@
 //! Known failures, and what of the rows of reports is not as they say.
 //!
 //! ```rust
-//! use mimic_expect::{Judge, Unexpected, read_known};
+//! use mimic_expect::{read_known, write_unexpected};
 //!
 //! let known = read_known(alloc, &bytes)?;
-//! let mut judge = Judge::new(alloc, &known)?;
-//! for row in rows {
-//!     if let Some(failed) = judge.row(row)? {
-//!         Unexpected::Failed(&failed).put(&mut sink)?;
-//!     }
-//! }
-//! let judgement = judge.finish(alloc, true)?;
-//! for found in &judgement.unexpected {
-//!     found.put(&mut sink)?;
-//! }
+//! let verdict = write_unexpected(alloc, &known, readers, false, &mut sink)?;
+//! verdict.status()
 //! ```
 #![tactic(auto)]
 
@@ -23,7 +15,10 @@ mod key;
 mod known;
 mod pool;
 mod unexpected;
+mod verdict;
+mod writing;
 
-pub use expect::Judge;
 pub use judging::{Judgement, Unexpected, judge};
 pub use known::{Expectation, KnownFault, read_known};
+pub use verdict::{ExpectFault, InputEnd, Verdict};
+pub use writing::write_unexpected;

@@ -1,0 +1,201 @@
+-- Rows that are judged one after another.
+use Rattle.std.proofs.Common.{◌≡◌, ◌||◌, ℕ, suc, ◌+◌, ◌-◌, ◌<◌, ◌≤◌, ◌^◌, Bool, true, false, cond, not, List, [], ◌∷◌, ◌++◌, length, length-append, map, Option, None, Some, IfSome, Result, Ok, Err, refl, sym, ap, ap₂, subst, ◌∙◌, append_assoc, append-nil, arith, inl, inr}
+use Rattle.std.specs.Prelude.{MatchResult, filter}
+use Rattle.std.specs.List.{AllZip, flat_map, list_any}
+use Rattle.std.specs.Result.{IsErrAnd}
+use Rattle.std.specs.Io.KnownBytes.{Consumes}
+use Rattle.std.proofs.lemmas.List.{map-append}
+use Rattle.std.proofs.lemmas.List.Concat.{flat_map-append}
+use Rattle.std.proofs.lemmas.List.Elements.{filter-append}
+use Rattle.std.proofs.lemmas.List.Filters.{length-filter_both}
+use Rattle.mimic_trial.specs.declared.outcome.Outcome.{Outcome}
+use Rattle.mimic_trial.specs.declared.outcome.Outcome.TheVariants.{Failed, Ignored, Measured, Passed}
+use Rattle.mimic_trial.specs.Count.{is_failed}
+use Rattle.mimic_printer.specs.Json.{Entry}
+use Rattle.mimic_printer.specs.Sink.{Put, Shown}
+use Rattle.mimic_printer.proofs.Appending.{Put-Stopped, Put-refl, Put-trans}
+use Rattle.mimic_events.specs.Contents.{entry_read}
+use Rattle.mimic_events.specs.declared.report.Row.{Row}
+use Rattle.mimic_events.specs.Feed.{AreEnded}
+use Rattle.mimic_input.specs.Readings.{HasCome, pending}
+use Rattle.mimic_input.specs.declared.rows.InputRows.{InputRows}
+use Rattle.mimic_expect.specs.Expect.{FailedRow, Finding, any_in, is_known, known_rows, rows_with, same_key, unknown_failures}
+use Rattle.mimic_expect.specs.FindingText.{finding_text}
+use Rattle.mimic_expect.specs.Judge.{Judged, Judges, has_key}
+use Rattle.mimic_expect.specs.Known.{Expected, expected_read}
+use Rattle.mimic_expect.specs.Verdict.{HasEndedRows, HasLeft, InputRead, rows_of}
+use Rattle.mimic_expect.specs.declared.verdict.ExpectFault.{ExpectFault}
+use Rattle.mimic_expect.specs.declared.verdict.ExpectFault.TheVariants.{OutOfMemory, Write}
+use Rattle.mimic_expect.specs.declared.known.Expectation.{Expectation}
+
+abbrev pub lines : List Entry → List ℕ
+lines rows = flat_map finding_text (map FailedRow rows)
+
+unknown-append : (known : List Expected) (xs ys : List Entry) → unknown_failures known (xs ++ ys) ≡ unknown_failures known xs ++ unknown_failures known ys
+unknown-append known xs ys =
+    let lacks : Entry → Bool = λ (row : Entry). not (is_known known row) in
+    ap (rows_with is_failed) (filter-append lacks xs ys) ∙ filter-append (λ (row : Entry). is_failed row.outcome) (filter lacks xs) (filter lacks ys)
+
+lines-append : (xs ys : List Entry) → lines (xs ++ ys) ≡ lines xs ++ lines ys
+lines-append xs ys = ap (flat_map finding_text) (map-append FailedRow xs ys) ∙ flat_map-append finding_text (map FailedRow xs) (map FailedRow ys)
+
+pub judges_none : (a : Judged) (s : Shown) → Judges a a [] 0 s s
+judges_none a s = record { known = refl; kept = sym (append-nil a.rows); counted = refl; put = Put-refl s }
+
+pub judges_then : (a b c : Judged) (xs ys : List Entry) (m n : ℕ) (s t u : Shown) → Judges a b xs m s t → Judges b c ys n t u → Judges a c (xs ++ ys) (m + n) s u
+judges_then a b c xs ys m n s t u p q =
+    let both = unknown-append a.known xs ys in
+    record {
+      known = q.known ∙ p.known;
+      kept = q.kept ∙ (ap₂ (λ (l : List Entry) (k : List Expected). l ++ known_rows k ys) p.kept p.known
+          ∙ (append_assoc a.rows (known_rows a.known xs) (known_rows a.known ys) ∙ ap (λ (l : List Entry). a.rows ++ l) (sym (filter-append (is_known a.known) xs ys))));
+      counted = ap₂ (λ (i j : ℕ). i + j) p.counted (q.counted ∙ ap (λ (k : List Expected). length (unknown_failures k ys)) p.known)
+          ∙ (sym (length-append (unknown_failures a.known xs) (unknown_failures a.known ys)) ∙ ap length (sym both));
+      put = subst (Put s u) (sym (ap lines both ∙ lines-append (unknown_failures a.known xs) (unknown_failures a.known ys)))
+          (Put-trans _ _ p.put (subst (λ (k : List Expected). Put t u (lines (unknown_failures k ys))) p.known q.put));
+    }
+
+-- ---- one row
+
+pub known_keys : (known : List Expectation) (row : Entry) → is_known (map expected_read known) row ≡ has_key known (any_in row)
+known_keys [] row = refl
+known_keys (e ∷ known) row = ap (λ (b : Bool). same_key (any_in (entry_read e.row)) (any_in row) || b) (known_keys known row)
+
+module _ (known : List Expected) (rows : List Entry) (row : Entry) where
+  abbrev now : Judged
+  now = record { known = known; rows = rows }
+
+  abbrev kept_if : Bool → List Entry
+  kept_if b = cond b (row ∷ []) []
+
+  abbrev failed_if : Bool → Bool → List Entry
+  failed_if b f = cond b (cond f (row ∷ []) []) []
+
+  kept : is_known known row ≡ true → known_rows known (row ∷ []) ≡ row ∷ []
+  kept e = ap (λ (b : Bool). cond b (row ∷ []) []) e
+
+  dropped : is_known known row ≡ false → known_rows known (row ∷ []) ≡ []
+  dropped e = ap (λ (b : Bool). cond b (row ∷ []) []) e
+
+  none_lacks : is_known known row ≡ true → unknown_failures known (row ∷ []) ≡ []
+  none_lacks e = ap (λ (b : Bool). rows_with is_failed (cond (not b) (row ∷ []) [])) e
+
+  fails_if : (f : Bool) → is_known known row ≡ false → is_failed row.outcome ≡ f → unknown_failures known (row ∷ []) ≡ cond f (row ∷ []) []
+  fails_if f e is = ap (λ (b : Bool). rows_with is_failed (cond (not b) (row ∷ []) [])) e ∙ ap (λ (b : Bool). cond b (row ∷ []) []) is
+
+  pub judges_known : (s : Shown) → is_known known row ≡ true → Judges now (record { known = known; rows = rows ++ row ∷ [] }) (row ∷ []) 0 s s
+  judges_known s e = record {
+    known = refl;
+    kept = ap (λ (l : List Entry). rows ++ l) (sym (kept e));
+    counted = ap length (sym (none_lacks e));
+    put = subst (λ (l : List Entry). Put s s (lines l)) (sym (none_lacks e)) (Put-refl s);
+  }
+
+  pub judges_other : (s : Shown) → is_known known row ≡ false → is_failed row.outcome ≡ false → Judges now now (row ∷ []) 0 s s
+  judges_other s e is = record {
+    known = refl;
+    kept = sym (append-nil rows) ∙ ap (λ (l : List Entry). rows ++ l) (sym (dropped e));
+    counted = ap length (sym (fails_if false e is));
+    put = subst (λ (l : List Entry). Put s s (lines l)) (sym (fails_if false e is)) (Put-refl s);
+  }
+
+  pub judges_failed : (s t : Shown) → is_known known row ≡ false → is_failed row.outcome ≡ true → Put s t (finding_text (FailedRow row)) → Judges now now (row ∷ []) 1 s t
+  judges_failed s t e is p = record {
+    known = refl;
+    kept = sym (append-nil rows) ∙ ap (λ (l : List Entry). rows ++ l) (sym (dropped e));
+    counted = ap length (sym (fails_if true e is));
+    put = subst (λ (l : List Entry). Put s t (lines l)) (sym (fails_if true e is)) (subst (Put s t) (sym (append-nil (finding_text (FailedRow row)))) p);
+  }
+
+-- ---- how many
+
+pub counted_one : (old new : ℕ) (b : Bool) → b ≡ true → new ≡ old + 1 → new ≡ old + cond b 1 0
+counted_one old new b is e = e ∙ sym (ap (λ (c : Bool). old + cond c 1 0) is)
+
+pub counted_none : (old new : ℕ) (b : Bool) → b ≡ false → new ≡ old → new ≡ old + cond b 1 0
+counted_none old new b is e =
+    let none : cond b (suc 0) 0 ≡ 0 = ap (λ (c : Bool). cond c (suc 0) 0) is in
+    omega (arith, none, e)
+
+nil_not_push : {X : Type 0} (xs : List X) (x : X) → xs ++ x ∷ [] ≡ [] → ⊥
+nil_not_push [] x e = absurd (cc)
+nil_not_push (y ∷ ys) x e = absurd (cc)
+
+-- there is room for one more failure while one more row comes
+pub room : (bytes : List ℕ) (entries : List Entry) (e : Entry) (a b : Judged) (count : ℕ) (s t : Shown) → AreEnded bytes (entries ++ e ∷ []) → Judges a b entries count s t → count < 2 ^ 64 - 1
+room bytes entries e a b count s t h j =
+    let lacks : Entry → Bool = λ (row : Entry). not (is_known a.known row) in
+    let fails : Entry → Bool = λ (row : Entry). is_failed row.outcome in
+    let counted = j.counted in
+    let lacking = length-filter_both lacks (λ (x : Entry). not (lacks x)) (λ x. refl) entries in
+    let failing = length-filter_both fails (λ (x : Entry). not (fails x)) (λ x. refl) (filter lacks entries) in
+    let few : length entries < 2 ^ 64 - 1 = elim h.begun [
+      | inl none ↦ absurd (nil_not_push entries e none)
+      | inr b ↦ let within = b.within in let number = b.number in omega (arith, within, number, length-append entries (e ∷ []))
+    ] in
+    omega (arith, counted, lacking, failing, few)
+
+-- ---- an input that failed
+
+pub rows_before : {I : Type 0} (remaining : I → Option (List ℕ)) (start : Option (List ℕ)) (r : InputRows I) (entries : List Entry) → HasCome remaining start r entries
+    → IfSome start (λ bytes. HasEndedRows bytes entries)
+rows_before remaining None r entries h = tt
+rows_before remaining (Some all) r entries h = at (remaining r.input) h.gone
+  where
+    at : (rest : Option (List ℕ)) → Consumes (Some all) rest (h.bytes ++ pending remaining r) → HasEndedRows all entries
+    at None gone = absurd gone
+    at (Some rest) gone = record { front = h.bytes; rest = pending remaining r ++ rest; parts = gone ∙ append_assoc h.bytes (pending remaining r) rest; ended = h.followed.ended }
+
+-- ---- a row that a judge takes
+
+pub row_kept : (self : Judged) (known : List Expectation) (rows new : List Row) (row : Row) (s : Shown) → self ≡ record { known = map expected_read known; rows = map entry_read rows }
+    → has_key known (any_in (entry_read row)) ≡ true → new ≡ rows ++ row ∷ [] → Judges self (record { known = map expected_read known; rows = map entry_read new }) (entry_read row ∷ []) 0 s s
+row_kept self known rows new row s e has news =
+    let all = map expected_read known in
+    let kept = judges_known all (map entry_read rows) (entry_read row) s (known_keys known (entry_read row) ∙ has) in
+    subst (λ (j : Judged). Judges j (record { known = all; rows = map entry_read new }) (entry_read row ∷ []) 0 s s) (sym e)
+    (subst (λ (l : List Entry). Judges (record { known = all; rows = map entry_read rows }) (record { known = all; rows = l }) (entry_read row ∷ []) 0 s s)
+    (sym (ap (map entry_read) news ∙ map-append entry_read rows (row ∷ []))) kept)
+
+not_failed : (o : Outcome) → ((m : Option (List ℕ)) → o ≡ Failed m → ⊥) → is_failed o ≡ false
+not_failed Passed h = refl
+not_failed (Failed m) h = absurd (h m refl)
+not_failed Ignored h = refl
+not_failed (Measured m) h = refl
+
+pub row_passed : (self : Judged) (known : List Expectation) (rows : List Row) (row : Row) (s : Shown) → self ≡ record { known = map expected_read known; rows = map entry_read rows }
+    → has_key known (any_in (entry_read row)) ≡ false → ((m : Option (List ℕ)) → row.outcome ≡ Failed m → ⊥) → Judges self self (entry_read row ∷ []) 0 s s
+row_passed self known rows row s e has h =
+    subst (λ (j : Judged). Judges j j (entry_read row ∷ []) 0 s s) (sym e)
+    (judges_other (map expected_read known) (map entry_read rows) (entry_read row) s (known_keys known (entry_read row) ∙ has) (not_failed row.outcome h))
+
+pub row_failed : (self : Judged) (known : List Expectation) (rows : List Row) (row : Row) (m : Option (List ℕ)) (s t : Shown) → self ≡ record { known = map expected_read known; rows = map entry_read rows }
+    → has_key known (any_in (entry_read row)) ≡ false → row.outcome ≡ Failed m → Put s t (finding_text (FailedRow (entry_read row))) → Judges self self (entry_read row ∷ []) 1 s t
+row_failed self known rows row m s t e has is p =
+    subst (λ (j : Judged). Judges j j (entry_read row ∷ []) 1 s t) (sym e)
+    (judges_failed (map expected_read known) (map entry_read rows) (entry_read row) s t (known_keys known (entry_read row) ∙ has) (ap is_failed is) p)
+
+-- ---- faults
+
+pub err_left : {T : Type 0} (P : T → Type 0) (a b : Shown) (result : Result T ExpectFault) (fault : ExpectFault) → IsErrAnd result (λ f. f ≡ fault) → HasLeft a b fault → MatchResult result P (HasLeft a b)
+err_left P a b (Ok x) fault h left = absurd h
+err_left P a b (Err f) fault h left = subst (HasLeft a b) (sym h) left
+
+pub left_after : (a b c : Shown) (text : List ℕ) (fault : ExpectFault) → Put a b text → HasLeft b c fault → HasLeft a c fault
+left_after a b c text OutOfMemory p left = (text ++ left.0, Put-trans text left.0 p left.1)
+left_after a b c text (Write fault) p left = (text ++ left.0, Put-Stopped text left.0 p left.1)
+
+-- ---- inputs, one after another
+
+pub each_more : {A B : Type 0} (R : A → B → Type 0) (xs : List A) (ys : List B) (x : A) (y : B) → AllZip R xs ys → R x y → AllZip R (xs ++ x ∷ []) (ys ++ y ∷ [])
+each_more R [] [] x y h r = (r, tt)
+each_more R [] (b ∷ ys) x y h r = absurd h
+each_more R (a ∷ xs) [] x y h r = absurd h
+each_more R (a ∷ xs) (b ∷ ys) x y h r = (h.0, each_more R xs ys x y h.1 r)
+
+pub input_judged : (a b c : Judged) (read : List InputRead) (next : InputRead) (m n k : ℕ) (s t u : Shown) → Judges a b (rows_of read) m s t → Judges b c next.entries n t u → k ≡ n
+    → Judges a c (rows_of (read ++ next ∷ [])) (m + k) s u
+input_judged a b c read next m n k s t u p q e =
+    let rows : rows_of (read ++ next ∷ []) ≡ rows_of read ++ next.entries =
+    flat_map-append (λ (r : InputRead). r.entries) read (next ∷ []) ∙ ap (λ (l : List Entry). rows_of read ++ l) (append-nil next.entries) in
+    subst (λ (l : List Entry). Judges a c l (m + k) s u) (sym rows) (subst (λ (i : ℕ). Judges a c (rows_of read ++ next.entries) (m + i) s u) (sym e) (judges_then a b c (rows_of read) next.entries m n s t u p q))

@@ -1,0 +1,176 @@
+-- What is written at the end, and what it says.
+use Rattle.std.proofs.Common.{◌≡◌, ◌||◌, ℕ, ◌+◌, ◌<◌, ◌≤◌, suc, Bool, true, false, cond, List, [], ◌∷◌, ◌++◌, length, map, get_or, take, codes, decimal, Option, Result, Ok, Err, refl, sym, ap, ap₂, subst, ◌∙◌, append_assoc, arith}
+use Rattle.std.specs.Prelude.{count_by, nat_lt}
+use Rattle.std.specs.List.{concat, flat_map, list_all, list_any}
+use Rattle.std.specs.Result.{IsErrAnd}
+use Rattle.std.proofs.lemmas.Bool.Decides.{nat_tests}
+use Rattle.std.proofs.lemmas.List.{take_all}
+use Rattle.std.proofs.lemmas.List.Concat.{flat_map-append}
+use Rattle.std.proofs.lemmas.List.Folds.{list_all-map, list_any-append}
+use Rattle.std.proofs.lemmas.List.Sorted.{list_any-IsPermutation}
+use Rattle.std.proofs.lemmas.List.Sums.{sum_by-append, sum_by-cons}
+use Rattle.mimic_trial.specs.Count.{is_failed}
+use Rattle.mimic_printer.specs.Json.{Entry}
+use Rattle.mimic_printer.specs.Sink.{Put, Shown, Stopped, Writes}
+use Rattle.mimic_printer.specs.declared.sink.WriteFault.{WriteFault}
+use Rattle.mimic_printer.proofs.Appending.{Put-trans, Put_after, Puts_then, Stopped-more, Stopped-next}
+use Rattle.mimic_expect.specs.Expect.{FailedRow, Finding, counts, findings, findings_in_turn, is_absent_line, is_failed_row, is_other_message, is_passed_line, keyed, known_rows, met_by, rows_with, unknown_failures}
+use Rattle.mimic_expect.specs.FindingText.{finding_text, numbers_text, rows_text}
+use Rattle.mimic_expect.specs.Judge.{Judged, Judges}
+use Rattle.mimic_expect.specs.Judging.{count_in, finding_read, judgement_numbers, judgement_text}
+use Rattle.mimic_expect.specs.Known.{Expected}
+use Rattle.mimic_expect.specs.Verdict.{HasLeft, InputRead, LeavesVerdict, has_all, have_all}
+use Rattle.mimic_expect.specs.declared.judging.Judgement.{Judgement}
+use Rattle.mimic_expect.specs.declared.judging.Unexpected.{Unexpected}
+use Rattle.mimic_expect.specs.declared.verdict.ExpectFault.{ExpectFault}
+use Rattle.mimic_expect.specs.declared.verdict.ExpectFault.TheVariants.{Write as WriteFailed}
+use Rattle.mimic_expect.specs.declared.verdict.InputEnd.{InputEnd}
+use Rattle.mimic_expect.specs.declared.verdict.Verdict.{Verdict}
+use Rattle.mimic_expect.proofs.Judged.{lines}
+use Rattle.mimic_expect.proofs.Strangers.{same_findings}
+
+-- ---- the lines of a judgement
+
+abbrev line_of : Unexpected → List ℕ
+line_of found = finding_text (finding_read found)
+
+pub stopped_at : {a b c : Shown} (judgement : Judgement) (failed : ℕ) (items : List Unexpected) (i : ℕ) (found : Unexpected) → items ≡ judgement.unexpected.items → i < length items → found ≡ get_or items i found
+    → Put a b (flat_map line_of (take i judgement.unexpected.items)) → Stopped b c (line_of found) → Stopped a c (judgement_text judgement failed)
+stopped_at {a} {b} {c} judgement failed items i found e lt is p q =
+    let P : List Unexpected → Type 0 = λ (l : List Unexpected). Put a b (flat_map line_of (take i l)) in
+    let Q : List Unexpected → Type 0 = λ (l : List Unexpected). Stopped a c (flat_map line_of l) in
+    Stopped-more (flat_map line_of judgement.unexpected.items) (judgement_numbers judgement failed)
+    (subst Q e (Stopped-next line_of items i found lt (subst P (sym e) p) (subst (λ (u : Unexpected). Stopped b c (line_of u)) is q)))
+
+numbers_are : (judgement : Judgement) (before failed passed other absent : ℕ) → failed ≡ count_in is_failed_row judgement → passed ≡ count_in is_passed_line judgement
+    → other ≡ count_in is_other_message judgement → absent ≡ count_in is_absent_line judgement
+    → (decimal judgement.met ++ codes " known failures; ") ++ ((decimal (before + failed) ++ codes " failed; ") ++ ((decimal passed ++ codes " passed; ")
+    ++ ((decimal other ++ codes " with another message; ") ++ ((decimal absent ++ codes " absent\n") ++ [])))) ≡ judgement_numbers judgement before
+numbers_are judgement before failed passed other absent f p o a = rw (f, p, o, a) (simp append_assoc)
+
+pub judgement_put : {E T : Type 0} (a b c : Shown) (judgement : Judgement) (before failed passed other absent : ℕ) (items : List Unexpected) (i : ℕ) (result : Result T E) → items ≡ judgement.unexpected.items
+    → length items ≤ i → failed ≡ count_in is_failed_row judgement → passed ≡ count_in is_passed_line judgement → other ≡ count_in is_other_message judgement
+    → absent ≡ count_in is_absent_line judgement → Put a b (flat_map line_of (take i judgement.unexpected.items))
+    → Writes b c ((decimal judgement.met ++ codes " known failures; ") ++ ((decimal (before + failed) ++ codes " failed; ") ++ ((decimal passed ++ codes " passed; ")
+    ++ ((decimal other ++ codes " with another message; ") ++ ((decimal absent ++ codes " absent\n") ++ []))))) result
+    → Writes a c (judgement_text judgement before) result
+judgement_put a b c judgement before failed passed other absent items i result e le f p o n put numbers =
+    let all : take i judgement.unexpected.items ≡ judgement.unexpected.items = take_all i judgement.unexpected.items (omega (arith, le, ap length e)) in
+    Puts_then a b c (flat_map line_of judgement.unexpected.items) (judgement_numbers judgement before) result (subst (λ (l : List Unexpected). Put a b (flat_map line_of l)) all put)
+    (subst (λ (t : List ℕ). Writes b c t result) (numbers_are judgement before failed passed other absent f p o n) numbers)
+
+-- ---- counts
+
+count-cons : (test : Finding → Bool) (x : Finding) (xs : List Finding) → count_by test (x ∷ xs) ≡ cond (test x) 1 0 + count_by test xs
+count-cons test x xs = sum_by-cons (λ (y : Finding). cond (test y) 1 0) x xs
+
+count-append : (test : Finding → Bool) (xs ys : List Finding) → count_by test (xs ++ ys) ≡ count_by test xs + count_by test ys
+count-append test xs ys = sum_by-append (λ (y : Finding). cond (test y) 1 0) xs ys
+
+count_read : (test : Finding → Bool) (items : List Unexpected) → count_by (λ (found : Unexpected). test (finding_read found)) items ≡ count_by test (map finding_read items)
+count_read test [] = refl
+count_read test (x ∷ items) =
+    let here = sum_by-cons (λ (y : Unexpected). cond (test (finding_read y)) 1 0) x items in
+    omega (arith, here, count-cons test (finding_read x) (map finding_read items), count_read test items)
+
+failures_counted : (rows : List Entry) → count_by is_failed_row (map FailedRow rows) ≡ length rows
+failures_counted [] = refl
+failures_counted (row ∷ rows) = omega (arith, count-cons is_failed_row (FailedRow row) (map FailedRow rows), failures_counted rows)
+
+none_counted : (test : Finding → Bool) → ((row : Entry) → test (FailedRow row) ≡ false) → (rows : List Entry) → count_by test (map FailedRow rows) ≡ 0
+none_counted test never [] = refl
+none_counted test never (row ∷ rows) =
+    let here : cond (test (FailedRow row)) (suc 0) 0 ≡ 0 = ap (λ (b : Bool). cond b (suc 0) 0) (never row) in
+    omega (arith, count-cons test (FailedRow row) (map FailedRow rows), none_counted test never rows, here)
+
+lines_read : (items : List Unexpected) → flat_map line_of items ≡ flat_map finding_text (map finding_read items)
+lines_read [] = refl
+lines_read (x ∷ items) = ap (λ (l : List ℕ). line_of x ++ l) (lines_read items)
+
+any_read : (lax : Bool) (items : List Unexpected) → list_any (λ (u : Unexpected). counts lax (finding_read u)) items ≡ list_any (counts lax) (map finding_read items)
+any_read lax [] = refl
+any_read lax (x ∷ items) = ap (λ (b : Bool). counts lax (finding_read x) || b) (any_read lax items)
+
+-- ---- all that is written
+
+module _ (known : List Expected) (start new : Judged) (rows : List Entry) (are_all : Bool) (count : ℕ) (judgement : Judgement) (begun : start ≡ record { known = known; rows = [] }) where
+  abbrev failures : List Entry
+  failures = unknown_failures known rows
+
+  abbrev rest : List Finding
+  rest = findings known (known_rows known rows) are_all
+
+  abbrev Says : Type 0
+  Says = map finding_read judgement.unexpected.items ≡ findings new.known new.rows are_all
+
+  module _ {s t : Shown} (judged : Judges start new rows count s t) where
+    knows : new.known ≡ known
+    knows = judged.known ∙ ap (λ (j : Judged). j.known) begun
+
+    kept : new.rows ≡ known_rows known rows
+    kept = judged.kept ∙ ap (λ (j : Judged). j.rows ++ known_rows j.known rows) begun
+
+    counted : count ≡ length failures
+    counted = judged.counted ∙ ap (λ (j : Judged). length (unknown_failures j.known rows)) begun
+
+    pub lines_put : Put s t (lines failures)
+    lines_put = subst (λ (j : Judged). Put s t (lines (unknown_failures j.known rows))) begun judged.put
+
+    module _ (says : Says) where
+      found : map finding_read judgement.unexpected.items ≡ rest
+      found = says ∙ ap₂ (λ (k : List Expected) (l : List Entry). findings k l are_all) knows kept
+
+      count_of : (test : Finding → Bool) → count_in test judgement ≡ count_by test rest
+      count_of test = count_read test judgement.unexpected.items ∙ ap (count_by test) found
+
+      none_of : (test : Finding → Bool) → ((row : Entry) → test (FailedRow row) ≡ false) → count_in test judgement ≡ count_by test (findings_in_turn known rows are_all)
+      none_of test never = omega (arith, count_of test, none_counted test never failures, count-append test (map FailedRow failures) rest)
+
+      all_failed : count + count_in is_failed_row judgement ≡ count_by is_failed_row (findings_in_turn known rows are_all)
+      all_failed = omega (arith, counted, count_of is_failed_row, failures_counted failures, count-append is_failed_row (map FailedRow failures) rest)
+
+      numbers : judgement.met ≡ length (met_by (keyed new.known) (rows_with is_failed new.rows))
+          → judgement_numbers judgement count ≡ numbers_text (length (met_by (keyed known) (rows_with is_failed rows))) (findings_in_turn known rows are_all)
+      numbers met =
+          let is : judgement.met ≡ length (met_by (keyed known) (rows_with is_failed rows)) =
+          met ∙ (ap₂ (λ (k : List Expected) (l : List Entry). length (met_by (keyed k) (rows_with is_failed l))) knows kept ∙ ap length (same_findings known rows are_all).met) in
+          rw (is, all_failed, none_of is_passed_line (λ row. refl), none_of is_other_message (λ row. refl), none_of is_absent_line (λ row. refl)) refl
+
+      pub all_put : {u v : Shown} → judgement.met ≡ length (met_by (keyed new.known) (rows_with is_failed new.rows)) → Put t u (judgement_text judgement count) → Put u v []
+          → Put s v (rows_text known rows are_all)
+      all_put {u} {v} met put flush =
+          let shown : flat_map finding_text (findings_in_turn known rows are_all) ≡ lines failures ++ flat_map line_of judgement.unexpected.items =
+          flat_map-append finding_text (map FailedRow failures) rest ∙ ap (λ (l : List ℕ). lines failures ++ l) (sym (lines_read judgement.unexpected.items ∙ ap (flat_map finding_text) found)) in
+          let text : lines failures ++ judgement_text judgement count ≡ rows_text known rows are_all =
+          sym (append_assoc (lines failures) (flat_map line_of judgement.unexpected.items) (judgement_numbers judgement count)) ∙ ap₂ (λ (a b : List ℕ). a ++ b) (sym shown) (numbers met) in
+          subst (Put s v) text (Put_after _ (Put-trans _ _ lines_put put) flush)
+
+      module _ (lax : Bool) where
+        any_in_turn : list_any (counts lax) (findings known rows are_all) ≡ (list_any (counts lax) (map FailedRow failures) || list_any (counts lax) rest)
+        any_in_turn =
+            list_any-IsPermutation (counts lax) (findings known rows are_all) (findings_in_turn known rows are_all) (same_findings known rows are_all).findings
+            ∙ list_any-append (counts lax) (map FailedRow failures) rest
+
+        pub some_counts : 0 < count → nat_lt 0 count ≡ list_any (counts lax) (findings known rows are_all)
+        some_counts lt = at failures counted ∙ sym any_in_turn
+          where
+            at : (rows : List Entry) → count ≡ length rows → nat_lt 0 count ≡ (list_any (counts lax) (map FailedRow rows) || list_any (counts lax) rest)
+            at [] e = absurd (omega (arith, lt, e))
+            at (row ∷ rows) e = let t : nat_lt 0 count ≡ true = grind (arith, nat_tests) in t
+
+        pub rest_counts : (b : Bool) → count ≤ 0 → b ≡ list_any (λ (u : Unexpected). counts lax (finding_read u)) judgement.unexpected.items → b ≡ list_any (counts lax) (findings known rows are_all)
+        rest_counts b le e = e ∙ (any_read lax judgement.unexpected.items ∙ (ap (list_any (counts lax)) found ∙ (at failures counted ∙ sym any_in_turn)))
+          where
+            at : (rows : List Entry) → count ≡ length rows → list_any (counts lax) rest ≡ (list_any (counts lax) (map FailedRow rows) || list_any (counts lax) rest)
+            at [] e = refl
+            at (row ∷ rows) e = absurd (omega (arith, le, e))
+
+-- ---- what is left
+
+pub write_left : {I : Type 0} (remaining : I → Option (List ℕ)) (expected : List Expected) (inputs : List I) (lax : Bool) (old new : Shown) (result : Result Verdict ExpectFault) (error : WriteFault) (text : List ℕ)
+    → IsErrAnd result (λ fault. fault ≡ WriteFailed error) → Stopped old new text → LeavesVerdict remaining expected inputs lax old new result
+write_left remaining expected inputs lax old new (Ok x) error text h s = absurd h
+write_left remaining expected inputs lax old new (Err fault) error text h s = subst (HasLeft old new) (sym h) (text, s)
+
+pub ends_have_all : (read : List InputRead) (ends : List InputEnd) → ends ≡ map (λ (r : InputRead). r.end) read → list_all has_all ends ≡ have_all read
+ends_have_all read ends e = ap (list_all has_all) e ∙ list_all-map has_all (λ (r : InputRead). r.end) read

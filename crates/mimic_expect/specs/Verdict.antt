@@ -1,0 +1,81 @@
+-- What a call leaves that writes what of reports is unexpected (our own).
+use Rattle.std.specs.Prelude.{◌≡◌, ℕ, ◌==◌, Bool, true, false, if◌then◌else◌, List, ◌++◌, map, Option, IfSome, Result, Ok, Err}
+use Rattle.std.specs.List.{AllZip, flat_map, list_all, list_any}
+use Rattle.mimic_printer.specs.Json.{Entry}
+use Rattle.mimic_printer.specs.Sink.{Put, Shown, Stopped}
+use Rattle.mimic_events.specs.Feed.{AreEnded}
+use Rattle.mimic_input.specs.Readings.{IsReading}
+use Rattle.mimic_input.specs.declared.ending.Ending.TheVariants.{Whole}
+use Rattle.mimic_expect.specs.Expect.{counts, findings}
+use Rattle.mimic_expect.specs.FindingText.{rows_text}
+use Rattle.mimic_expect.specs.Known.{Expected}
+use Rattle.mimic_expect.specs.declared.verdict.ExpectFault.{ExpectFault}
+use Rattle.mimic_expect.specs.declared.verdict.ExpectFault.TheVariants.{OutOfMemory, Write}
+use Rattle.mimic_expect.specs.declared.verdict.InputEnd.{InputEnd}
+use Rattle.mimic_expect.specs.declared.verdict.InputEnd.TheVariants.{Ended, Failed}
+use Rattle.mimic_expect.specs.declared.verdict.Verdict.{Verdict}
+
+-- ---- inputs
+
+-- what was read of an input: the rows that have ended, and how the input ended
+pub record InputRead : Type 0 where
+  pub entries : List Entry
+  pub end : InputEnd
+
+-- these rows have ended in a front of the bytes
+pub record HasEndedRows (bytes : List ℕ) (entries : List Entry) : Type 0 where
+  pub front : List ℕ
+  pub rest : List ℕ
+  pub parts : bytes ≡ front ++ rest
+  pub ended : AreEnded front entries
+
+-- the bytes have these rows, and end so; with an error of the reader the rows are those before it
+abbrev pub Reads : List Entry → InputEnd → List ℕ → Type 0
+Reads entries (Ended ending) bytes = IsReading entries ending bytes
+Reads entries (Failed error) bytes = HasEndedRows bytes entries
+
+-- the input, if its bytes are known, was read so
+abbrev pub IsReadOf : Option (List ℕ) → InputRead → Type 0
+IsReadOf input read = IfSome input (Reads read.entries read.end)
+
+-- the rows of all inputs, in their order
+abbrev pub rows_of : List InputRead → List Entry
+rows_of inputs = flat_map (λ read. read.entries) inputs
+
+-- the input was a whole report
+abbrev pub is_whole : InputEnd → Bool
+is_whole (Ended (Whole filtered_out nanos)) = true
+is_whole other = false
+
+-- it was, and no trial was filtered out
+abbrev pub has_all : InputEnd → Bool
+has_all (Ended (Whole filtered_out nanos)) = filtered_out == 0
+has_all other = false
+
+-- so it is with each input: all trials have rows
+abbrev pub have_all : List InputRead → Bool
+have_all inputs = list_all (λ read. has_all read.end) inputs
+
+-- ---- the verdict
+
+-- what is unexpected of the rows of all inputs was written, each once, and the numbers; the verdict says whether any of it counts
+pub record IsVerdict {I : Type 0} (remaining : I → Option (List ℕ)) (expected : List Expected) (inputs : List I) (lax : Bool) (old new : Shown) (verdict : Verdict) : Type 0 where
+  pub read : List InputRead
+  pub each : AllZip (λ input r. IsReadOf (remaining input) r) inputs read
+  pub ends : verdict.ends.items ≡ map (λ r. r.end) read
+  pub put : Put old new (rows_text expected (rows_of read) (have_all read))
+  pub unexpected : verdict.is_unexpected ≡ list_any (counts lax) (findings expected (rows_of read) (have_all read))
+
+-- without memory some text was appended, and with a fault of the writer a beginning of one
+abbrev pub HasLeft : Shown → Shown → ExpectFault → Type 0
+HasLeft old new OutOfMemory = (text : List ℕ) × Put old new text
+HasLeft old new (Write fault) = (text : List ℕ) × Stopped old new text
+
+-- what a call leaves that judges the inputs
+abbrev pub LeavesVerdict : {I : Type 0} → (I → Option (List ℕ)) → List Expected → List I → Bool → Shown → Shown → Result Verdict ExpectFault → Type 0
+LeavesVerdict remaining expected inputs lax old new (Ok verdict) = IsVerdict remaining expected inputs lax old new verdict
+LeavesVerdict remaining expected inputs lax old new (Err fault) = HasLeft old new fault
+
+-- the exit status: 1 if some input is no whole report, else 101 if anything is unexpected that counts, else 0
+abbrev pub status_of : Verdict → ℕ
+status_of verdict = if list_all is_whole verdict.ends.items then (if verdict.is_unexpected then 101 else 0) else 1
