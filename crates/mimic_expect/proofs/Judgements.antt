@@ -8,7 +8,7 @@ use Rattle.std.proofs.lemmas.Simd.{map-map}
 use Rattle.std.proofs.lemmas.Option.{slice_get-get_or}
 use Rattle.mimic_trial.specs.declared.outcome.Outcome.{Outcome}
 use Rattle.mimic_trial.specs.declared.outcome.Outcome.TheVariants.{Passed}
-use Rattle.mimic_trial.specs.Count.{is_ignored_outcome}
+use Rattle.mimic_trial.specs.Count.{is_failed, is_ignored_outcome}
 use Rattle.mimic_printer.specs.Json.{Entry}
 use Rattle.mimic_events.specs.Contents.{entry_read}
 use Rattle.mimic_events.specs.declared.report.Row.{Row}
@@ -140,7 +140,14 @@ others_found rows unmet others e =
 
 -- ---- how many meet
 
-pub counted : (left : List (Key × Expected)) (failures : List Entry) (failed unmet : List (Bor Row)) → entries_read failed ≡ failures → entries_read unmet ≡ unmet_by left failures
-    → length (met_by left failures) + length unmet ≡ length failed
-counted left failures failed unmet e f =
-    omega (arith, met_and_unmet Expected left failures, ap length e, ap length f, length-map failed (λ (row : Bor Row). entry_read row.now), length-map unmet (λ (row : Bor Row). entry_read row.now))
+module _ (known : List Expectation) (rows : List Row) (failed slice unmet : List (Bor Row)) (found : map now failed ≡ filter (λ (row : Row). is_failed row.outcome) rows) (same : slice ≡ failed) where
+  pub failures_read : entries_read slice ≡ rows_with is_failed (map entry_read rows)
+  failures_read = ap entries_read same ∙ rows_found is_failed rows failed found
+
+  pub counted : entries_read unmet ≡ unmet_by (keyed (map expected_read known)) (entries_read slice)
+      → length (met_by (keyed (map expected_read known)) (rows_with is_failed (map entry_read rows))) + length unmet ≡ length failed
+  counted met =
+      let left = keyed (map expected_read known) in
+      let failures = rows_with is_failed (map entry_read rows) in
+      let rest = ap length (met ∙ ap (unmet_by left) failures_read) in
+      omega (arith, met_and_unmet Expected left failures, ap length failures_read, ap length same, rest, length-map slice (λ (row : Bor Row). entry_read row.now), length-map unmet (λ (row : Bor Row). entry_read row.now))

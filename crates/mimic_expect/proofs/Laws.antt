@@ -7,7 +7,7 @@ use Rattle.std.specs.Option.{is_some, option_or}
 use Rattle.std.proofs.lemmas.List.Sorted.{IsPermutation-cons, IsPermutation-middle, IsPermutation-refl, IsPermutation-sym, IsPermutation-trans}
 use Rattle.mimic_printer.specs.Json.{Entry}
 use Rattle.mimic_printer.specs.Row.{Label}
-use Rattle.mimic_expect.specs.Expect.{Fits, Key, MatchingLaw, any_in, key_in, keyed, left_by, meets, message_of, met_by, same_key, unmet_by, with_row, without}
+use Rattle.mimic_expect.specs.Expect.{Fits, IsMatching, Key, any_in, key_in, keyed, left_by, meets, message_of, met_by, same_key, unmet_by, with_row, without}
 use Rattle.mimic_expect.specs.Keys.{same_key-decides}
 use Rattle.mimic_expect.specs.Known.{Expected}
 use Rattle.mimic_expect.proofs.Meeting.{keeps}
@@ -198,7 +198,7 @@ values_keyed : (expected : List Expected) → values (keyed expected) ≡ expect
 values_keyed [] = refl
 values_keyed (e ∷ expected) = ap (λ (l : List Expected). e ∷ l) (values_keyed expected)
 
-pub matching_law : MatchingLaw
+pub matching_law : (expected : List Expected) (failures : List Entry) → IsMatching expected failures
 matching_law expected failures =
     let m = meeting (keyed expected) failures (own_keys expected) in
     record {

@@ -13,10 +13,10 @@ use Rattle.mimic_trial.specs.declared.outcome.Outcome.{Outcome}
 use Rattle.mimic_trial.specs.declared.outcome.Outcome.TheVariants.{Failed, Ignored, Measured, Passed}
 use Rattle.mimic_trial.specs.Count.{is_failed, is_ignored_outcome}
 use Rattle.mimic_printer.specs.Json.{Entry}
-use Rattle.mimic_expect.specs.Expect.{FailedRow, Finding, HasSame, Key, SameFindings, answers, any_in, fate, findings, findings_in_turn, findings_with, has_passed, is_known, key_in, keyed, known_rows, labelled, left_by, left_in, meets, met_by, others_in, rows_with, same_key, unanswered, unknown_failures, unmet_by, with_row, without}
+use Rattle.mimic_expect.specs.Expect.{ExpectLaws, FailedRow, Finding, HasSame, Key, answers, any_in, fate, findings, findings_in_turn, findings_with, has_passed, is_known, key_in, keyed, known_rows, labelled, left_by, left_in, meets, met_by, others_in, rows_with, same_key, unanswered, unknown_failures, unmet_by, with_row, without}
 use Rattle.mimic_expect.specs.Keys.{same_key-decides}
 use Rattle.mimic_expect.specs.Known.{Expected}
-use Rattle.mimic_expect.proofs.Laws.{all_left, all_without, stays}
+use Rattle.mimic_expect.proofs.Laws.{all_left, all_without, matching_law, stays}
 
 -- ---- filters
 
@@ -380,5 +380,5 @@ module _ (expected : List Expected) (rows : List Entry) (are_all : Bool) where
         met = ap (met_by (keyed expected)) (known_with is_failed) ∙ split.met;
       }
 
-pub same_findings : SameFindings
-same_findings expected rows are_all = has_same expected rows are_all
+pub expect_laws : ExpectLaws
+expect_laws = record { matching = matching_law; same = has_same }

@@ -27,7 +27,7 @@ use Rattle.mimic_expect.specs.declared.verdict.ExpectFault.TheVariants.{Write as
 use Rattle.mimic_expect.specs.declared.verdict.InputEnd.{InputEnd}
 use Rattle.mimic_expect.specs.declared.verdict.Verdict.{Verdict}
 use Rattle.mimic_expect.proofs.Judged.{lines}
-use Rattle.mimic_expect.proofs.Strangers.{same_findings}
+use Rattle.mimic_expect.proofs.Strangers.{has_same}
 
 -- ---- the lines of a judgement
 
@@ -133,7 +133,7 @@ module _ (known : List Expected) (start new : Judged) (rows : List Entry) (are_a
           → judgement_numbers judgement count ≡ numbers_text (length (met_by (keyed known) (rows_with is_failed rows))) (findings_in_turn known rows are_all)
       numbers met =
           let is : judgement.met ≡ length (met_by (keyed known) (rows_with is_failed rows)) =
-          met ∙ (ap₂ (λ (k : List Expected) (l : List Entry). length (met_by (keyed k) (rows_with is_failed l))) knows kept ∙ ap length (same_findings known rows are_all).met) in
+          met ∙ (ap₂ (λ (k : List Expected) (l : List Entry). length (met_by (keyed k) (rows_with is_failed l))) knows kept ∙ ap length (has_same known rows are_all).met) in
           rw (is, all_failed, none_of is_passed_line (λ row. refl), none_of is_other_message (λ row. refl), none_of is_absent_line (λ row. refl)) refl
 
       pub all_put : {u v : Shown} → judgement.met ≡ length (met_by (keyed new.known) (rows_with is_failed new.rows)) → Put t u (judgement_text judgement count) → Put u v []
@@ -148,7 +148,7 @@ module _ (known : List Expected) (start new : Judged) (rows : List Entry) (are_a
       module _ (lax : Bool) where
         any_in_turn : list_any (counts lax) (findings known rows are_all) ≡ (list_any (counts lax) (map FailedRow failures) || list_any (counts lax) rest)
         any_in_turn =
-            list_any-IsPermutation (counts lax) (findings known rows are_all) (findings_in_turn known rows are_all) (same_findings known rows are_all).findings
+            list_any-IsPermutation (counts lax) (findings known rows are_all) (findings_in_turn known rows are_all) (has_same known rows are_all).findings
             ∙ list_any-append (counts lax) (map FailedRow failures) rest
 
         pub some_counts : 0 < count → nat_lt 0 count ≡ list_any (counts lax) (findings known rows are_all)

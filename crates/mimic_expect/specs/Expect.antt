@@ -81,10 +81,6 @@ pub record IsMatching (expected : List Expected) (failures : List Entry) : Type 
   pub rest : AllByRecursion (λ row. AllByRecursion (λ x. Fits x.1 row → ⊥) (left_by (keyed expected) failures))
       (unmet_by (keyed expected) failures)
 
--- so it is with all known failures and all failures
-abbrev pub MatchingLaw : Type 0
-MatchingLaw = (expected : List Expected) (failures : List Entry) → IsMatching expected failures
-
 -- ---- rows answer what is left
 
 -- for each expectation the first row left with its kind and name
@@ -173,9 +169,10 @@ pub record HasSame (expected : List Expected) (rows : List Entry) (are_all : Boo
   pub met : met_by (keyed expected) (rows_with is_failed (known_rows expected rows))
       ≡ met_by (keyed expected) (rows_with is_failed rows)
 
--- so it is with all known failures and all rows
-abbrev pub SameFindings : Type 0
-SameFindings = (expected : List Expected) (rows : List Entry) (are_all : Bool) → HasSame expected rows are_all
+-- the laws of known failures and rows, whatever they are
+pub record ExpectLaws : Type 0 where
+  pub matching : (expected : List Expected) (failures : List Entry) → IsMatching expected failures
+  pub same : (expected : List Expected) (rows : List Entry) (are_all : Bool) → HasSame expected rows are_all
 
 -- the finding makes the rows unexpected: each does, but if it is lax a line whose trial passed does not
 abbrev pub counts : Bool → Finding → Bool

@@ -6,7 +6,7 @@ ghost use Rattle.std.specs.Option.{is_some, option_to_list};
 ghost use Rattle.mimic_trial.specs.Count.{is_failed, is_ignored_outcome};
 ghost use Rattle.mimic_printer.specs.Json.{Entry};
 ghost use Rattle.mimic_events.specs.Contents.{entry_read};
-ghost use Rattle.mimic_expect.specs.Expect.{FailedRow, Key as KeyRead, MatchingLaw, answers, any_in, counts, fate, findings, findings_with, has_passed, is_absent_line, is_failed_row, is_other_message, is_passed_line, key_in, keyed, left_by, meets, met_by, rows_with, same_key, unanswered, unmet_by, without};
+ghost use Rattle.mimic_expect.specs.Expect.{FailedRow, Key as KeyRead, answers, any_in, counts, fate, findings, findings_with, has_passed, is_absent_line, is_failed_row, is_other_message, is_passed_line, key_in, keyed, left_by, meets, met_by, rows_with, same_key, unanswered, unmet_by, without};
 ghost use Rattle.mimic_expect.specs.Judging.{entries_read, expected_at, finding_read, row_at, said};
 ghost use Rattle.mimic_expect.specs.Keys.{key_read};
 ghost use Rattle.mimic_expect.specs.Known.{Expected, expected_read};
@@ -19,19 +19,19 @@ use mimic_events::Row;
 use mimic_trial::Outcome;
 use std::alloc::{AllocError, Global};
 
-/// What is not as the known failures say.
-#[derive(Debug, Clone, Copy)]
-pub enum Unexpected<'a> {
-    /// The row failed, and no line expects that.
+// What is not as the known failures say.
+#[derive(Clone, Copy)]
+pub(crate) enum Unexpected<'a> {
+    // The row failed, and no line expects that.
     Failed(&'a Row),
-    /// The row failed with another message than the line says.
+    // The row failed with another message than the line says.
     AnotherMessage {
         expectation: &'a Expectation,
         row: &'a Row,
     },
-    /// The trial of the line passed or was measured.
+    // The trial of the line passed or was measured.
     Passed(&'a Expectation),
-    /// No row of the trial of the line is there.
+    // No row of the trial of the line is there.
     Absent(&'a Expectation),
 }
 
@@ -248,23 +248,18 @@ fn add_failures<'a>(
     Ok(())
 }
 
-/// What rows say, judged by known failures.
-#[derive(Debug, Drop)]
-pub struct Judgement<'a> {
-    /// The number of failures that are as a line says.
-    pub met: usize,
-    /// What is unexpected: first what the lines say that no failure met, in their order, and then the failures that no line
-    /// expects, in the order of their rows.
-    pub unexpected: Vec<Unexpected<'a>>,
+// What rows say, judged by known failures.
+#[derive(Drop)]
+pub(crate) struct Judgement<'a> {
+    // The number of failures that are as a line says.
+    pub(crate) met: usize,
+    // What is unexpected: first what the lines say that no failure met, in their order, and then the failures that no line
+    // expects, in the order of their rows.
+    pub(crate) unexpected: Vec<Unexpected<'a>>,
 }
 
-/// Judges the rows by the known failures.
-///
-/// A failure meets one expectation of its kind and name: the first one of its message that is left, or else the first one of any
-/// message. What is left then is answered by a row of its kind and name that has met nothing: by a failure, which has another
-/// message, or else by one that passed or was measured, or else by an ignored one, of which nothing is said. Expectations that no
-/// row answers are absent; they count only if `are_all` says that all trials are among the rows.
-pub fn judge<'a>(
+// Judges the rows by the known failures.
+pub(crate) fn judge<'a>(
     alloc: Global,
     known: &'a [Expectation],
     rows: &'a [Row],
@@ -274,9 +269,6 @@ pub fn judge<'a>(
         (keyed (map expected_read known.now)) (rows_with is_failed (map entry_read rows.now)))) }
     ensures unexpected { IfOk result (λ judgement. map finding_read judgement.unexpected.items
         ≡ findings (map expected_read known.now) (map entry_read rows.now) are_all) }
-
-    // What it means that failures meet expectations: each of either stands once, those that meet fit, and no others would.
-    ensures law { MatchingLaw }
 {
     let failed = failed_in(alloc, rows)?;
     let (left, unmet) = meeting(alloc, known, &failed)?;
@@ -323,15 +315,15 @@ fn findings_of<'a>(
 }
 
 impl Judgement<'_> {
-    /// Whether anything is unexpected that counts: with `lax` a line whose trial passed doesn't.
-    pub fn is_unexpected(&self, lax: bool) -> bool
+    // Whether anything is unexpected that counts: with `lax` a line whose trial passed doesn't.
+    pub(crate) fn is_unexpected(&self, lax: bool) -> bool
         ensures { result ≡ list_any (λ found. counts lax (finding_read found)) self.now.unexpected.items }
     {
         self.unexpected.iter().any(|found| found.counts(lax))
     }
 
-    /// Counts the failures that no line expects.
-    pub fn failed(&self) -> usize
+    // Counts the failures that no line expects.
+    pub(crate) fn failed(&self) -> usize
         ensures { result ≡ count_by (λ found. is_failed_row (finding_read found)) self.now.unexpected.items }
     {
         self.unexpected
@@ -340,8 +332,8 @@ impl Judgement<'_> {
             .count()
     }
 
-    /// Counts the failures with another message than a line says.
-    pub fn another_message(&self) -> usize
+    // Counts the failures with another message than a line says.
+    pub(crate) fn another_message(&self) -> usize
         ensures { result ≡ count_by (λ found. is_other_message (finding_read found)) self.now.unexpected.items }
     {
         self.unexpected
@@ -350,8 +342,8 @@ impl Judgement<'_> {
             .count()
     }
 
-    /// Counts the lines whose trial passed or was measured.
-    pub fn passed(&self) -> usize
+    // Counts the lines whose trial passed or was measured.
+    pub(crate) fn passed(&self) -> usize
         ensures { result ≡ count_by (λ found. is_passed_line (finding_read found)) self.now.unexpected.items }
     {
         self.unexpected
@@ -360,8 +352,8 @@ impl Judgement<'_> {
             .count()
     }
 
-    /// Counts the lines whose trial is absent.
-    pub fn absent(&self) -> usize
+    // Counts the lines whose trial is absent.
+    pub(crate) fn absent(&self) -> usize
         ensures { result ≡ count_by (λ found. is_absent_line (finding_read found)) self.now.unexpected.items }
     {
         self.unexpected

@@ -18,7 +18,6 @@ mod unexpected;
 mod verdict;
 mod writing;
 
-pub use judging::{Judgement, Unexpected, judge};
 pub use known::{Expectation, KnownFault, read_known};
 pub use verdict::{ExpectFault, InputEnd, Verdict};
 pub use writing::write_unexpected;

@@ -13,9 +13,9 @@ use mimic_printer::{Sink, WriteFault};
 use std::io::Write;
 
 impl Unexpected<'_> {
-    /// Writes it as one line: what it is, which line of the known failures can go, and the row, or that line if there is no row
-    /// to show, as a report in JSON has it. So nothing in a name or a message ends the line or makes another.
-    pub fn put<W: Write>(&self, sink: &mut Sink<W>) -> Result<(), WriteFault>
+    // Writes it as one line: what it is, which line of the known failures can go, and the row, or that line if there is no row
+    // to show, as a report in JSON has it. So nothing in a name or a message ends the line or makes another.
+    pub(crate) fn put<W: Write>(&self, sink: &mut Sink<W>) -> Result<(), WriteFault>
         requires { HasFaultLeft sink.old }
         ensures { Puts W.contents sink.old sink.new (finding_text (finding_read self.now)) result }
     {

@@ -3,7 +3,7 @@ ghost use Rattle.std.specs.Prelude.{◌≡◌, ◌<◌, ◌-◌, ◌^◌, ◌++�
 ghost use Rattle.std.specs.List.{AllZip, flat_map};
 ghost use Rattle.mimic_printer.specs.Json.{Entry};
 ghost use Rattle.mimic_printer.specs.Sink.{HasFaultLeft, Puts, shown};
-ghost use Rattle.mimic_expect.specs.Expect.{SameFindings};
+ghost use Rattle.mimic_expect.specs.Expect.{ExpectLaws};
 ghost use Rattle.mimic_expect.specs.FindingText.{finding_text};
 ghost use Rattle.mimic_expect.specs.Judge.{Judges};
 ghost use Rattle.mimic_expect.specs.Judging.{finding_read, judgement_text};
@@ -23,12 +23,16 @@ use std::io::{ErrorKind, Read, Write};
 /// Writes what of the reports is not as the known failures say, each once and as one line, and a line of the numbers, and flushes
 /// it. Of what isn't a whole report the rows are judged that have ended.
 ///
+/// A failure meets one known failure of its kind and name: the first one of its message that is left, or else the first one of any
+/// message. What is left then is answered by a row of its kind and name that has met nothing: by a failure, which has another
+/// message, or else by one that passed or was measured, or else by an ignored one, of which nothing is said. Known failures that no
+/// row answers are absent.
+///
 /// A failure whose kind and name no known failure has is written as soon as it is read. Rows with a known kind and name are kept,
 /// and no others. A line whose trial has no row counts only if each input is a whole report and no trial was filtered out. With
 /// `lax` lines whose trials passed are written, but don't count.
 ///
 /// An input that fails ends no call: the verdict says how each ended. With a fault a beginning was written.
-#[tactic(auto, using(crate::proofs::Strangers::same_findings))]
 pub fn write_unexpected<I: Read + Drop, W: Write>(
     alloc: Global,
     known: &[Expectation],
@@ -40,8 +44,8 @@ pub fn write_unexpected<I: Read + Drop, W: Write>(
     ensures verdict { LeavesVerdict I.remaining (map expected_read known.now) inputs.items lax
         (shown W.contents sink.old) (shown W.contents sink.new) result }
 
-    // What is written is what is unexpected of all rows together.
-    ensures law { SameFindings }
+    // What it means to meet a line, and that the findings are those of all rows together.
+    ensures laws { ExpectLaws }
 {
     let mut judge = Judge::new(alloc, known)?;
     let (failed, ends) = judge_inputs(alloc, inputs, &mut judge, sink)?;

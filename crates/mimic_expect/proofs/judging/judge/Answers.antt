@@ -1,31 +1,22 @@
-use Rattle.std.proofs.Common.{◌≡◌, ◌++◌, ◌∙◌, ap, ap₂, arith, length, map, rules, ◌+◌}
-use Rattle.mimic_trial.specs.Count.{is_failed, is_ignored_outcome}
+use Rattle.std.proofs.Common.{◌≡◌, ◌++◌, ◌∙◌, ap, ap₂, arith, length, map, rules}
+use Rattle.mimic_trial.specs.Count.{is_ignored_outcome}
 use Rattle.mimic_events.specs.Contents.{entry_read}
-use Rattle.mimic_expect.specs.Expect.{findings_with, has_passed, keyed, left_by, met_by, rows_with, unmet_by}
+use Rattle.mimic_expect.specs.Expect.{findings_with, has_passed, keyed, left_by, rows_with, unmet_by}
 use Rattle.mimic_expect.specs.Judging.{entries_read, expected_at}
 use Rattle.mimic_expect.specs.Known.{expected_read}
-use Rattle.mimic_expect.proofs.Judgements.{counted, others_found, rows_found, second}
-use Rattle.mimic_expect.proofs.Laws.{matching_law}
+use Rattle.mimic_expect.proofs.Judgements.{counted, failures_read, others_found, second}
 use Rattle.mimic_expect.proofs.judging.judge.Goals as goal
 
 pub overflow_sub-met : goal.overflow_sub-met
 overflow_sub-met c =
-    let known = keyed (map expected_read c.args.known.now) in
-    let failures = rows_with is_failed (map entry_read c.args.rows.now) in
-    let e = rows_found is_failed c.args.rows.now c.in_ok-failed.failed.items c.in_ok-failed.ensures in
-    let f = c.in_ok-left.ensures.1 ∙ ap (unmet_by known) (ap entries_read c.deref.ensures.value ∙ e) in
-    let n : length (met_by known failures) + length c.in_ok-left.unmet.items ≡ length c.in_ok-failed.failed.items = counted known failures c.in_ok-failed.failed.items c.in_ok-left.unmet.items e f in
+    let n = counted c.args.known.now c.args.rows.now c.in_ok-failed.failed.items c.deref.result.now c.in_ok-left.unmet.items c.in_ok-failed.ensures c.deref.ensures.value c.in_ok-left.ensures.1 in
     let a : c.len.result ≡ length c.in_ok-failed.failed.items = search rules in
     let b : c.len-2.result ≡ length c.in_ok-left.unmet.items = search rules in
     omega (arith, n, a, b)
 
 pub returns-clause-met : goal.returns-clause-met
 returns-clause-met c =
-    let known = keyed (map expected_read c.args.known.now) in
-    let failures = rows_with is_failed (map entry_read c.args.rows.now) in
-    let e = rows_found is_failed c.args.rows.now c.in_ok-failed.failed.items c.in_ok-failed.ensures in
-    let f = c.in_ok-left.ensures.1 ∙ ap (unmet_by known) (ap entries_read c.deref.ensures.value ∙ e) in
-    let n : length (met_by known failures) + length c.in_ok-left.unmet.items ≡ length c.in_ok-failed.failed.items = counted known failures c.in_ok-failed.failed.items c.in_ok-left.unmet.items e f in
+    let n = counted c.args.known.now c.args.rows.now c.in_ok-failed.failed.items c.deref.result.now c.in_ok-left.unmet.items c.in_ok-failed.ensures c.deref.ensures.value c.in_ok-left.ensures.1 in
     let a : c.len.result ≡ length c.in_ok-failed.failed.items = search rules in
     let b : c.len-2.result ≡ length c.in_ok-left.unmet.items = search rules in
     omega (arith, n, a, b)
@@ -34,24 +25,9 @@ pub returns-clause-unexpected : goal.returns-clause-unexpected
 returns-clause-unexpected c =
     let known = keyed (map expected_read c.args.known.now) in
     let rows = map entry_read c.args.rows.now in
-    let same = ap entries_read c.deref.ensures.value ∙ rows_found is_failed c.args.rows.now c.in_ok-failed.failed.items c.in_ok-failed.ensures in
+    let same = failures_read c.args.known.now c.args.rows.now c.in_ok-failed.failed.items c.deref.result.now c.in_ok-left.unmet.items c.in_ok-failed.ensures c.deref.ensures.value in
     let left = ap expected_at c.deref-2.ensures.value ∙ (c.in_ok-left.ensures.0 ∙ ap (λ l. map second (left_by known l)) same) in
     let unmet = c.in_ok-left.ensures.1 ∙ ap (unmet_by known) same in
     let others = ap entries_read c.deref-3.ensures.value
     ∙ (others_found c.args.rows.now c.in_ok-left.unmet.items c.in_ok-others.others.items c.in_ok-others.ensures ∙ ap (λ u. u ++ (rows_with has_passed rows ++ rows_with is_ignored_outcome rows)) unmet) in
     c.in_ok-unexpected.ensures ∙ ap₂ (λ l r. findings_with l r c.args.are_all) left others
-
-pub returns-in_err-failed-clause-law : goal.returns-in_err-failed-clause-law
-returns-in_err-failed-clause-law c = matching_law
-
-pub returns-in_err-left-clause-law : goal.returns-in_err-left-clause-law
-returns-in_err-left-clause-law c = matching_law
-
-pub returns-in_err-others-clause-law : goal.returns-in_err-others-clause-law
-returns-in_err-others-clause-law c = matching_law
-
-pub returns-in_err-unexpected-clause-law : goal.returns-in_err-unexpected-clause-law
-returns-in_err-unexpected-clause-law c = matching_law
-
-pub returns-clause-law : goal.returns-clause-law
-returns-clause-law c = matching_law
