@@ -1,9 +1,55 @@
 //! Prints what is not in a report as in an older one.
-use crate::REFUSED;
+use crate::input::Input;
 use crate::line::Compare;
+use crate::{BLOCK, REFUSED};
+use mimic_compare::{CompareFault, write_comparison};
+use mimic_input::{Ending, RowsRead, read_rows};
+use mimic_printer::Sink;
 use std::alloc::Global;
+use std::fmt;
+use std::io::BufWriter;
 
+// Prints what became of each kind and name, and says of a report why it isn't whole.
 pub(crate) fn run(rt: &HostRuntime, alloc: Global, compare: &Compare) -> u8 {
-    let _ = (rt, alloc, compare);
+    let old = read(rt, alloc, compare.old.as_str());
+    let new = read(rt, alloc, compare.new.as_str());
+    match (old, new) {
+        (Some(old), Some(new)) => print(rt, alloc, &old, &new),
+        _ => REFUSED,
+    }
+}
+
+// Reads the rows of a file, or says why it gives none.
+fn read(rt: &HostRuntime, alloc: Global, file: &str) -> Option<RowsRead> {
+    match read_rows(alloc, Input::new(rt, file)) {
+        Ok(read) => {
+            if let Ending::Cut(stop) = &read.ending {
+                refuse(rt, file, stop);
+            }
+            Some(read)
+        }
+        Err(fault) => {
+            refuse(rt, file, &fault);
+            None
+        }
+    }
+}
+
+fn print(rt: &HostRuntime, alloc: Global, old: &RowsRead, new: &RowsRead) -> u8 {
+    let Ok(out) = BufWriter::with_capacity(alloc, BLOCK, rt.stdout()) else {
+        return refuse_all(rt, &CompareFault::OutOfMemory);
+    };
+    match write_comparison(alloc, old, new, &mut Sink::new(out)) {
+        Ok(verdict) => verdict.status(),
+        Err(fault) => refuse_all(rt, &fault),
+    }
+}
+
+fn refuse<F: fmt::Display>(rt: &HostRuntime, file: &str, fault: &F) {
+    let _ = eprintln!(rt; "reports: {file}: {fault}");
+}
+
+fn refuse_all<F: fmt::Display>(rt: &HostRuntime, fault: &F) -> u8 {
+    let _ = eprintln!(rt; "reports: {fault}");
     REFUSED
 }

@@ -1,0 +1,4 @@
+mod Laws
+mod Printed
+mod Spellings
+mod Steps

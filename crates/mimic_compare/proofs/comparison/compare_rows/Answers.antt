@@ -1,0 +1,23 @@
+use Rattle.std.proofs.Common.{◌∙◌, ap, arith, length, map}
+use Rattle.std.proofs.lemmas.List.{take_all}
+use Rattle.mimic_events.specs.Contents.{entry_read}
+use Rattle.mimic_events.specs.declared.report.Row.{Row}
+use Rattle.mimic_compare.specs.Classes.{Compared, compared}
+use Rattle.mimic_compare.specs.Keys.{comparison_read, label_of_row}
+use Rattle.mimic_compare.proofs.Steps.{all_compared, compared_more}
+use Rattle.mimic_compare.proofs.comparison.compare_rows.Goals as goal
+use denote.Ref.{Bor}
+
+pub loop-row-preserved : goal.loop-row-preserved
+loop-row-preserved c =
+    let old = map entry_read c.args.old.now in
+    let new = map entry_read c.args.new.now in
+    compared_more (λ row. compared c.args.is_judged old new (label_of_row row.now)) c.deref-row-items.result.now c.loop-row.row-index c.row-item.result c.loop-row.found.items c.push.new.self.items
+    c.compare.result c.loop-row-test.true c.row-item.is
+    (c.compare.ensures old new (record { old = c.in_ok-tallies_in.ensures; new = c.in_ok-tallies_in-2.ensures; others = c.in_ok-others_in.ensures })) c.in_ok-push.ensures.items c.loop-row.invariant
+
+pub returns : goal.returns
+returns c =
+    let f : Bor Row → Compared = λ row. compared c.args.is_judged (map entry_read c.args.old.now) (map entry_read c.args.new.now) (label_of_row row.now) in
+    c.loop-row.invariant ∙ ap (map f) (take_all c.loop-row.row-index c.deref-row-items.result.now c.loop-row-test.false ∙ c.deref-row-items.ensures.value)
+    ∙ all_compared c.args.is_judged c.args.old.now c.args.new.now c.in_ok-firsts.firsts.items c.in_ok-firsts.ensures

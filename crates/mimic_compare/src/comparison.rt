@@ -1,0 +1,121 @@
+//! Compares the rows of two reports.
+ghost use Rattle.std.specs.Prelude.{◌≡◌, ◌++◌, List, IfOk, OnOk, map, option_map};
+ghost use Rattle.mimic_printer.specs.Json.{Entry};
+ghost use Rattle.mimic_printer.specs.Row.{Label};
+ghost use Rattle.mimic_events.specs.Contents.{entry_read};
+ghost use Rattle.mimic_compare.specs.Classes.{comparisons, compared, distinct};
+ghost use Rattle.mimic_compare.specs.Keys.{HasLabels, comparison_read, label_of_row, IsOf};
+
+use crate::class::Class;
+use crate::key::Named;
+use crate::messages::others_in;
+use crate::tally::{Tally, tallies_in};
+use mimic_events::Row;
+use std::alloc::{AllocError, Global};
+use std::collections::{HashMap, HashSet};
+
+// A kind and a name of one report or both.
+#[derive(Clone, Copy)]
+pub(crate) struct Comparison<'a> {
+    // A row that has them.
+    pub(crate) row: &'a Row,
+    pub(crate) class: Class,
+    // The averages in the old report and in the new one, if it was measured once in each.
+    pub(crate) averages: Option<(u64, u64)>,
+}
+
+// Adds the rows whose kind and name was not seen before.
+fn add_firsts<'a>(
+    firsts: &mut Vec<&'a Row>,
+    seen: &mut HashSet<Named<'a>>,
+    rows: &'a [Row],
+) -> Result<(), AllocError>
+    ensures { OnOk result ((labels : List Label) → HasLabels seen.old labels
+        → map (λ row. label_of_row row.now) firsts.old.items ≡ distinct labels
+        → HasLabels seen.new (labels ++ map label_of_row rows.now)
+        × (map (λ row. label_of_row row.now) firsts.new.items ≡ distinct (labels ++ map label_of_row rows.now))) }
+{
+    for row in rows {
+        if seen.insert(Named { row })? {
+            firsts.push(row)?;
+        }
+    }
+    Ok(())
+}
+
+// Returns a row of each kind and name, those of the first rows first.
+fn first_rows<'a>(
+    alloc: Global,
+    first: &'a [Row],
+    second: &'a [Row],
+) -> Result<Vec<&'a Row>, AllocError>
+    ensures { IfOk result (λ firsts. map (λ row. label_of_row row.now) firsts.items
+        ≡ distinct (map label_of_row first.now ++ map label_of_row second.now)) }
+{
+    let mut seen = HashSet::new(alloc);
+    let mut firsts = Vec::new(alloc);
+    add_firsts(&mut firsts, &mut seen, first)?;
+    add_firsts(&mut firsts, &mut seen, second)?;
+    Ok(firsts)
+}
+
+// What is known of each kind and name.
+#[derive(Drop)]
+struct Tallies<'a> {
+    old: HashMap<Named<'a>, Tally>,
+    new: HashMap<Named<'a>, Tally>,
+    // Those whose failures have other messages.
+    others: HashSet<Named<'a>>,
+}
+
+impl<'a> Tallies<'a> {
+    fn compare(&self, row: &'a Row, is_judged: bool) -> Comparison<'a>
+        ensures { (old new : List Entry) → IsOf self.now old new
+            → comparison_read result ≡ compared is_judged old new (label_of_row row.now) }
+    {
+        let old = self
+            .old
+            .get(&Named { row })
+            .copied()
+            .unwrap_or(Tally::EMPTY);
+        let new = self
+            .new
+            .get(&Named { row })
+            .copied()
+            .unwrap_or(Tally::EMPTY);
+        let has_other_messages = (&self.others).contains(&Named { row });
+        let averages = if old.measured == 1 && new.measured == 1 {
+            Some((old.average, new.average))
+        } else {
+            None
+        };
+        Comparison {
+            row,
+            class: Class::of(&old, &new, has_other_messages, is_judged),
+            averages,
+        }
+    }
+}
+
+// Compares the rows by kind and name, in the order in which these come: first the new ones.
+pub(crate) fn compare_rows<'a>(
+    alloc: Global,
+    old: &'a [Row],
+    new: &'a [Row],
+    is_judged: bool,
+) -> Result<Vec<Comparison<'a>>, AllocError>
+    ensures { IfOk result (λ found. map comparison_read found.items
+        ≡ comparisons is_judged (map entry_read old.now) (map entry_read new.now)) }
+{
+    let firsts = first_rows(alloc, new, old)?;
+    let tallies = Tallies {
+        old: tallies_in(alloc, old)?,
+        new: tallies_in(alloc, new)?,
+        others: others_in(alloc, old, new)?,
+    };
+    let mut found = Vec::with_capacity(alloc, firsts.len())?;
+    for row in &firsts {
+        found.push(tallies.compare(row, is_judged))?;
+    }
+    Ok(found)
+}

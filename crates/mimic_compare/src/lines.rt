@@ -1,0 +1,235 @@
+//! Prints what became of kinds and names.
+ghost use Rattle.std.specs.Prelude.{◌≡◌, count_by, map};
+ghost use Rattle.std.specs.List.{flat_map};
+ghost use Rattle.mimic_printer.specs.Sink.{HasFaultLeft, Puts};
+ghost use Rattle.mimic_compare.specs.Keys.{comparison_read};
+ghost use Rattle.mimic_compare.specs.Text.{benchmark_in, changes, closing, comparison_text, count_of, line_in, lines_of, number_text, numbers_text, opening, ratio_of, same_class, word};
+
+use crate::class::Class;
+use crate::comparison::Comparison;
+use crate::pieces::{Piece, put_pieces};
+use mimic_printer::{Sink, WriteFault};
+use std::io::Write;
+
+// The classes of which each kind and name is printed, in their order.
+const CHANGES: [Class; 8] = [
+    Class::Regressed,
+    Class::Missing,
+    Class::NotRun,
+    Class::New,
+    Class::NotRunBefore,
+    Class::NewlyIgnored,
+    Class::NewlyPassing,
+    Class::AnotherMessage,
+];
+
+fn word(class: Class) -> &'static str
+    ensures { result.now ≡ word class }
+{
+    match class {
+        Class::Regressed => "regressed",
+        Class::Missing => "missing",
+        Class::NotRun => "not run",
+        Class::New => "new",
+        Class::NotRunBefore => "not run before",
+        Class::NewlyIgnored => "newly ignored",
+        Class::NewlyPassing => "newly passing",
+        Class::AnotherMessage => "another message",
+        Class::Unchanged => "unchanged",
+    }
+}
+
+// Returns what stands around a kind.
+fn brackets(kind: &str) -> (&'static str, &'static str)
+    ensures opening { result.0.now ≡ opening kind.now }
+    ensures closing { result.1.now ≡ closing kind.now }
+{
+    if kind.is_empty() {
+        ("", "")
+    } else {
+        ("[", "] ")
+    }
+}
+
+// Writes the line of a kind and a name if it is of the class.
+#[tactic(auto, unfolding(crate::specs::Text::line_text))]
+fn put_line<'a, W: Write>(
+    sink: &mut Sink<W>,
+    class: Class,
+    comparison: &Comparison<'a>,
+) -> Result<(), WriteFault>
+    requires { HasFaultLeft sink.old }
+    ensures { Puts W.contents sink.old sink.new (line_in class (comparison_read comparison.now)) result }
+{
+    if comparison.class != class {
+        return Ok(());
+    }
+    let kind = comparison.row.kind.as_str();
+    let (open, close) = brackets(kind);
+    let pieces = [
+        Piece::Text(word(class)),
+        Piece::Text(": "),
+        Piece::Text(open),
+        Piece::Visible(kind),
+        Piece::Text(close),
+        Piece::Visible(comparison.row.name.as_str()),
+        Piece::Text("\n"),
+    ];
+    put_pieces(sink, &pieces)
+}
+
+// Writes the lines of the class.
+fn put_lines<W: Write>(
+    sink: &mut Sink<W>,
+    class: Class,
+    found: &[Comparison<'_>],
+) -> Result<(), WriteFault>
+    requires { HasFaultLeft sink.old }
+    ensures { Puts W.contents sink.old sink.new (lines_of (map comparison_read found.now) class) result }
+{
+    for comparison in found {
+        put_line(sink, class, comparison)?;
+    }
+    Ok(())
+}
+
+// Writes the lines of all classes but the unchanged.
+fn put_changes<W: Write>(sink: &mut Sink<W>, found: &[Comparison<'_>]) -> Result<(), WriteFault>
+    requires { HasFaultLeft sink.old }
+    ensures { Puts W.contents sink.old sink.new
+        (flat_map (lines_of (map comparison_read found.now)) changes) result }
+{
+    for class in &CHANGES {
+        put_lines(sink, *class, found)?;
+    }
+    Ok(())
+}
+
+// Returns the new number by the old one, in hundredths.
+fn ratio_of(old: u64, new: u64) -> Option<u128>
+    ensures { result ≡ ratio_of old new }
+{
+    if old == 0 {
+        return None;
+    }
+    let (old, new) = (u128::from(old), u128::from(new));
+    Some((200 * new + old) / (2 * old))
+}
+
+// Writes the line of a benchmark.
+macro_rules! put_averages {
+    ($sink:expr, $row:expr, $old:expr, $new:expr, $($end:expr),+) => {{
+        let kind = $row.kind.as_str();
+        let (open, close) = brackets(kind);
+        let pieces = [
+            Piece::Text("bench: "),
+            Piece::Text(open),
+            Piece::Visible(kind),
+            Piece::Text(close),
+            Piece::Visible($row.name.as_str()),
+            Piece::Text(": "),
+            Piece::Grouped($old),
+            Piece::Text(" -> "),
+            Piece::Grouped($new),
+            Piece::Text(" ns/iter ("),
+            $($end),+
+        ];
+        put_pieces($sink, &pieces)
+    }};
+}
+
+// Writes the averages of what was measured once in both reports.
+#[tactic(auto, unfolding(crate::specs::Text::benchmark_text))]
+fn put_benchmark<'a, W: Write>(
+    sink: &mut Sink<W>,
+    comparison: &Comparison<'a>,
+) -> Result<(), WriteFault>
+    requires { HasFaultLeft sink.old }
+    ensures { Puts W.contents sink.old sink.new (benchmark_in (comparison_read comparison.now)) result }
+{
+    let row = comparison.row;
+    let Some((old, new)) = comparison.averages else {
+        return Ok(());
+    };
+    match ratio_of(old, new) {
+        None => put_averages!(sink, row, old, new, Piece::Text("-)\n")),
+        Some(ratio) => put_averages!(
+            sink,
+            row,
+            old,
+            new,
+            Piece::Number(ratio / 100),
+            Piece::Text("."),
+            Piece::Number(ratio / 10 % 10),
+            Piece::Number(ratio % 10),
+            Piece::Text(")\n")
+        ),
+    }
+}
+
+// Writes the averages of all that was measured once in both reports.
+fn put_benchmarks<W: Write>(sink: &mut Sink<W>, found: &[Comparison<'_>]) -> Result<(), WriteFault>
+    requires { HasFaultLeft sink.old }
+    ensures { Puts W.contents sink.old sink.new
+        (flat_map benchmark_in (map comparison_read found.now)) result }
+{
+    for comparison in found {
+        put_benchmark(sink, comparison)?;
+    }
+    Ok(())
+}
+
+// Returns how many are of the class.
+pub(crate) fn count_of(found: &[Comparison<'_>], class: Class) -> usize
+    ensures { result ≡ count_by (λ c. same_class c.class class) found.now }
+{
+    found.iter().filter(|c| c.class == class).count()
+}
+
+// Writes how many are of the class.
+#[tactic(auto, unfolding(crate::specs::Text::number_text))]
+fn put_number<'a, W: Write>(
+    sink: &mut Sink<W>,
+    found: &[Comparison<'_>],
+    class: Class,
+    end: &'a str,
+) -> Result<(), WriteFault>
+    requires { HasFaultLeft sink.old }
+    ensures { Puts W.contents sink.old sink.new
+        (number_text (map comparison_read found.now) class end.now) result }
+{
+    let pieces = [
+        Piece::Number(count_of(found, class) as u128),
+        Piece::Text(" "),
+        Piece::Text(word(class)),
+        Piece::Text(end),
+    ];
+    put_pieces(sink, &pieces)
+}
+
+// Writes how many are of each class.
+fn put_numbers<W: Write>(sink: &mut Sink<W>, found: &[Comparison<'_>]) -> Result<(), WriteFault>
+    requires { HasFaultLeft sink.old }
+    ensures { Puts W.contents sink.old sink.new
+        (numbers_text (map comparison_read found.now)) result }
+{
+    for class in &CHANGES {
+        put_number(sink, found, *class, "; ")?;
+    }
+    put_number(sink, found, Class::Unchanged, "\n")
+}
+
+// Writes all of it, and flushes it.
+pub(crate) fn put_comparisons<W: Write>(
+    sink: &mut Sink<W>,
+    found: &[Comparison<'_>],
+) -> Result<(), WriteFault>
+    requires { HasFaultLeft sink.old }
+    ensures { Puts W.contents sink.old sink.new
+        (comparison_text (map comparison_read found.now)) result }
+{
+    put_changes(sink, found)?;
+    put_benchmarks(sink, found)?;
+    put_numbers(sink, found)?;
+    sink.flush()
+}

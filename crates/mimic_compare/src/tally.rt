@@ -1,0 +1,75 @@
+//! Counts the rows of each kind and name.
+ghost use Rattle.std.specs.Prelude.{◌≡◌, ◌++◌, ◌∷◌, [], List, IfOk, map, unwrap_or};
+ghost use Rattle.std.specs.HashMap.{get};
+ghost use Rattle.mimic_trial.specs.declared.outcome.Outcome.{Outcome as OutcomeRead};
+ghost use Rattle.mimic_events.specs.Contents.{entry_read};
+ghost use Rattle.mimic_compare.specs.Classes.{outcomes_with};
+ghost use Rattle.mimic_compare.specs.Keys.{is_named, label_in};
+ghost use Rattle.mimic_compare.specs.Tallies.{HasRoom, tally_of};
+ghost use Rattle.mimic_compare.specs.declared.key.Named.{Named as NamedRead};
+
+use crate::key::Named;
+use mimic_events::Row;
+use mimic_trial::Outcome;
+use std::alloc::{AllocError, Global};
+use std::collections::HashMap;
+
+// How many rows there are, how many of them have some outcomes, and the average of the last one that was measured.
+#[derive(Clone, Copy)]
+pub(crate) struct Tally {
+    pub(crate) rows: u64,
+    pub(crate) failed: u64,
+    pub(crate) ignored: u64,
+    pub(crate) measured: u64,
+    pub(crate) average: u64,
+}
+
+impl Tally {
+    // That of no rows.
+    pub(crate) const EMPTY: Tally = Tally {
+        rows: 0,
+        failed: 0,
+        ignored: 0,
+        measured: 0,
+        average: 0,
+    };
+
+    // Returns the tally with one more row.
+    fn with(self, outcome: &Outcome) -> Tally
+        requires { HasRoom self }
+        ensures { (outcomes : List OutcomeRead) → self ≡ tally_of outcomes
+            → result ≡ tally_of (outcomes ++ outcome.now ∷ []) }
+    {
+        let mut tally = self;
+        tally.rows += 1;
+        match outcome {
+            Outcome::Passed => {}
+            Outcome::Failed(_) => tally.failed += 1,
+            Outcome::Ignored => tally.ignored += 1,
+            Outcome::Measured(measurement) => {
+                tally.measured += 1;
+                tally.average = measurement.avg;
+            }
+        }
+        tally
+    }
+}
+
+// Returns the tally of each kind and name that the rows have.
+pub(crate) fn tallies_in(
+    alloc: Global,
+    rows: &[Row],
+) -> Result<HashMap<Named<'_>, Tally>, AllocError>
+    ensures { IfOk result (λ tallies. (named : NamedRead) → unwrap_or (get is_named tallies named) (tally_of [])
+        ≡ tally_of (outcomes_with (label_in named) (map entry_read rows.now))) }
+{
+    let mut tallies = HashMap::new(alloc);
+    for row in rows {
+        let tally = (&tallies)
+            .get(&Named { row })
+            .copied()
+            .unwrap_or(Tally::EMPTY);
+        tallies.insert(Named { row }, tally.with(&row.outcome))?;
+    }
+    Ok(tallies)
+}
