@@ -46,7 +46,8 @@ impl<'a> Model for Judge<'a> {
     ghost Value = { Judged };
 
     ghost view = { λ j. record {
-        known = map expected_read j.known.now; rows = map entry_read j.rows.items
+      known = map expected_read j.known.now;
+      rows = map entry_read j.rows.items;
     } };
 
     ghost invariant = { λ j. (key : Found) → contains is_same j.labels key

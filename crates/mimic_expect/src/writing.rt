@@ -136,7 +136,10 @@ fn put_judgement<W: Write>(
             (judgement.met as u128, " known failures; "),
             (failed + judgement.failed() as u128, " failed; "),
             (judgement.passed() as u128, " passed; "),
-            (judgement.another_message() as u128, " with another message; "),
+            (
+                judgement.another_message() as u128,
+                " with another message; ",
+            ),
             (judgement.absent() as u128, " absent\n"),
         ],
     )
