@@ -1,8 +1,8 @@
 -- One more row.
-use Rattle.std.proofs.Common.{suc, ◌≡◌, ◌&&◌, ◌||◌, ◌==◌, eqb, not, ℕ, ◌+◌, ◌-◌, ◌^◌, ◌<◌, ◌≤◌, Bool, true, false, cond, List, [], ◌∷◌, ◌++◌, length, length-append, map, filter, take, length-take, get_or, unwrap_or, refl, sym, ap, ap₂, subst, ◌∙◌, append-nil, append_assoc, inl, inr, arith, add-zero}
-use Rattle.std.specs.Prelude.{Option, None, Some, count_by}
+use Rattle.std.proofs.Common.{◌≡◌, ◌&&◌, ◌||◌, ◌==◌, not, ℕ, ◌+◌, ◌-◌, ◌^◌, ◌<◌, ◌≤◌, Bool, true, false, cond, List, [], ◌∷◌, ◌++◌, length, length-append, map, filter, take, length-take, get_or, unwrap_or, refl, sym, ap, ap₂, subst, ◌∙◌, append-nil, append_assoc, inl, inr, arith, add-zero}
+use Rattle.std.specs.Prelude.{Option, Some, count_by}
 use Rattle.std.specs.Cmp.{decided}
-use Rattle.std.specs.List.{flat_map, list_any}
+use Rattle.std.specs.List.{list_any}
 use Rattle.std.proofs.lemmas.Bool.{cases_Bool, ne_eqb, eq-eqb}
 use Rattle.std.proofs.lemmas.List.{length-map, map-append, take_more}
 use Rattle.std.proofs.lemmas.List.Concat.{flat_map-append}
@@ -18,7 +18,7 @@ use Rattle.mimic_printer.specs.Json.{Entry}
 use Rattle.mimic_printer.specs.Row.{Label}
 use Rattle.mimic_events.specs.Contents.{entry_read}
 use Rattle.mimic_events.specs.declared.report.Row.{Row}
-use Rattle.mimic_compare.specs.Classes.{Compared, average_of, averages, compared, comparisons, distinct, failures, have_other_messages, ignored, labels_in, outcomes_with, pair_of, same_label, times}
+use Rattle.mimic_compare.specs.Classes.{Compared, average_of, averages, compared, comparisons, distinct, failures, have_other_messages, ignored, labels_in, outcomes_with, same_label, times}
 use Rattle.mimic_compare.specs.Keys.{comparison_read, has_other_times, label_in, label_of_row, same_entry, same_entry-decides, same_label-decides}
 use Rattle.mimic_compare.specs.Tallies.{HasRoom, last_or, tally_of}
 use Rattle.mimic_compare.specs.declared.comparison.Comparison.{Comparison}
@@ -383,19 +383,3 @@ pub all_compared : (judged : Bool) (old new : List Row) (firsts : List (Bor Row)
 all_compared judged old new firsts is =
     let f : Label → Compared = compared judged (map entry_read old) (map entry_read new) in
     each_read f firsts ∙ ap (map f) (is ∙ ap₂ (λ (x y : List Label). distinct (x ++ y)) (labels_read new) (labels_read old))
-
--- ---- averages
-
-pub pair_is : (old new : List ℕ) (m n : ℕ) → length old ≡ m → length new ≡ n
-    → pair_of old new ≡ cond (m == 1 && n == 1) (Some (last_or 0 old, last_or 0 new)) None
-pair_is old new m n e f = by_length old new ∙ ap₂ (λ (x y : ℕ). cond (x == 1 && y == 1) (Some (last_or 0 old, last_or 0 new)) None) e f
-  where
-    long : (k : ℕ) → (suc (suc k) == 1) ≡ false
-    long k = ne_eqb (suc (suc k)) 1 (λ h. omega (arith, h))
-
-    by_length : (old new : List ℕ) → pair_of old new ≡ cond (length old == 1 && length new == 1) (Some (last_or 0 old, last_or 0 new)) None
-    by_length [] new = refl
-    by_length (a ∷ []) [] = refl
-    by_length (a ∷ []) (b ∷ []) = refl
-    by_length (a ∷ []) (b ∷ c ∷ ms) = ap (λ (x : Bool). cond x (Some (a, last_or c ms)) None) (sym (long (length ms)))
-    by_length (a ∷ b ∷ ns) new = ap (λ (x : Bool). cond (x && length new == 1) (Some (last_or b ns, last_or 0 new)) None) (sym (long (length ns)))

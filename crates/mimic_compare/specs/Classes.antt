@@ -1,5 +1,5 @@
 -- What became of each kind and name from an old report to a new one (our own).
-use Rattle.std.specs.Prelude.{◌≡◌, ◌==◌, ◌&&◌, ◌||◌, ℕ, Bool, true, false, cond, if◌then◌else◌, nat_lt, not, List, [], ◌∷◌, ◌++◌, count_by, filter, length, map, Option, Some, None}
+use Rattle.std.specs.Prelude.{◌==◌, ◌&&◌, ◌||◌, ℕ, Bool, if◌then◌else◌, nat_lt, not, List, [], ◌∷◌, ◌++◌, count_by, filter, length, map, Option, Some, None}
 use Rattle.std.specs.List.{flat_map, list_any}
 use Rattle.std.specs.Str.{bytes_eq}
 use Rattle.mimic_trial.specs.declared.outcome.Outcome.{Outcome}

@@ -1,5 +1,5 @@
 -- Rows, as they are compared and hashed. No public clause names these words.
-use Rattle.std.proofs.Common.{◌≡◌, ◌==◌, ◌++◌, ◌&&◌, ℕ, Bool, true, false, not, List, [], Option, None, Some, refl, ap, ap₂, subst, ◌∙◌, map, unwrap_or}
+use Rattle.std.proofs.Common.{◌≡◌, ◌==◌, ◌++◌, ◌&&◌, ℕ, Bool, true, false, not, List, [], Option, None, Some, refl, ap, ap₂, subst, unwrap_or}
 use Rattle.std.specs.Prelude.{◌↔◌}
 use Rattle.std.specs.Cmp.{IsEquivalence, decided}
 use Rattle.std.specs.Hash as fed

@@ -1,5 +1,5 @@
 -- What is printed of two reports (our own).
-use Rattle.std.specs.Prelude.{ℕ, ◌+◌, ◌*◌, ◌/◌, ◌%◌, ◌==◌, Bool, true, false, if◌then◌else◌, List, [], ◌∷◌, ◌++◌, codes, count_by, decimal, Option, None, Some}
+use Rattle.std.specs.Prelude.{ℕ, ◌+◌, ◌*◌, ◌/◌, ◌%◌, ◌==◌, Bool, if◌then◌else◌, List, [], ◌∷◌, ◌++◌, codes, count_by, decimal, Option, None, Some}
 use Rattle.std.specs.List.{concat, flat_map}
 use Rattle.mimic_text.specs.Text.{grouped}
 use Rattle.mimic_printer.specs.Row.{Label}

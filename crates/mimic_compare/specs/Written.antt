@@ -10,6 +10,7 @@ use Rattle.mimic_input.specs.declared.ending.Ending.TheVariants.{Whole, Cut}
 use Rattle.mimic_input.specs.declared.rows_read.RowsRead.{RowsRead}
 use Rattle.mimic_compare.specs.Classes.{Compared, comparisons, labels_in, same_label}
 use Rattle.mimic_compare.specs.Text.{changes, comparison_text, count_of, same_class}
+use Rattle.mimic_compare.specs.Visible.{visible}
 use Rattle.mimic_compare.specs.declared.class.Class.{Class}
 use Rattle.mimic_compare.specs.declared.class.Class.TheVariants.{Regressed, Missing, Unchanged}
 use Rattle.mimic_compare.specs.declared.write.CompareFault.{CompareFault}
@@ -76,6 +77,11 @@ is_worse c = same_class c.class Regressed || same_class c.class Missing
 abbrev pub SaysWorse : RowsRead → RowsRead → Type 0
 SaysWorse old new = (status_of (verdict_of old new) ≡ 101) ↔ (list_any is_worse (found_in old new) ≡ true)
 
+-- no kind and no name ends the line that it is printed in
+abbrev pub EndNoLine : Type 0
+EndNoLine = (text : List ℕ) → list_any (λ b. b == 10) (visible text) ≡ false
+
 pub record ComparisonLaws : Type 0 where
   pub partition : (judged : Bool) (old new : List Entry) → ArePartitioned judged old new
   pub status : (old new : RowsRead) → SaysWorse old new
+  pub lines : EndNoLine

@@ -1,5 +1,5 @@
 //! Compares the rows of two reports.
-ghost use Rattle.std.specs.Prelude.{◌≡◌, ◌++◌, List, IfOk, OnOk, map, option_map};
+ghost use Rattle.std.specs.Prelude.{◌≡◌, ◌++◌, List, IfOk, OnOk, map};
 ghost use Rattle.mimic_printer.specs.Json.{Entry};
 ghost use Rattle.mimic_printer.specs.Row.{Label};
 ghost use Rattle.mimic_events.specs.Contents.{entry_read};

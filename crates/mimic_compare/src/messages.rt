@@ -1,15 +1,12 @@
 //! Finds the kinds and names whose failures have other messages in one report than in another.
-ghost use Rattle.std.specs.Prelude.{◌≡◌, ◌||◌, List, IfOk, OnOk, map, true, unwrap_or};
-ghost use Rattle.std.specs.HashMap.{get};
+ghost use Rattle.std.specs.Prelude.{◌≡◌, ◌||◌, List, IfOk, OnOk, map};
 ghost use Rattle.std.specs.HashSet.{contains};
 ghost use Rattle.std.specs.List.{list_any};
-ghost use Rattle.mimic_trial.specs.Count.{is_failed};
 ghost use Rattle.mimic_printer.specs.Json.{Entry};
 ghost use Rattle.mimic_events.specs.Contents.{entry_read};
-ghost use Rattle.mimic_compare.specs.Classes.{have_other_messages, outcomes_with, times};
-ghost use Rattle.mimic_compare.specs.Keys.{HasTimes, has_other_times, is_named, is_whole, label_in};
+ghost use Rattle.mimic_compare.specs.Classes.{have_other_messages, outcomes_with};
+ghost use Rattle.mimic_compare.specs.Keys.{HasTimes, has_other_times, is_named, label_in};
 ghost use Rattle.mimic_compare.specs.declared.key.Named.{Named as NamedRead};
-ghost use Rattle.mimic_compare.specs.declared.key.Whole.{Whole as WholeRead};
 
 use crate::key::{Named, Whole};
 use mimic_events::Row;

@@ -74,7 +74,7 @@ pub fn write_comparison<W: Write>(
     ensures written { LeavesComparison old.now new.now (shown W.contents sink.old)
         (shown W.contents sink.new) result }
 
-    // Each kind and name is in one class, and what the status says.
+    // Each kind and name is in one class, the status says whether one is worse, and no name ends a line.
     ensures laws { ComparisonLaws }
 {
     let is_judged = are_full(&old.ending, &new.ending);

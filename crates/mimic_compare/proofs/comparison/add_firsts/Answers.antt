@@ -1,4 +1,4 @@
-use Rattle.std.proofs.Common.{◌≡◌, ◌++◌, ◌∷◌, [], ◌∙◌, List, ap, map, subst, sym, take}
+use Rattle.std.proofs.Common.{◌++◌, ◌∷◌, [], ◌∙◌, List, ap, map, subst, sym, take}
 use Rattle.std.proofs.lemmas.List.{map-append}
 use Rattle.std.specs.HashSet.{contains}
 use Rattle.mimic_events.specs.declared.report.Row.{Row}

@@ -1,9 +1,9 @@
-use Rattle.std.proofs.Common.{◌∙◌, ap, arith, length, map}
+use Rattle.std.proofs.Common.{◌∙◌, ap, map}
 use Rattle.std.proofs.lemmas.List.{take_all}
 use Rattle.mimic_events.specs.Contents.{entry_read}
 use Rattle.mimic_events.specs.declared.report.Row.{Row}
 use Rattle.mimic_compare.specs.Classes.{Compared, compared}
-use Rattle.mimic_compare.specs.Keys.{comparison_read, label_of_row}
+use Rattle.mimic_compare.specs.Keys.{label_of_row}
 use Rattle.mimic_compare.proofs.Steps.{all_compared, compared_more}
 use Rattle.mimic_compare.proofs.comparison.compare_rows.Goals as goal
 use denote.Ref.{Bor}

@@ -1,9 +1,8 @@
-use Rattle.std.proofs.Common.{◌≡◌, ◌∙◌, ◌+◌, ◌&&◌, ◌==◌, ap, false, map, not, subst, sym, take, true, unwrap_or}
-use Rattle.std.specs.HashMap.{get}
+use Rattle.std.proofs.Common.{◌∙◌, ◌==◌, ap, false, not, true, unwrap_or}
 use Rattle.std.specs.HashSet.{contains}
 use Rattle.mimic_trial.specs.Count.{is_failed}
 use Rattle.mimic_events.specs.Contents.{entry_read}
-use Rattle.mimic_compare.specs.Keys.{is_named, is_whole}
+use Rattle.mimic_compare.specs.Keys.{is_named}
 use Rattle.mimic_compare.proofs.Steps.{Times, agrees, differs, not_failed, others_more, sound, whole}
 use Rattle.mimic_compare.proofs.messages.add_others.Goals as goal
 use Rattle.mimic_compare.proofs.messages.add_others.Goals.{in-Failed+then-before-after+in_ok-insert, in-Failed+else-before-after, in_default}

@@ -1,4 +1,4 @@
-use Rattle.std.proofs.Common.{◌≡◌, ◌∙◌, ◌+◌, ◌<◌, ◌^◌, ap, arith, length, map, subst, sym, take, unwrap_or}
+use Rattle.std.proofs.Common.{◌∙◌, ◌+◌, ◌<◌, ◌^◌, ap, arith, length, map, subst, sym, take, unwrap_or}
 use Rattle.std.specs.HashMap.{get}
 use Rattle.mimic_trial.specs.Count.{is_failed}
 use Rattle.mimic_events.specs.Contents.{entry_read}

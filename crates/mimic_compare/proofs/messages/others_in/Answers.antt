@@ -1,4 +1,4 @@
-use Rattle.std.proofs.Common.{◌≡◌, ◌∙◌, ◌||◌, Bool, ap, map}
+use Rattle.std.proofs.Common.{◌∙◌, ◌||◌, Bool, ap, map}
 use Rattle.std.specs.List.{list_any}
 use Rattle.mimic_events.specs.Contents.{entry_read}
 use Rattle.mimic_compare.specs.Keys.{has_other_times, is_named, label_in}

@@ -1,6 +1,5 @@
-use Rattle.std.proofs.Common.{◌≡◌, ◌∙◌, ◌<◌, ◌^◌, [], ap, arith, length, map, take, unwrap_or}
+use Rattle.std.proofs.Common.{◌∙◌, ◌<◌, ◌^◌, [], ap, arith, length, unwrap_or}
 use Rattle.std.specs.HashMap.{get}
-use Rattle.mimic_events.specs.Contents.{entry_read}
 use Rattle.mimic_compare.specs.Keys.{is_named, label_of_row}
 use Rattle.mimic_compare.specs.Tallies.{tally_of}
 use Rattle.mimic_compare.proofs.Steps.{few_outcomes, named, room_of, tallied}

@@ -1,6 +1,6 @@
-use Rattle.std.proofs.Common.{◌≡◌, ◌∙◌, List, ap, map, refl, subst, sym}
+use Rattle.std.proofs.Common.{◌≡◌, ◌∙◌, List, ap, map, refl, subst}
 use Rattle.std.specs.Prelude.{count_by}
-use Rattle.mimic_printer.specs.Sink.{Put, Stopped, shown}
+use Rattle.mimic_printer.specs.Sink.{Put, shown}
 use Rattle.mimic_compare.specs.Classes.{Compared}
 use Rattle.mimic_compare.specs.Keys.{comparison_read}
 use Rattle.mimic_compare.specs.Text.{comparison_text, count_of, same_class}
