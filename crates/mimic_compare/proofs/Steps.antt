@@ -23,7 +23,7 @@ use Rattle.mimic_compare.specs.Keys.{comparison_read, has_other_times, label_in,
 use Rattle.mimic_compare.specs.Tallies.{HasRoom, last_or, tally_of}
 use Rattle.mimic_compare.specs.declared.comparison.Comparison.{Comparison}
 use Rattle.mimic_compare.specs.declared.key.Named.{Named}
-use Rattle.mimic_compare.specs.declared.key.Whole.{Whole}
+use Rattle.mimic_compare.specs.declared.key.Failure.{Failure}
 use Rattle.mimic_compare.specs.declared.tally.Tally.{Tally}
 use denote.Ref.{Bor}
 
@@ -64,8 +64,8 @@ any-push p xs x = list_any-append p xs (x ∷ []) ∙ ap (λ b. list_any p xs ||
 abbrev pub named : Row → Named
 named row = record { row = record { ref_ptr = (0, 0); now = row } }
 
-abbrev pub whole : Row → Whole
-whole row = record { row = record { ref_ptr = (0, 0); now = row } }
+abbrev pub failure : Row → Failure
+failure row = record { row = record { ref_ptr = (0, 0); now = row } }
 
 -- ---- tallies
 
@@ -188,17 +188,17 @@ unlike e q sound failed = elim (cases_Bool (same_entry q e)) [
   | inr other ↦ other
 ]
 
-abbrev pub HasTimesOf : (Whole → Option ℕ) → List Entry → Type 0
-HasTimesOf found es = (whole : Whole) → is_failed whole.row.now.outcome ≡ true → unwrap_or (found whole) 0 ≡ Times es (entry_read whole.row.now)
+abbrev pub HasTimesOf : (Failure → Option ℕ) → List Entry → Type 0
+HasTimesOf found es = (failure : Failure) → is_failed failure.row.now.outcome ≡ true → unwrap_or (found failure) 0 ≡ Times es (entry_read failure.row.now)
 
 pub times_small : (e : Entry) (rows : List Row) (i n : ℕ) → i < length rows → length rows < 2 ^ 64 → n ≡ Times (map entry_read (take i rows)) e → n < 2 ^ 64 - 1
 times_small e rows i n lt small is =
     omega (arith, lt, small, is, count_by-le-length (same_outcome e.outcome) (outcomes_with e.label (map entry_read (take i rows))), few_outcomes e.label rows i lt small)
 
 -- one more failure
-pub times_more : (rows : List Row) (i : ℕ) (row : Row) (before after : Whole → Option ℕ) (n : ℕ) → i < length rows → row ≡ get_or rows i row
+pub times_more : (rows : List Row) (i : ℕ) (row : Row) (before after : Failure → Option ℕ) (n : ℕ) → i < length rows → row ≡ get_or rows i row
     → HasTimesOf before (map entry_read (take i rows))
-    → ((q : Whole) → after q ≡ cond (same_entry (entry_read row) (entry_read q.row.now)) (Some (n + 1)) (before q))
+    → ((q : Failure) → after q ≡ cond (same_entry (entry_read row) (entry_read q.row.now)) (Some (n + 1)) (before q))
     → n ≡ Times (map entry_read (take i rows)) (entry_read row) → HasTimesOf after (map entry_read (take (i + 1) rows))
 times_more rows i row before after n lt is has updates e q failed =
     let es : List Entry = map entry_read (take i rows) in
@@ -215,7 +215,7 @@ times_more rows i row before after n lt is has updates e q failed =
     ]
 
 -- one more row that is no failure
-pub times_kept : (rows : List Row) (i : ℕ) (row : Row) (found : Whole → Option ℕ) → i < length rows → row ≡ get_or rows i row
+pub times_kept : (rows : List Row) (i : ℕ) (row : Row) (found : Failure → Option ℕ) → i < length rows → row ≡ get_or rows i row
     → HasTimesOf found (map entry_read (take i rows)) → is_failed row.outcome ≡ false → HasTimesOf found (map entry_read (take (i + 1) rows))
 times_kept rows i row found lt is has sound q failed =
     let es : List Entry = map entry_read (take i rows) in

@@ -17,8 +17,8 @@ use Rattle.mimic_events.specs.Contents.{entry_read}
 use Rattle.mimic_events.specs.declared.report.Row.{Row}
 use Rattle.mimic_compare.specs.Classes.{Compared, have_other_messages, outcomes_with, same_label, times}
 use Rattle.mimic_compare.specs.Tallies.{tally_of}
+use Rattle.mimic_compare.specs.declared.key.Failure.{Failure}
 use Rattle.mimic_compare.specs.declared.key.Named.{Named}
-use Rattle.mimic_compare.specs.declared.key.Whole.{Whole}
 use Rattle.mimic_compare.specs.declared.comparison.Comparison.{Comparison}
 use Rattle.mimic_compare.specs.declared.comparison.Tallies.{Tallies}
 
@@ -34,11 +34,11 @@ is_named a b = same_label (label_in a) (label_in b)
 abbrev pub same_entry : Entry → Entry → Bool
 same_entry a b = same_label a.label b.label && same_outcome a.outcome b.outcome
 
-abbrev pub entry_in : Whole → Entry
-entry_in whole = entry_read whole.row.now
+abbrev pub entry_in : Failure → Entry
+entry_in failure = entry_read failure.row.now
 
-abbrev pub is_whole : Whole → Whole → Bool
-is_whole a b = same_entry (entry_in a) (entry_in b)
+abbrev pub same_failure : Failure → Failure → Bool
+same_failure a b = same_entry (entry_in a) (entry_in b)
 
 -- what a hasher is given
 abbrev pub fed_label : Label → fed.HashWrites
@@ -58,9 +58,9 @@ fed_entry entry = fed.str entry.label.kind ++ (fed.str entry.label.name ++ fed_o
 -- ---- what maps and sets have
 
 -- the map has how many times each failure stands there
-abbrev pub HasTimes : {S : Type 0} → HashMap Whole ℕ S → List Entry → Type 0
-HasTimes failures entries = (whole : Whole) → is_failed (entry_in whole).outcome ≡ true
-    → unwrap_or (get is_whole failures whole) 0 ≡ times (entry_in whole).outcome (outcomes_with (entry_in whole).label entries)
+abbrev pub HasTimes : {S : Type 0} → HashMap Failure ℕ S → List Entry → Type 0
+HasTimes failures entries = (failure : Failure) → is_failed (entry_in failure).outcome ≡ true
+    → unwrap_or (get same_failure failures failure) 0 ≡ times (entry_in failure).outcome (outcomes_with (entry_in failure).label entries)
 
 -- the entry has this kind and name, and its failure stands more often in the one than in the other
 abbrev pub has_other_times : Label → List Entry → List Entry → Entry → Bool
@@ -128,8 +128,8 @@ named_laws =
       congr = λ x y z h. e.congr (label_in x) (label_in y) (label_in z) h;
     }
 
-pub whole_laws : IsEquivalence is_whole
-whole_laws =
+pub failure_laws : IsEquivalence same_failure
+failure_laws =
     let e = decided same_entry same_entry-decides in
     record {
       refl = λ x. e.refl (entry_in x);
@@ -140,5 +140,5 @@ whole_laws =
 pub named_fed : (a b : Named) → is_named a b ≡ true → fed_label (label_in a) ≡ fed_label (label_in b)
 named_fed a b h = ap fed_label (label_is (label_in a) (label_in b) h)
 
-pub whole_fed : (a b : Whole) → is_whole a b ≡ true → fed_entry (entry_in a) ≡ fed_entry (entry_in b)
-whole_fed a b h = ap fed_entry (entry_is (entry_in a) (entry_in b) h)
+pub failure_fed : (a b : Failure) → same_failure a b ≡ true → fed_entry (entry_in a) ≡ fed_entry (entry_in b)
+failure_fed a b h = ap fed_entry (entry_is (entry_in a) (entry_in b) h)

@@ -42,19 +42,19 @@ impl Hash for Named<'_> {
     }
 }
 
-// A row of which the kind, the name and the outcome are compared.
+// A failed row, of which the kind, the name and the message are compared.
 #[derive(Clone, Copy)]
-pub(crate) struct Whole<'a> {
+pub(crate) struct Failure<'a> {
     pub(crate) row: &'a Row,
 }
 
-impl PartialEq for Whole<'_> {
+impl PartialEq for Failure<'_> {
     ghost use Rattle.std.specs.Cmp.{partial_equiv_from_equiv};
-    ghost use Rattle.mimic_compare.specs.Keys.{is_whole, whole_laws};
+    ghost use Rattle.mimic_compare.specs.Keys.{failure_laws, same_failure};
 
-    ghost eq = { is_whole };
+    ghost eq = { same_failure };
 
-    ghost laws = { partial_equiv_from_equiv whole_laws };
+    ghost laws = { partial_equiv_from_equiv failure_laws };
 
     fn eq(&self, other: &Self) -> bool {
         self.row.kind == other.row.kind
@@ -63,19 +63,19 @@ impl PartialEq for Whole<'_> {
     }
 }
 
-impl Eq for Whole<'_> {
-    ghost use Rattle.mimic_compare.specs.Keys.{whole_laws};
+impl Eq for Failure<'_> {
+    ghost use Rattle.mimic_compare.specs.Keys.{failure_laws};
 
-    ghost laws = { whole_laws };
+    ghost laws = { failure_laws };
 }
 
-impl Hash for Whole<'_> {
-    ghost use Rattle.mimic_compare.specs.Keys.{fed_entry, whole_fed};
+impl Hash for Failure<'_> {
+    ghost use Rattle.mimic_compare.specs.Keys.{fed_entry, failure_fed};
     ghost use Rattle.mimic_events.specs.Contents.{entry_read};
 
     ghost hash_input = { λ x. fed_entry (entry_read x.row.now) };
 
-    ghost respects_eq = { whole_fed };
+    ghost respects_eq = { failure_fed };
 
     fn hash<H: Hasher>(&self, state: &mut H) {
         self.row.kind.as_str().hash(state);

@@ -8,21 +8,21 @@ ghost use Rattle.mimic_compare.specs.Classes.{have_other_messages, outcomes_with
 ghost use Rattle.mimic_compare.specs.Keys.{HasTimes, has_other_times, is_named, label_in};
 ghost use Rattle.mimic_compare.specs.declared.key.Named.{Named as NamedRead};
 
-use crate::key::{Named, Whole};
+use crate::key::{Failure, Named};
 use mimic_events::Row;
 use mimic_trial::Outcome;
 use std::alloc::{AllocError, Global};
 use std::collections::{HashMap, HashSet};
 
 // Returns how many times each failure stands in the rows.
-fn failures_in(alloc: Global, rows: &[Row]) -> Result<HashMap<Whole<'_>, u64>, AllocError>
+fn failures_in(alloc: Global, rows: &[Row]) -> Result<HashMap<Failure<'_>, u64>, AllocError>
     ensures { IfOk result (λ failures. HasTimes failures (map entry_read rows.now)) }
 {
     let mut failures = HashMap::new(alloc);
     for row in rows {
         if let Outcome::Failed(_) = &row.outcome {
-            let times = (&failures).get(&Whole { row }).copied().unwrap_or(0);
-            failures.insert(Whole { row }, times + 1)?;
+            let times = (&failures).get(&Failure { row }).copied().unwrap_or(0);
+            failures.insert(Failure { row }, times + 1)?;
         }
     }
     Ok(failures)
@@ -32,8 +32,8 @@ fn failures_in(alloc: Global, rows: &[Row]) -> Result<HashMap<Whole<'_>, u64>, A
 fn add_others<'a>(
     others: &mut HashSet<Named<'a>>,
     rows: &'a [Row],
-    old: &HashMap<Whole<'a>, u64>,
-    new: &HashMap<Whole<'a>, u64>,
+    old: &HashMap<Failure<'a>, u64>,
+    new: &HashMap<Failure<'a>, u64>,
 ) -> Result<(), AllocError>
     ensures { OnOk result ((before after : List Entry) → HasTimes old.now before → HasTimes new.now after
         → (named : NamedRead) → contains is_named others.new named
@@ -41,8 +41,8 @@ fn add_others<'a>(
 {
     for row in rows {
         if let Outcome::Failed(_) = &row.outcome {
-            let before = old.get(&Whole { row }).copied().unwrap_or(0);
-            let after = new.get(&Whole { row }).copied().unwrap_or(0);
+            let before = old.get(&Failure { row }).copied().unwrap_or(0);
+            let after = new.get(&Failure { row }).copied().unwrap_or(0);
             if before != after {
                 others.insert(Named { row })?;
             }

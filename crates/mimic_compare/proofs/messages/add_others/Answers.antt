@@ -3,7 +3,7 @@ use Rattle.std.specs.HashSet.{contains}
 use Rattle.mimic_trial.specs.Count.{is_failed}
 use Rattle.mimic_events.specs.Contents.{entry_read}
 use Rattle.mimic_compare.specs.Keys.{is_named}
-use Rattle.mimic_compare.proofs.Steps.{Times, agrees, differs, not_failed, others_more, sound, whole}
+use Rattle.mimic_compare.proofs.Steps.{Times, agrees, differs, not_failed, others_more, sound, failure}
 use Rattle.mimic_compare.proofs.messages.add_others.Goals as goal
 use Rattle.mimic_compare.proofs.messages.add_others.Goals.{in-Failed+then-before-after+in_ok-insert, in-Failed+else-before-after, in_default}
 
@@ -17,15 +17,15 @@ loop-row-preserved c = λ before after has_before has_after.
     elim c.match-row.branch [
       | in-Failed+then-before-after+in_ok-insert w ↦
           let failed = ap is_failed w.in-Failed.is in
-          let m = w.unwrap_or-before.ensures ∙ ap (λ o. unwrap_or o 0) (w.copied.ensures ∙ w.get.ensures.value) ∙ has_before (whole row) failed in
-          let n = w.unwrap_or-after.ensures ∙ ap (λ o. unwrap_or o 0) (w.copied-in-Failed.ensures ∙ w.get-in-Failed.ensures.value) ∙ has_after (whole row) failed in
+          let m = w.unwrap_or-before.ensures ∙ ap (λ o. unwrap_or o 0) (w.copied.ensures ∙ w.get.ensures.value) ∙ has_before (failure row) failed in
+          let n = w.unwrap_or-after.ensures ∙ ap (λ o. unwrap_or o 0) (w.copied-in-Failed.ensures ∙ w.get-in-Failed.ensures.value) ∙ has_after (failure row) failed in
           others_more c.args.rows.now c.loop-row.row-index row before after start old (contains is_named c.match-row.others) true c.loop-row-test.true c.row-item.is
           (differs row.outcome (Times before entry) (Times after entry) _ _ failed m n w.if-before-after.true) invariant
           (λ q. ap (λ s. contains is_named s q) w.others-is ∙ w.in_ok-insert.ensures.updates.0 q)
       | in-Failed+else-before-after w ↦
           let failed = ap is_failed w.in-Failed.is in
-          let m = w.unwrap_or-before.ensures ∙ ap (λ o. unwrap_or o 0) (w.copied.ensures ∙ w.get.ensures.value) ∙ has_before (whole row) failed in
-          let n = w.unwrap_or-after.ensures ∙ ap (λ o. unwrap_or o 0) (w.copied-in-Failed.ensures ∙ w.get-in-Failed.ensures.value) ∙ has_after (whole row) failed in
+          let m = w.unwrap_or-before.ensures ∙ ap (λ o. unwrap_or o 0) (w.copied.ensures ∙ w.get.ensures.value) ∙ has_before (failure row) failed in
+          let n = w.unwrap_or-after.ensures ∙ ap (λ o. unwrap_or o 0) (w.copied-in-Failed.ensures ∙ w.get-in-Failed.ensures.value) ∙ has_after (failure row) failed in
           others_more c.args.rows.now c.loop-row.row-index row before after start old (contains is_named c.match-row.others) false c.loop-row-test.true c.row-item.is
           (agrees row.outcome (Times before entry) (Times after entry) _ _ failed m n w.if-before-after.false) invariant
           (λ q. ap (λ s. contains is_named s q) w.others-is)
