@@ -1,7 +1,7 @@
 -- Rows that are judged one after another.
-use Rattle.std.proofs.Common.{◌≡◌, ◌||◌, ℕ, suc, ◌+◌, ◌-◌, ◌<◌, ◌≤◌, ◌^◌, Bool, true, false, cond, not, List, [], ◌∷◌, ◌++◌, length, length-append, map, Option, None, Some, IfSome, Result, Ok, Err, refl, sym, ap, ap₂, subst, ◌∙◌, append_assoc, append-nil, arith, inl, inr}
+use Rattle.std.proofs.Common.{◌≡◌, ◌||◌, ℕ, suc, ◌+◌, ◌-◌, ◌<◌, ◌^◌, Bool, true, false, cond, not, List, [], ◌∷◌, ◌++◌, length, length-append, map, Option, None, Some, IfSome, Result, Ok, Err, refl, sym, ap, ap₂, subst, ◌∙◌, append_assoc, append-nil, arith, inl, inr}
 use Rattle.std.specs.Prelude.{MatchResult, filter}
-use Rattle.std.specs.List.{AllZip, flat_map, list_any}
+use Rattle.std.specs.List.{AllZip, flat_map}
 use Rattle.std.specs.Result.{IsErrAnd}
 use Rattle.std.specs.Io.KnownBytes.{Consumes}
 use Rattle.std.proofs.lemmas.List.{map-append}
@@ -19,7 +19,7 @@ use Rattle.mimic_events.specs.declared.report.Row.{Row}
 use Rattle.mimic_events.specs.Feed.{AreEnded}
 use Rattle.mimic_input.specs.Readings.{HasCome, pending}
 use Rattle.mimic_input.specs.declared.rows.InputRows.{InputRows}
-use Rattle.mimic_expect.specs.Expect.{FailedRow, Finding, any_in, is_known, known_rows, rows_with, same_key, unknown_failures}
+use Rattle.mimic_expect.specs.Expect.{FailedRow, any_in, is_known, known_rows, rows_with, same_key, unknown_failures}
 use Rattle.mimic_expect.specs.FindingText.{finding_text}
 use Rattle.mimic_expect.specs.Judge.{Judged, Judges, has_key}
 use Rattle.mimic_expect.specs.Known.{Expected, expected_read}

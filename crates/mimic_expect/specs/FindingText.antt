@@ -19,9 +19,10 @@ finding_text (AbsentLine e) = numbered_text (codes "absent, line ") e.line e.ent
 
 -- the numbers: how many failures met a line, and how many findings there are of each kind
 abbrev pub numbers_text : ℕ → List Finding → List ℕ
-numbers_text met findings = concat (decimal met ∷ codes " known failures; " ∷ decimal (count_by is_failed_row findings) ∷ codes " failed; "
-    ∷ decimal (count_by is_passed_line findings) ∷ codes " passed; " ∷ decimal (count_by is_other_message findings)
-    ∷ codes " with another message; " ∷ decimal (count_by is_absent_line findings) ∷ codes " absent\n" ∷ [])
+numbers_text met findings = concat (decimal met ∷ codes " known failures; "
+    ∷ decimal (count_by is_failed_row findings) ∷ codes " failed; " ∷ decimal (count_by is_passed_line findings) ∷ codes " passed; "
+    ∷ decimal (count_by is_other_message findings) ∷ codes " with another message; "
+    ∷ decimal (count_by is_absent_line findings) ∷ codes " absent\n" ∷ [])
 
 -- what is printed of rows: a line of each finding, and a line of the numbers
 abbrev pub rows_text : List Expected → List Entry → Bool → List ℕ

@@ -42,10 +42,12 @@ count_in test judgement = count_by (λ found. test (finding_read found)) judgeme
 -- the line of its numbers, to which so many failures count that were printed before
 abbrev pub judgement_numbers : Judgement → ℕ → List ℕ
 judgement_numbers judgement failed = concat (decimal judgement.met ∷ codes " known failures; "
-    ∷ decimal (failed + count_in is_failed_row judgement) ∷ codes " failed; " ∷ decimal (count_in is_passed_line judgement) ∷ codes " passed; "
-    ∷ decimal (count_in is_other_message judgement) ∷ codes " with another message; " ∷ decimal (count_in is_absent_line judgement)
-    ∷ codes " absent\n" ∷ [])
+    ∷ decimal (failed + count_in is_failed_row judgement) ∷ codes " failed; "
+    ∷ decimal (count_in is_passed_line judgement) ∷ codes " passed; "
+    ∷ decimal (count_in is_other_message judgement) ∷ codes " with another message; "
+    ∷ decimal (count_in is_absent_line judgement) ∷ codes " absent\n" ∷ [])
 
 -- its findings, each as one line, and its numbers
 abbrev pub judgement_text : Judgement → ℕ → List ℕ
-judgement_text judgement failed = flat_map (λ found. finding_text (finding_read found)) judgement.unexpected.items ++ judgement_numbers judgement failed
+judgement_text judgement failed =
+    flat_map (λ found. finding_text (finding_read found)) judgement.unexpected.items ++ judgement_numbers judgement failed

@@ -59,7 +59,8 @@ have_all inputs = list_all (λ read. has_all read.end) inputs
 -- ---- the verdict
 
 -- what is unexpected of the rows of all inputs was written, each once, and the numbers; the verdict says whether any of it counts
-pub record IsVerdict {I : Type 0} (remaining : I → Option (List ℕ)) (expected : List Expected) (inputs : List I) (lax : Bool) (old new : Shown) (verdict : Verdict) : Type 0 where
+pub record IsVerdict {I : Type 0} (remaining : I → Option (List ℕ)) (expected : List Expected) (inputs : List I) (lax : Bool)
+    (old new : Shown) (verdict : Verdict) : Type 0 where
   pub read : List InputRead
   pub each : AllZip (λ input r. IsReadOf (remaining input) r) inputs read
   pub ends : verdict.ends.items ≡ map (λ r. r.end) read
@@ -72,8 +73,10 @@ HasLeft old new OutOfMemory = (text : List ℕ) × Put old new text
 HasLeft old new (Write fault) = (text : List ℕ) × Stopped old new text
 
 -- what a call leaves that judges the inputs
-abbrev pub LeavesVerdict : {I : Type 0} → (I → Option (List ℕ)) → List Expected → List I → Bool → Shown → Shown → Result Verdict ExpectFault → Type 0
-LeavesVerdict remaining expected inputs lax old new (Ok verdict) = IsVerdict remaining expected inputs lax old new verdict
+abbrev pub LeavesVerdict : {I : Type 0} → (I → Option (List ℕ)) → List Expected → List I → Bool → Shown → Shown
+    → Result Verdict ExpectFault → Type 0
+LeavesVerdict remaining expected inputs lax old new (Ok verdict) =
+    IsVerdict remaining expected inputs lax old new verdict
 LeavesVerdict remaining expected inputs lax old new (Err fault) = HasLeft old new fault
 
 -- the exit status: 1 if some input is no whole report, else 101 if anything is unexpected that counts, else 0

@@ -9,7 +9,7 @@
 //! ```
 #![tactic(auto)]
 
-mod expect;
+mod judge;
 mod judging;
 mod key;
 mod known;

@@ -10,7 +10,7 @@ ghost use Rattle.mimic_expect.specs.Judging.{finding_read, judgement_text};
 ghost use Rattle.mimic_expect.specs.Known.{expected_read};
 ghost use Rattle.mimic_expect.specs.Verdict.{HasLeft, InputRead, IsReadOf, LeavesVerdict, Reads, rows_of};
 
-use crate::expect::Judge;
+use crate::judge::Judge;
 use crate::judging::Judgement;
 use crate::known::Expectation;
 use crate::verdict::{ExpectFault, InputEnd, Verdict, have_all};
@@ -20,19 +20,19 @@ use mimic_printer::{Sink, WriteFault};
 use std::alloc::Global;
 use std::io::{ErrorKind, Read, Write};
 
-/// Writes what of the reports is not as the known failures say, each once and as one line, and a line of the numbers, and flushes
-/// it. Of what isn't a whole report the rows are judged that have ended.
+/// Writes what of the reports is not as the known failures say, each once and as one line, then a line of the numbers, and
+/// flushes it. Of a report that is not whole the rows are judged that have ended.
 ///
-/// A failure meets one known failure of its kind and name: the first one of its message that is left, or else the first one of any
-/// message. What is left then is answered by a row of its kind and name that has met nothing: by a failure, which has another
-/// message, or else by one that passed or was measured, or else by an ignored one, of which nothing is said. Known failures that no
-/// row answers are absent.
+/// A failure meets one known failure of its kind and name: the first one of its message that is left, or else the first one of
+/// any message. What is left then is answered by a row of its kind and name that has met nothing: by a failure, which has
+/// another message, or else by one that passed or was measured, or else by an ignored one, of which nothing is said. Known
+/// failures that no row answers are absent. That is said only if each input is a whole report and no trial was filtered out.
+/// With `lax` a known failure that passed is written, but doesn't count.
 ///
-/// A failure whose kind and name no known failure has is written as soon as it is read. Rows with a known kind and name are kept,
-/// and no others. A line whose trial has no row counts only if each input is a whole report and no trial was filtered out. With
-/// `lax` lines whose trials passed are written, but don't count.
+/// A failure whose kind and name no known failure has is written as soon as it is read. Rows of known kinds and names are kept,
+/// and no others.
 ///
-/// An input that fails ends no call: the verdict says how each ended. With a fault a beginning was written.
+/// If an input fails, the others are still judged: the verdict says how each ended. With a fault a beginning was written.
 pub fn write_unexpected<I: Read + Drop, W: Write>(
     alloc: Global,
     known: &[Expectation],

@@ -1,4 +1,4 @@
-use Rattle.std.proofs.Common.{◌≡◌, ◌∙◌, ◌+◌, ◌++◌, ◌∷◌, [], Option, None, Some, arith, cond, suc, subst, sym}
+use Rattle.std.proofs.Common.{◌≡◌, ◌+◌, ◌++◌, ◌∷◌, [], Option, arith, cond, suc, subst, sym}
 use Rattle.std.specs.Prelude.{MatchOption}
 use Rattle.mimic_printer.specs.Sink.{shown}
 use Rattle.mimic_events.specs.Contents.{entry_read}

@@ -1,4 +1,4 @@
-use Rattle.std.proofs.Common.{◌∙◌, ◌++◌, ◌∷◌, [], ap, append_assoc, arith, length-append, refl, sym}
+use Rattle.std.proofs.Common.{◌∙◌, ◌++◌, ◌∷◌, [], ap, append_assoc, arith, length-append, sym}
 use Rattle.std.proofs.lemmas.List.{map-append}
 use Rattle.mimic_printer.proofs.Appending.{Put-trans}
 use Rattle.mimic_expect.specs.Verdict.{InputRead, IsReadOf}

@@ -1,4 +1,4 @@
-use Rattle.std.proofs.Common.{◌≡◌, ◌∙◌, ◌++◌, [], ℕ, List, decimal, subst}
+use Rattle.std.proofs.Common.{◌∙◌, ◌++◌, [], ℕ, List, decimal, subst}
 use Rattle.mimic_printer.specs.Sink.{Put, Stopped, shown}
 use Rattle.mimic_printer.proofs.Appending.{Put-Stopped, Puts-stopped, Stopped-more, Stopped-next}
 use Rattle.mimic_expect.proofs.writing.put_numbers.Goals as goal

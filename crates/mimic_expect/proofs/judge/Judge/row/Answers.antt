@@ -1,10 +1,9 @@
 use Rattle.std.proofs.Common.{◌≡◌, ◌∙◌, ap, false, sym, true}
-use Rattle.mimic_printer.specs.Sink.{shown}
 use Rattle.mimic_events.specs.Contents.{entry_read}
 use Rattle.mimic_expect.specs.Expect.{any_in}
 use Rattle.mimic_expect.specs.Judge.{has_key}
 use Rattle.mimic_expect.proofs.Judged.{row_failed, row_kept, row_passed}
-use Rattle.mimic_expect.proofs.expect.Judge.row.Goals as goal
+use Rattle.mimic_expect.proofs.judge.Judge.row.Goals as goal
 
 pub returns-then-contains : goal.returns-then-contains
 returns-then-contains g c =
