@@ -1,34 +1,80 @@
 -- The parts of a page, one after another.
-use Rattle.std.proofs.Common.{◌≡◌, codes, ℕ, List, [], ◌∷◌, ◌++◌, Result, length, map, refl, sym, ap, ap₂, subst, ◌∙◌, append-nil}
-use Rattle.std.specs.List.{flat_map}
-use Rattle.std.proofs.lemmas.List.{length-map}
+use Rattle.std.proofs.Common.{◌≡◌, arith, codes, ℕ, suc, ◌+◌, ◌<◌, ◌≤◌, append_assoc, drop, drop-cons, get_or, List, [], ◌∷◌, ◌++◌, Result, length, map, refl, sym, ap, ap₂, subst, ◌∙◌, append-nil}
+use Rattle.std.proofs.lemmas.List.{drop_all, length-map}
 use Rattle.mimic_trial.specs.Count.{counts_of}
 use Rattle.mimic_trial.specs.declared.outcome.Outcome.{Outcome}
 use Rattle.mimic_trial.specs.declared.outcome.conclusion.Conclusion.{Conclusion}
 use Rattle.mimic_printer.specs.Json.{Entry}
 use Rattle.mimic_printer.specs.Sink.{Put, Shown, Stopped, Writes}
-use Rattle.mimic_printer.proofs.Appending.{Put-Stopped, Put-trans, Puts_after, Puts_then, Stopped-more, stop2, stop3, stop4}
+use Rattle.mimic_printer.proofs.Appending.{Put-refl, Put-Stopped, Put-trans, Puts_after, Puts_then, Stopped-more, stop2, stop3, stop4}
 use Rattle.mimic_events.specs.Contents.{entry_read}
 use Rattle.mimic_events.specs.declared.report.Row.{Row}
 use Rattle.mimic_input.specs.declared.ending.Ending.{Ending}
 use Rattle.mimic_page.specs.declared.page.Group.{Group}
-use Rattle.mimic_page.specs.Page.{counts_text, end_text, ending_text, greatest_time, group_text, heading, missing_in, outcomes, page_text, row_in, rows_text, start_text}
+use Rattle.mimic_page.specs.Page.{counts_text, end_text, ending_text, greatest_time, group_text, heading, list_end, missing_in, outcomes, page_text, row_in, rows_after, rows_text, start_text}
 
--- the texts of rows that are kept
-pub rows_kept : (f : Entry → List ℕ) (rows : List Row) → flat_map (λ row. f (entry_read row)) rows ≡ flat_map f (map entry_read rows)
-rows_kept f [] = refl
-rows_kept f (row ∷ rows) = ap (λ (l : List ℕ). f (entry_read row) ++ l) (rows_kept f rows)
+-- ---- rows
+
+module _ (group : Group) (longest : ℕ) where
+  -- the texts of the rows from a place on
+  abbrev from : ℕ → List Row → List ℕ
+  from at rows = rows_after at group longest (map entry_read (drop at rows))
+
+  -- those before it were written
+  pub record RowsWritten (old new : Shown) (rows : List Row) (at : ℕ) : Type 0 where
+    pub done : List ℕ
+    pub parts : from 0 rows ≡ done ++ from at rows
+    pub put : Put old new done
+
+  pub none_written : (s : Shown) (rows : List Row) → RowsWritten s s rows 0
+  none_written s rows = record { done = []; parts = refl; put = Put-refl s }
+
+  module _ (rows : List Row) (at : ℕ) (d : Row) (h : at < length rows) where
+    abbrev row : List ℕ
+    row = row_in group longest (entry_read (get_or rows at d))
+
+    one_row : from at rows ≡ row ++ (list_end (at + 1) ++ from (at + 1) rows)
+    unfolding rows_after
+    one_row =
+        let next : suc at ≡ at + 1 = omega arith in
+        ap (λ (l : List Row). rows_after at group longest (map entry_read l)) (drop-cons rows at d h)
+        ∙ ap (λ (n : ℕ). row ++ (list_end n ++ rows_after n group longest (map entry_read (drop n rows)))) next
+
+    pub stopped_row : {a b c : Shown} → RowsWritten a b rows at → Stopped b c row → Stopped a c (from 0 rows)
+    stopped_row {a} {b} {c} w s =
+        subst (Stopped a c) (ap (λ (l : List ℕ). w.done ++ l) (sym one_row) ∙ sym w.parts) (Put-Stopped w.done _ w.put (Stopped-more row _ s))
+
+    pub stopped_list : {a b c e : Shown} → RowsWritten a b rows at → Put b c row → Stopped c e (list_end (at + 1)) → Stopped a e (from 0 rows)
+    stopped_list {a} {b} {c} {e} w p s =
+        subst (Stopped a e) (ap (λ (l : List ℕ). w.done ++ l) (sym one_row) ∙ sym w.parts) (Put-Stopped w.done _ w.put (stop2 row (list_end (at + 1)) _ p s))
+
+    pub more_rows : {a b c e : Shown} → RowsWritten a b rows at → Put b c row → Put c e (list_end (at + 1)) → RowsWritten a e rows (at + 1)
+    more_rows w p q = record {
+      done = w.done ++ (row ++ list_end (at + 1));
+      parts = w.parts ∙ ap (λ (l : List ℕ). w.done ++ l) (one_row ∙ sym (append_assoc row (list_end (at + 1)) (from (at + 1) rows)))
+          ∙ sym (append_assoc w.done (row ++ list_end (at + 1)) (from (at + 1) rows));
+      put = Put-trans w.done _ w.put (Put-trans row (list_end (at + 1)) p q);
+    }
+
+  nothing : (at : ℕ) → rows_after at group longest [] ≡ []
+  unfolding rows_after
+  nothing at = refl
+
+  pub all_written : {a b : Shown} (rows : List Row) (at : ℕ) → length rows ≤ at → RowsWritten a b rows at → Put a b (from 0 rows)
+  all_written {a} {b} rows at h w =
+      let none : from at rows ≡ [] = ap (λ (l : List Row). rows_after at group longest (map entry_read l)) (drop_all at rows h) ∙ nothing at in
+      subst (Put a b) (sym (w.parts ∙ ap (λ (l : List ℕ). w.done ++ l) none ∙ append-nil w.done)) w.put
 
 -- a group of rows
 module _ (group : Group) (rows : List Row) (longest : ℕ) (start : List ℕ) (is : start ≡ heading group) where
   abbrev group_rows : List ℕ
-  group_rows = flat_map (λ row. row_in group longest (entry_read row)) rows
+  group_rows = rows_after 0 group longest (map entry_read rows)
 
   abbrev group_end : List ℕ
   group_end = codes "</ol>\n</section>\n"
 
   group_parts : start ++ (group_rows ++ group_end) ≡ group_text group (map entry_read rows) longest
-  group_parts = ap₂ (λ (s l : List ℕ). s ++ (l ++ group_end)) is (rows_kept (row_in group longest) rows)
+  group_parts = ap (λ (s : List ℕ). s ++ (group_rows ++ group_end)) is
 
   pub group_stopped : {a b : Shown} → Stopped a b start → Stopped a b (group_text group (map entry_read rows) longest)
   group_stopped {a} {b} s = subst (Stopped a b) group_parts (Stopped-more start _ s)

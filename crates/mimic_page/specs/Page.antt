@@ -1,6 +1,6 @@
 -- Pages of HTML that show a report: each of its rows once, and nothing from outside.
-use Rattle.std.specs.Prelude.{ℕ, ◌-◌, ◌==◌, ◌||◌, not, max, fold, Bool, if◌then◌else◌, List, [], ◌∷◌, length, map, codes, decimal, Option, Some, None, string_bytes}
-use Rattle.std.specs.List.{concat, flat_map}
+use Rattle.std.specs.Prelude.{ℕ, suc, ◌-◌, ◌%◌, ◌==◌, ◌||◌, not, max, fold, Bool, if◌then◌else◌, List, [], ◌∷◌, ◌++◌, length, map, codes, decimal, Option, Some, None, string_bytes}
+use Rattle.std.specs.List.{concat}
 use Rattle.mimic_text.specs.Seconds.{exact_seconds}
 use Rattle.mimic_text.specs.Text.{grouped}
 use Rattle.mimic_trial.specs.declared.outcome.Outcome.{Outcome}
@@ -114,9 +114,17 @@ heading Failed = codes "<section>\n<h2>Failed</h2>\n<ol>\n"
 heading Measured = codes "<section>\n<h2>Measured</h2>\n<ol>\n"
 heading Others = codes "<section>\n<h2>Passed or ignored</h2>\n<ol>\n"
 
--- the rows of a group, in their order
+-- what follows so many rows of the report: after each 500 a new list begins, so that lists that are not in sight are not laid out
+abbrev pub list_end : ℕ → List ℕ
+list_end count = if count % 500 == 0 then codes "</ol>\n<ol>\n" else []
+
+-- the rows of a group, in their order, if so many rows stand before them in the report
+unfoldable pub rows_after : ℕ → Group → ℕ → List Entry → List ℕ
+rows_after count group longest [] = []
+rows_after count group longest (entry ∷ entries) = row_in group longest entry ++ (list_end (suc count) ++ rows_after (suc count) group longest entries)
+
 abbrev pub group_text : Group → List Entry → ℕ → List ℕ
-group_text group entries longest = concat (heading group ∷ flat_map (row_in group longest) entries ∷ codes "</ol>\n</section>\n" ∷ [])
+group_text group entries longest = concat (heading group ∷ rows_after 0 group longest entries ∷ codes "</ol>\n</section>\n" ∷ [])
 
 -- all rows, failures first
 abbrev pub rows_text : List Entry → ℕ → List ℕ

@@ -1,11 +1,10 @@
 //! Writes the page of a report.
 ghost use Rattle.std.specs.Prelude.{◌≡◌, length, map};
-ghost use Rattle.std.specs.List.{flat_map};
 ghost use Rattle.mimic_trial.specs.Count.{counts_of};
 ghost use Rattle.mimic_printer.specs.Sink.{HasFaultLeft, Puts};
 ghost use Rattle.mimic_events.specs.Contents.{entry_read};
 ghost use Rattle.mimic_page.specs.Escape.{EscapeLaws};
-ghost use Rattle.mimic_page.specs.Page.{greatest_time, group_text, missing_in, page_text, row_in, rows_text, time_of};
+ghost use Rattle.mimic_page.specs.Page.{greatest_time, group_text, list_end, missing_in, page_text, row_in, rows_after, rows_text, time_of};
 
 use crate::elements::{put_counts, put_end, put_ending, put_row, put_start};
 use mimic_events::Row;
@@ -13,6 +12,9 @@ use mimic_input::{Ending, RowsRead};
 use mimic_printer::{Sink, WriteFault};
 use mimic_trial::{Conclusion, Outcome};
 use std::io::Write;
+
+// How many rows of a report stand in one list at most.
+const LIST: usize = 500;
 
 // The rows that stand under one heading.
 #[derive(Clone, Copy, Debug)]
@@ -128,14 +130,42 @@ fn put_rows<W: Write>(
 ) -> Result<(), WriteFault>
     requires { HasFaultLeft sink.old }
     ensures { Puts W.contents sink.old sink.new
-        (flat_map (λ row. row_in group longest (entry_read row)) rows.now) result }
+        (rows_after 0 group longest (map entry_read rows.now)) result }
 {
-    for row in rows {
-        if group.has(&row.outcome) {
-            put_row(sink, row, longest)?;
-        }
+    for (at, row) in rows.iter().enumerate() {
+        put_row_of(sink, group, row, longest)?;
+        sink.put(list_end(at + 1))?;
     }
     Ok(())
+}
+
+// Writes the row if it stands in the group.
+fn put_row_of<W: Write>(
+    sink: &mut Sink<W>,
+    group: Group,
+    row: &Row,
+    longest: u64,
+) -> Result<(), WriteFault>
+    requires { HasFaultLeft sink.old }
+    ensures { Puts W.contents sink.old sink.new
+        (row_in group longest (entry_read row.now)) result }
+{
+    if group.has(&row.outcome) {
+        put_row(sink, row, longest)
+    } else {
+        sink.put(b"")
+    }
+}
+
+// Returns what follows so many rows.
+fn list_end(count: usize) -> &'static [u8]
+    ensures { result.now ≡ list_end count }
+{
+    if count % LIST == 0 {
+        b"</ol>\n<ol>\n"
+    } else {
+        b""
+    }
 }
 
 impl Group {

@@ -18,7 +18,7 @@ pub(crate) const SCRIPT: &str = r#"
 const form = document.querySelector("form");
 const [text, ...boxes] = form.querySelectorAll("input");
 const shown = form.querySelector("output");
-const sections = document.querySelectorAll("section");
+const parts = document.querySelectorAll("section, ol");
 const rows = Array.from(document.querySelectorAll("main li"), (row) => ({ row, outcome: row.className, label: null }));
 
 function label(row) {
@@ -35,8 +35,8 @@ function filter() {
     one.row.hidden = !fits;
     count += fits ? 1 : 0;
   }
-  for (const section of sections) {
-    section.hidden = section.querySelector("li:not([hidden])") === null;
+  for (const part of parts) {
+    part.hidden = part.querySelector("li:not([hidden])") === null;
   }
   shown.textContent = `${count} of ${rows.length} shown`;
 }
@@ -48,4 +48,4 @@ form.hidden = false;
 "#;
 
 // The script's digest, by which the page allows it and no other. If the script changes, `checks/programs` prints the new one.
-pub(crate) const SCRIPT_DIGEST: &str = "sha256-";
+pub(crate) const SCRIPT_DIGEST: &str = "sha256-WofSd6XZ+7WAI8L6ZruJq5fFhsOF20TnLQYGR1Mth2k=";

@@ -1,7 +1,7 @@
 //! The style of a page.
 
 // How a page looks. It fetches nothing. Outcomes have a word and a colour. Each row, and each name in it, is set in its own
-// direction, so that no text reorders another. Rows that aren't in sight are not laid out.
+// direction, so that no text reorders another. Lists that aren't in sight are not laid out.
 pub(crate) const STYLE: &str = r#":root {
   color-scheme: light dark;
   --paper: #ffffff;
@@ -29,11 +29,11 @@ pub(crate) const STYLE: &str = r#":root {
     --cut: #e3a341;
   }
 }
-.failed { --colour: var(--failed); }
-.passed { --colour: var(--passed); }
+.failed, .FAILED { --colour: var(--failed); }
+.passed, .ok { --colour: var(--passed); }
 .ignored { --colour: var(--ignored); }
 .measured { --colour: var(--measured); }
-.cut { --colour: var(--cut); }
+.cut, .report { --colour: var(--cut); }
 [hidden] { display: none !important; }
 body {
   max-width: 64rem;
@@ -53,9 +53,10 @@ header p { margin-top: .5rem; color: var(--faint); }
 header p.cut { color: var(--colour); font-weight: 600; }
 .bar { display: flex; gap: 2px; height: .75rem; margin: 1.25rem 0 .75rem; border-radius: .375rem; overflow: hidden; }
 .bar i { background: var(--colour); }
+.bar i[style$=" 0"] { display: none; }
 .bar .cut { background: repeating-linear-gradient(45deg, var(--colour) 0 4px, transparent 4px 8px); }
 .counts { display: flex; flex-wrap: wrap; gap: .25rem 1.5rem; }
-.counts li::before, form label + label::before {
+.counts li::before {
   content: "";
   display: inline-block;
   width: .6rem;
@@ -78,7 +79,6 @@ form {
   background: var(--paper);
 }
 form label { white-space: nowrap; }
-form label + label::before { margin-right: .1rem; }
 input[type="search"] {
   width: 16rem;
   max-width: 60vw;
@@ -91,8 +91,9 @@ input[type="search"] {
 }
 input[type="checkbox"] { accent-color: var(--colour); }
 output { margin-left: auto; color: var(--faint); }
-section:not(:has(li)) { display: none; }
-main li { content-visibility: auto; contain-intrinsic-size: auto 2.25rem; border-bottom: 1px solid var(--line); }
+section:not(:has(li)), ol:not(:has(li)) { display: none; }
+ol { content-visibility: auto; contain-intrinsic-size: auto 60rem; }
+main li { border-bottom: 1px solid var(--line); }
 main li:not(.failed), summary { display: flex; gap: .75rem; align-items: baseline; padding: .35rem 0; }
 main b { flex: none; width: 4.25rem; color: var(--colour); font-size: .875rem; }
 main bdi { min-width: 0; }
@@ -104,14 +105,21 @@ meter::-webkit-meter-optimum-value { border-radius: .375rem; background: var(--m
 meter::-moz-meter-bar { border-radius: .375rem; background: var(--measured); }
 main .failed { margin: .5rem 0; padding: 0 1rem; border: 1px solid var(--line); border-left: .25rem solid var(--colour); border-radius: .4rem; }
 summary { padding: .55rem 0; cursor: pointer; }
+summary::after { content: "\25b8"; margin-left: auto; color: var(--faint); }
+[open] summary::after { content: "\25be"; }
 summary bdi:last-child { font-weight: 600; }
 main pre, main p { padding: .6rem 0 .8rem; border-top: 1px solid var(--line); }
 main pre { font: .875rem/1.5 ui-monospace, monospace; unicode-bidi: plaintext; tab-size: 8; }
 main p { color: var(--faint); font-style: italic; }
 @media (max-width: 40rem) {
   body { padding: 1.25rem .9rem 3rem; }
-  main li.measured { flex-wrap: wrap; }
+  form { position: static; }
+  main li.measured { flex-wrap: wrap; row-gap: .25rem; }
   main li.measured bdi:last-of-type { flex: 1; }
-  meter { width: 100%; }
+  main span, meter { width: 100%; }
+}
+@media print {
+  form { display: none !important; }
+  ol { content-visibility: visible; }
 }
 "#;
