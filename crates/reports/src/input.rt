@@ -1,10 +1,14 @@
 //! Where a report is read from.
 use std::fs::File;
 use std::io::{Read, Stdin};
+use std::path::Path;
 use std::{fs, io};
 
 // The name that stands for standard input.
 pub(crate) const STANDARD: &str = "-";
+
+// The name of the program whose report is read from there.
+const NAMELESS: &str = "report";
 
 /// A file, which is opened at the first read, or standard input.
 #[derive(Drop)]
@@ -23,6 +27,14 @@ impl<'a> Input<'a> {
             Input::Named { rt, path }
         }
     }
+}
+
+/// The name of the program whose report the file has: the file's, without its folder and its ending.
+pub(crate) fn name_of(file: &str) -> &str {
+    if file == STANDARD {
+        return NAMELESS;
+    }
+    Path::new(file).file_stem().unwrap_or(file)
 }
 
 impl Read for Input<'_> {

@@ -1,16 +1,12 @@
 //! Prints reports as JUnit's XML.
-use crate::input::{Input, STANDARD};
+use crate::input::{Input, STANDARD, name_of};
 use crate::line::Junit;
 use crate::{BLOCK, REFUSED, SUCCESS};
 use mimic_printer::Sink;
 use mimic_reports::{Ending, InputFault, JunitFault, Suite, write_junit};
 use std::alloc::Global;
 use std::io::BufWriter;
-use std::path::Path;
 use std::{fmt, fs};
-
-// The name of the program of standard input.
-const NAMELESS: &str = "report";
 
 // Prints the document of all reports that could be read, and says of each other file why it is none.
 pub(crate) fn run(rt: &HostRuntime, alloc: Global, junit: &Junit) -> u8 {
@@ -21,7 +17,11 @@ pub(crate) fn run(rt: &HostRuntime, alloc: Global, junit: &Junit) -> u8 {
     };
     for file in &junit.files {
         let file = file.as_str();
-        match read(rt, alloc, name_of(junit, file), file) {
+        let name = match &junit.name {
+            Some(name) => name.as_str(),
+            None => name_of(file),
+        };
+        match read(rt, alloc, name, file) {
             Ok(suite) => sources = sources.with(rt, file, suite),
             Err(fault) => sources.status = refuse(rt, file, &fault),
         }
@@ -93,17 +93,6 @@ fn is_regular(rt: &HostRuntime, file: &str) -> bool {
         Ok(metadata) => metadata.is_file(),
         Err(_) => false,
     }
-}
-
-// The name of the program: that of the line, or of the file without its folder and its ending.
-fn name_of<'a>(junit: &'a Junit, file: &'a str) -> &'a str {
-    if let Some(name) = &junit.name {
-        return name.as_str();
-    }
-    if file == STANDARD {
-        return NAMELESS;
-    }
-    Path::new(file).file_stem().unwrap_or(file)
 }
 
 fn refuse<F: fmt::Display>(rt: &HostRuntime, file: &str, fault: &F) -> u8 {
