@@ -4,7 +4,6 @@ use Rattle.std.proofs.lemmas.List.{drop_all, length-map}
 use Rattle.mimic_trial.specs.Count.{counts_of}
 use Rattle.mimic_trial.specs.declared.outcome.Outcome.{Outcome}
 use Rattle.mimic_trial.specs.declared.outcome.conclusion.Conclusion.{Conclusion}
-use Rattle.mimic_printer.specs.Json.{Entry}
 use Rattle.mimic_printer.specs.Sink.{Put, Shown, Stopped, Writes}
 use Rattle.mimic_printer.proofs.Appending.{Put-refl, Put-Stopped, Put-trans, Puts_after, Puts_then, Stopped-more, stop2, stop3, stop4}
 use Rattle.mimic_events.specs.Contents.{entry_read}

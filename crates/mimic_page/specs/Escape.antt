@@ -17,7 +17,7 @@ numbered digits = concat (codes "\\u{" ∷ digits ∷ codes "}" ∷ [])
 abbrev pub hexadecimal : ℕ → List ℕ
 hexadecimal n = if nat_lt n 16 then digit_char n ∷ [] else digit_char (n / 16) ∷ digit_char (n % 16) ∷ []
 
--- how a byte is spelled: by an entity, if it is markup; a control character but tab and line feed by its number; and else by itself
+-- how a byte is spelled: by an entity, if it is markup; a control character but tab and line feed by its number; else by itself
 abbrev pub spelled_byte : ℕ → List ℕ
 spelled_byte b =
     if b == 38 then codes "&amp;"
@@ -84,7 +84,8 @@ ends_mark b = b == 59 || b == 125
 -- the text that is spelled so; `begun` is what came of a spelling that hasn't ended
 unfoldable pub unescaped_after : Option (List ℕ) → List ℕ → List ℕ
 unescaped_after begun [] = []
-unescaped_after None (b ∷ rest) = if begins_mark b rest then unescaped_after (Some (b ∷ [])) rest else b ∷ unescaped_after None rest
+unescaped_after None (b ∷ rest) = if begins_mark b rest then unescaped_after (Some (b ∷ [])) rest
+    else b ∷ unescaped_after None rest
 unescaped_after (Some mark) (b ∷ rest) = if ends_mark b then character_of mark ++ unescaped_after None rest
     else unescaped_after (Some (mark ++ b ∷ [])) rest
 
@@ -95,13 +96,15 @@ unescaped text = unescaped_after None text
 
 -- the text begins with one of the four entities
 abbrev pub begins_entity : List ℕ → Bool
-begins_entity text = bytes_eq (take 5 text) (codes "&amp;") || bytes_eq (take 4 text) (codes "&lt;") || bytes_eq (take 4 text) (codes "&gt;")
+begins_entity text = bytes_eq (take 5 text) (codes "&amp;") || bytes_eq (take 4 text) (codes "&lt;")
+    || bytes_eq (take 4 text) (codes "&gt;")
     || bytes_eq (take 6 text) (codes "&quot;")
 
 -- the byte begins or ends no element, value or other reference, if this follows it, and is no control character but tab and line
 -- feed
 abbrev pub is_inert_byte : ℕ → List ℕ → Bool
-is_inert_byte b rest = if b == 38 then begins_entity (b ∷ rest) else not (b == 60 || b == 62 || b == 34 || b == 127) && (b == 9 || b == 10 || not (nat_lt b 32))
+is_inert_byte b rest = if b == 38 then begins_entity (b ∷ rest)
+    else not (b == 60 || b == 62 || b == 34 || b == 127) && (b == 9 || b == 10 || not (nat_lt b 32))
 
 -- so does none of the bytes
 unfoldable pub is_inert : List ℕ → Bool
@@ -110,7 +113,7 @@ is_inert (b ∷ rest) = is_inert_byte b rest && is_inert rest
 
 -- ---- laws
 
--- what holds of the spelling of every text: the text comes back from it, so that two texts never have the same, and it is no markup
+-- what holds of the spelling of every text: the text comes back from it, so that two texts never have the same; it is no markup
 pub record EscapeLaws : Type 0 where
   pub comes_back : (text : List ℕ) → unescaped (escaped text) ≡ text
   pub no_markup : (text : List ℕ) → IsTrue (is_inert (escaped text))

@@ -1,5 +1,5 @@
 -- Pages of HTML that show a report: each of its rows once, and nothing from outside.
-use Rattle.std.specs.Prelude.{ℕ, suc, ◌-◌, ◌%◌, ◌==◌, ◌||◌, not, max, fold, Bool, if◌then◌else◌, List, [], ◌∷◌, ◌++◌, length, map, codes, decimal, Option, Some, None, string_bytes}
+use Rattle.std.specs.Prelude.{ℕ, suc, ◌-◌, ◌%◌, ◌==◌, ◌||◌, not, max, fold, Bool, if◌then◌else◌, List, [], ◌∷◌, ◌++◌, length, map, codes, decimal, Option, Some, None}
 use Rattle.std.specs.List.{concat}
 use Rattle.mimic_text.specs.Seconds.{exact_seconds}
 use Rattle.mimic_text.specs.Text.{grouped}
@@ -60,7 +60,8 @@ start_text program counts ending = concat (
     ∷ codes ". " ∷ decimal counts.num_failed ∷ codes " failed; " ∷ decimal counts.num_passed
     ∷ codes " passed; " ∷ decimal counts.num_ignored ∷ codes " ignored; " ∷ decimal counts.num_measured
     ∷ codes " measured</title>\n<style>\n" ∷ STYLE.now
-    ∷ codes "</style>\n</head>\n<body>\n<header>\n<h1><bdi>" ∷ escaped program ∷ codes "</bdi> <strong class=\"" ∷ verdict counts.num_failed ending
+    ∷ codes "</style>\n</head>\n<body>\n<header>\n<h1><bdi>" ∷ escaped program
+    ∷ codes "</bdi> <strong class=\"" ∷ verdict counts.num_failed ending
     ∷ codes "\">" ∷ verdict counts.num_failed ending ∷ codes "</strong></h1>\n" ∷ [])
 
 -- ---- rows
@@ -90,9 +91,11 @@ abbrev pub row_end : ℕ → Outcome → List (List ℕ)
 row_end longest outcome.Passed = codes "</bdi></li>\n" ∷ []
 row_end longest outcome.Ignored = codes "</bdi></li>\n" ∷ []
 row_end longest (outcome.Failed None) = codes "</bdi></summary><p>no message</p></details></li>\n" ∷ []
-row_end longest (outcome.Failed (Some message)) = codes "</bdi></summary><pre>\n" ∷ escaped message ∷ codes "</pre></details></li>\n" ∷ []
-row_end longest (outcome.Measured m) = codes "</bdi> <span>" ∷ grouped (decimal m.avg) ∷ codes " ns/iter (+/- " ∷ grouped (decimal m.variance)
-    ∷ codes ")</span> <meter max=\"" ∷ decimal longest ∷ codes "\" value=\"" ∷ decimal m.avg ∷ codes "\"></meter></li>\n" ∷ []
+row_end longest (outcome.Failed (Some message)) = codes "</bdi></summary><pre>\n" ∷ escaped message
+    ∷ codes "</pre></details></li>\n" ∷ []
+row_end longest (outcome.Measured m) = codes "</bdi> <span>" ∷ grouped (decimal m.avg)
+    ∷ codes " ns/iter (+/- " ∷ grouped (decimal m.variance)
+    ∷ codes ")</span> <meter aria-hidden=\"true\" max=\"" ∷ decimal longest ∷ codes "\" value=\"" ∷ decimal m.avg ∷ codes "\"></meter></li>\n" ∷ []
 
 -- a row, if the longest bar is that of this time
 unfoldable pub row_text : ℕ → Entry → List ℕ
@@ -121,14 +124,16 @@ list_end count = if count % 500 == 0 then codes "</ol>\n<ol>\n" else []
 -- the rows of a group, in their order, if so many rows stand before them in the report
 unfoldable pub rows_after : ℕ → Group → ℕ → List Entry → List ℕ
 rows_after count group longest [] = []
-rows_after count group longest (entry ∷ entries) = row_in group longest entry ++ (list_end (suc count) ++ rows_after (suc count) group longest entries)
+rows_after count group longest (entry ∷ entries) = row_in group longest entry
+    ++ (list_end (suc count) ++ rows_after (suc count) group longest entries)
 
 abbrev pub group_text : Group → List Entry → ℕ → List ℕ
 group_text group entries longest = concat (heading group ∷ rows_after 0 group longest entries ∷ codes "</ol>\n</section>\n" ∷ [])
 
 -- all rows, failures first
 abbrev pub rows_text : List Entry → ℕ → List ℕ
-rows_text entries longest = concat (group_text Failed entries longest ∷ group_text Measured entries longest ∷ group_text Others entries longest ∷ [])
+rows_text entries longest = concat (group_text Failed entries longest ∷ group_text Measured entries longest
+    ∷ group_text Others entries longest ∷ [])
 
 -- ---- how it ended
 
@@ -155,20 +160,22 @@ stop_text ended stop = concat (codes "<p class=\"cut\">" ∷ wrong_part stop.wro
 
 -- what is said of how a report ended
 unfoldable pub ending_text : ℕ → Ending → List ℕ
-ending_text ended (Whole filtered_out nanos) = concat (codes "<p>" ∷ decimal filtered_out ∷ codes " filtered out; finished in " ∷ exact_seconds nanos
-    ∷ codes "s</p>\n" ∷ [])
+ending_text ended (Whole filtered_out nanos) = concat (codes "<p>" ∷ decimal filtered_out
+    ∷ codes " filtered out; finished in " ∷ exact_seconds nanos ∷ codes "s</p>\n" ∷ [])
 ending_text ended (Cut stop) = stop_text ended stop
 
 -- ---- counts
 
 -- a part of the bar, which is as wide as its number is great
 abbrev pub bar_part : List ℕ → ℕ → List (List ℕ) → List (List ℕ)
-bar_part class number rest = codes "<i class=\"" ∷ class ∷ codes "\" style=\"flex-grow: " ∷ decimal number ∷ codes "\"></i>" ∷ rest
+bar_part class number rest = codes "<i class=\"" ∷ class
+    ∷ codes "\" style=\"flex-grow: " ∷ decimal number ∷ codes "\"></i>" ∷ rest
 
 -- the counts as a bar and in words, and the filter, which the script shows
 unfoldable pub counts_text : Conclusion → ℕ → List ℕ
 counts_text counts missing = concat (codes "<div class=\"bar\" aria-hidden=\"true\">"
-    ∷ bar_part (codes "failed") counts.num_failed (bar_part (codes "passed") counts.num_passed (bar_part (codes "ignored") counts.num_ignored
+    ∷ bar_part (codes "failed") counts.num_failed (bar_part (codes "passed") counts.num_passed
+    (bar_part (codes "ignored") counts.num_ignored
     (bar_part (codes "measured") counts.num_measured (bar_part (codes "cut") missing
     (codes "</div>\n<ul class=\"counts\">\n<li class=\"failed\">" ∷ decimal counts.num_failed
     ∷ codes " failed</li>\n<li class=\"passed\">" ∷ decimal counts.num_passed
@@ -186,6 +193,7 @@ outcomes entries = map (λ entry. entry.outcome) entries
 
 -- the page of a report of the program: its rows that have ended, and how it ended
 unfoldable pub page_text : List ℕ → List Entry → Ending → List ℕ
-page_text program entries ending = concat (start_text program (counts_of (outcomes entries) 0) ending ∷ ending_text (length entries) ending
+page_text program entries ending = concat (start_text program (counts_of (outcomes entries) 0) ending
+    ∷ ending_text (length entries) ending
     ∷ counts_text (counts_of (outcomes entries) 0) (missing_in (length entries) ending)
     ∷ rows_text entries (greatest_time (outcomes entries)) ∷ end_text ∷ [])

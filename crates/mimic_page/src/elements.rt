@@ -270,7 +270,7 @@ pub(crate) fn put_row<'a, W: Write>(
             Piece::Grouped(measurement.avg),
             Piece::Text(" ns/iter (+/- "),
             Piece::Grouped(measurement.variance),
-            Piece::Text(")</span> <meter max=\""),
+            Piece::Text(")</span> <meter aria-hidden=\"true\" max=\""),
             Piece::Number(longest),
             Piece::Text("\" value=\""),
             Piece::Number(measurement.avg),

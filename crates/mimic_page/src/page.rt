@@ -1,5 +1,5 @@
 //! Writes the page of a report.
-ghost use Rattle.std.specs.Prelude.{◌≡◌, length, map};
+ghost use Rattle.std.specs.Prelude.{◌≡◌, map};
 ghost use Rattle.mimic_trial.specs.Count.{counts_of};
 ghost use Rattle.mimic_printer.specs.Sink.{HasFaultLeft, Puts};
 ghost use Rattle.mimic_events.specs.Contents.{entry_read};
