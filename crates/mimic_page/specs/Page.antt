@@ -1,5 +1,5 @@
 -- Pages of HTML that show a report: each of its rows once, and nothing from outside.
-use Rattle.std.specs.Prelude.{ℕ, suc, ◌-◌, ◌%◌, ◌==◌, ◌||◌, not, max, fold, Bool, if◌then◌else◌, List, [], ◌∷◌, ◌++◌, length, map, codes, decimal, Option, Some, None}
+use Rattle.std.specs.Prelude.{◌≡◌, ℕ, suc, ◌-◌, ◌%◌, ◌==◌, ◌||◌, not, max, fold, Bool, if◌then◌else◌, List, [], ◌∷◌, ◌++◌, length, map, count_by, codes, decimal, Option, Some, None}
 use Rattle.std.specs.List.{concat}
 use Rattle.mimic_text.specs.Seconds.{exact_seconds}
 use Rattle.mimic_text.specs.Text.{grouped}
@@ -103,11 +103,15 @@ row_text longest entry = concat (row_start entry.outcome ∷ label_part entry.la
 
 -- ---- groups of rows
 
--- the row stands in this group; each stands in one
+-- the row stands in this group
 abbrev pub is_in : Group → Outcome → Bool
 is_in Failed o = is_failed o
 is_in Measured o = is_measured o
 is_in Others o = not (is_failed o || is_measured o)
+
+-- the law of groups: each row stands in one, and in no other
+abbrev pub StandsOnce : Type 0
+StandsOnce = (o : Outcome) → count_by (λ group. is_in group o) (Failed ∷ Measured ∷ Others ∷ []) ≡ 1
 
 abbrev pub row_in : Group → ℕ → Entry → List ℕ
 row_in group longest entry = if is_in group entry.outcome then row_text longest entry else []
