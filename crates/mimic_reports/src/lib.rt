@@ -1,5 +1,8 @@
 //! Reports: those of the shards of a suite joined into one, or printed as JUnit's XML or as the harness prints them.
 //!
+//! [`expect`] compares reports with known failures, and [`compare`] compares two. [`page`] prints a report as a page of HTML, and
+//! [`watch`] as it comes.
+//!
 //! ```rust
 //! use mimic_events::write_report;
 //! use mimic_printer::Sink;
@@ -35,6 +38,10 @@ pub use faults::{JoinFault, NamedFault};
 pub use inputs::join_reports;
 pub use join::{Refusal, joined};
 pub use junit::{JunitFault, write_junit};
+pub use mimic_compare as compare;
+pub use mimic_expect as expect;
 pub use mimic_input::{Ending, InputFault, ReadFault, RowsRead, Stop, read_from, read_rows};
+pub use mimic_page as page;
+pub use mimic_watch as watch;
 pub use show::{ShowFault, show_failures, show_report};
 pub use suite::Suite;
