@@ -144,12 +144,18 @@ findings_with left rows are_all = flat_map (fate are_all) (answers (labelled row
 abbrev pub findings : List Expected → List Entry → Bool → List Finding
 findings expected rows are_all = findings_with (left_in expected rows) (others_in expected rows) are_all
 
+-- the finding makes the rows unexpected: each does, but if it is lax a line whose trial passed does not
+abbrev pub counts : Bool → Finding → Bool
+counts lax (PassedLine e) = not lax
+counts lax other = true
+
 -- ---- rows that come one by one
 
 -- some known failure has the kind and name of the row
 abbrev pub is_known : List Expected → Entry → Bool
 is_known expected row = list_any (λ e. same_key (any_in e.entry) (any_in row)) expected
 
+-- the rows whose kind and name some known failure has
 abbrev pub known_rows : List Expected → List Entry → List Entry
 known_rows expected rows = filter (is_known expected) rows
 
@@ -158,7 +164,7 @@ abbrev pub unknown_failures : List Expected → List Entry → List Entry
 unknown_failures expected rows = rows_with is_failed (filter (λ row. not (is_known expected row)) rows)
 
 -- what is unexpected, in the order in which it can be said while the rows come: first the failures whose kind and name no known
--- failure has, and then the findings of the rows that are left
+-- failure has, and then the findings of the other rows
 abbrev pub findings_in_turn : List Expected → List Entry → Bool → List Finding
 findings_in_turn expected rows are_all =
     map FailedRow (unknown_failures expected rows) ++ findings expected (known_rows expected rows) are_all
@@ -173,11 +179,6 @@ pub record HasSame (expected : List Expected) (rows : List Entry) (are_all : Boo
 pub record ExpectLaws : Type 0 where
   pub matching : (expected : List Expected) (failures : List Entry) → IsMatching expected failures
   pub same : (expected : List Expected) (rows : List Entry) (are_all : Bool) → HasSame expected rows are_all
-
--- the finding makes the rows unexpected: each does, but if it is lax a line whose trial passed does not
-abbrev pub counts : Bool → Finding → Bool
-counts lax (PassedLine e) = not lax
-counts lax other = true
 
 -- ---- which finding it is
 
