@@ -1,4 +1,4 @@
-//! Reads reports in JSON: joins those of shards into one, and prints them as JUnit's XML or as the harness does.
+//! Reads reports in JSON: joins those of shards into one, compares them, and prints them in other forms.
 #![tactic(auto)]
 
 mod compare;
