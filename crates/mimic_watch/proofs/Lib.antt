@@ -1,0 +1,6 @@
+pub mod Drawing
+pub mod Ending
+pub mod Escaping
+pub mod Messages
+pub mod Seeing
+pub mod Watches

@@ -1,0 +1,111 @@
+-- Rows that have ended, one after another.
+use Rattle.std.proofs.Common.{◌≡◌, inl, inr, ℕ, ◌+◌, ◌-◌, ◌<◌, ◌^◌, cond, List, [], ◌∷◌, ◌++◌, length, length-append, refl, sym, ap, ap₂, ◌∙◌, subst, arith, append_assoc, append-nil}
+use Rattle.std.specs.Prelude.{count_by}
+use Rattle.std.proofs.lemmas.List.{length-map, map-append, flat_map_more}
+use Rattle.std.proofs.lemmas.List.Sums.{count_by-le-length, sum_by_push}
+use Rattle.mimic_trial.specs.declared.outcome.Outcome.{Outcome}
+use Rattle.mimic_trial.specs.Count.{is_failed}
+use Rattle.mimic_printer.specs.Json.{Entry}
+use Rattle.mimic_events.specs.Contents.{entry_read}
+use Rattle.mimic_events.specs.Feed.{AreEnded}
+use Rattle.mimic_events.specs.Follower.{FollowsOn, FollowsRow, HasFollowed}
+use Rattle.mimic_events.specs.declared.follower.Follower.{Follower}
+use Rattle.mimic_events.specs.declared.report.Row.{Row}
+use Rattle.mimic_watch.specs.declared.viewer.Viewer.{Viewer}
+use Rattle.mimic_watch.specs.Moments.{outcomes_in}
+use Rattle.mimic_watch.specs.Rows.{row_text}
+use Rattle.mimic_watch.specs.Watching.{HasSeen, SeesOn, SeesRow}
+
+-- ---- one row
+
+nil_not_push : (entries : List Entry) (e : Entry) → entries ++ e ∷ [] ≡ [] → ⊥
+nil_not_push entries e h = let n = ap length h in omega (arith, n, length-append entries (e ∷ []))
+
+-- there is room for one more
+few : (bytes : List ℕ) (entries : List Entry) (e : Entry) → AreEnded bytes (entries ++ e ∷ []) → length entries < 2 ^ 64 - 1
+few bytes entries e h = elim h.begun [
+  | inl none ↦ absurd (nil_not_push entries e none)
+  | inr b ↦ let within = b.within in let number = b.number in omega (arith, within, number, length-append entries (e ∷ []))
+]
+
+-- one more failure, if it is one
+one_failed : (entries : List Entry) (e : Entry) → count_by is_failed (outcomes_in (entries ++ e ∷ [])) ≡ count_by is_failed (outcomes_in entries) + cond (is_failed e.outcome) 1 0
+one_failed entries e =
+    ap (count_by is_failed) (map-append (λ (x : Entry). x.outcome) entries (e ∷ []))
+    ∙ sum_by_push (λ (o : Outcome). cond (is_failed o) 1 0) (outcomes_in entries) e.outcome
+
+few_failed : (entries : List Entry) → length entries < 2 ^ 64 - 1 → count_by is_failed (outcomes_in entries) < 2 ^ 64 - 1
+few_failed entries h = omega (arith, h, count_by-le-length is_failed (outcomes_in entries), length-map entries (λ (x : Entry). x.outcome))
+
+-- a row was followed, and then counted
+pub row_seen : (old mid new : Viewer) (bytes front : List ℕ) (put waiting : List Entry) (e : Entry) → FollowsOn old.follower front mid.follower (e ∷ [])
+    → mid.ended ≡ old.ended → mid.failed ≡ old.failed → mid.waiting.items ≡ old.waiting.items → SeesRow mid e new
+    → HasSeen old bytes put waiting → HasSeen new (bytes ++ front) put (waiting ++ e ∷ [])
+row_seen old mid new bytes front put waiting e on ended failed shown sees h =
+    let all : List Entry = put ++ waiting in
+    let more : all ++ e ∷ [] ≡ put ++ (waiting ++ e ∷ []) = append_assoc put waiting (e ∷ []) in
+    let next : HasFollowed mid.follower (bytes ++ front) (all ++ e ∷ []) = on bytes all h.followed in
+    let room : length all < 2 ^ 64 - 1 = few (bytes ++ front) all e next.ended in
+    record {
+      followed = subst (λ (f : Follower). HasFollowed f (bytes ++ front) (put ++ (waiting ++ e ∷ []))) (sym sees.follower)
+          (subst (HasFollowed mid.follower (bytes ++ front)) more next);
+      ended = sees.ended (omega (arith, ended, h.ended, room)) ∙ omega (arith, ended, h.ended, ap length more, length-append all (e ∷ []));
+      failed = sees.failed (omega (arith, failed, h.failed, few_failed all room))
+          ∙ ap (λ (n : ℕ). n + cond (is_failed e.outcome) 1 0) (failed ∙ h.failed)
+          ∙ sym (one_failed all e) ∙ ap (λ (l : List Entry). count_by is_failed (outcomes_in l)) more;
+      shown = sees.shown ∙ ap (λ (l : List ℕ). l ++ row_text e) (shown ∙ h.shown) ∙ flat_map_more row_text [] waiting e;
+    }
+
+-- ---- a piece
+
+-- a front of the piece was taken
+pub record TakenSoFar (old : Viewer) (piece : List ℕ) (new : Viewer) (rest : List ℕ) : Type 0 where
+  pub live : new.live ≡ old.live
+  pub seen : (before : List ℕ) (put waiting : List Entry) → HasSeen old before put waiting
+      → (front : List ℕ) × (more : List Entry) × (piece ≡ front ++ rest) × HasSeen new (before ++ front) put (waiting ++ more)
+
+pub nothing_taken : (w : Viewer) (piece : List ℕ) → TakenSoFar w piece w piece
+nothing_taken w piece = record {
+  live = refl;
+  seen = λ before put waiting h. (
+    [],
+    [],
+    refl,
+    subst (λ (x : List ℕ × List Entry). HasSeen w x.0 put x.1) (ap₂ (λ (x : List ℕ) (y : List Entry). (x, y)) (sym (append-nil before)) (sym (append-nil waiting))) h,
+  );
+}
+
+pub row_taken : (start old mid new : Viewer) (piece rest : List ℕ) (row : Row) (left : List ℕ) → TakenSoFar start piece old rest
+    → SeesRow mid (entry_read row) new → FollowsRow old.follower rest mid.follower row left
+    → mid.ended ≡ old.ended → mid.failed ≡ old.failed → mid.waiting.items ≡ old.waiting.items → mid.live ≡ old.live → TakenSoFar start piece new left
+row_taken start old mid new piece rest row left so_far sees f ended failed shown live = record {
+  live = sees.live ∙ live ∙ so_far.live;
+  seen = λ before put waiting h.
+      let s = so_far.seen before put waiting h in
+      let e : Entry = entry_read row in (
+        s.0 ++ f.front,
+        s.1 ++ e ∷ [],
+        s.2 ∙ ap (λ (l : List ℕ). s.0 ++ l) f.parts ∙ sym (append_assoc s.0 f.front left),
+        subst (λ (x : List ℕ × List Entry). HasSeen new x.0 put x.1)
+            (ap₂ (λ (x : List ℕ) (y : List Entry). (x, y)) (append_assoc before s.0 f.front) (append_assoc waiting s.1 (e ∷ [])))
+            (row_seen old mid new (before ++ s.0) f.front put (waiting ++ s.1) e f.followed ended failed shown sees s.3),
+      );
+}
+
+-- no row ends in the rest
+pub rest_taken : (start old new : Viewer) (piece rest : List ℕ) → TakenSoFar start piece old rest → FollowsOn old.follower rest new.follower []
+    → new.ended ≡ old.ended → new.failed ≡ old.failed → new.waiting.items ≡ old.waiting.items → SeesOn start piece new
+rest_taken start old new piece rest so_far on ended failed shown = λ before put waiting h.
+    let s = so_far.seen before put waiting h in
+    let seen = s.3 in
+    let all : List Entry = put ++ (waiting ++ s.1) in
+    let bytes : (before ++ s.0) ++ rest ≡ before ++ piece = append_assoc before s.0 rest ∙ ap (λ (l : List ℕ). before ++ l) (sym s.2) in (
+      s.1,
+      record {
+        followed = subst (λ (x : List ℕ). HasFollowed new.follower x all) bytes
+            (subst (HasFollowed new.follower ((before ++ s.0) ++ rest)) (append-nil all) (on (before ++ s.0) all seen.followed));
+        ended = ended ∙ seen.ended;
+        failed = failed ∙ seen.failed;
+        shown = shown ∙ seen.shown;
+      },
+    )

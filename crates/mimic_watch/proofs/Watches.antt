@@ -1,0 +1,265 @@
+-- A watch, moment by moment.
+use Rattle.std.proofs.Common.{◌≡◌, inl, inr, ℕ, ◌-◌, ◌<◌, ◌^◌, Bool, true, List, [], ◌∷◌, ◌++◌, Option, Some, None, is_some, Result, Ok, Err, IfOk, IfSome, MatchResult, refl, sym, ap, ◌∙◌, subst, append_assoc, append-nil}
+use Rattle.std.specs.Io.KnownBytes.{Consumes, Keeps}
+use Rattle.std.proofs.lemmas.List.Concat.{flat_map-append}
+use Rattle.mimic_printer.specs.Json.{Entry}
+use Rattle.mimic_printer.specs.Sink.{Put, Shown, Stopped}
+use Rattle.mimic_printer.proofs.Appending.{Put-Stopped, Put-refl, Put-trans, Put_after}
+use Rattle.mimic_events.specs.Feed.{AreEnded}
+use Rattle.mimic_events.specs.Reading.{Decodes}
+use Rattle.mimic_events.specs.SoFar.{IsFirstWrong}
+use Rattle.mimic_input.proofs.ReadBytes.{read_more, read_on}
+use Rattle.mimic_watch.specs.declared.verdict.Verdict.{Verdict}
+use Rattle.mimic_watch.specs.declared.verdict.WatchFault.{WatchFault}
+use Rattle.mimic_watch.specs.declared.verdict.WatchFault.TheVariants.{OutOfMemory, Input, Write}
+use Rattle.mimic_watch.specs.declared.viewer.Viewer.{Viewer}
+use Rattle.mimic_watch.specs.Moments.{AreMomentsAfter, IsDrawn, IsMoment, Moment, ended_in, moment_text, moments_text}
+use Rattle.mimic_watch.specs.Watched.{AreCounts, HasFailed, HasWatched, IsLast, IsVerdict, last_text}
+use Rattle.mimic_watch.specs.Watching.{DrawsSeen, EndsAs, HasSeen, IsNoWrite, IsOver, IsWatching, LeavesMoment, LeftBy, PutsSeen, SeesOn, StaysSeen, put_text}
+use Rattle.mimic_watch.proofs.Ending.{left_alone}
+
+-- ---- one moment more
+
+more_ended : (moments : List Moment) (m : Moment) → ended_in (moments ++ m ∷ []) ≡ ended_in moments ++ m.ended
+more_ended moments m =
+    flat_map-append (λ (x : Moment). x.ended) moments (m ∷ []) ∙ ap (λ (l : List Entry). ended_in moments ++ l) (append-nil m.ended)
+
+more_text : (moments : List Moment) (m : Moment) → moments_text (moments ++ m ∷ []) ≡ moments_text moments ++ moment_text m
+more_text moments m =
+    flat_map-append moment_text moments (m ∷ []) ∙ ap (λ (l : List ℕ). moments_text moments ++ l) (append-nil (moment_text m))
+
+each_more : (live : Bool) (before : List Entry) (moments : List Moment) (m : Moment) → AreMomentsAfter live before moments
+    → IsMoment live ((before ++ ended_in moments) ++ m.ended) m → AreMomentsAfter live before (moments ++ m ∷ [])
+each_more live before [] m h k = (subst (λ (l : List Entry). IsMoment live (l ++ m.ended) m) (append-nil before) k, tt)
+each_more live before (x ∷ moments) m h k = (
+  h.0,
+  each_more live (before ++ x.ended) moments m h.1 (subst (λ (l : List Entry). IsMoment live (l ++ m.ended) m) (sym (append_assoc before x.ended (ended_in moments))) k),
+)
+
+-- there is still room for a fault
+pub room_left : (a b : Shown) (text : List ℕ) → Put a b text → a.faults < 2 ^ 64 - 1 → b.faults < 2 ^ 64 - 1
+room_left a b text p h = subst (λ (n : ℕ). n < 2 ^ 64 - 1) (sym p.faults) h
+
+-- ---- what comes
+
+none_gone : (o : Option (List ℕ)) → Consumes o o []
+none_gone None = tt
+none_gone (Some xs) = refl
+
+pub begin : (live : Bool) (start : Option (List ℕ)) (a : Shown) (w : Viewer) → HasSeen w [] [] [] → w.live ≡ live → IsWatching live start start a a w
+begin live start a w h l = record { bytes = []; moments = []; waiting = []; each = tt; seen = h; live_is = l; gone = none_gone start; put = Put-refl a }
+
+module _ (live : Bool) (start now next : Option (List ℕ)) (a b : Shown) (w : Viewer) (h : IsWatching live start now a b w) where
+  pub take_on : (v : Viewer) (piece : List ℕ) → Consumes now next piece → SeesOn w piece v → v.live ≡ w.live → IsWatching live start next a b v
+  take_on v piece gone sees l =
+      let s = sees h.bytes (ended_in h.moments) h.waiting h.seen in
+      record {
+        bytes = h.bytes ++ piece;
+        moments = h.moments;
+        waiting = h.waiting ++ s.0;
+        each = h.each;
+        seen = s.1;
+        live_is = l ∙ h.live_is;
+        gone = read_more start now next h.bytes piece h.gone gone;
+        put = h.put;
+      }
+
+  -- nothing came
+  pub wait_on : Keeps now next → IsWatching live start next a b w
+  wait_on kept = record {
+    bytes = h.bytes;
+    moments = h.moments;
+    waiting = h.waiting;
+    each = h.each;
+    seen = h.seen;
+    live_is = h.live_is;
+    gone = read_on start now next h.bytes h.gone kept;
+    put = h.put;
+  }
+
+  -- some bytes were read, and then a fault came
+  pub fail_now : (fault : WatchFault) (rest : List ℕ) → Consumes now next rest → IsNoWrite fault → HasFailed live start next a b fault
+  fail_now OutOfMemory rest gone harmless = record {
+    bytes = h.bytes;
+    rest = rest;
+    gone = read_more start now next h.bytes rest h.gone gone;
+    moments = h.moments;
+    waiting = h.waiting;
+    each = h.each;
+    ended = h.seen.followed.ended;
+    last = [];
+    is_last = inl refl;
+    left = h.put;
+  }
+  fail_now (Input error) rest gone harmless = record {
+    bytes = h.bytes;
+    rest = rest;
+    gone = read_more start now next h.bytes rest h.gone gone;
+    moments = h.moments;
+    waiting = h.waiting;
+    each = h.each;
+    ended = h.seen.followed.ended;
+    last = [];
+    is_last = inl refl;
+    left = h.put;
+  }
+  fail_now (Write error) rest gone harmless = absurd harmless
+
+-- a fault of a read that took nothing
+none_more : (now next : Option (List ℕ)) → Keeps now next → Consumes now next []
+none_more None next k = tt
+none_more (Some xs) None k = k
+none_more (Some xs) (Some ys) k = sym k
+
+pub fail_read : (live : Bool) (start now next : Option (List ℕ)) (a b : Shown) (w : Viewer) → IsWatching live start now a b w → (fault : WatchFault) → Keeps now next
+    → IsNoWrite fault → HasFailed live start next a b fault
+fail_read live start now next a b w h fault kept harmless = fail_now live start now next a b w h fault [] (none_more now next kept) harmless
+
+pub stay : (live : Bool) (start now : Option (List ℕ)) (a b : Shown) (w v : Viewer) → IsWatching live start now a b w → StaysSeen w v → v.live ≡ w.live → IsWatching live start now a b v
+stay live start now a b w v h same l = record {
+  bytes = h.bytes;
+  moments = h.moments;
+  waiting = h.waiting;
+  each = h.each;
+  seen = same h.bytes (ended_in h.moments) h.waiting h.seen;
+  live_is = l ∙ h.live_is;
+  gone = h.gone;
+  put = h.put;
+}
+
+-- ---- what is put
+
+module _ (live : Bool) (start now : Option (List ℕ)) (a b c : Shown) (w : Viewer) (h : IsWatching live start now a b w)
+    (erases : Bool) (drawn : List ℕ) (only : erases ≡ true → w.live ≡ true) (draws : IsDrawn w.live (ended_in h.moments ++ h.waiting) drawn) where
+  abbrev moment : Moment
+  moment = record { erased = erases; ended = h.waiting; drawn = drawn }
+
+  its_text : put_text erases w.waiting.items drawn ≡ moment_text moment
+  its_text = ap (λ (l : List ℕ). put_text erases l drawn) h.seen.shown
+
+  each_now : AreMomentsAfter live [] (h.moments ++ moment ∷ [])
+  each_now = each_more live [] h.moments moment h.each (record {
+    erased = λ e. sym h.live_is ∙ only e;
+    drawn = subst (λ (l : Bool). IsDrawn l (ended_in h.moments ++ h.waiting) drawn) h.live_is draws;
+  })
+
+  -- all that was put so far
+  all_text : (last : List ℕ) → moments_text h.moments ++ (put_text erases w.waiting.items drawn ++ last) ≡ moments_text (h.moments ++ moment ∷ []) ++ last
+  all_text last =
+      sym (append_assoc (moments_text h.moments) (put_text erases w.waiting.items drawn) last)
+      ∙ ap (λ (l : List ℕ). l ++ last) (ap (λ (l : List ℕ). moments_text h.moments ++ l) its_text ∙ sym (more_text h.moments moment))
+
+  -- none waits any more
+  none_waits : ended_in h.moments ++ h.waiting ≡ ended_in (h.moments ++ moment ∷ []) ++ []
+  none_waits = sym (append-nil (ended_in (h.moments ++ moment ∷ [])) ∙ more_ended h.moments moment)
+
+  pub moment_put : (v : Viewer) → Put b c (put_text erases w.waiting.items drawn) → PutsSeen w v → v.live ≡ w.live → IsWatching live start now a c v
+  moment_put v p puts l = record {
+    bytes = h.bytes;
+    moments = h.moments ++ moment ∷ [];
+    waiting = [];
+    each = each_now;
+    seen = subst (λ (es : List Entry). HasSeen v h.bytes es []) (sym (more_ended h.moments moment)) (puts h.bytes (ended_in h.moments) h.waiting h.seen);
+    live_is = l ∙ h.live_is;
+    gone = h.gone;
+    put = subst (Put a c) (ap (λ (l : List ℕ). moments_text h.moments ++ l) its_text ∙ sym (more_text h.moments moment))
+        (Put-trans (moments_text h.moments) (put_text erases w.waiting.items drawn) h.put p);
+  }
+
+  -- a fault at that moment, or at last
+  pub moment_left : (fault : WatchFault) (last : List ℕ) → IsLast last → LeftBy fault b c (put_text erases w.waiting.items drawn ++ last) → HasFailed live start now a c fault
+  moment_left OutOfMemory last is left = record {
+    bytes = h.bytes;
+    rest = [];
+    gone = subst (Consumes start now) (sym (append-nil h.bytes)) h.gone;
+    moments = h.moments;
+    waiting = h.waiting;
+    each = h.each;
+    ended = h.seen.followed.ended;
+    last = [];
+    is_last = inl refl;
+    left = Put_after (moments_text h.moments) h.put left;
+  }
+  moment_left (Input error) last is left = record {
+    bytes = h.bytes;
+    rest = [];
+    gone = subst (Consumes start now) (sym (append-nil h.bytes)) h.gone;
+    moments = h.moments;
+    waiting = h.waiting;
+    each = h.each;
+    ended = h.seen.followed.ended;
+    last = [];
+    is_last = inl refl;
+    left = Put_after (moments_text h.moments) h.put left;
+  }
+  moment_left (Write error) last is left = record {
+    bytes = h.bytes;
+    rest = [];
+    gone = subst (Consumes start now) (sym (append-nil h.bytes)) h.gone;
+    moments = h.moments ++ moment ∷ [];
+    waiting = [];
+    each = each_now;
+    ended = subst (AreEnded h.bytes) none_waits h.seen.followed.ended;
+    last = last;
+    is_last = is;
+    left = subst (Stopped a c) (all_text last) (Put-Stopped (moments_text h.moments) (put_text erases w.waiting.items drawn ++ last) h.put left);
+  }
+
+  -- the end
+  pub moment_last : (verdict : Verdict) → IsOver now h.bytes → Put b c (put_text erases w.waiting.items drawn ++ last_text verdict)
+      → EndsAs h.bytes (ended_in h.moments ++ h.waiting) verdict × AreCounts (ended_in h.moments ++ h.waiting) verdict → HasWatched live start a c verdict
+  moment_last verdict over p ends =
+      let rows : ended_in h.moments ++ h.waiting ≡ ended_in (h.moments ++ moment ∷ []) = sym (more_ended h.moments moment) in
+      record {
+        moments = h.moments ++ moment ∷ [];
+        each = each_now;
+        is_verdict = subst (λ (es : List Entry). IfSome start (IsVerdict es verdict)) rows (ends.0 start now h.gone over);
+        counts = subst (λ (es : List Entry). AreCounts es verdict) rows ends.1;
+        put = subst (Put a c) (all_text (last_text verdict)) (Put-trans (moments_text h.moments) (put_text erases w.waiting.items drawn ++ last_text verdict) h.put p);
+      }
+
+-- ---- turns of the loop
+
+pub put_on : (live : Bool) (start now : Option (List ℕ)) (a b c : Shown) (w v : Viewer) (drawn : List ℕ) → IsWatching live start now a b w → DrawsSeen w drawn
+    → LeavesMoment w drawn b c (Ok tt) → PutsSeen w v → v.live ≡ w.live → IsWatching live start now a c v
+put_on live start now a b c w v drawn h draws left puts l =
+    moment_put live start now a b c w h left.0 drawn left.1 (draws h.bytes (ended_in h.moments) h.waiting h.seen) v left.2 puts l
+
+pub fail_put : (live : Bool) (start now : Option (List ℕ)) (a b c : Shown) (w : Viewer) (drawn : List ℕ) (fault : WatchFault) → IsWatching live start now a b w → DrawsSeen w drawn
+    → LeavesMoment w drawn b c (Err fault) → HasFailed live start now a c fault
+fail_put live start now a b c w drawn fault h draws left =
+    moment_left live start now a b c w h left.0 drawn left.1 (draws h.bytes (ended_in h.moments) h.waiting h.seen) fault [] (inl refl) (left_alone fault b c _ left.2)
+
+-- a line that is wrong was read
+pub over_wrong : (now : Option (List ℕ)) (bytes : List ℕ) (found : Option ℕ) → is_some found ≡ true → Decodes IsFirstWrong bytes found → IsOver now bytes
+over_wrong now bytes None is wrong = absurd cc
+over_wrong now bytes (Some number) is wrong = inr (number, wrong.0)
+
+-- what the end returns
+pub finished : (live : Bool) (start now : Option (List ℕ)) (a b c : Shown) (w : Viewer) (result : Result Verdict WatchFault) (h : IsWatching live start now a b w) → IsOver now h.bytes
+    → IfOk result (λ verdict. (bytes : List ℕ) (put waiting : List Entry) → HasSeen w bytes put waiting → EndsAs bytes (put ++ waiting) verdict × AreCounts (put ++ waiting) verdict)
+    → MatchResult result (λ verdict. Put b c (put_text w.live w.waiting.items [] ++ last_text verdict))
+    (λ fault. (last : List ℕ) × IsLast last × LeftBy fault b c (put_text w.live w.waiting.items [] ++ last))
+    → MatchResult result (HasWatched live start a c) (HasFailed live start now a c)
+finished live start now a b c w (Ok verdict) h over ends p =
+    moment_last live start now a b c w h w.live [] (λ e. e) (inl refl) verdict over p (ends h.bytes (ended_in h.moments) h.waiting h.seen)
+finished live start now a b c w (Err fault) h over ends p =
+    moment_left live start now a b c w h w.live [] (λ e. e) (inl refl) fault p.0 p.1 p.2
+
+-- a read of no bytes
+pub none_read : (live : Bool) (start now next : Option (List ℕ)) (a b : Shown) (w : Viewer) → IsWatching live start now a b w → Consumes now next [] → IsWatching live start next a b w
+none_read live start now next a b w h gone = record {
+  bytes = h.bytes;
+  moments = h.moments;
+  waiting = h.waiting;
+  each = h.each;
+  seen = h.seen;
+  live_is = h.live_is;
+  gone = subst (Consumes start next) (append-nil h.bytes) (read_more start now next h.bytes [] h.gone gone);
+  put = h.put;
+}
+
+-- a fault with no read
+pub fail_same : (live : Bool) (start now : Option (List ℕ)) (a b : Shown) (w : Viewer) → IsWatching live start now a b w → (fault : WatchFault) → IsNoWrite fault
+    → HasFailed live start now a b fault
+fail_same live start now a b w h fault harmless = fail_now live start now now a b w h fault [] (none_gone now) harmless

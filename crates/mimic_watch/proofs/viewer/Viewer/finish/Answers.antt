@@ -1,0 +1,29 @@
+use Rattle.std.proofs.Common.{ℕ, List, [], inl, refl, subst}
+use Rattle.mimic_printer.specs.Sink.{Put, shown}
+use Rattle.mimic_printer.proofs.Appending.{Put-Stopped, Put-trans}
+use Rattle.mimic_watch.specs.declared.verdict.WatchFault.TheVariants.{Write}
+use Rattle.mimic_watch.specs.Watched.{last_text}
+use Rattle.mimic_watch.specs.Watching.{LeftBy, put_text}
+use Rattle.mimic_watch.proofs.Ending.{last_is, left_alone, on_error}
+use Rattle.mimic_watch.proofs.viewer.Viewer.finish.Goals as goal
+
+pub returns-in_err-put_moment-clause-put : goal.returns-in_err-put_moment-clause-put
+returns-in_err-put_moment-clause-put g c =
+    let fault = c.in_err-put_moment.field-0.0 in
+    let P : List ℕ → Type 0 = λ w. LeftBy fault (shown g.W.Write.contents c.args.sink.now) (shown g.W.Write.contents c.put_moment.new.sink) (put_text c.args.self.live w []) in
+    on_error _ fault _ _ c.from_residual-in_err-put_moment.ensures.1 ([], inl refl, left_alone fault _ _ _ (subst P c.deref.ensures.value c.in_err-put_moment.ensures))
+
+pub returns-in_err-put_last-clause-put : goal.returns-in_err-put_last-clause-put
+returns-in_err-put_last-clause-put g c =
+    let verdict = c.in_ok-verdict.verdict in
+    let P : List ℕ → Type 0 = λ w. Put (shown g.W.Write.contents c.args.sink.now) (shown g.W.Write.contents c.put_moment.new.sink) (put_text c.args.self.live w []) in
+    on_error _ (Write c.in_err-put_last.field-0.0) _ _ c.from_residual-in_err-put_last.ensures.1
+    (last_text verdict, last_is verdict, Put-Stopped _ _ (subst P c.deref.ensures.value c.in_ok-put_moment.ensures) c.in_err-put_last.ensures)
+
+pub returns-clause-verdict : goal.returns-clause-verdict
+returns-clause-verdict g c = λ bytes put waiting h. c.in_ok-verdict.ensures bytes _ h.followed
+
+pub returns-clause-put : goal.returns-clause-put
+returns-clause-put g c =
+    let P : List ℕ → Type 0 = λ w. Put (shown g.W.Write.contents c.args.sink.now) (shown g.W.Write.contents c.put_moment.new.sink) (put_text c.args.self.live w []) in
+    Put-trans _ _ (subst P c.deref.ensures.value c.in_ok-put_moment.ensures) c.in_ok-put_last.ensures

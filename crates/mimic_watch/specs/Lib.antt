@@ -1,0 +1,6 @@
+pub mod Escape
+pub mod Frames
+pub mod Rows
+pub mod Moments
+pub mod Watched
+pub mod Watching

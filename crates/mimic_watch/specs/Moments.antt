@@ -1,0 +1,58 @@
+-- What is put as a report comes: at each moment what the rows show that have ended since the moment before, and maybe how far the run
+-- is.
+use Rattle.std.specs.Prelude.{◌≡◌, ◌⊎◌, ℕ, Bool, true, false, if◌then◌else◌, List, [], ◌∷◌, ◌++◌, length, map, codes, count_by, ⊤}
+use Rattle.std.specs.List.{flat_map}
+use Rattle.mimic_trial.specs.declared.outcome.Outcome.{Outcome}
+use Rattle.mimic_trial.specs.Count.{is_failed}
+use Rattle.mimic_printer.specs.Json.{Entry}
+use Rattle.mimic_watch.specs.declared.frame.View.{View}
+use Rattle.mimic_watch.specs.Frames.{FitsLine, erase, first_line, frame}
+use Rattle.mimic_watch.specs.Rows.{row_text}
+
+-- one moment: whether what was drawn is erased, the rows that have ended since the moment before, and what is drawn
+pub record Moment : Type 0 where
+  pub erased : Bool
+  pub ended : List Entry
+  pub drawn : List ℕ
+
+abbrev pub outcomes_in : List Entry → List Outcome
+outcomes_in entries = map (λ entry. entry.outcome) entries
+
+-- on a terminal two lines, and else one
+abbrev pub drawn_text : Bool → View → List ℕ → List ℕ
+drawn_text true view second = frame (first_line view) second
+drawn_text false view second = first_line view ++ codes "\n"
+
+-- what is drawn says how many of these rows there are and how many failed, and no line of it is wider than 39 columns
+pub record IsDrawing (live : Bool) (entries : List Entry) (drawn : List ℕ) : Type 0 where
+  pub view : View
+  pub second : List ℕ
+  pub ended : view.ended ≡ length entries
+  pub failed : view.failed ≡ count_by is_failed (outcomes_in entries)
+  pub fits : FitsLine second
+  pub text : drawn ≡ drawn_text live view second
+
+-- nothing is drawn, or how far the run is
+abbrev pub IsDrawn : Bool → List Entry → List ℕ → Type 0
+IsDrawn live entries drawn = (drawn ≡ []) ⊎ IsDrawing live entries drawn
+
+-- a moment at which these rows have ended: only a terminal is erased, and what is drawn is of these rows
+pub record IsMoment (live : Bool) (entries : List Entry) (m : Moment) : Type 0 where
+  pub erased : m.erased ≡ true → live ≡ true
+  pub drawn : IsDrawn live entries m.drawn
+
+-- moments after these rows have ended
+abbrev pub AreMomentsAfter : Bool → List Entry → List Moment → Type 0
+AreMomentsAfter live before [] = ⊤
+AreMomentsAfter live before (m ∷ moments) = IsMoment live (before ++ m.ended) m × AreMomentsAfter live (before ++ m.ended) moments
+
+-- what is put at a moment
+abbrev pub moment_text : Moment → List ℕ
+moment_text m = (if m.erased then erase else []) ++ (flat_map row_text m.ended ++ m.drawn)
+
+-- what is put at these moments, and the rows that have ended up to the last one
+abbrev pub moments_text : List Moment → List ℕ
+moments_text moments = flat_map moment_text moments
+
+abbrev pub ended_in : List Moment → List Entry
+ended_in moments = flat_map (λ m. m.ended) moments

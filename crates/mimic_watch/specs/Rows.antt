@@ -1,0 +1,60 @@
+-- What is shown of a row.
+use Rattle.std.specs.Prelude.{ℕ, ◌-◌, ◌==◌, if◌then◌else◌, List, [], ◌∷◌, ◌++◌, length, take, codes, decimal, Option, Some, None}
+use Rattle.std.specs.List.{flat_map}
+use Rattle.std.specs.Str.Lines.{lines}
+use Rattle.mimic_trial.specs.declared.outcome.Outcome.{Outcome}
+use Rattle.mimic_trial.specs.declared.outcome.Outcome.TheVariants.{Passed, Failed, Ignored, Measured}
+use Rattle.mimic_trial.specs.declared.outcome.measurement.Measurement.{Measurement}
+use Rattle.mimic_text.specs.Text.{grouped}
+use Rattle.mimic_printer.specs.Json.{Entry}
+use Rattle.mimic_printer.specs.Row.{Label}
+use Rattle.mimic_watch.specs.Escape.{escaped}
+
+-- a kind in brackets, and nothing for an empty one
+abbrev pub kind_text : List ℕ → List ℕ
+kind_text [] = []
+kind_text (b ∷ kind) = codes "[" ++ (escaped (b ∷ kind) ++ codes "] ")
+
+-- the kind, if there is one, and the name
+abbrev pub label_text : Label → List ℕ
+label_text label = kind_text label.kind ++ escaped label.name
+
+-- a line of a message
+abbrev pub line_text : List ℕ → List ℕ
+line_text line = codes "    " ++ (escaped line ++ codes "\n")
+
+abbrev pub lines_noun : ℕ → List ℕ
+lines_noun count = if count == 1 then codes " more line\n" else codes " more lines\n"
+
+-- how many lines are left out, if some are
+abbrev pub more_text : ℕ → List ℕ
+more_text count = if count == 0 then [] else codes "    .. " ++ (decimal count ++ lines_noun count)
+
+-- the first 20 lines of a message, and how many more it has
+unfoldable pub message_lines : List ℕ → List ℕ
+message_lines message = flat_map line_text (take 20 (lines message)) ++ more_text (length (lines message) - 20)
+
+abbrev pub message_text : Option (List ℕ) → List ℕ
+message_text None = []
+message_text (Some message) = message_lines message
+
+abbrev pub average_text : ℕ → List ℕ
+average_text average = codes ": " ++ (grouped (decimal average) ++ codes " ns/iter")
+
+abbrev pub variance_text : ℕ → List ℕ
+variance_text variance = codes " (+/- " ++ (grouped (decimal variance) ++ codes ")\n")
+
+-- what was measured, and the end of the line
+abbrev pub measured_text : Measurement → List ℕ
+measured_text m = average_text m.avg ++ variance_text m.variance
+
+-- a failure with its message, a measurement, and nothing of others
+abbrev pub outcome_text : Label → Outcome → List ℕ
+outcome_text label Passed = []
+outcome_text label Ignored = []
+outcome_text label (Failed message) = codes "FAILED " ++ (label_text label ++ (codes "\n" ++ message_text message))
+outcome_text label (Measured m) = codes "bench  " ++ (label_text label ++ measured_text m)
+
+-- what is shown of a row that has ended
+unfoldable pub row_text : Entry → List ℕ
+row_text entry = outcome_text entry.label entry.outcome

@@ -1,0 +1,25 @@
+//! Shows a JSON report as it comes: its failures and measurements, and on a terminal how far the run is.
+//!
+//! ```rust
+//! use mimic_printer::Sink;
+//! use mimic_watch::{Verdict, watch};
+//!
+//! let mut sink = Sink::new(stdout);
+//! let verdict = watch(alloc, &mut input, &mut sink, &clock, is_terminal)?;
+//! match verdict {
+//!     Verdict::Whole { counts, nanos } => {}
+//!     Verdict::Cut(stop) => {}
+//! }
+//! ```
+#![tactic(auto)]
+
+mod escape;
+mod frame;
+mod pace;
+mod row;
+mod verdict;
+mod viewer;
+
+pub use frame::ERASE;
+pub use verdict::{Verdict, WatchFault};
+pub use viewer::watch;

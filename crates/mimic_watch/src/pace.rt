@@ -1,0 +1,127 @@
+//! When something is drawn, and how long the rest of a run takes.
+use std::rt::Clock;
+
+// Times are in nanoseconds.
+const SECOND: u64 = 1_000_000_000;
+
+// Between two drawings on a terminal pass so many at least, and between two lines without one.
+const TENTH: u64 = SECOND / 10;
+
+const LINES_APART: u64 = 10 * SECOND;
+
+// Before this time nothing is said of the time left.
+const SURE: u64 = SECOND / 2;
+
+// How far back the rate of a run is looked at, in seconds.
+const SPAN: usize = 10;
+
+// How many trials had run at a time.
+#[derive(Clone, Copy)]
+struct Mark {
+    at: u64,
+    ran: u64,
+}
+
+// What a run's clock has read.
+#[derive(Clone, Copy)]
+pub(crate) struct Pace {
+    started: u64,
+    now: u64,
+    // How many rows have ended, when the last one did, and whether it did since the last drawing.
+    rows: u64,
+    ended: u64,
+    is_fresh: bool,
+    drawn: u64,
+    // One mark for each of the last seconds, in turn.
+    marks: [Mark; SPAN],
+    marked: u64,
+    turn: usize,
+}
+
+// Returns what the clock reads, or what it read before if it reads nothing.
+pub(crate) fn nanos<C: Clock>(clock: &C, before: u64) -> u64 {
+    match clock.monotonic() {
+        Ok(time) => u64::try_from(time.as_nanos()).unwrap_or(before),
+        Err(_) => before,
+    }
+}
+
+impl Pace {
+    // Begins at this time.
+    pub(crate) fn new(now: u64) -> Pace {
+        Pace {
+            started: now,
+            now,
+            rows: 0,
+            ended: now,
+            is_fresh: true,
+            drawn: now,
+            marks: [Mark { at: now, ran: 0 }; SPAN],
+            marked: now,
+            turn: 0,
+        }
+    }
+
+    // Notes the time, and how many rows have ended and how many of their trials have run.
+    pub(crate) fn note(&mut self, now: u64, rows: u64, ran: u64) {
+        self.now = now;
+        if rows != self.rows {
+            self.rows = rows;
+            self.ended = now;
+            self.is_fresh = true;
+        }
+        if now.saturating_sub(self.marked) >= SECOND {
+            let at = self.turn % SPAN;
+            self.marks[at] = Mark { at: now, ran };
+            self.marked = now;
+            self.turn = (at + 1) % SPAN;
+        }
+    }
+
+    pub(crate) fn now(&self) -> u64 {
+        self.now
+    }
+
+    // Whether it is time to draw on a terminal, or to write a line without one.
+    pub(crate) fn is_due(&self, live: bool) -> bool {
+        let since = self.now.saturating_sub(self.drawn);
+        if live {
+            since >= SECOND || self.is_fresh && since >= TENTH
+        } else {
+            since >= LINES_APART
+        }
+    }
+
+    // Notes that something was drawn.
+    pub(crate) fn draw(&mut self) {
+        self.drawn = self.now;
+        self.is_fresh = false;
+    }
+
+    // For how many seconds the run has gone on.
+    pub(crate) fn elapsed(&self) -> u64 {
+        self.now.saturating_sub(self.started) / SECOND
+    }
+
+    // For how many seconds no row has ended.
+    pub(crate) fn quiet(&self) -> u64 {
+        self.now.saturating_sub(self.ended) / SECOND
+    }
+
+    // In how many seconds the other rows end, at the rate of the last ten seconds.
+    pub(crate) fn left(&self, rows: u64, ran: u64) -> Option<u64> {
+        if self.now.saturating_sub(self.started) < SURE || rows == 0 {
+            return None;
+        }
+        let mark = self.marks[self.turn % SPAN];
+        let (nanos, ran) = (
+            self.now.saturating_sub(mark.at),
+            ran.saturating_sub(mark.ran),
+        );
+        if ran == 0 {
+            return None;
+        }
+        let left = u128::from(rows) * u128::from(nanos) / u128::from(ran);
+        u64::try_from(left / u128::from(SECOND)).ok()
+    }
+}

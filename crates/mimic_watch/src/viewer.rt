@@ -1,0 +1,364 @@
+//! Shows a report as it comes.
+ghost use Rattle.std.specs.Prelude.{◌≡◌, ◌++◌, ◌<◌, ◌^◌, [], ℕ, List, IfErr, IfOk, MatchResult, OnOk, option_map, true};
+ghost use Rattle.mimic_printer.specs.Json.{Entry};
+ghost use Rattle.mimic_printer.specs.Sink.{HasFaultLeft, Puts, shown};
+ghost use Rattle.mimic_events.specs.Contents.{label_read};
+ghost use Rattle.mimic_events.specs.Follower.{HasFollowed};
+ghost use Rattle.mimic_watch.specs.Watched.{AreCounts, HasFailed, HasWatched, last_text};
+ghost use Rattle.mimic_watch.specs.Watching.{EndsAs, IsNoWrite, Leaves, put_text};
+
+use crate::frame::{ERASE, View, first_line, push_frame, second_line};
+use crate::pace::{Pace, nanos};
+use crate::row::push_row;
+use crate::verdict::{Verdict, WatchFault};
+use mimic_events::{Follower, Label, Row, Totals};
+use mimic_input::Stop;
+use mimic_printer::{Printer, Sink, WriteFault};
+use mimic_text::FormatSetting;
+use mimic_trial::Outcome;
+use std::alloc::{AllocError, Global};
+use std::io;
+use std::io::{ErrorKind, Read, Write};
+use std::rt::Clock;
+
+// The most bytes that are read at once.
+const PIECE: usize = 65_536;
+
+// On a terminal, what rows show waits for the next drawing unless it is so many bytes.
+const BLOCK: usize = 65_536;
+
+// What has come of a report.
+#[derive(Drop)]
+struct Viewer {
+    alloc: Global,
+    // Whether it is shown on a terminal.
+    live: bool,
+    follower: Follower,
+    // The rows that have ended, and how many of them failed or were ignored.
+    ended: u64,
+    failed: u64,
+    ignored: u64,
+    // What rows show and was not put yet.
+    waiting: Vec<u8>,
+    // Room for what is put at once.
+    text: Vec<u8>,
+    pace: Pace,
+}
+
+/// Shows a report as its bytes come, up to their end or to the first line that no report has there: each failure and each
+/// measurement once, and at last the harness's summary.
+///
+/// On a terminal (`live`) two lines below say how far the run is, at most ten times a second; each time it is one write, which leaves
+/// the terminal as it was. Else a line says so every ten seconds, with no escape sequence. A reader that returns `TimedOut` or
+/// `WouldBlock` says that nothing has come for a while. Rows that have passed are not kept.
+pub fn watch<I: Read, W: Write, C: Clock>(
+    alloc: Global,
+    input: &mut I,
+    sink: &mut Sink<W>,
+    clock: &C,
+    live: bool,
+) -> Result<Verdict, WatchFault>
+    requires { HasFaultLeft sink.old }
+    ensures { MatchResult result
+        (HasWatched live (I.remaining input.old) (shown W.contents sink.old) (shown W.contents sink.new))
+        (HasFailed live (I.remaining input.old) (I.remaining input.new) (shown W.contents sink.old) (shown W.contents sink.new)) }
+{
+    let mut now = nanos(clock, 0);
+    let mut viewer = Viewer::new(alloc, live, now);
+    let mut piece = [0; PIECE];
+    for _ in 0..u64::MAX {
+        match input.read(&mut piece) {
+            Ok(0) => return viewer.finish(sink),
+            Ok(count) => viewer.take(&piece[..count])?,
+            Err(error) => go_on(error)?,
+        }
+        if viewer.follower.first_wrong_line().is_some() {
+            return viewer.finish(sink);
+        }
+        now = nanos(clock, now);
+        let Some(drawn) = viewer.drawn(now)? else {
+            continue;
+        };
+        viewer.put(sink, &drawn)?;
+    }
+    Err(WatchFault::Input(ErrorKind::Other.into()))
+}
+
+// Returns an error of the reader that says more than that nothing has come yet.
+fn go_on(error: io::Error) -> Result<(), WatchFault>
+    ensures { IfErr result IsNoWrite }
+{
+    match error.kind() {
+        ErrorKind::Interrupted | ErrorKind::TimedOut | ErrorKind::WouldBlock => Ok(()),
+        ErrorKind::OutOfMemory => Err(WatchFault::OutOfMemory),
+        _ => Err(WatchFault::Input(error)),
+    }
+}
+
+impl Viewer {
+    ghost use Rattle.std.specs.Prelude.{◌≡◌, ◌++◌, [], ℕ, List, IfOk, IfSome, MatchResult, OnOk};
+    ghost use Rattle.mimic_printer.specs.Json.{Entry};
+    ghost use Rattle.mimic_printer.specs.Sink.{HasFaultLeft, Put, shown};
+    ghost use Rattle.mimic_events.specs.Contents.{entry_read};
+    ghost use Rattle.mimic_watch.specs.Moments.{IsDrawing};
+    ghost use Rattle.mimic_watch.specs.Watched.{AreCounts, IsLast, last_text};
+    ghost use Rattle.mimic_watch.specs.Watching.{DrawsSeen, EndsAs, HasSeen, LeavesMoment, LeftBy, PutsSeen, SeesOn, SeesRow, StaysSeen, put_text};
+
+    fn new(alloc: Global, live: bool, now: u64) -> Viewer
+        ensures seen { HasSeen result [] [] [] }
+        ensures live { result.live ≡ live }
+    {
+        Viewer {
+            alloc,
+            live,
+            follower: Follower::new(alloc),
+            ended: 0,
+            failed: 0,
+            ignored: 0,
+            waiting: Vec::new(alloc),
+            text: Vec::new(alloc),
+            pace: Pace::new(now),
+        }
+    }
+
+    // Takes the next piece. What the rows that end in it show waits.
+    fn take(&mut self, piece: &[u8]) -> Result<(), AllocError>
+        ensures seen { OnOk result (SeesOn self.old piece.now self.new) }
+        ensures live { OnOk result (self.new.live ≡ self.old.live) }
+    {
+        let mut rest = piece;
+        while let Some((row, left)) = self.follower.next_row(rest)? {
+            self.add(&row)?;
+            rest = left;
+        }
+        Ok(())
+    }
+
+    // Counts a row that has ended, and lets wait what it shows.
+    fn add(&mut self, row: &Row) -> Result<(), AllocError>
+        ensures { OnOk result (SeesRow self.old (entry_read row.now) self.new) }
+    {
+        self.ended = self.ended.saturating_add(1);
+        match &row.outcome {
+            Outcome::Failed(_) => self.failed = self.failed.saturating_add(1),
+            Outcome::Ignored => self.ignored = self.ignored.saturating_add(1),
+            Outcome::Passed | Outcome::Measured(_) => {}
+        }
+        push_row(&mut self.waiting, row)
+    }
+
+    // Returns what is drawn at this time below what rows show, which may be nothing, and `None` if nothing is put at all.
+    fn drawn(&mut self, now: u64) -> Result<Option<Vec<u8>>, AllocError>
+        ensures seen { OnOk result (StaysSeen self.old self.new) }
+        ensures live { OnOk result (self.new.live ≡ self.old.live) }
+        ensures drawn { IfOk result (λ found. IfSome found (λ drawn. DrawsSeen self.new drawn.items)) }
+    {
+        let ran = self.ended.saturating_sub(self.ignored);
+        self.pace.note(now, self.ended, ran);
+        if self.pace.is_due(self.live) {
+            self.pace.draw();
+            return Ok(Some(self.drawing(ran)?));
+        }
+        if self.must_go() {
+            Ok(Some(Vec::new(self.alloc)))
+        } else {
+            Ok(None)
+        }
+    }
+
+    // Whether what waits is put before the next drawing.
+    fn must_go(&self) -> bool {
+        if self.live {
+            self.waiting.len() >= BLOCK
+        } else {
+            !self.waiting.is_empty()
+        }
+    }
+
+    // Returns how far the run is: two lines on a terminal, and else one.
+    fn drawing(&self, ran: u64) -> Result<Vec<u8>, AllocError>
+        ensures { IfOk result (λ drawn. (bytes : List ℕ) (put waiting : List Entry)
+            → HasSeen self.now bytes put waiting → IsDrawing self.now.live (put ++ waiting) drawn.items) }
+    {
+        let mut first = first_line(self.alloc, &self.view(ran))?;
+        if self.live {
+            let second = second_line(self.alloc, self.follower.running(), self.pace.quiet())?;
+            let mut drawn = Vec::new(self.alloc);
+            push_frame(&mut drawn, &first, &second)?;
+            Ok(drawn)
+        } else {
+            first.extend_from_slice(b"\n")?;
+            Ok(first)
+        }
+    }
+
+    fn view(&self, ran: u64) -> View
+        ensures ended { result.ended ≡ self.now.ended }
+        ensures failed { result.failed ≡ self.now.failed }
+    {
+        let announced = self.follower.announced();
+        let rows = announced.unwrap_or(self.ended);
+        View {
+            cells: cells(self.ended, rows),
+            announced,
+            ended: self.ended,
+            failed: self.failed,
+            elapsed: self.pace.elapsed(),
+            left: self.pace.left(rows.saturating_sub(self.ended), ran),
+        }
+    }
+
+    // Puts what waits, and what is drawn below it.
+    fn put<W: Write>(&mut self, sink: &mut Sink<W>, drawn: &[u8]) -> Result<(), WatchFault>
+        requires { HasFaultLeft sink.old }
+        ensures put { LeavesMoment self.old drawn.now (shown W.contents sink.old) (shown W.contents sink.new) result }
+        ensures seen { OnOk result (PutsSeen self.old self.new) }
+        ensures live { OnOk result (self.new.live ≡ self.old.live) }
+    {
+        let erases = self.live && !self.waiting.is_empty();
+        put_moment(sink, &mut self.text, erases, &self.waiting, drawn)?;
+        self.waiting.clear();
+        Ok(())
+    }
+
+    // Puts what waits, and the summary of a whole report.
+    fn finish<W: Write>(self, sink: &mut Sink<W>) -> Result<Verdict, WatchFault>
+        requires { HasFaultLeft sink.old }
+        ensures verdict { IfOk result (λ verdict. (bytes : List ℕ) (put waiting : List Entry)
+            → HasSeen self bytes put waiting
+            → EndsAs bytes (put ++ waiting) verdict × AreCounts (put ++ waiting) verdict) }
+        ensures put { MatchResult result
+            (λ verdict. Put (shown W.contents sink.old) (shown W.contents sink.new)
+            (put_text self.live self.waiting.items [] ++ last_text verdict))
+            (λ fault. (last : List ℕ) × IsLast last × LeftBy fault (shown W.contents sink.old) (shown W.contents sink.new)
+            (put_text self.live self.waiting.items [] ++ last)) }
+    {
+        let Viewer {
+            alloc,
+            live,
+            follower,
+            waiting,
+            text,
+            ..
+        } = self;
+        let mut text = text;
+        let verdict = verdict_of(alloc, follower)?;
+        put_moment(sink, &mut text, live, &waiting, b"")?;
+        put_last(sink, &verdict)?;
+        Ok(verdict)
+    }
+}
+
+// How many cells of a bar so many rows of all fill.
+fn cells(ended: u64, rows: u64) -> usize {
+    if rows == 0 {
+        return 0;
+    }
+    (u128::from(ended) * 6 / u128::from(rows)).min(6) as usize
+}
+
+// Puts the text of a moment at once.
+fn put_moment<W: Write>(
+    sink: &mut Sink<W>,
+    text: &mut Vec<u8>,
+    erases: bool,
+    waiting: &[u8],
+    drawn: &[u8],
+) -> Result<(), WatchFault>
+    requires { HasFaultLeft sink.old }
+    ensures { Leaves (shown W.contents sink.old) (shown W.contents sink.new)
+        (put_text erases waiting.now drawn.now) result }
+{
+    set_moment(text, erases, waiting, drawn)?;
+    put_whole(sink, text)?;
+    Ok(())
+}
+
+// Makes the text that of a moment.
+fn set_moment(
+    text: &mut Vec<u8>,
+    erases: bool,
+    waiting: &[u8],
+    drawn: &[u8],
+) -> Result<(), AllocError>
+    ensures { OnOk result (text.new.items ≡ put_text erases waiting.now drawn.now) }
+{
+    text.clear();
+    if erases {
+        text.extend_from_slice(ERASE.as_bytes())?;
+    }
+    text.extend_from_slice(waiting)?;
+    text.extend_from_slice(drawn)
+}
+
+fn put_whole<W: Write>(sink: &mut Sink<W>, text: &[u8]) -> Result<(), WriteFault>
+    requires { HasFaultLeft sink.old }
+    ensures { Puts W.contents sink.old sink.new text.now result }
+{
+    sink.put(text)?;
+    sink.flush()
+}
+
+// Puts the summary of a whole report.
+fn put_last<W: Write>(sink: &mut Sink<W>, verdict: &Verdict) -> Result<(), WriteFault>
+    requires { HasFaultLeft sink.old }
+    ensures { Puts W.contents sink.old sink.new (last_text verdict.now) result }
+{
+    let Verdict::Whole { counts, nanos } = verdict else {
+        return sink.put(b"");
+    };
+    let printer = Printer {
+        format: FormatSetting::Pretty,
+        colour: false,
+        name_width: 0,
+        kind_width: 0,
+    };
+    printer.print_summary(sink, counts, *nanos)?;
+    sink.flush()
+}
+
+// Returns what the report was that was followed to its end.
+fn verdict_of(alloc: Global, follower: Follower) -> Result<Verdict, AllocError>
+    ensures { IfOk result (λ verdict. (bytes : List ℕ) (entries : List Entry)
+        → HasFollowed follower bytes entries → EndsAs bytes entries verdict × AreCounts entries verdict) }
+{
+    let announced = follower.announced();
+    let wrong_line = follower.first_wrong_line();
+    let running = copy_of(alloc, follower.running())?;
+    match follower.finish()? {
+        Some(totals) => {
+            prove!(rows_fit(&totals));
+            Ok(Verdict::Whole {
+                counts: totals.counts,
+                nanos: totals.nanos,
+            })
+        }
+        None => Ok(Verdict::Cut(Stop {
+            announced,
+            running,
+            wrong_line,
+        })),
+    }
+}
+
+// Shows that the number of rows fits.
+fn rows_fit(totals: &Totals) -> bool
+    ensures fits { totals.now.rows < 2 ^ 64 }
+    ensures always { result ≡ true }
+{
+    let _rows = totals.rows;
+    true
+}
+
+fn copy_of(alloc: Global, label: Option<&Label>) -> Result<Option<Label>, AllocError>
+    ensures { IfOk result (λ copy. option_map label_read copy
+        ≡ option_map (λ label. label_read label.now) label.entry) }
+{
+    let Some(label) = label else {
+        return Ok(None);
+    };
+    Ok(Some(Label {
+        name: String::from_str(alloc, label.name.as_str())?,
+        kind: String::from_str(alloc, label.kind.as_str())?,
+    }))
+}
