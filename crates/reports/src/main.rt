@@ -7,6 +7,7 @@ mod input;
 mod junit;
 mod line;
 mod page;
+mod pump;
 mod show;
 mod watch;
 
@@ -40,7 +41,7 @@ fn main(rt: HostRuntime) -> ExitCode {
         Ok(Line::Expect(expect)) => expect::run(&rt, alloc, &expect),
         Ok(Line::Compare(compare)) => compare::run(&rt, alloc, &compare),
         Ok(Line::Page(page)) => page::run(&rt, alloc, &page),
-        Ok(Line::Watch) => watch::run(&rt, alloc),
+        Ok(Line::Watch) => watch::run(&rt, alloc, rt.stdin(), rt.stdout()),
         Err(error) => refuse(&rt, &error),
     };
     ExitCode::from(status)

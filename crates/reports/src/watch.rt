@@ -1,8 +1,84 @@
 //! Shows the report on standard input as it comes.
 use crate::REFUSED;
+use crate::pump::{Incoming, Pipe, pump};
+use mimic_printer::Sink;
+use mimic_watch::{ERASE, Verdict, WatchFault, watch};
 use std::alloc::Global;
+use std::io::{Eprint, IsTerminal, Stdin, Stdout, Write};
+use std::rt::{Clock, Env};
+use std::sync::{Arc, Wait};
+use std::thread::Threads;
+use std::{env, fmt, thread};
 
-pub(crate) fn run(rt: &HostRuntime, alloc: Global) -> u8 {
-    let _ = (rt, alloc);
+/// What a watch runs on, as the handle that `main` gets: threads that wait for each other, a clock, an environment, and standard
+/// error.
+pub(crate) trait Host: Threads
+    + Wait
+    + Clock
+    + Env
+    + AllocGlobal
+    + Eprint
+    + Copy
+    + Drop
+    + Send
+    + 'static {}
+
+impl<H: Threads + Wait + Clock + Env + AllocGlobal + Eprint + Copy + Drop + Send + 'static> Host
+    for H {}
+
+/// Shows the report while another thread reads it, and returns the status: that of the run, or 1 after the reason why there is none.
+///
+/// Unless the input itself fails, it is read to its end, so that no pipe is closed on the harness.
+pub(crate) fn run<H: Host>(host: &H, alloc: Global, stdin: Stdin, stdout: Stdout) -> u8 {
+    let Ok(pipe) = Pipe::new(alloc) else {
+        return refuse(host, &WatchFault::OutOfMemory);
+    };
+    let Ok(pipe) = Arc::new(alloc, pipe) else {
+        return refuse(host, &WatchFault::OutOfMemory);
+    };
+    let Ok(theirs) = Arc::try_clone(&pipe) else {
+        return refuse(host, &WatchFault::OutOfMemory);
+    };
+    let (other, mut stdin) = (*host, stdin);
+    let reader = match thread::spawn(host, move || pump(&other, &mut stdin, &theirs)) {
+        Ok(reader) => reader,
+        Err(error) => return refuse(host, &error),
+    };
+    let mut incoming = Incoming::new(host, alloc, &pipe);
+    let status = show(host, alloc, &mut incoming, stdout);
+    incoming.drain();
+    reader.join(host);
+    status
+}
+
+fn show<H: Host>(host: &H, alloc: Global, incoming: &mut Incoming<'_, H>, stdout: Stdout) -> u8 {
+    let live = stdout.is_terminal() && knows_escapes(host);
+    let mut sink = Sink::new(stdout);
+    match watch(alloc, incoming, &mut sink, host, live) {
+        Ok(verdict) => {
+            if let Verdict::Cut(stop) = &verdict {
+                refuse(host, stop);
+            }
+            verdict.status()
+        }
+        Err(fault) => {
+            if live {
+                let _ = sink.into_inner().write_all(ERASE.as_bytes());
+            }
+            refuse(host, &fault)
+        }
+    }
+}
+
+// Whether `TERM` names a terminal that knows escape sequences.
+fn knows_escapes<H: Host>(host: &H) -> bool {
+    match env::var(host, "TERM") {
+        Ok(term) => !term.is_empty() && term.as_str() != "dumb",
+        Err(_) => false,
+    }
+}
+
+fn refuse<H: Host, F: fmt::Display>(host: &H, fault: &F) -> u8 {
+    let _ = eprintln!(host; "reports: {fault}");
     REFUSED
 }

@@ -1,0 +1,162 @@
+//! Bytes on their way from the thread that reads to the one that shows.
+use std::alloc::{AllocError, Global};
+use std::io;
+use std::io::{ErrorKind, Read};
+use std::rt::Clock;
+use std::sync::{Condvar, Mutex, Wait};
+use std::time::Duration;
+
+// The most bytes that are read at once.
+const PIECE: usize = 65_536;
+
+// From this many bytes on, the reading thread waits until they are taken.
+const FULL: usize = 1 << 20;
+
+// How long the showing thread waits for bytes.
+const TICK_MILLIS: u64 = 100;
+
+// What was read and not taken yet, and whether that is all.
+#[derive(Drop)]
+struct Held {
+    bytes: Vec<u8>,
+    is_over: bool,
+    fault: Option<ErrorKind>,
+}
+
+/// What both threads share.
+#[derive(Drop)]
+pub(crate) struct Pipe {
+    held: Mutex<Held>,
+    came: Condvar,
+    taken: Condvar,
+}
+
+impl Pipe {
+    /// An empty one.
+    pub(crate) fn new(alloc: Global) -> Result<Pipe, AllocError> {
+        Ok(Pipe {
+            held: Mutex::new(Held {
+                bytes: Vec::with_capacity(alloc, FULL + PIECE)?,
+                is_over: false,
+                fault: None,
+            }),
+            came: Condvar::new(),
+            taken: Condvar::new(),
+        })
+    }
+
+    // Puts the piece behind those that were not taken yet, once there are few.
+    fn put<R: Wait>(&self, rt: &R, piece: &[u8]) {
+        let held = self.held.lock(rt);
+        let mut held = self
+            .taken
+            .wait_while(rt, held, |held| held.bytes.len() >= FULL);
+        let was_empty = held.bytes.is_empty();
+        // Behind a piece that was lost nothing more comes.
+        if held.fault.is_none() && held.bytes.extend_from_slice(piece).is_err() {
+            held.fault = Some(ErrorKind::OutOfMemory);
+        }
+        drop(held);
+        if was_empty {
+            self.came.notify_one();
+        }
+    }
+
+    fn end<R: Wait>(&self, rt: &R, fault: Option<ErrorKind>) {
+        let mut held = self.held.lock(rt);
+        held.is_over = true;
+        if held.fault.is_none() {
+            held.fault = fault;
+        }
+        drop(held);
+        self.came.notify_one();
+    }
+}
+
+/// Reads the input to its end, for the other thread.
+pub(crate) fn pump<R: Wait, I: Read>(rt: &R, input: &mut I, pipe: &Pipe) {
+    let mut piece = [0; PIECE];
+    let mut fault = None;
+    for _ in 0..u64::MAX {
+        match input.read(&mut piece) {
+            Ok(0) => break,
+            Ok(count) => pipe.put(rt, &piece[..count]),
+            Err(error) => match error.kind() {
+                ErrorKind::Interrupted => {}
+                kind => {
+                    fault = Some(kind);
+                    break;
+                }
+            },
+        }
+    }
+    pipe.end(rt, fault);
+}
+
+/// What comes through the pipe, as a reader that returns `TimedOut` if nothing came for a tenth of a second.
+#[derive(Drop)]
+pub(crate) struct Incoming<'a, R: Wait + Clock> {
+    rt: &'a R,
+    pipe: &'a Pipe,
+    bytes: Vec<u8>,
+    at: usize,
+}
+
+impl<'a, R: Wait + Clock> Incoming<'a, R> {
+    pub(crate) fn new(rt: &'a R, alloc: Global, pipe: &'a Pipe) -> Self {
+        Incoming {
+            rt,
+            pipe,
+            bytes: Vec::new(alloc),
+            at: 0,
+        }
+    }
+
+    /// Reads to the end, and keeps nothing.
+    pub(crate) fn drain(&mut self) {
+        for _ in 0..u64::MAX {
+            match self.refill() {
+                Ok(true) => {}
+                Err(error) if error.kind() == ErrorKind::TimedOut => {}
+                _ => return,
+            }
+        }
+    }
+
+    // Takes all that came, and waits for it a while. It returns false at the end.
+    fn refill(&mut self) -> io::Result<bool> {
+        self.bytes.clear();
+        self.at = 0;
+        let rt = self.rt;
+        let tick = Duration::from_millis(TICK_MILLIS);
+        let held = self.pipe.held.lock(rt);
+        let (mut held, _) = self.pipe.came.wait_timeout_while(rt, held, tick, |held| {
+            held.bytes.is_empty() && !held.is_over
+        });
+        let state = &mut *held;
+        if !state.bytes.is_empty() {
+            std::mem::swap(&mut self.bytes, &mut state.bytes);
+            drop(held);
+            self.pipe.taken.notify_one();
+            return Ok(true);
+        }
+        match state.fault {
+            Some(kind) => Err(io::Error::from(kind)),
+            None if state.is_over => Ok(false),
+            None => Err(io::Error::from(ErrorKind::TimedOut)),
+        }
+    }
+}
+
+impl<R: Wait + Clock> Read for Incoming<'_, R> {
+    fn read(&mut self, buf: &mut [u8]) -> io::Result<usize> {
+        if self.at >= self.bytes.len() && !self.refill()? {
+            return Ok(0);
+        }
+        let left = self.bytes.get(self.at..).unwrap_or(&[]);
+        let count = buf.len().min(left.len());
+        buf[..count].copy_from_slice(&left[..count]);
+        self.at = self.at.saturating_add(count);
+        Ok(count)
+    }
+}
