@@ -4,4 +4,5 @@ pub mod Escaping
 pub mod Laws
 pub mod Messages
 pub mod Seeing
+pub mod Titles
 pub mod Watches

@@ -28,12 +28,12 @@ more_text : (moments : List Moment) (m : Moment) → moments_text (moments ++ m 
 more_text moments m =
     flat_map-append moment_text moments (m ∷ []) ∙ ap (λ (l : List ℕ). moments_text moments ++ l) (append-nil (moment_text m))
 
-each_more : (live : Bool) (before : List Entry) (moments : List Moment) (m : Moment) → AreMomentsAfter live before moments
-    → IsMoment live ((before ++ ended_in moments) ++ m.ended) m → AreMomentsAfter live before (moments ++ m ∷ [])
-each_more live before [] m h k = (subst (λ (l : List Entry). IsMoment live (l ++ m.ended) m) (append-nil before) k, tt)
-each_more live before (x ∷ moments) m h k = (
+each_more : (start : Option (List ℕ)) (live : Bool) (before : List Entry) (moments : List Moment) (m : Moment) → AreMomentsAfter start live before moments
+    → IsMoment start live ((before ++ ended_in moments) ++ m.ended) m → AreMomentsAfter start live before (moments ++ m ∷ [])
+each_more start live before [] m h k = (subst (λ (l : List Entry). IsMoment start live (l ++ m.ended) m) (append-nil before) k, tt)
+each_more start live before (x ∷ moments) m h k = (
   h.0,
-  each_more live (before ++ x.ended) moments m h.1 (subst (λ (l : List Entry). IsMoment live (l ++ m.ended) m) (sym (append_assoc before x.ended (ended_in moments))) k),
+  each_more start live (before ++ x.ended) moments m h.1 (subst (λ (l : List Entry). IsMoment start live (l ++ m.ended) m) (sym (append_assoc before x.ended (ended_in moments))) k),
 )
 
 -- there is still room for a fault
@@ -130,17 +130,17 @@ stay live start now a b w v h same l = record {
 -- ---- what is put
 
 module _ (live : Bool) (start now : Option (List ℕ)) (a b c : Shown) (w : Viewer) (h : IsWatching live start now a b w)
-    (erases : Bool) (drawn : List ℕ) (only : erases ≡ true → w.live ≡ true) (draws : IsDrawn w.live (ended_in h.moments ++ h.waiting) drawn) where
+    (erases : Bool) (drawn : List ℕ) (only : erases ≡ true → w.live ≡ true) (draws : IsDrawn start w.live (ended_in h.moments ++ h.waiting) drawn) where
   abbrev moment : Moment
   moment = record { erased = erases; ended = h.waiting; drawn = drawn }
 
   its_text : put_text erases w.waiting.items drawn ≡ moment_text moment
   its_text = ap (λ (l : List ℕ). put_text erases l drawn) h.seen.shown
 
-  each_now : AreMomentsAfter live [] (h.moments ++ moment ∷ [])
-  each_now = each_more live [] h.moments moment h.each (record {
+  each_now : AreMomentsAfter start live [] (h.moments ++ moment ∷ [])
+  each_now = each_more start live [] h.moments moment h.each (record {
     erased = λ e. sym h.live_is ∙ only e;
-    drawn = subst (λ (l : Bool). IsDrawn l (ended_in h.moments ++ h.waiting) drawn) h.live_is draws;
+    drawn = subst (λ (l : Bool). IsDrawn start l (ended_in h.moments ++ h.waiting) drawn) h.live_is draws;
   })
 
   -- all that was put so far
@@ -223,12 +223,12 @@ module _ (live : Bool) (start now : Option (List ℕ)) (a b c : Shown) (w : View
 pub put_on : (live : Bool) (start now : Option (List ℕ)) (a b c : Shown) (w v : Viewer) (drawn : List ℕ) → IsWatching live start now a b w → DrawsSeen w drawn
     → LeavesMoment w drawn b c (Ok tt) → PutsSeen w v → v.live ≡ w.live → IsWatching live start now a c v
 put_on live start now a b c w v drawn h draws left puts l =
-    moment_put live start now a b c w h left.0 drawn left.1 (draws h.bytes (ended_in h.moments) h.waiting h.seen) v left.2 puts l
+    moment_put live start now a b c w h left.0 drawn left.1 (draws start now h.bytes (ended_in h.moments) h.waiting h.gone h.seen) v left.2 puts l
 
 pub fail_put : (live : Bool) (start now : Option (List ℕ)) (a b c : Shown) (w : Viewer) (drawn : List ℕ) (fault : WatchFault) → IsWatching live start now a b w → DrawsSeen w drawn
     → LeavesMoment w drawn b c (Err fault) → HasFailed live start now a c fault
 fail_put live start now a b c w drawn fault h draws left =
-    moment_left live start now a b c w h left.0 drawn left.1 (draws h.bytes (ended_in h.moments) h.waiting h.seen) fault [] (inl refl) (left_alone fault b c _ left.2)
+    moment_left live start now a b c w h left.0 drawn left.1 (draws start now h.bytes (ended_in h.moments) h.waiting h.gone h.seen) fault [] (inl refl) (left_alone fault b c _ left.2)
 
 -- a line that is wrong was read
 pub over_wrong : (now : Option (List ℕ)) (bytes : List ℕ) (found : Option ℕ) → is_some found ≡ true → Decodes IsFirstWrong bytes found → IsOver now bytes

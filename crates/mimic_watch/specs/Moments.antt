@@ -1,10 +1,11 @@
 -- What is put as a report comes: at each moment what the rows show that have ended since the moment before, and maybe how far the run
 -- is.
-use Rattle.std.specs.Prelude.{◌≡◌, ◌⊎◌, ℕ, Bool, true, false, if◌then◌else◌, List, [], ◌∷◌, ◌++◌, length, map, codes, count_by, ⊤}
+use Rattle.std.specs.Prelude.{◌≡◌, ◌⊎◌, ℕ, Bool, true, false, if◌then◌else◌, List, [], ◌∷◌, ◌++◌, length, map, codes, count_by, ⊤, Option, IfSome}
 use Rattle.std.specs.List.{flat_map}
 use Rattle.mimic_trial.specs.declared.outcome.Outcome.{Outcome}
 use Rattle.mimic_trial.specs.Count.{is_failed}
 use Rattle.mimic_printer.specs.Json.{Entry}
+use Rattle.mimic_events.specs.SoFar.{BeginsWithTitle}
 use Rattle.mimic_watch.specs.declared.frame.View.{View}
 use Rattle.mimic_watch.specs.Frames.{FitsLine, erase, first_line, frame}
 use Rattle.mimic_watch.specs.Rows.{row_text}
@@ -23,28 +24,30 @@ abbrev pub drawn_text : Bool → View → List ℕ → List ℕ
 drawn_text true view second = frame (first_line view) second
 drawn_text false view second = first_line view ++ codes "\n"
 
--- what is drawn says how many of these rows there are and how many failed, and no line of it is wider than 39 columns
-pub record IsDrawing (live : Bool) (entries : List Entry) (drawn : List ℕ) : Type 0 where
+-- what is drawn says how many of these rows there are, how many failed, and how many the input's title announces, once that has come;
+-- and no line of it is wider than 39 columns
+pub record IsDrawing (start : Option (List ℕ)) (live : Bool) (entries : List Entry) (drawn : List ℕ) : Type 0 where
   pub view : View
   pub second : List ℕ
   pub ended : view.ended ≡ length entries
   pub failed : view.failed ≡ count_by is_failed (outcomes_in entries)
+  pub announced : IfSome view.announced (λ n. IfSome start (BeginsWithTitle n))
   pub fits : FitsLine second
   pub text : drawn ≡ drawn_text live view second
 
 -- nothing is drawn, or how far the run is
-abbrev pub IsDrawn : Bool → List Entry → List ℕ → Type 0
-IsDrawn live entries drawn = (drawn ≡ []) ⊎ IsDrawing live entries drawn
+abbrev pub IsDrawn : Option (List ℕ) → Bool → List Entry → List ℕ → Type 0
+IsDrawn start live entries drawn = (drawn ≡ []) ⊎ IsDrawing start live entries drawn
 
 -- a moment at which these rows have ended: only a terminal is erased, and what is drawn is of these rows
-pub record IsMoment (live : Bool) (entries : List Entry) (m : Moment) : Type 0 where
+pub record IsMoment (start : Option (List ℕ)) (live : Bool) (entries : List Entry) (m : Moment) : Type 0 where
   pub erased : m.erased ≡ true → live ≡ true
-  pub drawn : IsDrawn live entries m.drawn
+  pub drawn : IsDrawn start live entries m.drawn
 
 -- moments after these rows have ended
-abbrev pub AreMomentsAfter : Bool → List Entry → List Moment → Type 0
-AreMomentsAfter live before [] = ⊤
-AreMomentsAfter live before (m ∷ moments) = IsMoment live (before ++ m.ended) m × AreMomentsAfter live (before ++ m.ended) moments
+abbrev pub AreMomentsAfter : Option (List ℕ) → Bool → List Entry → List Moment → Type 0
+AreMomentsAfter start live before [] = ⊤
+AreMomentsAfter start live before (m ∷ moments) = IsMoment start live (before ++ m.ended) m × AreMomentsAfter start live (before ++ m.ended) moments
 
 -- what is put at a moment
 abbrev pub moment_text : Moment → List ℕ

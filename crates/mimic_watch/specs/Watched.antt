@@ -48,7 +48,7 @@ last_text (Cut stop) = []
 -- then the summary
 pub record HasWatched (live : Bool) (start : Option (List ℕ)) (old new : Shown) (verdict : Verdict) : Type 0 where
   pub moments : List Moment
-  pub each : AreMomentsAfter live [] moments
+  pub each : AreMomentsAfter start live [] moments
   pub is_verdict : IfSome start (IsVerdict (ended_in moments) verdict)
   pub counts : AreCounts (ended_in moments) verdict
   pub put : Put old new (moments_text moments ++ last_text verdict)
@@ -70,7 +70,7 @@ pub record HasFailed (live : Bool) (start end : Option (List ℕ)) (old new : Sh
   pub gone : Consumes start end (bytes ++ rest)
   pub moments : List Moment
   pub waiting : List Entry
-  pub each : AreMomentsAfter live [] moments
+  pub each : AreMomentsAfter start live [] moments
   pub ended : AreEnded bytes (ended_in moments ++ waiting)
   pub last : List ℕ
   pub is_last : IsLast last

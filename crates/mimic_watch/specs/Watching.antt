@@ -44,7 +44,8 @@ StaysSeen old new = (bytes : List ℕ) (put waiting : List Entry) → HasSeen ol
 
 -- what is drawn is nothing, or of the rows that have ended
 abbrev pub DrawsSeen : Viewer → List ℕ → Type 0
-DrawsSeen w drawn = (bytes : List ℕ) (put waiting : List Entry) → HasSeen w bytes put waiting → IsDrawn w.live (put ++ waiting) drawn
+DrawsSeen w drawn = (start now : Option (List ℕ)) (bytes : List ℕ) (put waiting : List Entry) → Consumes start now bytes → HasSeen w bytes put waiting
+    → IsDrawn start w.live (put ++ waiting) drawn
 
 -- ---- what is put
 
@@ -94,7 +95,7 @@ pub record IsWatching (live : Bool) (start now : Option (List ℕ)) (before afte
   pub bytes : List ℕ
   pub moments : List Moment
   pub waiting : List Entry
-  pub each : AreMomentsAfter live [] moments
+  pub each : AreMomentsAfter start live [] moments
   pub seen : HasSeen w bytes (ended_in moments) waiting
   pub live_is : w.live ≡ live
   pub gone : Consumes start now bytes

@@ -96,7 +96,11 @@ fn go_on(error: io::Error) -> Result<(), WatchFault>
 }
 
 impl Viewer {
-    ghost use Rattle.std.specs.Prelude.{◌≡◌, ◌++◌, [], ℕ, List, IfOk, IfSome, MatchResult, OnOk};
+    ghost use Rattle.std.specs.Prelude.{◌≡◌, ◌++◌, [], ℕ, List, Option, IfOk, IfSome, MatchResult, OnOk};
+    ghost use Rattle.std.specs.Io.KnownBytes.{Consumes};
+    ghost use Rattle.mimic_events.specs.Follower.{HasFollowed};
+    ghost use Rattle.mimic_events.specs.Reading.{Decodes};
+    ghost use Rattle.mimic_events.specs.SoFar.{BeginsWithTitle};
     ghost use Rattle.mimic_printer.specs.Json.{Entry};
     ghost use Rattle.mimic_printer.specs.Sink.{HasFaultLeft, Put, shown};
     ghost use Rattle.mimic_events.specs.Contents.{entry_read};
@@ -177,8 +181,9 @@ impl Viewer {
 
     // Returns how far the run is: two lines on a terminal, and else one.
     fn drawing(&self, ran: u64) -> Result<Vec<u8>, AllocError>
-        ensures { IfOk result (λ drawn. (bytes : List ℕ) (put waiting : List Entry)
-            → HasSeen self.now bytes put waiting → IsDrawing self.now.live (put ++ waiting) drawn.items) }
+        ensures { IfOk result (λ drawn. (start now : Option (List ℕ)) (bytes : List ℕ) (put waiting : List Entry)
+            → Consumes start now bytes → HasSeen self.now bytes put waiting
+            → IsDrawing start self.now.live (put ++ waiting) drawn.items) }
     {
         let mut first = first_line(self.alloc, &self.view(ran))?;
         if self.live {
@@ -195,6 +200,8 @@ impl Viewer {
     fn view(&self, ran: u64) -> View
         ensures ended { result.ended ≡ self.now.ended }
         ensures failed { result.failed ≡ self.now.failed }
+        ensures announced { (bytes : List ℕ) (rows : List Entry) → HasFollowed self.now.follower bytes rows
+            → Decodes BeginsWithTitle bytes result.announced }
     {
         let announced = self.follower.announced();
         let rows = announced.unwrap_or(self.ended);
