@@ -1,15 +1,15 @@
 -- What is declared of an argument that excludes one more, and of a command with one more argument.
-use Rattle.std.proofs.Common.{◌≡◌, ◌∙◌, ◌++◌, ◌∷◌, ◌&&◌, [], ap, ap₂, arith, Bool, false, flat_map, length, length-append, List, not, refl, true, ℕ}
+use Rattle.std.proofs.Common.{◌≡◌, ◌∙◌, ◌++◌, ◌∷◌, ◌&&◌, [], ap, ap₂, arith, Bool, false, flat_map, length, length-append, List, not, refl, sym, true, ℕ}
 use Rattle.std.proofs.lemmas.Bool.{ne_eqb}
 use Rattle.std.proofs.lemmas.List.{map-append, append-nil}
 use Rattle.std.proofs.lemmas.List.Concat.{flat_map-append}
 use Rattle.std.specs.Borrow.{Bor}
 use Rattle.clap.specs.Adds.{AddsConflicts}
-use Rattle.clap.specs.Words.{AddsArg, app_of, args_of, new_app}
+use Rattle.clap.specs.Words.{AddsArg, AddsInTurn, app_of, args_of, new_app}
 use Rattle.clap.specs.Walk.{Rule, Text, is_empty, rule_of, texts}
 use Rattle.clap.specs.declared.builder.arg.Arg.{Arg}
 use Rattle.clap.specs.declared.builder.command.Command.{Command}
-use Rattle.mimic_args.specs.CommandLine.{declared_of, excluding, options_of, pairs, plus}
+use Rattle.mimic_args.specs.CommandLine.{Options, declared_of, excluding, options_of, pairs, plus}
 
 and-false : (b : Bool) → b && false ≡ false
 and-false true = refl
@@ -40,6 +40,20 @@ options-plus old a new h local =
     let same = append-nil (pairs_in h.arg) ∙ ap₂ pairs (ap (λ i. i.now) h.rules.id) (ap texts h.rules.conflicts) in
     let all = ap (flat_map pairs_in) h.args ∙ flat_map-append pairs_in (args_of old) (h.arg ∷ []) ∙ ap (λ z. flat_map pairs_in (args_of old) ++ z) same in
     ap₂ (λ x y. (x, y)) (h.shape local) all
+
+-- each of them is for this command alone, and not for its subcommands
+abbrev pub AreLocal : List Arg → Type 0
+AreLocal [] = Unit {0}
+AreLocal (a ∷ rest) = (a.global ≡ false) × AreLocal rest
+
+-- the options with each argument added in turn
+abbrev pub plus_all : Options → List Arg → Options
+plus_all options [] = options
+plus_all options (a ∷ rest) = plus_all (plus options (declared_of a)) rest
+
+pub options-in_turn : (args : List Arg) (old new : Command) → AddsInTurn AddsArg old args new → AreLocal args → options_of new ≡ plus_all (options_of old) args
+options-in_turn [] old new h local = ap options_of (sym h)
+options-in_turn (a ∷ rest) old new h local = options-in_turn rest h.0 new h.2 local.1 ∙ ap (λ o. plus_all o rest) (options-plus old a h.0 h.1 local.0)
 
 pub options-none : (c : Command) (name : Text) → app_of c ≡ new_app name → args_of c ≡ [] → options_of c ≡ (new_app name, [])
 unfolding pairs_in

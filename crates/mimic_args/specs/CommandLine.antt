@@ -94,17 +94,13 @@ colour_rule = option_rule (codes "color")
 abbrev pub format_rule : Rule
 format_rule = option_rule (codes "format")
 
--- the flags that choose among trials, by what is declared of `--test`
-abbrev pub choice_options : Declared → Options
-choice_options test = plus (plus (plus (plus (new_app (codes "harness"), [])
+-- all flags, by what is declared of `--test` and of `--quiet`
+abbrev pub flag_options : Declared → Declared → Options
+flag_options test quiet = plus (plus (plus (plus (plus (plus (plus (plus (plus (new_app (codes "harness"), [])
     (alone (flag_rule (codes "include-ignored"))))
     (alone (flag_rule (codes "ignored"))))
     test)
-    (alone (flag_rule (codes "bench")))
-
--- all flags, by what is declared of `--test` and of `--quiet`
-abbrev pub flag_options : Declared → Declared → Options
-flag_options test quiet = plus (plus (plus (plus (plus (choice_options test)
+    (alone (flag_rule (codes "bench"))))
     (alone (flag_rule (codes "list"))))
     (alone (flag_rule (codes "nocapture"))))
     (alone (flag_rule (codes "show-output"))))

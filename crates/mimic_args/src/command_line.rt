@@ -15,7 +15,7 @@ use crate::matches::{
     colour_of, format_of, is_set, text_of, text_under, texts_of, threads_of, unstable_of,
 };
 use crate::options::{
-    colour, excluded, filter, format, logfile, quiet, skip, test, test_threads, unstable, with,
+    colour, excluded, filter, format, logfile, quiet, skip, test, test_threads, unstable,
     with_flags,
 };
 use crate::{Arguments, ArgumentsError};
@@ -135,15 +135,16 @@ fn command_of<'a>(alloc: Global, test: Arg<'a>, quiet: Arg<'a>) -> Result<Comman
         × AreReaders u c f × (options_of r
         ≡ options_with (declared_of test.entry) (declared_of quiet.entry) u c f)) }
 {
-    let c = with_flags(alloc, test, quiet)?;
-    let c = with(c, unstable(alloc))?;
-    let c = with(c, test_threads(alloc))?;
-    let c = with(c, logfile(alloc))?;
-    let c = with(c, skip(alloc))?;
-    let c = with(c, colour(alloc))?;
-    let c = with(c, format(alloc))?;
-    let c = with(c, filter(alloc))?;
-    Ok(c)
+    let options = vec![in alloc;
+        unstable(alloc),
+        test_threads(alloc),
+        logfile(alloc),
+        skip(alloc),
+        colour(alloc),
+        format(alloc),
+        filter(alloc),
+    ]?;
+    with_flags(alloc, test, quiet)?.args(options)
 }
 
 // Returns whether two options are asked that exclude one another.

@@ -1,7 +1,7 @@
 //! The options of a harness, as they are declared to `clap`.
 ghost use Rattle.std.specs.Prelude.{◌≡◌, false, IfOk, Some, codes, map};
 ghost use Rattle.clap.specs.Walk.{texts};
-ghost use Rattle.mimic_args.specs.CommandLine.{ReadsOnly, alone, choice_options, colour_rule, declared_of, excluding, filter_rule, format_rule, quiet_rule, flag_options, flag_rule, option_rule, options_of, plus, read_by, skip_rule, test_rule, threads_rule, unstable_rule};
+ghost use Rattle.mimic_args.specs.CommandLine.{ReadsOnly, alone, colour_rule, declared_of, excluding, filter_rule, format_rule, quiet_rule, flag_options, flag_rule, option_rule, options_of, read_by, skip_rule, test_rule, threads_rule, unstable_rule};
 ghost use Rattle.mimic_args.specs.Matched.{colour_name, colours, unstable_name, unstables};
 ghost use Rattle.mimic_text.specs.Formats.{format_name, formats};
 
@@ -14,21 +14,6 @@ static FORMATS: [&str; 3] = ["pretty", "terse", "json"];
 
 static UNSTABLE: [&str; 1] = ["unstable-options"];
 
-// Makes a command with the flags that choose among trials.
-fn with_choices<'a>(alloc: Global, test: Arg<'a>) -> Result<Command<'a>, AllocError>
-    requires { test.global ≡ false }
-    ensures { IfOk result (λ r. options_of r ≡ choice_options (declared_of test.entry)) }
-{
-    let c = Command::new(alloc, "harness");
-    let help = "Run ignored tests as well";
-    let c = with(c, flag(alloc, "include-ignored", help))?;
-    let c = with(c, flag(alloc, "ignored", "Run only ignored tests"))?;
-    let c = with(c, test)?;
-    let help = "Run and measure benchmarks; tests count as ignored";
-    let c = with(c, flag(alloc, "bench", help))?;
-    Ok(c)
-}
-
 // Makes a command with all flags, of which two are handed in.
 pub(super) fn with_flags<'a>(
     alloc: Global,
@@ -39,26 +24,25 @@ pub(super) fn with_flags<'a>(
     ensures { IfOk result (λ r. options_of r
         ≡ flag_options (declared_of test.entry) (declared_of quiet.entry)) }
 {
-    let c = with_choices(alloc, test)?;
-    let help = "List tests and benchmarks, and run none";
-    let c = with(c, flag(alloc, "list", help))?;
-    let help = "Print output of tests at once (no effect: it is never held back)";
-    let c = with(c, flag(alloc, "nocapture", help))?;
-    let help = "Print output of tests that pass (no effect: it is never held back)";
-    let c = with(c, flag(alloc, "show-output", help))?;
-    let help = "Match each FILTER exactly, not as a part of a full name";
-    let c = with(c, flag(alloc, "exact", help))?;
-    let c = with(c, quiet)?;
-    Ok(c)
-}
-
-// Adds an argument to the command.
-pub(super) fn with<'a>(command: Command<'a>, arg: Arg<'a>) -> Result<Command<'a>, AllocError>
-    requires { arg.global ≡ false }
-    ensures { IfOk result
-        (λ r. options_of r ≡ plus (options_of command.entry) (declared_of arg.entry)) }
-{
-    command.arg(arg)
+    let exact = "Match each FILTER exactly, not as a part of a full name";
+    let nocapture = "Print output of tests at once (no effect: it is never held back)";
+    let show_output = "Print output of tests that pass (no effect: it is never held back)";
+    let flags = vec![in alloc;
+        flag(alloc, "include-ignored", "Run ignored tests as well"),
+        flag(alloc, "ignored", "Run only ignored tests"),
+        test,
+        flag(
+            alloc,
+            "bench",
+            "Run and measure benchmarks; tests count as ignored"
+        ),
+        flag(alloc, "list", "List tests and benchmarks, and run none"),
+        flag(alloc, "nocapture", nocapture),
+        flag(alloc, "show-output", show_output),
+        flag(alloc, "exact", exact),
+        quiet,
+    ]?;
+    Command::new(alloc, "harness").args(flags)
 }
 
 // Forbids a line to use the argument together with the other one.

@@ -1,17 +1,27 @@
-use Rattle.std.proofs.Common.{◌∙◌, ap₂}
+use Rattle.std.proofs.Common.{◌∙◌, ◌∷◌, [], ap₂, subst}
+use Rattle.std.proofs.lemmas.Result.{IfOk-weaker}
+use Rattle.clap.specs.Words.{AddsArg, AddsInTurn}
 use Rattle.mimic_args.specs.CommandLine.{plus}
+use Rattle.mimic_args.proofs.Declaring.{AreLocal, options-in_turn}
 use Rattle.mimic_args.proofs.command_line.command_of.Goals as goal
 
 pub returns : goal.returns
 returns c =
     let unstable = c.unstable.ensures.declared in
     let colour = c.colour.ensures.declared in
-    let format = c.format.ensures.declared in (
+    let format = c.format.ensures.declared in
+    let start = c.in_ok-with_flags.field-0 in
+    let options = c.unstable.result ∷ c.test_threads.result ∷ c.logfile.result ∷ c.skip.result ∷ c.colour.result ∷ c.format.result
+    ∷ c.filter.result ∷ [] in
+    let local : AreLocal options = (c.unstable.ensures.local, (c.test_threads.ensures.local, (c.logfile.ensures.local, (c.skip.ensures.local, (c.colour.ensures.local, (c.format.ensures.local, (c.filter.ensures.local, tt))))))) in
+    let declared = ap₂ plus (ap₂ plus (ap₂ plus (ap₂ plus (ap₂ plus (ap₂ plus (ap₂ plus c.in_ok-with_flags.ensures unstable.2)
+    c.test_threads.ensures.declared) c.logfile.ensures.declared) c.skip.ensures.declared) colour.2) format.2) c.filter.ensures.declared in
+    IfOk-weaker c.args-2.result _ _
+    (λ r h. (
       unstable.0,
       colour.0,
       format.0,
       record { unstable = unstable.1; color = colour.1; format = format.1 },
-      c.in_ok-c-8.ensures ∙ ap₂ plus (c.in_ok-c-7.ensures ∙ ap₂ plus (c.in_ok-c-6.ensures ∙ ap₂ plus (c.in_ok-c-5.ensures ∙ ap₂ plus
-          (c.in_ok-c-4.ensures ∙ ap₂ plus (c.in_ok-c-3.ensures ∙ ap₂ plus (c.in_ok-c-2.ensures ∙ ap₂ plus c.in_ok-c.ensures unstable.2)
-          c.test_threads.ensures.declared) c.logfile.ensures.declared) c.skip.ensures.declared) colour.2) format.2) c.filter.ensures.declared,
-    )
+      options-in_turn options start r (subst (λ all. AddsInTurn AddsArg start all r) c.in_ok-options.ensures.items h) local ∙ declared,
+    ))
+    c.args-2.ensures

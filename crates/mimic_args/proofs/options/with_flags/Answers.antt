@@ -1,9 +1,20 @@
-use Rattle.std.proofs.Common.{◌∙◌, ap₂, refl}
+use Rattle.std.proofs.Common.{◌∙◌, ◌∷◌, [], ap₂, refl, subst}
+use Rattle.std.proofs.lemmas.Result.{IfOk-weaker}
+use Rattle.clap.specs.Words.{AddsArg, AddsInTurn}
 use Rattle.mimic_args.specs.CommandLine.{plus}
+use Rattle.mimic_args.proofs.Declaring.{AreLocal, options-in_turn, options-none}
 use Rattle.mimic_args.proofs.options.with_flags.Goals as goal
 
 pub returns : goal.returns
 returns c =
-    c.in_ok-c-6.ensures ∙ ap₂ plus (c.in_ok-c-5.ensures ∙ ap₂ plus (c.in_ok-c-4.ensures ∙ ap₂ plus (c.in_ok-c-3.ensures ∙ ap₂ plus
-    (c.in_ok-c-2.ensures ∙ ap₂ plus c.in_ok-c.ensures c.flag.ensures.declared) c.flag-2.ensures.declared) c.flag-3.ensures.declared)
-    c.flag-4.ensures.declared) refl
+    let start = c.new.result in
+    let flags = c.flag.result ∷ c.flag-2.result ∷ c.args.test ∷ c.flag-3.result ∷ c.flag-4.result ∷ c.flag-5.result ∷ c.flag-6.result
+    ∷ c.flag-7.result ∷ c.args.quiet ∷ [] in
+    let none = options-none start _ c.new.ensures.app c.new.ensures.empty.0 in
+    let local : AreLocal flags = (c.flag.ensures.local, (c.flag-2.ensures.local, (c.requires.0, (c.flag-3.ensures.local, (c.flag-4.ensures.local, (c.flag-5.ensures.local, (c.flag-6.ensures.local, (c.flag-7.ensures.local, (c.requires.1, tt))))))))) in
+    let declared = ap₂ plus (ap₂ plus (ap₂ plus (ap₂ plus (ap₂ plus (ap₂ plus (ap₂ plus (ap₂ plus (ap₂ plus none
+    c.flag.ensures.declared) c.flag-2.ensures.declared) refl) c.flag-3.ensures.declared) c.flag-4.ensures.declared)
+    c.flag-5.ensures.declared) c.flag-6.ensures.declared) c.flag-7.ensures.declared) refl in
+    IfOk-weaker c.args-2.result _ _
+    (λ r h. options-in_turn flags start r (subst (λ all. AddsInTurn AddsArg start all r) c.in_ok-flags.ensures.items h) local ∙ declared)
+    c.args-2.ensures
