@@ -89,6 +89,7 @@ impl From<Result<(), Failed>> for Outcome {
 /// A test's `Ok` has the outcome `Passed`, and every `Err` the outcome `Failed`. In test mode a
 /// benchmark's `Ok` is `Passed` and a measurement is dropped. In bench mode a measurement is
 /// `Measured`, and a benchmark that measured nothing failed.
+#[inline(always)]
 pub fn run_single(runner: Runner, test_mode: bool) -> Outcome
     ensures own { PromisesOutcome runner test_mode result }
     ensures called { result ≢ Ignored }
