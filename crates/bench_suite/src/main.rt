@@ -1,9 +1,9 @@
 //! Measures a run of many trivial tests:
-//! `bench_suite N FORMAT THREADS [fail_every K] [captures 1] [work K] [boxes 0] [wait MS] [logfile PATH]`
+//! `bench_suite N FORMAT THREADS [fail_every K] [captures 1] [work K] [wait MS] [logfile PATH]`
 //!
 //! The tests are `test_000000` and so on; every K-th fails. Each is a boxed closure: with `captures 1` one that holds
 //! its test's number, as a closure over a path would, and with `work K` it goes through K thousand rounds from it. With
-//! `boxes 0` each is a value of no size, and with `wait MS` one that waits so many milliseconds; none of these may fail.
+//! `wait MS` each is a value that waits so many milliseconds, and may not fail.
 //!
 //! The report goes to standard output or the logfile. Its own time is that of a clock that stands still, so that the
 //! same words always give the same report. What was measured goes to standard error: how long making the tests and
@@ -79,24 +79,6 @@ fn works(number: usize, work: u64) -> Result<(), Failed> {
     }
 }
 
-// A test of no size, which passes.
-#[derive(Drop)]
-struct Unit;
-
-impl Task for Unit {
-    fn run(self, _test_mode: bool) -> Outcome {
-        Outcome::Passed
-    }
-}
-
-fn unit_tests(alloc: Global, count: usize) -> Result<Vec<Trial<Unit>>, RunError> {
-    let mut tests = Vec::new(alloc);
-    for i in 0..count {
-        tests.push(Trial::new(test_name(alloc, i)?, Unit))?;
-    }
-    Ok(tests)
-}
-
 // A test that waits, and passes then.
 #[derive(Drop)]
 struct Waiting<M> {
@@ -142,7 +124,7 @@ fn failure(alloc: Global) -> Failed {
 // Prints why the words ask for nothing.
 fn refuse<M: Machine>(rt: &M, error: ArgumentsError) -> Status {
     let alloc = rt.alloc();
-    let none: Result<Vec<Trial<Unit>>, RunError> = Ok(Vec::new(alloc));
+    let none: Result<Vec<Trial>, RunError> = Ok(Vec::new(alloc));
     BENCH_SUITE.run_line(rt, Err(error), Ok(Sharding::none()), none)
 }
 
@@ -157,10 +139,6 @@ fn measure<M: Machine + Files + Eprint + Copy + Drop + Send + 'static>(
     match asked.runners {
         Runners::Boxes | Runners::Captures => {
             let tests = boxed_tests!(alloc, asked);
-            run_tests(rt, asked, since(start, clock), tests)
-        }
-        Runners::Units => {
-            let tests = unit_tests(alloc, asked.count)?;
             run_tests(rt, asked, since(start, clock), tests)
         }
         Runners::Waits(millis) => {
