@@ -1,6 +1,5 @@
 -- What the joined outcomes are: at each place one of the item there.
 use Rattle.std.proofs.Common.{◌≡◌, ◌⊎◌, inl, inr, ℕ, suc, zero, ◌+◌, ◌%◌, ◌<◌, ◌==◌, Bool, true, false, cond, List, [], ◌∷◌, ◌++◌, length, map, slice_index_or, slice_set, refl, sym, ◌∙◌, ap, subst, arith}
-use Rattle.std.specs.Prelude.{Vec, vec_items}
 use Rattle.std.proofs.lemmas.Grind.{get_or-set_at}
 use Rattle.std.proofs.lemmas.List.{get_or_default, get_or-set_other}
 use Rattle.std.proofs.lemmas.Nat.{mod_below}
@@ -12,6 +11,7 @@ use Rattle.mimic_trial.specs.Promise.{Gives, IsOutcomeOf}
 use Rattle.mimic_pool.specs.declared.share.Assigned.{Assigned}
 use Rattle.mimic_pool.specs.declared.share.Share.{Share}
 use Rattle.mimic_pool.specs.Answers.{Answers}
+use Rattle.mimic_pool.specs.Rows.{Returned, rows_in}
 use Rattle.mimic_pool.specs.Share.{IsDealt, assigned_from, items_of, share_of}
 use Rattle.mimic_pool.specs.Joined.{AreOutcomes, IsOutcomeAt, jobs_of, put_all, put_each}
 
@@ -109,15 +109,15 @@ module _ {X : Type 0} where
       let P : List (Assigned X) → Type 0 = λ xs. HasPlace p xs in
       subst P (sym (dealt (p % workers) d w)) (has_filter (assigned_from 0 rs bs) workers p (has_whole rs bs p low)))
 
-put_last : {Z : Type 0} (joined : List (Vec Placed Z)) (one : Vec Placed Z) (outcomes : List Outcome)
-    → put_each (map vec_items (joined ++ one ∷ [])) outcomes ≡ put_all (vec_items one) (put_each (map vec_items joined) outcomes)
+put_last : (joined : List Returned) (one : Returned) (outcomes : List Outcome)
+    → put_each (map rows_in (joined ++ one ∷ [])) outcomes ≡ put_all (rows_in one) (put_each (map rows_in joined) outcomes)
 put_last [] one outcomes = refl
-put_last (first ∷ joined) one outcomes = put_last joined one (put_all (vec_items first) outcomes)
+put_last (first ∷ joined) one outcomes = put_last joined one (put_all (rows_in first) outcomes)
 
 -- what one worker more returned is put last
-pub put_one_more : {Z : Type 0} (joined after : List (Vec Placed Z)) (one : Vec Placed Z) (outcomes : List Outcome) → after ≡ joined ++ one ∷ []
-    → put_each (map vec_items after) outcomes ≡ put_all (vec_items one) (put_each (map vec_items joined) outcomes)
-put_one_more joined after one outcomes is = ap (λ l. put_each (map vec_items l) outcomes) is ∙ put_last joined one outcomes
+pub put_one_more : (joined after : List Returned) (one : Returned) (outcomes : List Outcome) → after ≡ joined ++ one ∷ []
+    → put_each (map rows_in after) outcomes ≡ put_all (rows_in one) (put_each (map rows_in joined) outcomes)
+put_one_more joined after one outcomes is = ap (λ l. put_each (map rows_in l) outcomes) is ∙ put_last joined one outcomes
 
 -- for each job in turn, rows that answer it were put at their places
 abbrev pub AreJoined : {X : Type 0} → Gives X → List (Bool × List (Assigned X)) → List Outcome → List Outcome → Type 0

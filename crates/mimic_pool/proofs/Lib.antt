@@ -10,3 +10,4 @@ pub mod Settling
 pub mod Arriving
 pub mod Having
 pub mod Keeping
+pub mod Returning

@@ -33,7 +33,7 @@ weight_kept (outcome.Failed failed) = refl
 weight_kept outcome.Ignored = refl
 weight_kept (outcome.Measured measured) = refl
 
-marked_by : (o : Outcome) → is_marked (mark_of o) ≡ true
+pub marked_by : (o : Outcome) → is_marked (mark_of o) ≡ true
 marked_by outcome.Passed = refl
 marked_by (outcome.Failed failed) = refl
 marked_by outcome.Ignored = refl
@@ -59,16 +59,16 @@ not_free Kept e = refl
 
 -- ---- marked places
 
-weight_append : (ms ns : List (ℕ × Mark)) → weight_of_all (ms ++ ns) ≡ weight_of_all ms + weight_of_all ns
+pub weight_append : (ms ns : List (ℕ × Mark)) → weight_of_all (ms ++ ns) ≡ weight_of_all ms + weight_of_all ns
 weight_append [] ns = omega arith
 weight_append (m ∷ ms) ns = let rest = weight_append ms ns in omega arith
 
-weight_few : (ms : List (ℕ × Mark)) → weight_of_all ms ≤ length ms
+pub weight_few : (ms : List (ℕ × Mark)) → weight_of_all ms ≤ length ms
 weight_few [] = omega arith
 weight_few (m ∷ ms) = let one = weight_one m.1 in let rest = weight_few ms in omega arith
 
 -- a row more, whose outcome is kept behind the others
-rows_append : (ms : List (ℕ × Mark)) (kept more : List Outcome) (p : ℕ) (m : Mark) → length kept ≡ weight_of_all ms
+pub rows_append : (ms : List (ℕ × Mark)) (kept more : List Outcome) (p : ℕ) (m : Mark) → length kept ≡ weight_of_all ms
     → rows_of (ms ++ (p, m) ∷ []) (kept ++ more) ≡ rows_of ms kept ++ (p, outcome_by m more) ∷ []
 rows_append [] [] more p m len = refl
 rows_append [] (o ∷ kept) more p m len = absurd (omega arith)

@@ -1,5 +1,5 @@
 -- What a worker answers: after each of its trials, and once its loop has ended.
-use Rattle.std.proofs.Common.{◌≡◌, ◌∙◌, Bool, List, [], ◌∷◌, ◌++◌, ap, append-nil, append_assoc, refl, subst, sym}
+use Rattle.std.proofs.Common.{◌≡◌, ◌∙◌, Bool, List, [], ◌∷◌, ◌++◌, ap, append-nil, append_assoc, subst, sym}
 use Rattle.mimic_trial.specs.Places.{Placed}
 use Rattle.mimic_trial.specs.Promise.{Gives, IsOutcomeOf}
 use Rattle.mimic_pool.specs.declared.share.Assigned.{Assigned}

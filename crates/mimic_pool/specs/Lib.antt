@@ -10,3 +10,5 @@ pub mod Board
 pub mod Inbox
 pub mod Marks
 pub mod Kept
+pub mod Rows
+pub mod RowMarks

@@ -11,7 +11,7 @@ use std::alloc::{AllocError, Global};
 use std::collections::VecDeque;
 use std::marker::Model;
 
-// What a board keeps for a place: most outcomes are known by the mark alone.
+// What is kept for a place: most outcomes are known by the mark alone.
 #[derive(Clone, Copy)]
 pub(crate) enum Mark {
     // Nothing was reported.
@@ -160,7 +160,7 @@ impl Board {
 }
 
 // The mark of the outcome, which is kept if it doesn't fit in a mark.
-fn marked(outcome: Outcome, kept: &mut VecDeque<Outcome>) -> Mark
+pub(crate) fn marked(outcome: Outcome, kept: &mut VecDeque<Outcome>) -> Mark
     requires { deque_len kept.old < deque_capacity kept.old }
     ensures mark { result ≡ mark_of outcome }
     ensures kept { deque_items kept.new ≡ deque_items kept.old ++ kept_of outcome }
@@ -177,7 +177,7 @@ fn marked(outcome: Outcome, kept: &mut VecDeque<Outcome>) -> Mark
 }
 
 // The outcome of the mark, which is taken out of the kept ones if it lies there.
-fn unmarked(mark: Mark, kept: &mut VecDeque<Outcome>) -> Outcome
+pub(crate) fn unmarked(mark: Mark, kept: &mut VecDeque<Outcome>) -> Outcome
     requires marked { IsTrue (is_marked mark) }
     requires kept { weight_of mark ≤ deque_len kept.old }
     ensures outcome { result ≡ outcome_by mark (deque_items kept.old) }

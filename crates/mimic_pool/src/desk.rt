@@ -1,5 +1,5 @@
 //! The desk where outcomes arrive from the workers.
-ghost use Rattle.std.specs.Prelude.{◌≡◌, ◌++◌, ◌∷◌, [], ◌↔◌, ◌<◌, All, IfErr, IfOk, IsTrue, List, MatchResult, None, OnOk, Some, length, map, option_map, slice_get, slice_index_or, vec_items, vec_len, ℕ};
+ghost use Rattle.std.specs.Prelude.{◌≡◌, ◌++◌, ◌∷◌, [], ◌↔◌, ◌<◌, All, IfErr, IfOk, IsTrue, List, MatchResult, None, OnOk, Some, length, map, option_map, slice_get, slice_index_or, vec_len, ℕ};
 ghost use Rattle.std.specs.Iterator.{YieldsFirst, item_count};
 ghost use Rattle.std.specs.List.{range_with_len};
 ghost use Rattle.std.specs.List.Sorted.{IsPermutation};
@@ -9,10 +9,11 @@ ghost use Rattle.mimic_trial.specs.declared.outcome.Outcome.{Outcome as AnOutcom
 ghost use Rattle.mimic_pool.specs.Arrivals.{AgreesAt, arrival_of, arrived_at, first_arrivals, missing_of, order_of, rows_after};
 ghost use Rattle.mimic_pool.specs.Missing.{free_from, missing_items};
 ghost use Rattle.mimic_pool.specs.Returned.{HasAll, StandsFor};
+ghost use Rattle.mimic_pool.specs.Rows.{rows_in};
 ghost use Rattle.mimic_pool.specs.Seats.{SeatAgreesAt};
 
+use crate::returned::Rows;
 use crate::seats::Seats;
-use crate::start::Rows;
 use mimic_trial::Outcome;
 use std::alloc::{AllocError, Global};
 use std::marker::Model;
@@ -123,14 +124,14 @@ impl Desk {
     /// Whether something arrived at each place, and each of the rows that workers returned is what arrived at its place.
     /// Then the desk has all outcomes, and the rows need not be put at their places.
     pub fn has_all(&self, joined: &[Rows]) -> bool
-        ensures all { IsTrue result ↔ HasAll self.now (map vec_items joined.now) }
-        ensures outcomes { IsTrue result → StandsFor self.now (map vec_items joined.now) }
+        ensures all { IsTrue result ↔ HasAll self.now (map rows_in joined.now) }
+        ensures outcomes { IsTrue result → StandsFor self.now (map rows_in joined.now) }
     {
         if self.order.len() < self.seats.len() {
             return false;
         }
         for rows in joined {
-            if !lie_there(&self.seats, rows) {
+            if !rows.lie_at(&self.seats) {
                 return false;
             }
         }
@@ -224,16 +225,4 @@ fn agrees(seat: Option<&Outcome>, joined: &Outcome) -> bool
         Some(outcome) => *joined == *outcome,
         None => true,
     }
-}
-
-// Whether each of the rows lies at its place.
-fn lie_there(seats: &Seats, rows: &[(usize, Outcome)]) -> bool
-    ensures { IsTrue result ↔ All (λ row. slice_index_or seats.now row.0 None ≡ Some row.1) rows.now }
-{
-    for (place, outcome) in rows {
-        if seats.get(*place) != Some(outcome) {
-            return false;
-        }
-    }
-    true
 }

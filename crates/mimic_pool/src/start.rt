@@ -1,16 +1,14 @@
 //! What a worker starts with, and what its thread promises.
-ghost use Rattle.std.specs.Prelude.{◌≡◌, ◌≤◌, length, vec_capacity, vec_len};
+ghost use Rattle.std.specs.Prelude.{◌≡◌, ◌≤◌, [], length};
 ghost use Rattle.mimic_pool.specs.Share.{items_of};
 
+use crate::returned::Rows;
 use crate::share::Share;
 use crate::shared_board::SharedBoard;
-use mimic_trial::{Outcome, Task};
+use mimic_trial::Task;
 use std::snapshot::Snapshot;
 use std::sync::Arc;
 use std::thread::Promise;
-
-/// What a worker returns: a place and the outcome there, for each trial of its share.
-pub type Rows = Vec<(usize, Outcome)>;
 
 /// What a worker starts with: its share, room for what it returns, and the board that it reports to.
 #[derive(Drop)]
@@ -18,8 +16,8 @@ pub struct Start<T> {
     pub(crate) share: Share<T>,
     pub(crate) room: Rows,
     pub(crate) board: Arc<SharedBoard>,
-    pub(crate) ghost empty: { vec_len room ≡ 0 },
-    pub(crate) ghost fits: { length (items_of share) ≤ vec_capacity room },
+    pub(crate) ghost empty: { room.items ≡ [] },
+    pub(crate) ghost fits: { length (items_of share) ≤ room.room },
 }
 
 /// What a worker's thread promises: it returns an outcome for each trial of its share.

@@ -1,17 +1,19 @@
 //! Worker threads, which run the shares and report their rows to a board.
-ghost use Rattle.std.specs.Prelude.{◌≡◌, ◌≤◌, All, Bool, List, IfOk, IfSome, MatchResult, length, map, take, vec_capacity, vec_items, vec_len};
+ghost use Rattle.std.specs.Prelude.{◌≡◌, ◌≤◌, [], All, Bool, List, IfOk, IfSome, MatchResult, length, map, take, vec_capacity, vec_len};
 ghost use Rattle.mimic_trial.specs.declared.outcome.Outcome.{Outcome as AnOutcome};
 ghost use Rattle.mimic_pool.specs.Answers.{Answers};
 ghost use Rattle.mimic_pool.specs.Inbox.{board_of};
 ghost use Rattle.mimic_pool.specs.Joined.{AreOutcomes, AreReadyToJoin, job_of, jobs_of, put_all, put_each, shares_of};
+ghost use Rattle.mimic_pool.specs.Rows.{rows_in};
 ghost use Rattle.mimic_pool.specs.declared.share.Share.{Share};
 ghost use Rattle.mimic_pool.specs.Share.{AllRunners, assigned_from, items_of};
 
 use crate::board_reports::BoardReports;
 use crate::inbox::Inbox;
+use crate::returned::Rows;
 use crate::share::Share;
-use crate::start::{AnswersShare, Rows, Start};
-use crate::worker::work;
+use crate::start::{AnswersShare, Start};
+use crate::worker::work_into;
 use mimic_trial::{Outcome, Task};
 use std::alloc::{AllocError, Global};
 use std::snapshot::Snapshot;
@@ -40,7 +42,7 @@ pub fn prepare<T: Task>(
 {
     let mut starts = Vec::with_capacity(alloc, shares.len())?;
     for share in shares {
-        let room = Vec::with_capacity(alloc, share.len())?;
+        let room = Rows::with_capacity(alloc, share.len())?;
         let board = inbox.board()?;
         starts.push(Start { share, room, board })?;
     }
@@ -96,12 +98,12 @@ fn start_worker<T: Task + Send + 'static, R: Spawner + 'static>(
         promise,
         move || -> Rows
             requires runnable { AllRunners T.can_run share }
-            requires empty { vec_len room ≡ 0 }
-            requires fits { length (items_of share) ≤ vec_capacity room }
+            requires empty { room.items ≡ [] }
+            requires fits { length (items_of share) ≤ room.room }
             ensures { Answers T.gives test_mode (items_of share) result.items }
         {
             let mut reports = BoardReports::new(theirs, alloc, board);
-            work(share, test_mode, &mut reports, room)
+            work_into(share, test_mode, &mut reports, room)
         },
     );
     started.ok()
@@ -119,7 +121,7 @@ pub fn join_all<T: Task + Send + 'static, R: Threads>(
     ensures joined { (runners : List T) (flags : List Bool) (shares : List (Share T))
         (test_mode : Bool) (outcomes : List AnOutcome)
         → AreReadyToJoin runners flags shares test_mode handles.items outcomes
-        → AreOutcomes T.gives test_mode (assigned_from 0 runners flags) (put_each (map vec_items result.items) outcomes) }
+        → AreOutcomes T.gives test_mode (assigned_from 0 runners flags) (put_each (map rows_in result.items) outcomes) }
     ensures len { vec_len result ≡ vec_len handles }
 {
     for handle in handles {
@@ -131,7 +133,7 @@ pub fn join_all<T: Task + Send + 'static, R: Threads>(
 /// Puts the rows that workers returned at their places, and returns the outcomes. A row that has no place there is passed
 /// over.
 pub fn put_joined(joined: Vec<Rows>, mut outcomes: Vec<Outcome>) -> Vec<Outcome>
-    ensures put { result.items ≡ put_each (map vec_items joined.items) outcomes.items }
+    ensures put { result.items ≡ put_each (map rows_in joined.items) outcomes.items }
     ensures len { vec_len result ≡ vec_len outcomes }
 {
     for rows in joined {
@@ -141,11 +143,11 @@ pub fn put_joined(joined: Vec<Rows>, mut outcomes: Vec<Outcome>) -> Vec<Outcome>
 }
 
 // Puts the outcomes at their places. One that has none is passed over.
-fn put_rows(rows: Rows, mut outcomes: Vec<Outcome>) -> Vec<Outcome>
+fn put_rows(mut rows: Rows, mut outcomes: Vec<Outcome>) -> Vec<Outcome>
     ensures put { result.items ≡ put_all rows.items outcomes.items }
     ensures len { vec_len result ≡ vec_len outcomes }
 {
-    for (place, outcome) in rows {
+    while let Some((place, outcome)) = rows.next() {
         if let Some(seat) = outcomes.get_mut(place) {
             *seat = outcome;
         }

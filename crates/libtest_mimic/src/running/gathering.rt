@@ -1,6 +1,7 @@
 //! Gathers the rows of workers.
 ghost use Rattle.std.specs.Prelude.{◌≡◌, ◌-◌, ◌^◌, ◌<◌, ◌≤◌, Bool, IfErr, List, MatchResult, length, map, vec_capacity, vec_len};
 ghost use Rattle.mimic_printer.specs.Sink.{HasFaultLeft, Put, faults_of, shown};
+ghost use Rattle.mimic_pool.specs.Rows.{rows_in};
 ghost use Rattle.mimic_pool.specs.Share.{assigned_from};
 ghost use Rattle.mimic_pool.specs.declared.share.Share.{Share};
 ghost use Rattle.libtest_mimic.specs.Gathering.{IsGathered, IsOfRows, IsReadyFor, Completes, GatheringRefused, RunRunners};
@@ -80,7 +81,7 @@ fn complete(
     requires empty { vec_len room ≡ 0 }
     requires fits { count ≤ vec_capacity room }
     ensures places { desk.new.places ≡ desk.old.places }
-    ensures completed { Completes desk.old (map (λ rows. rows.items) joined.items) desk.new result }
+    ensures completed { Completes desk.old (map rows_in joined.items) desk.new result }
 {
     if desk.has_all(&joined) {
         return Ok(());

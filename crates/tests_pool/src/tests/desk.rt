@@ -140,10 +140,11 @@ const RETURNED_ROWS: [(&[usize], [&[(usize, Plain)]; 2], bool); 8] = [
     (&[2, 0, 1], [&[FIRST], &[]], true),
 ];
 
+// Rows as a worker returns them.
 fn rows_of(alloc: Global, rows: &[(usize, Plain)]) -> Result<Rows, AllocError> {
-    let mut made = Vec::with_capacity(alloc, rows.len())?;
+    let mut made = Rows::with_capacity(alloc, rows.len())?;
     for (place, outcome) in rows {
-        made.push((*place, outcome.outcome(alloc)?))?;
+        made.push_reserved(*place, outcome.outcome(alloc)?);
     }
     Ok(made)
 }
@@ -156,6 +157,29 @@ fn has_all_that_is_returned(rt: HostRuntime) -> Result<(), Fail> {
         let joined = vec![in alloc; rows_of(alloc, returned[0])?, rows_of(alloc, returned[1])?]?;
         assert!(rt; desk.has_all(&joined) == *has_all);
     }
+    Ok(())
+}
+
+// One row of each kind.
+const KINDS: [(usize, Plain); 5] = [
+    (4, Plain::Failed(None)),
+    (2, Plain::Passed),
+    (0, Plain::Measured(3, 1)),
+    (3, Plain::Ignored),
+    (1, Plain::Failed(Some("Woops"))),
+];
+
+#[test]
+fn rows_are_taken_in_their_order(rt: HostRuntime) -> Result<(), Fail> {
+    let mut rows = rows_of(rt.alloc(), &KINDS)?;
+    let mut left = KINDS.len();
+    for (at, row) in &KINDS {
+        assert_eq!(rt; rows.len(), left);
+        let taken = rows.next();
+        assert!(rt; matches!(&taken, Some((place, outcome)) if place == at && row.is(outcome)));
+        left = left.saturating_sub(1);
+    }
+    assert!(rt; rows.len() == 0 && rows.next().is_none());
     Ok(())
 }
 

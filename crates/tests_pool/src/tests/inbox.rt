@@ -144,7 +144,7 @@ fn rows_taken<T: Task + Send + 'static, R: Threads + Wait + Copy + Drop + Send +
     shares: Vec<Share<T>>,
     trials: usize,
     taken: &AtomicU64,
-) -> Result<(Rows, Vec<Rows>), Fail>
+) -> Result<(Vec<(usize, Outcome)>, Vec<Rows>), Fail>
     requires { All (λ share. AllRunners T.can_run share) shares.items }
 {
     let mut inbox = Inbox::new(alloc, trials, shares.len())?;
@@ -187,7 +187,12 @@ fn shares_of(
 }
 
 // Whether a desk has all that the workers returned, once the rows have arrived.
-fn has_all(alloc: Global, rows: Rows, joined: &[Rows], trials: usize) -> Result<bool, AllocError> {
+fn has_all(
+    alloc: Global,
+    rows: Vec<(usize, Outcome)>,
+    joined: &[Rows],
+    trials: usize,
+) -> Result<bool, AllocError> {
     let mut desk = Desk::new(alloc, trials)?;
     for (place, outcome) in rows {
         desk.arrive(place, outcome);

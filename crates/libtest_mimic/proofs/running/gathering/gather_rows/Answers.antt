@@ -1,8 +1,9 @@
-use Rattle.std.proofs.Common.{◌∙◌, ◌<◌, ℕ, ap, arith, length, map, refl, subst, sym, vec_items}
+use Rattle.std.proofs.Common.{◌∙◌, ◌<◌, ℕ, ap, arith, length, map, refl, subst, sym}
 use Rattle.std.specs.Prelude.{All}
 use Rattle.std.proofs.lemmas.List.{length-append, length-map}
 use Rattle.mimic_trial.specs.Places.{places_of}
 use Rattle.mimic_pool.specs.Joined.{put_each}
+use Rattle.mimic_pool.specs.Rows.{rows_in}
 use Rattle.mimic_pool.specs.Share.{assigned_from}
 use Rattle.mimic_printer.specs.Sink.{shown}
 use Rattle.mimic_printer.proofs.Appending.{Put-refl}
@@ -29,7 +30,7 @@ returns-in_err-written-clause-rows g c = λ rs bs shares mode run.
     let written = c.in_err-written.ensures.told before (nothing_told c.args.printer.now c.args.infos.now _ _ c.requires.ready.desk before) in
     on_error c.from_residual-in_err-written.result (Write c.in_err-written.field-0.0) _ _ c.from_residual-in_err-written.ensures.1 (
       places_of c.complete.new.desk.rows,
-      put_each (map vec_items c.join_all-joined.result.items) done.outcomes,
+      put_each (map rows_in c.join_all-joined.result.items) done.outcomes,
       all,
       stopped_told c.args.printer.now c.args.infos.now _ _ _ done _ _ written,
     )
@@ -62,7 +63,7 @@ returns-in_err-write_missing-clause-rows g c = λ rs bs shares mode run.
     let told = ap length c.order-told.ensures ∙ length-map c.write_arrivals-written.new.desk.rows (λ r. r.0) in
     on_error c.from_residual-in_err-write_missing.result (Write c.in_err-write_missing.field-0.0) _ _ c.from_residual-in_err-write_missing.ensures.1 (
       places_of c.complete.new.desk.rows,
-      put_each (map vec_items c.join_all-joined.result.items) done.outcomes,
+      put_each (map rows_in c.join_all-joined.result.items) done.outcomes,
       all,
       stopped_missing c.args.printer.now c.args.infos.now _ _ _ done _ _ _ written _ told c.in_err-write_missing.ensures,
     )
@@ -76,6 +77,6 @@ returns-clause-rows g c = λ rs bs shares mode run.
     let before = shown g.W.Write.contents c.args.sink.now in
     let written = c.in_ok-written.ensures.told before (nothing_told c.args.printer.now c.args.infos.now _ _ c.requires.ready.desk before) in
     let told = ap length c.order-told.ensures ∙ length-map c.write_arrivals-written.new.desk.rows (λ r. r.0) in (
-      record { outcomes = put_each (map vec_items c.join_all-joined.result.items) done.outcomes; gathered = all; rows = done.returned },
+      record { outcomes = put_each (map rows_in c.join_all-joined.result.items) done.outcomes; gathered = all; rows = done.returned },
       put_all c.args.printer.now c.args.infos.now _ _ _ done _ _ _ written _ told c.in_ok-write_missing.ensures,
     )

@@ -1,8 +1,7 @@
-use Rattle.std.proofs.Common.{◌≡◌, ◌∙◌, Global, ap, arith, map, refl, slice_index_or, sym}
-use Rattle.std.specs.Prelude.{vec_items}
-use Rattle.mimic_trial.specs.Places.{Placed}
+use Rattle.std.proofs.Common.{◌≡◌, ◌∙◌, ap, arith, map, refl, slice_index_or, sym}
 use Rattle.std.proofs.lemmas.List.{get_or-map, length-map, take_all}
 use Rattle.std.proofs.lemmas.List.Elements.{All-map, All-more}
+use Rattle.mimic_pool.specs.Rows.{rows_in}
 use Rattle.mimic_pool.proofs.Having.{HaveArrived, all_stand, lie_arrived, missing_none, order_as_long}
 use Rattle.mimic_pool.proofs.desk.Desk.has_all.Goals as goal
 
@@ -17,30 +16,29 @@ returns-then-len-clause-all c = (
 pub loop-rows-preserved : goal.loop-rows-preserved
 loop-rows-preserved c =
     let rows = c.rows-item.result in
-    let lie = c.lie_there.ensures.0 c.if-not-lie_there.false in
-    let came = (lie_arrived c.self.inside c.args.self.now c.deref.result.now c.self.invariant c.self.view_is).0 lie in
-    let here : HaveArrived c.args.self.now (vec_items rows) = rw (← c.deref.ensures.value) came in
-    All-more (λ rows. HaveArrived c.args.self.now (vec_items rows)) c.args.joined.now c.loop-rows.rows-index rows c.loop-rows-test.true c.loop-rows.invariant
+    let lie = c.lie_at.ensures.0 c.if-not-lie_at.false in
+    let here : HaveArrived c.args.self.now (rows_in rows) = (lie_arrived c.self.inside c.args.self.now (rows_in rows) c.self.invariant c.self.view_is).0 lie in
+    All-more (λ rows. HaveArrived c.args.self.now (rows_in rows)) c.args.joined.now c.loop-rows.rows-index rows c.loop-rows-test.true c.loop-rows.invariant
     (rw (← c.rows-item.is) here)
 
-pub returns-then-not-lie_there-clause-all : goal.returns-then-not-lie_there-clause-all
-returns-then-not-lie_there-clause-all c =
+pub returns-then-not-lie_at-clause-all : goal.returns-then-not-lie_at-clause-all
+returns-then-not-lie_at-clause-all c =
     let rows = c.rows-item.result in (
       λ t. absurd (cc),
       λ has.
-          let at : slice_index_or (map vec_items c.args.joined.now) c.loop-rows.rows-index (vec_items rows) ≡ vec_items rows =
-          get_or-map vec_items c.args.joined.now c.loop-rows.rows-index rows (vec_items rows) c.loop-rows-test.true ∙ ap vec_items (sym c.rows-item.is) in
-          let here : HaveArrived c.args.self.now (vec_items rows) =
-          rw at at (has.same c.loop-rows.rows-index (vec_items rows) (omega (arith, c.loop-rows-test.true, length-map c.args.joined.now (vec_items {X = Placed} {Z = Global})))) in
-          let lie = (lie_arrived c.self.inside c.args.self.now c.deref.result.now c.self.invariant c.self.view_is).1 (rw c.deref.ensures.value here) in
-          sym c.if-not-lie_there.true ∙ c.lie_there.ensures.1 lie,
+          let at : slice_index_or (map rows_in c.args.joined.now) c.loop-rows.rows-index (rows_in rows) ≡ rows_in rows =
+          get_or-map rows_in c.args.joined.now c.loop-rows.rows-index rows (rows_in rows) c.loop-rows-test.true ∙ ap rows_in (sym c.rows-item.is) in
+          let here : HaveArrived c.args.self.now (rows_in rows) =
+          rw at at (has.same c.loop-rows.rows-index (rows_in rows) (omega (arith, c.loop-rows-test.true, length-map c.args.joined.now rows_in))) in
+          let lie = (lie_arrived c.self.inside c.args.self.now (rows_in rows) c.self.invariant c.self.view_is).1 here in
+          sym c.if-not-lie_at.true ∙ c.lie_at.ensures.1 lie,
     )
 
 pub returns-clause-all : goal.returns-clause-all
 returns-clause-all c =
     let rows = rw (take_all _ c.args.joined.now c.loop-rows-test.false) at c.loop-rows.invariant in
     let complete = missing_none c.self.inside c.args.self.now c.self.invariant c.self.view_is (omega (arith, c.if-len.false, c.len.ensures, c.len-2.ensures, c.self.inside.order.ok.0)) in
-    (λ t. record { complete = complete; same = All-map (HaveArrived c.args.self.now) vec_items c.args.joined.now rows }, λ has. refl)
+    (λ t. record { complete = complete; same = All-map (HaveArrived c.args.self.now) rows_in c.args.joined.now rows }, λ has. refl)
 
 pub returns-clause-outcomes : goal.returns-clause-outcomes
 returns-clause-outcomes c = λ t. all_stand c.self.inside c.args.self.now _ c.self.invariant c.self.view_is ((returns-clause-all c).0 t)

@@ -2,14 +2,14 @@ use Rattle.std.proofs.Common.{rules, refl}
 use Rattle.std.proofs.lemmas.List.Elements.{All-rest}
 use Rattle.mimic_trial.specs.Places.{Placed}
 use Rattle.mimic_pool.proofs.Working.{answers_done, answers_next, heard_next}
-use Rattle.mimic_pool.proofs.worker.work.Goals as goal
+use Rattle.mimic_pool.proofs.worker.work_into.Goals as goal
 
 pub loop-item-preserved : goal.loop-item-preserved
 loop-item-preserved g c =
     let before = c.loop-item.invariant in
     let left = c.in-Some.ensures in
-    let room = c.loop-item.room.items in
-    let pushed = c.push_reserved.ensures.items in
+    let room = g.O.Room.rows_in c.loop-item.room in
+    let pushed = c.put.ensures.rows in
     let row : Placed = (c.in-Some.item.place, c.run_unless-outcome.result) in
     record {
       runnable = All-rest (λ item. g.T.Task.can_run item.runner) c.in-Some.item c.next.new.self c.loop-item.left left before.runnable;
@@ -22,4 +22,4 @@ loop-item-preserved g c =
     }
 
 pub returns-clause-answers : goal.returns-clause-answers
-returns-clause-answers g c = answers_done g.T.Task.gives c.args.test_mode _ c.loop-item.room.items _ c.in_default.ensures.0 c.loop-item.invariant.answers
+returns-clause-answers g c = answers_done g.T.Task.gives c.args.test_mode _ (g.O.Room.rows_in c.loop-item.room) _ c.in_default.ensures.0 c.loop-item.invariant.answers

@@ -1,0 +1,41 @@
+use Rattle.std.proofs.Common.{◌<◌, ◌≤◌, ◌∙◌, ap, arith, length, refl, sym}
+use Rattle.mimic_pool.specs.Marks.{rows_of, weight_of_all}
+use Rattle.mimic_pool.proofs.Marking.{weight_left}
+use Rattle.mimic_pool.proofs.Returning.{first_left, none_left}
+use Rattle.mimic_pool.proofs.returned.Rows.next.Goals as goal
+
+pub returns-then-self-len : goal.returns-then-self-len
+returns-then-self-len c =
+    let rows = c.self.inside in
+    let high : length rows.places.items ≤ rows.taken = omega (arith, c.if-self-len.true, c.len.ensures, rows.places.ok) in
+    (ap (λ r. r.items) (sym c.self.view_is) ∙ ap (λ left. rows_of left rows.kept.items) (none_left rows.places.items rows.marks.items c.self.invariant.marks rows.taken high), refl)
+
+pub unmarked-outcome-requires-clause-kept : goal.unmarked-outcome-requires-clause-kept
+unmarked-outcome-requires-clause-kept c =
+    let rows = c.self.inside in
+    let inv = c.self.invariant in
+    let low : rows.taken < length rows.places.items = omega (arith, c.if-self-len.false, c.len.ensures, rows.places.ok) in
+    let weight = ap weight_of_all (first_left rows.places.items rows.marks.items inv.marks rows.taken c.index-place.result.now c.index.result.now low c.index-place.ensures c.index.ensures) in
+    omega (arith, weight, inv.kept, rows.kept.ok)
+
+pub invariant_of-self : goal.invariant_of-self
+invariant_of-self c =
+    let rows = c.self.inside in
+    let inv = c.self.invariant in
+    let low : rows.taken < length rows.places.items = omega (arith, c.if-self-len.false, c.len.ensures, rows.places.ok) in
+    let weight = ap weight_of_all (first_left rows.places.items rows.marks.items inv.marks rows.taken c.index-place.result.now c.index.result.now low c.index-place.ensures c.index.ensures) in
+    record {
+      taken = omega (arith, low);
+      marks = inv.marks;
+      marked = inv.marked;
+      kept = rw c.unmarked-outcome.ensures.kept (omega (arith, weight_left c.index.result.now rows.kept.items, weight, inv.kept));
+      marks_room = inv.marks_room;
+      kept_room = omega (arith, inv.kept_room, c.unmarked-outcome.ensures.room);
+    }
+
+pub returns : goal.returns
+returns c =
+    let rows = c.self.inside in
+    let low : rows.taken < length rows.places.items = omega (arith, c.if-self-len.false, c.len.ensures, rows.places.ok) in
+    let is = first_left rows.places.items rows.marks.items c.self.invariant.marks rows.taken c.index-place.result.now c.index.result.now low c.index-place.ensures c.index.ensures in
+    rw (← c.self.view_is, c.unmarked-outcome.ensures.outcome, c.unmarked-outcome.ensures.kept) (ap (λ left. rows_of left rows.kept.items) is)

@@ -1,0 +1,125 @@
+//! The rows that a worker returns.
+ghost use Rattle.std.specs.Prelude.{◌≡◌, ◌++◌, ◌∷◌, [], ◌+◌, ◌≤◌, ◌↔◌, All, IfOk, IsTrue, MatchOption, None, Some, drop, length, slice_index_or};
+ghost use Rattle.std.specs.Option.{option_copied};
+ghost use Rattle.std.specs.VecDeque.{deque_items, deque_len};
+ghost use Rattle.mimic_pool.specs.Marks.{outcome_by, weight_of};
+
+use crate::board::{Mark, marked, unmarked};
+use crate::seats::Seats;
+use mimic_trial::Outcome;
+use std::alloc::{AllocError, Global};
+use std::collections::VecDeque;
+use std::marker::Model;
+
+/// What a worker returns: a place and the outcome there, for each trial of its share. Contracts see the rows that were not
+/// taken, in their order, and how many more there is room for.
+///
+/// A row whose outcome is `Passed` or `Ignored` takes nine bytes.
+#[derive(Drop)]
+pub struct Rows {
+    places: Vec<usize>,
+    marks: Vec<Mark>,
+    // Outcomes that don't fit in a mark, of rows that were not taken, in order.
+    kept: VecDeque<Outcome>,
+    taken: usize,
+}
+
+impl Model for Rows {
+    ghost use Rattle.mimic_pool.specs.Rows.{Returned};
+
+    ghost Value = { Returned };
+
+    ghost use Rattle.mimic_pool.specs.RowMarks.{AreMarked, returned_of};
+
+    ghost view = { returned_of };
+
+    ghost invariant = { AreMarked };
+}
+
+impl Rows {
+    /// Room for so many rows. All of its memory is taken here.
+    pub fn with_capacity(alloc: Global, n: usize) -> Result<Rows, AllocError>
+        ensures empty { IfOk result (λ rows. rows.items ≡ []) }
+        ensures room { IfOk result (λ rows. n ≤ rows.room) }
+    {
+        let kept = VecDeque::with_capacity(alloc, n)?;
+        let marks = Vec::with_capacity(alloc, n)?;
+        let places = Vec::with_capacity(alloc, n)?;
+        Ok(Rows {
+            places,
+            marks,
+            kept,
+            taken: 0,
+        })
+    }
+
+    /// How many rows were not taken.
+    pub fn len(&self) -> usize
+        ensures { result ≡ length self.now.items }
+    {
+        self.places.len() - self.taken
+    }
+
+    /// Adds a row behind the others. There must be room for it.
+    pub fn push_reserved(&mut self, place: usize, outcome: Outcome)
+        requires { 1 ≤ self.old.room }
+        ensures items { self.new.items ≡ self.old.items ++ (place, outcome) ∷ [] }
+        ensures room { self.old.room ≡ self.new.room + 1 }
+    {
+        let mark = marked(outcome, &mut self.kept);
+        self.marks.push_reserved(mark);
+        self.places.push_reserved(place);
+    }
+
+    /// Takes the first row of those that were not taken.
+    pub fn next(&mut self) -> Option<(usize, Outcome)>
+        ensures { MatchOption result
+            ((self.old.items ≡ []) × (self.new ≡ self.old))
+            (λ row. self.old.items ≡ row ∷ self.new.items) }
+    {
+        if self.taken >= self.places.len() {
+            return None;
+        }
+        let place = self.places[self.taken];
+        let outcome = unmarked(self.marks[self.taken], &mut self.kept);
+        self.taken += 1;
+        Some((place, outcome))
+    }
+
+    // Whether each of the rows lies at its place.
+    pub(crate) fn lie_at(&self, seats: &Seats) -> bool
+        ensures { IsTrue result ↔ All (λ row. slice_index_or seats.now row.0 None ≡ Some row.1) self.now.items }
+    {
+        let mut kept = 0;
+        for number in self.taken..self.places.len() {
+            let mark = self.marks[number];
+            if !lies(seats.get(self.places[number]), mark, &self.kept, kept) {
+                return false;
+            }
+            kept += weight(mark);
+        }
+        true
+    }
+}
+
+// Whether the outcome of the mark is what lies there. It is the kept one of this index, if it doesn't fit in the mark.
+fn lies(seat: Option<&Outcome>, mark: Mark, kept: &VecDeque<Outcome>, index: usize) -> bool
+    requires { index + weight_of mark ≤ deque_len kept.now }
+    ensures { IsTrue result ↔ (option_copied seat.entry ≡ Some (outcome_by mark (drop index (deque_items kept.now)))) }
+{
+    match mark {
+        Mark::Passed => matches!(seat, Some(Outcome::Passed)),
+        Mark::Ignored | Mark::Free => matches!(seat, Some(Outcome::Ignored)),
+        Mark::Kept => seat == kept.get(index),
+    }
+}
+
+// How many kept outcomes belong to the mark.
+fn weight(mark: Mark) -> usize
+    ensures { result ≡ weight_of mark }
+{
+    match mark {
+        Mark::Kept => 1,
+        Mark::Free | Mark::Passed | Mark::Ignored => 0,
+    }
+}

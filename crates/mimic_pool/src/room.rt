@@ -1,0 +1,41 @@
+//! Where a worker puts its rows.
+ghost use Rattle.std.specs.Prelude.{◌≡◌, ◌++◌, ◌∷◌, ◌+◌, ◌-◌, ◌≤◌, [], ℕ, List, vec_capacity, vec_len};
+ghost use Rattle.mimic_trial.specs.Places.{Placed};
+
+use crate::returned::Rows;
+use mimic_trial::Outcome;
+
+// What a worker puts its rows into, each a place and the outcome there. No row takes memory.
+pub(crate) trait Room {
+    // The rows, in their order.
+    ghost rows_in: { Self → List Placed };
+
+    // How many more rows there is room for.
+    ghost room_in: { Self → ℕ };
+
+    // Puts a row behind the others.
+    fn put(&mut self, place: usize, outcome: Outcome)
+        requires room { 1 ≤ room_in self.old }
+        ensures rows { rows_in self.new ≡ rows_in self.old ++ (place, outcome) ∷ [] }
+        ensures room { room_in self.old ≡ room_in self.new + 1 };
+}
+
+impl Room for Vec<(usize, Outcome)> {
+    ghost rows_in = { λ rows. rows.items };
+
+    ghost room_in = { λ rows. vec_capacity rows - vec_len rows };
+
+    fn put(&mut self, place: usize, outcome: Outcome) {
+        self.push_reserved((place, outcome));
+    }
+}
+
+impl Room for Rows {
+    ghost rows_in = { λ rows. rows.items };
+
+    ghost room_in = { λ rows. rows.room };
+
+    fn put(&mut self, place: usize, outcome: Outcome) {
+        self.push_reserved(place, outcome);
+    }
+}
