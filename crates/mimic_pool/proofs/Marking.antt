@@ -15,8 +15,8 @@ use Rattle.mimic_trial.specs.Places.{places_of}
 use Rattle.mimic_pool.specs.Board.{HasHistory}
 use Rattle.mimic_pool.specs.declared.board.Board.TheInside.{Inside}
 use Rattle.mimic_pool.specs.Marks.{IsBoard, is_marked, kept_after, kept_of, mark_of, marked_at, outcome_by, posted, rows_of, weight_of, weight_of_all}
-use Rattle.mimic_pool.specs.declared.board.Mark.{Mark}
-use Rattle.mimic_pool.specs.declared.board.Mark.TheVariants.{Free, Passed, Ignored, Kept}
+use Rattle.mimic_pool.specs.declared.marks.Mark.{Mark}
+use Rattle.mimic_pool.specs.declared.marks.Mark.TheVariants.{Free, Passed, Ignored, Kept}
 use Rattle.mimic_pool.proofs.Seating.{eqb_equiv, or_false, or_true}
 
 -- ---- an outcome and its mark
@@ -39,7 +39,7 @@ marked_by (outcome.Failed failed) = refl
 marked_by outcome.Ignored = refl
 marked_by (outcome.Measured measured) = refl
 
-weight_one : (m : Mark) → weight_of m ≤ 1
+pub weight_one : (m : Mark) → weight_of m ≤ 1
 weight_one Free = omega arith
 weight_one Passed = omega arith
 weight_one Ignored = omega arith

@@ -6,15 +6,15 @@ use Rattle.std.specs.Option.{option_copied, option_eq}
 use Rattle.std.proofs.Math.Seq.{drop-cons}
 use Rattle.std.proofs.lemmas.List.{drop-append-le, drop-drop, length-drop, nil_from_length}
 use Rattle.std.proofs.lemmas.List.Elements.{All-cons, All-head, All-push, All-tail}
-use Rattle.std.proofs.lemmas.Option.{slice_get-get_or}
 use Rattle.std.proofs.lemmas.Slice.Zip.{get_or-zip}
 use Rattle.mimic_trial.specs.declared.outcome.Outcome.{Outcome}
 use Rattle.mimic_trial.specs.Places.{Placed}
 use Rattle.mimic_trial.specs.Same.{outcome_decides, same_outcome}
 use Rattle.mimic_pool.specs.Marks.{is_marked, kept_after, kept_of, mark_of, outcome_by, rows_of, weight_of, weight_of_all}
-use Rattle.mimic_pool.specs.declared.board.Mark.{Mark}
-use Rattle.mimic_pool.specs.declared.board.Mark.TheVariants.{Kept}
+use Rattle.mimic_pool.specs.declared.marks.Mark.{Mark}
+use Rattle.mimic_pool.specs.declared.marks.Mark.TheVariants.{Kept}
 use Rattle.mimic_pool.proofs.Having.{AllLie}
+use Rattle.mimic_pool.proofs.Keeping.{kept_got}
 use Rattle.mimic_pool.proofs.Marking.{marked_by, rows_append, told_again, weight_append, weight_few, weight_kept}
 
 -- ---- one row more
@@ -100,13 +100,9 @@ same_found (Some seat) (Some got) o is =
     let at : got.now ≡ o = cc in
     (λ e. ap Some ((outcome_decides seat.now got.now).0 e ∙ at), λ e. let here : seat.now ≡ o = cc in (outcome_decides seat.now got.now).1 (here ∙ sym at))
 
-got_at : (got : Option (Bor Outcome)) (kept : List Outcome) (i : ℕ) → i < length kept → IsSome got → IfSome got (λ x. x.now ≡ slice_index_or kept i x.now) → option_copied got ≡ slice_get kept i
-got_at None kept i low some is = absurd (cc)
-got_at (Some got) kept i low some is = ap Some is ∙ sym (slice_get-get_or kept i got.now low)
-
-pub same_kept : (seat got : Option (Bor Outcome)) (kept : List Outcome) (i : ℕ) → i < length kept → IsSome got → IfSome got (λ x. x.now ≡ slice_index_or kept i x.now)
+pub same_kept : (seat got : Option (Bor Outcome)) (kept : List Outcome) (i : ℕ) → i < length kept → (IsSome got → i < length kept) → (i < length kept → IsSome got) → IfSome got (λ x. x.now ≡ slice_index_or kept i x.now)
     → (option_eq (λ x y. same_outcome x.now y.now) seat got ≡ true) ↔ (option_copied seat ≡ Some (outcome_by Kept (drop i kept)))
-same_kept seat got kept i low some is = same_found seat got (outcome_by Kept (drop i kept)) (got_at got kept i low some is ∙ kept_found kept i low)
+same_kept seat got kept i low within some is = same_found seat got (outcome_by Kept (drop i kept)) (kept_got got kept i within some is ∙ kept_found kept i low)
 
 module _ (seats : List (Option Outcome)) where
   pub lie_none : (ms : List (ℕ × Mark)) (kept : List Outcome) → ms ≡ [] → AllLie seats (rows_of ms kept)

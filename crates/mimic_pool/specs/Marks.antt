@@ -7,8 +7,8 @@ use Rattle.mimic_trial.specs.declared.outcome.Outcome.TheVariants as outcome
 use Rattle.mimic_trial.specs.Places.{Placed}
 use Rattle.mimic_pool.specs.Board.{Posted}
 use Rattle.mimic_pool.specs.declared.board.Board.TheInside.{Inside}
-use Rattle.mimic_pool.specs.declared.board.Mark.{Mark}
-use Rattle.mimic_pool.specs.declared.board.Mark.TheVariants.{Free, Passed, Ignored, Kept}
+use Rattle.mimic_pool.specs.declared.marks.Mark.{Mark}
+use Rattle.mimic_pool.specs.declared.marks.Mark.TheVariants.{Free, Passed, Ignored, Kept}
 
 -- whether a report was accepted at the place of the mark
 abbrev pub is_marked : Mark → Bool

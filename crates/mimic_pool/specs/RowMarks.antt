@@ -4,7 +4,7 @@ use Rattle.std.specs.List.{zip}
 use Rattle.std.specs.VecDeque.{deque_capacity, deque_items}
 use Rattle.mimic_pool.specs.Marks.{is_marked, rows_of, weight_of_all}
 use Rattle.mimic_pool.specs.Rows.{Returned}
-use Rattle.mimic_pool.specs.declared.board.Mark.{Mark}
+use Rattle.mimic_pool.specs.declared.marks.Mark.{Mark}
 use Rattle.mimic_pool.specs.declared.returned.Rows.TheInside.{Inside}
 
 -- the places that are left, in their order, each with its mark

@@ -1,28 +1,14 @@
 //! The board that workers report rows to.
 ghost use Rattle.std.specs.Prelude.{◌≡◌, ◌≢◌, ◌++◌, ◌∷◌, [], ◌↔◌, ◌<◌, ◌≤◌, IfErr, IfNone, IfOk, IfSome, IsOk, IsTrue, OnOk, List, slice_get};
-ghost use Rattle.std.specs.VecDeque.{deque_capacity, deque_items, deque_len};
 ghost use Rattle.mimic_trial.specs.Places.{Placed};
 ghost use Rattle.mimic_pool.specs.Arrivals.{first_arrivals};
 ghost use Rattle.mimic_pool.specs.Board.{Agrees, HandsOnFirstReports, HasHistory, accepts, after_close, after_report, after_take, empty_board};
-ghost use Rattle.mimic_pool.specs.Marks.{is_marked, kept_after, kept_of, mark_of, outcome_by, weight_of};
 
+use crate::marks::{Mark, marked, unmarked};
 use mimic_trial::Outcome;
 use std::alloc::{AllocError, Global};
 use std::collections::VecDeque;
 use std::marker::Model;
-
-// What is kept for a place: most outcomes are known by the mark alone.
-#[derive(Clone, Copy)]
-pub(crate) enum Mark {
-    // Nothing was reported.
-    Free,
-    // The outcome is `Passed`.
-    Passed,
-    // The outcome is `Ignored`.
-    Ignored,
-    // The outcome lies with the kept ones, until it is taken.
-    Kept,
-}
 
 /// Rows that workers reported, each a place and the outcome there, and how many of the workers have closed. Contracts see
 /// both, and which rows wait to be taken.
@@ -156,43 +142,5 @@ impl Board {
         ensures history { HasHistory self.now }
     {
         self.taken
-    }
-}
-
-// The mark of the outcome, which is kept if it doesn't fit in a mark.
-pub(crate) fn marked(outcome: Outcome, kept: &mut VecDeque<Outcome>) -> Mark
-    requires { deque_len kept.old < deque_capacity kept.old }
-    ensures mark { result ≡ mark_of outcome }
-    ensures kept { deque_items kept.new ≡ deque_items kept.old ++ kept_of outcome }
-    ensures room { deque_capacity kept.new ≡ deque_capacity kept.old }
-{
-    match outcome {
-        Outcome::Passed => Mark::Passed,
-        Outcome::Ignored => Mark::Ignored,
-        Outcome::Failed(_) | Outcome::Measured(_) => {
-            kept.push_back_reserved(outcome);
-            Mark::Kept
-        }
-    }
-}
-
-// The outcome of the mark, which is taken out of the kept ones if it lies there.
-pub(crate) fn unmarked(mark: Mark, kept: &mut VecDeque<Outcome>) -> Outcome
-    requires marked { IsTrue (is_marked mark) }
-    requires kept { weight_of mark ≤ deque_len kept.old }
-    ensures outcome { result ≡ outcome_by mark (deque_items kept.old) }
-    ensures kept { deque_items kept.new ≡ kept_after mark (deque_items kept.old) }
-    ensures room { deque_capacity kept.new ≡ deque_capacity kept.old }
-{
-    match mark {
-        Mark::Passed => Outcome::Passed,
-        Mark::Ignored => Outcome::Ignored,
-        Mark::Kept => {
-            let Some(outcome) = kept.pop_front() else {
-                unreachable!()
-            };
-            outcome
-        }
-        Mark::Free => unreachable!(),
     }
 }

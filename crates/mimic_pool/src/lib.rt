@@ -19,6 +19,7 @@ mod board;
 mod board_reports;
 mod desk;
 mod inbox;
+mod marks;
 mod memory_reports;
 mod remaining;
 mod reports;

@@ -4,7 +4,7 @@ ghost use Rattle.std.specs.Option.{option_copied};
 ghost use Rattle.std.specs.VecDeque.{deque_items, deque_len};
 ghost use Rattle.mimic_pool.specs.Marks.{outcome_by, weight_of};
 
-use crate::board::{Mark, marked, unmarked};
+use crate::marks::{Mark, marked, unmarked, weight};
 use crate::seats::Seats;
 use mimic_trial::Outcome;
 use std::alloc::{AllocError, Global};
@@ -111,15 +111,5 @@ fn lies(seat: Option<&Outcome>, mark: Mark, kept: &VecDeque<Outcome>, index: usi
         Mark::Passed => matches!(seat, Some(Outcome::Passed)),
         Mark::Ignored | Mark::Free => matches!(seat, Some(Outcome::Ignored)),
         Mark::Kept => seat == kept.get(index),
-    }
-}
-
-// How many kept outcomes belong to the mark.
-fn weight(mark: Mark) -> usize
-    ensures { result ≡ weight_of mark }
-{
-    match mark {
-        Mark::Kept => 1,
-        Mark::Free | Mark::Passed | Mark::Ignored => 0,
     }
 }

@@ -1,29 +1,24 @@
 //! What lies at the places of a desk.
-ghost use Rattle.std.specs.Prelude.{◌≡◌, ◌++◌, ◌<◌, ◌≤◌, IfOk, None, Some, false, is_some, length, slice_index_or, slice_set, vec_capacity, vec_len, ℕ};
+ghost use Rattle.std.specs.Prelude.{◌≡◌, ◌<◌, IfOk, None, Some, false, is_some, length, slice_index_or, slice_set, vec_capacity, ℕ};
 ghost use Rattle.std.specs.Option.{option_copied};
-ghost use Rattle.mimic_pool.specs.Kept.{end_of, outcome_in, weight_of};
-ghost use Rattle.mimic_pool.specs.Marks.{kept_of};
+ghost use Rattle.mimic_pool.specs.Kept.{index_set, indexes_after};
+ghost use Rattle.mimic_pool.specs.declared.marks.Mark.TheVariants.{Free};
 
+use crate::marks::{Mark, marked};
 use mimic_trial::Outcome;
 use std::alloc::{AllocError, Global};
+use std::collections::VecDeque;
 use std::marker::Model;
-
-// What lies at a place: most outcomes are known by the seat alone.
-#[derive(Clone, Copy)]
-pub(crate) enum Seat {
-    Free,
-    Passed,
-    Ignored,
-    // The outcome lies with the kept ones, at this index.
-    Kept(usize),
-}
 
 // The outcomes that lie at places, at each of them one or none.
 #[derive(Drop)]
 pub(crate) struct Seats {
-    seats: Vec<Seat>,
-    // The outcomes that don't fit in a seat.
-    kept: Vec<Outcome>,
+    marks: Vec<Mark>,
+    // For each place whose outcome is kept: where among the kept ones. It goes no further than the last such place, so that no
+    // memory is touched for those that are known by their marks.
+    indexes: Vec<usize>,
+    // The outcomes that don't fit in a mark.
+    kept: VecDeque<Outcome>,
     // Those that do, to be lent.
     passed: Outcome,
     ignored: Outcome,
@@ -48,13 +43,15 @@ impl Seats {
         ensures free { IfOk result
             (λ seats. (place : ℕ) → is_some (slice_index_or seats place None) ≡ false) }
     {
-        let mut seats = Vec::with_capacity(alloc, n)?;
-        let kept = Vec::with_capacity(alloc, n)?;
+        let mut marks = Vec::with_capacity(alloc, n)?;
+        let indexes = Vec::with_capacity(alloc, n)?;
+        let kept = VecDeque::with_capacity(alloc, n)?;
         for _place in 0..n {
-            seats.push(Seat::Free)?;
+            marks.push(Mark::Free)?;
         }
         Ok(Seats {
-            seats,
+            marks,
+            indexes,
             kept,
             passed: Outcome::Passed,
             ignored: Outcome::Ignored,
@@ -65,18 +62,18 @@ impl Seats {
     pub(crate) fn len(&self) -> usize
         ensures { result ≡ length self.now }
     {
-        self.seats.len()
+        self.marks.len()
     }
 
     // What lies at the place.
     pub(crate) fn get(&self, place: usize) -> Option<&Outcome>
         ensures { option_copied result ≡ slice_index_or self.now place None }
     {
-        match self.seats.get(place) {
-            None | Some(Seat::Free) => None,
-            Some(Seat::Passed) => Some(&self.passed),
-            Some(Seat::Ignored) => Some(&self.ignored),
-            Some(Seat::Kept(index)) => self.kept.get(*index),
+        match mark_at(&self.marks, place) {
+            Mark::Free => None,
+            Mark::Passed => Some(&self.passed),
+            Mark::Ignored => Some(&self.ignored),
+            Mark::Kept => self.kept.get(index_at(&self.indexes, place)),
         }
     }
 
@@ -96,26 +93,52 @@ impl Seats {
         requires free { is_some (slice_index_or self.old place None) ≡ false }
         ensures { self.new ≡ slice_set self.old place (Some outcome) }
     {
-        self.seats[place] = seat_for(outcome, &mut self.kept);
+        let index = self.kept.len();
+        let mark = marked(outcome, &mut self.kept);
+        note_index(&mut self.indexes, mark, place, index);
+        self.marks[place] = mark;
     }
 }
 
-// The seat of the outcome, which is kept if it doesn't fit in a seat.
-fn seat_for(outcome: Outcome, kept: &mut Vec<Outcome>) -> Seat
-    requires { vec_len kept.old < vec_capacity kept.old }
-    ensures seat { outcome_in kept.new.items result ≡ Some outcome }
-    ensures kept { kept.new.items ≡ kept.old.items ++ kept_of outcome }
-    ensures weight { weight_of result ≡ length (kept_of outcome) }
-    ensures end { end_of result ≤ vec_len kept.new }
-    ensures room { vec_capacity kept.new ≡ vec_capacity kept.old }
+// The mark of the place.
+fn mark_at(marks: &[Mark], place: usize) -> Mark
+    ensures { result ≡ slice_index_or marks.now place Free }
 {
-    match outcome {
-        Outcome::Passed => Seat::Passed,
-        Outcome::Ignored => Seat::Ignored,
-        Outcome::Failed(_) | Outcome::Measured(_) => {
-            let index = kept.len();
-            kept.push_reserved(outcome);
-            Seat::Kept(index)
-        }
+    match marks.get(place) {
+        Some(mark) => *mark,
+        None => Mark::Free,
     }
+}
+
+// The index of the place, and 0 if none was written.
+fn index_at(indexes: &[usize], place: usize) -> usize
+    ensures { result ≡ slice_index_or indexes.now place 0 }
+{
+    match indexes.get(place) {
+        Some(index) => *index,
+        None => 0,
+    }
+}
+
+// Writes the index of the place down, if its mark asks for one.
+fn note_index(indexes: &mut Vec<usize>, mark: Mark, place: usize, index: usize)
+    requires { place < vec_capacity indexes.old }
+    ensures indexes { indexes.new.items ≡ indexes_after mark indexes.old.items place index }
+    ensures room { vec_capacity indexes.new ≡ vec_capacity indexes.old }
+{
+    if let Mark::Kept = mark {
+        set_index(indexes, place, index);
+    }
+}
+
+// Writes the index of the place down, and 0 for those before it that have none yet.
+fn set_index(indexes: &mut Vec<usize>, place: usize, index: usize)
+    requires { place < vec_capacity indexes.old }
+    ensures indexes { indexes.new.items ≡ index_set indexes.old.items place index }
+    ensures room { vec_capacity indexes.new ≡ vec_capacity indexes.old }
+{
+    while indexes.len() <= place {
+        indexes.push_reserved(0);
+    }
+    indexes[place] = index;
 }

@@ -1,5 +1,5 @@
 use Rattle.std.proofs.Common.{◌≡◌, ℕ, vec_len, slice_index_or}
-use Rattle.mimic_pool.specs.declared.board.Mark.TheVariants.{Free}
+use Rattle.mimic_pool.specs.declared.marks.Mark.TheVariants.{Free}
 use Rattle.mimic_pool.proofs.board.Board.new.Given as goal
 
 abbrev pub invariant-loop-place : goal.invariant-loop-place
