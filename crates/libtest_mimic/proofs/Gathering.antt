@@ -1,5 +1,5 @@
 -- What workers told and answered: the title, the rows that were told, and then those that were missing.
-use Rattle.std.proofs.Common.{◌≡◌, ◌∙◌, ℕ, ◌+◌, ◌%◌, ◌==◌, ◌≤◌, ◌<◌, Bool, true, false, cond, inr, List, [], ◌∷◌, ◌++◌, Option, None, Some, Result, Ok, Err, length, map, drop, refl, sym, ap, subst, arith}
+use Rattle.std.proofs.Common.{◌≡◌, ◌∙◌, ℕ, ◌+◌, ◌%◌, ◌==◌, ◌≤◌, ◌<◌, Bool, true, false, cond, inr, List, [], ◌∷◌, ◌++◌, Option, None, Some, Result, Ok, Err, length, map, drop, refl, sym, ap, subst, arith, take}
 use Rattle.std.specs.List.{range_with_len}
 use Rattle.std.specs.List.Sorted.{IsPermutation}
 use Rattle.std.specs.Prelude.{All, IfErr, IsErrAnd, MatchResult, slice_get}
@@ -12,9 +12,10 @@ use Rattle.mimic_trial.specs.Places.{Placed, placed_at, placed_if, places_of}
 use Rattle.mimic_pool.specs.declared.share.Assigned.{Assigned}
 use Rattle.mimic_pool.specs.declared.share.Share.{Share}
 use Rattle.mimic_pool.specs.Arrivals.{Arrived, missing_of}
-use Rattle.mimic_pool.specs.Joined.{AreOutcomes, AreReadyToJoin, job_of, jobs_of, put_each}
-use Rattle.mimic_pool.specs.Share.{AllRunners, IsDealt, assigned_from, share_of}
+use Rattle.mimic_pool.specs.Joined.{AreOutcomes, AreReadyToJoin, job_of, jobs_of, put_each, shares_of}
+use Rattle.mimic_pool.specs.Share.{AllRunners, IsDealt, assigned_from, items_of, share_of}
 use Rattle.mimic_pool.specs.declared.start.AnswersShare.{AnswersShare}
+use Rattle.mimic_pool.specs.declared.start.Start.{Start}
 use Rattle.std.specs.declared.thread.PromisedHandle.{PromisedHandle}
 use Rattle.mimic_trial.specs.Promise.{Gives}
 use Rattle.mimic_printer.specs.declared.Printer.{Printer}
@@ -29,7 +30,7 @@ use Rattle.libtest_mimic.specs.declared.running.RunError.TheVariants.{OutOfMemor
 use Rattle.libtest_mimic.specs.Gathering.{Gathered, GatheringRefused, IsCompleted, IsDifference, IsGathered, IsOfRows, rows_text_of}
 use Rattle.libtest_mimic.specs.Steps.{RowsRefused, titled_told, told_text}
 use Rattle.libtest_mimic.proofs.Arranged.{length_assigned}
-use Rattle.std.proofs.lemmas.List.{map-append}
+use Rattle.std.proofs.lemmas.List.{length-map, length-take, map-append}
 use Rattle.libtest_mimic.proofs.Told.{count_rows_at, rows_joined}
 
 -- an answer that is this error
@@ -215,3 +216,15 @@ written_before (Err (Write fault)) P h = tt
 written_before (Err ZeroThreads) P h = absurd h
 written_before (Err Spawn) P h = absurd h
 written_before (Err (Arrival place)) P h = tt
+
+-- ---- as many workers as there are shares
+
+module _ {R T : Type 0} (handles : List (PromisedHandle T (AnswersShare R))) (mode : Bool) (starts : List (Start R)) where
+  jobs_count : length (jobs_of mode (shares_of starts)) ≡ length starts
+  jobs_count = length-map (shares_of starts) (λ share. (mode, items_of share)) ∙ length-map starts (λ start. start.share)
+
+  pub all_started : map job_of handles ≡ jobs_of mode (shares_of starts) → length handles ≡ length starts
+  all_started is = sym (length-map handles job_of) ∙ (ap length is ∙ jobs_count)
+
+  pub few_started : (n : ℕ) → map job_of handles ≡ take n (jobs_of mode (shares_of starts)) → length handles ≤ length starts
+  few_started n is = omega (arith, length-map handles job_of, ap length is, length-take n (jobs_of mode (shares_of starts)), jobs_count)

@@ -1,14 +1,32 @@
-use Rattle.std.proofs.Common.{◌∙◌, ℕ, List, arith, ap, refl, subst, sym}
+use Rattle.std.proofs.Common.{◌∙◌, ℕ, List, arith, ap, refl, rules, subst, sym}
 use Rattle.std.specs.Prelude.{All}
 use Rattle.mimic_pool.specs.declared.share.Share.{Share}
 use Rattle.mimic_pool.specs.Joined.{jobs_of}
 use Rattle.mimic_pool.specs.Share.{AllRunners, IsDealt, assigned_from}
-use Rattle.libtest_mimic.proofs.Gathering.{after_title, match_more, titled_all, written_before}
+use Rattle.libtest_mimic.proofs.Gathering.{after_title, all_started, few_started, match_more, titled_all, written_before}
 use Rattle.libtest_mimic.proofs.running.in_workers.write_rows.Goals as goal
 
 pub start_all-requires-clause-runnable : goal.start_all-requires-clause-runnable
 start_all-requires-clause-runnable g c κs within =
     subst (λ (l : List (Share _)). All (λ share. AllRunners g.R.Task.can_run share) l) (sym c.in_ok-starts.ensures.shares) c.requires.runnable
+
+pub join_all-requires-clause-fits : goal.join_all-requires-clause-fits
+join_all-requires-clause-fits g c κs within =
+    let starts = c.in_ok-starts.starts in
+    let few = few_started c.in-Err.started.items c.args.test_mode starts.items _ c.in-Err.ensures in
+    omega (arith, few, c.in_ok-joined.ensures.capacity, c.len-3.ensures, c.in-Err.started.ok, starts.ok)
+
+pub gather_rows-requires-clause-ready : goal.gather_rows-requires-clause-ready
+gather_rows-requires-clause-ready g c κs within =
+    let starts = c.in_ok-starts.starts in
+    let all = all_started c.in-Ok.handles.items c.args.test_mode starts.items c.in-Ok.ensures in
+    record {
+      desk = search rules;
+      empty = search rules;
+      fits = search rules;
+      none_joined = search rules;
+      fits_joined = omega (arith, all, c.in_ok-joined.ensures.capacity, c.len-3.ensures, c.in-Ok.handles.ok, starts.ok);
+    }
 
 pub returns-clause-rows : goal.returns-clause-rows
 returns-clause-rows g c = λ rs bs runners flags dealt.
