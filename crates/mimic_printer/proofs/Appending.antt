@@ -102,30 +102,6 @@ module _ {X : Type 0} (f : X → List ℕ) where
       let P : List ℕ → Type 0 = λ l. Stopped a c l in
       subst P (sym split) (Put-Stopped (flat_map f (take i xs)) _ p (Stopped-more (f (get_or xs i d)) (flat_map f (drop (suc i) xs)) q))
 
-  halves : (xs : List X) (k : ℕ) → flat_map f xs ≡ flat_map f (take k xs) ++ flat_map f (take (length xs - k) (drop k xs))
-  halves xs k =
-      ap (flat_map f) (sym (take-append-drop k xs)) ∙ flat_map-append f (take k xs) (drop k xs)
-      ∙ ap (λ l. flat_map f (take k xs) ++ flat_map f l) (sym (take_all (length xs - k) (drop k xs) (omega (arith, length-drop k xs))))
-
-  -- the texts of the first elements, and then of all others
-  pub Put-halves : {a b c : Shown} (xs : List X) (k : ℕ) (t : List ℕ) → t ≡ flat_map f (take k xs) → Put a b t → Put b c (flat_map f (take (length xs - k) (drop k xs))) → Put a c (flat_map f xs)
-  Put-halves {a} {b} {c} xs k t e p q =
-      let P : List ℕ → Type 0 = λ l. Put a c l in
-      let Q : List ℕ → Type 0 = λ l. Put a b l in
-      subst P (sym (halves xs k)) (Put-trans _ _ (subst Q e p) q)
-
-  -- a fault in the first, or in the others
-  pub Stopped-halves : {a b c : Shown} (xs : List X) (k : ℕ) (t : List ℕ) → t ≡ flat_map f (take k xs) → Put a b t → Stopped b c (flat_map f (take (length xs - k) (drop k xs))) → Stopped a c (flat_map f xs)
-  Stopped-halves {a} {b} {c} xs k t e p q =
-      let P : List ℕ → Type 0 = λ l. Stopped a c l in
-      let Q : List ℕ → Type 0 = λ l. Put a b l in
-      subst P (sym (halves xs k)) (Put-Stopped _ _ (subst Q e p) q)
-
-  pub Stopped-first : {a b : Shown} (xs : List X) (k : ℕ) (t : List ℕ) → t ≡ flat_map f (take k xs) → Stopped a b t → Stopped a b (flat_map f xs)
-  Stopped-first {a} {b} xs k t e p =
-      let P : List ℕ → Type 0 = λ l. Stopped a b l in
-      subst P (sym (halves xs k)) (Stopped-more _ _ (subst P e p))
-
 -- a call that stopped returned a fault
 pub Puts-stopped : {E T : Type 0} {a b : Shown} (t : List ℕ) (r : Result T E) → IsErr r → Stopped a b t → Writes a b t r
 Puts-stopped {a} {b} t r e s = MatchResult-from_err r (λ _. Put a b t) (λ _. Stopped a b t) e (λ _. s)

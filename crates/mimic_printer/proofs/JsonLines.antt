@@ -1,5 +1,5 @@
 -- Each line of a report in JSON ends once, at its end, and how many lines a report has.
-use Rattle.std.proofs.Common.{◌≡◌, ◌≢◌, ℕ, ◌+◌, ◌*◌, ◌<◌, ◌^◌, Bool, true, false, cond, eqb, ltb, not, ◌&&◌, List, [], ◌∷◌, ◌++◌, None, Some, length, map, codes, decimal, refl, sym, ap, ap₂, subst, ◌∙◌, append_assoc, arith, inl, inr}
+use Rattle.std.proofs.Common.{◌≡◌, ℕ, ◌+◌, ◌*◌, ◌<◌, ◌^◌, Bool, true, false, cond, eqb, ltb, not, ◌&&◌, List, [], ◌∷◌, ◌++◌, None, Some, length, map, codes, decimal, refl, sym, ap, ap₂, subst, ◌∙◌, append_assoc, arith, inl, inr}
 use Rattle.std.specs.List.{concat, flat_map, AllByRecursion}
 use Rattle.std.specs.Str.Parse.{AllDigits}
 use Rattle.std.proofs.lemmas.Bool.{cases_lt, ne_eqb}
@@ -89,11 +89,6 @@ kind_no_end [] = tt
 kind_no_end (b ∷ kind) =
     no_end-append kind_key (escaped (b ∷ kind) ++ codes "\"") (by_test kind_key refl)
     (no_end-append (escaped (b ∷ kind)) (codes "\"") (escaped_no_end (b ∷ kind)) (by_test (codes "\"") refl))
-
--- the field of a kind that isn't empty, and what follows
-pub kind_then : (kind rest : List ℕ) → kind ≢ [] → kind_field kind ++ rest ≡ kind_key ++ (escaped kind ++ 34 ∷ rest)
-kind_then [] rest some = absurd (some refl)
-kind_then (b ∷ kind) rest some = ap (λ (x : List ℕ). kind_key ++ x) (append_assoc (escaped (b ∷ kind)) (codes "\"") rest)
 
 trial_line : (front : List ℕ) (label : Label) (fields : List (List ℕ)) → HasNoEnd front → AllByRecursion HasNoEnd fields → IsLine (json_trial front label fields)
 trial_line front label fields clean all =

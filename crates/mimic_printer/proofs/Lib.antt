@@ -4,5 +4,6 @@ pub mod Escaping
 pub mod FailedRows
 pub mod JsonLines
 pub mod JsonReports
+pub mod Labels
 pub mod Listing
 pub mod Measured

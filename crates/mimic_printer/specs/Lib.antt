@@ -1,8 +1,9 @@
-pub mod Sink
-pub mod Row
-pub mod Widths
-pub mod Json
-pub mod Report
-pub mod List
 pub mod Failures
+pub mod Json
+pub mod Lines
+pub mod List
 pub mod Piece
+pub mod Report
+pub mod Row
+pub mod Sink
+pub mod Widths

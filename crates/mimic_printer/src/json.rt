@@ -1,7 +1,8 @@
 //! Writes the lines of a report in JSON, of trials that need no `TestInfo`. With a fault a beginning of a line was written.
-ghost use Rattle.std.specs.Prelude.{◌≡◌, ◌∷◌, [], Some, codes, drop, false, take};
+ghost use Rattle.std.specs.Prelude.{◌≡◌, ◌∷◌, ◌++◌, [], Some, codes, drop, false, take};
 ghost use Rattle.std.specs.List.{concat};
 ghost use Rattle.mimic_printer.specs.Json.{json_announcement, json_outcome, json_summary, json_title, json_verdict, kind_field, outcome_front};
+ghost use Rattle.mimic_printer.specs.Lines.{announced_before, json_lines};
 ghost use Rattle.mimic_printer.specs.Sink.{HasFaultLeft, Puts};
 ghost use Rattle.mimic_text.specs.Escape.{escaped};
 ghost use Rattle.mimic_trial.specs.declared.outcome.Outcome.TheVariants.{Failed, Measured};
@@ -11,23 +12,25 @@ use crate::sink::{Sink, WriteFault};
 use mimic_trial::{Conclusion, Measurement, Outcome};
 use std::io::Write;
 
-// Writes the line of a trial: its front up to the name, the name, the kind, and its end, which begins with the quote after
-// the name or the kind. Most trials have no kind, and each piece takes its time.
+// Writes the line of an outcome, and before it the line that announces its trial if that was not written: then no piece ends a line
+// but the last, so that both lines go out at once.
 macro_rules! put_trial {
-    ($sink:expr, $front:expr, $name:expr, $kind:expr, $($end:expr),+) => {
-        if $kind.is_empty() {
-            put_pieces($sink, &[Piece::Text($front), Piece::Escaped($name), $($end),+])
-        } else {
+    ($sink:expr, $both:expr, $type:literal, $name:expr, $kind:expr, $($end:expr),+) => {{
+        let label = Piece::Label { name: $name, kind: $kind };
+        if $both {
             let pieces = [
-                Piece::Text($front),
-                Piece::Escaped($name),
-                Piece::Text("\", \"kind\": \""),
-                Piece::Escaped($kind),
+                Piece::Text("{ \"type\": \"test\", \"event\": \"started\", \"name\": \""),
+                label,
+                Piece::Text(concat!("\" }\n{ \"type\": \"", $type, "\", \"name\": \"")),
+                label,
                 $($end),+
             ];
             put_pieces($sink, &pieces)
+        } else {
+            let front = concat!("{ \"type\": \"", $type, "\", \"name\": \"");
+            put_pieces($sink, &[Piece::Text(front), label, $($end),+])
         }
-    };
+    }};
 }
 
 /// Writes the line that begins a report: how many trials it shows.
@@ -45,7 +48,6 @@ pub fn put_title<W: Write>(sink: &mut Sink<W>, num_tests: u64) -> Result<(), Wri
 }
 
 /// Writes the line that announces a trial, with its kind if that isn't empty.
-#[tactic(auto, unfolding(crate::specs::Json::json_announcement))]
 pub fn put_announcement<'a, W: Write>(
     sink: &mut Sink<W>,
     name: &'a str,
@@ -55,8 +57,12 @@ pub fn put_announcement<'a, W: Write>(
     ensures { Puts W.contents sink.old sink.new
         (json_announcement (record { kind = kind.now; name = name.now })) result }
 {
-    let front = "{ \"type\": \"test\", \"event\": \"started\", \"name\": \"";
-    put_line(sink, front, name, kind, "\" }\n")
+    let pieces = [
+        Piece::Text("{ \"type\": \"test\", \"event\": \"started\", \"name\": \""),
+        Piece::Label { name, kind },
+        Piece::Text("\" }\n"),
+    ];
+    put_pieces(sink, &pieces)
 }
 
 /// Writes the line of a trial's outcome, with its kind if that isn't empty.
@@ -70,20 +76,52 @@ pub fn put_outcome<'a, W: Write>(
     ensures { Puts W.contents sink.old sink.new
         (json_outcome (record { kind = kind.now; name = name.now }) outcome.now) result }
 {
+    put_lines(sink, false, name, kind, outcome)
+}
+
+/// Writes both lines of a trial that has ended: the one that announces it, and the one of its outcome. No piece ends a line but the last.
+#[inline(never)]
+pub fn put_row<'a, W: Write>(
+    sink: &mut Sink<W>,
+    name: &'a str,
+    kind: &'a str,
+    outcome: &'a Outcome,
+) -> Result<(), WriteFault>
+    requires { HasFaultLeft sink.old }
+    ensures { Puts W.contents sink.old sink.new
+        (json_announcement (record { kind = kind.now; name = name.now })
+        ++ json_outcome (record { kind = kind.now; name = name.now }) outcome.now) result }
+{
+    put_lines(sink, true, name, kind, outcome)
+}
+
+// Writes the line of an outcome, and before it the line that announces its trial if that was not written.
+fn put_lines<'a, W: Write>(
+    sink: &mut Sink<W>,
+    both: bool,
+    name: &'a str,
+    kind: &'a str,
+    outcome: &'a Outcome,
+) -> Result<(), WriteFault>
+    requires { HasFaultLeft sink.old }
+    ensures { Puts W.contents sink.old sink.new (json_lines both
+        (record { kind = kind.now; name = name.now }) outcome.now) result }
+{
     match outcome {
-        Outcome::Passed => put_word(sink, name, kind, "\", \"event\": \"ok\" }\n"),
-        Outcome::Ignored => put_word(sink, name, kind, "\", \"event\": \"ignored\" }\n"),
-        Outcome::Measured(measurement) => put_measurement(sink, name, kind, measurement),
+        Outcome::Passed => put_word(sink, both, name, kind, "\", \"event\": \"ok\" }\n"),
+        Outcome::Ignored => put_word(sink, both, name, kind, "\", \"event\": \"ignored\" }\n"),
+        Outcome::Measured(measurement) => put_measurement(sink, both, name, kind, measurement),
         Outcome::Failed(failed) => match failed.message() {
-            None => put_word(sink, name, kind, "\", \"event\": \"failed\" }\n"),
-            Some(message) => put_failure(sink, name, kind, message),
+            None => put_word(sink, both, name, kind, "\", \"event\": \"failed\" }\n"),
+            Some(message) => put_failure(sink, both, name, kind, message),
         },
     }
 }
 
-// Writes the line of an outcome that is one word. `end` begins with the quote after the name or the kind.
+// The same of an outcome that is one word. `end` begins with the quote after the name or the kind.
 fn put_word<'a, W: Write>(
     sink: &mut Sink<W>,
+    both: bool,
     name: &'a str,
     kind: &'a str,
     end: &'a str,
@@ -91,44 +129,29 @@ fn put_word<'a, W: Write>(
     requires faults { HasFaultLeft sink.old }
     requires quote { take 1 end.now ≡ codes "\"" }
     ensures { Puts W.contents sink.old sink.new
-        (concat (outcome_front false ∷ escaped name.now ∷ codes "\"" ∷ kind_field kind.now
+        (announced_before both (record { kind = kind.now; name = name.now })
+        ++ concat (outcome_front false ∷ escaped name.now ∷ codes "\"" ∷ kind_field kind.now
         ∷ drop 1 end.now ∷ [])) result }
 {
-    put_line(sink, "{ \"type\": \"test\", \"name\": \"", name, kind, end)
+    put_trial!(sink, both, "test", name, kind, Piece::Text(end))
 }
 
-// Writes the line of a trial that ends with this text.
-fn put_line<'a, W: Write>(
-    sink: &mut Sink<W>,
-    front: &'a str,
-    name: &'a str,
-    kind: &'a str,
-    end: &'a str,
-) -> Result<(), WriteFault>
-    requires faults { HasFaultLeft sink.old }
-    requires quote { take 1 end.now ≡ codes "\"" }
-    ensures { Puts W.contents sink.old sink.new
-        (concat (front.now ∷ escaped name.now ∷ codes "\"" ∷ kind_field kind.now
-        ∷ drop 1 end.now ∷ [])) result }
-{
-    put_trial!(sink, front, name, kind, Piece::Text(end))
-}
-
-#[tactic(auto, unfolding(crate::specs::Json::json_outcome))]
 fn put_failure<'a, W: Write>(
     sink: &mut Sink<W>,
+    both: bool,
     name: &'a str,
     kind: &'a str,
     message: &'a str,
 ) -> Result<(), WriteFault>
     requires { HasFaultLeft sink.old }
     ensures { Puts W.contents sink.old sink.new
-        (json_outcome (record { kind = kind.now; name = name.now })
+        (json_lines both (record { kind = kind.now; name = name.now })
         (Failed (Some message.now))) result }
 {
     put_trial!(
         sink,
-        "{ \"type\": \"test\", \"name\": \"",
+        both,
+        "test",
         name,
         kind,
         Piece::Text("\", \"event\": \"failed\", \"stdout\": \"Error: \\\""),
@@ -137,21 +160,22 @@ fn put_failure<'a, W: Write>(
     )
 }
 
-#[tactic(auto, unfolding(crate::specs::Json::json_outcome))]
 fn put_measurement<'a, W: Write>(
     sink: &mut Sink<W>,
+    both: bool,
     name: &'a str,
     kind: &'a str,
     measurement: &Measurement,
 ) -> Result<(), WriteFault>
     requires { HasFaultLeft sink.old }
     ensures { Puts W.contents sink.old sink.new
-        (json_outcome (record { kind = kind.now; name = name.now })
+        (json_lines both (record { kind = kind.now; name = name.now })
         (Measured measurement.now)) result }
 {
     put_trial!(
         sink,
-        "{ \"type\": \"bench\", \"name\": \"",
+        both,
+        "bench",
         name,
         kind,
         Piece::Text("\", \"median\": "),

@@ -4,7 +4,7 @@ ghost use Rattle.std.specs.Option.{MatchOption};
 ghost use Rattle.mimic_printer.specs.Sink.{HasFaultLeft, Puts};
 ghost use Rattle.mimic_text.specs.Escape.{escaped};
 ghost use Rattle.mimic_text.specs.Text.{spaces, right_aligned, grouped};
-ghost use Rattle.mimic_printer.specs.Piece.{pieces_text};
+ghost use Rattle.mimic_printer.specs.Piece.{label_text, pieces_text};
 
 use crate::sink::{Sink, WriteFault};
 use itoa::Buffer;
@@ -26,6 +26,8 @@ pub(crate) enum Piece<'a> {
     Grouped { number: u64, width: usize },
     /// The text as it stands between the quotes of a JSON string.
     Escaped(&'a str),
+    /// A trial's name so, and its kind behind the key of a kind if that isn't empty: all but the first and the last quote.
+    Label { name: &'a str, kind: &'a str },
     /// Nanoseconds, as seconds in exact decimal.
     Seconds(u64),
 }
@@ -42,12 +44,11 @@ pub(crate) fn put_pieces<W: Write>(
     ensures { Puts W.contents sink.old sink.new (pieces_text pieces.now) result }
 {
     let mut row = [0; ROW];
-    let (count, len) = gather(pieces, &mut row);
+    let Some(len) = gather(pieces, &mut row) else {
+        return put_each(sink, pieces);
+    };
     // A fault is large: to hand on the whole result costs more than to ask whether it is one.
     sink.put(&row[..len])?;
-    if count < pieces.len() {
-        put_each(sink, &pieces[count..])?;
-    }
     Ok(())
 }
 
@@ -62,27 +63,22 @@ fn put_each<W: Write>(sink: &mut Sink<W>, pieces: &[Piece<'_>]) -> Result<(), Wr
     Ok(())
 }
 
-// Gathers pieces at the front of the row as long as they fit, and returns how many they are and where they end.
-fn gather(pieces: &[Piece<'_>], row: &mut [u8; ROW]) -> (usize, usize)
-    ensures count { result.0 ≤ length pieces.now }
-    ensures within { result.1 ≤ 256 }
-    ensures gathered { take result.1 row.new ≡ pieces_text (take result.0 pieces.now) }
+// Gathers the pieces at the front of the row, and returns where they end. `None` if one of them doesn't fit or has no short text.
+fn gather(pieces: &[Piece<'_>], row: &mut [u8; ROW]) -> Option<usize>
+    ensures { IfSome result
+        (λ end. (end ≤ 256) × (take end row.new ≡ pieces_text pieces.now)) }
 {
     let mut len = 0;
-    for (count, piece) in pieces.iter().enumerate() {
-        match piece.write(row, len) {
-            Some(end) => len = end,
-            None => return (count, len),
-        }
+    for piece in pieces {
+        len = piece.write(row, len)?;
     }
-    (pieces.len(), len)
+    Some(len)
 }
 
 // Writes the text after the first `len` bytes of the row, and returns where it ends. `None` if it doesn't fit.
 fn append(row: &mut [u8; ROW], len: usize, text: &[u8]) -> Option<usize>
     requires { len ≤ 256 }
-    ensures front { take len row.new ≡ take len row.old }
-    ensures written { IfSome result
+    ensures { IfSome result
         (λ end. (end ≤ 256) × (take end row.new ≡ take len row.old ++ text.now)) }
 {
     // Most reports have no colours and no kinds.
@@ -97,6 +93,35 @@ fn append(row: &mut [u8; ROW], len: usize, text: &[u8]) -> Option<usize>
     Some(end)
 }
 
+// The same of a text in JSON. `None` also if it has escapes.
+#[tactic(auto, using(crate::proofs::Escaping::spelled_as_is))]
+fn append_escaped(row: &mut [u8; ROW], len: usize, text: &str) -> Option<usize>
+    requires { len ≤ 256 }
+    ensures { IfSome result
+        (λ end. (end ≤ 256) × (take end row.new ≡ take len row.old ++ escaped text.now)) }
+{
+    if next_escape(text.as_bytes()).is_some() {
+        return None;
+    }
+    append(row, len, text.as_bytes())
+}
+
+fn append_label(row: &mut [u8; ROW], len: usize, name: &str, kind: &str) -> Option<usize>
+    requires { len ≤ 256 }
+    ensures { IfSome result
+        (λ end. (end ≤ 256) × (take end row.new ≡ take len row.old ++ label_text name.now kind.now)) }
+{
+    let end = append_escaped(row, len, name)?;
+    if kind.is_empty() {
+        return Some(end);
+    }
+    let end = append(row, end, KIND_KEY.as_bytes())?;
+    append_escaped(row, end, kind)
+}
+
+// What stands between a name and a kind.
+const KIND_KEY: &str = "\", \"kind\": \"";
+
 impl Piece<'_> {
     ghost use Rattle.std.specs.Prelude.{◌≡◌, ◌≤◌, ◌++◌, IfSome, take};
     ghost use Rattle.mimic_printer.specs.Sink.{HasFaultLeft, Puts};
@@ -104,11 +129,9 @@ impl Piece<'_> {
 
     // Writes the piece after the first `len` bytes of the row, and returns where it ends. `None` if it doesn't fit,
     // or is a long run of spaces, a grouped number or a text with escapes.
-    #[tactic(auto, using(crate::proofs::Escaping::spelled_as_is))]
     fn write(self, row: &mut [u8; ROW], len: usize) -> Option<usize>
         requires { len ≤ 256 }
-        ensures front { take len row.new ≡ take len row.old }
-        ensures written { IfSome result
+        ensures { IfSome result
             (λ end. (end ≤ 256) × (take end row.new ≡ take len row.old ++ piece_text self.entry)) }
     {
         match self {
@@ -121,9 +144,8 @@ impl Piece<'_> {
                 append(row, len, exact_seconds(nanos, &mut [0; 32]).as_bytes())
             }
             Piece::Spaces(count) if count <= SPACES.len() => append(row, len, &SPACES[..count]),
-            Piece::Escaped(text) if next_escape(text.as_bytes()).is_none() => {
-                append(row, len, text.as_bytes())
-            }
+            Piece::Escaped(text) => append_escaped(row, len, text),
+            Piece::Label { name, kind } => append_label(row, len, name, kind),
             _ => None,
         }
     }
@@ -139,6 +161,7 @@ impl Piece<'_> {
             Piece::Spaces(count) => put_spaces(sink, count),
             Piece::Grouped { number, width } => put_grouped(sink, number, width),
             Piece::Escaped(text) => put_escaped(sink, text.as_bytes()),
+            Piece::Label { name, kind } => put_label(sink, name, kind),
             Piece::Seconds(nanos) => sink.put(exact_seconds(nanos, &mut [0; 32]).as_bytes()),
         }
     }
@@ -183,4 +206,16 @@ fn put_escaped<W: Write>(sink: &mut Sink<W>, text: &[u8]) -> Result<(), WriteFau
         rest = &rest[at + 1..];
     }
     sink.put(rest)
+}
+
+fn put_label<W: Write>(sink: &mut Sink<W>, name: &str, kind: &str) -> Result<(), WriteFault>
+    requires { HasFaultLeft sink.old }
+    ensures { Puts W.contents sink.old sink.new (label_text name.now kind.now) result }
+{
+    put_escaped(sink, name.as_bytes())?;
+    if !kind.is_empty() {
+        sink.put(KIND_KEY.as_bytes())?;
+        put_escaped(sink, kind.as_bytes())?;
+    }
+    Ok(())
 }

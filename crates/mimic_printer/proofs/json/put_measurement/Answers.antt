@@ -1,17 +1,17 @@
-use Rattle.std.proofs.Common.{◌≡◌, ◌≢◌, [], length, rules}
-use Rattle.std.proofs.lemmas.List.{nil_from_length}
-use Rattle.mimic_printer.specs.Json.{json_outcome}
-use Rattle.mimic_printer.proofs.JsonLines.{kind_then}
+use Rattle.std.proofs.Common.{◌++◌, List, ℕ, true, subst}
+use Rattle.mimic_printer.specs.Json.{json_outcome, outcome_front}
+use Rattle.mimic_printer.specs.Sink.{Puts}
+use Rattle.mimic_printer.proofs.Labels.{both_lines, label_then}
 use Rattle.mimic_printer.proofs.json.put_measurement.Goals as goal
 
-pub returns-then-is_empty : goal.returns-then-is_empty
+pub returns-then-both : goal.returns-then-both
 unfolding json_outcome
-returns-then-is_empty g c =
-    let none : length c.args.kind.now ≡ 0 = search rules in
-    rw (nil_from_length c.args.kind.now none) c.put_pieces.ensures
+returns-then-both g c =
+    let P : List ℕ → Type 0 = λ l. Puts g.W.Write.contents c.args.sink.now c.put_pieces.new.sink l c.put_pieces.result in
+    rw c.if-both.true (subst P (both_lines (outcome_front true) c.args.name.now c.args.kind.now _) c.put_pieces.ensures)
 
-pub returns-else-is_empty : goal.returns-else-is_empty
+pub returns-else-both : goal.returns-else-both
 unfolding json_outcome
-returns-else-is_empty g c =
-    let some : c.args.kind.now ≢ [] = λ e. absurd (search rules) in
-    rw (kind_then c.args.kind.now _ some) c.put_pieces-else-is_empty.ensures
+returns-else-both g c =
+    let P : List ℕ → Type 0 = λ l. Puts g.W.Write.contents c.args.sink.now c.put_pieces-else-both.new.sink (outcome_front true ++ l) c.put_pieces-else-both.result in
+    rw c.if-both.false (subst P (label_then c.args.name.now c.args.kind.now _) c.put_pieces-else-both.ensures)

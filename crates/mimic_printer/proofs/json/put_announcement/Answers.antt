@@ -1,0 +1,11 @@
+use Rattle.std.proofs.Common.{◌++◌, List, ℕ, subst}
+use Rattle.mimic_printer.specs.Json.{announcement_front, json_announcement, json_end}
+use Rattle.mimic_printer.specs.Sink.{Puts}
+use Rattle.mimic_printer.proofs.Labels.{label_then}
+use Rattle.mimic_printer.proofs.json.put_announcement.Goals as goal
+
+pub returns : goal.returns
+unfolding json_announcement
+returns g c =
+    let P : List ℕ → Type 0 = λ l. Puts g.W.Write.contents c.args.sink.now c.put_pieces.new.sink (announcement_front ++ l) c.put_pieces.result in
+    subst P (label_then c.args.name.now c.args.kind.now json_end) c.put_pieces.ensures
