@@ -1,18 +1,17 @@
 -- When a buffered output is handed on.
-use Rattle.std.specs.Prelude.{◌&&◌, ℕ, Bool, true, false, not, if◌then◌else◌, nat_lt}
+use Rattle.std.specs.Prelude.{◌&&◌, ℕ, Bool, true, false, if◌then◌else◌, nat_lt}
 use Rattle.mimic_args.specs.declared.Arguments.{Arguments}
 use Rattle.mimic_args.specs.Arguments.{format_of}
 use Rattle.mimic_text.specs.declared.formats.FormatSetting.{FormatSetting}
 use Rattle.mimic_text.specs.declared.formats.FormatSetting.TheVariants.{Pretty, Terse, Json}
 use Rattle.mimic_main.specs.declared.policy.FlushPolicy.{FlushPolicy}
-use Rattle.mimic_main.specs.declared.policy.FlushPolicy.TheVariants.{Always, OnFlush, OnLineEnd, OnOddLineEnd, OnEvenLineEnd, WhenFull}
+use Rattle.mimic_main.specs.declared.policy.FlushPolicy.TheVariants.{Always, OnFlush, OnLineEnd, OnEvenLineEnd, WhenFull}
 
 -- by this policy a text goes out at once, which ends a line or not, after an odd number of texts that end one or not (our own)
 abbrev pub goes_out_by : FlushPolicy → Bool → Bool → Bool
 goes_out_by Always ends odd = true
 goes_out_by OnFlush ends odd = false
 goes_out_by OnLineEnd ends odd = ends
-goes_out_by OnOddLineEnd ends odd = ends && not odd
 goes_out_by OnEvenLineEnd ends odd = ends && odd
 goes_out_by WhenFull ends odd = false
 
@@ -21,7 +20,6 @@ abbrev pub acts_on_flush : FlushPolicy → Bool
 acts_on_flush Always = false
 acts_on_flush OnFlush = true
 acts_on_flush OnLineEnd = false
-acts_on_flush OnOddLineEnd = false
 acts_on_flush OnEvenLineEnd = false
 acts_on_flush WhenFull = false
 
@@ -29,12 +27,12 @@ acts_on_flush WhenFull = false
 abbrev pub policy_of : FormatSetting → Bool → Bool → FlushPolicy
 policy_of Pretty in_workers on_terminal = if in_workers then OnLineEnd else OnFlush
 policy_of Terse in_workers on_terminal = if on_terminal then Always else OnLineEnd
-policy_of Json in_workers on_terminal = if in_workers then OnOddLineEnd else OnEvenLineEnd
+policy_of Json in_workers on_terminal = if in_workers then OnLineEnd else OnEvenLineEnd
 
 -- how a run with these arguments on so many threads is handed on, to a terminal or not (our own). With one thread a pretty report goes
--- out at each flush, and JSON at the end of each second line: both come before a trial runs. With more threads a row goes out at its end:
--- a line of a pretty report, and in JSON after the title each second line. Terse goes out at the end of a line, and on a terminal at each
--- mark. A list goes out when there is no room.
+-- out at each flush, and JSON at the end of each second line: both come before a trial runs. With more threads both go out at each text
+-- that ends a line, and a row is one. Terse goes out at the end of a line, and on a terminal at each mark. A list goes out when there is
+-- no room.
 abbrev pub policy_for : Arguments → ℕ → Bool → FlushPolicy
 policy_for args threads on_terminal = if args.list then WhenFull else policy_of (format_of args)
     (nat_lt 1 threads) on_terminal

@@ -158,10 +158,12 @@ impl<W: Write> Output<W> {
         ensures nothing { StopsAtNothing self.new text.now result }
         ensures stops { OnErr result (has_stopped self.new ≡ true) }
     {
-        if !self.waiting.is_empty() && self.can_wait(text.len()) {
-            return self.write_together(text);
+        if !self.waiting.is_empty() {
+            if self.can_wait(text.len()) {
+                return self.write_together(text);
+            }
+            self.hand_on()?;
         }
-        self.hand_on()?;
         if text.is_empty() {
             return Ok(0);
         }
@@ -213,7 +215,6 @@ impl<W: Write> Output<W> {
         match self.policy {
             FlushPolicy::Always => true,
             FlushPolicy::OnLineEnd => ends_line,
-            FlushPolicy::OnOddLineEnd => ends_line && !self.has_odd_lines,
             FlushPolicy::OnEvenLineEnd => ends_line && self.has_odd_lines,
             FlushPolicy::OnFlush | FlushPolicy::WhenFull => false,
         }

@@ -14,8 +14,6 @@ pub enum FlushPolicy {
     OnFlush,
     /// After each text that ends a line.
     OnLineEnd,
-    /// After the first such text, and each second one from there: after a title and each row of two lines.
-    OnOddLineEnd,
     /// After the second such text, and each second one from there: before each trial runs whose row is two lines, of which
     /// the first announces it.
     OnEvenLineEnd,
@@ -29,7 +27,7 @@ impl FlushPolicy {
     ///
     /// With one thread an announcement goes out before its trial runs, in one write with the row before it: a pretty report is
     /// flushed there, and in JSON it is each second line, since the title comes first. With more threads the title goes out
-    /// before a worker starts, and a row in one write when its trial has ended.
+    /// before a worker starts, and a row, which is one text then, in one write when its trial has ended.
     ///
     /// Terse has no lines but the first and the last ones, and goes out when they end, and on a terminal mark by mark. A list
     /// goes out in blocks.
@@ -45,7 +43,7 @@ impl FlushPolicy {
             FormatSetting::Pretty => FlushPolicy::OnFlush,
             FormatSetting::Terse if is_terminal => FlushPolicy::Always,
             FormatSetting::Terse => FlushPolicy::OnLineEnd,
-            FormatSetting::Json if in_workers => FlushPolicy::OnOddLineEnd,
+            FormatSetting::Json if in_workers => FlushPolicy::OnLineEnd,
             FormatSetting::Json => FlushPolicy::OnEvenLineEnd,
         }
     }
