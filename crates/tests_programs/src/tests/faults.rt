@@ -194,7 +194,7 @@ fn stops_terse_at_each_place(rt: HostRuntime) -> Result<(), Fail> {
 // As a report by one thread and by two is handed on.
 #[test]
 fn stops_json_at_each_place(rt: HostRuntime) -> Result<(), Fail> {
-    let policies = [FlushPolicy::OnEvenLineEnd, FlushPolicy::OnOddLineEnd];
+    let policies = [FlushPolicy::OnEvenLineEnd, FlushPolicy::OnLineEnd];
     let wrong = first_wrong_in(&rt, rt.alloc(), FormatSetting::Json, policies)?;
     assert!(rt; wrong.is_none(), "{wrong:?}");
     Ok(())
@@ -208,7 +208,6 @@ fn fails_after_a_fault(rt: HostRuntime) -> Result<(), Fail> {
         FlushPolicy::Always,
         FlushPolicy::OnFlush,
         FlushPolicy::OnLineEnd,
-        FlushPolicy::OnOddLineEnd,
         FlushPolicy::OnEvenLineEnd,
         FlushPolicy::WhenFull,
     ] {

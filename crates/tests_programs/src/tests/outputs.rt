@@ -57,11 +57,10 @@ fn marking(rt: &HostRuntime, policy: FlushPolicy) -> Output<Marked> {
 // flushes it, too.
 #[test]
 fn hands_on_as_asked(rt: HostRuntime) -> Result<(), Fail> {
-    let rows: [(FlushPolicy, &[usize], usize); 6] = [
+    let rows: [(FlushPolicy, &[usize], usize); 5] = [
         (FlushPolicy::Always, &[2, 4, 5], 1),
         (FlushPolicy::OnFlush, &[2, 5], 2),
         (FlushPolicy::OnLineEnd, &[4, 5], 1),
-        (FlushPolicy::OnOddLineEnd, &[4, 5], 1),
         (FlushPolicy::OnEvenLineEnd, &[5], 1),
         (FlushPolicy::WhenFull, &[5], 1),
     ];
@@ -87,7 +86,6 @@ fn flushes_its_writer_if_nothing_waits(rt: HostRuntime) -> Result<(), Fail> {
         (FlushPolicy::Always, 1),
         (FlushPolicy::OnFlush, 3),
         (FlushPolicy::OnLineEnd, 1),
-        (FlushPolicy::OnOddLineEnd, 1),
         (FlushPolicy::OnEvenLineEnd, 1),
         (FlushPolicy::WhenFull, 1),
     ] {
@@ -131,42 +129,30 @@ fn hands_on_whole_lines(rt: HostRuntime) -> Result<(), Fail> {
     Ok(())
 }
 
-// Of lines in pairs behind a title each pair goes out in one write, or the first of each pair with the end of the one before. A
-// line that goes out by itself counts once, though the writer takes a part of it at first.
+// Of lines in pairs behind a title the first of each pair goes out with the end of the one before: in one write, or in as many as the
+// writer wants.
 #[test]
 fn hands_on_second_lines(rt: HostRuntime) -> Result<(), Fail> {
     let pairs: &[&str] = &[
         "title\n", "a\n", "b", "\n", "c\n", "d\n", "e\n", "f\n", "end",
     ];
-    let rows: [(FlushPolicy, usize, &[&str], &[usize]); 3] = [
+    let rows: [(usize, &[&str], &[usize]); 2] = [
+        (usize::MAX, pairs, &[8, 12, 16, 21]),
         (
-            FlushPolicy::OnOddLineEnd,
-            usize::MAX,
-            pairs,
-            &[6, 10, 14, 18, 21],
-        ),
-        (
-            FlushPolicy::OnEvenLineEnd,
-            usize::MAX,
-            pairs,
-            &[8, 12, 16, 21],
-        ),
-        (
-            FlushPolicy::OnOddLineEnd,
             3,
             &["one\n", "two\n", "abc\n", "def\n", "end"],
-            &[3, 4, 7, 10, 12, 15, 18, 19],
+            &[3, 6, 8, 11, 14, 16, 19],
         ),
     ];
-    for (policy, most, pieces, marks) in rows {
-        let mut output = Output::new(policy, Marked::new(rt.alloc(), most));
+    for (most, pieces, marks) in rows {
+        let mut output = Output::new(FlushPolicy::OnEvenLineEnd, Marked::new(rt.alloc(), most));
         for piece in pieces {
             output.write_all(piece.as_bytes())?;
             output.flush()?;
         }
         let (writer, finished) = output.finish();
         finished?;
-        assert!(rt; writer.marks.as_slice() == marks, "{policy:?}");
+        assert!(rt; writer.marks.as_slice() == marks);
         assert_eq!(rt; writer.flushes, 1);
     }
     Ok(())
@@ -177,7 +163,7 @@ fn hands_on_second_lines(rt: HostRuntime) -> Result<(), Fail> {
 fn chooses_by_format_threads_and_terminal(rt: HostRuntime) -> Result<(), Fail> {
     let alloc = rt.alloc();
     let pretty = [FlushPolicy::OnFlush, FlushPolicy::OnLineEnd];
-    let json = [FlushPolicy::OnEvenLineEnd, FlushPolicy::OnOddLineEnd];
+    let json = [FlushPolicy::OnEvenLineEnd, FlushPolicy::OnLineEnd];
     let rows = [
         (FormatSetting::Pretty, false, pretty),
         (FormatSetting::Pretty, true, pretty),

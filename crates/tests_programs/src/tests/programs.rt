@@ -471,7 +471,6 @@ fn shows_values(rt: HostRuntime) -> Result<(), Fail> {
     check_debug(&rt, alloc, &arrival, "Arrival { place: 7 }")?;
     check_debug(&rt, alloc, &Arrival::Stranger, "Stranger")?;
     check_debug(&rt, alloc, &Untold, "Untold")?;
-    check_debug(&rt, alloc, &FlushPolicy::OnOddLineEnd, "OnOddLineEnd")?;
     check_debug(&rt, alloc, &StillClock, "StillClock")?;
     let program =
         "Program { name: \"telling\", threads: 4, auto_colours: true, prints_causes: true }";
