@@ -11,7 +11,7 @@ type Known = (Option<u64>, Option<(&'static str, &'static str)>);
 const NOTHING: Known = (None, None);
 
 // Before the first line of `TWO_TESTS`, and after each.
-const OF_TWO_TESTS: [Known; 7] = [
+static OF_TWO_TESTS: [Known; 7] = [
     NOTHING,
     (Some(2), None),
     (Some(2), Some(("", "succeeding_test"))),
@@ -32,7 +32,7 @@ const TWO_THREADS: &str = r#"{ "type": "suite", "event": "started", "test_count"
 { "type": "suite", "event": "failed", "passed": 0, "failed": 1, "ignored": 1, "measured": 1, "filtered_out": 4, "exec_time": 0.25 }
 "#;
 
-const OF_TWO_THREADS: [Known; 9] = [
+static OF_TWO_THREADS: [Known; 9] = [
     NOTHING,
     (Some(3), None),
     (Some(3), Some(("bird", "owl"))),
@@ -146,7 +146,7 @@ enum Mistake {
     Nothing,
 }
 
-const MISTAKES: [Mistake; 5] = [
+static MISTAKES: [Mistake; 5] = [
     Mistake::Sign,
     Mistake::Half,
     Mistake::NoText,

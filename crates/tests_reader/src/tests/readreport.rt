@@ -22,7 +22,7 @@ const FLY: &str = r#"{ "type": "suite", "event": "started", "test_count": 1 }
 
 // The rows of two trials that passed, one that failed, four that were ignored and three that were measured: how many, their
 // type, and their fields.
-const MIXED: [(usize, &str, &str); 4] = [
+static MIXED: [(usize, &str, &str); 4] = [
     (2, "test", "\"event\": \"ok\""),
     (1, "test", "\"event\": \"failed\""),
     (4, "test", "\"event\": \"ignored\""),
@@ -110,7 +110,7 @@ fn tells(alloc: Global, bytes: &[u8], out: &str, err: &str) -> bool {
 }
 
 // Reports of no rows, one, and one with a kind, and what is told of them.
-const REPORTS: [(&str, &str); 3] = [
+static REPORTS: [(&str, &str); 3] = [
     (
         NO_ROWS,
         "0 trials: 0 passed; 0 failed; 0 ignored; 0 measured; 0 filtered out; 0 ns\n",

@@ -62,7 +62,7 @@ fn rows_of(alloc: Global, known: &[(&str, Known)]) -> Result<Vec<Row>, AllocErro
     Ok(rows)
 }
 
-const ROWS_OF_ALL_SORTS: [(&str, Known); 5] = [
+static ROWS_OF_ALL_SORTS: [(&str, Known); 5] = [
     ("a\"b\\\n\u{1}\u{e9}", Known::Ignored),
     ("", Known::Failed(None)),
     ("n", Known::Failed(Some(""))),
@@ -91,7 +91,7 @@ pub(super) const TWO_TESTS: &str = r#"{ "type": "suite", "event": "started", "te
 { "type": "suite", "event": "failed", "passed": 1, "failed": 1, "ignored": 0, "measured": 0, "filtered_out": 0, "exec_time": 0 }
 "#;
 
-const ROWS_OF_TWO_TESTS: [(&str, Known); 2] = [
+static ROWS_OF_TWO_TESTS: [(&str, Known); 2] = [
     ("succeeding_test", Known::Passed),
     ("failing_test", Known::Failed(Some("Woops"))),
 ];
@@ -375,7 +375,7 @@ fn refuses_other_pieces(rt: HostRuntime) -> Result<(), Fail> {
 }
 
 // Times in seconds, and their nanoseconds.
-const TIMES: [(&str, u64); 5] = [
+static TIMES: [(&str, u64); 5] = [
     ("\"exec_time\": 0 ", 0),
     ("\"exec_time\": 0.000000001 ", 1),
     ("\"exec_time\": 0.005 ", 5_000_000),
@@ -404,7 +404,7 @@ fn reads_numbers(rt: HostRuntime) -> Result<(), Fail> {
 }
 
 // Parts of the report of every outcome, and what is no report in their place.
-const OTHER_TEXTS: [(&str, &str); 46] = [
+static OTHER_TEXTS: [(&str, &str); 46] = [
     // Whole lines, and what stands before, between and behind them.
     (ALL_SORTS, ""),
     (ALL_SORTS, "\n"),
@@ -488,7 +488,7 @@ pub(super) fn ignored_trial(alloc: Global, first: &str, second: &str) -> Result<
 }
 
 // Fields that both lines of a trial have, and the name and the kind that they stand for.
-pub(super) const KINDS: [(&str, &str, &str); 5] = [
+pub(super) static KINDS: [(&str, &str, &str); 5] = [
     (r#""name": "fly", "kind": "banana""#, "fly", "banana"),
     (r#""name": "fly""#, "fly", ""),
     (r#""name": "a", "kind": "b""#, "a", "b"),
@@ -540,7 +540,7 @@ const EMPTY_KIND: &str = r#""name": "fly", "kind": """#;
 const KIND_FIRST: &str = r#""kind": "banana", "name": "fly""#;
 
 // Fields of the two lines of a trial that make no report.
-const OTHER_KINDS: [(&str, &str); 12] = [
+static OTHER_KINDS: [(&str, &str); 12] = [
     (WITH_KIND, BARE),
     (BARE, WITH_KIND),
     (WITH_KIND, r#""name": "fly", "kind": "bananas""#),

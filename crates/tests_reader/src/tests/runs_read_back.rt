@@ -137,7 +137,7 @@ fn reads_back_what_a_run_wrote(rt: HostRuntime) -> Result<(), Fail> {
 }
 
 // Parts of the report of two trials, and what is no report in their place.
-const OTHERS: [(&str, &str); 8] = [
+static OTHERS: [(&str, &str); 8] = [
     ("\"exec_time\": 0 }\n", "\"exec_time\": 0 }"),
     ("\"exec_time\": 0 }\n", "\"exec_time\": 0 }\n\n"),
     ("\"test_count\": 2", "\"test_count\": 02"),

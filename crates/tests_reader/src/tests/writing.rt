@@ -32,7 +32,7 @@ fn is_written_back(alloc: Global, text: &str) -> Result<bool, AllocError> {
 }
 
 // Numbers at their limits, in place of the time and of a deviation, and a hostile name.
-const LIMITS: [(&str, &str); 4] = [
+static LIMITS: [(&str, &str); 4] = [
     ("\"exec_time\": 1.5", "\"exec_time\": 18446744073.709551615"),
     ("\"exec_time\": 1.5", "\"exec_time\": 0.000000001"),
     ("\"deviation\": 0", "\"deviation\": 18446744073709551615"),
