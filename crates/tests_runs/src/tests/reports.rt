@@ -28,10 +28,10 @@ const TWO_TESTS_JSON: &[u8] = br#"{ "type": "suite", "event": "started", "test_c
 { "type": "suite", "event": "failed", "passed": 1, "failed": 1, "ignored": 0, "measured": 0, "filtered_out": 0, "exec_time": 0 }
 "#;
 
-const NO_TESTS: &[u8] =
+static NO_TESTS: &[u8] =
     b"\nrunning 0 tests\n\ntest result: ok. 0 passed; 0 failed; 0 ignored; 0 measured; 0 filtered out; finished in 0.00s\n\n";
 
-const MESSAGES: &[u8] =
+static MESSAGES: &[u8] =
     b"\nrunning 4 tests\ntest a ... FAILED\ntest b ... FAILED\ntest c ... FAILED\ntest f ... FAILED\n\nfailures:\n\n---- a ----\n\n---- b ----\n\n\n---- c ----\none\ntwo\n\n---- f ----\n7\n\n\nfailures:\n    a\n    b\n    c\n    f\n\ntest result: FAILED. 0 passed; 4 failed; 0 ignored; 0 measured; 0 filtered out; finished in 0.00s\n\n";
 
 // A format, a colour setting, the report, and how often it is flushed.
@@ -43,7 +43,7 @@ struct Look {
     flushes: u64,
 }
 
-const LOOKS: [Look; 4] = [
+static LOOKS: [Look; 4] = [
     Look {
         format: None,
         color: None,
@@ -73,14 +73,13 @@ const LOOKS: [Look; 4] = [
 // What a run of one test that passes and one that fails leaves, each over a boxed closure.
 fn run_two(alloc: Global, asked: &Asked) -> Result<Left, Fail> {
     let woops = String::from_str(alloc, "Woops")?;
-    let tests = vec![in alloc;
-        test_trial!(alloc, "succeeding_test", || Ok(())),
-        test_trial!(
-            alloc,
-            "failing_test",
-            move || Err(Failed::with_message(woops))
-        ),
-    ]?;
+    let mut tests = Vec::new(alloc);
+    tests.push(test_trial!(alloc, "succeeding_test", || Ok(())))?;
+    tests.push(test_trial!(
+        alloc,
+        "failing_test",
+        move || Err(Failed::with_message(woops))
+    ))?;
     Ok(run_ample(alloc, asked, tests)?)
 }
 
@@ -128,7 +127,7 @@ const JSON: Asked = Asked {
 };
 
 // The format, the clock's readings, and the end of the report.
-const READINGS: [(Asked, u64, u64, &[u8]); 12] = [
+static READINGS: [(Asked, u64, u64, &[u8]); 12] = [
     (PRETTY, 700, 1_500_000_700, b"finished in 1.50s\n\n"),
     (PRETTY, 9, 4, b"finished in 0.00s\n\n"),
     (PRETTY, 0, 4_999_999, b" 0.00s\n\n"),
@@ -163,7 +162,7 @@ const BY_WORKERS: Option<usize> = Some(2);
 // The ends of a report of a second and a half, in pretty and in JSON.
 const LATER: &[u8] = b"; finished in 1.50s\n\n";
 
-const LATER_JSON: &[u8] = b", \"exec_time\": 1.5 }\n";
+static LATER_JSON: &[u8] = b", \"exec_time\": 1.5 }\n";
 
 // Whether the run lasted a second and a half by its watch and its report, which has this end.
 fn is_later(left: &Left, end: &[u8]) -> bool {
@@ -256,31 +255,53 @@ fn times_the_selection(rt: HostRuntime) -> Result<(), Fail> {
     Ok(())
 }
 
-fn failing(alloc: Global, name: &str, failed: Failed) -> Result<Trial<Known>, AllocError> {
-    Ok(Trial::new(String::from_str(alloc, name)?, Known::Fails(failed)))
+// A trial that fails: its name, and its message if it has one.
+type Failing = (&'static str, Option<&'static str>);
+
+// A failure with this message, if there is one.
+fn saying(alloc: Global, message: Option<&str>) -> Result<Failed, AllocError> {
+    Ok(match message {
+        Some(text) => Failed::with_message(String::from_str(alloc, text)?),
+        None => Failed::without_message(),
+    })
 }
 
-// A failure with this message.
-fn saying(alloc: Global, message: &str) -> Result<Failed, AllocError> {
-    Ok(Failed::with_message(String::from_str(alloc, message)?))
+// What a run of trials that fail leaves.
+fn run_failing(alloc: Global, asked: &Asked, table: &[Failing]) -> Result<Left, Fail> {
+    let mut tests = Vec::new(alloc);
+    for (name, message) in table {
+        let fails = Known::Fails(saying(alloc, *message)?);
+        tests.push(Trial::new(String::from_str(alloc, name)?, fails))?;
+    }
+    Ok(run_ample(alloc, asked, tests)?)
 }
 
-// Messages: none, an empty one, one of two lines, and a number that was displayed. A failure with an empty message has one
-// line end more than one without a message.
+static SHOWN: [Failing; 4] = [
+    ("a", None),
+    ("b", Some("")),
+    ("c", Some("one\ntwo")),
+    ("f", Some("7")),
+];
+
+// Messages: none, an empty one, one of two lines, and a number. A failure with an empty message has one line end more than one
+// without a message.
 #[test]
 fn shows_an_empty_message(rt: HostRuntime) -> Result<(), Fail> {
-    let alloc = rt.alloc();
-    let mut tests = Vec::with_capacity(alloc, 4)?;
-    tests.push(failing(alloc, "a", Failed::without_message())?)?;
-    tests.push(failing(alloc, "b", saying(alloc, "")?)?)?;
-    tests.push(failing(alloc, "c", saying(alloc, "one\ntwo")?)?)?;
-    tests.push(failing(alloc, "f", Failed::from_display(alloc, &7)?)?)?;
-    let left = run_ample(alloc, &NOTHING, tests)?;
+    let left = run_failing(rt.alloc(), &NOTHING, &SHOWN)?;
     assert!(rt; left.bytes() == MESSAGES);
     Ok(())
 }
 
-const ESCAPED: [&str; 4] = [
+static ODD: [Failing; 3] = [
+    ("a", None),
+    ("b", Some("")),
+    (
+        "a\"b\\\n\u{1}\u{7f}",
+        Some("\u{0}\u{8}\u{b}\u{1f}/\u{e9}\t\r\u{c}"),
+    ),
+];
+
+static ESCAPED: [&str; 4] = [
     "{ \"type\": \"test\", \"name\": \"a\", \"event\": \"failed\" }\n",
     "{ \"type\": \"test\", \"name\": \"b\", \"event\": \"failed\", \"stdout\": \"Error: \\\"\\\"\\n\" }\n",
     "\"started\", \"name\": \"a\\\"b\\\\\\n\\u0001\u{7f}\" }\n",
@@ -290,13 +311,7 @@ const ESCAPED: [&str; 4] = [
 // Names and messages in JSON: no message, an empty one, and characters that are escaped and that are not.
 #[test]
 fn escapes_names_and_messages(rt: HostRuntime) -> Result<(), Fail> {
-    let alloc = rt.alloc();
-    let odd = saying(alloc, "\u{0}\u{8}\u{b}\u{1f}/\u{e9}\t\r\u{c}")?;
-    let mut tests = Vec::with_capacity(alloc, 3)?;
-    tests.push(failing(alloc, "a", Failed::without_message())?)?;
-    tests.push(failing(alloc, "b", saying(alloc, "")?)?)?;
-    tests.push(failing(alloc, "a\"b\\\n\u{1}\u{7f}", odd)?)?;
-    let left = run_ample(alloc, &JSON, tests)?;
+    let left = run_failing(rt.alloc(), &JSON, &ODD)?;
     let text = str::from_utf8(left.bytes())?;
     for line in &ESCAPED {
         assert!(rt; text.contains(*line), "{line}");

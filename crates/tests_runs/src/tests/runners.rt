@@ -41,7 +41,7 @@ fn sums(alloc: Global, cases: &[(u32, u32, u64)]) -> Result<Vec<Trial<Sum>>, Fai
     Ok(trials)
 }
 
-const SUMS: &[u8] =
+static SUMS: &[u8] =
     b"\nrunning 3 tests\ntest 1 + 1          ... ok\ntest 2 + 2          ... FAILED\ntest 4294967295 + 1 ... ok\n\nfailures:\n\n---- 2 + 2 ----\n\n\nfailures:\n    2 + 2\n\ntest result: FAILED. 2 passed; 1 failed; 0 ignored; 0 measured; 0 filtered out; finished in 0.00s\n\n";
 
 #[test]

@@ -59,7 +59,7 @@ const CAT: u64 = 1;
 
 const FLY: u64 = 2;
 
-const CAT_AND_FLY: [Marked; 2] = [
+static CAT_AND_FLY: [Marked; 2] = [
     ("cat", "", false, false, CAT),
     ("fly", "banana", true, false, FLY),
 ];
@@ -146,13 +146,13 @@ fn runs_ignored_trials_as_asked(rt: HostRuntime) -> Result<(), Fail> {
 
 const FROG: u64 = 2;
 
-const THREE: [Marked; 3] = [
+static THREE: [Marked; 3] = [
     ("dog", "", false, false, 1),
     ("frog", "", true, false, FROG),
     ("orange", "banana", true, true, 4),
 ];
 
-const IGNORED_ORANGE: &[u8] =
+static IGNORED_ORANGE: &[u8] =
     b"\nrunning 2 tests\ntest          frog   ... ok\ntest [banana] orange ... ignored\n\ntest result: ok. 1 passed; 0 failed; 1 ignored; 0 measured; 1 filtered out; finished in 0.00s\n\n";
 
 // The words `--test --ignored o`: a benchmark that is asked for by its flag is ignored, and its runner not called.
@@ -204,7 +204,7 @@ type Selected = (
     &'static [u8],
 );
 
-const SELECTED: [Selected; 12] = [
+static SELECTED: [Selected; 12] = [
     (None, None, false, 3, 0, ALL_LISTED),
     (Some("foo"), None, false, 1, 2, b"foo: test\n"),
     (Some("bar"), None, false, 2, 1, b"bar: test\nbarro: test\n"),
@@ -259,28 +259,27 @@ fn run_boxed(alloc: Global, asked: &Asked, measures: bool) -> Result<(Left, u64)
     let ran = Arc::new(alloc, AtomicU64::new(0))?;
     let tested = Arc::try_clone(&ran)?;
     let measured = Arc::try_clone(&ran)?;
-    let tests = vec![in alloc;
-        test_trial!(alloc, "t", move || {
-            tested.fetch_add(1, Ordering::SeqCst);
-            Ok(())
-        }),
-        bench_trial!(alloc, "b", move |test_mode: bool| {
-            measured.fetch_add(2, Ordering::SeqCst);
-            if test_mode == bench {
-                return Err(Failed::without_message());
-            }
-            Ok(measures.then_some(Measurement {
-                avg: 1_234_567,
-                variance: 89,
-            }))
-        }),
-    ]?;
+    let mut tests = Vec::new(alloc);
+    tests.push(test_trial!(alloc, "t", move || {
+        tested.fetch_add(1, Ordering::SeqCst);
+        Ok(())
+    }))?;
+    tests.push(bench_trial!(alloc, "b", move |test_mode: bool| {
+        measured.fetch_add(2, Ordering::SeqCst);
+        if test_mode == bench {
+            return Err(Failed::without_message());
+        }
+        Ok(measures.then_some(Measurement {
+            avg: 1_234_567,
+            variance: 89,
+        }))
+    }))?;
     let left = run_ample(alloc, asked, tests)?;
     Ok((left, ran.load(Ordering::SeqCst)))
 }
 
 // The flags for tests and benchmarks, whether the benchmark measures, which of them run, and the beginning of the report.
-const BOXED: [(bool, bool, bool, u64, &[u8]); 6] = [
+static BOXED: [(bool, bool, bool, u64, &[u8]); 6] = [
     (
         false,
         false,

@@ -3,7 +3,7 @@ use libtest_mimic::select::matches;
 use std::test::Fail;
 
 // A pattern, whether it has to be the whole name, a kind, a name, and whether the pattern matches.
-const VECTORS: [(&str, bool, &str, &str, bool); 22] = [
+static VECTORS: [(&str, bool, &str, &str, bool); 22] = [
     ("] ", false, "k", "n", true),
     ("] ", false, "", "n", false),
     ("[k] n", false, "[k", "n", true),
