@@ -1,6 +1,7 @@
 //! Rows that arrive otherwise than their workers answer.
 ghost use Rattle.std.specs.Prelude.{All, length};
 ghost use Rattle.libtest_mimic.specs.Gathering.{IsReadyFor};
+ghost use Rattle.libtest_mimic.specs.Sink.{HasFaultLeft};
 ghost use Rattle.libtest_mimic.specs.Share.{AllRunners};
 
 use libtest_mimic::pool::{
@@ -10,9 +11,10 @@ use libtest_mimic::printer::Printer;
 use libtest_mimic::{FormatSetting, Outcome, RunError, Sink, Spawner, Task, TestInfo};
 use mimic_testkit::{Fault, FaultyWriter, Known, Place};
 use std::alloc::{AllocError, Global};
+use std::io::Write;
 use std::test::Fail;
 
-const NAMES: [&str; 4] = ["a", "b", "c", "d"];
+static NAMES: [&str; 4] = ["a", "b", "c", "d"];
 
 // Tests of these names, without a kind.
 fn infos_of_all(alloc: Global) -> Result<Vec<TestInfo>, AllocError> {
@@ -38,6 +40,21 @@ fn shares_of(alloc: Global, tests: usize) -> Result<Vec<Share<Known>>, AllocErro
     deal(alloc, runners, ignored, 2)
 }
 
+// Writes the rows of workers that were started. This is the one place that calls `gather_rows`, and it promises nothing, so that no
+// test carries that contract.
+fn gather<T: Task + Send + 'static, R: Spawner + 'static, W: Write>(
+    rt: &R,
+    printer: &Printer,
+    infos: &[TestInfo],
+    started: Started<T>,
+    sink: &mut Sink<W>,
+) -> Result<Desk, RunError>
+    requires room { HasFaultLeft sink.old }
+    requires ready { IsReadyFor started (length infos.now) }
+{
+    gather_rows(rt, printer, infos, started, sink)
+}
+
 // The place that the rows are refused for, and how many faults the sink has counted then.
 fn gathered<T: Task + Send + 'static, R: Spawner + 'static>(
     rt: &R,
@@ -49,7 +66,7 @@ fn gathered<T: Task + Send + 'static, R: Spawner + 'static>(
 {
     let printer = Printer::new(FormatSetting::Json, false, 0, 0);
     let mut sink = Sink::new(writer);
-    let differs = match gather_rows(rt, &printer, infos, started, &mut sink) {
+    let differs = match gather(rt, &printer, infos, started, &mut sink) {
         Err(RunError::Arrival { place }) => Some(place),
         _ => None,
     };

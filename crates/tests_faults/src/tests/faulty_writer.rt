@@ -9,7 +9,7 @@ type Answer = Result<usize, ErrorKind>;
 pub(super) const FULL: Fault = Fault::Error(ErrorKind::StorageFull);
 
 // How a call fails, and whether each call after it fails likewise.
-pub(super) const FAULTS: [(Fault, bool); 4] = [
+pub(super) static FAULTS: [(Fault, bool); 4] = [
     (FULL, false),
     (FULL, true),
     (Fault::Error(ErrorKind::Interrupted), false),

@@ -110,7 +110,7 @@ fn check_place<T: Spawner + Abort + 'static>(
 }
 
 // The threads that a list has no use for, and the most bytes that a write takes.
-const LISTED: [(Option<usize>, usize); 4] = [(None, 1), (None, 3), (Some(2), 1), (Some(2), 3)];
+static LISTED: [(Option<usize>, usize); 4] = [(None, 1), (None, 3), (Some(2), 1), (Some(2), 3)];
 
 // A list, for which JSON is asked, into a writer of which one call fails, in each way at each byte,
 // write and flush, and which is well again or fails for ever. There is one flush, behind the whole

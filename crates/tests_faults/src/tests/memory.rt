@@ -8,10 +8,10 @@ use mimic_testkit::FaultyWriter;
 use std::alloc::{AllocError, Global};
 use std::test::Fail;
 
-const TITLE: &[u8] = b"{ \"type\": \"suite\", \"event\": \"started\", \"test_count\": 2 }\n";
+static TITLE: &[u8] = b"{ \"type\": \"suite\", \"event\": \"started\", \"test_count\": 2 }\n";
 
 // The reports of a run of two tests.
-const REPORTS: [&str; 2] = in_both_orders!(
+static REPORTS: [&str; 2] = in_both_orders!(
     "{ \"type\": \"suite\", \"event\": \"started\", \"test_count\": 2 }\n",
     "{ \"type\": \"test\", \"event\": \"started\", \"name\": \"a\" }\n{ \"type\": \"test\", \"name\": \"a\", \"event\": \"ok\" }\n",
     "{ \"type\": \"test\", \"event\": \"started\", \"name\": \"b\", \"kind\": \"k\" }\n{ \"type\": \"test\", \"name\": \"b\", \"kind\": \"k\", \"event\": \"failed\", \"stdout\": \"Error: \\\"Woops\\\"\\n\" }\n",
@@ -58,8 +58,19 @@ fn runs_whole_or_not_at_all(rt: HostRuntime) -> Result<(), Fail> {
     Ok(())
 }
 
-const NONE_SELECTED: &[u8] =
+static NONE_SELECTED: &[u8] =
     b"\nrunning 0 tests\n\ntest result: ok. 0 passed; 0 failed; 0 ignored; 0 measured; 2 filtered out; finished in 0.00s\n\n";
+
+// Whether a run of the two tests with these arguments isn't refused, and leaves this.
+fn leaves<T: Spawner + 'static>(
+    rt: &T,
+    alloc: Global,
+    args: &Arguments,
+    text: &[u8],
+) -> Result<bool, AllocError> {
+    let left = run_two(rt, alloc, args)?;
+    Ok(left.is_stopped_by(None) && left.writer.bytes.as_slice() == text)
+}
 
 // A list, and a run of no selected trial.
 #[test]
@@ -68,19 +79,18 @@ fn wants_no_memory_for_a_list(rt: HostRuntime) -> Result<(), Fail> {
     for threads in [None, Some(1), Some(2)] {
         let mut args = asking(alloc, FormatSetting::Pretty, threads);
         args.list = true;
-        let left = run_two(&rt, alloc, &args)?;
-        assert!(rt; left.is_stopped_by(None), "{threads:?}");
-        assert!(rt; left.writer.bytes.as_slice() == b"a: test\n[k] b: test\n".as_slice());
+        assert!(rt;
+            leaves(&rt, alloc, &args, b"a: test\n[k] b: test\n")?,
+            "{threads:?}"
+        );
         args.list = false;
         args.skip.push(String::new(alloc))?;
-        let left = run_two(&rt, alloc, &args)?;
-        assert!(rt; left.is_stopped_by(None), "{threads:?}");
-        assert!(rt; left.writer.bytes.as_slice() == NONE_SELECTED);
+        assert!(rt; leaves(&rt, alloc, &args, NONE_SELECTED)?, "{threads:?}");
     }
     Ok(())
 }
 
-const WORDS: [&str; 7] = [
+static WORDS: [&str; 7] = [
     "harness",
     "--skip",
     "a",

@@ -27,15 +27,20 @@ impl<M: Clock + Drop> Task for Slow<M> {
     }
 }
 
-fn slow_trial<M: Clock + Drop>(
+static NAMES: [&str; 2] = ["a", "b"];
+
+// Two trials that are slow.
+fn slow_trials<M: Clock + Copy + Drop>(
     machine: M,
     alloc: Global,
-    name: &str,
     steps: &Arc<AtomicU64>,
-) -> Result<Trial<Slow<M>>, AllocError> {
-    let steps = Arc::try_clone(steps)?;
-    let name = String::from_str(alloc, name)?;
-    Ok(Trial::new(name, Slow { machine, steps }))
+) -> Result<Vec<Trial<Slow<M>>>, AllocError> {
+    let mut tests = Vec::with_capacity(alloc, NAMES.len())?;
+    for name in &NAMES {
+        let steps = Arc::try_clone(steps)?;
+        tests.push(Trial::new(String::from_str(alloc, name)?, Slow { machine, steps }))?;
+    }
+    Ok(tests)
 }
 
 // The bytes that a run leaves by its answer, if a worker can't be started, or if there was no memory before; of a whole run
@@ -56,9 +61,7 @@ fn joins_started_workers(rt: HostRuntime) -> Result<(), Fail> {
     let alloc = rt.alloc();
     let args = asking(alloc, FormatSetting::Pretty, Some(2));
     let steps = Arc::new(alloc, AtomicU64::new(0))?;
-    let mut tests = Vec::with_capacity(alloc, 2)?;
-    tests.push(slow_trial(rt, alloc, "a", &steps)?)?;
-    tests.push(slow_trial(rt, alloc, "b", &steps)?)?;
+    let tests = slow_trials(rt, alloc, &steps)?;
     let left = run_into(&rt, alloc, &args, tests, roomy(alloc)?);
     let taken = steps.load(Ordering::SeqCst);
     thread::sleep(&rt, Duration::from_millis(30));
@@ -72,7 +75,7 @@ fn joins_started_workers(rt: HostRuntime) -> Result<(), Fail> {
     }
 }
 
-const WOOPS: &[u8] = br#"{ "type": "suite", "event": "started", "test_count": 1 }
+static WOOPS: &[u8] = br#"{ "type": "suite", "event": "started", "test_count": 1 }
 { "type": "test", "event": "started", "name": "a" }
 { "type": "test", "name": "a", "event": "failed", "stdout": "Error: \"Woops\"\n" }
 { "type": "suite", "event": "failed", "passed": 0, "failed": 1, "ignored": 0, "measured": 0, "filtered_out": 0, "exec_time": 0 }

@@ -25,7 +25,7 @@ const CONTROLS: &str =
 const CONTROLS_WRITTEN: &str =
     r#"\u0000\u0001\u0002\u0003\u0004\u0005\u0006\u0007\b\t\n\u000b\f\r\u000e\u000f\u0010\u0011\u0012\u0013\u0014\u0015\u0016\u0017\u0018\u0019\u001a\u001b\u001c\u001d\u001e\u001f"#;
 
-const VECTORS: [Vector; 6] = [
+static VECTORS: [Vector; 6] = [
     Vector {
         name: r#"{ "type": "test", "name": "x", "event": "ok" }"#,
         kind: r#"k", "event": "ok" }"#,
@@ -197,6 +197,13 @@ fn is_of_one(report: Option<Report>, vector: Vector, outcome: &Outcome) -> bool 
     }
 }
 
+// Whether the bytes are read as this trial, at once and byte by byte.
+fn is_read_as(alloc: Global, bytes: &[u8], vector: Vector) -> Result<bool, AllocError> {
+    let outcome = outcome_with(alloc, vector.message)?;
+    let at_once = is_of_one(read_report(alloc, bytes)?, vector, &outcome);
+    Ok(at_once && is_of_one(fed(alloc, bytes)?, vector, &outcome))
+}
+
 // Whether a run of this trial writes its four lines, and they are read back as this trial, at once and byte by byte.
 fn is_read_back<T: Spawner + 'static>(
     rt: &T,
@@ -204,19 +211,14 @@ fn is_read_back<T: Spawner + 'static>(
     vector: Vector,
     threads: Option<usize>,
 ) -> Result<bool, AllocError> {
-    let outcome = outcome_with(alloc, vector.message)?;
     let text = four_lines(alloc, vector)?;
     let written = written(rt, alloc, vector, FormatSetting::Json, threads)?;
-    let bytes = written.as_slice();
-    Ok(
-        bytes == text.as_str().as_bytes()
-            && is_of_one(read_report(alloc, bytes)?, vector, &outcome)
-            && is_of_one(fed(alloc, bytes)?, vector, &outcome),
-    )
+    let is_written = written.as_slice() == text.as_str().as_bytes();
+    Ok(is_written && is_read_as(alloc, &written, vector)?)
 }
 
 // With its kind and without, by one thread and by a worker.
-const WAYS: [(bool, Option<usize>); 4] = [
+static WAYS: [(bool, Option<usize>); 4] = [
     (true, None),
     (true, Some(2)),
     (false, None),
@@ -269,7 +271,7 @@ fn shows_hostile_texts(rt: HostRuntime) -> Result<(), Fail> {
 
 // A name of one character in four bytes, and what is no text in its place: half of a pair, another spelling of `/`, the same
 // character cut short, one of two bytes cut short, and a byte that no text has.
-const NO_TEXTS: [&[u8]; 5] = [
+static NO_TEXTS: [&[u8]; 5] = [
     b"\xed\xa0\x80",
     b"\xc0\xaf",
     b"\xf0\x9f\x98",
@@ -354,7 +356,7 @@ fn pads_to_a_long_name(rt: HostRuntime) -> Result<(), Fail> {
     Ok(())
 }
 
-const TWO_LINES: &[u8] =
+static TWO_LINES: &[u8] =
     b"\nrunning 1 test\ntest a\nb ... ok\n\ntest result: ok. 1 passed; 0 failed; 0 ignored; 0 measured; 0 filtered out; finished in 0.00s\n\n";
 
 // In pretty a name stands as it is, and no line that it forges is counted.

@@ -89,9 +89,9 @@ fn that_meet<M: Clock + Copy + Drop>(
 
 const ONE: [(&str, u64); 1] = [("a", TURNS)];
 
-const TWO: [(&str, u64); 2] = [("a", TURNS), ("b", TURNS)];
+static TWO: [(&str, u64); 2] = [("a", TURNS), ("b", TURNS)];
 
-const THREE: [(&str, u64); 3] = [("a", TURNS), ("b", TURNS), ("c", TURNS)];
+static THREE: [(&str, u64); 3] = [("a", TURNS), ("b", TURNS), ("c", TURNS)];
 
 // What a run by so many threads leaves of trials that all await one another.
 fn run_meeting<T: Spawner + Clock + 'static>(
@@ -127,7 +127,7 @@ fn runs_as_many_as_asked(rt: HostRuntime) -> Result<(), Fail> {
     Ok(())
 }
 
-const FIRST_GIVES_UP: [(&str, u64); 3] = [("a", FEW_TURNS), ("b", TURNS), ("c", TURNS)];
+static FIRST_GIVES_UP: [(&str, u64); 3] = [("a", FEW_TURNS), ("b", TURNS), ("c", TURNS)];
 
 // A trial without a worker waits its turn, and comes when the first one has given up.
 #[test]

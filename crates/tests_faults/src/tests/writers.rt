@@ -300,7 +300,7 @@ fn stops_workers_at_each_byte(rt: HostRuntime) -> Result<(), Fail> {
 }
 
 // How a flush fails.
-const FLUSH_FAULTS: [Fault; 3] = [
+static FLUSH_FAULTS: [Fault; 3] = [
     FULL,
     Fault::Error(ErrorKind::BrokenPipe),
     Fault::Error(ErrorKind::Interrupted),
