@@ -109,7 +109,7 @@ fn joins_what_is_read(rt: HostRuntime) -> Result<(), Fail> {
 }
 
 // What stands in the second report and is replaced, what comes in its place, and what is shown then.
-const ODD: [(&str, &str, &str); 9] = [
+static ODD: [(&str, &str, &str); 9] = [
     (SECOND, "", "B: the report is cut"),
     (SECOND, "no line", "B: the report is cut"),
     ("0.25 }\n", "0.25 }", "B: the report is cut"),

@@ -81,7 +81,7 @@ fn have_same_lines(a: &str, b: &str) -> bool {
 }
 
 // Lines that drop no trial, and lines that do, so that the rows of the joined report are in another order.
-const LINES: [(bool, &[&str]); 9] = [
+static LINES: [(bool, &[&str]); 9] = [
     (false, &["suite", "--format=json"]),
     (false, &["suite", "--format=json", "--include-ignored"]),
     (false, &["suite", "--format=json", "--test"]),

@@ -5,7 +5,7 @@ use std::alloc::{AllocError, Global};
 use std::test::Fail;
 
 // Good pairs: the total, the index, and both as numbers.
-const GOOD: [(&str, &str, usize, usize); 6] = [
+static GOOD: [(&str, &str, usize, usize); 6] = [
     ("1", "0", 1, 0),
     ("4", "0", 4, 0),
     ("4", "3", 4, 3),
@@ -29,7 +29,7 @@ fn reads_good_pairs(rt: HostRuntime) {
 }
 
 // Pairs that name no shard, and what is shown.
-const REFUSED: [(Option<&str>, Option<&str>, &str); 9] = [
+static REFUSED: [(Option<&str>, Option<&str>, &str); 9] = [
     (
         Some("4"),
         None,
@@ -95,7 +95,7 @@ fn refuses_other_pairs(rt: HostRuntime) -> Result<(), Fail> {
 }
 
 // Shards of the letters from a to g: the count, the index, and the letters.
-const SHARDS: [(usize, usize, &str); 7] = [
+static SHARDS: [(usize, usize, &str); 7] = [
     (1, 0, "abcdefg"),
     (3, 0, "adg"),
     (3, 1, "be"),
