@@ -34,7 +34,7 @@ Options:
 ";
 
 // One word for each option, and one for the filter.
-const WORDS: [&str; 17] = [
+static WORDS: [&str; 17] = [
     "--include-ignored",
     "--ignored",
     "--test",
@@ -55,7 +55,7 @@ const WORDS: [&str; 17] = [
 ];
 
 // Lines, and their arguments as `Debug` shows them.
-const LINES_READ: [(&str, &str); 7] = [
+static LINES_READ: [(&str, &str); 7] = [
     (
         "harness",
         "Arguments { include_ignored: false, ignored: false, test: false, bench: false, list: false, nocapture: false, show_output: false, unstable_flags: None, exact: false, quiet: false, test_threads: None, logfile: None, skip: [], color: None, format: None, filter: [] }",
@@ -117,7 +117,7 @@ fn reads_lines(rt: HostRuntime) -> Result<(), Fail> {
     Ok(())
 }
 
-const FORMATS: [(&str, FormatSetting); 3] = [
+static FORMATS: [(&str, FormatSetting); 3] = [
     ("pretty", FormatSetting::Pretty),
     ("terse", FormatSetting::Terse),
     ("json", FormatSetting::Json),
@@ -236,7 +236,7 @@ fn takes_all_pairs_but_those_excluded(rt: HostRuntime) {
 }
 
 // The setting, whether the caller says so, whether there is a logfile, and whether a report has colours.
-const COLOURS: [(Option<ColorSetting>, bool, bool, bool); 4] = [
+static COLOURS: [(Option<ColorSetting>, bool, bool, bool); 4] = [
     (Some(ColorSetting::Always), false, true, true),
     (Some(ColorSetting::Auto), true, true, false),
     (None, true, false, true),
@@ -268,7 +268,7 @@ fn settles_the_format(rt: HostRuntime) {
 }
 
 // Lines, and the words of their own and the filter that they give, if their options were read.
-const LINES: [(&str, &str); 7] = [
+static LINES: [(&str, &str); 7] = [
     ("program", "[] "),
     ("program a b", "[\"a\", \"b\"] "),
     ("program a --", "[\"a\"] "),
@@ -321,7 +321,7 @@ enum Took {
 }
 
 // Lines, and what a program that takes one or two operands makes of them.
-const OPERANDS: [(&str, Took); 12] = [
+static OPERANDS: [(&str, Took); 12] = [
     ("program", Took::Refused),
     ("program a", Took::Operands(1, false)),
     ("program a b -- --list", Took::Operands(2, true)),

@@ -1,5 +1,5 @@
 //! The parts of a report one by one.
-ghost use Rattle.std.specs.Prelude.{◌≡◌, length};
+ghost use Rattle.std.specs.Prelude.{◌≡◌, IfOk, length};
 
 use mimic_printer::{Printer, Sink, WriteFault};
 use mimic_text::FormatSetting;
@@ -36,26 +36,36 @@ fn parts_printed(
     Ok(sink.into_inner())
 }
 
-const PARTS: &[u8] =
+static PARTS: &[u8] =
     b"\nrunning 1 test\ntest     a   ... test [k] bcd ... \nfailures:\n\n---- bcd ----\n\n---- a ----\n\n\nfailures:\n    bcd\n    a\nb: test\n";
 
 fn failed() -> Outcome {
     Outcome::Failed(Failed::without_message())
 }
 
+// The infos of `a`, and of `bcd`, which has a kind.
+fn two_infos(alloc: Global) -> Result<Vec<TestInfo>, AllocError>
+    ensures { IfOk result (λ infos. length infos.items ≡ 2) }
+{
+    let mut infos = Vec::new(alloc);
+    infos.push(info(alloc, "a", "", false)?)?;
+    infos.push(info(alloc, "bcd", "k", false)?)?;
+    Ok(infos)
+}
+
+// The trials `a`, and `b`, which is ignored.
+fn two_trials(alloc: Global) -> Result<Vec<Trial<()>>, AllocError> {
+    let mut tests = Vec::new(alloc);
+    tests.push(Trial::from_parts(info(alloc, "a", "", false)?, ()))?;
+    tests.push(Trial::from_parts(info(alloc, "b", "", true)?, ()))?;
+    Ok(tests)
+}
+
 #[test]
 fn prints_parts(rt: HostRuntime) -> Result<(), Fail> {
-    let alloc = rt.alloc();
-    let infos = vec![in alloc;
-        info(alloc, "a", "", false)?,
-        info(alloc, "bcd", "k", false)?,
-    ]?;
-    let tests = vec![in alloc;
-        Trial::from_parts(info(alloc, "a", "", false)?, ()),
-        Trial::from_parts(info(alloc, "b", "", true)?, ()),
-    ]?;
-    let outcomes = vec![in alloc; failed(), failed()]?;
-    let bytes = parts_printed(alloc, &infos, &outcomes, &tests)?;
+    let infos = two_infos(rt.alloc())?;
+    let tests = two_trials(rt.alloc())?;
+    let bytes = parts_printed(rt.alloc(), &infos, &[failed(), failed()], &tests)?;
     assert!(rt; bytes.as_slice() == PARTS);
     Ok(())
 }
@@ -73,61 +83,70 @@ fn outcome_printed(
     Ok(sink.into_inner())
 }
 
-// What is printed of measurements: the format, whether in colour, the average, the variance, and the text.
-const MEASUREMENTS: [(FormatSetting, bool, u64, u64, &str); 4] = [
+// An outcome that is plain data.
+#[derive(Clone, Copy, Debug)]
+enum Plain {
+    Passed,
+    Ignored,
+    // The average and the variance.
+    Measured(u64, u64),
+}
+
+fn outcome_of(plain: Plain) -> Outcome {
+    match plain {
+        Plain::Passed => Outcome::Passed,
+        Plain::Ignored => Outcome::Ignored,
+        Plain::Measured(avg, variance) => Outcome::Measured(Measurement { avg, variance }),
+    }
+}
+
+// What is printed of outcomes: the format, whether in colour, the outcome, and the text.
+static PRINTED: [(FormatSetting, bool, Plain, &str); 8] = [
+    (FormatSetting::Pretty, false, Plain::Ignored, "ignored\n"),
+    (FormatSetting::Terse, false, Plain::Ignored, "i"),
+    (
+        FormatSetting::Terse,
+        true,
+        Plain::Ignored,
+        "\x1b[33mi\x1b[0m",
+    ),
+    (
+        FormatSetting::Terse,
+        true,
+        Plain::Passed,
+        "\x1b[32m.\x1b[0m",
+    ),
     (
         FormatSetting::Pretty,
         false,
-        100_000_000,
-        0,
+        Plain::Measured(100_000_000, 0),
         "bench: 100,000,000 ns/iter (+/- 0)\n",
     ),
     (
         FormatSetting::Pretty,
         false,
-        12_345_678_901,
-        1000,
+        Plain::Measured(12_345_678_901, 1000),
         "bench: 12,345,678,901 ns/iter (+/- 1,000)\n",
     ),
     (
         FormatSetting::Pretty,
         false,
-        1_234_567,
-        89,
+        Plain::Measured(1_234_567, 89),
         "bench:   1,234,567 ns/iter (+/- 89)\n",
     ),
     (
         FormatSetting::Terse,
         true,
-        1_234_567,
-        89,
+        Plain::Measured(1_234_567, 89),
         "\x1b[36mbench\x1b[0m:   1,234,567 ns/iter (+/- 89)\n",
     ),
 ];
 
 #[test]
-fn prints_measurements(rt: HostRuntime) -> Result<(), Fail> {
-    for (format, colour, avg, variance, want) in &MEASUREMENTS {
-        let outcome = Outcome::Measured(Measurement {
-            avg: *avg,
-            variance: *variance,
-        });
-        let bytes = outcome_printed(rt.alloc(), *format, *colour, &outcome)?;
-        assert!(rt; bytes.as_slice() == want.as_bytes());
-    }
-    Ok(())
-}
-
-#[test]
 fn prints_outcomes(rt: HostRuntime) -> Result<(), Fail> {
-    let (pretty, terse) = (FormatSetting::Pretty, FormatSetting::Terse);
-    let bytes = outcome_printed(rt.alloc(), pretty, false, &Outcome::Ignored)?;
-    assert!(rt; bytes.as_slice() == b"ignored\n".as_slice());
-    let bytes = outcome_printed(rt.alloc(), terse, false, &Outcome::Ignored)?;
-    assert!(rt; bytes.as_slice() == b"i".as_slice());
-    let bytes = outcome_printed(rt.alloc(), terse, true, &Outcome::Ignored)?;
-    assert!(rt; bytes.as_slice() == b"\x1b[33mi\x1b[0m".as_slice());
-    let bytes = outcome_printed(rt.alloc(), terse, true, &Outcome::Passed)?;
-    assert!(rt; bytes.as_slice() == b"\x1b[32m.\x1b[0m".as_slice());
+    for (format, colour, plain, want) in &PRINTED {
+        let bytes = outcome_printed(rt.alloc(), *format, *colour, &outcome_of(*plain))?;
+        assert!(rt; bytes.as_slice() == want.as_bytes(), "{plain:?}");
+    }
     Ok(())
 }

@@ -138,20 +138,26 @@ fn refused(alloc: Global, text: &str) -> Result<ArgumentsError, AllocError> {
     Ok(ArgumentsError::Refused(String::from_str(alloc, text)?))
 }
 
-const HELD: [&str; 3] = [
+static HELD: [&str; 3] = [
     "",
     "Usage: harness [OPTIONS] [FILTER]...\n",
     "error: {0} \"x\"\n\n",
 ];
 
-// Each error of a command line: what `Debug` shows of it, and its text, which is the held one if it holds one.
+// The text of an error of a command line is the held one.
+#[test]
+fn tells_errors_that_hold_texts(rt: HostRuntime) -> Result<(), Fail> {
+    for held in &HELD {
+        check_display(&rt, rt.alloc(), &help(rt.alloc(), held)?, held)?;
+        check_display(&rt, rt.alloc(), &refused(rt.alloc(), held)?, held)?;
+    }
+    Ok(())
+}
+
+// The text of the one that holds none, and what `Debug` shows of each.
 #[test]
 fn tells_errors_of_command_lines(rt: HostRuntime) -> Result<(), Fail> {
     let alloc = rt.alloc();
-    for held in HELD {
-        check_display(&rt, alloc, &help(alloc, held)?, held)?;
-        check_display(&rt, alloc, &refused(alloc, held)?, held)?;
-    }
     check_display(&rt, alloc, &ArgumentsError::OutOfMemory, "out of memory")?;
     check_display(&rt, alloc, &UnknownFormat, "no such format")?;
     check_debug(&rt, alloc, &ArgumentsError::OutOfMemory, "OutOfMemory")?;

@@ -2,7 +2,7 @@
 use mimic_text::{escape_char, exact_seconds, fmt_with_thousand_sep, thousands};
 use std::test::Fail;
 
-const GROUPED: [(u64, &str); 5] = [
+static GROUPED: [(u64, &str); 5] = [
     (0, "0"),
     (999, "999"),
     (1000, "1,000"),
@@ -20,7 +20,7 @@ fn groups_thousands(rt: HostRuntime) -> Result<(), Fail> {
     Ok(())
 }
 
-const ESCAPED: [(char, &str); 15] = [
+static ESCAPED: [(char, &str); 15] = [
     ('"', "\\\""),
     ('\\', "\\\\"),
     ('\u{8}', "\\b"),
@@ -45,7 +45,7 @@ fn escapes_characters(rt: HostRuntime) {
     }
 }
 
-const SECONDS: [(u64, &str); 7] = [
+static SECONDS: [(u64, &str); 7] = [
     (0, "0"),
     (1, "0.000000001"),
     (4_999_999, "0.004999999"),
