@@ -111,8 +111,8 @@ fn plain(rt: HostRuntime) -> Result<(), Fail> {
     // The third reading behind the start is 12 seconds after it.
     let line = "[      ] 0/2 12s\n";
     let expected = format!(in alloc; "{line}{FAILURE}{BENCH}{SUMMARY}")?;
-    assert_eq!(rt; status, 101);
-    assert_eq!(rt; text, expected);
+    assert!(rt; status == 101, "{status}");
+    assert!(rt; text == expected, "{text}");
     Ok(())
 }
 
@@ -132,31 +132,32 @@ fn live(rt: HostRuntime) -> Result<(), Fail> {
         "\r \x1b[J\r\x1b[K",
     );
     let expected = format!(in alloc; "{expected}{SUMMARY}")?;
-    assert_eq!(rt; status, 101);
-    assert_eq!(rt; text, expected);
+    assert!(rt; status == 101, "{status}");
+    assert!(rt; text == expected, "{text}");
     Ok(())
 }
+
+// Pieces, the status, and what is shown.
+static NO_REPORTS: [(&[&str], u8, &str); 6] = [
+    (&[], 1, ""),
+    (&["what"], 1, ""),
+    (&[TITLE, ANNOUNCED, FAILED], 1, FAILURE),
+    (&[TITLE, ANNOUNCED, FAILED, BROKEN, REST], 99, FAILURE),
+    (&[TITLE, ANNOUNCED, FAILED, FAILED, REST], 1, FAILURE),
+    (
+        &[TITLE, ANNOUNCED, FAILED, REST, "\n"],
+        1,
+        "FAILED [k] a\\u{1b}b\n    no\nbench  b: 1,234 ns/iter (+/- 5)\n",
+    ),
+];
 
 // Reports that are cut or spoilt, or whose input fails, show the rows before, and nothing behind.
 #[test]
 fn no_reports(rt: HostRuntime) -> Result<(), Fail> {
-    let alloc = rt.alloc();
-    let table: [(&[&str], u8, &str); 6] = [
-        (&[], 1, ""),
-        (&["what"], 1, ""),
-        (&[TITLE, ANNOUNCED, FAILED], 1, FAILURE),
-        (&[TITLE, ANNOUNCED, FAILED, BROKEN, REST], 99, FAILURE),
-        (&[TITLE, ANNOUNCED, FAILED, FAILED, REST], 1, FAILURE),
-        (
-            &[TITLE, ANNOUNCED, FAILED, REST, "\n"],
-            1,
-            "FAILED [k] a\\u{1b}b\n    no\nbench  b: 1,234 ns/iter (+/- 5)\n",
-        ),
-    ];
-    for (pieces, ended, expected) in &table {
-        let (status, text) = watched_pieces(alloc, *pieces, 1, false)?;
-        assert_eq!(rt; status, *ended);
-        assert_eq!(rt; text.as_str(), *expected);
+    for (pieces, ended, expected) in &NO_REPORTS {
+        let (status, text) = watched_pieces(rt.alloc(), *pieces, 1, false)?;
+        assert!(rt; status == *ended, "{status}");
+        assert!(rt; text.as_str() == *expected, "{text}");
     }
     Ok(())
 }
@@ -197,8 +198,9 @@ fn long_message(rt: HostRuntime) -> Result<(), Fail> {
     let alloc = rt.alloc();
     let line = long_failure(alloc)?;
     let (status, text) = watched_failure(alloc, line.as_str())?;
-    assert_eq!(rt; status, 1);
-    assert_eq!(rt; text, long_failure_shown(alloc)?);
+    let expected = long_failure_shown(alloc)?;
+    assert!(rt; status == 1, "{status}");
+    assert!(rt; text == expected, "{text}");
     Ok(())
 }
 
@@ -235,13 +237,13 @@ fn many_rows(rt: HostRuntime) -> Result<(), Fail> {
         begun: false,
     };
     let (status, text) = watched(alloc, &mut input, 1, true)?;
-    assert_eq!(rt; status, 1);
+    assert!(rt; status == 1, "{status}");
     let mut drawn = 0_u32;
     for frame in text.as_str().split("\x1b[?7l\r").skip(1) {
         drawn = drawn.saturating_add(1);
         let first = frame.split("\x1b[J").next().unwrap_or("");
         assert!(rt; first.len() <= 39, "{first:?}");
     }
-    assert_eq!(rt; drawn, 1_000);
+    assert!(rt; drawn == 1_000, "{drawn}");
     Ok(())
 }
