@@ -37,8 +37,9 @@ fn slow_trials<M: Clock + Copy + Drop>(
 ) -> Result<Vec<Trial<Slow<M>>>, AllocError> {
     let mut tests = Vec::with_capacity(alloc, NAMES.len())?;
     for name in &NAMES {
+        let name = String::from_str(alloc, name)?;
         let steps = Arc::try_clone(steps)?;
-        tests.push(Trial::new(String::from_str(alloc, name)?, Slow { machine, steps }))?;
+        tests.push(Trial::new(name, Slow { machine, steps }))?;
     }
     Ok(tests)
 }

@@ -62,14 +62,16 @@ fn meeting<M: Clock + Drop>(
     count: &Arc<AtomicU64>,
     awaited: u64,
 ) -> Result<Trial<Meets<M>>, AllocError> {
+    let name = String::from_str(alloc, name)?;
+    let not_met = String::from_str(alloc, "not met")?;
     let runner = Meets {
         machine,
         turns,
         count: Arc::try_clone(count)?,
         awaited,
-        not_met: String::from_str(alloc, "not met")?,
+        not_met,
     };
-    Ok(Trial::new(String::from_str(alloc, name)?, runner))
+    Ok(Trial::new(name, runner))
 }
 
 // Trials that all await one another: their names, and for how many turns.

@@ -118,12 +118,14 @@ fn marking(
     ran: &Arc<AtomicU64>,
     message: Option<&str>,
 ) -> Result<Trial<Marks>, AllocError> {
+    let name = String::from_str(alloc, name)?;
+    let outcome = outcome_with(alloc, message)?;
     let runner = Marks {
         ran: Arc::try_clone(ran)?,
         weight,
-        outcome: outcome_with(alloc, message)?,
+        outcome,
     };
-    Ok(Trial::new(String::from_str(alloc, name)?, runner))
+    Ok(Trial::new(name, runner))
 }
 
 // The weights of the two tests.
