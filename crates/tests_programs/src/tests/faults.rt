@@ -66,21 +66,29 @@ struct Left {
     runs_after: u64,
 }
 
-// A test that passes, one that fails with a message of two lines, and one of a long name.
+// A test that passes, one that fails with a message of two lines, and one of a long name: a part of the name, how often it
+// stands there, and the message.
+static THREE_TESTS: [(&str, usize, Option<&str>); 3] = [
+    ("passes", 1, None),
+    ("fails\t", 1, Some("first line\nsecond \"line\"")),
+    ("long name ", 26, None),
+];
+
+// A failure with the message, or else a pass.
+fn outcome_with(alloc: Global, message: Option<&str>) -> Result<Outcome, AllocError> {
+    Ok(match message {
+        Some(text) => Outcome::Failed(Failed::with_message(String::from_str(alloc, text)?)),
+        None => Outcome::Passed,
+    })
+}
+
 fn three_tests(alloc: Global, seen: &Arc<Seen>) -> Result<Vec<Trial<Watched>>, AllocError> {
     let mut tests = Vec::new(alloc);
-    for (name, repeats, message) in [
-        ("passes", 1, None),
-        ("fails\t", 1, Some("first line\nsecond \"line\"")),
-        ("long name ", 26, None),
-    ] {
-        let outcome = match message {
-            Some(text) => Outcome::Failed(Failed::with_message(String::from_str(alloc, text)?)),
-            None => Outcome::Passed,
-        };
+    for (name, repeats, message) in &THREE_TESTS {
+        let name = name.repeat(alloc, *repeats)?;
+        let outcome = outcome_with(alloc, *message)?;
         let seen = Arc::try_clone(seen)?;
-        let watched = Watched { outcome, seen };
-        tests.push(Trial::new(name.repeat(alloc, repeats)?, watched))?;
+        tests.push(Trial::new(name, Watched { outcome, seen }))?;
     }
     Ok(tests)
 }
@@ -200,57 +208,73 @@ fn stops_json_at_each_place(rt: HostRuntime) -> Result<(), Fail> {
     Ok(())
 }
 
+static POLICIES: [FlushPolicy; 5] = [
+    FlushPolicy::Always,
+    FlushPolicy::OnFlush,
+    FlushPolicy::OnLineEnd,
+    FlushPolicy::OnEvenLineEnd,
+    FlushPolicy::WhenFull,
+];
+
 // A piece that fills a block, by each policy, where the writer fails once: no call is well after that, flushes neither.
 #[test]
 fn fails_after_a_fault(rt: HostRuntime) -> Result<(), Fail> {
-    let alloc = rt.alloc();
-    for policy in [
-        FlushPolicy::Always,
-        FlushPolicy::OnFlush,
-        FlushPolicy::OnLineEnd,
-        FlushPolicy::OnEvenLineEnd,
-        FlushPolicy::WhenFull,
-    ] {
-        let writer = FaultyWriter::new(alloc).failing(Place::Write(1), Fault::ALL[0]);
-        let mut output = Output::new(policy, writer);
+    for policy in &POLICIES {
+        let writer = FaultyWriter::new(rt.alloc()).failing(Place::Write(1), Fault::ALL[0]);
+        let mut output = Output::new(*policy, writer);
         assert!(rt; output.write_all(&[0; 8192]).is_err());
         assert!(rt; output.flush().is_err());
         assert!(rt; output.write_all(b"a").is_err());
         let (writer, finished) = output.finish();
         assert!(rt; finished.is_err());
-        assert_eq!(rt; writer.calls_after, 0);
+        assert!(rt; writer.calls_after == 0);
     }
     Ok(())
+}
+
+// Where a writer fails and how, and the kind of error that the call tells.
+static TOLD: [(Place, Fault, ErrorKind); 4] = [
+    (
+        Place::Write(1),
+        Fault::Error(ErrorKind::StorageFull),
+        ErrorKind::StorageFull,
+    ),
+    (
+        Place::Write(1),
+        Fault::Error(ErrorKind::Interrupted),
+        ErrorKind::Interrupted,
+    ),
+    (Place::Write(1), Fault::TakesNone, ErrorKind::WriteZero),
+    (
+        Place::Byte(10),
+        Fault::Error(ErrorKind::StorageFull),
+        ErrorKind::StorageFull,
+    ),
+];
+
+// The kind of the error that a write tells, if it tells one.
+fn kind_of(put: Result<(), WriteFault>) -> Option<ErrorKind> {
+    match put {
+        Err(WriteFault::Error(error)) => Some(error.kind()),
+        _ => None,
+    }
 }
 
 // A piece through a sink and a buffer, where the writer fails once: the call that had the fault tells what it was, and each
 // later one fails without asking the writer.
 #[test]
 fn tells_a_fault_at_its_call(rt: HostRuntime) -> Result<(), Fail> {
-    let alloc = rt.alloc();
-    for (place, fault) in [
-        (Place::Write(1), Fault::ALL[0]),
-        (Place::Write(1), Fault::ALL[1]),
-        (Place::Write(1), Fault::ALL[2]),
-        (Place::Byte(10), Fault::ALL[0]),
-    ] {
-        let writer = FaultyWriter::new(alloc).failing(place, fault);
+    for (place, fault, kind) in &TOLD {
+        let writer = FaultyWriter::new(rt.alloc()).failing(*place, *fault);
         let mut sink = Sink::new(Output::new(FlushPolicy::OnLineEnd, writer));
         assert!(rt; sink.put(b"waits").is_ok());
-        let kind = match fault {
-            Fault::Error(kind) => kind,
-            Fault::TakesNone => ErrorKind::WriteZero,
-        };
-        match sink.put(b" and goes out\n") {
-            Err(WriteFault::Error(error)) => assert!(rt; error.kind() == kind),
-            _ => assert!(rt; false),
-        }
+        assert!(rt; kind_of(sink.put(b" and goes out\n")) == Some(*kind));
         assert!(rt; sink.put(b"a").is_err());
         assert!(rt; sink.put(b"a\n").is_err());
         assert!(rt; sink.flush().is_err());
         let (writer, finished) = sink.into_inner().finish();
         assert!(rt; finished.is_err());
-        assert_eq!(rt; writer.calls_after, 0);
+        assert!(rt; writer.calls_after == 0);
         assert!(rt; b"waits and goes out\n".starts_with(writer.bytes.as_slice()));
     }
     Ok(())

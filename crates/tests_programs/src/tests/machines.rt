@@ -3,7 +3,7 @@ use super::known_machine::{NO_OPTIONS, Streams, Variables, Words, known_machine,
 use super::runs::Host;
 use libtest_mimic::{Arguments, Failed, Line, Outcome, RunError, Task, Trial};
 use mimic_main::{Program, Sharding, Status, run_line, trials_of_cases};
-use std::alloc::Global;
+use std::alloc::{AllocError, Global};
 use std::fmt::Display;
 use std::process::{ExitCode, Termination};
 use std::sync::Arc;
@@ -23,7 +23,7 @@ impl Task for Pass {
 
 // Variables, whether the output is a terminal, and whether the report has colours: on a terminal that can show them, if `NO_COLOR`
 // is unset or empty.
-const COLOURS: [(Variables, bool, bool); 10] = [
+static COLOURS: [(Variables, bool, bool); 10] = [
     (&[("TERM", b"xterm-256color")], true, true),
     (&[("TERM", b"xterm-256color")], false, false),
     (&[("TERM", b"vt52")], true, true),
@@ -36,6 +36,13 @@ const COLOURS: [(Variables, bool, bool); 10] = [
     (&[("TERM", b"xterm"), ("NO_COLOR", b"")], false, false),
 ];
 
+// One test.
+fn one_test(alloc: Global) -> Result<Vec<Trial<Pass>>, AllocError> {
+    let mut tests = Vec::new(alloc);
+    tests.push(Trial::new(String::from_str(alloc, "a")?, Pass))?;
+    Ok(tests)
+}
+
 // Whether a test runs there, and its report has colours or not, and the time that the clock measured.
 fn shows_as_known<H: Host>(
     host: H,
@@ -47,8 +54,7 @@ fn shows_as_known<H: Host>(
     let mut machine = known_machine(host, alloc, NO_OPTIONS, &streams);
     machine.variables = variables;
     machine.is_terminal = *is_terminal;
-    let tests = vec![in alloc; Trial::new(String::from_str(alloc, "a")?, Pass)]?;
-    let status = run_on(&machine, Ok(tests));
+    let status = run_on(&machine, Ok(one_test(alloc)?));
     let report = String::from_utf8(streams.out.bytes.replace(Vec::new(alloc)))?;
     let report = report.as_str();
     Ok(
@@ -131,7 +137,7 @@ fn prints_under_its_name(rt: HostRuntime) {
 }
 
 // Lines without any word, even the program's name, and with a word that is no text, also after one that asks for help.
-const UNREADABLE: [Words; 3] = [
+static UNREADABLE: [Words; 3] = [
     &[],
     &[b"program", b"a", b"\xff"],
     &[b"program", b"--help", b"\xff"],
@@ -139,18 +145,16 @@ const UNREADABLE: [Words; 3] = [
 
 // Whether the line is refused, and has no words of the program's own either.
 fn is_unreadable<H: Host>(host: H, alloc: Global, words: Words) -> Result<bool, Fail> {
+    let tests = one_test(alloc)?;
     let streams = Streams::new(alloc);
     let machine = known_machine(host, alloc, words, &streams);
-    let tests = vec![in alloc; Trial::new(String::from_str(alloc, "a")?, Pass)]?;
-    let status = run_on(&machine, Ok(tests));
     let line = Line::from_args(&machine, alloc);
     let shown = format!(in alloc; "{line:?}")?;
-    Ok(
-        status == ExitCode::from(2)
-            && shown.as_str()
-                == "Line { own: [], options: Err(Refused(\"cannot read the arguments\")) }"
-            && streams.have_only_printed(alloc, "cannot read the arguments\n"),
-    )
+    let is_line_refused = shown.as_str()
+        == "Line { own: [], options: Err(Refused(\"cannot read the arguments\")) }";
+    let is_refused = run_on(&machine, Ok(tests)) == ExitCode::from(2);
+    let is_printed = streams.have_only_printed(alloc, "cannot read the arguments\n");
+    Ok(is_line_refused && is_refused && is_printed)
 }
 
 #[test]
@@ -188,8 +192,9 @@ fn runs_in_the_threads_of_its_machine(rt: HostRuntime) -> Result<(), Fail> {
     let running = Arc::new(alloc, AtomicUsize::new(0))?;
     let mut tests = Vec::new(alloc);
     for number in 0..awaited {
+        let name = format!(in alloc; "{number}")?;
         let running = running.clone()?;
-        tests.push(Trial::new(format!(in alloc; "{number}")?, Meets { running, awaited }))?;
+        tests.push(Trial::new(name, Meets { running, awaited }))?;
     }
     let streams = Streams::new(alloc);
     let machine = known_machine(rt, alloc, NO_OPTIONS, &streams);

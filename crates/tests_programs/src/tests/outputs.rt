@@ -53,50 +53,55 @@ fn marking(rt: &HostRuntime, policy: FlushPolicy) -> Output<Marked> {
     Output::new(policy, Marked::new(rt.alloc(), usize::MAX))
 }
 
+// A policy, how many bytes its writer has after each write, and how often it is flushed.
+static HANDED_ON: [(FlushPolicy, &[usize], usize); 5] = [
+    (FlushPolicy::Always, &[2, 4, 5], 1),
+    (FlushPolicy::OnFlush, &[2, 5], 2),
+    (FlushPolicy::OnLineEnd, &[4, 5], 1),
+    (FlushPolicy::OnEvenLineEnd, &[5], 1),
+    (FlushPolicy::WhenFull, &[5], 1),
+];
+
 // Two bytes and a flush, a line of two bytes, and one byte more. One policy heeds the flush and flushes the writer, and the end
 // flushes it, too.
 #[test]
 fn hands_on_as_asked(rt: HostRuntime) -> Result<(), Fail> {
-    let rows: [(FlushPolicy, &[usize], usize); 5] = [
-        (FlushPolicy::Always, &[2, 4, 5], 1),
-        (FlushPolicy::OnFlush, &[2, 5], 2),
-        (FlushPolicy::OnLineEnd, &[4, 5], 1),
-        (FlushPolicy::OnEvenLineEnd, &[5], 1),
-        (FlushPolicy::WhenFull, &[5], 1),
-    ];
-    for (policy, marks, flushes) in rows {
-        let mut output = marking(&rt, policy);
+    for (policy, marks, flushes) in &HANDED_ON {
+        let mut output = marking(&rt, *policy);
         output.write_all(b"ab")?;
         output.flush()?;
         output.write_all(b"c\n")?;
         output.write_all(b"d")?;
         let (writer, finished) = output.finish();
         finished?;
-        assert!(rt; writer.marks.as_slice() == marks);
-        assert_eq!(rt; writer.flushes, flushes, "{policy:?}");
+        assert!(rt; writer.marks.as_slice() == *marks, "{policy:?}");
+        assert!(rt; writer.flushes == *flushes, "{policy:?}");
     }
     Ok(())
 }
+
+// A policy, and how often its writer is flushed.
+static FLUSHED: [(FlushPolicy, usize); 5] = [
+    (FlushPolicy::Always, 1),
+    (FlushPolicy::OnFlush, 3),
+    (FlushPolicy::OnLineEnd, 1),
+    (FlushPolicy::OnEvenLineEnd, 1),
+    (FlushPolicy::WhenFull, 1),
+];
 
 // A line and two flushes. The writer may buffer, too, so a flush that is handed on reaches it though nothing waits, and so does the
 // end.
 #[test]
 fn flushes_its_writer_if_nothing_waits(rt: HostRuntime) -> Result<(), Fail> {
-    for (policy, flushes) in [
-        (FlushPolicy::Always, 1),
-        (FlushPolicy::OnFlush, 3),
-        (FlushPolicy::OnLineEnd, 1),
-        (FlushPolicy::OnEvenLineEnd, 1),
-        (FlushPolicy::WhenFull, 1),
-    ] {
-        let mut output = marking(&rt, policy);
+    for (policy, flushes) in &FLUSHED {
+        let mut output = marking(&rt, *policy);
         output.write_all(b"a\n")?;
         output.flush()?;
         output.flush()?;
         let (writer, finished) = output.finish();
         finished?;
-        assert_eq!(rt; writer.len, 2);
-        assert_eq!(rt; writer.flushes, flushes, "{policy:?}");
+        assert!(rt; writer.len == 2, "{policy:?}");
+        assert!(rt; writer.flushes == *flushes, "{policy:?}");
     }
     Ok(())
 }
@@ -116,11 +121,13 @@ fn hands_on_whole_blocks(rt: HostRuntime) -> Result<(), Fail> {
     Ok(())
 }
 
+static PIECES: [&str; 7] = ["one piece\n", "many", " pieces", "\n", "\n", "the", " end"];
+
 // A line goes out in one write, whether it comes in one piece or in many.
 #[test]
 fn hands_on_whole_lines(rt: HostRuntime) -> Result<(), Fail> {
     let mut output = marking(&rt, FlushPolicy::OnLineEnd);
-    for piece in ["one piece\n", "many", " pieces", "\n", "\n", "the", " end"] {
+    for piece in &PIECES {
         output.write_all(piece.as_bytes())?;
     }
     let (writer, finished) = output.finish();
@@ -129,60 +136,67 @@ fn hands_on_whole_lines(rt: HostRuntime) -> Result<(), Fail> {
     Ok(())
 }
 
+const PAIRS: &[&str] = &[
+    "title\n", "a\n", "b", "\n", "c\n", "d\n", "e\n", "f\n", "end",
+];
+
+// The most bytes that a write takes, pieces, and how many bytes the writer has after each write.
+static SECOND_LINES: [(usize, &[&str], &[usize]); 2] = [
+    (usize::MAX, PAIRS, &[8, 12, 16, 21]),
+    (
+        3,
+        &["one\n", "two\n", "abc\n", "def\n", "end"],
+        &[3, 6, 8, 11, 14, 16, 19],
+    ),
+];
+
 // Of lines in pairs behind a title the first of each pair goes out with the end of the one before: in one write, or in as many as the
 // writer wants.
 #[test]
 fn hands_on_second_lines(rt: HostRuntime) -> Result<(), Fail> {
-    let pairs: &[&str] = &[
-        "title\n", "a\n", "b", "\n", "c\n", "d\n", "e\n", "f\n", "end",
-    ];
-    let rows: [(usize, &[&str], &[usize]); 2] = [
-        (usize::MAX, pairs, &[8, 12, 16, 21]),
-        (
-            3,
-            &["one\n", "two\n", "abc\n", "def\n", "end"],
-            &[3, 6, 8, 11, 14, 16, 19],
-        ),
-    ];
-    for (most, pieces, marks) in rows {
-        let mut output = Output::new(FlushPolicy::OnEvenLineEnd, Marked::new(rt.alloc(), most));
-        for piece in pieces {
+    for (most, pieces, marks) in &SECOND_LINES {
+        let mut output = Output::new(FlushPolicy::OnEvenLineEnd, Marked::new(rt.alloc(), *most));
+        for piece in *pieces {
             output.write_all(piece.as_bytes())?;
             output.flush()?;
         }
         let (writer, finished) = output.finish();
         finished?;
-        assert!(rt; writer.marks.as_slice() == marks);
-        assert_eq!(rt; writer.flushes, 1);
+        assert!(rt; writer.marks.as_slice() == *marks);
+        assert!(rt; writer.flushes == 1);
     }
     Ok(())
 }
 
-// For each format a report by one thread and by two, which is no terminal or is one. A list goes out in blocks.
+// A format, whether the output is a terminal, a number of threads, and the policy of a report by so many.
+static CHOSEN: [(FormatSetting, bool, usize, FlushPolicy); 12] = [
+    (FormatSetting::Pretty, false, 1, FlushPolicy::OnFlush),
+    (FormatSetting::Pretty, false, 2, FlushPolicy::OnLineEnd),
+    (FormatSetting::Pretty, true, 1, FlushPolicy::OnFlush),
+    (FormatSetting::Pretty, true, 2, FlushPolicy::OnLineEnd),
+    (FormatSetting::Terse, false, 1, FlushPolicy::OnLineEnd),
+    (FormatSetting::Terse, false, 2, FlushPolicy::OnLineEnd),
+    (FormatSetting::Terse, true, 1, FlushPolicy::Always),
+    (FormatSetting::Terse, true, 2, FlushPolicy::Always),
+    (FormatSetting::Json, false, 1, FlushPolicy::OnEvenLineEnd),
+    (FormatSetting::Json, false, 2, FlushPolicy::OnLineEnd),
+    (FormatSetting::Json, true, 1, FlushPolicy::OnEvenLineEnd),
+    (FormatSetting::Json, true, 2, FlushPolicy::OnLineEnd),
+];
+
+// The number of threads is the default, or asked for. A list goes out in blocks.
 #[test]
 fn chooses_by_format_threads_and_terminal(rt: HostRuntime) -> Result<(), Fail> {
-    let alloc = rt.alloc();
-    let pretty = [FlushPolicy::OnFlush, FlushPolicy::OnLineEnd];
-    let json = [FlushPolicy::OnEvenLineEnd, FlushPolicy::OnLineEnd];
-    let rows = [
-        (FormatSetting::Pretty, false, pretty),
-        (FormatSetting::Pretty, true, pretty),
-        (FormatSetting::Terse, false, [FlushPolicy::OnLineEnd; 2]),
-        (FormatSetting::Terse, true, [FlushPolicy::Always; 2]),
-        (FormatSetting::Json, false, json),
-        (FormatSetting::Json, true, json),
-    ];
-    for (format, is_terminal, policies) in rows {
-        let mut args = Arguments::new(alloc);
-        args.format = Some(format);
-        let chosen = [1, 2].map(|threads| FlushPolicy::of_run(&args, threads, is_terminal));
-        assert!(rt; chosen == policies, "{format:?} {is_terminal}");
-        for (threads, policy) in [1, 2].into_iter().zip(policies) {
-            args.test_threads = Some(threads);
-            assert!(rt; FlushPolicy::of_run(&args, 7, is_terminal) == policy);
-        }
+    let mut args = Arguments::new(rt.alloc());
+    for (format, is_terminal, threads, policy) in &CHOSEN {
+        args.format = Some(*format);
+        args.list = false;
+        args.test_threads = None;
+        assert!(rt; FlushPolicy::of_run(&args, *threads, *is_terminal) == *policy);
+        args.test_threads = Some(*threads);
+        assert!(rt; FlushPolicy::of_run(&args, 7, *is_terminal) == *policy);
         args.list = true;
-        assert!(rt; FlushPolicy::of_run(&args, 1, is_terminal) == FlushPolicy::WhenFull);
+        assert!(rt; FlushPolicy::of_run(&args, 1, *is_terminal) == FlushPolicy::WhenFull);
     }
     Ok(())
 }

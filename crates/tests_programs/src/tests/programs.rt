@@ -89,6 +89,15 @@ fn run_program<H: Host, R: Task + Send + 'static, O: Write + IsTerminal + Drop>(
     Ok(Left { out, err, status })
 }
 
+// Tests of these names, which pass.
+fn passing(alloc: Global, names: &[&str]) -> Result<Vec<Trial<Pass>>, AllocError> {
+    let mut tests = Vec::new(alloc);
+    for name in names {
+        tests.push(Trial::new(String::from_str(alloc, name)?, Pass))?;
+    }
+    Ok(tests)
+}
+
 // Runs one test, which passes.
 fn run_one<H: Host, O: Write + IsTerminal + Drop>(
     rt: &H,
@@ -98,9 +107,7 @@ fn run_one<H: Host, O: Write + IsTerminal + Drop>(
 ) -> Result<Left<O>, Fail>
     requires { 1 ≤ program.now.threads }
 {
-    let alloc = rt.alloc();
-    let tests = vec![in alloc; Trial::new(String::from_str(alloc, "a")?, Pass)]?;
-    run_program(rt, program, args, tests, out)
+    run_program(rt, program, args, passing(rt.alloc(), &["a"])?, out)
 }
 
 // What a test finds in a file: this and nothing else when it runs, or this part at some time while it runs.
@@ -162,7 +169,7 @@ const OTHER_RUNS: &str = "{ \"type\": \"suite\", \"event\": \"started\", \"test_
 
 // With one thread what came before, with the announcement of the running test. With workers the title when the tests run, and in
 // pretty and JSON the row of a test when it has ended, while the other one still runs.
-const LOOKS: [Look; 6] = [
+static LOOKS: [Look; 6] = [
     (
         FormatSetting::Pretty,
         1,
@@ -224,7 +231,7 @@ fn shows_what_runs_and_what_has_ended(rt: HostRuntime) -> Result<(), Fail> {
             let args = asking(rt.alloc(), look.0, Some(look.1), logfile)?;
             let out = fs::create(&rt, if logfile.is_some() { "/dev/null" } else { path })?;
             let left = run_program(&rt, &PLAIN, args, finders(rt, look, path)?, out)?;
-            assert!(rt; left.status == ExitCode::SUCCESS, "{look:?}");
+            assert!(rt; left.status == ExitCode::SUCCESS, "{:?} {}", look.0, look.1);
         }
     }
     fs::remove_file(&rt, path)?;
@@ -255,7 +262,7 @@ fn leavers(rt: HostRuntime, path: &'static str) -> Result<Vec<Trial<Leaves>>, Al
     Ok(tests)
 }
 
-const UNTITLED: [(FormatSetting, usize, Option<&str>); 12] = [
+static UNTITLED: [(FormatSetting, usize, Option<&str>); 12] = [
     (FormatSetting::Pretty, 1, None),
     (FormatSetting::Pretty, 1, Some("/dev/full")),
     (FormatSetting::Pretty, 4, None),
@@ -277,9 +284,14 @@ fn runs_nothing_without_a_title(rt: HostRuntime) -> Result<(), Fail> {
     for row in &UNTITLED {
         let args = asking(rt.alloc(), row.0, Some(row.1), row.2)?;
         let left = run_program(&rt, &PLAIN, args, leavers(rt, path)?, narrow(rt.alloc()))?;
-        assert!(rt; left.status == ExitCode::from(1), "{row:?}");
-        assert!(rt; left.err.as_str() == "plain: cannot write the report\n");
-        assert!(rt; fs::read(&rt, path).is_err(), "{row:?}");
+        let is_told = left.err.as_str() == "plain: cannot write the report\n";
+        assert!(rt;
+            is_told && left.status == ExitCode::from(1),
+            "{:?} {}",
+            row.0,
+            row.1
+        );
+        assert!(rt; fs::read(&rt, path).is_err(), "{:?} {}", row.0, row.1);
     }
     Ok(())
 }
@@ -297,7 +309,7 @@ const ROW: &str = r#"{ "type": "test", "event": "started", "name": "a" }
 // A format, whether the output is a terminal, the number of threads, and what the first write of the report of one test has, and
 // the second one: with one thread first the title and the announcement, with more the title, and then the row. In terse it is
 // the title, and on a terminal the mark, too.
-const WRITES: [(FormatSetting, bool, usize, &str, &str); 8] = [
+static WRITES: [(FormatSetting, bool, usize, &str, &str); 8] = [
     (
         FormatSetting::Pretty,
         false,
@@ -349,7 +361,7 @@ fn writes_at_once_what_comes_at_once(rt: HostRuntime) -> Result<(), Fail> {
 }
 
 // A report of two tests that passed, and that in which their rows stand the other way round.
-const REPORTS: [&str; 2] = [
+static REPORTS: [&str; 2] = [
     r#"{ "type": "suite", "event": "started", "test_count": 2 }
 { "type": "test", "event": "started", "name": "a" }
 { "type": "test", "name": "a", "event": "ok" }
@@ -370,23 +382,20 @@ const REPORTS: [&str; 2] = [
 fn run_two<H: Host>(rt: &H, threads: usize, out: FaultyWriter) -> Result<Left<FaultyWriter>, Fail> {
     let alloc = rt.alloc();
     let args = asking(alloc, FormatSetting::Json, Some(threads), None)?;
-    let tests = vec![in alloc;
-        Trial::new(String::from_str(alloc, "a")?, Pass),
-        Trial::new(String::from_str(alloc, "b")?, Pass),
-    ]?;
-    run_program(rt, &TELLING, args, tests, out)
+    run_program(rt, &TELLING, args, passing(alloc, &["a", "b"])?, out)
 }
 
 // Whether the line tells of this fault. A write of nothing is told by the sink, or as an error by the buffer.
 fn tells_cause(alloc: Global, line: &str, fault: Fault) -> Result<bool, Fail> {
-    let start = "telling: cannot write the report to standard output: ";
+    let cause = line
+        .strip_prefix("telling: cannot write the report to standard output: ")
+        .unwrap_or("");
     let (kind, is_zero) = match fault {
         Fault::Error(kind) => (kind, false),
         Fault::TakesNone => (ErrorKind::WriteZero, true),
     };
-    let by_sink = format!(in alloc; "{start}the writer took no byte\n")?;
-    let by_system = format!(in alloc; "{start}{}\n", io::Error::from(kind))?;
-    Ok(line == by_system.as_str() || is_zero && line == by_sink.as_str())
+    let by_system = format!(in alloc; "{}\n", io::Error::from(kind))?;
+    Ok(cause == by_system.as_str() || is_zero && cause == "the writer took no byte\n")
 }
 
 // Whether a report into a writer that fails once is a beginning of a whole one, nothing more is asked for, and the program prints
@@ -450,11 +459,12 @@ fn check_debug<T: Debug>(
     value: &T,
     text: &str,
 ) -> Result<(), Fail> {
-    assert_eq!(rt; format!(in alloc; "{value:?}")?.as_str(), text);
+    let shown = format!(in alloc; "{value:?}")?;
+    assert!(rt; shown.as_str() == text, "{shown}");
     Ok(())
 }
 
-// The public types of a run and of a program, as a derived `Debug` shows them.
+// The public types of a run, as a derived `Debug` shows them.
 #[test]
 fn shows_values(rt: HostRuntime) -> Result<(), Fail> {
     let alloc = rt.alloc();
@@ -468,17 +478,27 @@ fn shows_values(rt: HostRuntime) -> Result<(), Fail> {
     check_debug(&rt, alloc, &RunError::ZeroThreads, "ZeroThreads")?;
     check_debug(&rt, alloc, &RunError::Spawn, "Spawn")?;
     let arrival = RunError::Arrival { place: 7 };
-    check_debug(&rt, alloc, &arrival, "Arrival { place: 7 }")?;
+    check_debug(&rt, alloc, &arrival, "Arrival { place: 7 }")
+}
+
+// So it is of those of a program.
+#[test]
+fn shows_values_of_programs(rt: HostRuntime) -> Result<(), Fail> {
+    let alloc = rt.alloc();
     check_debug(&rt, alloc, &Arrival::Stranger, "Stranger")?;
     check_debug(&rt, alloc, &Untold, "Untold")?;
     check_debug(&rt, alloc, &StillClock, "StillClock")?;
     let program =
         "Program { name: \"telling\", threads: 4, auto_colours: true, prints_causes: true }";
-    check_debug(&rt, alloc, &TELLING, program)?;
-    let mut err: Vec<u8> = Vec::new(alloc);
+    check_debug(&rt, alloc, &TELLING, program)
+}
+
+#[test]
+fn shows_a_status(rt: HostRuntime) -> Result<(), Fail> {
+    let mut err: Vec<u8> = Vec::new(rt.alloc());
     let status = PLAIN.refuse(RunError::Spawn, &mut err);
-    let shown = format!(in alloc; "{status:?}");
-    assert_eq!(rt; status.report(&rt), ExitCode::from(1));
-    assert_eq!(rt; shown?.as_str(), "Status { number: 1 }");
+    let shown = format!(in rt.alloc(); "{status:?}");
+    assert!(rt; status.report(&rt) == ExitCode::from(1));
+    assert!(rt; shown?.as_str() == "Status { number: 1 }");
     Ok(())
 }

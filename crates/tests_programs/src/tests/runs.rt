@@ -3,7 +3,7 @@ ghost use Rattle.std.specs.Prelude.{◌≤◌};
 ghost use Rattle.libtest_mimic.specs.Trial.{AllCanRun};
 
 use libtest_mimic::{Arguments, ArgumentsError, Spawner, Task, Trial};
-use mimic_main::{Program, StillClock};
+use mimic_main::{Program, Status, StillClock};
 use std::fs::Files;
 use std::io::{Eprint, IsTerminal, Write};
 use std::process::{ExitCode, Termination};
@@ -13,8 +13,23 @@ pub(super) trait Host: Spawner + Files + AllocGlobal + Eprint + 'static {}
 
 impl<H: Spawner + Files + AllocGlobal + Eprint + 'static> Host for H {}
 
-// The output after the program's run as the line asks, and the status. This is the one place that calls `harness_run`, and it
-// promises nothing, so that no test carries that contract.
+// This is the one place that calls `harness_run`, and it promises nothing, so that no test carries that contract.
+fn run_promising_nothing<H: Host, R: Task + Send + 'static, O: Write + IsTerminal, E: Write>(
+    host: &H,
+    program: &Program<'_>,
+    line: Result<Arguments, ArgumentsError>,
+    tests: Vec<Trial<R>>,
+    out: O,
+    err: &mut E,
+) -> (O, Status)
+    requires runnable { AllCanRun R.can_run tests.items }
+    requires some_thread { 1 ≤ program.now.threads }
+{
+    let alloc = host.alloc();
+    program.harness_run(host, host, alloc, line, tests, out, err, StillClock)
+}
+
+// The output after the program's run as the line asks, and the status.
 pub(super) fn run_tests<H: Host, R: Task + Send + 'static, O: Write + IsTerminal, E: Write>(
     host: &H,
     program: &Program<'_>,
@@ -26,7 +41,6 @@ pub(super) fn run_tests<H: Host, R: Task + Send + 'static, O: Write + IsTerminal
     requires runnable { AllCanRun R.can_run tests.items }
     requires some_thread { 1 ≤ program.now.threads }
 {
-    let alloc = host.alloc();
-    let (out, status) = program.harness_run(host, host, alloc, line, tests, out, err, StillClock);
+    let (out, status) = run_promising_nothing(host, program, line, tests, out, err);
     (out, status.report(host))
 }

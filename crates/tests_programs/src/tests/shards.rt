@@ -27,12 +27,15 @@ impl Task for Counts {
     }
 }
 
+static FIVE: [(&str, usize); 5] = [("a", 1), ("b", 10), ("c", 100), ("d", 1000), ("e", 10000)];
+
 // Tests of the names `a` to `e`.
 fn five_tests(alloc: Global, runs: &Arc<AtomicUsize>) -> Result<Vec<Trial<Counts>>, Fail> {
     let mut tests = Vec::new(alloc);
-    for (name, place) in [("a", 1), ("b", 10), ("c", 100), ("d", 1000), ("e", 10000)] {
-        let runs = Arc::try_clone(runs)?;
-        tests.push(Trial::new(String::from_str(alloc, name)?, Counts { runs, place }))?;
+    for (name, place) in &FIVE {
+        let name = String::from_str(alloc, name)?;
+        let (runs, place) = (Arc::try_clone(runs)?, *place);
+        tests.push(Trial::new(name, Counts { runs, place }))?;
     }
     Ok(tests)
 }
@@ -99,7 +102,7 @@ const ODD_INDEX: &str = "program: TEST_SHARD_INDEX is not a number below TEST_TO
 // be touched, no test has run yet.
 type End = (Words, Variables, u8, usize, &'static str);
 
-const ENDS: [End; 28] = [
+static ENDS: [End; 28] = [
     (NO_OPTIONS, &[], 0, 11111, ""),
     (NO_OPTIONS, HALF, 0, 10101, HALF_RUNS),
     (
@@ -220,16 +223,10 @@ fn check_end<H: Host + Abort>(host: H, end: &End) -> Result<(), Fail> {
     let (words, variables, status, runs, text) = end;
     let left = run_five(host, host.alloc(), words, variables)?;
     assert!(host; left.err.as_str() == *text, "{text} {}", left.err);
-    assert!(host;
-        left.status == ExitCode::from(*status) && left.runs == *runs,
-        "{text} {}",
-        left.runs
-    );
-    assert!(host;
-        left.out.is_empty() == (*status != 0),
-        "{text} {}",
-        left.out
-    );
+    let is_right = left.status == ExitCode::from(*status)
+        && left.runs == *runs
+        && left.out.is_empty() == (*status != 0);
+    assert!(host; is_right, "{text}");
     Ok(())
 }
 
@@ -242,7 +239,7 @@ fn ends_as_the_variables_ask(rt: HostRuntime) -> Result<(), Fail> {
 }
 
 // The words of a line, the pair of a shard, and what is printed on standard output.
-const OUTPUTS: [(Words, Variables, &str); 4] = [
+static OUTPUTS: [(Words, Variables, &str); 4] = [
     (
         NO_OPTIONS,
         &[(TOTAL, b"6"), (INDEX, b"5")],
@@ -269,7 +266,7 @@ const TOUCHED: &[u8] = b"touches_its_status_file";
 const TOUCHING: Variables = &[(TOTAL, b"2"), (INDEX, b"0"), (STATUS_FILE, TOUCHED)];
 
 // The words of a line, variables, the status, and whether the file is touched.
-const TOUCHES: [(Words, Variables, u8, bool); 9] = [
+static TOUCHES: [(Words, Variables, u8, bool); 9] = [
     (NO_OPTIONS, TOUCHING, 0, true),
     (LIST, TOUCHING, 0, true),
     (&[b"program", b"--help"], TOUCHING, 0, false),
@@ -306,22 +303,32 @@ const TOUCHES: [(Words, Variables, u8, bool); 9] = [
     (NO_OPTIONS, &[(STATUS_FILE, TOUCHED)], 0, false),
 ];
 
+const PATH: &str = "touches_its_status_file";
+
+// The status of a program of five tests.
+fn status_of<H: Host>(host: H, words: Words, variables: Variables) -> Result<ExitCode, Fail> {
+    Ok(run_five(host, host.alloc(), words, variables)?.status)
+}
+
+// Whether the file was changed at the present time.
+fn is_touched<H: Host>(host: H) -> Result<bool, Fail> {
+    let present = UNIX_EPOCH.checked_add(Duration::from_secs(PRESENT_SECONDS));
+    let changed = fs::metadata(&host, PATH)?.modified()?;
+    Ok(Some(changed) == present)
+}
+
 // A file that is touched keeps what stands in it and was changed at the present time, or is made.
 #[test]
 fn touches_its_status_file(rt: HostRuntime) -> Result<(), Fail> {
-    let path = "touches_its_status_file";
-    let present = UNIX_EPOCH.checked_add(Duration::from_secs(PRESENT_SECONDS));
     for (words, variables, status, touches) in &TOUCHES {
-        fs::write(&rt, path, "stays")?;
-        let left = run_five(rt, rt.alloc(), words, variables)?;
-        assert!(rt; left.status == ExitCode::from(*status));
-        assert!(rt; fs::read_to_string(&rt, path)?.as_str() == "stays");
-        let changed = fs::metadata(&rt, path)?.modified()?;
-        assert!(rt; (Some(changed) == present) == *touches);
+        fs::write(&rt, PATH, "stays")?;
+        assert!(rt; status_of(rt, words, variables)? == ExitCode::from(*status));
+        assert!(rt; is_touched(rt)? == *touches);
+        assert!(rt; fs::read_to_string(&rt, PATH)?.as_str() == "stays");
     }
-    fs::remove_file(&rt, path)?;
-    run_five(rt, rt.alloc(), NO_OPTIONS, TOUCHING)?;
-    fs::remove_file(&rt, path)?;
+    fs::remove_file(&rt, PATH)?;
+    status_of(rt, NO_OPTIONS, TOUCHING)?;
+    fs::remove_file(&rt, PATH)?;
     Ok(())
 }
 
