@@ -216,10 +216,10 @@ fn run_raising<T: Spawner + 'static>(
     threads: Option<usize>,
 ) -> Result<Left, RunError> {
     asked.threads = threads;
-    let nanos = Arc::new(alloc, AtomicU64::new(0))?;
-    let raises = Raises(Arc::try_clone(&nanos)?);
+    let name = String::from_str(alloc, "a")?;
     let mut tests = Vec::with_capacity(alloc, 1)?;
-    tests.push(Trial::new(String::from_str(alloc, "a")?, raises))?;
+    let nanos = Arc::new(alloc, AtomicU64::new(0))?;
+    tests.push(Trial::new(name, Raises(Arc::try_clone(&nanos)?)))?;
     let clock = RaisedClock { nanos };
     if threads.is_some() {
         run_in_workers(rt, alloc, &asked, tests, clock)
