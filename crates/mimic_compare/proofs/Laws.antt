@@ -1,7 +1,6 @@
 -- The laws of comparisons.
-use Rattle.std.proofs.Common.{◌≡◌, ◌==◌, ◌||◌, ◌/◌, ◌%◌, not, ℕ, zero, suc, ◌+◌, ◌<◌, Bool, true, false, cond, List, [], ◌∷◌, ◌++◌, map, filter, refl, sym, ap, ap₂, subst, ◌∙◌, inl, inr, arith}
-use Rattle.std.specs.Prelude.{◌↔◌, IsPermutation, codes, count_by, nat_lt, slice_index}
-use Rattle.std.specs.Char.{digit_char}
+use Rattle.std.proofs.Common.{◌≡◌, ◌==◌, ◌||◌, not, ℕ, zero, suc, ◌+◌, ◌<◌, Bool, true, false, cond, List, [], ◌∷◌, ◌++◌, map, filter, refl, sym, ap, ap₂, subst, ◌∙◌, inl, inr, arith}
+use Rattle.std.specs.Prelude.{◌↔◌, IsPermutation, count_by, nat_lt}
 use Rattle.std.specs.List.{AllByRecursion, IsDistinct, flat_map, list_any}
 use Rattle.std.proofs.lemmas.Bool.{cases_lt, eq-eqb, le-ltb, lt-ltb, ne_eqb}
 use Rattle.std.proofs.lemmas.List.Folds.{list_any-append}
@@ -11,14 +10,14 @@ use Rattle.std.proofs.lemmas.Map.Keys.{IsDistinct-cons, IsDistinct-head, IsDisti
 use Rattle.mimic_printer.specs.Json.{Entry}
 use Rattle.mimic_printer.specs.Row.{Label}
 use Rattle.mimic_input.specs.declared.rows_read.RowsRead.{RowsRead}
+use Rattle.mimic_escapes.proofs.Laws.{lines_have_no_control}
 use Rattle.mimic_compare.specs.Classes.{Compared, compared, comparisons, distinct, labels_in, same_label}
 use Rattle.mimic_compare.specs.Keys.{same_label-decides}
 use Rattle.mimic_compare.specs.Text.{place_of, same_class}
-use Rattle.mimic_compare.specs.Visible.{begins_control, begins_line, begins_number, begins_paragraph, hexadecimal, numbered, spelled_byte, spelled_more, spelling, visible_after}
 use Rattle.mimic_compare.specs.Written.{ArePartitioned, ComparisonLaws, SaysWorse, all_classes, found_in, is_worse, labels_of, stands_in, verdict_of}
 use Rattle.mimic_compare.specs.declared.class.Class.{Class}
 use Rattle.mimic_compare.specs.declared.class.Class.TheVariants.{Regressed, Missing, NotRun, New, NotRunBefore, NewlyIgnored, NewlyPassing, AnotherMessage, Unchanged}
-use Rattle.mimic_compare.specs.declared.write.Verdict.{Verdict}
+use Rattle.mimic_compare.specs.declared.verdict.Verdict.{Verdict}
 
 -- ---- each label once
 
@@ -212,56 +211,5 @@ says_worse old new =
     at false w true e = (λ h. absurd (omega (arith, h)), λ h. let wrong : false ≡ true = e ∙ h in absurd (cc))
     at false w false e = (λ h. absurd (omega (arith, h)), λ h. let wrong : false ≡ true = e ∙ h in absurd (cc))
 
--- ---- lines
-
-abbrev has_end : List ℕ → Bool
-has_end text = list_any (λ b. b == 10) text
-
-digit_no_end : (d : ℕ) → (digit_char d == 10) ≡ false
-digit_no_end d = at (nat_lt d 10)
-  where
-    at : (b : Bool) → (cond b (48 + d) (87 + d) == 10) ≡ false
-    at true = ne_eqb (48 + d) 10 (λ h. omega (arith, h))
-    at false = ne_eqb (87 + d) 10 (λ h. omega (arith, h))
-
-of_one : (t : Bool) (xs ys : List ℕ) → has_end xs ≡ false → has_end ys ≡ false → has_end (cond t xs ys) ≡ false
-of_one true xs ys h k = h
-of_one false xs ys h k = k
-
-hexadecimal_no_end : (n : ℕ) → has_end (hexadecimal n) ≡ false
-hexadecimal_no_end n =
-    of_one (nat_lt n 16) (digit_char n ∷ []) (digit_char (n / 16) ∷ digit_char (n % 16) ∷ [])
-    (ap (λ b. b || false) (digit_no_end n)) (ap₂ (λ x y. x || (y || false)) (digit_no_end (n / 16)) (digit_no_end (n % 16)))
-
-numbered_no_end : (digits : List ℕ) → has_end digits ≡ false → has_end (numbered digits) ≡ false
-numbered_no_end digits h = list_any-append (λ b. b == 10) digits (125 ∷ []) ∙ ap (λ b. b || false) h
-
-byte_no_end : (b : ℕ) → has_end (spelled_byte b) ≡ false
-byte_no_end b = at (nat_lt b 32) refl (b == 127)
-  where
-    low : b ≡ 10 → nat_lt b 32 ≡ true
-    low e = lt-ltb b 32 (omega (arith, e))
-
-    at : (t : Bool) → nat_lt b 32 ≡ t → (u : Bool) → has_end (cond (t || u) (numbered (hexadecimal b)) (b ∷ [])) ≡ false
-    at true h u = numbered_no_end (hexadecimal b) (hexadecimal_no_end b)
-    at false h true = numbered_no_end (hexadecimal b) (hexadecimal_no_end b)
-    at false h false = ap (λ x. x || false) (ne_eqb b 10 (λ e. let wrong : true ≡ false = sym (low e) ∙ h in absurd (cc)))
-
-spelling_no_end : (b : ℕ) (rest : List ℕ) → has_end (spelling b rest) ≡ false
-spelling_no_end b rest =
-    let control : ℕ = slice_index rest 0 in
-    of_one (begins_number (b ∷ rest)) (numbered (codes "5c")) _ refl
-    (of_one (begins_line (b ∷ rest)) (numbered (codes "2028")) _ refl
-    (of_one (begins_paragraph (b ∷ rest)) (numbered (codes "2029")) _ refl
-    (of_one (begins_control (b ∷ rest)) (numbered (hexadecimal control)) (spelled_byte b) (numbered_no_end (hexadecimal control) (hexadecimal_no_end control)) (byte_no_end b))))
-
-no_end : (done : ℕ) (text : List ℕ) → has_end (visible_after done text) ≡ false
-unfolding visible_after
-no_end zero [] = refl
-no_end (suc done) [] = refl
-no_end zero (b ∷ rest) =
-    list_any-append (λ x. x == 10) (spelling b rest) (visible_after (spelled_more b rest) rest) ∙ ap₂ (λ x y. x || y) (spelling_no_end b rest) (no_end (spelled_more b rest) rest)
-no_end (suc done) (b ∷ rest) = no_end done rest
-
 pub comparison_laws : ComparisonLaws
-comparison_laws = record { partition = partitioned; status = says_worse; lines = no_end 0 }
+comparison_laws = record { partition = partitioned; status = says_worse; lines = lines_have_no_control }

@@ -1,4 +1,3 @@
 mod Laws
 mod Printed
-mod Spellings
 mod Steps

@@ -14,7 +14,7 @@ use Rattle.mimic_compare.specs.declared.class.Class.{Class}
 use Rattle.mimic_compare.specs.Written.{found_in, is_whole, verdict_of}
 use Rattle.mimic_compare.specs.declared.class.Class.TheVariants.{Regressed, Missing}
 use Rattle.mimic_compare.specs.declared.comparison.Comparison.{Comparison}
-use Rattle.mimic_compare.specs.declared.write.Verdict.{Verdict}
+use Rattle.mimic_compare.specs.declared.verdict.Verdict.{Verdict}
 use Rattle.mimic_input.specs.declared.rows_read.RowsRead.{RowsRead}
 
 module _ (f : Compared → List ℕ) where

@@ -4,7 +4,8 @@ use Rattle.std.specs.List.{concat, flat_map}
 use Rattle.mimic_text.specs.Text.{grouped}
 use Rattle.mimic_printer.specs.Row.{Label}
 use Rattle.mimic_compare.specs.Classes.{Compared}
-use Rattle.mimic_compare.specs.Visible.{visible}
+use Rattle.mimic_escapes.specs.Escapes.{escaped}
+use Rattle.mimic_escapes.specs.declared.place.Place.TheVariants.{Line}
 use Rattle.mimic_compare.specs.declared.class.Class.{Class}
 use Rattle.mimic_compare.specs.declared.class.Class.TheVariants.{Regressed, Missing, NotRun, New, NotRunBefore, NewlyIgnored, NewlyPassing, AnotherMessage, Unchanged}
 
@@ -56,7 +57,7 @@ closing (b ∷ kind) = codes "] "
 
 -- a kind and a name, with what follows them
 abbrev pub label_and : Label → List (List ℕ) → List (List ℕ)
-label_and label more = opening label.kind ∷ visible label.kind ∷ closing label.kind ∷ visible label.name ∷ more
+label_and label more = opening label.kind ∷ escaped Line label.kind ∷ closing label.kind ∷ escaped Line label.name ∷ more
 
 -- the line of a kind and a name
 unfoldable pub line_text : Class → Label → List ℕ

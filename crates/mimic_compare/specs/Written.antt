@@ -10,12 +10,13 @@ use Rattle.mimic_input.specs.declared.ending.Ending.TheVariants.{Whole, Cut}
 use Rattle.mimic_input.specs.declared.rows_read.RowsRead.{RowsRead}
 use Rattle.mimic_compare.specs.Classes.{Compared, comparisons, labels_in, same_label}
 use Rattle.mimic_compare.specs.Text.{changes, comparison_text, count_of, same_class}
-use Rattle.mimic_compare.specs.Visible.{visible}
+use Rattle.mimic_escapes.specs.Laws.{HasNoControl}
+use Rattle.mimic_escapes.specs.declared.place.Place.TheVariants.{Line}
 use Rattle.mimic_compare.specs.declared.class.Class.{Class}
 use Rattle.mimic_compare.specs.declared.class.Class.TheVariants.{Regressed, Missing, Unchanged}
-use Rattle.mimic_compare.specs.declared.write.CompareFault.{CompareFault}
-use Rattle.mimic_compare.specs.declared.write.CompareFault.TheVariants as fault
-use Rattle.mimic_compare.specs.declared.write.Verdict.{Verdict}
+use Rattle.mimic_compare.specs.declared.verdict.CompareFault.{CompareFault}
+use Rattle.mimic_compare.specs.declared.verdict.CompareFault.TheVariants as fault
+use Rattle.mimic_compare.specs.declared.verdict.Verdict.{Verdict}
 
 -- the report has its end
 abbrev pub is_whole : Ending → Bool
@@ -77,11 +78,7 @@ is_worse c = same_class c.class Regressed || same_class c.class Missing
 abbrev pub SaysWorse : RowsRead → RowsRead → Type 0
 SaysWorse old new = (status_of (verdict_of old new) ≡ 101) ↔ (list_any is_worse (found_in old new) ≡ true)
 
--- no kind and no name ends the line that it is printed in
-abbrev pub EndNoLine : Type 0
-EndNoLine = (text : List ℕ) → list_any (λ b. b == 10) (visible text) ≡ false
-
 pub record ComparisonLaws : Type 0 where
   pub partition : (judged : Bool) (old new : List Entry) → ArePartitioned judged old new
   pub status : (old new : RowsRead) → SaysWorse old new
-  pub lines : EndNoLine
+  pub lines : HasNoControl Line

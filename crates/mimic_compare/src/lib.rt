@@ -16,10 +16,8 @@ mod comparison;
 mod key;
 mod lines;
 mod messages;
-mod pieces;
 mod tally;
-mod visible;
-mod write;
+mod verdict;
 
 pub use class::Class;
-pub use write::{CompareFault, Verdict, write_comparison};
+pub use verdict::{CompareFault, Verdict, write_comparison};

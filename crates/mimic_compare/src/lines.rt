@@ -7,7 +7,7 @@ ghost use Rattle.mimic_compare.specs.Text.{benchmark_in, changes, closing, compa
 
 use crate::class::Class;
 use crate::comparison::Comparison;
-use crate::pieces::{Piece, put_pieces};
+use mimic_escapes::{Piece, Place, put_pieces};
 use mimic_printer::{Sink, WriteFault};
 use std::io::Write;
 
@@ -70,9 +70,9 @@ fn put_line<'a, W: Write>(
         Piece::Text(word(class)),
         Piece::Text(": "),
         Piece::Text(open),
-        Piece::Visible(kind),
+        Piece::Escaped(kind, Place::Line),
         Piece::Text(close),
-        Piece::Visible(comparison.row.name.as_str()),
+        Piece::Escaped(comparison.row.name.as_str(), Place::Line),
         Piece::Text("\n"),
     ];
     put_pieces(sink, &pieces)
@@ -124,9 +124,9 @@ macro_rules! put_averages {
         let pieces = [
             Piece::Text("bench: "),
             Piece::Text(open),
-            Piece::Visible(kind),
+            Piece::Escaped(kind, Place::Line),
             Piece::Text(close),
-            Piece::Visible($row.name.as_str()),
+            Piece::Escaped($row.name.as_str(), Place::Line),
             Piece::Text(": "),
             Piece::Grouped($old),
             Piece::Text(" -> "),
@@ -158,10 +158,10 @@ fn put_benchmark<'a, W: Write>(
             row,
             old,
             new,
-            Piece::Number(ratio / 100),
+            Piece::Long(ratio / 100),
             Piece::Text("."),
-            Piece::Number(ratio / 10 % 10),
-            Piece::Number(ratio % 10),
+            Piece::Long(ratio / 10 % 10),
+            Piece::Long(ratio % 10),
             Piece::Text(")\n")
         ),
     }
@@ -199,7 +199,7 @@ fn put_number<'a, W: Write>(
         (number_text (map comparison_read found.now) class end.now) result }
 {
     let pieces = [
-        Piece::Number(count_of(found, class) as u128),
+        Piece::Number(count_of(found, class) as u64),
         Piece::Text(" "),
         Piece::Text(word(class)),
         Piece::Text(end),

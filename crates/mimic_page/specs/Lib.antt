@@ -1,3 +1,1 @@
-pub mod Escape
 pub mod Page
-pub mod Pieces

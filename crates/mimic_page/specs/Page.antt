@@ -14,7 +14,9 @@ use Rattle.mimic_events.specs.declared.report.Label.{Label as LabelRead}
 use Rattle.mimic_input.specs.declared.ending.Ending.{Ending}
 use Rattle.mimic_input.specs.declared.ending.Ending.TheVariants.{Whole, Cut}
 use Rattle.mimic_input.specs.declared.ending.Stop.{Stop}
-use Rattle.mimic_page.specs.Escape.{escaped}
+use Rattle.mimic_escapes.specs.Escapes.{escaped}
+use Rattle.mimic_escapes.specs.Laws.{EscapeLaws}
+use Rattle.mimic_escapes.specs.declared.place.Place.TheVariants.{Html}
 use Rattle.mimic_page.specs.declared.page.Group.{Group}
 use Rattle.mimic_page.specs.declared.page.Group.TheVariants.{Failed, Measured, Others}
 use Rattle.mimic_page.specs.declared.script.TheConstants.{FILTER, SCRIPT, SCRIPT_DIGEST}
@@ -56,11 +58,11 @@ verdict failed (Cut stop) = stop_verdict stop.announced
 unfoldable pub start_text : List ℕ → Conclusion → Ending → List ℕ
 start_text program counts ending = concat (
     codes "<!doctype html>\n<html lang=\"en\">\n<head>\n<meta charset=\"utf-8\">\n<meta name=\"viewport\" content=\"width=device-width, initial-scale=1\">\n<meta http-equiv=\"Content-Security-Policy\" content=\"default-src 'none'; style-src 'unsafe-inline'; script-src '"
-    ∷ SCRIPT_DIGEST.now ∷ codes "'\">\n<title>" ∷ escaped program ∷ codes ": " ∷ verdict counts.num_failed ending
+    ∷ SCRIPT_DIGEST.now ∷ codes "'\">\n<title>" ∷ escaped Html program ∷ codes ": " ∷ verdict counts.num_failed ending
     ∷ codes ". " ∷ decimal counts.num_failed ∷ codes " failed; " ∷ decimal counts.num_passed
     ∷ codes " passed; " ∷ decimal counts.num_ignored ∷ codes " ignored; " ∷ decimal counts.num_measured
     ∷ codes " measured</title>\n<style>\n" ∷ STYLE.now
-    ∷ codes "</style>\n</head>\n<body>\n<header>\n<h1><bdi>" ∷ escaped program
+    ∷ codes "</style>\n</head>\n<body>\n<header>\n<h1><bdi>" ∷ escaped Html program
     ∷ codes "</bdi> <strong class=\"" ∷ verdict counts.num_failed ending
     ∷ codes "\">" ∷ verdict counts.num_failed ending ∷ codes "</strong></h1>\n" ∷ [])
 
@@ -77,7 +79,7 @@ kind_end (b ∷ kind) = codes "</bdi> <bdi>"
 
 -- a kind and a name, each set in a direction of its own, up to the end of the name
 abbrev pub label_part : Label → List (List ℕ) → List (List ℕ)
-label_part label rest = kind_start label.kind ∷ escaped label.kind ∷ kind_end label.kind ∷ escaped label.name ∷ rest
+label_part label rest = kind_start label.kind ∷ escaped Html label.kind ∷ kind_end label.kind ∷ escaped Html label.name ∷ rest
 
 -- a row begins with the word of its outcome. A failure is open, and a reader can close it
 abbrev pub row_start : Outcome → List ℕ
@@ -91,7 +93,7 @@ abbrev pub row_end : ℕ → Outcome → List (List ℕ)
 row_end longest outcome.Passed = codes "</bdi></li>\n" ∷ []
 row_end longest outcome.Ignored = codes "</bdi></li>\n" ∷ []
 row_end longest (outcome.Failed None) = codes "</bdi></summary><p>no message</p></details></li>\n" ∷ []
-row_end longest (outcome.Failed (Some message)) = codes "</bdi></summary><pre>\n" ∷ escaped message
+row_end longest (outcome.Failed (Some message)) = codes "</bdi></summary><pre>\n" ∷ escaped Html message
     ∷ codes "</pre></details></li>\n" ∷ []
 row_end longest (outcome.Measured m) = codes "</bdi> <span>" ∷ grouped (decimal m.avg)
     ∷ codes " ns/iter (+/- " ∷ grouped (decimal m.variance)
@@ -201,3 +203,10 @@ page_text program entries ending = concat (start_text program (counts_of (outcom
     ∷ ending_text (length entries) ending
     ∷ counts_text (counts_of (outcomes entries) 0) (missing_in (length entries) ending)
     ∷ rows_text entries (greatest_time (outcomes entries)) ∷ end_text ∷ [])
+
+-- ---- laws
+
+-- each row stands in one group, and texts are no markup
+pub record PageLaws : Type 0 where
+  pub once : StandsOnce
+  pub escapes : EscapeLaws

@@ -5,9 +5,9 @@ ghost use Rattle.mimic_printer.specs.Sink.{HasFaultLeft, Puts};
 ghost use Rattle.mimic_events.specs.Contents.{entry_read};
 ghost use Rattle.mimic_page.specs.Page.{counts_text, end_text, ending_text, extent_part, kind_end, kind_start, row_text, running_part, start_text, stop_text, verdict, wrong_part};
 
-use crate::pieces::{Piece, put_pieces};
 use crate::script::{FILTER, SCRIPT, SCRIPT_DIGEST};
 use crate::style::STYLE;
+use mimic_escapes::{Piece, Place, put_pieces};
 use mimic_events::{Label, Row};
 use mimic_input::{Ending, Stop};
 use mimic_printer::{Sink, WriteFault};
@@ -22,9 +22,9 @@ macro_rules! put_label {
         let pieces = [
             Piece::Text($start),
             Piece::Text(kind_start),
-            Piece::Escaped(kind),
+            Piece::Escaped(kind, Place::Html),
             Piece::Text(kind_end),
-            Piece::Escaped($label.name.as_str()),
+            Piece::Escaped($label.name.as_str(), Place::Html),
             $($end),+
         ];
         put_pieces($sink, &pieces)
@@ -62,7 +62,7 @@ pub(crate) fn put_start<'a, W: Write>(
         ),
         Piece::Text(SCRIPT_DIGEST),
         Piece::Text("'\">\n<title>"),
-        Piece::Escaped(program),
+        Piece::Escaped(program, Place::Html),
         Piece::Text(": "),
         Piece::Text(verdict),
         Piece::Text(". "),
@@ -76,7 +76,7 @@ pub(crate) fn put_start<'a, W: Write>(
         Piece::Text(" measured</title>\n<style>\n"),
         Piece::Text(STYLE),
         Piece::Text("</style>\n</head>\n<body>\n<header>\n<h1><bdi>"),
-        Piece::Escaped(program),
+        Piece::Escaped(program, Place::Html),
         Piece::Text("</bdi> <strong class=\""),
         Piece::Text(verdict),
         Piece::Text("\">"),
@@ -146,7 +146,7 @@ fn put_wrong_line<W: Write>(sink: &mut Sink<W>, number: Option<u128>) -> Result<
     };
     let pieces = [
         Piece::Text("line "),
-        Piece::Line(number),
+        Piece::Long(number),
         Piece::Text(" is no line of a report; "),
     ];
     put_pieces(sink, &pieces)
@@ -258,7 +258,7 @@ pub(crate) fn put_row<'a, W: Write>(
                 row,
                 "<li class=\"failed\"><details open><summary><b>FAILED</b> ",
                 Piece::Text("</bdi></summary><pre>\n"),
-                Piece::Escaped(message),
+                Piece::Escaped(message, Place::Html),
                 Piece::Text("</pre></details></li>\n")
             ),
         },

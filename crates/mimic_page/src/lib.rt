@@ -11,9 +11,7 @@
 #![tactic(auto)]
 
 mod elements;
-mod escape;
 mod page;
-mod pieces;
 mod script;
 mod style;
 

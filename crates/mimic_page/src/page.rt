@@ -3,8 +3,7 @@ ghost use Rattle.std.specs.Prelude.{◌≡◌, map};
 ghost use Rattle.mimic_trial.specs.Count.{counts_of};
 ghost use Rattle.mimic_printer.specs.Sink.{HasFaultLeft, Puts};
 ghost use Rattle.mimic_events.specs.Contents.{entry_read};
-ghost use Rattle.mimic_page.specs.Escape.{EscapeLaws};
-ghost use Rattle.mimic_page.specs.Page.{StandsOnce, greatest_time, group_text, list_end, missing_in, page_text, row_in, rows_after, rows_text, time_of};
+ghost use Rattle.mimic_page.specs.Page.{PageLaws, greatest_time, group_text, list_end, missing_in, page_text, row_in, rows_after, rows_text, time_of};
 
 use crate::elements::{put_counts, put_end, put_ending, put_row, put_start};
 use mimic_events::Row;
@@ -30,7 +29,7 @@ pub(crate) enum Group {
 ///
 /// Of a report that is cut these are the rows that have ended, and the page says how many are missing. With a fault a beginning of
 /// the page was written.
-#[tactic(auto, using(crate::proofs::Laws::escape_laws, crate::proofs::Laws::stands_once))]
+#[tactic(auto, using(crate::proofs::Laws::page_laws))]
 pub fn write_page<'a, W: Write>(
     program: &'a str,
     read: &'a RowsRead,
@@ -40,11 +39,8 @@ pub fn write_page<'a, W: Write>(
     ensures page { Puts W.contents sink.old sink.new
         (page_text program.now (map entry_read read.now.rows.items) read.now.ending) result }
 
-    // No row is left out, and none stands there twice.
-    ensures once { StandsOnce }
-
-    // What stands in the page has one reading, and is no markup.
-    ensures law { EscapeLaws }
+    // No row is left out, and none stands there twice. What stands in the page has one reading, and is no markup.
+    ensures laws { PageLaws }
 {
     let RowsRead { rows, ending } = read;
     let rows = rows.as_slice();

@@ -12,8 +12,9 @@ use Rattle.mimic_input.specs.declared.ending.Ending.{Ending}
 use Rattle.mimic_input.specs.declared.ending.Ending.TheVariants.{Whole, Cut}
 use Rattle.mimic_input.specs.declared.ending.Stop.{Stop}
 use Rattle.mimic_reports.specs.declared.elements.Numbers.{Numbers}
-use Rattle.mimic_reports.specs.declared.xml.Place.TheVariants.{Content, Value}
-use Rattle.mimic_reports.specs.Xml.{escaped}
+use Rattle.mimic_escapes.specs.Escapes.{escaped}
+use Rattle.mimic_escapes.specs.Pieces.{first_line}
+use Rattle.mimic_escapes.specs.declared.place.Place.TheVariants.{Content, Value}
 
 -- what is written of one report: the name of its program, its rows that have ended, and how it ended
 pub record Suite : Type 0 where
@@ -79,11 +80,6 @@ suite_start program n = concat (codes "  <testsuite name=\"" ∷ escaped Value p
 abbrev pub class_point : List ℕ → List ℕ
 class_point [] = []
 class_point (b ∷ kind) = codes "."
-
--- the text up to the first line end
-unfoldable pub first_line : List ℕ → List ℕ
-first_line [] = []
-first_line (b ∷ rest) = if b == 10 then [] else b ∷ first_line rest
 
 -- what follows the name of a row: a failure has its message, the first line as an attribute and the whole as a text
 abbrev pub outcome_part : Outcome → List (List ℕ)

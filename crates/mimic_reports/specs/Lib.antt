@@ -3,9 +3,7 @@ pub mod Inputs
 pub mod Joined
 pub mod Junit
 pub mod Names
-pub mod Pieces
 pub mod Show
 pub mod Suites
 pub mod Text
 pub mod Turns
-pub mod Xml

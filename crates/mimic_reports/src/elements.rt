@@ -3,9 +3,9 @@ ghost use Rattle.std.specs.Prelude.{◌≡◌};
 ghost use Rattle.std.specs.Option.{option_copied};
 ghost use Rattle.mimic_printer.specs.Sink.{HasFaultLeft, Puts};
 ghost use Rattle.mimic_events.specs.Contents.{entry_read};
-ghost use Rattle.mimic_reports.specs.Junit.{case_text, class_point, closing, extent_part, first_line, opening, root_start, running_part, stop_text, suite_start, wrong_part};
+ghost use Rattle.mimic_reports.specs.Junit.{case_text, class_point, closing, extent_part, opening, root_start, running_part, stop_text, suite_start, wrong_part};
 
-use crate::pieces::{Piece, put_pieces};
+use mimic_escapes::{Piece, Place, put_pieces};
 use mimic_events::{Label, Row};
 use mimic_input::Stop;
 use mimic_printer::{Sink, WriteFault};
@@ -28,13 +28,13 @@ macro_rules! put_start {
         let pieces = [
             $($front),+,
             Piece::Text(" tests=\""),
-            Piece::Number($numbers.tests),
+            Piece::Long($numbers.tests),
             Piece::Text("\" failures=\""),
-            Piece::Number($numbers.failures),
+            Piece::Long($numbers.failures),
             Piece::Text("\" errors=\""),
-            Piece::Number($numbers.errors),
+            Piece::Long($numbers.errors),
             Piece::Text("\" skipped=\""),
-            Piece::Number($numbers.skipped),
+            Piece::Long($numbers.skipped),
             Piece::Text("\" time=\""),
             Piece::Seconds($numbers.nanos),
             Piece::Text("\">\n"),
@@ -49,11 +49,11 @@ macro_rules! put_row {
         let kind = $row.kind.as_str();
         let pieces = [
             Piece::Text("    <testcase classname=\""),
-            Piece::Value($program),
+            Piece::Escaped($program, Place::Value),
             Piece::Text(point(kind)),
-            Piece::Value(kind),
+            Piece::Escaped(kind, Place::Value),
             Piece::Text("\" name=\""),
-            Piece::Value($row.name.as_str()),
+            Piece::Escaped($row.name.as_str(), Place::Value),
             $($end),+
         ];
         put_pieces($sink, &pieces)
@@ -90,7 +90,7 @@ pub(crate) fn put_suite_start<'a, W: Write>(
         sink,
         numbers,
         Piece::Text("  <testsuite name=\""),
-        Piece::Value(program),
+        Piece::Escaped(program, Place::Value),
         Piece::Text("\"")
     )
 }
@@ -133,9 +133,9 @@ pub(crate) fn put_case<'a, W: Write>(
                 program,
                 row,
                 Piece::Text("\"><failure type=\"failed\" message=\""),
-                Piece::FirstLine(message),
+                Piece::FirstLine(message, Place::Value),
                 Piece::Text("\">"),
-                Piece::Content(message),
+                Piece::Escaped(message, Place::Content),
                 Piece::Text("</failure></testcase>\n")
             ),
         },
@@ -144,9 +144,9 @@ pub(crate) fn put_case<'a, W: Write>(
             program,
             row,
             Piece::Text("\"><properties><property name=\"ns_per_iter\" value=\""),
-            Piece::Number(u128::from(measurement.avg)),
+            Piece::Number(measurement.avg),
             Piece::Text("\"/><property name=\"deviation\" value=\""),
-            Piece::Number(u128::from(measurement.variance)),
+            Piece::Number(measurement.variance),
             Piece::Text("\"/></properties></testcase>\n")
         ),
     }
@@ -164,7 +164,7 @@ pub(crate) fn put_stop<'a, W: Write>(
 {
     let front = [
         Piece::Text("    <testcase classname=\""),
-        Piece::Value(program),
+        Piece::Escaped(program, Place::Value),
         Piece::Text("\" name=\"(whole report)\"><error type=\"incomplete\" message=\""),
     ];
     put_pieces(sink, &front)?;
@@ -183,7 +183,7 @@ fn put_wrong_line<W: Write>(sink: &mut Sink<W>, number: Option<u128>) -> Result<
     };
     let pieces = [
         Piece::Text("line "),
-        Piece::Number(number),
+        Piece::Long(number),
         Piece::Text(" is no line of a report; "),
     ];
     put_pieces(sink, &pieces)
@@ -202,9 +202,9 @@ fn put_extent<W: Write>(
     };
     let pieces = [
         Piece::Text("the report ends after "),
-        Piece::Number(ended),
+        Piece::Long(ended),
         Piece::Text(" of "),
-        Piece::Number(u128::from(announced)),
+        Piece::Number(announced),
         Piece::Text(" trials"),
     ];
     put_pieces(sink, &pieces)
@@ -223,9 +223,9 @@ fn put_running<W: Write>(sink: &mut Sink<W>, running: Option<&Label>) -> Result<
     let pieces = [
         Piece::Text("; running: "),
         Piece::Text(open),
-        Piece::Value(kind),
+        Piece::Escaped(kind, Place::Value),
         Piece::Text(close),
-        Piece::Value(label.name.as_str()),
+        Piece::Escaped(label.name.as_str(), Place::Value),
     ];
     put_pieces(sink, &pieces)
 }

@@ -8,7 +8,7 @@ ghost use Rattle.mimic_events.specs.Contents.{entry_read};
 ghost use Rattle.mimic_reports.specs.Junit.{Suite as ShownSuite, case_text, ending_text, numbers_of, suite_text, total};
 ghost use Rattle.mimic_input.specs.Readings.{IsReading};
 ghost use Rattle.mimic_reports.specs.Suites.{HasLeft, IsShown, IsTooGreat, LeavesDocument, numbers_in};
-ghost use Rattle.mimic_reports.specs.Xml.{ComesBack, HasNoMarkup};
+ghost use Rattle.mimic_escapes.specs.Laws.{EscapeLaws};
 ghost use Rattle.mimic_reports.specs.declared.junit.JunitFault.TheVariants.{Write as WriteStopped};
 ghost use Rattle.mimic_reports.specs.declared.junit.SuiteFault.TheVariants.{Input, Write as WriteFailed};
 ghost use Rattle.mimic_input.specs.declared.rows.InputFault.TheVariants.{OutOfMemory};
@@ -76,7 +76,7 @@ fn total_of<I: Read>(suites: &[Suite<'_, I>]) -> Option<Numbers>
 /// Writes the reports, in their order, as one document of JUnit's XML, and flushes it.
 ///
 /// Rows that are not kept are read again, each once. With a fault a beginning was written that is no document.
-#[tactic(auto, using(crate::proofs::Markup::has_no_markup, crate::proofs::WayBack::comes_back))]
+#[tactic(auto, using(mimic_escapes::proofs::Laws::escape_laws))]
 pub fn write_junit<I: Read + Drop, W: Write>(
     alloc: Global,
     suites: Vec<Suite<'_, I>>,
@@ -87,8 +87,7 @@ pub fn write_junit<I: Read + Drop, W: Write>(
         (shown W.contents sink.new) result }
 
     // Each text comes back from its spelling, and no spelling has markup.
-    ensures law { ComesBack }
-    ensures markup { HasNoMarkup }
+    ensures laws { EscapeLaws }
 {
     let Some(numbers) = total_of(&suites) else {
         return Err(JunitFault::TooMany);

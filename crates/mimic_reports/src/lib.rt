@@ -28,11 +28,9 @@ mod junit;
 mod names;
 mod numbers;
 mod order;
-mod pieces;
 mod show;
 mod suite;
 mod text;
-mod xml;
 
 pub use faults::{JoinFault, NamedFault};
 pub use inputs::join_reports;

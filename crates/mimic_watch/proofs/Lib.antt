@@ -1,6 +1,5 @@
 pub mod Drawing
 pub mod Ending
-pub mod Escaping
 pub mod Laws
 pub mod Messages
 pub mod Seeing

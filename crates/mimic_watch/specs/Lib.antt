@@ -1,4 +1,3 @@
-pub mod Escape
 pub mod Frames
 pub mod Rows
 pub mod Moments

@@ -8,20 +8,21 @@ use Rattle.mimic_trial.specs.declared.outcome.measurement.Measurement.{Measureme
 use Rattle.mimic_text.specs.Text.{grouped}
 use Rattle.mimic_printer.specs.Json.{Entry}
 use Rattle.mimic_printer.specs.Row.{Label}
-use Rattle.mimic_watch.specs.Escape.{escaped}
+use Rattle.mimic_escapes.specs.Escapes.{escaped}
+use Rattle.mimic_escapes.specs.declared.place.Place.TheVariants.{Terminal}
 
 -- a kind in brackets, and nothing for an empty one
 abbrev pub kind_text : List ℕ → List ℕ
 kind_text [] = []
-kind_text (b ∷ kind) = codes "[" ++ (escaped (b ∷ kind) ++ codes "] ")
+kind_text (b ∷ kind) = codes "[" ++ (escaped Terminal (b ∷ kind) ++ codes "] ")
 
 -- the kind, if there is one, and the name
 abbrev pub label_text : Label → List ℕ
-label_text label = kind_text label.kind ++ escaped label.name
+label_text label = kind_text label.kind ++ escaped Terminal label.name
 
 -- a line of a message
 abbrev pub line_text : List ℕ → List ℕ
-line_text line = codes "    " ++ (escaped line ++ codes "\n")
+line_text line = codes "    " ++ (escaped Terminal line ++ codes "\n")
 
 abbrev pub lines_noun : ℕ → List ℕ
 lines_noun count = if count == 1 then codes " more line\n" else codes " more lines\n"

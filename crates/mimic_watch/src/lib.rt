@@ -13,7 +13,6 @@
 //! ```
 #![tactic(auto)]
 
-mod escape;
 mod frame;
 mod pace;
 mod row;

@@ -5,8 +5,8 @@ ghost use Rattle.mimic_events.specs.Contents.{entry_read};
 ghost use Rattle.mimic_text.specs.Text.{grouped};
 ghost use Rattle.mimic_watch.specs.Rows.{average_text, label_text, line_text, lines_noun, measured_text, message_lines, message_text, more_text, row_text, variance_text};
 
-use crate::escape::push_escaped;
 use itoa::Buffer;
+use mimic_escapes::{Place, push_escaped};
 use mimic_events::Row;
 use mimic_text::thousands;
 use mimic_trial::{Measurement, Outcome};
@@ -74,10 +74,10 @@ fn push_label(to: &mut Vec<u8>, row: &Row) -> Result<(), AllocError>
     let kind = row.kind.as_bytes();
     if !kind.is_empty() {
         to.extend_from_slice(b"[")?;
-        push_escaped(to, kind)?;
+        push_escaped(to, kind, Place::Terminal)?;
         to.extend_from_slice(b"] ")?;
     }
-    push_escaped(to, row.name.as_bytes())
+    push_escaped(to, row.name.as_bytes(), Place::Terminal)
 }
 
 fn push_message(to: &mut Vec<u8>, message: Option<&str>) -> Result<(), AllocError>
@@ -108,7 +108,7 @@ fn push_line(to: &mut Vec<u8>, line: &str) -> Result<(), AllocError>
     ensures { OnOk result (to.new.items ≡ to.old.items ++ line_text line.now) }
 {
     to.extend_from_slice(b"    ")?;
-    push_escaped(to, line.as_bytes())?;
+    push_escaped(to, line.as_bytes(), Place::Terminal)?;
     to.extend_from_slice(b"\n")
 }
 

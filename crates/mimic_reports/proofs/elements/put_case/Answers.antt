@@ -31,5 +31,5 @@ returns-in-Some g c =
 pub returns-in-Measured : goal.returns-in-Measured
 unfolding case_text
 returns-in-Measured g c =
-    rw (c.in-Measured.is, ← c.as_str-kind-in-Measured.ensures.value, ← c.as_str-in-Measured.ensures.value, ← c.point-in-Measured.ensures, ← c.from.ensures, ← c.from-in-Measured.ensures)
+    rw (c.in-Measured.is, ← c.as_str-kind-in-Measured.ensures.value, ← c.as_str-in-Measured.ensures.value, ← c.point-in-Measured.ensures)
     c.put_pieces-in-Measured.ensures

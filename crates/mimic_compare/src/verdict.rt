@@ -1,0 +1,129 @@
+//! Compares two reports and prints what became of each kind and name.
+ghost use Rattle.std.specs.Prelude.{◌≡◌, ◌&&◌};
+ghost use Rattle.mimic_printer.specs.Sink.{HasFaultLeft, shown};
+ghost use Rattle.mimic_compare.specs.Written.{ComparisonLaws, LeavesComparison, is_full, is_whole};
+ghost use Rattle.mimic_compare.specs.declared.verdict.CompareFault.TheVariants.{OutOfMemory, Write as WriteStopped};
+
+use crate::class::Class;
+use crate::comparison::compare_rows;
+use crate::lines::{count_of, put_comparisons};
+use mimic_input::{Ending, RowsRead};
+use mimic_printer::{Sink, WriteFault};
+use std::alloc::{AllocError, Global};
+use std::io::Write;
+use thiserror::Error;
+
+/// Why a comparison was not printed to its end.
+#[derive(Debug, Drop, Error)]
+pub enum CompareFault {
+    /// An allocation failed. Nothing was written.
+    #[error("out of memory")]
+    OutOfMemory,
+    /// A write or a flush failed. A beginning was written.
+    #[error("{0}")]
+    Write(WriteFault),
+}
+
+/// What a comparison found, in numbers.
+#[derive(Clone, Copy, Debug, PartialEq, Eq)]
+pub struct Verdict {
+    /// How many kinds and names regressed.
+    pub regressed: usize,
+    /// How many are missing.
+    pub missing: usize,
+    /// Whether both reports have their end.
+    pub are_whole: bool,
+}
+
+impl Verdict {
+    ghost use Rattle.std.specs.Prelude.{◌≡◌};
+    ghost use Rattle.mimic_compare.specs.Written.{status_of};
+
+    /// Returns the status of a program: 101 if something regressed or is missing, else 1 if a report is cut, else 0.
+    pub fn status(&self) -> u8
+        ensures { result ≡ status_of self.now }
+    {
+        if self.regressed > 0 || self.missing > 0 {
+            101
+        } else if self.are_whole {
+            0
+        } else {
+            1
+        }
+    }
+}
+
+/// Compares two reports by kind and name, prints what became of each, and flushes it.
+///
+/// A kind and a name are of the first [`Class`] that fits. There is a line for each that is not unchanged, class by class, and in a
+/// class in the order in which they come: those of the new report first. Then come the averages of what was measured once in both
+/// reports, in nanoseconds, with the new one by the old one, and last a line of numbers. Control characters of names are shown by
+/// their numbers, so that no name ends a line.
+///
+/// Whether a kind and a name are missing or new can be judged if both reports are whole and nothing was filtered out of them.
+///
+/// It takes time and memory in proportion to the rows. Their texts stay where they are.
+#[tactic(auto, using(crate::proofs::Laws::comparison_laws))]
+pub fn write_comparison<W: Write>(
+    alloc: Global,
+    old: &RowsRead,
+    new: &RowsRead,
+    sink: &mut Sink<W>,
+) -> Result<Verdict, CompareFault>
+    requires { HasFaultLeft sink.old }
+    ensures written { LeavesComparison old.now new.now (shown W.contents sink.old)
+        (shown W.contents sink.new) result }
+
+    // Each kind and name is in one class, the status says whether one is worse, and no name ends a line.
+    ensures laws { ComparisonLaws }
+{
+    let is_judged = are_full(&old.ending, &new.ending);
+    let found = compare_rows(alloc, &old.rows, &new.rows, is_judged)?;
+    put_comparisons(sink, &found)?;
+    Ok(Verdict {
+        regressed: count_of(&found, Class::Regressed),
+        missing: count_of(&found, Class::Missing),
+        are_whole: are_whole(&old.ending, &new.ending),
+    })
+}
+
+// Whether both reports have their end, and nothing was filtered out of them.
+fn are_full(old: &Ending, new: &Ending) -> bool
+    ensures { result ≡ (is_full old.now && is_full new.now) }
+{
+    matches!(
+        (old, new),
+        (
+            Ending::Whole {
+                filtered_out: 0,
+                ..
+            },
+            Ending::Whole {
+                filtered_out: 0,
+                ..
+            }
+        )
+    )
+}
+
+fn are_whole(old: &Ending, new: &Ending) -> bool
+    ensures { result ≡ (is_whole old.now && is_whole new.now) }
+{
+    matches!((old, new), (Ending::Whole { .. }, Ending::Whole { .. }))
+}
+
+impl From<AllocError> for CompareFault {
+    ghost from_gives = { λ _ fault. fault ≡ OutOfMemory };
+
+    fn from(_error: AllocError) -> CompareFault {
+        CompareFault::OutOfMemory
+    }
+}
+
+impl From<WriteFault> for CompareFault {
+    ghost from_gives = { λ error fault. fault ≡ WriteStopped error };
+
+    fn from(error: WriteFault) -> CompareFault {
+        CompareFault::Write(error)
+    }
+}

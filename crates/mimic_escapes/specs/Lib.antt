@@ -1,0 +1,4 @@
+pub mod Escapes
+pub mod Laws
+pub mod Pieces
+pub mod Places

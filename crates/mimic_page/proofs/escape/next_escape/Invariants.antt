@@ -1,7 +1,0 @@
--- What came so far is spelled by itself.
-use Rattle.std.proofs.Common.{◌≡◌, ◌++◌, drop, take}
-use Rattle.mimic_page.specs.Escape.{escaped}
-use Rattle.mimic_page.proofs.escape.next_escape.Given as goal
-
-abbrev pub invariant-loop-at : goal.invariant-loop-at
-invariant-loop-at l = escaped l.text ≡ take l.at l.text ++ escaped (drop l.at l.text)
