@@ -13,7 +13,7 @@ use Rattle.mimic_expect.specs.Judging.{entries_read, expected_at, finding_read, 
 use Rattle.mimic_expect.specs.Known.{Expected, expected_read}
 use Rattle.mimic_expect.specs.Pool.{HasLeft}
 use Rattle.mimic_expect.specs.declared.pool.Pool.{Pool}
-use Rattle.mimic_expect.specs.declared.judging.Unexpected.{Unexpected}
+use Rattle.mimic_expect.specs.declared.judgement.Unexpected.{Unexpected}
 use Rattle.mimic_expect.specs.declared.known.Expectation.{Expectation}
 use denote.Ref.{Bor}
 

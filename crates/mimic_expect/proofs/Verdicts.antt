@@ -20,8 +20,8 @@ use Rattle.mimic_expect.specs.Judge.{Judged, Judges}
 use Rattle.mimic_expect.specs.Judging.{count_in, finding_read, judgement_numbers, judgement_text}
 use Rattle.mimic_expect.specs.Known.{Expected}
 use Rattle.mimic_expect.specs.Verdict.{HasLeft, InputRead, LeavesVerdict, has_all, have_all}
-use Rattle.mimic_expect.specs.declared.judging.Judgement.{Judgement}
-use Rattle.mimic_expect.specs.declared.judging.Unexpected.{Unexpected}
+use Rattle.mimic_expect.specs.declared.judgement.Judgement.{Judgement}
+use Rattle.mimic_expect.specs.declared.judgement.Unexpected.{Unexpected}
 use Rattle.mimic_expect.specs.declared.verdict.ExpectFault.{ExpectFault}
 use Rattle.mimic_expect.specs.declared.verdict.ExpectFault.TheVariants.{Write as WriteFailed}
 use Rattle.mimic_expect.specs.declared.verdict.InputEnd.{InputEnd}

@@ -8,9 +8,9 @@ use Rattle.mimic_expect.specs.Expect.{AbsentLine, FailedRow, Finding, OtherMessa
 use Rattle.mimic_expect.specs.FindingText.{finding_text}
 use Rattle.mimic_expect.specs.Known.{Expected, expected_read}
 use Rattle.mimic_expect.specs.declared.known.Expectation.{Expectation}
-use Rattle.mimic_expect.specs.declared.judging.Judgement.{Judgement}
-use Rattle.mimic_expect.specs.declared.judging.Unexpected.{Unexpected}
-use Rattle.mimic_expect.specs.declared.judging.Unexpected.TheVariants.{Failed, AnotherMessage, Passed, Absent}
+use Rattle.mimic_expect.specs.declared.judgement.Judgement.{Judgement}
+use Rattle.mimic_expect.specs.declared.judgement.Unexpected.{Unexpected}
+use Rattle.mimic_expect.specs.declared.judgement.Unexpected.TheVariants.{Failed, AnotherMessage, Passed, Absent}
 use denote.Ref.{Bor}
 
 abbrev pub finding_read : Unexpected → Finding

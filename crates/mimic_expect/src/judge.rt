@@ -12,7 +12,7 @@ ghost use Rattle.mimic_expect.specs.Judging.{finding_read};
 ghost use Rattle.mimic_expect.specs.Known.{expected_read};
 ghost use Rattle.mimic_expect.specs.Verdict.{HasLeft};
 
-use crate::judging::{Judgement, Unexpected, judge};
+use crate::judgement::{Judgement, Unexpected, judge};
 use crate::key::Key;
 use crate::known::Expectation;
 use crate::verdict::ExpectFault;

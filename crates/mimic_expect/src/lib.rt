@@ -9,15 +9,15 @@
 //! ```
 #![tactic(auto)]
 
+mod inputs;
 mod judge;
-mod judging;
+mod judgement;
 mod key;
 mod known;
 mod pool;
 mod unexpected;
 mod verdict;
-mod writing;
 
+pub use inputs::write_unexpected;
 pub use known::{Expectation, KnownFault, read_known};
 pub use verdict::{ExpectFault, InputEnd, Verdict};
-pub use writing::write_unexpected;

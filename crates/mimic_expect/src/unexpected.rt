@@ -5,7 +5,7 @@ ghost use Rattle.mimic_events.specs.Contents.{entry_read};
 ghost use Rattle.mimic_expect.specs.FindingText.{finding_text, numbered_text};
 ghost use Rattle.mimic_expect.specs.Judging.{finding_read};
 
-use crate::judging::Unexpected;
+use crate::judgement::Unexpected;
 use itoa::Buffer;
 use mimic_events::Row;
 use mimic_printer::json::put_outcome;

@@ -1,0 +1,159 @@
+//! Writes what of reports is unexpected.
+ghost use Rattle.std.specs.Prelude.{◌≡◌, ◌<◌, ◌-◌, ◌^◌, ◌++◌, ℕ, List, IfSome, MatchResult, decimal, map};
+ghost use Rattle.std.specs.List.{AllZip, flat_map};
+ghost use Rattle.mimic_printer.specs.Json.{Entry};
+ghost use Rattle.mimic_printer.specs.Sink.{HasFaultLeft, Puts, shown};
+ghost use Rattle.mimic_expect.specs.Expect.{ExpectLaws};
+ghost use Rattle.mimic_expect.specs.FindingText.{finding_text};
+ghost use Rattle.mimic_expect.specs.Judge.{Judges};
+ghost use Rattle.mimic_expect.specs.Judging.{finding_read, judgement_text};
+ghost use Rattle.mimic_expect.specs.Known.{expected_read};
+ghost use Rattle.mimic_expect.specs.Verdict.{HasLeft, InputRead, IsReadOf, LeavesVerdict, Reads, rows_of};
+
+use crate::judge::Judge;
+use crate::judgement::Judgement;
+use crate::known::Expectation;
+use crate::verdict::{ExpectFault, InputEnd, Verdict, have_all};
+use itoa::Buffer;
+use mimic_input::{InputFault, InputRows};
+use mimic_printer::{Sink, WriteFault};
+use std::alloc::Global;
+use std::io::{ErrorKind, Read, Write};
+
+/// Writes what of the reports is not as the known failures say, each once and as one line, then a line of the numbers, and
+/// flushes it. Of a report that is not whole the rows are judged that have ended.
+///
+/// A failure meets one known failure of its kind and name: the first one of its message that is left, or else the first one of
+/// any message. What is left then is answered by a row of its kind and name that has met nothing: by a failure, which has
+/// another message, or else by one that passed or was measured, or else by an ignored one, of which nothing is said. Known
+/// failures that no row answers are absent. That is said only if each input is a whole report and no trial was filtered out.
+/// With `lax` a known failure that passed is written, but doesn't count.
+///
+/// A failure whose kind and name no known failure has is written as soon as it is read. Rows of known kinds and names are kept,
+/// and no others.
+///
+/// If an input fails, the others are still judged: the verdict says how each ended. With a fault a beginning was written.
+pub fn write_unexpected<I: Read + Drop, W: Write>(
+    alloc: Global,
+    known: &[Expectation],
+    inputs: Vec<I>,
+    lax: bool,
+    sink: &mut Sink<W>,
+) -> Result<Verdict, ExpectFault>
+    requires { HasFaultLeft sink.old }
+    ensures verdict { LeavesVerdict I.remaining (map expected_read known.now) inputs.items lax
+        (shown W.contents sink.old) (shown W.contents sink.new) result }
+
+    // What it means to meet a line, and that the findings are those of all rows together.
+    ensures laws { ExpectLaws }
+{
+    let mut judge = Judge::new(alloc, known)?;
+    let (failed, ends) = judge_inputs(alloc, inputs, &mut judge, sink)?;
+    let judgement = judge.finish(alloc, have_all(&ends))?;
+    put_judgement(sink, &judgement, failed)?;
+    sink.flush()?;
+    Ok(Verdict {
+        is_unexpected: failed > 0 || judgement.is_unexpected(lax),
+        ends,
+    })
+}
+
+// Judges the rows of the inputs. It returns how many failures have a kind and a name that no known failure has, and how each input
+// ended.
+fn judge_inputs<I: Read + Drop, W: Write>(
+    alloc: Global,
+    inputs: Vec<I>,
+    judge: &mut Judge<'_>,
+    sink: &mut Sink<W>,
+) -> Result<(u128, Vec<InputEnd>), ExpectFault>
+    requires { HasFaultLeft sink.old }
+    ensures { MatchResult result
+        (λ x. (read : List InputRead)
+        × AllZip (λ input r. IsReadOf (I.remaining input) r) inputs.items read
+        × (x.1.items ≡ map (λ r. r.end) read)
+        × Judges judge.old judge.new (rows_of read) x.0
+        (shown W.contents sink.old) (shown W.contents sink.new) × (x.0 < 2 ^ 128 - 2 ^ 64))
+        (HasLeft (shown W.contents sink.old) (shown W.contents sink.new)) }
+{
+    let mut failed = 0_u128;
+    let mut ends = Vec::new(alloc);
+    for input in inputs {
+        let (count, end) = judge_input(alloc, input, judge, sink)?;
+        failed += u128::from(count);
+        ends.push(end)?;
+    }
+    Ok((failed, ends))
+}
+
+// Judges the rows of an input. It returns how many failures have a kind and a name that no known failure has, and how the input
+// ended.
+fn judge_input<I: Read + Drop, W: Write>(
+    alloc: Global,
+    input: I,
+    judge: &mut Judge<'_>,
+    sink: &mut Sink<W>,
+) -> Result<(u64, InputEnd), ExpectFault>
+    requires { HasFaultLeft sink.old }
+    ensures { MatchResult result
+        (λ x. (entries : List Entry) × IfSome (I.remaining input) (Reads entries x.1)
+        × Judges judge.old judge.new entries x.0
+        (shown W.contents sink.old) (shown W.contents sink.new))
+        (HasLeft (shown W.contents sink.old) (shown W.contents sink.new)) }
+{
+    let mut rows = InputRows::new(alloc, input)?;
+    let mut failed = 0;
+    for _ in 0..u64::MAX {
+        match rows.next_row() {
+            Ok(Some(row)) => {
+                if judge.row(row, sink)? {
+                    failed += 1;
+                }
+            }
+            Ok(None) => return Ok((failed, InputEnd::Ended(rows.finish()?))),
+            Err(InputFault::Input(error)) => return Ok((failed, InputEnd::Failed(error))),
+            Err(InputFault::OutOfMemory) => return Err(ExpectFault::OutOfMemory),
+        }
+    }
+    Ok((failed, InputEnd::Failed(ErrorKind::Other.into())))
+}
+
+// Writes what the judgement says, and the numbers, to which these failures count that were written before.
+fn put_judgement<W: Write>(
+    sink: &mut Sink<W>,
+    judgement: &Judgement<'_>,
+    failed: u128,
+) -> Result<(), WriteFault>
+    requires fault { HasFaultLeft sink.old }
+    requires room { failed < 2 ^ 128 - 2 ^ 64 }
+    ensures { Puts W.contents sink.old sink.new (judgement_text judgement.now failed) result }
+{
+    for found in &judgement.unexpected {
+        found.put(sink)?;
+    }
+    put_numbers(
+        sink,
+        &[
+            (judgement.met as u128, " known failures; "),
+            (failed + judgement.failed() as u128, " failed; "),
+            (judgement.passed() as u128, " passed; "),
+            (
+                judgement.another_message() as u128,
+                " with another message; ",
+            ),
+            (judgement.absent() as u128, " absent\n"),
+        ],
+    )
+}
+
+// Writes each number in decimal, and its words.
+fn put_numbers<W: Write>(sink: &mut Sink<W>, numbers: &[(u128, &str)]) -> Result<(), WriteFault>
+    requires { HasFaultLeft sink.old }
+    ensures { Puts W.contents sink.old sink.new
+        (flat_map (λ x. decimal x.0 ++ x.1.now) numbers.now) result }
+{
+    for (number, words) in numbers {
+        sink.put(Buffer::new().format(*number).as_bytes())?;
+        sink.put(words.as_bytes())?;
+    }
+    Ok(())
+}
