@@ -1,4 +1,5 @@
 //! Prints what is not in a report as in an older one.
+use crate::faults::{refuse, refuse_all};
 use crate::input::Input;
 use crate::line::Compare;
 use crate::{BLOCK, REFUSED};
@@ -6,7 +7,6 @@ use mimic_compare::{CompareFault, write_comparison};
 use mimic_input::{Ending, RowsRead, read_rows};
 use mimic_printer::Sink;
 use std::alloc::Global;
-use std::fmt;
 use std::io::BufWriter;
 
 // Prints what became of each kind and name, and says of a report why it isn't whole.
@@ -43,13 +43,4 @@ fn print(rt: &HostRuntime, alloc: Global, old: &RowsRead, new: &RowsRead) -> u8 
         Ok(verdict) => verdict.status(),
         Err(fault) => refuse_all(rt, &fault),
     }
-}
-
-fn refuse<F: fmt::Display>(rt: &HostRuntime, file: &str, fault: &F) {
-    let _ = eprintln!(rt; "reports: {file}: {fault}");
-}
-
-fn refuse_all<F: fmt::Display>(rt: &HostRuntime, fault: &F) -> u8 {
-    let _ = eprintln!(rt; "reports: {fault}");
-    REFUSED
 }

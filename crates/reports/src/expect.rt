@@ -1,4 +1,5 @@
 //! Prints what of reports is not as known failures say.
+use crate::faults::{refuse, refuse_all};
 use crate::input::Input;
 use crate::line::Expect;
 use crate::{BLOCK, REFUSED};
@@ -8,7 +9,6 @@ use mimic_expect::{
 use mimic_input::Ending;
 use mimic_printer::Sink;
 use std::alloc::Global;
-use std::fmt;
 use std::io::{BufWriter, Read};
 
 // Prints what is unexpected, or why that can't be said.
@@ -27,10 +27,7 @@ pub(crate) fn run(rt: &HostRuntime, alloc: Global, expect: &Expect) -> u8 {
             print_ends(rt, expect, &verdict);
             verdict.status()
         }
-        Err(fault) => {
-            let _ = eprintln!(rt; "reports: {fault}");
-            REFUSED
-        }
+        Err(fault) => refuse_all(rt, &fault),
     }
 }
 
@@ -74,9 +71,4 @@ fn refuse_known(rt: &HostRuntime, file: &str, fault: &KnownFault) -> u8 {
     } else {
         refuse(rt, file, fault)
     }
-}
-
-fn refuse<F: fmt::Display>(rt: &HostRuntime, file: &str, fault: &F) -> u8 {
-    let _ = eprintln!(rt; "reports: {file}: {fault}");
-    REFUSED
 }

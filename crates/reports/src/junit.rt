@@ -1,12 +1,13 @@
 //! Prints reports as JUnit's XML.
+use crate::faults::{refuse, refuse_all};
 use crate::input::{Input, STANDARD, name_of};
 use crate::line::Junit;
-use crate::{BLOCK, REFUSED, SUCCESS};
+use crate::{BLOCK, SUCCESS};
 use mimic_printer::Sink;
 use mimic_reports::{Ending, InputFault, JunitFault, Suite, write_junit};
 use std::alloc::Global;
+use std::fs;
 use std::io::BufWriter;
-use std::{fmt, fs};
 
 // Prints the document of all reports that could be read, and says of each other file why it is none.
 pub(crate) fn run(rt: &HostRuntime, alloc: Global, junit: &Junit) -> u8 {
@@ -93,14 +94,4 @@ fn is_regular(rt: &HostRuntime, file: &str) -> bool {
         Ok(metadata) => metadata.is_file(),
         Err(_) => false,
     }
-}
-
-fn refuse<F: fmt::Display>(rt: &HostRuntime, file: &str, fault: &F) -> u8 {
-    let _ = eprintln!(rt; "reports: {file}: {fault}");
-    REFUSED
-}
-
-fn refuse_all<F: fmt::Display>(rt: &HostRuntime, fault: &F) -> u8 {
-    let _ = eprintln!(rt; "reports: {fault}");
-    REFUSED
 }

@@ -3,6 +3,7 @@
 
 mod compare;
 mod expect;
+mod faults;
 mod input;
 mod junit;
 mod line;

@@ -1,12 +1,12 @@
 //! Prints a report as a page of HTML.
+use crate::faults::{refuse, refuse_all};
 use crate::input::{Input, name_of};
 use crate::line::Page;
-use crate::{BLOCK, REFUSED, SUCCESS};
+use crate::{BLOCK, SUCCESS};
 use mimic_input::{Ending, InputFault, RowsRead, read_rows};
 use mimic_page::write_page;
 use mimic_printer::Sink;
 use std::alloc::Global;
-use std::fmt;
 use std::io::BufWriter;
 
 // Prints the page of the file's report, and says why it is cut, or why the file can't be read.
@@ -34,14 +34,4 @@ fn status_of(rt: &HostRuntime, file: &str, ending: &Ending) -> u8 {
         Ending::Whole { .. } => SUCCESS,
         Ending::Cut(stop) => refuse(rt, file, stop),
     }
-}
-
-fn refuse<F: fmt::Display>(rt: &HostRuntime, file: &str, fault: &F) -> u8 {
-    let _ = eprintln!(rt; "reports: {file}: {fault}");
-    REFUSED
-}
-
-fn refuse_all<F: fmt::Display>(rt: &HostRuntime, fault: &F) -> u8 {
-    let _ = eprintln!(rt; "reports: {fault}");
-    REFUSED
 }

@@ -1,4 +1,5 @@
 //! Prints a report as the harness prints it in pretty.
+use crate::faults::{refuse, refuse_all};
 use crate::input::Input;
 use crate::line::{Colours, Show};
 use crate::{BLOCK, REFUSED, SUCCESS, TRIALS_FAILED};
@@ -14,15 +15,12 @@ pub(crate) fn run(rt: &HostRuntime, alloc: Global, show: &Show) -> u8 {
     let file = show.file.as_str();
     let report = match read_from(alloc, &mut Input::new(rt, file)) {
         Ok(report) => report,
-        Err(fault) => return refuse(rt, file, &fault),
+        Err(fault) => return refuse_read(rt, file, &fault),
     };
     let status = status_of(&report);
     match print(rt, alloc, show, report) {
         Ok(()) => status,
-        Err(fault) => {
-            let _ = eprintln!(rt; "reports: {fault}");
-            REFUSED
-        }
+        Err(fault) => refuse_all(rt, &fault),
     }
 }
 
@@ -53,11 +51,11 @@ fn print(rt: &HostRuntime, alloc: Global, show: &Show, report: Report) -> Result
 }
 
 // Says why the file has no report.
-fn refuse(rt: &HostRuntime, file: &str, fault: &ReadFault) -> u8 {
+fn refuse_read(rt: &HostRuntime, file: &str, fault: &ReadFault) -> u8 {
     if let ReadFault::WrongLine(line) = fault {
         let _ = eprintln!(rt; "reports: {file}: line {line}: {fault}");
+        REFUSED
     } else {
-        let _ = eprintln!(rt; "reports: {file}: {fault}");
+        refuse(rt, file, fault)
     }
-    REFUSED
 }

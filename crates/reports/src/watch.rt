@@ -1,5 +1,5 @@
 //! Shows the report on standard input as it comes.
-use crate::REFUSED;
+use crate::faults::refuse_all;
 use crate::pump::{Incoming, Pipe, pump};
 use mimic_printer::Sink;
 use mimic_watch::{ERASE, Verdict, WatchFault, watch};
@@ -8,7 +8,7 @@ use std::io::{Eprint, IsTerminal, Stdin, Stdout, Write};
 use std::rt::{Clock, Env};
 use std::sync::{Arc, Wait};
 use std::thread::Threads;
-use std::{env, fmt, thread};
+use std::{env, thread};
 
 /// What a watch runs on, as the handle that `main` gets: threads that wait for each other, a clock, an environment, and standard
 /// error.
@@ -31,18 +31,18 @@ impl<H: Threads + Wait + Clock + Env + AllocGlobal + Eprint + Copy + Drop + Send
 /// Unless the input itself fails, it is read to its end, so that no pipe is closed on the harness.
 pub(crate) fn run<H: Host>(host: &H, alloc: Global, stdin: Stdin, stdout: Stdout) -> u8 {
     let Ok(pipe) = Pipe::new(alloc) else {
-        return refuse(host, &WatchFault::OutOfMemory);
+        return refuse_all(host, &WatchFault::OutOfMemory);
     };
     let Ok(pipe) = Arc::new(alloc, pipe) else {
-        return refuse(host, &WatchFault::OutOfMemory);
+        return refuse_all(host, &WatchFault::OutOfMemory);
     };
     let Ok(theirs) = Arc::try_clone(&pipe) else {
-        return refuse(host, &WatchFault::OutOfMemory);
+        return refuse_all(host, &WatchFault::OutOfMemory);
     };
     let (other, mut stdin) = (*host, stdin);
     let reader = match thread::spawn(host, move || pump(&other, &mut stdin, &theirs)) {
         Ok(reader) => reader,
-        Err(error) => return refuse(host, &error),
+        Err(error) => return refuse_all(host, &error),
     };
     let mut incoming = Incoming::new(host, alloc, &pipe);
     let status = show(host, alloc, &mut incoming, stdout);
@@ -57,7 +57,7 @@ fn show<H: Host>(host: &H, alloc: Global, incoming: &mut Incoming<'_, H>, stdout
     match watch(alloc, incoming, &mut sink, host, live) {
         Ok(verdict) => {
             if let Verdict::Cut(stop) = &verdict {
-                refuse(host, stop);
+                refuse_all(host, stop);
             }
             verdict.status()
         }
@@ -65,7 +65,7 @@ fn show<H: Host>(host: &H, alloc: Global, incoming: &mut Incoming<'_, H>, stdout
             if live {
                 let _ = sink.into_inner().write_all(ERASE.as_bytes());
             }
-            refuse(host, &fault)
+            refuse_all(host, &fault)
         }
     }
 }
@@ -76,9 +76,4 @@ fn knows_escapes<H: Host>(host: &H) -> bool {
         Ok(term) => !term.is_empty() && term.as_str() != "dumb",
         Err(_) => false,
     }
-}
-
-fn refuse<H: Host, F: fmt::Display>(host: &H, fault: &F) -> u8 {
-    let _ = eprintln!(host; "reports: {fault}");
-    REFUSED
 }
