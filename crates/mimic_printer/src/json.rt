@@ -96,6 +96,7 @@ pub fn put_row<'a, W: Write>(
 }
 
 // Writes the line of an outcome, and before it the line that announces its trial if that was not written.
+#[inline(always)]
 fn put_lines<'a, W: Write>(
     sink: &mut Sink<W>,
     both: bool,
@@ -119,6 +120,7 @@ fn put_lines<'a, W: Write>(
 }
 
 // The same of an outcome that is one word. `end` begins with the quote after the name or the kind.
+#[inline(always)]
 fn put_word<'a, W: Write>(
     sink: &mut Sink<W>,
     both: bool,

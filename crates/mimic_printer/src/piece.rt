@@ -52,7 +52,8 @@ pub(crate) fn put_pieces<W: Write>(
     Ok(())
 }
 
-// Puts the pieces one after another.
+// Puts the pieces one after another, which few rows need.
+#[inline(never)]
 fn put_each<W: Write>(sink: &mut Sink<W>, pieces: &[Piece<'_>]) -> Result<(), WriteFault>
     requires { HasFaultLeft sink.old }
     ensures { Puts W.contents sink.old sink.new (pieces_text pieces.now) result }
@@ -85,10 +86,10 @@ fn append(row: &mut [u8; ROW], len: usize, text: &[u8]) -> Option<usize>
     if text.is_empty() {
         return Some(len);
     }
-    let end = len.checked_add(text.len())?;
-    if end > ROW {
+    if text.len() > ROW - len {
         return None;
     }
+    let end = len + text.len();
     row[len..end].copy_from_slice(text);
     Some(end)
 }
