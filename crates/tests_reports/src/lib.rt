@@ -1,0 +1,5 @@
+//! Tests of shards, of reports that are joined or refused, and of a watch. There is no code but these.
+#![tactic(auto)]
+
+#[cfg(test)]
+mod tests;
