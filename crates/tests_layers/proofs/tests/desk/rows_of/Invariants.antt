@@ -1,5 +1,5 @@
 use Rattle.std.proofs.Common.{◌+◌, ◌≤◌, length}
-use Rattle.tests_pool.proofs.tests.desk.rows_of.Given as goal
+use Rattle.tests_layers.proofs.tests.desk.rows_of.Given as goal
 
 -- there is room for the rows that are still to come
 abbrev pub invariant-loop-place : goal.invariant-loop-place
