@@ -23,9 +23,9 @@ label_joined front named keyed name kind key h k e some =
     ∙ ap (λ (l : List ℕ). front ++ (escaped name ++ l)) (sym (kind_text-some kind some))
 
 -- a name and a kind, the last quote, and what follows
-pub label_then : (name kind rest : List ℕ) → label_text name kind ++ 34 ∷ rest ≡ escaped name ++ (34 ∷ (kind_field kind ++ rest))
-label_then name [] rest = append_assoc (escaped name) [] (34 ∷ rest)
-label_then name (b ∷ kind) rest =
+quoted_then : (name kind rest : List ℕ) → label_text name kind ++ 34 ∷ rest ≡ escaped name ++ (34 ∷ (kind_field kind ++ rest))
+quoted_then name [] rest = append_assoc (escaped name) [] (34 ∷ rest)
+quoted_then name (b ∷ kind) rest =
     append_assoc (escaped name) (kind_text (b ∷ kind)) (34 ∷ rest)
     ∙ ap (λ (l : List ℕ). escaped name ++ (34 ∷ (kind_key ++ l))) (sym (append_assoc (escaped (b ∷ kind)) (34 ∷ []) rest))
 
@@ -35,14 +35,19 @@ unfolding json_announcement
 announcement_then name kind rest =
     let quoted : List ℕ = 34 ∷ (kind_field kind ++ json_end) in
     ap (λ (l : List ℕ). announcement_front ++ l)
-    (append_assoc (escaped name) quoted rest ∙ ap (λ (l : List ℕ). escaped name ++ (34 ∷ l)) (append_assoc (kind_field kind) json_end rest) ∙ sym (label_then name kind (json_end ++ rest)))
+    (append_assoc (escaped name) quoted rest ∙ ap (λ (l : List ℕ). escaped name ++ (34 ∷ l)) (append_assoc (kind_field kind) json_end rest) ∙ sym (quoted_then name kind (json_end ++ rest)))
+
+-- a line from the name on, by the text of the name and the kind
+pub label_then : (label name kind rest : List ℕ) → label ≡ label_text name kind → label ++ 34 ∷ rest ≡ escaped name ++ (34 ∷ (kind_field kind ++ rest))
+label_then label name kind rest h = ap (λ (l : List ℕ). l ++ 34 ∷ rest) h ∙ quoted_then name kind rest
 
 -- both lines of a trial, from the parts that they are put together of
-pub both_lines : (front name kind rest : List ℕ) → announcement_front ++ (label_text name kind ++ 34 ∷ (json_end ++ (front ++ (label_text name kind ++ 34 ∷ rest))))
+pub both_lines : (front label name kind rest : List ℕ) → label ≡ label_text name kind → announcement_front ++ (label ++ 34 ∷ (json_end ++ (front ++ (label ++ 34 ∷ rest))))
     ≡ json_announcement (record { kind = kind; name = name }) ++ (front ++ (escaped name ++ (34 ∷ (kind_field kind ++ rest))))
-both_lines front name kind rest =
-    sym (announcement_then name kind (front ++ (label_text name kind ++ 34 ∷ rest)))
-    ∙ ap (λ (l : List ℕ). json_announcement (record { kind = kind; name = name }) ++ (front ++ l)) (label_then name kind rest)
+both_lines front label name kind rest h =
+    ap (λ (l : List ℕ). announcement_front ++ (l ++ 34 ∷ (json_end ++ (front ++ (l ++ 34 ∷ rest))))) h
+    ∙ sym (announcement_then name kind (front ++ (label_text name kind ++ 34 ∷ rest)))
+    ∙ ap (λ (l : List ℕ). json_announcement (record { kind = kind; name = name }) ++ (front ++ l)) (quoted_then name kind rest)
 
 -- a text that begins with a quote
 pub quote_first : (text : List ℕ) → take 1 text ≡ 34 ∷ [] → text ≡ 34 ∷ drop 1 text

@@ -7,7 +7,7 @@ ghost use Rattle.mimic_printer.specs.Sink.{HasFaultLeft, Puts};
 ghost use Rattle.mimic_text.specs.Escape.{escaped};
 ghost use Rattle.mimic_trial.specs.declared.outcome.Outcome.TheVariants.{Failed, Measured};
 
-use crate::piece::{Piece, put_pieces};
+use crate::piece::{Piece, label_piece, put_pieces};
 use crate::sink::{Sink, WriteFault};
 use mimic_trial::{Conclusion, Measurement, Outcome};
 use std::io::Write;
@@ -16,7 +16,7 @@ use std::io::Write;
 // but the last, so that both lines go out at once.
 macro_rules! put_trial {
     ($sink:expr, $both:expr, $type:literal, $name:expr, $kind:expr, $($end:expr),+) => {{
-        let label = Piece::Label { name: $name, kind: $kind };
+        let label = label_piece($name, $kind);
         if $both {
             let pieces = [
                 Piece::Text("{ \"type\": \"test\", \"event\": \"started\", \"name\": \""),

@@ -4,7 +4,7 @@ ghost use Rattle.std.specs.Option.{MatchOption};
 ghost use Rattle.mimic_printer.specs.Sink.{HasFaultLeft, Puts};
 ghost use Rattle.mimic_text.specs.Escape.{escaped};
 ghost use Rattle.mimic_text.specs.Text.{spaces, right_aligned, grouped};
-ghost use Rattle.mimic_printer.specs.Piece.{label_text, pieces_text};
+ghost use Rattle.mimic_printer.specs.Piece.{label_text, piece_text, pieces_text};
 
 use crate::sink::{Sink, WriteFault};
 use itoa::Buffer;
@@ -30,6 +30,18 @@ pub(crate) enum Piece<'a> {
     Label { name: &'a str, kind: &'a str },
     /// Nanoseconds, as seconds in exact decimal.
     Seconds(u64),
+}
+
+/// A trial's name and kind, as `Piece::Label`. Most are a plain text, and a row that has it twice looks for escapes once.
+#[inline(always)]
+pub(crate) fn label_piece<'a>(name: &'a str, kind: &'a str) -> Piece<'a>
+    ensures { piece_text result ≡ label_text name.now kind.now }
+{
+    if kind.is_empty() && next_escape(name.as_bytes()).is_none() {
+        Piece::Text(name)
+    } else {
+        Piece::Label { name, kind }
+    }
 }
 
 // A text of at most this many bytes, as most rows are, is gathered first and put at once.

@@ -1,4 +1,4 @@
-use Rattle.std.proofs.Common.{◌++◌, List, ℕ, subst}
+use Rattle.std.proofs.Common.{refl, ◌++◌, List, ℕ, subst}
 use Rattle.mimic_printer.specs.Json.{announcement_front, json_announcement, json_end}
 use Rattle.mimic_printer.specs.Sink.{Puts}
 use Rattle.mimic_printer.proofs.Labels.{label_then}
@@ -8,4 +8,4 @@ pub returns : goal.returns
 unfolding json_announcement
 returns g c =
     let P : List ℕ → Type 0 = λ l. Puts g.W.Write.contents c.args.sink.now c.put_pieces.new.sink (announcement_front ++ l) c.put_pieces.result in
-    subst P (label_then c.args.name.now c.args.kind.now json_end) c.put_pieces.ensures
+    subst P (label_then _ c.args.name.now c.args.kind.now json_end refl) c.put_pieces.ensures
