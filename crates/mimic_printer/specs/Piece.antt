@@ -2,7 +2,7 @@
 use Rattle.std.specs.Prelude.{ℕ, List, [], ◌∷◌, ◌++◌, codes, decimal}
 use Rattle.std.specs.List.{flat_map}
 use Rattle.mimic_printer.specs.declared.piece.Piece.{Piece}
-use Rattle.mimic_printer.specs.declared.piece.Piece.TheVariants.{Text, Number, TwoDigits, Spaces, Grouped, Escaped, Label, Seconds}
+use Rattle.mimic_printer.specs.declared.piece.Piece.TheVariants.{Text, Number, TwoDigits, Spaces, Grouped, Escaped, Kind, Seconds}
 use Rattle.mimic_text.specs.Escape.{escaped}
 use Rattle.mimic_text.specs.Seconds.{exact_seconds}
 use Rattle.mimic_text.specs.Text.{spaces, two_digits, right_aligned, grouped}
@@ -12,10 +12,6 @@ abbrev pub kind_text : List ℕ → List ℕ
 kind_text [] = []
 kind_text (b ∷ bs) = codes "\", \"kind\": \"" ++ escaped (b ∷ bs)
 
--- a name and a kind in JSON, between the first quote and the last one
-abbrev pub label_text : List ℕ → List ℕ → List ℕ
-label_text name kind = escaped name ++ kind_text kind
-
 -- the text that a piece stands for
 abbrev pub piece_text : Piece → List ℕ
 piece_text (Text t) = t.now
@@ -24,7 +20,7 @@ piece_text (TwoDigits n) = two_digits n
 piece_text (Spaces n) = spaces n
 piece_text (Grouped n width) = right_aligned width (grouped (decimal n))
 piece_text (Escaped t) = escaped t.now
-piece_text (Label name kind) = label_text name.now kind.now
+piece_text (Kind k) = kind_text k.now
 piece_text (Seconds n) = exact_seconds n
 
 -- their texts, one after another

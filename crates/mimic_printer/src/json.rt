@@ -7,7 +7,7 @@ ghost use Rattle.mimic_printer.specs.Sink.{HasFaultLeft, Puts};
 ghost use Rattle.mimic_text.specs.Escape.{escaped};
 ghost use Rattle.mimic_trial.specs.declared.outcome.Outcome.TheVariants.{Failed, Measured};
 
-use crate::piece::{Piece, label_piece, put_pieces};
+use crate::piece::{Piece, name_piece, put_pieces};
 use crate::sink::{Sink, WriteFault};
 use mimic_trial::{Conclusion, Measurement, Outcome};
 use std::io::Write;
@@ -16,19 +16,21 @@ use std::io::Write;
 // but the last, so that both lines go out at once.
 macro_rules! put_trial {
     ($sink:expr, $both:expr, $type:literal, $name:expr, $kind:expr, $($end:expr),+) => {{
-        let label = label_piece($name, $kind);
+        let name = name_piece($name);
         if $both {
             let pieces = [
                 Piece::Text("{ \"type\": \"test\", \"event\": \"started\", \"name\": \""),
-                label,
+                name,
+                Piece::Kind($kind),
                 Piece::Text(concat!("\" }\n{ \"type\": \"", $type, "\", \"name\": \"")),
-                label,
+                name,
+                Piece::Kind($kind),
                 $($end),+
             ];
             put_pieces($sink, &pieces)
         } else {
             let front = concat!("{ \"type\": \"", $type, "\", \"name\": \"");
-            put_pieces($sink, &[Piece::Text(front), label, $($end),+])
+            put_pieces($sink, &[Piece::Text(front), name, Piece::Kind($kind), $($end),+])
         }
     }};
 }
@@ -59,7 +61,8 @@ pub fn put_announcement<'a, W: Write>(
 {
     let pieces = [
         Piece::Text("{ \"type\": \"test\", \"event\": \"started\", \"name\": \""),
-        Piece::Label { name, kind },
+        Piece::Escaped(name),
+        Piece::Kind(kind),
         Piece::Text("\" }\n"),
     ];
     put_pieces(sink, &pieces)

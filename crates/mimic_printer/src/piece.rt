@@ -4,7 +4,7 @@ ghost use Rattle.std.specs.Option.{MatchOption};
 ghost use Rattle.mimic_printer.specs.Sink.{HasFaultLeft, Puts};
 ghost use Rattle.mimic_text.specs.Escape.{escaped};
 ghost use Rattle.mimic_text.specs.Text.{spaces, right_aligned, grouped};
-ghost use Rattle.mimic_printer.specs.Piece.{label_text, piece_text, pieces_text};
+ghost use Rattle.mimic_printer.specs.Piece.{kind_text, piece_text, pieces_text};
 
 use crate::sink::{Sink, WriteFault};
 use itoa::Buffer;
@@ -26,21 +26,22 @@ pub(crate) enum Piece<'a> {
     Grouped { number: u64, width: usize },
     /// The text as it stands between the quotes of a JSON string.
     Escaped(&'a str),
-    /// A trial's name so, and its kind behind the key of a kind if that isn't empty: all but the first and the last quote.
-    Label { name: &'a str, kind: &'a str },
+    /// What follows a trial's name so: the key of a kind and the kind, up to its last quote, and nothing for an empty kind.
+    Kind(&'a str),
     /// Nanoseconds, as seconds in exact decimal.
     Seconds(u64),
 }
 
-/// A trial's name and kind, as `Piece::Label`. Most are a plain text, and a row that has it twice looks for escapes once.
+/// A trial's name in JSON. Most need no escape, and a row that has its name twice looks for escapes once.
+#[tactic(auto, using(crate::proofs::Escaping::spelled_as_is))]
 #[inline(always)]
-pub(crate) fn label_piece<'a>(name: &'a str, kind: &'a str) -> Piece<'a>
-    ensures { piece_text result ≡ label_text name.now kind.now }
+pub(crate) fn name_piece<'a>(name: &'a str) -> Piece<'a>
+    ensures { piece_text result ≡ escaped name.now }
 {
-    if kind.is_empty() && next_escape(name.as_bytes()).is_none() {
-        Piece::Text(name)
+    if next_escape(name.as_bytes()).is_some() {
+        Piece::Escaped(name)
     } else {
-        Piece::Label { name, kind }
+        Piece::Text(name)
     }
 }
 
@@ -119,16 +120,15 @@ fn append_escaped(row: &mut [u8; ROW], len: usize, text: &str) -> Option<usize>
     append(row, len, text.as_bytes())
 }
 
-fn append_label(row: &mut [u8; ROW], len: usize, name: &str, kind: &str) -> Option<usize>
+fn append_kind(row: &mut [u8; ROW], len: usize, kind: &str) -> Option<usize>
     requires { len ≤ 256 }
     ensures { IfSome result
-        (λ end. (end ≤ 256) × (take end row.new ≡ take len row.old ++ label_text name.now kind.now)) }
+        (λ end. (end ≤ 256) × (take end row.new ≡ take len row.old ++ kind_text kind.now)) }
 {
-    let end = append_escaped(row, len, name)?;
     if kind.is_empty() {
-        return Some(end);
+        return Some(len);
     }
-    let end = append(row, end, KIND_KEY.as_bytes())?;
+    let end = append(row, len, KIND_KEY.as_bytes())?;
     append_escaped(row, end, kind)
 }
 
@@ -158,7 +158,7 @@ impl Piece<'_> {
             }
             Piece::Spaces(count) if count <= SPACES.len() => append(row, len, &SPACES[..count]),
             Piece::Escaped(text) => append_escaped(row, len, text),
-            Piece::Label { name, kind } => append_label(row, len, name, kind),
+            Piece::Kind(kind) => append_kind(row, len, kind),
             _ => None,
         }
     }
@@ -174,7 +174,7 @@ impl Piece<'_> {
             Piece::Spaces(count) => put_spaces(sink, count),
             Piece::Grouped { number, width } => put_grouped(sink, number, width),
             Piece::Escaped(text) => put_escaped(sink, text.as_bytes()),
-            Piece::Label { name, kind } => put_label(sink, name, kind),
+            Piece::Kind(kind) => put_kind(sink, kind),
             Piece::Seconds(nanos) => sink.put(exact_seconds(nanos, &mut [0; 32]).as_bytes()),
         }
     }
@@ -221,14 +221,13 @@ fn put_escaped<W: Write>(sink: &mut Sink<W>, text: &[u8]) -> Result<(), WriteFau
     sink.put(rest)
 }
 
-fn put_label<W: Write>(sink: &mut Sink<W>, name: &str, kind: &str) -> Result<(), WriteFault>
+fn put_kind<W: Write>(sink: &mut Sink<W>, kind: &str) -> Result<(), WriteFault>
     requires { HasFaultLeft sink.old }
-    ensures { Puts W.contents sink.old sink.new (label_text name.now kind.now) result }
+    ensures { Puts W.contents sink.old sink.new (kind_text kind.now) result }
 {
-    put_escaped(sink, name.as_bytes())?;
-    if !kind.is_empty() {
-        sink.put(KIND_KEY.as_bytes())?;
-        put_escaped(sink, kind.as_bytes())?;
+    if kind.is_empty() {
+        return Ok(());
     }
-    Ok(())
+    sink.put(KIND_KEY.as_bytes())?;
+    put_escaped(sink, kind.as_bytes())
 }

@@ -8,10 +8,10 @@ pub returns-then-both : goal.returns-then-both
 unfolding json_outcome
 returns-then-both g c =
     let P : List ℕ → Type 0 = λ l. Puts g.W.Write.contents c.args.sink.now c.put_pieces.new.sink l c.put_pieces.result in
-    rw c.if-both.true (subst P (both_lines (outcome_front false) _ c.args.name.now c.args.kind.now _ c.label_piece-label.ensures) c.put_pieces.ensures)
+    rw c.if-both.true (subst P (both_lines (outcome_front false) _ c.args.name.now c.args.kind.now _ c.name_piece-name.ensures) c.put_pieces.ensures)
 
 pub returns-else-both : goal.returns-else-both
 unfolding json_outcome
 returns-else-both g c =
     let P : List ℕ → Type 0 = λ l. Puts g.W.Write.contents c.args.sink.now c.put_pieces-else-both.new.sink (outcome_front false ++ l) c.put_pieces-else-both.result in
-    rw c.if-both.false (subst P (label_then _ c.args.name.now c.args.kind.now _ c.label_piece-label.ensures) c.put_pieces-else-both.ensures)
+    rw c.if-both.false (subst P (label_then _ c.args.name.now c.args.kind.now _ c.name_piece-name.ensures) c.put_pieces-else-both.ensures)
