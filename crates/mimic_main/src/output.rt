@@ -203,6 +203,11 @@ impl<W: Write> Output<W> {
         ensures same { SamePolicy self.old self.new }
         ensures runs { has_stopped self.new ≡ has_stopped self.old }
     {
+        // Of a mark in terse, to copy a slice takes longer than all else.
+        if let [byte] = text {
+            self.waiting.push(*byte);
+            return;
+        }
         let Ok(()) = self.waiting.try_extend_from_slice(text) else {
             unreachable!()
         };
@@ -212,10 +217,13 @@ impl<W: Write> Output<W> {
     fn goes_out(&self, ends_line: bool) -> bool
         ensures { result ≡ goes_out_by (flushes_by self.now) ends_line (has_odd_lines self.now) }
     {
+        // Most texts of a report in terse end no line.
+        if !ends_line {
+            return matches!(self.policy, FlushPolicy::Always);
+        }
         match self.policy {
-            FlushPolicy::Always => true,
-            FlushPolicy::OnLineEnd => ends_line,
-            FlushPolicy::OnEvenLineEnd => ends_line && self.has_odd_lines,
+            FlushPolicy::Always | FlushPolicy::OnLineEnd => true,
+            FlushPolicy::OnEvenLineEnd => self.has_odd_lines,
             FlushPolicy::OnFlush | FlushPolicy::WhenFull => false,
         }
     }
