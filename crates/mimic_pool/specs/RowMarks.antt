@@ -5,7 +5,7 @@ use Rattle.std.specs.VecDeque.{deque_capacity, deque_items}
 use Rattle.mimic_pool.specs.Marks.{is_marked, rows_of, weight_of_all}
 use Rattle.mimic_pool.specs.Rows.{Returned}
 use Rattle.mimic_pool.specs.declared.marks.Mark.{Mark}
-use Rattle.mimic_pool.specs.declared.returned.Rows.TheInside.{Inside}
+use Rattle.mimic_pool.specs.declared.rows.Rows.TheInside.{Inside}
 
 -- the places that are left, in their order, each with its mark
 abbrev pub marks_left : Inside → List (ℕ × Mark)

@@ -12,7 +12,7 @@ ghost use Rattle.mimic_pool.specs.Returned.{HasAll, StandsFor};
 ghost use Rattle.mimic_pool.specs.Rows.{rows_in};
 ghost use Rattle.mimic_pool.specs.Seats.{SeatAgreesAt};
 
-use crate::returned::Rows;
+use crate::rows::Rows;
 use crate::seats::Seats;
 use mimic_trial::Outcome;
 use std::alloc::{AllocError, Global};

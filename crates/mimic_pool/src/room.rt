@@ -2,7 +2,7 @@
 ghost use Rattle.std.specs.Prelude.{◌≡◌, ◌++◌, ◌∷◌, ◌+◌, ◌-◌, ◌≤◌, [], ℕ, List, vec_capacity, vec_len};
 ghost use Rattle.mimic_trial.specs.Places.{Placed};
 
-use crate::returned::Rows;
+use crate::rows::Rows;
 use mimic_trial::Outcome;
 
 // What a worker puts its rows into, each a place and the outcome there. No row takes memory.

@@ -2,7 +2,7 @@
 ghost use Rattle.std.specs.Prelude.{◌≡◌, ◌≤◌, [], length};
 ghost use Rattle.mimic_pool.specs.Share.{items_of};
 
-use crate::returned::Rows;
+use crate::rows::Rows;
 use crate::share::Share;
 use crate::shared_board::SharedBoard;
 use mimic_trial::Task;

@@ -10,7 +10,7 @@ ghost use Rattle.mimic_pool.specs.Share.{AllRunners, assigned_from, items_of};
 
 use crate::board_reports::BoardReports;
 use crate::inbox::Inbox;
-use crate::returned::Rows;
+use crate::rows::Rows;
 use crate::share::Share;
 use crate::start::{AnswersShare, Start};
 use crate::worker::work_into;

@@ -2,7 +2,7 @@ use Rattle.std.proofs.Common.{◌<◌, ◌≤◌, ◌∙◌, ap, arith, length, 
 use Rattle.mimic_pool.specs.Marks.{rows_of, weight_of_all}
 use Rattle.mimic_pool.proofs.Marking.{weight_left}
 use Rattle.mimic_pool.proofs.Returning.{first_left, none_left}
-use Rattle.mimic_pool.proofs.returned.Rows.next.Goals as goal
+use Rattle.mimic_pool.proofs.rows.Rows.next.Goals as goal
 
 pub returns-then-self-len : goal.returns-then-self-len
 returns-then-self-len c =

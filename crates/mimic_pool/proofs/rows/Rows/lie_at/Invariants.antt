@@ -3,7 +3,7 @@ use Rattle.std.specs.List.{zip}
 use Rattle.mimic_pool.specs.Marks.{rows_of, weight_of_all}
 use Rattle.mimic_pool.specs.RowMarks.{marks_left}
 use Rattle.mimic_pool.proofs.Having.{AllLie}
-use Rattle.mimic_pool.proofs.returned.Rows.lie_at.Given as goal
+use Rattle.mimic_pool.proofs.rows.Rows.lie_at.Given as goal
 
 abbrev pub invariant-loop-number : goal.invariant-loop-number
 invariant-loop-number l =

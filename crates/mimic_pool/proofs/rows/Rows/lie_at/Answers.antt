@@ -1,7 +1,7 @@
 use Rattle.std.proofs.Common.{◌≡◌, ◌<◌, ◌≤◌, ◌∙◌, None, Some, ap, arith, drop, length, refl, slice_index_or, sym}
 use Rattle.mimic_pool.specs.Marks.{outcome_by, weight_of_all}
 use Rattle.mimic_pool.proofs.Returning.{first_left, lie_behind, lie_none, lies_first, none_left}
-use Rattle.mimic_pool.proofs.returned.Rows.lie_at.Goals as goal
+use Rattle.mimic_pool.proofs.rows.Rows.lie_at.Goals as goal
 
 pub lies-requires : goal.lies-requires
 lies-requires c =

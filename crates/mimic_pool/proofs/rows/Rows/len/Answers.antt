@@ -1,6 +1,6 @@
 use Rattle.std.proofs.Common.{ap, arith, length}
 use Rattle.mimic_pool.proofs.Returning.{count_left}
-use Rattle.mimic_pool.proofs.returned.Rows.len.Goals as goal
+use Rattle.mimic_pool.proofs.rows.Rows.len.Goals as goal
 
 pub returns : goal.returns
 returns c =

@@ -1,7 +1,7 @@
 use Rattle.std.proofs.Common.{arith, length, sym, ◌<◌, ◌∙◌}
 use Rattle.std.specs.Prelude.{IsSome}
 use Rattle.mimic_pool.proofs.Returning.{same_kept}
-use Rattle.mimic_pool.proofs.returned.lies.Goals as goal
+use Rattle.mimic_pool.proofs.rows.lies.Goals as goal
 
 pub returns-in-Kept : goal.returns-in-Kept
 returns-in-Kept c =

@@ -1,6 +1,6 @@
 use Rattle.std.proofs.Common.{ap, arith, length-append, ◌∷◌, []}
 use Rattle.mimic_pool.proofs.Returning.{kept_fits, marked_more, rows_more, weight_more}
-use Rattle.mimic_pool.proofs.returned.Rows.push_reserved.Goals as goal
+use Rattle.mimic_pool.proofs.rows.Rows.push_reserved.Goals as goal
 
 pub marked-mark-requires : goal.marked-mark-requires
 marked-mark-requires c =
