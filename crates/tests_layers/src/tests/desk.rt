@@ -2,7 +2,7 @@
 ghost use Rattle.std.specs.Prelude.{◌≡◌, IfOk, vec_len};
 
 use super::{Plain, numbered};
-use mimic_pool::{Arrival, Desk, Rows};
+use mimic_pool::{Arrival, Desk};
 use mimic_trial::Outcome;
 use std::alloc::{AllocError, Global};
 use std::process::Abort;
@@ -86,126 +86,6 @@ fn keeps_first_arrivals(rt: HostRuntime) -> Result<(), Fail> {
     assert!(rt; shows_two_arrivals(&desk));
     for (joined, answer) in RETURNED {
         assert!(rt; settled(rt.alloc(), &desk, joined)? == answer);
-    }
-    Ok(())
-}
-
-// Lets the outcome that has the number of its place come to the desk, if there is one.
-fn comes(desk: &mut Desk, place: Option<&usize>)
-    ensures { desk.new.places ≡ desk.old.places }
-{
-    if let Some(place) = place {
-        desk.arrive(*place, numbered(*place));
-    }
-}
-
-// A desk of three places at which up to three outcomes arrived, in this order of their places.
-fn desk_with(alloc: Global, places: &[usize]) -> Result<Desk, AllocError>
-    ensures { IfOk result (λ desk. desk.places ≡ 3) }
-{
-    let mut desk = Desk::new(alloc, 3)?;
-    comes(&mut desk, places.get(0));
-    comes(&mut desk, places.get(1));
-    comes(&mut desk, places.get(2));
-    Ok(desk)
-}
-
-const FIRST: (usize, Plain) = (0, Plain::Measured(0, 0));
-
-const SECOND: (usize, Plain) = (1, Plain::Measured(1, 0));
-
-const THIRD: (usize, Plain) = (2, Plain::Measured(2, 0));
-
-// Which places arrived, what two workers return, and whether the desk has all of it.
-const RETURNED_ROWS: [(&[usize], [&[(usize, Plain)]; 2], bool); 8] = [
-    (&[2, 0, 1], [&[FIRST, THIRD], &[SECOND]], true),
-    // A place is missing, and its row is or isn't among those that are returned.
-    (&[2, 0], [&[FIRST, THIRD], &[SECOND]], false),
-    (&[2, 0], [&[FIRST, THIRD], &[]], false),
-    // An outcome differs.
-    (&[2, 0, 1], [&[FIRST, (2, Plain::Passed)], &[SECOND]], false),
-    (
-        &[2, 0, 1],
-        [&[FIRST, THIRD], &[(1, Plain::Measured(2, 0))]],
-        false,
-    ),
-    // The desk has no such place.
-    (
-        &[2, 0, 1],
-        [&[FIRST, THIRD], &[SECOND, (3, Plain::Passed)]],
-        false,
-    ),
-    // A row stands twice, and rows are missing.
-    (&[2, 0, 1], [&[FIRST, FIRST, THIRD], &[SECOND]], true),
-    (&[2, 0, 1], [&[FIRST], &[]], true),
-];
-
-// Rows as a worker returns them.
-fn rows_of(alloc: Global, rows: &[(usize, Plain)]) -> Result<Rows, AllocError> {
-    let mut made = Rows::with_capacity(alloc, rows.len())?;
-    for (place, outcome) in rows {
-        made.push_reserved(*place, outcome.outcome(alloc)?);
-    }
-    Ok(made)
-}
-
-#[test]
-fn has_all_that_is_returned(rt: HostRuntime) -> Result<(), Fail> {
-    let alloc = rt.alloc();
-    for (places, returned, has_all) in &RETURNED_ROWS {
-        let desk = desk_with(alloc, places)?;
-        let joined = vec![in alloc; rows_of(alloc, returned[0])?, rows_of(alloc, returned[1])?]?;
-        assert!(rt; desk.has_all(&joined) == *has_all);
-    }
-    Ok(())
-}
-
-// One row of each kind.
-const KINDS: [(usize, Plain); 5] = [
-    (4, Plain::Failed(None)),
-    (2, Plain::Passed),
-    (0, Plain::Measured(3, 1)),
-    (3, Plain::Ignored),
-    (1, Plain::Failed(Some("Woops"))),
-];
-
-#[test]
-fn rows_are_taken_in_their_order(rt: HostRuntime) -> Result<(), Fail> {
-    let mut rows = rows_of(rt.alloc(), &KINDS)?;
-    let mut left = KINDS.len();
-    for (at, row) in &KINDS {
-        assert_eq!(rt; rows.len(), left);
-        let taken = rows.next();
-        assert!(rt; matches!(&taken, Some((place, outcome)) if place == at && row.is(outcome)));
-        left = left.saturating_sub(1);
-    }
-    assert!(rt; rows.len() == 0 && rows.next().is_none());
-    Ok(())
-}
-
-// Which places arrived, and the rows of the desk once each missing one is ignored.
-const COMPLETED: [(&[usize], [(usize, Plain); 3]); 4] = [
-    (
-        &[],
-        [
-            (0, Plain::Ignored),
-            (1, Plain::Ignored),
-            (2, Plain::Ignored),
-        ],
-    ),
-    (&[1], [SECOND, (0, Plain::Ignored), (2, Plain::Ignored)]),
-    (&[2, 0], [THIRD, FIRST, (1, Plain::Ignored)]),
-    (&[2, 0, 1], [THIRD, FIRST, SECOND]),
-];
-
-#[test]
-fn the_missing_arrive_rising(rt: HostRuntime) -> Result<(), Fail> {
-    for (places, rows) in &COMPLETED {
-        let mut desk = desk_with(rt.alloc(), places)?;
-        desk.arrive_missing(outcomes_of(rt.alloc(), [Plain::Ignored; 3])?);
-        for number in 0..5 {
-            assert!(rt; shows_row(&desk, number, rows.get(number).copied()));
-        }
     }
     Ok(())
 }

@@ -97,23 +97,6 @@ fn refuses_what_it_cannot_copy(rt: HostRuntime) -> Result<(), Fail> {
     Ok(())
 }
 
-// The inbox is at its end when all workers have closed and all rows were taken, and not before.
-#[test]
-fn a_worker_closes_when_its_reports_are_dropped(rt: HostRuntime) -> Result<(), Fail> {
-    let mut inbox = Inbox::new(rt.alloc(), 4, 2)?;
-    let silent = inbox.reports(rt, rt.alloc())?;
-    let mut telling = inbox.reports(rt, rt.alloc())?;
-    drop(silent);
-    assert!(rt; telling.tell(1, &Outcome::Passed).is_ok());
-    assert!(rt; gives(&rt, &mut inbox, 1, Plain::Passed));
-    assert!(rt; telling.tell(3, &Outcome::Ignored).is_ok());
-    drop(telling);
-    assert!(rt; gives(&rt, &mut inbox, 3, Plain::Ignored));
-    assert!(rt; is_at_end(&rt, &mut inbox));
-    assert!(rt; is_at_end(&rt, &mut inbox));
-    Ok(())
-}
-
 // Returns the number of its place once so many rows were taken. If that doesn't happen in time, it fails, and lets no other
 // task wait.
 #[derive(Drop)]

@@ -54,15 +54,6 @@ fn copies_messages(rt: HostRuntime) -> Result<(), Fail> {
     Ok(())
 }
 
-#[test]
-fn tells_failures_apart(rt: HostRuntime) -> Result<(), Fail> {
-    let failed = Failed::with_message(String::from_str(rt.alloc(), "x")?);
-    assert!(rt; failed.message() == Some("x"));
-    assert!(rt; failed != Failed::without_message());
-    assert!(rt; Failed::without_message() == Failed::without_message());
-    Ok(())
-}
-
 // Displays nothing, and fails.
 struct Mute;
 
