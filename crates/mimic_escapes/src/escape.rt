@@ -46,7 +46,7 @@ pub fn put_escaped<W: Write>(
     requires { HasFaultLeft sink.old }
     ensures written { Puts W.contents sink.old sink.new (escaped place text.now) result }
 
-    // Each text comes back from its spelling, no spelling has markup, and none ends a line.
+    // Each text comes back from its spelling, which has no markup, and in `Line` and `Terminal` no control character.
     ensures laws { EscapeLaws }
 {
     let mut rest = text;
