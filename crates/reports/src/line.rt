@@ -94,26 +94,20 @@ impl Line {
         let matches = command(alloc)?
             .try_get_matches_from(words.as_slice())
             .map_err(LineError::Shown)?;
-        if let Some(join) = matches.subcommand_matches("join") {
-            return Ok(Line::Join(Join::from_matches(alloc, join)?));
-        }
-        if let Some(junit) = matches.subcommand_matches("junit") {
-            return Ok(Line::Junit(Junit::from_matches(alloc, junit)?));
-        }
-        if let Some(show) = matches.subcommand_matches("show") {
-            return Ok(Line::Show(Show::from_matches(alloc, show)?));
-        }
-        if let Some(expect) = matches.subcommand_matches("expect") {
-            return Ok(Line::Expect(Expect::from_matches(alloc, expect)?));
-        }
-        if let Some(compare) = matches.subcommand_matches("compare") {
-            return Ok(Line::Compare(Compare::from_matches(alloc, compare)?));
-        }
-        if let Some(page) = matches.subcommand_matches("page") {
-            return Ok(Line::Page(Page::from_matches(alloc, page)?));
-        }
-        // `clap` has refused a line without a subcommand.
-        Ok(Line::Watch)
+        Line::from_matches(alloc, &matches)
+    }
+
+    fn from_matches(alloc: Global, matches: &ArgMatches<'_>) -> Result<Line, LineError> {
+        Ok(match matches.subcommand() {
+            Some(("join", join)) => Line::Join(Join::from_matches(alloc, join)?),
+            Some(("junit", junit)) => Line::Junit(Junit::from_matches(alloc, junit)?),
+            Some(("show", show)) => Line::Show(Show::from_matches(alloc, show)?),
+            Some(("expect", expect)) => Line::Expect(Expect::from_matches(alloc, expect)?),
+            Some(("compare", compare)) => Line::Compare(Compare::from_matches(alloc, compare)?),
+            Some(("page", page)) => Line::Page(Page::from_matches(alloc, page)?),
+            // `clap` has refused a line without a subcommand.
+            _ => Line::Watch,
+        })
     }
 }
 
@@ -213,16 +207,19 @@ fn files_of(alloc: Global, matches: &ArgMatches<'_>) -> Result<Vec<String>, Line
 }
 
 fn command<'a>(alloc: Global) -> Result<Command<'a>, AllocError> {
+    let subcommands = vec![in alloc;
+        join_command(alloc)?,
+        junit_command(alloc)?,
+        show_command(alloc)?,
+        expect_command(alloc)?,
+        compare_command(alloc)?,
+        page_command(alloc)?,
+        watch_command(alloc)?,
+    ]?;
     Command::new(alloc, "reports")
         .about("Reads reports in JSON")
         .subcommand_required(true)
-        .subcommand(join_command(alloc)?)?
-        .subcommand(junit_command(alloc)?)?
-        .subcommand(show_command(alloc)?)?
-        .subcommand(expect_command(alloc)?)?
-        .subcommand(compare_command(alloc)?)?
-        .subcommand(page_command(alloc)?)?
-        .subcommand(watch_command(alloc)?)
+        .subcommands(subcommands)
 }
 
 fn join_command<'a>(alloc: Global) -> Result<Command<'a>, AllocError> {
