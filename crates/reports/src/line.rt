@@ -206,20 +206,50 @@ fn files_of(alloc: Global, matches: &ArgMatches<'_>) -> Result<Vec<String>, Line
     Ok(files)
 }
 
+// The subcommands.
+#[derive(Clone, Copy)]
+enum Subcommand {
+    Join,
+    Junit,
+    Show,
+    Expect,
+    Compare,
+    Page,
+    Watch,
+}
+
+static SUBCOMMANDS: [Subcommand; 7] = [
+    Subcommand::Join,
+    Subcommand::Junit,
+    Subcommand::Show,
+    Subcommand::Expect,
+    Subcommand::Compare,
+    Subcommand::Page,
+    Subcommand::Watch,
+];
+
 fn command<'a>(alloc: Global) -> Result<Command<'a>, AllocError> {
-    let subcommands = vec![in alloc;
-        join_command(alloc)?,
-        junit_command(alloc)?,
-        show_command(alloc)?,
-        expect_command(alloc)?,
-        compare_command(alloc)?,
-        page_command(alloc)?,
-        watch_command(alloc)?,
-    ]?;
-    Command::new(alloc, "reports")
+    let mut command = Command::new(alloc, "reports")
         .about("Reads reports in JSON")
-        .subcommand_required(true)
-        .subcommands(subcommands)
+        .subcommand_required(true);
+    for subcommand in &SUBCOMMANDS {
+        command = command.subcommand(subcommand.command(alloc)?)?;
+    }
+    Ok(command)
+}
+
+impl Subcommand {
+    fn command<'a>(self, alloc: Global) -> Result<Command<'a>, AllocError> {
+        match self {
+            Subcommand::Join => join_command(alloc),
+            Subcommand::Junit => junit_command(alloc),
+            Subcommand::Show => show_command(alloc),
+            Subcommand::Expect => expect_command(alloc),
+            Subcommand::Compare => compare_command(alloc),
+            Subcommand::Page => page_command(alloc),
+            Subcommand::Watch => watch_command(alloc),
+        }
+    }
 }
 
 fn join_command<'a>(alloc: Global) -> Result<Command<'a>, AllocError> {
@@ -233,15 +263,13 @@ fn join_command<'a>(alloc: Global) -> Result<Command<'a>, AllocError> {
         .long("equal-names")
         .action(ArgAction::SetTrue)
         .help("Let trials in two shards have the same kind and name");
-    let files = Arg::new(alloc, "FILE")
-        .required(true)
-        .action(ArgAction::Append)
-        .help("The shards' reports in JSON, from index 0 on; - is standard input");
+    let files = files(
+        alloc,
+        "The shards' reports in JSON, from index 0 on; - is standard input",
+    );
     Command::new(alloc, "join")
         .about("Print one report of all shards")
-        .arg(shards)?
-        .arg(equal_names)?
-        .arg(files)
+        .args(vec![in alloc; shards, equal_names, files]?)
 }
 
 fn junit_command<'a>(alloc: Global) -> Result<Command<'a>, AllocError> {
@@ -249,14 +277,10 @@ fn junit_command<'a>(alloc: Global) -> Result<Command<'a>, AllocError> {
         .long("name")
         .value_name("PROGRAM")
         .help("The name of the program; else that of each file, without its ending");
-    let files = Arg::new(alloc, "FILE")
-        .required(true)
-        .action(ArgAction::Append)
-        .help("Reports in JSON; - is standard input");
+    let files = files(alloc, "Reports in JSON; - is standard input");
     Command::new(alloc, "junit")
         .about("Print reports as JUnit's XML")
-        .arg(name)?
-        .arg(files)
+        .args(vec![in alloc; name, files]?)
 }
 
 fn show_command<'a>(alloc: Global) -> Result<Command<'a>, AllocError> {
@@ -269,14 +293,10 @@ fn show_command<'a>(alloc: Global) -> Result<Command<'a>, AllocError> {
         .value_name("WHEN")
         .value_parser(COLOURS.as_slice())
         .help("When to use colours");
-    let file = Arg::new(alloc, "FILE")
-        .required(true)
-        .help("A report in JSON; - is standard input");
+    let file = file(alloc, "FILE", "A report in JSON; - is standard input");
     Command::new(alloc, "show")
         .about("Print a report as the harness does")
-        .arg(failed)?
-        .arg(color)?
-        .arg(file)
+        .args(vec![in alloc; failed, color, file]?)
 }
 
 fn expect_command<'a>(alloc: Global) -> Result<Command<'a>, AllocError> {
@@ -284,44 +304,43 @@ fn expect_command<'a>(alloc: Global) -> Result<Command<'a>, AllocError> {
         .long("lax")
         .action(ArgAction::SetTrue)
         .help("Let known failures pass");
-    let known = Arg::new(alloc, "KNOWN").required(true).help(
+    let known = file(
+        alloc,
+        "KNOWN",
         "Lines of failed trials of a report, with # comments between; - is standard input",
     );
-    let files = Arg::new(alloc, "FILE")
-        .required(true)
-        .action(ArgAction::Append)
-        .help("Reports in JSON; - is standard input");
+    let files = files(alloc, "Reports in JSON; - is standard input");
     Command::new(alloc, "expect")
         .about("Print what is not as known failures say")
-        .arg(lax)?
-        .arg(known)?
-        .arg(files)
+        .args(vec![in alloc; lax, known, files]?)
 }
 
 fn compare_command<'a>(alloc: Global) -> Result<Command<'a>, AllocError> {
-    let old = Arg::new(alloc, "OLD")
-        .required(true)
-        .help("A report in JSON; - is standard input");
-    let new = Arg::new(alloc, "NEW")
-        .required(true)
-        .help("A later report in JSON; - is standard input");
+    let old = file(alloc, "OLD", "A report in JSON; - is standard input");
+    let new = file(alloc, "NEW", "A later report in JSON; - is standard input");
     Command::new(alloc, "compare")
         .about("Print what is not in a report as in an older one")
-        .arg(old)?
-        .arg(new)
+        .args(vec![in alloc; old, new]?)
 }
 
 fn page_command<'a>(alloc: Global) -> Result<Command<'a>, AllocError> {
-    let file = Arg::new(alloc, "FILE")
-        .required(true)
-        .help("A report in JSON; - is standard input");
     Command::new(alloc, "page")
         .about("Print a report as a page of HTML")
-        .arg(file)
+        .arg(file(alloc, "FILE", "A report in JSON; - is standard input"))
 }
 
 fn watch_command<'a>(alloc: Global) -> Result<Command<'a>, AllocError> {
     Ok(Command::new(alloc, "watch").about("Show the report on standard input as it comes"))
+}
+
+// A word that names a file.
+fn file<'a>(alloc: Global, id: &'a str, help: &'a str) -> Arg<'a> {
+    Arg::new(alloc, id).required(true).help(help)
+}
+
+// Words that name files, of which there is at least one.
+fn files<'a>(alloc: Global, help: &'a str) -> Arg<'a> {
+    file(alloc, "FILE", help).action(ArgAction::Append)
 }
 
 impl From<AllocError> for LineError {
