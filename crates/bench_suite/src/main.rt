@@ -1,9 +1,14 @@
 //! Measures a run of many trivial tests:
-//! `bench_suite N FORMAT THREADS [fail_every K] [captures 1] [work K] [wait MS] [logfile PATH]`
+//! `bench_suite N FORMAT THREADS [fail_every K] [captures 1] [work K] [wait MS] [uneven HOW] [dealt 1] [logfile PATH]`
 //!
 //! The tests are `test_000000` and so on; every K-th fails. Each is a boxed closure: with `captures 1` one that holds
 //! its test's number, as a closure over a path would, and with `work K` it goes through K thousand rounds from it. With
-//! `wait MS` each is a value that waits so many milliseconds, and may not fail.
+//! `wait MS` each is a value that waits so many milliseconds, and may not fail. With `uneven HOW` they don't all wait the same
+//! time: with `lognormal` each waits one of sixteen times of a lognormal distribution, by its number (the median is 6 ms, sigma
+//! 1); with `fourth` every fourth waits 30 ms and the others 3 ms; with `one` the one in the middle waits a second and the others
+//! 3 ms.
+//!
+//! A worker takes the next test when it is free. With `dealt 1` tests are dealt out to workers beforehand.
 //!
 //! The report goes to standard output or the logfile. Its own time is that of a clock that stands still, so that the
 //! same words always give the same report. What was measured goes to standard error: how long making the tests and
@@ -12,24 +17,29 @@
 
 mod asked;
 mod measured;
+mod waits;
+mod xorshift;
 
 ghost use Rattle.libtest_mimic.specs.Trial.{AllCanRun};
 
 use asked::{Asked, Runners};
 use libtest_mimic::{ArgumentsError, Clock, Failed, Outcome, RunError, Task, Trial};
 use measured::Measured;
-use mimic_main::{Machine, MonotonicClock, Program, Sharding, Status, StillClock};
+use mimic_main::{Machine, MonotonicClock, Program, Schedule, Sharding, Status, StillClock};
 use std::alloc::Global;
 use std::fs::Files;
 use std::io::Eprint;
 use std::thread;
 use std::time::Duration;
+use waits::Waits;
+use xorshift::rounds;
 
 const BENCH_SUITE: Program<'static> = Program {
     name: "bench_suite",
     threads: 1,
     auto_colours: false,
     prints_causes: true,
+    schedule: Schedule::Queue,
 };
 
 // What a failing test says.
@@ -66,13 +76,8 @@ macro_rules! boxed_tests {
 
 // Goes through so many thousand rounds of xorshift64 from the test's number, none of which ends in 0.
 fn works(number: usize, work: u64) -> Result<(), Failed> {
-    let mut state = (number as u64).wrapping_add(1);
-    for _ in 0..work.saturating_mul(1000) {
-        state ^= state << 13;
-        state ^= state >> 7;
-        state ^= state << 17;
-    }
-    if state == 0 {
+    let state = (number as u64).wrapping_add(1);
+    if rounds(state, work.saturating_mul(1000)) == 0 {
         Err(Failed::without_message())
     } else {
         Ok(())
@@ -96,14 +101,14 @@ impl<M: std::rt::Clock + Drop> Task for Waiting<M> {
 fn waiting_tests<M: Machine + Copy + Drop + Send>(
     rt: &M,
     count: usize,
-    millis: u64,
+    waits: Waits,
 ) -> Result<Vec<Trial<Waiting<M>>>, RunError> {
     let alloc = rt.alloc();
     let mut tests = Vec::new(alloc);
     for i in 0..count {
         let waiting = Waiting {
             machine: *rt,
-            time: Duration::from_millis(millis),
+            time: waits.time(i, count),
         };
         tests.push(Trial::new(test_name(alloc, i)?, waiting))?;
     }
@@ -141,8 +146,8 @@ fn measure<M: Machine + Files + Eprint + Copy + Drop + Send + 'static>(
             let tests = boxed_tests!(alloc, asked);
             run_tests(rt, asked, since(start, clock), tests)
         }
-        Runners::Waits(millis) => {
-            let tests = waiting_tests(rt, asked.count, millis)?;
+        Runners::Waits(waits) => {
+            let tests = waiting_tests(rt, asked.count, waits)?;
             run_tests(rt, asked, since(start, clock), tests)
         }
     }
@@ -163,7 +168,11 @@ fn run_tests<M: Machine + Files + Eprint, R: Task + Send + 'static>(
     let mut err = rt.stderr();
     let mut clock = MonotonicClock::new(rt);
     let start = clock.now();
-    let (_, status) = BENCH_SUITE.harness_run(
+    let program = Program {
+        schedule: asked.schedule,
+        ..BENCH_SUITE
+    };
+    let (_, status) = program.harness_run(
         &host,
         &host,
         alloc,

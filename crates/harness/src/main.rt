@@ -2,7 +2,7 @@
 #![tactic(auto)]
 
 use libtest_mimic::{Failed, Measurement, RunError, Trial};
-use mimic_main::{Machine, Program, Status};
+use mimic_main::{Machine, Program, Schedule, Status};
 use mimic_testkit::{MIXED_BAG, trials_of};
 
 const HARNESS: Program<'static> = Program {
@@ -10,6 +10,7 @@ const HARNESS: Program<'static> = Program {
     threads: 4,
     auto_colours: false,
     prints_causes: false,
+    schedule: Schedule::Queue,
 };
 
 fn main(rt: HostRuntime) -> Status {

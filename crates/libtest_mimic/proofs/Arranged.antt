@@ -20,7 +20,7 @@ use Rattle.mimic_pool.specs.Share.{assigned_from}
 use Rattle.mimic_printer.specs.Row.{label_of, labels_of}
 use Rattle.libtest_mimic.specs.Arrangement.{IsArrangement, IsOwn, IsOwnAt}
 use Rattle.libtest_mimic.specs.Selection.{IsIgnored}
-use Rattle.libtest_mimic.specs.Gathering.{Gathered}
+use Rattle.libtest_mimic.specs.Gathering.{Gathered, IsRowOf}
 use Rattle.libtest_mimic.specs.Steps.{AreFlags}
 use Rattle.libtest_mimic.proofs.OnlyOutcomes.{outcome_at}
 use Rattle.libtest_mimic.proofs.Told.{slice_get-at}
@@ -124,3 +124,14 @@ module _ {R : Type 0} (gives : Gives R) (args : Arguments) where
         places = subst (λ (n : ℕ). P (places_of (placed_at order outs)) n) len (subst (λ (l : List ℕ). P l (length outs)) (sym (places_of-placed_at outs order low)) whole);
         own = own_placed ts bs outs order f len gathered.answered (subst (λ (n : ℕ). All (λ p. p < n) order) len low);
       }
+
+  -- rows of what was put are rows of the trials
+  pub rows_own : (ts : List (Trial R)) (bs : List Bool) (placed : List Placed) → AreFlags args ts bs → length (assigned_from 0 (map runner_of ts) bs) ≡ length ts
+      → All (IsRowOf gives (not args.bench) (assigned_from 0 (map runner_of ts) bs)) placed → All (IsOwnAt gives args ts) placed
+  rows_own ts bs [] f len all = All-nil (IsOwnAt gives args ts)
+  rows_own [] bs (row ∷ placed) f len all = absurd (let first = All-head (IsRowOf gives (not args.bench) (assigned_from 0 [] bs)) row placed all in let low = first.0 in omega (arith, len, low))
+  rows_own (t ∷ ts) bs (row ∷ placed) f len all =
+      let Own = IsRowOf gives (not args.bench) (assigned_from 0 (map runner_of (t ∷ ts)) bs) in
+      let first = All-head Own row placed all in
+      let d : Assigned R = record { place = 0; runner = runner_of t; ignored = false } in
+      All-cons (IsOwnAt gives args (t ∷ ts)) row placed (own_item 0 (t ∷ ts) bs row.0 d row.1 f (let low = first.0 in omega (arith, len, low)) (first.1 d)) (rows_own (t ∷ ts) bs placed f len (All-tail Own row placed all))

@@ -15,23 +15,24 @@ use Rattle.mimic_trial.specs.Places.{Placed, placed_at, places_of}
 use Rattle.mimic_pool.specs.Arrivals.{Arrived}
 use Rattle.mimic_trial.specs.Promise.{Gives}
 use Rattle.mimic_trial.specs.Trial.{info_of, runner_of}
-use Rattle.mimic_pool.specs.declared.share.Share.{Share}
-use Rattle.mimic_pool.specs.Share.{IsDealt, assigned_from}
+use Rattle.mimic_pool.specs.declared.supply.Supply.{Supply}
+use Rattle.mimic_pool.specs.Share.{assigned_from}
+use Rattle.mimic_pool.specs.Supply.{Holds}
 use Rattle.mimic_printer.specs.declared.sink.WriteFault.{WriteFault}
 use Rattle.mimic_printer.specs.Report.{failures_text, rows_text, summary_text, title_text}
 use Rattle.mimic_printer.specs.Row.{PrintedRow, label_of, labels_of, outcomes_of, rows_at}
 use Rattle.mimic_printer.specs.Sink.{Put, Shown, Stopped}
 use Rattle.libtest_mimic.specs.declared.running.RunError.{RunError}
 use Rattle.libtest_mimic.specs.declared.running.RunError.TheVariants.{OutOfMemory, Write, ZeroThreads, Spawn, Arrival}
-use Rattle.libtest_mimic.specs.Arrangement.{IsArrangement}
+use Rattle.libtest_mimic.specs.Arrangement.{IsArrangement, IsOwnAt}
 use Rattle.libtest_mimic.specs.Run.{ReportRefused, ReportedBy}
-use Rattle.libtest_mimic.specs.Gathering.{Gathered, IsGathered}
-use Rattle.libtest_mimic.specs.Steps.{AreParts, RowsRefused, titled_rows, titled_told}
+use Rattle.libtest_mimic.specs.Gathering.{Gathered, IsGathered, IsRowOf}
+use Rattle.libtest_mimic.specs.Steps.{AreParts, RowsRefused, titled_told}
 use Rattle.libtest_mimic.specs.Stopwatch.{Watched, IsRunning, elapsed_of}
 use Rattle.libtest_mimic.specs.Suite.{Suite, in_order, rows_of}
-use Rattle.libtest_mimic.proofs.Arranged.{arranged, flags_length, labels_apart, length_gathered, order_below, whole_gathered}
+use Rattle.libtest_mimic.proofs.Arranged.{arranged, flags_length, labels_apart, length_assigned, length_gathered, order_below, rows_own, whole_gathered}
 use Rattle.libtest_mimic.proofs.OnlyOutcomes.{outcomes_of-rows_at}
-use Rattle.libtest_mimic.proofs.WholeReport.{reported, starts_failures, starts_summary, starts_title, starts_titled, titled}
+use Rattle.libtest_mimic.proofs.WholeReport.{reported, starts_failures, starts_some, starts_summary, starts_title, titled}
 
 pub parts_shown : {R : Type 0} (args : Arguments) (trials : List (Trial R)) (infos shown : List TestInfo) (rs : List R) (bs : List Bool) → shown ≡ infos
     → AreParts args trials infos rs bs → AreParts args trials shown rs bs
@@ -57,18 +58,32 @@ module _ {R : Type 0} (gives : Gives R) (suite : Suite R) (infos : List TestInfo
   flags_of_infos : length bs ≡ length infos
   flags_of_infos = sym (flags_length suite.args suite.trials bs parts.each_flag) ∙ sym count
 
-  -- what is said of all runners and flags that these shares were dealt from is said of those of the trials
-  pub of_dealt : {P : List R → List Bool → Type 0} (workers : ℕ) (shares : List (Share R)) → workers ≡ length shares → IsDealt rs bs (length shares) shares
-      → ((rs' : List R) (bs' : List Bool) → length rs' ≡ length infos → length bs' ≡ length infos → IsDealt rs' bs' workers shares → P rs' bs') → P rs bs
-  of_dealt workers shares count dealt said =
-      said rs bs runners_of_infos flags_of_infos (subst (λ (n : ℕ). IsDealt rs bs n shares) (sym count) dealt)
+  -- what is said of all runners and flags that were put is said of those of the trials
+  pub of_held : {P : List R → List Bool → Type 0} (can_run : R → Type 0) (supply : Supply R) → Holds can_run supply (assigned_from 0 rs bs)
+      → ((rs' : List R) (bs' : List Bool) → length rs' ≡ length infos → length bs' ≡ length infos → Holds can_run supply (assigned_from 0 rs' bs') → P rs' bs') → P rs bs
+  of_held can_run supply held said = said rs bs runners_of_infos flags_of_infos held
+
+  pub held_of : (can_run : R → Type 0) (supply : Supply R) → Holds can_run supply (assigned_from 0 rs bs)
+      → (rs' : List R) × (bs' : List Bool) × (length rs' ≡ length infos) × (length bs' ≡ length infos) × Holds can_run supply (assigned_from 0 rs' bs')
+  held_of can_run supply held = (rs, bs, runners_of_infos, flags_of_infos, held)
+
+  -- as many were put as there are trials
+  as_many_put : length (assigned_from 0 rs bs) ≡ length suite.trials
+  as_many_put = length_assigned 0 rs bs (runners_of_infos ∙ sym flags_of_infos) ∙ runners_of_infos ∙ count
+
+  -- rows of what was put are the trials' own
+  placed_own : (placed : List Placed) → All (IsRowOf gives (not suite.args.bench) (assigned_from 0 rs bs)) placed → All (IsOwnAt gives suite.args suite.trials) placed
+  placed_own placed own =
+      let runners = parts.each_runner in
+      rows_own gives suite.args suite.trials bs placed parts.each_flag (subst (λ l. length (assigned_from 0 l bs) ≡ length suite.trials) runners as_many_put)
+      (subst (λ l. All (IsRowOf gives (not suite.args.bench) (assigned_from 0 l bs)) placed) runners own)
 
   -- title and rows of the infos are those of the trials
-  titled_same : (order : List ℕ) (outs : List Outcome)
-      → titled_rows suite.printer infos order outs ≡ title_text suite.printer (length suite.trials) ++ rows_text suite.printer (rows_of suite (placed_at order outs))
-  titled_same order outs =
-      ap (λ l. titled_rows suite.printer l order outs) parts.each_info
-      ∙ ap₂ (λ n labels. title_text suite.printer n ++ rows_text suite.printer (rows_at labels (placed_at order outs))) (length-map suite.trials info_of) (labels_apart suite.trials)
+  titled_same : (placed : List Placed) → title_text suite.printer (length infos) ++ rows_text suite.printer (rows_at (map label_of infos) placed)
+      ≡ title_text suite.printer (length suite.trials) ++ rows_text suite.printer (rows_of suite placed)
+  titled_same placed =
+      ap (λ l. title_text suite.printer (length l) ++ rows_text suite.printer (rows_at (map label_of l) placed)) parts.each_info
+      ∙ ap₂ (λ n labels. title_text suite.printer n ++ rows_text suite.printer (rows_at labels placed)) (length-map suite.trials info_of) (labels_apart suite.trials)
 
   -- ---- the failures
 
@@ -102,10 +117,10 @@ module _ {R : Type 0} (gives : Gives R) (suite : Suite R) (infos : List TestInfo
     rows_refused a b w OutOfMemory r h = (some, h, r)
     rows_refused a b w (Write fault) r (inl s) =
         (in_order suite, IsPermutation-refl (in_order suite), (λ one. refl), some_thread, starts_title gives suite (in_order suite) a b w (length infos) count r s)
-    rows_refused a b w (Write fault) r (inr (order, outs, gathered, s)) =
-        let all = arrangement order outs gathered in
+    rows_refused a b w (Write fault) r (inr (placed, left, rows, s)) =
         let P : List ℕ → Type 0 = λ t. Stopped a b t in
-        (places_of (placed_at order outs), all.places, in_some_order, some_thread, starts_titled gives suite (placed_at order outs) all a b w r (subst P (titled_same order outs) s))
+        let order = subst (λ (n : ℕ). IsPermutation (places_of placed ++ left) (range_with_len 0 n)) as_many_put rows.places in
+        (places_of placed ++ left, order, in_some_order, some_thread, starts_some gives suite placed left (placed_own placed rows.own) a b w r (subst P (titled_same placed) s))
     rows_refused a b w ZeroThreads r h = absurd h
     rows_refused a b w Spawn r h = (several, some, subst (λ (n : ℕ). Put a b (title_text suite.printer n)) count h, r)
     rows_refused a b w (Arrival place) r (low, h) = (several, subst (λ (n : ℕ). place < n) count low, h, r)
@@ -120,9 +135,8 @@ module _ {R : Type 0} (gives : Gives R) (suite : Suite R) (infos : List TestInfo
       written : Put a c (titled gives suite placed all)
       written =
           let P : List ℕ → Type 0 = λ t. Put a c t in
-          let told : titled_told suite.printer infos desk ≡ titled_rows suite.printer infos (places_of desk.rows) gathered.outcomes =
-          ap (λ l. title_text suite.printer (length infos) ++ rows_text suite.printer (rows_at (map label_of infos) l)) gathered.rows in
-          subst P (told ∙ titled_same (places_of desk.rows) gathered.outcomes) rows
+          let told = ap (λ l. title_text suite.printer (length infos) ++ rows_text suite.printer (rows_at (map label_of infos) l)) gathered.rows in
+          subst P (told ∙ titled_same placed) rows
 
       abbrev shows : List PrintedRow
       shows = rows_at (map label_of infos) desk.rows

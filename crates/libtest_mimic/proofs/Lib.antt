@@ -1,7 +1,7 @@
 pub mod Answered
 pub mod Arranged
 pub mod Columns
-pub mod Dealing
+pub mod Supplying
 pub mod FullName
 pub mod Gathering
 pub mod InWorkers
@@ -11,3 +11,4 @@ pub mod RowsInOrder
 pub mod Selecting
 pub mod Told
 pub mod WholeReport
+pub mod Returned

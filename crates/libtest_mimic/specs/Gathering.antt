@@ -1,18 +1,14 @@
 -- What the rows of workers are: that they run the trials, what they returned, and what is refused.
-use Rattle.std.specs.Prelude.{◌≡◌, ◌<◌, ◌≤◌, ◌++◌, ℕ, Bool, List, [], length, map, Result, MatchResult, vec_capacity, vec_len}
+use Rattle.std.specs.Prelude.{◌≡◌, ◌≢◌, ◌<◌, ◌≤◌, ◌++◌, ℕ, All, Bool, List, [], Some, false, length, map, true, Result, MatchResult, slice_get, slice_index_or, vec_capacity, vec_len}
 use Rattle.std.specs.List.{range_with_len}
 use Rattle.std.specs.List.Sorted.{IsPermutation}
-use Rattle.std.specs.declared.thread.PromisedHandle.{PromisedHandle}
 use Rattle.mimic_trial.specs.declared.outcome.Outcome.{Outcome}
 use Rattle.mimic_trial.specs.declared.trial.TestInfo.{TestInfo}
 use Rattle.mimic_trial.specs.Places.{Placed, placed_at, places_of}
-use Rattle.mimic_trial.specs.Promise.{Gives}
-use Rattle.mimic_pool.specs.Arrivals.{AgreesAt, Arrived}
-use Rattle.mimic_pool.specs.Joined.{AreOutcomes, job_of, jobs_of, put_each}
-use Rattle.mimic_pool.specs.Share.{IsDealt}
+use Rattle.mimic_trial.specs.Promise.{Gives, IsOutcomeOf}
+use Rattle.mimic_pool.specs.Arrivals.{AgreesAt, Arrived, arrived_at}
+use Rattle.mimic_pool.specs.Joined.{AreOutcomes, put_each}
 use Rattle.mimic_pool.specs.declared.share.Assigned.{Assigned}
-use Rattle.mimic_pool.specs.declared.share.Share.{Share}
-use Rattle.mimic_pool.specs.declared.start.AnswersShare.{AnswersShare}
 use Rattle.mimic_printer.specs.declared.Printer.{Printer}
 use Rattle.mimic_printer.specs.Report.{rows_text}
 use Rattle.mimic_printer.specs.Row.{label_of, rows_at}
@@ -22,26 +18,11 @@ use Rattle.libtest_mimic.specs.declared.running.RunError.TheVariants.{OutOfMemor
 use Rattle.libtest_mimic.specs.declared.running.gathering.Started.{Started}
 use Rattle.libtest_mimic.specs.Run.{Follows}
 
--- nothing has arrived, there is a place and room for an outcome of each of so many trials, and room for what each worker returns
+-- nothing has arrived, and there is a place and room for an outcome of each of `count` trials
 pub record IsReadyFor {R : Type 0} (started : Started R) (count : ℕ) : Type 0 where
   pub desk : started.desk ≡ record { places = count; rows = [] }
   pub empty : vec_len started.room ≡ 0
   pub fits : count ≤ vec_capacity started.room
-  pub none_joined : vec_len started.joined ≡ 0
-  pub fits_joined : vec_len started.handles ≤ vec_capacity started.joined
-
--- the workers run these runners in this mode, one for each of so many trials, in shares that were dealt from them
-pub record RunRunners {R T : Type 0} (runners : List R) (flags : List Bool) (shares : List (Share R)) (test_mode : Bool)
-    (handles : List (PromisedHandle T (AnswersShare R))) (count : ℕ) : Type 0 where
-  pub some : 1 ≤ length shares
-  pub runner_each : length runners ≡ count
-  pub flag_each : length flags ≡ count
-  pub dealt : IsDealt runners flags (length shares) shares
-  pub started : map job_of handles ≡ jobs_of test_mode shares
-
--- the rows of the outcomes in this order of their places
-abbrev pub rows_text_of : Printer → List TestInfo → List ℕ → List Outcome → List ℕ
-rows_text_of p infos order outcomes = rows_text p (rows_at (map label_of infos) (placed_at order outcomes))
 
 -- the error names the least place at which another outcome arrived first than stands there
 pub record NamesDifference (desk : Arrived) (outcomes : List Outcome) (error : RunError) : Type 0 where
@@ -51,15 +32,21 @@ pub record NamesDifference (desk : Arrived) (outcomes : List Outcome) (error : R
   pub differs : ¬ AgreesAt desk.rows outcomes place
   pub least : (earlier : ℕ) → earlier < place → AgreesAt desk.rows outcomes earlier
 
+-- what arrived was returned by workers: at its place is the same outcome in the end, and was another one before
+pub record IsReturned (desk : Arrived) (before outcomes : List Outcome) : Type 0 where
+  pub others : (place : ℕ) (o : Outcome) → arrived_at place desk.rows ≡ Some o → slice_get before place ≢ Some o
+  pub agrees : (place : ℕ) → AgreesAt desk.rows outcomes place
+
 -- each place has its row: those that had arrived stand first, and each has the outcome that the workers returned, if these were put
--- over some outcomes, one for each place
-pub record IsCompleted (old : Arrived) (joined : List (List Placed)) (new : Arrived) : Type 0 where
+-- over some outcomes, one for each place; unless the workers ran all trials, what had arrived was returned, too
+pub record IsCompleted (whole : Bool) (old : Arrived) (joined : List (List Placed)) (new : Arrived) : Type 0 where
   pub outcomes : List Outcome
   pub count : length outcomes ≡ old.places
   pub missing : List Placed
   pub rows : new.rows ≡ old.rows ++ missing
   pub returned : new.rows ≡ placed_at (places_of new.rows) (put_each joined outcomes)
-  pub whole : IsPermutation (places_of new.rows) (range_with_len 0 old.places)
+  pub all : IsPermutation (places_of new.rows) (range_with_len 0 old.places)
+  pub arrived : whole ≡ false → IsReturned old outcomes (put_each joined outcomes)
 
 -- something else arrived than the workers returned
 pub record IsDifference (desk : Arrived) (joined : List (List Placed)) (error : RunError) : Type 0 where
@@ -68,8 +55,8 @@ pub record IsDifference (desk : Arrived) (joined : List (List Placed)) (error : 
   pub named : NamesDifference desk (put_each joined outcomes) error
 
 -- the desk was completed with what the workers returned, unless something else had arrived
-abbrev pub Completes : {T : Type 0} → Arrived → List (List Placed) → Arrived → Result T RunError → Type 0
-Completes old joined new result = MatchResult result (λ _. IsCompleted old joined new) (IsDifference old joined)
+abbrev pub Completes : {T : Type 0} → Bool → Arrived → List (List Placed) → Arrived → Result T RunError → Type 0
+Completes whole old joined new result = MatchResult result (λ _. IsCompleted whole old joined new) (IsDifference old joined)
 
 -- rows are refused for a write fault, or for an outcome that isn't the one that arrived
 abbrev pub IsOfRows : RunError → Type 0
@@ -91,12 +78,23 @@ module _ {R : Type 0} (gives : Gives R) (test_mode : Bool) (items : List (Assign
     pub gathered : Gathered (places_of desk.rows) outcomes
     pub rows : desk.rows ≡ placed_at (places_of desk.rows) outcomes
 
-  -- what stands after rows were refused: if a write failed, a beginning of the rows of what the workers returned
-  abbrev pub GatheringRefused : Printer → List TestInfo → Shown → Shown → RunError → Type 0
-  GatheringRefused p infos old new OutOfMemory = ⊥
-  GatheringRefused p infos old new (Write fault) =
-      (order : List ℕ) × (outcomes : List Outcome) × Gathered order outcomes
-      × Stopped old new (rows_text_of p infos order outcomes)
-  GatheringRefused p infos old new ZeroThreads = ⊥
-  GatheringRefused p infos old new Spawn = ⊥
-  GatheringRefused p infos old new (Arrival place) = (place < length infos) × Follows old new
+  -- the outcome of the row is one of the item at its place
+  abbrev pub IsRowOf : Placed → Type 0
+  IsRowOf row = (row.0 < length items)
+      × ((x : Assigned R) → IsOutcomeOf gives (slice_index_or items row.0 x).ignored (slice_index_or items row.0 x).runner test_mode row.1)
+
+  -- these are rows of items, each once, and the places of all other items
+  pub record GatheredSome (placed : List Placed) (left : List ℕ) : Type 0 where
+    pub own : All IsRowOf placed
+    pub places : IsPermutation (places_of placed ++ left) (range_with_len 0 (length items))
+
+  -- what was written if rows were refused: if a write failed, a beginning of rows of what the workers returned, and no item is left
+  -- if these run all
+  abbrev pub GatheringRefused : Bool → Printer → List TestInfo → Shown → Shown → RunError → Type 0
+  GatheringRefused all p infos old new OutOfMemory = ⊥
+  GatheringRefused all p infos old new (Write fault) =
+      (placed : List Placed) × (left : List ℕ) × GatheredSome placed left × (all ≡ true → left ≡ [])
+      × Stopped old new (rows_text p (rows_at (map label_of infos) placed))
+  GatheringRefused all p infos old new ZeroThreads = ⊥
+  GatheringRefused all p infos old new Spawn = ⊥
+  GatheringRefused all p infos old new (Arrival place) = (place < length infos) × Follows old new

@@ -21,10 +21,10 @@ pub(crate) mod tally;
 
 use crate::stopwatch::{Clock, Stopwatch};
 use in_order::run_in_order;
-use in_workers::run_in_workers;
+use in_workers::{Workers, run_in_workers};
 use list::write_list;
 use mimic_args::Arguments;
-use mimic_pool::Spawner;
+use mimic_pool::{Schedule, Spawner};
 use mimic_printer::{Sink, WriteFault};
 use mimic_trial::{Conclusion, Task, Trial};
 use selection::{Selection, select};
@@ -44,7 +44,8 @@ pub enum RunError {
     /// There was no thread to run the selected trials. Nothing was written.
     #[error("no threads to run trials")]
     ZeroThreads,
-    /// A worker could not be started. The title alone was written, and the workers that were started were joined.
+    /// A worker could not be started, or not even the first one if they take from a queue. The title alone was written, and the
+    /// workers that were started were joined.
     #[error("cannot start a worker")]
     Spawn,
     /// An outcome that a worker reported differs from what it returned in the end. It is that of the trial at this place
@@ -58,8 +59,9 @@ pub enum RunError {
 ///
 /// The number of threads is `test_threads` of the arguments, else `default_threads`. With one, trials run in their order in
 /// the calling thread, as `run_here` runs them. With more, that many workers run them, but never more than there are trials:
-/// their rows are written as they arrive, each when its trial has ended, and a row that could not be reported after the others.
-/// With none, a run of a selected trial is refused.
+/// each worker has a share, which is dealt out beforehand. The trial at place p of the selected ones, counted from 0, goes to the
+/// worker whose number is p modulo the number of workers. Rows are written as they arrive, each when its trial has ended, and a row
+/// that could not be reported after the others. With none, a run of a selected trial is refused.
 ///
 /// The counts that it returns, the watch, `auto_colours` and ignored trials are as with `run_here`. After a write fault the
 /// workers end their shares, and are joined.
@@ -94,40 +96,131 @@ pub fn run<R: Task + Send + 'static, W: Write, C: Clock, T: Spawner + 'static>(
     // Nothing was written, whatever is known of the writer's bytes.
     ensures unwritten { OnNothingWritten result (sink.new ≡ sink.old) }
 {
+    let request = Request {
+        args,
+        default_threads,
+        auto_colours,
+        schedule: Schedule::Shares,
+    };
+    run_as(rt, alloc, request, tests, sink, watch)
+}
+
+/// Runs the selected trials as `run` does, but with more than one thread the workers take them from one queue: each takes the next
+/// one when it is free. So no trial waits behind a slow one while another worker is free. In a run of at least 128 trials for each
+/// worker they take several at once, at most 32, and a slow trial holds up those that were taken with it.
+///
+/// If a worker can't be started, no more are, and those that were run all trials. It is refused with `Spawn` only if there are none.
+/// If a worker has no memory for more rows, it takes no more trials. Those that all workers leave are run in the calling thread,
+/// after the workers have ended, and their rows come last. After a write fault the calling thread takes the trials that are left, and
+/// drops their runners.
+pub fn run_from_queue<R: Task + Send + 'static, W: Write, C: Clock, T: Spawner + 'static>(
+    rt: &T,
+    alloc: Global,
+    args: &Arguments,
+    tests: Vec<Trial<R>>,
+    sink: &mut Sink<W>,
+    watch: &mut Stopwatch<C>,
+    default_threads: usize,
+    auto_colours: bool,
+) -> Result<Conclusion, RunError>
+    requires room { HasFaultLeft sink.old }
+    requires fresh { IsFresh watch.old }
+    requires runnable { AllCanRun R.can_run tests.items }
+    requires some_thread { 1 ≤ default_threads }
+
+    // What every run does: a list if one is asked, counts that add up, the same rows up to their order, and JSON that is read back.
+    ensures runs { Runs (asking R.gives default_threads auto_colours tests.items args.now)
+        (done W.contents sink.old sink.new watch.new result) }
+
+    // Without a list there is a report of the selected trials, for every number of threads.
+    ensures reported { RunsBy (threads_of args.now default_threads)
+        (asking R.gives default_threads auto_colours tests.items args.now)
+        (done W.contents sink.old sink.new watch.new result) }
+
+    // Without a thread no trial can run.
+    ensures zero_threads { args.now.list ≡ false → threads_of args.now default_threads ≡ 0
+        → OfSuite args.now auto_colours tests.items (λ suite. suite.trials ≢ [] → result ≡ Err ZeroThreads) }
+
+    // Nothing was written, whatever is known of the writer's bytes.
+    ensures unwritten { OnNothingWritten result (sink.new ≡ sink.old) }
+{
+    let request = Request {
+        args,
+        default_threads,
+        auto_colours,
+        schedule: Schedule::Queue,
+    };
+    run_as(rt, alloc, request, tests, sink, watch)
+}
+
+// What is asked of a run, and which worker runs which trial.
+#[derive(Clone, Copy)]
+struct Request<'a> {
+    args: &'a Arguments,
+    default_threads: usize,
+    auto_colours: bool,
+    schedule: Schedule,
+}
+
+// Runs or lists the selected trials as requested.
+fn run_as<R: Task + Send + 'static, W: Write, C: Clock, T: Spawner + 'static>(
+    rt: &T,
+    alloc: Global,
+    request: Request<'_>,
+    tests: Vec<Trial<R>>,
+    sink: &mut Sink<W>,
+    watch: &mut Stopwatch<C>,
+) -> Result<Conclusion, RunError>
+    requires room { HasFaultLeft sink.old }
+    requires fresh { IsFresh watch.old }
+    requires runnable { AllCanRun R.can_run tests.items }
+    requires some_thread { 1 ≤ request.default_threads }
+    ensures runs { Runs (asking R.gives request.entry.default_threads request.entry.auto_colours tests.items request.entry.args.now)
+        (done W.contents sink.old sink.new watch.new result) }
+    ensures reported { RunsBy (threads_of request.entry.args.now request.entry.default_threads)
+        (asking R.gives request.entry.default_threads request.entry.auto_colours tests.items request.entry.args.now)
+        (done W.contents sink.old sink.new watch.new result) }
+    ensures zero_threads { request.entry.args.now.list ≡ false → threads_of request.entry.args.now request.entry.default_threads ≡ 0
+        → OfSuite request.entry.args.now request.entry.auto_colours tests.items (λ suite. suite.trials ≢ [] → result ≡ Err ZeroThreads) }
+    ensures unwritten { OnNothingWritten result (sink.new ≡ sink.old) }
+{
     watch.start();
-    if args.list {
-        return write_list(args, tests, sink);
+    if request.args.list {
+        return write_list(request.args, tests, sink);
     }
-    let selected = select(args, tests, auto_colours);
-    let threads = args.threads(default_threads);
-    run_with_threads(threads, rt, alloc, selected, sink, watch)
+    let selected = select(request.args, tests, request.auto_colours);
+    let workers = Workers {
+        threads: request.args.threads(request.default_threads),
+        schedule: request.schedule,
+    };
+    run_with_threads(rt, alloc, selected, workers, sink, watch)
 }
 
 // Runs the trials on so many threads and writes their report.
 fn run_with_threads<R: Task + Send + 'static, W: Write, C: Clock, T: Spawner + 'static>(
-    threads: usize,
     rt: &T,
     alloc: Global,
     selected: Selection<'_, R>,
+    workers: Workers,
     sink: &mut Sink<W>,
     watch: &mut Stopwatch<C>,
 ) -> Result<Conclusion, RunError>
     requires room { HasFaultLeft sink.old }
     requires running { IsRunning watch.old }
     requires runnable { AllCanRun R.can_run selected.trials.items }
-    ensures reported { Reports R.gives threads (selected_suite selected.entry)
+    ensures reported { Reports R.gives workers.threads (selected_suite selected.entry)
         (shown W.contents sink.old) (shown W.contents sink.new) watch.new result }
-    ensures zero_threads { threads ≡ 0 → selected.entry.trials.items ≢ []
+    ensures zero_threads { workers.threads ≡ 0 → selected.entry.trials.items ≢ []
         → result ≡ Err ZeroThreads }
     ensures unwritten { OnNothingWritten result (sink.new ≡ sink.old) }
 {
-    if threads == 1 || selected.trials.is_empty() {
+    if workers.threads == 1 || selected.trials.is_empty() {
         return run_in_order(alloc, selected, sink, watch);
     }
-    if threads == 0 {
+    if workers.threads == 0 {
         return Err(RunError::ZeroThreads);
     }
-    run_in_workers(rt, alloc, selected, threads, sink, watch)
+    run_in_workers(rt, alloc, selected, workers, sink, watch)
 }
 
 /// Runs the selected trials in their order, each once, in the calling thread, and writes their report;

@@ -1,22 +1,18 @@
 -- What a run left in its sink, said of the bytes that were handed on.
-use Rattle.std.proofs.Common.{◌≡◌, ℕ, List, length, Option, Result, Ok, Err, true, false, refl, ap, ap₂, is_ok, subst, sym, IfErr, IfOk, OnOk, IsOk}
+use Rattle.std.proofs.Common.{◌≡◌, ℕ, List, Option, Result, Ok, Err, refl, ap, ap₂, is_ok, subst, sym, IfErr, IfOk, OnOk, IsOk}
 use Rattle.std.proofs.lemmas.Bool.{false≢true}
 use Rattle.std.proofs.KnownBytes.{Appends-kept}
 use Rattle.std.specs.Io.KnownBytes.{Keeps}
 use Rattle.std.specs.declared.io.Error.{Error}
 use Rattle.mimic_trial.specs.declared.outcome.conclusion.Conclusion.{Conclusion}
-use Rattle.libtest_mimic.specs.Count.{total_of}
 use Rattle.mimic_printer.specs.declared.sink.Sink.{Sink}
 use Rattle.mimic_printer.specs.declared.sink.WriteFault.TheVariants as WriteFault
-use Rattle.libtest_mimic.specs.Stopwatch.{Watched}
 use Rattle.libtest_mimic.specs.declared.running.RunError.{RunError}
 use Rattle.libtest_mimic.specs.declared.running.RunError.TheVariants.{Write}
-use Rattle.libtest_mimic.specs.Run.{HasAnswer, Lists, Reports}
-use Rattle.mimic_args.specs.Arguments.{threads_of}
 use Rattle.libtest_mimic.specs.Sink.{Put, Shown, faults_of, shown, writer_of}
 use Rattle.libtest_mimic.specs.Suite.{Asked}
 use Rattle.mimic_main.specs.Output.{HandsOn}
-use Rattle.mimic_main.specs.Run.{GotBeginning, IsFaultOf, IsLawful, Left, OfAsked, Ran, faultless}
+use Rattle.mimic_main.specs.Run.{GotBeginning, IsFaultOf, Left, Ran, faultless}
 
 -- a sink with no fault shows the bytes of its writer
 pub shown-new : {W : Type 0} (contents : W → Option (List ℕ)) (s : Sink W) (w : W) → writer_of s ≡ w → faults_of s ≡ 0 → shown contents s ≡ faultless (contents w)
@@ -74,44 +70,22 @@ module _ {R : Type 0} (asked : Asked R) where
   OnOk-here (Err e) K p k = absurd (false≢true p)
 
   -- what a run left behind these bytes, in a sink that had no fault
-  left_behind : (old : Option (List ℕ)) (first new : Shown) (watch : Watched) (ran : Result Conclusion RunError) → first ≡ faultless old
-      → (asked.args.list ≡ true → OfAsked asked (λ suite. Lists suite first new ran))
-      → (asked.args.list ≡ false → OfAsked asked (λ suite. Reports asked.gives (threads_of asked.args asked.default_threads) suite first new watch ran))
-      → Left asked (faultless old) new ran
-  left_behind old first new watch ran e listed reported =
-      subst (λ (s : Shown). Left asked s new ran) e (record { watch = watch; listed = listed; reported = reported })
+  left_behind : (old : Option (List ℕ)) (first new : Shown) (ran : Result Conclusion RunError) → first ≡ faultless old → Left asked first new ran → Left asked (faultless old) new ran
+  left_behind old first new ran e left = subst (λ (s : Shown). Left asked s new ran) e left
 
   -- the answer `r`, which is Ok only where the run answered that and its last bytes were handed on
-  pub Ran-settled : {T E : Type 0} (old : Option (List ℕ)) (first new : Shown) (got : Option (List ℕ)) (watch : Watched) (ran r : Result Conclusion RunError) (finished : Result T E)
-      → first ≡ faultless old → OnOk finished (Keeps new.bytes got) → IfOk r (λ c. ran ≡ Ok c) → (IsOk r → IsOk finished)
-      → (asked.args.list ≡ true → OfAsked asked (λ suite. Lists suite first new ran))
-      → (asked.args.list ≡ false → OfAsked asked (λ suite. Reports asked.gives (threads_of asked.args asked.default_threads) suite first new watch ran))
+  pub Ran-settled : {T E : Type 0} (old : Option (List ℕ)) (first new : Shown) (got : Option (List ℕ)) (ran r : Result Conclusion RunError) (finished : Result T E)
+      → first ≡ faultless old → OnOk finished (Keeps new.bytes got) → IfOk r (λ c. ran ≡ Ok c) → (IsOk r → IsOk finished) → Left asked first new ran
       → IfOk r (λ c. Ran asked old got c)
-  Ran-settled old first new got watch ran (Ok c) finished e k a f listed reported =
-      let left = left_behind old first new watch ran e listed reported in
-      Ran-got old new got c (OnOk-here finished _ (f refl) k) (subst (λ x. Left asked (faultless old) new x) a left)
-  Ran-settled old first new got watch ran (Err x) finished e k a f listed reported = tt
-
-  -- the answer `r` is lawful, which is Ok only where the run answered that
-  pub IsLawful-settled : (old : Option (List ℕ)) (got : Option (List ℕ)) (ran r : Result Conclusion RunError) → IfOk r (λ c. ran ≡ Ok c) → IfOk r (Ran asked old got)
-      → HasAnswer asked ran → (asked.args.list ≡ false → IfOk ran (λ c. total_of c ≡ length asked.trials)) → IfOk r (IsLawful asked)
-  IsLawful-settled old got ran (Ok c) e left answer adds_up =
-      let Answered : Result Conclusion RunError → Type 0 = λ x. HasAnswer asked x in
-      let Adds : Result Conclusion RunError → Type 0 = λ x. IfOk x (λ d. total_of d ≡ length asked.trials) in
-      record {
-        listed = λ is_list. let l = left.listed is_list in l.2.0;
-        answer = subst Answered e answer;
-        adds_up = λ unlisted. subst Adds e (adds_up unlisted);
-      }
-  IsLawful-settled old got ran (Err x) e left answer adds_up = tt
+  Ran-settled old first new got ran (Ok c) finished e k a f left =
+      Ran-got old new got c (OnOk-here finished _ (f refl) k) (subst (λ x. Left asked (faultless old) new x) a (left_behind old first new ran e left))
+  Ran-settled old first new got ran (Err x) finished e k a f left = tt
 
   -- a run of which a beginning was handed on, where the answer `r` is a fault
-  pub GotBeginning-from : {T : Type 0} (old : Option (List ℕ)) (first new : Shown) (got : Option (List ℕ)) (watch : Watched) (ran r : Result Conclusion RunError) (finished : Result T Error)
+  pub GotBeginning-from : {T : Type 0} (old : Option (List ℕ)) (first new : Shown) (got : Option (List ℕ)) (ran r : Result Conclusion RunError) (finished : Result T Error)
       → first ≡ faultless old → HandsOn new.bytes got
       → IfErr ran (λ fault. r ≡ refused fault) → (IsOk finished → r ≡ ran) → (IsOk ran → IfErr finished (λ error. r ≡ refused (Write (WriteFault.Error error))))
-      → (asked.args.list ≡ true → OfAsked asked (λ suite. Lists suite first new ran))
-      → (asked.args.list ≡ false → OfAsked asked (λ suite. Reports asked.gives (threads_of asked.args asked.default_threads) suite first new watch ran))
-      → IfErr r (λ fault. GotBeginning asked old got fault)
-  GotBeginning-from old first new got watch ran (Ok c) finished e handed same kept cause listed reported = tt
-  GotBeginning-from old first new got watch ran (Err fault) finished e handed same kept cause listed reported =
-      (new, ran, left_behind old first new watch ran e listed reported, handed, IsFaultOf-settled ran fault finished same kept cause)
+      → Left asked first new ran → IfErr r (λ fault. GotBeginning asked old got fault)
+  GotBeginning-from old first new got ran (Ok c) finished e handed same kept cause left = tt
+  GotBeginning-from old first new got ran (Err fault) finished e handed same kept cause left =
+      (new, ran, left_behind old first new ran e left, handed, IsFaultOf-settled ran fault finished same kept cause)

@@ -1,15 +1,17 @@
 //! What a run is about, and its run into a buffered writer.
 ghost use Rattle.std.specs.Prelude.{◌≡◌, ◌≤◌, Err, IfErr, IfOk, IsOk, Ok};
+ghost use Rattle.mimic_printer.specs.Sink.{HasFaultLeft, shown};
 ghost use Rattle.mimic_printer.specs.declared.sink.WriteFault.TheVariants.{Error};
 ghost use Rattle.libtest_mimic.specs.declared.running.RunError.TheVariants.{Write};
 ghost use Rattle.libtest_mimic.specs.Trial.{AllCanRun};
 ghost use Rattle.mimic_main.specs.Output.{given_to};
-ghost use Rattle.mimic_main.specs.Run.{GotBeginning, IsLawful, Ran, asked_by};
+ghost use Rattle.mimic_main.specs.Run.{GotBeginning, IsLawful, Left, Ran, asked_by};
 
 use crate::output::Output;
 use crate::policy::FlushPolicy;
 use libtest_mimic::{
-    Arguments, Clock, Conclusion, RunError, Sink, Spawner, Stopwatch, Task, Trial, WriteFault, run,
+    Arguments, Clock, Conclusion, RunError, Schedule, Sink, Spawner, Stopwatch, Task, Trial,
+    WriteFault, run, run_from_queue,
 };
 use std::alloc::Global;
 use std::io;
@@ -28,12 +30,46 @@ pub struct Job<'a, R, C> {
     pub default_threads: usize,
     /// Whether its report has colours if the arguments leave it open.
     pub auto_colours: bool,
+    /// How its trials come to workers if more than one thread runs them.
+    pub schedule: Schedule,
 }
 
 impl<R, C> Job<'_, R, C> {
     // How its output is handed on, to a terminal or not.
     pub(crate) fn policy(&self, is_terminal: bool) -> FlushPolicy {
         FlushPolicy::of_run(self.args, self.default_threads, is_terminal)
+    }
+}
+
+impl<R: Task + Send + 'static, C: Clock + Drop> Job<'_, R, C> {
+    // Runs or lists its trials, which come to workers as it says, and measures the time of the run by its clock.
+    fn run_to_sink<W: Write, T: Spawner + 'static>(
+        self,
+        rt: &T,
+        alloc: Global,
+        sink: &mut Sink<W>,
+    ) -> Result<Conclusion, RunError>
+        requires room { HasFaultLeft sink.old }
+        requires runnable { AllCanRun R.can_run self.tests.items }
+        requires some_thread { 1 ≤ self.default_threads }
+        ensures left { Left (asked_by R.gives self.entry) (shown W.contents sink.old) (shown W.contents sink.new) result }
+        ensures lawful { IfOk result (IsLawful (asked_by R.gives self.entry)) }
+    {
+        let Job {
+            args,
+            tests,
+            clock,
+            default_threads: threads,
+            auto_colours: colours,
+            schedule,
+        } = self;
+        let mut watch = Stopwatch::new(clock);
+        match schedule {
+            Schedule::Queue => {
+                run_from_queue(rt, alloc, args, tests, sink, &mut watch, threads, colours)
+            }
+            Schedule::Shares => run(rt, alloc, args, tests, sink, &mut watch, threads, colours),
+        }
     }
 }
 
@@ -54,25 +90,8 @@ pub fn run_into<R: Task + Send + 'static, W: Write, C: Clock + Drop, T: Spawner 
         (GotBeginning (asked_by R.gives job.entry) (given_to W.contents output) (W.contents result.0)) }
     ensures lawful { IfOk result.1 (IsLawful (asked_by R.gives job.entry)) }
 {
-    let Job {
-        args,
-        tests,
-        clock,
-        default_threads,
-        auto_colours,
-    } = job;
     let mut sink = Sink::new(output);
-    let mut watch = Stopwatch::new(clock);
-    let ran = run(
-        rt,
-        alloc,
-        args,
-        tests,
-        &mut sink,
-        &mut watch,
-        default_threads,
-        auto_colours,
-    );
+    let ran = job.run_to_sink(rt, alloc, &mut sink);
     let (writer, finished) = sink.into_inner().finish();
     (writer, settled(ran, finished))
 }

@@ -33,6 +33,7 @@ mod status;
 pub use clock::{MonotonicClock, StillClock};
 pub use colours::shows_colours;
 pub use job::{Job, run_into};
+pub use libtest_mimic::Schedule;
 pub use machine::{Machine, Streams, run_line, run_program, trials_of_cases};
 pub use mimic_shard::{Shard, ShardFault};
 pub use output::Output;

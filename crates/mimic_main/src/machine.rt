@@ -12,7 +12,9 @@ use crate::colours::shows_colours;
 use crate::program::Program;
 use crate::sharding::{ShardError, Sharding};
 use crate::status::Status;
-use libtest_mimic::{Arguments, ArgumentsError, Case, Failed, RunError, Spawner, Task, Trial};
+use libtest_mimic::{
+    Arguments, ArgumentsError, Case, Failed, RunError, Schedule, Spawner, Task, Trial,
+};
 use std::alloc::Global;
 use std::convert::AsStr;
 use std::fmt::Display;
@@ -168,17 +170,20 @@ fn count_or_one(given: io::Result<NonZeroUsize>) -> usize
 
 impl<'a> Program<'a> {
     /// A program of this name that leaves to the machine what a line leaves open: as many threads as that can run at once, and
-    /// colours if [`shows_colours`](crate::shows_colours) says so of its standard output. It prints faults with their causes.
+    /// colours if [`shows_colours`](crate::shows_colours) says so of its standard output. It prints faults with their causes, and
+    /// its workers take trials from one queue.
     pub fn on<M: Machine>(machine: &M, name: &'a str) -> Program<'a>
         ensures name { result.name.now ≡ name.now }
         ensures threads { 1 ≤ result.threads }
         ensures causes { result.prints_causes ≡ true }
+        ensures schedule { result.schedule ≡ Schedule.Queue }
     {
         Program {
             name,
             threads: threads_at_once(&machine.host()),
             auto_colours: shows_colours(machine, &machine.stdout()),
             prints_causes: true,
+            schedule: Schedule::Queue,
         }
     }
 

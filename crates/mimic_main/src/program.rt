@@ -10,7 +10,9 @@ use crate::output::{BLOCK, Output};
 use crate::sharding::ShardError;
 use crate::status::Status;
 use arrayvec::ArrayVec;
-use libtest_mimic::{Arguments, ArgumentsError, Clock, Conclusion, RunError, Spawner, Task, Trial};
+use libtest_mimic::{
+    Arguments, ArgumentsError, Clock, Conclusion, RunError, Schedule, Spawner, Task, Trial,
+};
 use mimic_shard::Shard;
 use std::alloc::Global;
 use std::fmt::Display;
@@ -25,8 +27,8 @@ pub(crate) enum Fault {
     Run(RunError),
 }
 
-/// A program that runs a harness: how many threads run its trials, whether its reports have colours, and what it prints of
-/// faults.
+/// A program that runs a harness: how many threads run its trials, how these come to them, whether its reports have colours,
+/// and what it prints of faults.
 #[derive(Clone, Copy, Debug, PartialEq, Eq)]
 pub struct Program<'a> {
     /// Its name, which stands before what it prints of a fault.
@@ -37,6 +39,8 @@ pub struct Program<'a> {
     pub auto_colours: bool,
     /// Whether a fault is printed with its cause: the path of the logfile, and what the system said.
     pub prints_causes: bool,
+    /// How its trials come to workers if more than one thread runs them.
+    pub schedule: Schedule,
 }
 
 impl Program<'_> {
@@ -77,6 +81,7 @@ impl Program<'_> {
                     clock,
                     default_threads: self.threads,
                     auto_colours: self.auto_colours,
+                    schedule: self.schedule,
                 };
                 let (out, ran) = job.run(rt, files, alloc, out);
                 (out, self.status_of(ran, args.logfile.as_ref(), err))

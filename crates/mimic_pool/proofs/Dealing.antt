@@ -7,7 +7,7 @@ use Rattle.std.proofs.lemmas.List.Elements.{filter-append}
 use Rattle.std.proofs.lemmas.Bool.Decides.{nat_tests}
 use Rattle.mimic_pool.specs.declared.share.Assigned.{Assigned}
 use Rattle.mimic_pool.specs.declared.share.Share.{Share}
-use Rattle.mimic_pool.specs.Share.{IsDealt, assigned_from, items_of, share_of}
+use Rattle.mimic_pool.specs.Share.{AreShares, assigned_from, items_of, share_of}
 
 -- what holds anyhow holds of a refusal
 pub on_refusal : {T E P : Type 0} (r : Result T E) → P → OnErr r P
@@ -16,7 +16,7 @@ on_refusal (Err e) p = p
 
 module _ {X : Type 0} where
   -- a runner more is assigned behind the others
-  assigned_more : (k p : ℕ) (rs : List X) (bs : List Bool) (r : X) (b : Bool) → k + length rs ≡ p → length rs ≡ length bs
+  pub assigned_more : (k p : ℕ) (rs : List X) (bs : List Bool) (r : X) (b : Bool) → k + length rs ≡ p → length rs ≡ length bs
       → assigned_from k (rs ++ r ∷ []) (bs ++ b ∷ []) ≡ assigned_from k rs bs ++ record { place = p; runner = r; ignored = b } ∷ []
   assigned_more k p [] [] r b at same = ap (λ n. record { place = n; runner = r; ignored = b } ∷ []) (omega (arith, at))
   assigned_more k p [] (b' ∷ bs) r b at same = absurd (omega (arith, same))
@@ -47,18 +47,15 @@ module _ {X : Type 0} where
       ∙ sym (filter-append (λ i. i.place % workers == w) items (item ∷ []))
 
   -- one runner more was dealt
-  pub dealt_more : (workers p at : ℕ) (S : List (Share X)) (now new : Share X) (rs : List X) (bs : List Bool) (r : X) (b : Bool)
-      → at ≡ p % workers → at < length S → now ≡ slice_index_or S at now
-      → new.items.items ≡ now.items.items ++ record { place = p; runner = r; ignored = b } ∷ []
-      → length rs ≡ p → length bs ≡ p
-      → IsDealt rs bs workers S → IsDealt (rs ++ r ∷ []) (bs ++ b ∷ []) workers (slice_set S at new)
-  dealt_more workers p at S now new rs bs r b e below value is runners flags dealt = λ w d low.
-      let item : Assigned X = record { place = p; runner = r; ignored = b } in
+  pub dealt_more : (workers p at : ℕ) (S : List (Share X)) (now new : Share X) (items : List (Assigned X)) (item : Assigned X)
+      → item.place ≡ p → at ≡ p % workers → at < length S → now ≡ slice_index_or S at now
+      → new.items.items ≡ now.items.items ++ item ∷ []
+      → AreShares items workers S → AreShares (items ++ item ∷ []) workers (slice_set S at new)
+  dealt_more workers p at S now new items item place e below value is dealt = λ w d low.
       let last : new.items.items ≡ (slice_index_or S (p % workers) d).items.items ++ item ∷ [] =
       is ∙ ap (λ s. s.items.items ++ item ∷ []) (value ∙ get_or_default S at now d below) ∙ ap (λ k. (slice_index_or S k d).items.items ++ item ∷ []) e in
       ap (λ k. items_of (slice_index_or (slice_set S k new) w d)) e
-      ∙ dealt_by workers p w S d new (assigned_from 0 rs bs) item refl (omega (arith, e, below)) last (dealt w d low) (p % workers == w) refl
-      ∙ ap (share_of workers w) (sym (assigned_more 0 p rs bs r b (omega (arith, runners)) (omega (arith, runners, flags))))
+      ∙ dealt_by workers p w S d new items item place (omega (arith, e, below)) last (dealt w d low) (item.place % workers == w) refl
 
   -- a share that was set to one with the same items
   pub map_kept : (S : List (Share X)) (at : ℕ) (now new : Share X) → at < length S → now ≡ slice_index_or S at now → items_of new ≡ items_of now

@@ -1,19 +1,20 @@
 -- What the joined outcomes are: at each place one of the item there.
-use Rattle.std.proofs.Common.{◌≡◌, ◌⊎◌, inl, inr, ℕ, suc, zero, ◌+◌, ◌%◌, ◌<◌, ◌==◌, Bool, true, false, cond, List, [], ◌∷◌, ◌++◌, length, map, slice_index_or, slice_set, refl, sym, ◌∙◌, ap, subst, arith}
+use Rattle.std.proofs.Common.{◌≡◌, ◌⊎◌, inl, inr, ℕ, suc, zero, ◌+◌, ◌<◌, Bool, List, [], ◌∷◌, ◌++◌, length, slice_index_or, slice_set, All, refl, sym, ◌∙◌, ap, append-nil, subst, arith}
+use Rattle.std.specs.List.{Contains, flat_map}
+use Rattle.std.specs.List.Sorted.{IsPermutation}
+use Rattle.std.proofs.lemmas.List.Sorted.{All-permutation, Contains-permutation}
+use Rattle.std.proofs.lemmas.List.Elements.{All-cons, All-head, All-nil, All-tail}
 use Rattle.std.proofs.lemmas.Grind.{get_or-set_at}
 use Rattle.std.proofs.lemmas.List.{get_or_default, get_or-set_other}
-use Rattle.std.proofs.lemmas.Nat.{mod_below}
-use Rattle.std.proofs.lemmas.Bool.Decides.{nat_tests, eqb_tells}
+use Rattle.std.proofs.lemmas.Bool.Decides.{eqb_tells}
 use Rattle.std.proofs.Math.ListN.{length-set}
 use Rattle.mimic_trial.specs.declared.outcome.Outcome.{Outcome}
 use Rattle.mimic_trial.specs.Places.{Placed}
 use Rattle.mimic_trial.specs.Promise.{Gives, IsOutcomeOf}
 use Rattle.mimic_pool.specs.declared.share.Assigned.{Assigned}
-use Rattle.mimic_pool.specs.declared.share.Share.{Share}
 use Rattle.mimic_pool.specs.Answers.{Answers}
-use Rattle.mimic_pool.specs.Rows.{Returned, rows_in}
-use Rattle.mimic_pool.specs.Share.{IsDealt, assigned_from, items_of, share_of}
-use Rattle.mimic_pool.specs.Joined.{AreOutcomes, IsOutcomeAt, jobs_of, put_all, put_each}
+use Rattle.mimic_pool.specs.Share.{assigned_from}
+use Rattle.mimic_pool.specs.Joined.{AnswersPart, AreOutcomes, IsOutcomeAt, put_all, put_each}
 
 module _ {X : Type 0} where
   -- the item is the one at its place
@@ -29,7 +30,7 @@ module _ {X : Type 0} where
   HasPlace p [] = ⊥
   HasPlace p (x ∷ xs) = (x.place ≡ p) ⊎ HasPlace p xs
 
-  assigned_place : (k p : ℕ) (rs : List X) (bs : List Bool) (d : Assigned X) → p < length (assigned_from k rs bs) → (slice_index_or (assigned_from k rs bs) p d).place ≡ k + p
+  pub assigned_place : (k p : ℕ) (rs : List X) (bs : List Bool) (d : Assigned X) → p < length (assigned_from k rs bs) → (slice_index_or (assigned_from k rs bs) p d).place ≡ k + p
   assigned_place k p [] bs d low = absurd (omega arith)
   assigned_place k p (r ∷ rs) [] d low = absurd (omega arith)
   assigned_place k zero (r ∷ rs) (b ∷ bs) d low = omega arith
@@ -47,88 +48,16 @@ module _ {X : Type 0} where
       let e : (slice_index_or items k d).place ≡ k = assigned_place 0 k rs bs d low ∙ omega arith in
       (omega arith, λ c. ap (λ p. slice_index_or items p c) e ∙ get_or_default items k c d low))
 
-  placed_filter : (items xs : List (Assigned X)) (workers w : ℕ) → ArePlaced items xs → ArePlaced items (share_of workers w xs)
-  placed_filter items [] workers w h = tt
-  placed_filter items (x ∷ xs) workers w h =
-      let rest = placed_filter items xs workers w h.1 in
-      elim (x.place % workers == w) as (λ t. ArePlaced items (cond t (x ∷ share_of workers w xs) (share_of workers w xs))) [ true ↦ (h.0, rest) | false ↦ rest ]
-
-  has_filter : (xs : List (Assigned X)) (workers p : ℕ) → HasPlace p xs → HasPlace p (share_of workers (p % workers) xs)
-  has_filter [] workers p h = absurd h
-  has_filter (x ∷ xs) workers p (inr h) =
-      let rest = has_filter xs workers p h in
-      elim (x.place % workers == p % workers) as (λ t. HasPlace p (cond t (x ∷ share_of workers (p % workers) xs) (share_of workers (p % workers) xs))) [ true ↦ inr rest | false ↦ rest ]
-  has_filter (x ∷ xs) workers p (inl e) =
-      let yes : (x.place % workers == p % workers) ≡ true = rw e (grind (arith, nat_tests)) in
-      let P : Bool → Type 0 = λ t. HasPlace p (cond t (x ∷ share_of workers (p % workers) xs) (share_of workers (p % workers) xs)) in
-      subst P (sym yes) (inl e)
-
-  has_from_index : (p k : ℕ) (xs : List (Assigned X)) (d : Assigned X) → k < length xs → (slice_index_or xs k d).place ≡ p → HasPlace p xs
+  pub has_from_index : (p k : ℕ) (xs : List (Assigned X)) (d : Assigned X) → k < length xs → (slice_index_or xs k d).place ≡ p → HasPlace p xs
   has_from_index p k [] d low e = absurd (omega arith)
   has_from_index p zero (x ∷ xs) d low e = inl e
   has_from_index p (suc k) (x ∷ xs) d low e = inr (has_from_index p k xs d (omega arith) e)
 
-  has_at : (items : List (Assigned X)) (p : ℕ) → ((d : Assigned X) → (slice_index_or items p d).place ≡ p) → p < length items → HasPlace p items
-  has_at [] p e low = absurd (omega arith)
-  has_at (x ∷ xs) p e low = has_from_index p p (x ∷ xs) x low (e x)
-
-  pub has_whole : (rs : List X) (bs : List Bool) (p : ℕ) → let items = assigned_from 0 rs bs in p < length items → HasPlace p items
-  has_whole rs bs p low = has_at (assigned_from 0 rs bs) p (λ d. assigned_place 0 p rs bs d low ∙ omega arith) low
-
-  abbrev pub JobsPlaced : List (Assigned X) → Bool → List (Bool × List (Assigned X)) → Type 0
-  JobsPlaced items mode [] = Unit {0}
-  JobsPlaced items mode (j ∷ js) = (j.0 ≡ mode) × ArePlaced items j.1 × JobsPlaced items mode js
-
-  abbrev pub HasJob : ℕ → List (Bool × List (Assigned X)) → Type 0
-  HasJob p [] = ⊥
-  HasJob p (j ∷ js) = HasPlace p j.1 ⊎ HasJob p js
-
-  jobs_placed : (items : List (Assigned X)) (mode : Bool) (shares : List (Share X)) → ((k : ℕ) (d : Share X) → k < length shares → ArePlaced items (items_of (slice_index_or shares k d)))
-      → JobsPlaced items mode (jobs_of mode shares)
-  jobs_placed items mode [] h = tt
-  jobs_placed items mode (s ∷ ss) h = (refl, h 0 s (omega arith), jobs_placed items mode ss (λ k d low. h (suc k) d (omega arith)))
-
-  has_job : (mode : Bool) (p k : ℕ) (shares : List (Share X)) → k < length shares → ((d : Share X) → HasPlace p (items_of (slice_index_or shares k d))) → HasJob p (jobs_of mode shares)
-  has_job mode p k [] low h = absurd (omega arith)
-  has_job mode p zero (s ∷ ss) low h = inl (h s)
-  has_job mode p (suc k) (s ∷ ss) low h = inr (has_job mode p k ss (omega arith) h)
-
-  pub dealt_placed : (rs : List X) (bs : List Bool) (workers : ℕ) (mode : Bool) (shares : List (Share X)) → length shares ≡ workers → IsDealt rs bs workers shares
-      → JobsPlaced (assigned_from 0 rs bs) mode (jobs_of mode shares)
-  dealt_placed rs bs workers mode shares len dealt =
-      let items = assigned_from 0 rs bs in
-      jobs_placed items mode shares (λ k d low.
-      let P : List (Assigned X) → Type 0 = λ xs. ArePlaced items xs in
-      subst P (sym (dealt k d (omega arith))) (placed_filter items items workers k (placed_whole rs bs)))
-
-  pub dealt_has : (rs : List X) (bs : List Bool) (workers : ℕ) (mode : Bool) (shares : List (Share X)) → 0 < workers → length shares ≡ workers → IsDealt rs bs workers shares
-      → (p : ℕ) → p < length (assigned_from 0 rs bs) → HasJob p (jobs_of mode shares)
-  dealt_has rs bs workers mode shares some len dealt p low =
-      let w = mod_below p workers some in
-      has_job mode p (p % workers) shares (omega arith) (λ d.
-      let P : List (Assigned X) → Type 0 = λ xs. HasPlace p xs in
-      subst P (sym (dealt (p % workers) d w)) (has_filter (assigned_from 0 rs bs) workers p (has_whole rs bs p low)))
-
-put_last : (joined : List Returned) (one : Returned) (outcomes : List Outcome)
-    → put_each (map rows_in (joined ++ one ∷ [])) outcomes ≡ put_all (rows_in one) (put_each (map rows_in joined) outcomes)
-put_last [] one outcomes = refl
-put_last (first ∷ joined) one outcomes = put_last joined one (put_all (rows_in first) outcomes)
-
--- what one worker more returned is put last
-pub put_one_more : (joined after : List Returned) (one : Returned) (outcomes : List Outcome) → after ≡ joined ++ one ∷ []
-    → put_each (map rows_in after) outcomes ≡ put_all (rows_in one) (put_each (map rows_in joined) outcomes)
-put_one_more joined after one outcomes is = ap (λ l. put_each (map rows_in l) outcomes) is ∙ put_last joined one outcomes
-
--- for each job in turn, rows that answer it were put at their places
-abbrev pub AreJoined : {X : Type 0} → Gives X → List (Bool × List (Assigned X)) → List Outcome → List Outcome → Type 0
-AreJoined gives [] old new = new ≡ old
-AreJoined gives (job ∷ jobs) old new = (rows : List Placed) × Answers gives job.0 job.1 rows × AreJoined gives jobs (put_all rows old) new
+length_put : (rows : List Placed) (outs : List Outcome) → length (put_all rows outs) ≡ length outs
+length_put [] outs = refl
+length_put (r ∷ rs) outs = length_put rs (slice_set outs r.0 r.1) ∙ length-set outs r.0 r.1
 
 module _ {X : Type 0} (gives : Gives X) where
-  length_put : (rows : List Placed) (outs : List Outcome) → length (put_all rows outs) ≡ length outs
-  length_put [] outs = refl
-  length_put (r ∷ rs) outs = length_put rs (slice_set outs r.0 r.1) ∙ length-set outs r.0 r.1
-
   own_here : (mode : Bool) (items : List (Assigned X)) (x : Assigned X) (r : Placed) (outs : List Outcome) (p : ℕ) → length outs ≡ length items
       → IsPlaced items x → r.0 ≡ x.place → IsOutcomeOf gives x.ignored x.runner mode r.1 → x.place ≡ p → IsOutcomeAt gives mode items (slice_set outs r.0 r.1) p
   own_here mode items x r outs p len placed at own here = λ a o.
@@ -163,39 +92,83 @@ module _ {X : Type 0} (gives : Gives X) where
   own_put mode items (x ∷ xs) (r ∷ rs) outs p len placed all (inr h) =
       own_put mode items xs rs (slice_set outs r.0 r.1) p (length-set outs r.0 r.1 ∙ len) placed.1 all.2 (inr (own_set mode items x r outs p len placed.0 all.0 all.1 h))
 
-  after_one : (mode : Bool) (items : List (Assigned X)) (j : Bool × List (Assigned X)) (js : List (Bool × List (Assigned X))) (rows : List Placed) (old : List Outcome) (p : ℕ)
-      → length old ≡ length items → ArePlaced items j.1 → Answers gives mode j.1 rows → HasJob p (j ∷ js) ⊎ IsOutcomeAt gives mode items old p
-      → HasJob p js ⊎ IsOutcomeAt gives mode items (put_all rows old) p
-  after_one mode items j js rows old p len placed all (inl (inl h)) = inr (own_put mode items j.1 rows old p len placed all (inl h))
-  after_one mode items j js rows old p len placed all (inl (inr h)) = inl h
-  after_one mode items j js rows old p len placed all (inr h) = inr (own_put mode items j.1 rows old p len placed all (inr h))
+put_both : (rows more : List Placed) (outcomes : List Outcome) → put_all (rows ++ more) outcomes ≡ put_all more (put_all rows outcomes)
+put_both [] more outcomes = refl
+put_both (row ∷ rows) more outcomes = put_both rows more _
 
-  own_joined : (mode : Bool) (items : List (Assigned X)) (jobs : List (Bool × List (Assigned X))) (old new : List Outcome) (p : ℕ) → length old ≡ length items
-      → JobsPlaced items mode jobs → AreJoined gives jobs old new → HasJob p jobs ⊎ IsOutcomeAt gives mode items old p → IsOutcomeAt gives mode items new p
-  own_joined mode items [] old new p len placed all (inl h) = absurd h
-  own_joined mode items [] old new p len placed all (inr h) = let P : List Outcome → Type 0 = λ o. IsOutcomeAt gives mode items o p in subst P (sym all) h
-  own_joined mode items (j ∷ js) old new p len placed all h =
-      let P : Bool → Type 0 = λ m. Answers gives m j.1 all.0 in
-      let rows = subst P placed.0 all.1 in
-      own_joined mode items js (put_all all.0 old) new p (length_put all.0 old ∙ len) placed.2 all.2 (after_one mode items j js all.0 old p len placed.1 rows h)
+-- the rows of each worker, one worker's after another's, are one list of rows
+put_flat : (joined : List (List Placed)) (outcomes : List Outcome) → put_each joined outcomes ≡ put_all (flat_map (λ rows. rows) joined) outcomes
+put_flat [] outcomes = refl
+put_flat (rows ∷ joined) outcomes = put_flat joined (put_all rows outcomes) ∙ sym (put_both rows (flat_map (λ rows. rows) joined) outcomes)
 
-  length_joined : (jobs : List (Bool × List (Assigned X))) (old new : List Outcome) → AreJoined gives jobs old new → length new ≡ length old
-  length_joined [] old new all = ap length all
-  length_joined (j ∷ js) old new all = length_joined js (put_all all.0 old) new all.2 ∙ length_put all.0 old
+pub length_put_each : (joined : List (List Placed)) (outcomes : List Outcome) → length (put_each joined outcomes) ≡ length outcomes
+length_put_each [] outcomes = refl
+length_put_each (rows ∷ joined) outcomes = length_put_each joined (put_all rows outcomes) ∙ length_put rows outcomes
 
-  -- the joined outcomes are own, by place
-  pub joined_own : (mode : Bool) (rs : List X) (bs : List Bool) (workers : ℕ) (shares : List (Share X)) (jobs : List (Bool × List (Assigned X))) (old new : List Outcome)
-      → 0 < workers → length shares ≡ workers → IsDealt rs bs workers shares → jobs ≡ jobs_of mode shares → length old ≡ length (assigned_from 0 rs bs)
-      → AreJoined gives jobs old new → AreOutcomes gives mode (assigned_from 0 rs bs) new
-  joined_own mode rs bs workers shares jobs old new some count dealt is len all =
+module _ {X : Type 0} where
+  all_of_placed : (items xs : List (Assigned X)) → ArePlaced items xs → All (IsPlaced items) xs
+  all_of_placed items [] placed = All-nil (IsPlaced items)
+  all_of_placed items (x ∷ xs) placed = All-cons (IsPlaced items) x xs placed.0 (all_of_placed items xs placed.1)
+
+  placed_of_all : (items xs : List (Assigned X)) → All (IsPlaced items) xs → ArePlaced items xs
+  placed_of_all items [] all = tt
+  placed_of_all items (x ∷ xs) all = (All-head (IsPlaced items) x xs all, placed_of_all items xs (All-tail (IsPlaced items) x xs all))
+
+  first_placed : (items given dropped : List (Assigned X)) → ArePlaced items (given ++ dropped) → ArePlaced items given
+  first_placed items [] dropped placed = tt
+  first_placed items (x ∷ given) dropped placed = (placed.0, first_placed items given dropped placed.1)
+
+  -- what has a place in one order has it in another
+  has_taken : (items taken : List (Assigned X)) (p : ℕ) → IsPermutation items taken → p < length items → ((d : Assigned X) → (slice_index_or items p d).place ≡ p) → HasPlace p taken
+  has_taken [] taken p same low at = absurd (omega arith)
+  has_taken (y ∷ ys) taken p same low at =
+      let x : Assigned X = slice_index_or (y ∷ ys) p y in
+      let there : Contains (y ∷ ys) x = (p, low, get_or_default (y ∷ ys) p x y low) in
+      let here : Contains taken x = Contains-permutation (y ∷ ys) taken x same there in
+      has_from_index p here.0 taken x here.1 (ap (λ (a : Assigned X). a.place) here.2 ∙ at y)
+
+module _ {X : Type 0} (gives : Gives X) (mode : Bool) (rs : List X) (bs : List Bool) where
+  -- if no trial was dropped, each place has an own outcome once the rows of all workers are put at their places
+  pub joined_own : (joined : List (List Placed)) (outcomes : List Outcome) → AnswersPart gives mode (assigned_from 0 rs bs) [] (flat_map (λ rows. rows) joined)
+      → length outcomes ≡ length (assigned_from 0 rs bs) → AreOutcomes gives mode (assigned_from 0 rs bs) (put_each joined outcomes)
+  joined_own joined outcomes part len =
       let items = assigned_from 0 rs bs in
-      let P : List (Bool × List (Assigned X)) → Type 0 = λ js. AreJoined gives js old new in
-      let all' = subst P is all in (
-        length_joined jobs old new all ∙ len,
-        λ p low. own_joined mode items (jobs_of mode shares) old new p len (dealt_placed rs bs workers mode shares count dealt) all' (inl (dealt_has rs bs workers mode shares some count dealt p low)),
-      )
+      let rows = flat_map (λ rows. rows) joined in
+      let same : IsPermutation items part.given = subst (λ l. IsPermutation items l) (append-nil part.given) part.parts in
+      let placed : ArePlaced items part.given = placed_of_all items part.given (All-permutation (IsPlaced items) items part.given same (all_of_placed items items (placed_whole rs bs))) in
+      let all : AreOutcomes gives mode items (put_all rows outcomes) = (
+        length_put rows outcomes ∙ len,
+        λ p low. own_put gives mode items part.given rows outcomes p len placed part.answers (inl (has_taken items part.given p same low (λ d. assigned_place 0 p rs bs d low ∙ omega arith))),
+      ) in
+      subst (λ l. AreOutcomes gives mode items l) (sym (put_flat joined outcomes)) all
 
-  -- once all are joined, nothing is left to put
-  pub joined_none : {H : Type 0} (job : H → Bool × List (Assigned X)) (left : List H) (outcomes : List Outcome) → length left ≡ 0 → AreJoined gives (map job left) outcomes outcomes
-  joined_none job [] outcomes none = refl
-  joined_none job (h ∷ left) outcomes none = absurd (omega arith)
+  -- what stands at the place is own, or it is what stood there before
+  abbrev pub IsOwnOr : List Outcome → List Outcome → ℕ → Type 0
+  IsOwnOr old new p = IsOutcomeAt gives mode (assigned_from 0 rs bs) new p ⊎ ((o : Outcome) → slice_index_or new p o ≡ slice_index_or old p o)
+
+  own_or : (xs : List (Assigned X)) (rows : List Placed) (outs : List Outcome) (p : ℕ) → length outs ≡ length (assigned_from 0 rs bs) → ArePlaced (assigned_from 0 rs bs) xs → Answers gives mode xs rows
+      → IsOwnOr outs (put_all rows outs) p
+  own_or [] [] outs p len placed all = inr (λ o. refl)
+  own_or [] (r ∷ rows) outs p len placed all = absurd all
+  own_or (x ∷ xs) [] outs p len placed all = absurd all
+  own_or (x ∷ xs) (r ∷ rows) outs p len placed all =
+      let items = assigned_from 0 rs bs in
+      let set = slice_set outs r.0 r.1 in
+      elim (own_or xs rows set p (length-set outs r.0 r.1 ∙ len) placed.1 all.2) [
+        | inl own ↦ inl own
+        | inr same ↦ elim (eqb_tells p r.0) [
+          | inl e ↦ inl (λ a o.
+              let Q : Outcome → Type 0 = λ v. IsOutcomeOf gives (slice_index_or items p a).ignored (slice_index_or items p a).runner mode v in
+              subst Q (sym (same o)) (own_here gives mode items x r outs p len placed.0 all.0 all.1 (sym all.0 ∙ sym e.1) a o))
+          | inr e ↦ inr (λ o. same o ∙ get_or-set_other outs r.0 p r.1 o e.1)
+        ]
+      ]
+
+  -- once the rows of all workers are put at their places, each place has an own outcome, or the one that it had
+  pub joined_own_or : (dropped : List (Assigned X)) (joined : List (List Placed)) (outcomes : List Outcome) (p : ℕ) → AnswersPart gives mode (assigned_from 0 rs bs) dropped (flat_map (λ rows. rows) joined)
+      → length outcomes ≡ length (assigned_from 0 rs bs) → IsOwnOr outcomes (put_each joined outcomes) p
+  joined_own_or dropped joined outcomes p part len =
+      let items = assigned_from 0 rs bs in
+      let rows = flat_map (λ rows. rows) joined in
+      let placed : ArePlaced items part.given = first_placed items part.given dropped (placed_of_all items (part.given ++ dropped) (All-permutation (IsPlaced items) items (part.given ++ dropped) part.parts (all_of_placed items items (placed_whole rs bs)))) in
+      subst (λ l. IsOwnOr outcomes l p) (sym (put_flat joined outcomes)) (own_or part.given rows outcomes p len placed part.answers)

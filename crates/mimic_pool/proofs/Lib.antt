@@ -11,3 +11,10 @@ pub mod Arriving
 pub mod Having
 pub mod Keeping
 pub mod Returning
+pub mod Balancing
+pub mod Sources
+pub mod Sharing
+pub mod Handing
+pub mod Emptying
+pub mod Filling
+pub mod Elements

@@ -1,14 +1,12 @@
 -- What the workers' answers make when they are joined: an outcome for each place.
-use Rattle.std.specs.Prelude.{ℕ, ◌≡◌, ◌<◌, ◌≤◌, Bool, List, [], ◌∷◌, length, map, slice_index_or, slice_set}
+use Rattle.std.specs.Prelude.{ℕ, ◌≡◌, ◌<◌, ◌++◌, Bool, List, [], ◌∷◌, length, slice_index_or, slice_set, true}
+use Rattle.std.specs.List.{flat_map}
+use Rattle.std.specs.List.Sorted.{IsPermutation}
 use Rattle.mimic_trial.specs.declared.outcome.Outcome.{Outcome}
 use Rattle.mimic_trial.specs.Places.{Placed}
 use Rattle.mimic_trial.specs.Promise.{Gives, IsOutcomeOf}
-use Rattle.mimic_pool.specs.Share.{IsDealt, assigned_from, items_of}
+use Rattle.mimic_pool.specs.Answers.{Answers}
 use Rattle.mimic_pool.specs.declared.share.Assigned.{Assigned}
-use Rattle.mimic_pool.specs.declared.share.Share.{Share}
-use Rattle.mimic_pool.specs.declared.start.AnswersShare.{AnswersShare}
-use Rattle.mimic_pool.specs.declared.start.Start.{Start}
-use Rattle.std.specs.declared.thread.PromisedHandle.{PromisedHandle}
 
 -- the outcomes after these rows were put at their places, one after another
 abbrev pub put_all : List Placed → List Outcome → List Outcome
@@ -20,28 +18,19 @@ abbrev pub put_each : List (List Placed) → List Outcome → List Outcome
 put_each [] outcomes = outcomes
 put_each (rows ∷ more) outcomes = put_each more (put_all rows outcomes)
 
-module _ {X : Type 0} where
-  -- the job of a started worker: the mode, and the items of its share
-  abbrev pub job_of : {T : Type 0} → PromisedHandle T (AnswersShare X) → Bool × List (Assigned X)
-  job_of handle = (handle.promise.test_mode, items_of handle.promise.share.value)
-
-  -- the shares that workers start with, one for each
-  abbrev pub shares_of : List (Start X) → List (Share X)
-  shares_of starts = map (λ start. start.share) starts
-
-  -- the jobs of these shares in this mode
-  abbrev pub jobs_of : Bool → List (Share X) → List (Bool × List (Assigned X))
-  jobs_of mode shares = map (λ share. (mode, items_of share)) shares
-
-  -- the runners were dealt into these shares, at least one, a worker was started on each in this mode, and there is an outcome to replace for each runner
-  pub record AreReadyToJoin {T : Type 0} (runners : List X) (flags : List Bool) (shares : List (Share X)) (mode : Bool)
-      (handles : List (PromisedHandle T (AnswersShare X))) (outcomes : List Outcome) : Type 0 where
-    pub some : 1 ≤ length shares
-    pub dealt : IsDealt runners flags (length shares) shares
-    pub started : map job_of handles ≡ jobs_of mode shares
-    pub room : length outcomes ≡ length (assigned_from 0 runners flags)
-
 module _ {X : Type 0} (gives : Gives X) where
+  -- these rows answer the trials, each once, in some order, but for those that were dropped
+  pub record AnswersPart (mode : Bool) (trials dropped : List (Assigned X)) (rows : List Placed) : Type 0 where
+    pub given : List (Assigned X)
+    pub parts : IsPermutation trials (given ++ dropped)
+    pub answers : Answers gives mode given rows
+
+  -- the rows of all workers answer the trials, each once, but for those that were dropped, of which there are none if all were to be run
+  pub record AreJoined (mode : Bool) (trials : List (Assigned X)) (whole : Bool) (joined : List (List Placed)) : Type 0 where
+    pub dropped : List (Assigned X)
+    pub answered : AnswersPart mode trials dropped (flat_map (λ rows. rows) joined)
+    pub all : whole ≡ true → dropped ≡ []
+
   -- what stands at the place is an outcome of the item there
   abbrev pub IsOutcomeAt : Bool → List (Assigned X) → List Outcome → ℕ → Type 0
   IsOutcomeAt mode items outcomes place =

@@ -1,6 +1,7 @@
 pub mod Share
 pub mod Answers
 pub mod Joined
+pub mod Shares
 pub mod Reports
 pub mod Arrivals
 pub mod Returned
@@ -12,3 +13,8 @@ pub mod Marks
 pub mod Kept
 pub mod Rows
 pub mod RowMarks
+pub mod Balance
+pub mod Passes
+pub mod Queue
+pub mod Taking
+pub mod Supply

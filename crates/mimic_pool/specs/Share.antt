@@ -32,8 +32,12 @@ module _ {X : Type 0} where
   abbrev pub share_of : ℕ → ℕ → List (Assigned X) → List (Assigned X)
   share_of workers worker items = filter (λ item. item.place % workers == worker) items
 
+  -- each worker's share holds the trials of its places
+  abbrev pub AreShares : List (Assigned X) → ℕ → List (Share X) → Type 0
+  AreShares items workers shares =
+      (worker : ℕ) (d : Share X) → worker < workers
+      → items_of (slice_index_or shares worker d) ≡ share_of workers worker items
+
   -- each worker's share holds the runners of its places, each with its place and its flag
   abbrev pub IsDealt : List X → List Bool → ℕ → List (Share X) → Type 0
-  IsDealt runners flags workers shares =
-      (worker : ℕ) (d : Share X) → worker < workers
-      → items_of (slice_index_or shares worker d) ≡ share_of workers worker (assigned_from 0 runners flags)
+  IsDealt runners flags workers shares = AreShares (assigned_from 0 runners flags) workers shares

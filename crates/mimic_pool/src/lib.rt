@@ -1,4 +1,5 @@
-//! Shares of trials, workers in threads, what these report and answer, and what is made of it. A layer of `libtest_mimic`.
+//! Trials in shares or in a queue, workers in threads, what these report and return, and what is made of it. A layer of
+//! `libtest_mimic`.
 //!
 //! ```rust
 //! use mimic_pool::{Arrival, Desk};
@@ -21,6 +22,7 @@ mod desk;
 mod inbox;
 mod marks;
 mod memory_reports;
+mod queue;
 mod remaining;
 mod reports;
 mod room;
@@ -28,8 +30,13 @@ mod rows;
 mod seats;
 mod share;
 mod shared_board;
+mod shared_queue;
+mod shares;
+mod source;
+mod spawner;
 mod start;
-mod threads;
+mod supply;
+mod taker;
 mod worker;
 
 pub use board::Board;
@@ -37,10 +44,12 @@ pub use board_reports::BoardReports;
 pub use desk::{Arrival, Desk, Missing};
 pub use inbox::Inbox;
 pub use memory_reports::MemoryReports;
+pub use queue::{Queue, QueueCrew, QueueStarts};
 pub use remaining::Remaining;
 pub use reports::{Reports, Untold};
-pub use rows::Rows;
+pub use rows::{Rows, put_joined};
 pub use share::{Share, deal, deal_next, empty_shares};
-pub use start::{AnswersShare, Start};
-pub use threads::{Handles, Spawner, join_all, prepare, put_joined, start_all};
+pub use shares::{ShareCrew, ShareStarts};
+pub use spawner::Spawner;
+pub use supply::{Crew, Schedule, Starts, Supply, join_all, start_all};
 pub use worker::work;

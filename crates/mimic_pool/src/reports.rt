@@ -1,5 +1,5 @@
 //! What workers report their rows to.
-ghost use Rattle.std.specs.Prelude.{◌≡◌, ◌↔◌, ◌++◌, ◌∷◌, ◌+◌, ◌<◌, [], ℕ, IsOk, List, OnErr, OnOk};
+ghost use Rattle.std.specs.Prelude.{◌≡◌, ◌↔◌, ◌++◌, ◌∷◌, ◌+◌, ◌<◌, [], ℕ, IsOk, List, OnErr, OnOk, ⊤};
 ghost use Rattle.mimic_trial.specs.Places.{Placed};
 
 use mimic_trial::Outcome;
@@ -38,6 +38,45 @@ pub trait Reports {
     /// How many rows were reported.
     fn told(&self) -> u64
         ensures { result ≡ told_of self.now };
+}
+
+// Reports to nobody, of trials that no worker took.
+#[derive(Drop)]
+pub(crate) struct Unheard {
+    counts: Counts,
+}
+
+impl Unheard {
+    // Nothing was reported yet.
+    pub(crate) fn new() -> Self
+        ensures told { result.counts.told ≡ 0 }
+        ensures refusals { result.counts.refusals ≡ 0 }
+    {
+        Unheard {
+            counts: Counts::new(),
+        }
+    }
+}
+
+impl Reports for Unheard {
+    ghost told_of = { λ reports. reports.counts.told };
+
+    ghost refused_by = { λ reports. reports.counts.refusals };
+
+    ghost heard = { λ _ _. ⊤ };
+
+    fn tell(&mut self, _place: usize, _outcome: &Outcome) -> Result<(), Untold> {
+        let reported: Result<(), Untold> = Ok(());
+        self.counts.count(reported)
+    }
+
+    fn refusals(&self) -> u64 {
+        self.counts.refusals
+    }
+
+    fn told(&self) -> u64 {
+        self.counts.told
+    }
 }
 
 // How many rows were reported, and how many could not be.

@@ -1,9 +1,10 @@
 //! Where a worker puts its rows.
-ghost use Rattle.std.specs.Prelude.{◌≡◌, ◌++◌, ◌∷◌, ◌+◌, ◌-◌, ◌≤◌, [], ℕ, List, vec_capacity, vec_len};
+ghost use Rattle.std.specs.Prelude.{◌≡◌, ◌++◌, ◌∷◌, ◌+◌, ◌-◌, ◌≤◌, [], ℕ, List, OnOk, vec_capacity, vec_len};
 ghost use Rattle.mimic_trial.specs.Places.{Placed};
 
 use crate::rows::Rows;
 use mimic_trial::Outcome;
+use std::alloc::AllocError;
 
 // What a worker puts its rows into, each a place and the outcome there. No row takes memory.
 pub(crate) trait Room {
@@ -12,6 +13,12 @@ pub(crate) trait Room {
 
     // How many more rows there is room for.
     ghost room_in: { Self → ℕ };
+
+    // Makes room for so many more rows, if there is memory.
+    fn reserve(&mut self, rows: usize) -> Result<(), AllocError>
+        ensures rows { rows_in self.new ≡ rows_in self.old }
+        ensures as_much { room_in self.old ≤ room_in self.new }
+        ensures room { OnOk result (rows ≤ room_in self.new) };
 
     // Puts a row behind the others.
     fn put(&mut self, place: usize, outcome: Outcome)
@@ -25,6 +32,10 @@ impl Room for Vec<(usize, Outcome)> {
 
     ghost room_in = { λ rows. vec_capacity rows - vec_len rows };
 
+    fn reserve(&mut self, rows: usize) -> Result<(), AllocError> {
+        Vec::reserve(self, rows)
+    }
+
     fn put(&mut self, place: usize, outcome: Outcome) {
         self.push_reserved((place, outcome));
     }
@@ -34,6 +45,10 @@ impl Room for Rows {
     ghost rows_in = { λ rows. rows.items };
 
     ghost room_in = { λ rows. rows.room };
+
+    fn reserve(&mut self, rows: usize) -> Result<(), AllocError> {
+        Rows::reserve(self, rows)
+    }
 
     fn put(&mut self, place: usize, outcome: Outcome) {
         self.push_reserved(place, outcome);

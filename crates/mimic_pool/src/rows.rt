@@ -1,8 +1,10 @@
 //! The rows that a worker returns.
-ghost use Rattle.std.specs.Prelude.{◌≡◌, ◌++◌, ◌∷◌, [], ◌+◌, ◌≤◌, ◌↔◌, All, IfOk, IsTrue, MatchOption, None, Some, drop, length, slice_index_or};
+ghost use Rattle.std.specs.Prelude.{◌≡◌, ◌++◌, ◌∷◌, [], ◌+◌, ◌≤◌, ◌↔◌, All, IfOk, IsTrue, MatchOption, None, OnOk, Some, drop, length, map, slice_index_or, vec_len};
 ghost use Rattle.std.specs.Option.{option_copied};
 ghost use Rattle.std.specs.VecDeque.{deque_items, deque_len};
+ghost use Rattle.mimic_pool.specs.Joined.{put_all, put_each};
 ghost use Rattle.mimic_pool.specs.Marks.{outcome_by, weight_of};
+ghost use Rattle.mimic_pool.specs.Rows.{rows_in};
 
 use crate::marks::{Mark, marked, unmarked, weight};
 use crate::seats::Seats;
@@ -51,6 +53,27 @@ impl Rows {
             kept,
             taken: 0,
         })
+    }
+
+    /// Makes room for so many more rows, if there is memory. It makes more than that if there are many rows, so that rows that are
+    /// added one by one seldom take memory.
+    pub fn reserve(&mut self, more: usize) -> Result<(), AllocError>
+        ensures items { self.new.items ≡ self.old.items }
+        ensures as_much { self.old.room ≤ self.new.room }
+        ensures room { OnOk result (more ≤ self.new.room) }
+    {
+        let len = self.places.len();
+        if more <= self.places.capacity() - len {
+            return Ok(());
+        }
+        let growth = more.max(len);
+        // The places come last, since there is to be a mark and a kept outcome for each.
+        let all = len.saturating_add(growth);
+        self.kept
+            .reserve_exact(all.saturating_sub(self.kept.len()))?;
+        self.marks.reserve_exact(growth)?;
+        self.places.reserve_exact(growth)?;
+        Ok(())
     }
 
     /// How many rows were not taken.
@@ -112,4 +135,29 @@ fn lies(seat: Option<&Outcome>, mark: Mark, kept: &VecDeque<Outcome>, index: usi
         Mark::Ignored | Mark::Free => matches!(seat, Some(Outcome::Ignored)),
         Mark::Kept => seat == kept.get(index),
     }
+}
+
+/// Puts the rows that workers returned at their places, and returns the outcomes. A row that has no place there is passed
+/// over.
+pub fn put_joined(joined: Vec<Rows>, mut outcomes: Vec<Outcome>) -> Vec<Outcome>
+    ensures put { result.items ≡ put_each (map rows_in joined.items) outcomes.items }
+    ensures len { vec_len result ≡ vec_len outcomes }
+{
+    for rows in joined {
+        outcomes = put_rows(rows, outcomes);
+    }
+    outcomes
+}
+
+// Puts the outcomes at their places. One that has none is passed over.
+fn put_rows(mut rows: Rows, mut outcomes: Vec<Outcome>) -> Vec<Outcome>
+    ensures put { result.items ≡ put_all rows.items outcomes.items }
+    ensures len { vec_len result ≡ vec_len outcomes }
+{
+    while let Some((place, outcome)) = rows.next() {
+        if let Some(seat) = outcomes.get_mut(place) {
+            *seat = outcome;
+        }
+    }
+    outcomes
 }

@@ -1,8 +1,10 @@
 //! Shares of the trials, one for each worker.
 ghost use Rattle.std.specs.Prelude.{◌≡◌, ◌≤◌, ◌∷◌, ◌++◌, All, Bool, IfOk, List, OnErr, OnOk, [], length, map, slice_get, vec_len};
 ghost use Rattle.std.specs.Int.{div_ceil};
-ghost use Rattle.mimic_pool.specs.Share.{HasRoom, IsDealt, items_of, places_in};
+ghost use Rattle.mimic_pool.specs.Share.{AreShares, HasRoom, IsDealt, items_of, places_in};
+ghost use Rattle.mimic_pool.specs.declared.share.Assigned.{Assigned};
 
+use crate::remaining::Remaining;
 use mimic_trial::Runner;
 use std::alloc::{AllocError, Global};
 
@@ -21,6 +23,13 @@ pub struct Share<T = Runner> {
 }
 
 impl<T> Share<T> {
+    // What it holds, to be handed out one by one.
+    pub(crate) fn into_remaining(self) -> Remaining<Assigned<T>>
+        ensures { result ≡ items_of self }
+    {
+        Remaining::new(self.items)
+    }
+
     /// The number of its places.
     pub fn len(&self) -> usize
         ensures { result ≡ length (items_of self.now) }
@@ -95,10 +104,8 @@ pub fn deal_next<T: Drop>(
 ) -> Result<(), AllocError>
     requires some_worker { 1 ≤ vec_len shares.old }
     ensures len { vec_len shares.new ≡ vec_len shares.old }
-    ensures dealt { OnOk result ((runners : List T) (flags : List Bool) → length runners ≡ place
-        → length flags ≡ place
-        → IsDealt runners flags (vec_len shares.old) shares.old.items
-        → IsDealt (runners ++ runner ∷ []) (flags ++ ignored ∷ []) (vec_len shares.old) shares.new.items) }
+    ensures dealt { OnOk result ((trials : List (Assigned T)) → AreShares trials (vec_len shares.old) shares.old.items
+        → AreShares (trials ++ record { place = place; runner = runner; ignored = ignored } ∷ []) (vec_len shares.old) shares.new.items) }
     ensures refused { OnErr result (map items_of shares.new.items ≡ map items_of shares.old.items) }
 {
     let item = Assigned {

@@ -1,13 +1,13 @@
 //! What one worker does.
 ghost use Rattle.std.specs.Prelude.{◌≡◌, ◌++◌, ◌+◌, ◌≤◌, ◌<◌, ◌^◌, [], List, length, vec_capacity, vec_len};
 ghost use Rattle.mimic_trial.specs.Places.{Placed};
-ghost use Rattle.mimic_pool.specs.Answers.{Answers};
+ghost use Rattle.mimic_pool.specs.Answers.{Answers, HasWorked};
 ghost use Rattle.mimic_pool.specs.Share.{AllRunners, items_of};
 
-use crate::remaining::Remaining;
 use crate::reports::Reports;
 use crate::room::Room;
 use crate::share::{Assigned, Share};
+use crate::source::Source;
 use mimic_trial::{Outcome, Task, run_unless};
 
 /// Runs the share in its order, reports each row when its trial has ended, and returns all of them.
@@ -31,29 +31,30 @@ pub fn work<T: Task, R: Reports>(
     ensures heard { (rows : List Placed) → R.heard reports.old rows
         → R.heard reports.new (rows ++ result.items) }
 {
-    work_into(share, test_mode, reports, room)
+    let (_, rows) = work_from(share.into_remaining(), test_mode, reports, room);
+    rows
 }
 
-// As `work`, into any room.
-pub(crate) fn work_into<T: Task, R: Reports, O: Room>(
-    share: Share<T>,
+// Runs the trials of the source, reports each row when its trial has ended, adds it to those in the room, and returns the source
+// and the room.
+pub(crate) fn work_from<T: Task, S: Source<T>, R: Reports, O: Room>(
+    source: S,
     test_mode: bool,
     reports: &mut R,
-    mut room: O,
-) -> O
-    requires runnable { AllRunners T.can_run share }
-    requires empty { O.rows_in room ≡ [] }
-    requires fits { length (items_of share) ≤ O.room_in room }
-    requires told { R.told_of reports.old + length (items_of share) < 2 ^ 64 }
-    requires refusals { R.refused_by reports.old + length (items_of share) < 2 ^ 64 }
-    ensures answers { Answers T.gives test_mode (items_of share) (O.rows_in result) }
-    ensures counted { R.told_of reports.new + R.refused_by reports.new
-        ≡ R.told_of reports.old + R.refused_by reports.old + length (items_of share) }
-    ensures heard { (rows : List Placed) → R.heard reports.old rows
-        → R.heard reports.new (rows ++ O.rows_in result) }
+    room: O,
+) -> (S, O)
+    requires ready { S.is_ready source (O.room_in room) }
+    requires told { R.told_of reports.old + S.most source < 2 ^ 64 }
+    requires refusals { R.refused_by reports.old + S.most source < 2 ^ 64 }
+    ensures worked { HasWorked S.goes_on T.gives test_mode (R.heard reports.old) (R.heard reports.new) source result.0
+        (O.rows_in room) (O.rows_in result.1) }
+    ensures ended { S.has_ended result.0 }
+    ensures counted { R.told_of reports.new + R.refused_by reports.new + length (O.rows_in room)
+        ≡ R.told_of reports.old + R.refused_by reports.old + length (O.rows_in result.1) }
+    ensures room { O.room_in room + length (O.rows_in room) ≤ O.room_in result.1 + length (O.rows_in result.1) }
 {
-    let mut left = Remaining::new(share.items);
-    while let Some(item) = left.next() {
+    let (mut source, mut room) = (source, room);
+    while let Some(item) = source.next(&mut room) {
         let Assigned {
             place,
             runner,
@@ -64,5 +65,5 @@ pub(crate) fn work_into<T: Task, R: Reports, O: Room>(
         let _ = reports.tell(place, &outcome);
         room.put(place, outcome);
     }
-    room
+    (source, room)
 }

@@ -6,6 +6,7 @@ mod desk;
 mod inbox;
 mod losses;
 mod printing;
+mod rows;
 mod shown;
 mod texts;
 mod trials;

@@ -1,15 +1,19 @@
 //! Gathers the rows of workers.
-ghost use Rattle.std.specs.Prelude.{◌≡◌, ◌-◌, ◌^◌, ◌<◌, ◌≤◌, Bool, IfErr, List, MatchResult, length, map, vec_capacity, vec_len};
+ghost use Rattle.std.specs.Prelude.{ℕ, ◌≡◌, ◌≢◌, ◌-◌, ◌^◌, ◌<◌, ◌≤◌, Bool, IfErr, List, MatchResult, Some, length, map, slice_get, vec_capacity, vec_len};
+ghost use Rattle.std.specs.Option.{option_copied};
 ghost use Rattle.mimic_printer.specs.Sink.{HasFaultLeft, Put, faults_of, shown};
+ghost use Rattle.mimic_trial.specs.declared.outcome.Outcome.{Outcome as AnOutcome};
+ghost use Rattle.mimic_pool.specs.Arrivals.{arrived_at};
 ghost use Rattle.mimic_pool.specs.Rows.{rows_in};
 ghost use Rattle.mimic_pool.specs.Share.{assigned_from};
-ghost use Rattle.mimic_pool.specs.declared.share.Share.{Share};
-ghost use Rattle.libtest_mimic.specs.Gathering.{IsGathered, IsOfRows, IsReadyFor, Completes, GatheringRefused, RunRunners};
+ghost use Rattle.mimic_pool.specs.Supply.{Runs, runs_all};
+ghost use Rattle.mimic_pool.specs.declared.share.Assigned.{Assigned};
+ghost use Rattle.libtest_mimic.specs.Gathering.{IsGathered, IsOfRows, IsReadyFor, Completes, GatheringRefused};
 ghost use Rattle.libtest_mimic.specs.Steps.{told_text};
 
 use crate::running::RunError;
 use crate::running::arrivals::{write_arrivals, write_missing};
-use mimic_pool::{Desk, Handles, Inbox, Rows, Spawner, join_all, put_joined};
+use mimic_pool::{Crew, Desk, Inbox, Rows, Spawner, join_all, put_joined};
 use mimic_printer::{Printer, Sink};
 use mimic_trial::{Outcome, Task, TestInfo};
 use std::io::Write;
@@ -18,13 +22,11 @@ use std::io::Write;
 pub struct Started<R: Task> {
     /// Where their rows come from.
     pub inbox: Inbox,
-    /// Their handles, in the order of their shares.
-    pub handles: Handles<R>,
+    /// The workers.
+    pub crew: Crew<R>,
     /// A desk at which nothing has arrived, with a place for each trial.
     pub desk: Desk,
-    /// Room for what each worker returns.
-    pub joined: Vec<Rows>,
-    /// Room for an outcome of each trial, which is taken only if a row did not arrive or differs.
+    /// Room for an outcome of each trial, which is taken only if a row did not arrive or differs, or after a write fault.
     pub room: Vec<Outcome>,
 }
 
@@ -32,7 +34,8 @@ pub struct Started<R: Task> {
 /// after the workers have been joined those that did not. Returns the desk, at which an outcome of each trial has arrived then.
 ///
 /// `infos` are by place, counted from 0. It is refused for a write fault, or with `Arrival` for the least place at which
-/// something else arrived first than its worker returned, also after a write fault.
+/// something else arrived first than its worker returned, also after a write fault. After a write fault, the trials that are left
+/// in a queue are taken from it and dropped.
 pub fn gather_rows<R: Task + Send + 'static, W: Write, T: Spawner + 'static>(
     rt: &T,
     printer: &Printer,
@@ -42,51 +45,53 @@ pub fn gather_rows<R: Task + Send + 'static, W: Write, T: Spawner + 'static>(
 ) -> Result<Desk, RunError>
     requires room { HasFaultLeft sink.old }
     requires ready { IsReadyFor started (length infos.now) }
-    ensures rows { (runners : List R) (flags : List Bool) (shares : List (Share R))
-        (test_mode : Bool)
-        → RunRunners runners flags shares test_mode started.handles.items (length infos.now)
+    requires running { (mode : Bool) × (trials : List (Assigned R)) × Runs R.gives started.crew mode trials }
+    ensures rows { (runners : List R) (flags : List Bool) (test_mode : Bool)
+        → length runners ≡ length infos.now → length flags ≡ length infos.now
+        → Runs R.gives started.crew test_mode (assigned_from 0 runners flags)
         → MatchResult result
         (λ desk. IsGathered R.gives test_mode (assigned_from 0 runners flags) desk
         × Put (shown W.contents sink.old) (shown W.contents sink.new) (told_text printer.now infos.now desk))
-        (λ e. GatheringRefused R.gives test_mode (assigned_from 0 runners flags) printer.now infos.now
-        (shown W.contents sink.old) (shown W.contents sink.new) e) }
+        (λ e. GatheringRefused R.gives test_mode (assigned_from 0 runners flags) (runs_all started.crew)
+        printer.now infos.now (shown W.contents sink.old) (shown W.contents sink.new) e) }
     ensures refused { IfErr result IsOfRows }
 {
     let Started {
         inbox,
-        handles,
+        crew,
         mut desk,
-        joined,
         room,
     } = started;
     let written = write_arrivals(rt, printer, infos, inbox, &mut desk, sink);
-    let joined = join_all(rt, handles, joined);
+    let whole = written.is_ok();
+    let joined = join_all(rt, crew, whole);
     let told = desk.order().len();
-    complete(&mut desk, joined, infos.len(), room)?;
+    complete(&mut desk, joined, infos.len(), room, whole)?;
     // A write fault waits until here, since an outcome that differs is reported in its place.
     written?;
     write_missing(printer, infos, &desk, told, sink)?;
     Ok(desk)
 }
 
-// Compares what arrived with what the workers returned. Where nothing arrived, what they returned arrives now. Mostly all has
-// arrived and is the same: then no row is copied.
+// Compares what arrived with what the workers returned. Where nothing arrived, what they returned arrives now. If they ran the
+// whole, mostly all has arrived and is the same: then no row is copied.
 fn complete(
     desk: &mut Desk,
     joined: Vec<Rows>,
     count: usize,
     room: Vec<Outcome>,
+    whole: bool,
 ) -> Result<(), RunError>
     requires places { desk.old.places ≡ count }
     requires empty { vec_len room ≡ 0 }
     requires fits { count ≤ vec_capacity room }
     ensures places { desk.new.places ≡ desk.old.places }
-    ensures completed { Completes desk.old (map rows_in joined.items) desk.new result }
+    ensures completed { Completes whole desk.old (map rows_in joined.items) desk.new result }
 {
-    if desk.has_all(&joined) {
+    if whole && desk.has_all(&joined) {
         return Ok(());
     }
-    let outcomes = put_joined(joined, placeholders(room, count));
+    let outcomes = put_joined(joined, others_than(desk, room, count));
     if let Err(place) = desk.settle(&outcomes) {
         return Err(RunError::Arrival { place });
     }
@@ -94,14 +99,26 @@ fn complete(
     Ok(())
 }
 
-// As many outcomes, each of which stands for one that a worker returned.
-fn placeholders(mut room: Vec<Outcome>, count: usize) -> Vec<Outcome>
+// For each place an outcome that isn't what arrived there. It is compared where no worker returned one.
+fn others_than(desk: &Desk, mut room: Vec<Outcome>, count: usize) -> Vec<Outcome>
     requires empty { vec_len room ≡ 0 }
     requires fits { count ≤ vec_capacity room }
-    ensures { vec_len result ≡ count }
+    ensures len { vec_len result ≡ count }
+    ensures others { (place : ℕ) (o : AnOutcome) → arrived_at place desk.now.rows ≡ Some o
+        → slice_get result.items place ≢ Some o }
 {
-    for _place in 0..count {
-        room.push_reserved(Outcome::Ignored);
+    for place in 0..count {
+        room.push_reserved(other_than(desk.outcome(place)));
     }
     room
+}
+
+// An outcome that isn't this one.
+fn other_than(outcome: Option<&Outcome>) -> Outcome
+    ensures { option_copied outcome.entry ≢ Some result }
+{
+    match outcome {
+        Some(Outcome::Ignored) => Outcome::Passed,
+        _ => Outcome::Ignored,
+    }
 }

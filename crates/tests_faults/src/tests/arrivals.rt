@@ -1,17 +1,18 @@
 //! Rows that arrive otherwise than their workers answer.
-ghost use Rattle.std.specs.Prelude.{All, length};
+ghost use Rattle.std.specs.Prelude.{◌≤◌, Bool, IfOk, List, length};
 ghost use Rattle.libtest_mimic.specs.Gathering.{IsReadyFor};
 ghost use Rattle.libtest_mimic.specs.Sink.{HasFaultLeft};
-ghost use Rattle.libtest_mimic.specs.Share.{AllRunners};
+ghost use Rattle.mimic_pool.specs.Supply.{Holds, Runs};
+ghost use Rattle.mimic_pool.specs.declared.share.Assigned.{Assigned};
 
-use libtest_mimic::pool::{
-    Desk, Inbox, Reports, Share, Started, deal, gather_rows, join_all, prepare, start_all,
-};
+use super::runs::SCHEDULES;
+use libtest_mimic::pool::{Desk, Reports, Started, Supply, gather_rows, start_all};
 use libtest_mimic::printer::Printer;
-use libtest_mimic::{FormatSetting, Outcome, RunError, Sink, Spawner, Task, TestInfo};
+use libtest_mimic::{FormatSetting, Outcome, RunError, Schedule, Sink, Spawner, Task, TestInfo};
 use mimic_testkit::{Fault, FaultyWriter, Known, Place};
 use std::alloc::{AllocError, Global};
 use std::io::Write;
+use std::sync::Wait;
 use std::test::Fail;
 
 static NAMES: [&str; 4] = ["a", "b", "c", "d"];
@@ -30,14 +31,23 @@ fn infos_of_all(alloc: Global) -> Result<Vec<TestInfo>, AllocError> {
     Ok(infos)
 }
 
-// The shares of two workers of so many tests that pass.
-fn shares_of(alloc: Global, tests: usize) -> Result<Vec<Share<Known>>, AllocError> {
-    let mut runners = Vec::new(alloc);
-    for _ in 0..tests {
-        runners.push(Known::Passes)?;
+// A supply of so many tasks for two workers, none of which is ignored.
+fn supply_of<T: Task, R: Wait, F: Fn(usize) -> T>(
+    rt: &R,
+    alloc: Global,
+    schedule: Schedule,
+    trials: usize,
+    task: F,
+) -> Result<Supply<T>, AllocError>
+    requires made { F.IsAlwaysCallable task }
+    requires runnable { (made : T) → T.can_run made }
+    ensures { IfOk result (λ supply. (held : List (Assigned T)) × (length held ≤ trials) × Holds T.can_run supply held) }
+{
+    let mut supply = Supply::new(alloc, schedule, trials, 2)?;
+    for place in 0..trials {
+        supply.put(rt, place, task(place), false)?;
     }
-    let ignored = vec![in alloc; false; runners.len()]?;
-    deal(alloc, runners, ignored, 2)
+    Ok(supply)
 }
 
 // Writes the rows of workers that were started. This is the one place that calls `gather_rows`, and it promises nothing, so that no
@@ -51,6 +61,7 @@ fn gather<T: Task + Send + 'static, R: Spawner + 'static, W: Write>(
 ) -> Result<Desk, RunError>
     requires room { HasFaultLeft sink.old }
     requires ready { IsReadyFor started (length infos.now) }
+    requires running { (mode : Bool) × (trials : List (Assigned T)) × Runs T.gives started.crew mode trials }
 {
     gather_rows(rt, printer, infos, started, sink)
 }
@@ -62,7 +73,8 @@ fn gathered<T: Task + Send + 'static, R: Spawner + 'static>(
     started: Started<T>,
     writer: FaultyWriter,
 ) -> (Option<usize>, u64)
-    requires { IsReadyFor started (length infos.now) }
+    requires ready { IsReadyFor started (length infos.now) }
+    requires running { (mode : Bool) × (trials : List (Assigned T)) × Runs T.gives started.crew mode trials }
 {
     let printer = Printer::new(FormatSetting::Json, false, 0, 0);
     let mut sink = Sink::new(writer);
@@ -73,54 +85,51 @@ fn gathered<T: Task + Send + 'static, R: Spawner + 'static>(
     (differs, sink.faults())
 }
 
-// Somebody reports the last and the second test as ignored before their workers start. The place that the rows are refused
+// Somebody reports the last and the second task as ignored before their workers start. The place that the rows are refused
 // for, and how many faults the sink has counted then, if a write at the place fails.
-fn gather_with_lies<T: Task + Send + 'static, R: Spawner + 'static>(
+fn gather_with_lies<T: Task + Send + 'static, R: Spawner + 'static, F: Fn(usize) -> T>(
     rt: &R,
     alloc: Global,
     infos: &[TestInfo],
-    shares: Vec<Share<T>>,
+    schedule: Schedule,
+    task: F,
     place: Place,
 ) -> Result<(Option<usize>, u64), Fail>
-    requires { All (λ share. AllRunners T.can_run share) shares.items }
+    requires made { F.IsAlwaysCallable task }
+    requires runnable { (made : T) → T.can_run made }
 {
     let room = Vec::with_capacity(alloc, infos.len())?;
-    let handles = Vec::with_capacity(alloc, shares.len())?;
     let desk = Desk::new(alloc, infos.len())?;
-    let inbox = Inbox::new(alloc, infos.len(), shares.len())?;
-    let starts = prepare(alloc, shares, &inbox)?;
+    let supply = supply_of(rt, alloc, schedule, infos.len(), task)?;
+    let (inbox, starts) = supply.prepare(rt, alloc, infos.len())?;
     let mut lies = inbox.reports(*rt, alloc)?;
     let _ = lies.tell(3, &Outcome::Ignored);
     let _ = lies.tell(1, &Outcome::Ignored);
-    let handles = match start_all(rt, alloc, starts, true, handles) {
-        Ok(handles) => handles,
-        Err(started) => {
-            let joined = Vec::with_capacity(alloc, started.len())?;
-            join_all(rt, started, joined);
-            return Err(Fail::new("a worker could not be started"));
-        }
+    let Some(crew) = start_all(rt, alloc, starts, true) else {
+        return Err(Fail::new("a worker could not be started"));
     };
-    let joined = Vec::with_capacity(alloc, handles.len())?;
     let started = Started {
         inbox,
-        handles,
+        crew,
         desk,
-        joined,
         room,
     };
     let writer = FaultyWriter::new(alloc).failing(place, Fault::TakesNone);
     Ok(gathered(rt, infos, started, writer))
 }
 
-// The least place that differs is named, and not the first to arrive; also after a write fault, here in the second row.
+// The least place that differs is named, and not the first to arrive; also after a write fault, here in the second row. Whether or
+// not its test has run then, it was not ignored.
 #[test]
 fn names_the_least_place_that_differs(rt: HostRuntime) -> Result<(), Fail> {
     let alloc = rt.alloc();
     let infos = infos_of_all(alloc)?;
-    for (place, faults) in [(Place::Nowhere, 0), (Place::Write(3), 1)] {
-        let shares = shares_of(alloc, infos.len())?;
-        let left = gather_with_lies(&rt, alloc, &infos, shares, place)?;
-        assert!(rt; left == (Some(1), faults));
+    for schedule in SCHEDULES {
+        for (place, faults) in [(Place::Nowhere, 0), (Place::Write(3), 1)] {
+            let task = |_place: usize| Known::Passes;
+            let left = gather_with_lies(&rt, alloc, &infos, schedule, task, place)?;
+            assert!(rt; left == (Some(1), faults), "{schedule:?} {place:?}");
+        }
     }
     Ok(())
 }

@@ -2,8 +2,8 @@
 //! turn; without it none does, and a test shows what comes with ample memory alone. All that is handed in is made
 //! beforehand; if that fails, a test says nothing.
 use super::in_both_orders;
-use super::runs::{Becomes, Left, asking, becoming, roomy, run_into};
-use libtest_mimic::{Arguments, ArgumentsError, FormatSetting, RunError, Spawner, Trial};
+use super::runs::{Becomes, Left, asking, becoming, roomy, run_by};
+use libtest_mimic::{Arguments, ArgumentsError, FormatSetting, RunError, Schedule, Spawner, Trial};
 use mimic_testkit::FaultyWriter;
 use std::alloc::{AllocError, Global};
 use std::test::Fail;
@@ -31,10 +31,19 @@ fn run_two<T: Spawner + 'static>(
     rt: &T,
     alloc: Global,
     args: &Arguments,
+    schedule: Schedule,
 ) -> Result<Left<FaultyWriter>, AllocError> {
     let tests = two_tests(alloc)?;
-    Ok(run_into(rt, alloc, args, tests, roomy(alloc)?))
+    Ok(run_by(rt, alloc, args, tests, roomy(alloc)?, schedule))
 }
+
+// How many threads are asked for, and how trials come to them if they are more than one.
+static ASKED: [(Option<usize>, Schedule); 4] = [
+    (None, Schedule::Shares),
+    (Some(1), Schedule::Queue),
+    (Some(2), Schedule::Shares),
+    (Some(2), Schedule::Queue),
+];
 
 // Whether a run may leave this if it wants memory or, with workers, threads.
 fn is_allowed(left: &Left<FaultyWriter>, threads: usize) -> bool {
@@ -49,10 +58,13 @@ fn is_allowed(left: &Left<FaultyWriter>, threads: usize) -> bool {
 
 #[test]
 fn runs_whole_or_not_at_all(rt: HostRuntime) -> Result<(), Fail> {
-    for threads in [None, Some(1), Some(2)] {
+    for (threads, schedule) in ASKED {
         let args = asking(rt.alloc(), FormatSetting::Json, threads);
-        let left = run_two(&rt, rt.alloc(), &args)?;
-        assert!(rt; is_allowed(&left, threads.unwrap_or(1)), "{threads:?}");
+        let left = run_two(&rt, rt.alloc(), &args, schedule)?;
+        assert!(rt;
+            is_allowed(&left, threads.unwrap_or(1)),
+            "{threads:?} {schedule:?}"
+        );
         assert!(rt; left.faults == 0);
     }
     Ok(())
@@ -66,9 +78,10 @@ fn leaves<T: Spawner + 'static>(
     rt: &T,
     alloc: Global,
     args: &Arguments,
+    schedule: Schedule,
     text: &[u8],
 ) -> Result<bool, AllocError> {
-    let left = run_two(rt, alloc, args)?;
+    let left = run_two(rt, alloc, args, schedule)?;
     Ok(left.is_stopped_by(None) && left.writer.bytes.as_slice() == text)
 }
 
@@ -76,16 +89,19 @@ fn leaves<T: Spawner + 'static>(
 #[test]
 fn wants_no_memory_for_a_list(rt: HostRuntime) -> Result<(), Fail> {
     let alloc = rt.alloc();
-    for threads in [None, Some(1), Some(2)] {
+    for (threads, schedule) in ASKED {
         let mut args = asking(alloc, FormatSetting::Pretty, threads);
         args.list = true;
         assert!(rt;
-            leaves(&rt, alloc, &args, b"a: test\n[k] b: test\n")?,
-            "{threads:?}"
+            leaves(&rt, alloc, &args, schedule, b"a: test\n[k] b: test\n")?,
+            "{threads:?} {schedule:?}"
         );
         args.list = false;
         args.skip.push(String::new(alloc))?;
-        assert!(rt; leaves(&rt, alloc, &args, NONE_SELECTED)?, "{threads:?}");
+        assert!(rt;
+            leaves(&rt, alloc, &args, schedule, NONE_SELECTED)?,
+            "{threads:?} {schedule:?}"
+        );
     }
     Ok(())
 }

@@ -3,8 +3,8 @@ ghost use Rattle.std.specs.Prelude.{◌≤◌};
 ghost use Rattle.mimic_trial.specs.Trial.{AllCanRun};
 
 use libtest_mimic::{
-    Arguments, Conclusion, Failed, FormatSetting, Outcome, RunError, Sink, Spawner, Stopwatch,
-    Task, Trial, WriteFault, run, run_here,
+    Arguments, Conclusion, Failed, FormatSetting, Outcome, RunError, Schedule, Sink, Spawner,
+    Stopwatch, Task, Trial, WriteFault, run, run_from_queue, run_here,
 };
 use mimic_testkit::{Fault, FaultyWriter, TwoReadings};
 use std::alloc::{AllocError, Global};
@@ -97,23 +97,37 @@ impl Left<FaultyWriter> {
     }
 }
 
-// By workers, as many as the arguments say, or else as there are processors.
+// How trials come to workers.
+pub(super) const SCHEDULES: [Schedule; 2] = [Schedule::Shares, Schedule::Queue];
+
+// How trials come to workers, and how many of these there are if the arguments leave it open.
+#[derive(Clone, Copy)]
+pub(super) struct Workers {
+    pub(super) schedule: Schedule,
+    pub(super) count: usize,
+}
+
+// By workers, as many as the arguments say, or else as there are.
 pub(super) fn run_in_workers<R: Task + Send + 'static, W: Write, T: Spawner + 'static>(
     rt: &T,
     alloc: Global,
     args: &Arguments,
     tests: Vec<Trial<R>>,
     writer: W,
-    processors: usize,
+    workers: Workers,
 ) -> Left<W>
     requires runnable { AllCanRun R.can_run tests.items }
-    requires some_thread { 1 ≤ processors }
+    requires some_thread { 1 ≤ workers.count }
 {
     let mut sink = Sink::new(writer);
     let mut watch = Stopwatch::new(TwoReadings::still());
-    let answer = run(
-        rt, alloc, args, tests, &mut sink, &mut watch, processors, false,
-    );
+    let count = workers.count;
+    let answer = match workers.schedule {
+        Schedule::Shares => run(rt, alloc, args, tests, &mut sink, &mut watch, count, false),
+        Schedule::Queue => run_from_queue(
+            rt, alloc, args, tests, &mut sink, &mut watch, count, false,
+        ),
+    };
     Left {
         answer,
         faults: sink.faults(),
@@ -142,7 +156,26 @@ fn run_in_place<R: Task, W: Write>(
     }
 }
 
-// By workers if the arguments give a number of threads, else by the calling thread.
+// By workers if the arguments give a number of threads, to which trials come by the schedule, else by the calling thread.
+pub(super) fn run_by<R: Task + Send + 'static, T: Spawner + 'static>(
+    rt: &T,
+    alloc: Global,
+    args: &Arguments,
+    tests: Vec<Trial<R>>,
+    writer: FaultyWriter,
+    schedule: Schedule,
+) -> Left<FaultyWriter>
+    requires { AllCanRun R.can_run tests.items }
+{
+    if args.test_threads.is_some() {
+        let workers = Workers { schedule, count: 1 };
+        run_in_workers(rt, alloc, args, tests, writer, workers)
+    } else {
+        run_in_place(alloc, args, tests, writer)
+    }
+}
+
+// The same by workers that have shares.
 pub(super) fn run_into<R: Task + Send + 'static, T: Spawner + 'static>(
     rt: &T,
     alloc: Global,
@@ -152,9 +185,5 @@ pub(super) fn run_into<R: Task + Send + 'static, T: Spawner + 'static>(
 ) -> Left<FaultyWriter>
     requires { AllCanRun R.can_run tests.items }
 {
-    if args.test_threads.is_some() {
-        run_in_workers(rt, alloc, args, tests, writer, 1)
-    } else {
-        run_in_place(alloc, args, tests, writer)
-    }
+    run_by(rt, alloc, args, tests, writer, Schedule::Shares)
 }

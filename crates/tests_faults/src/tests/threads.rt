@@ -1,7 +1,11 @@
-//! Runs in worker threads: that workers run at the same time, that rows come as trials end, and runs without a thread.
-use super::runs::{Left, asking, run_in_workers};
+//! Runs in worker threads: that workers run at the same time, which trials wait for others, that rows come as trials end, that each
+//! of many trials runs once, and runs without a thread.
+use super::runs::{Becomes, Left, SCHEDULES, Workers, asking, outcome_with, run_in_workers};
 use super::writers::TWO_PASSING;
-use libtest_mimic::{Arguments, Failed, FormatSetting, Outcome, RunError, Spawner, Task, Trial};
+use libtest_mimic::{
+    Arguments, Failed, FormatSetting, Measurement, Outcome, RunError, Schedule, Spawner, Task,
+    Trial,
+};
 use std::alloc::{AllocError, Global};
 use std::io::Write;
 use std::process::ExitCode;
@@ -13,13 +17,18 @@ use std::time::Duration;
 use std::{io, thread};
 
 // How often a trial looks for the others, a millisecond apart, before it gives up.
-const TURNS: u64 = 30_000;
+pub(super) const TURNS: u64 = 30_000;
 
 // How often a trial looks that is to give up.
 const FEW_TURNS: u64 = 100;
 
 // Whether the count reaches the number in time.
-fn reaches_in_time<M: Clock>(machine: &M, turns: u64, count: &AtomicU64, number: u64) -> bool {
+pub(super) fn reaches_in_time<M: Clock>(
+    machine: &M,
+    turns: u64,
+    count: &AtomicU64,
+    number: u64,
+) -> bool {
     for _ in 0..turns {
         if count.load(Ordering::SeqCst) >= number {
             return true;
@@ -74,71 +83,105 @@ fn meeting<M: Clock + Drop>(
     Ok(Trial::new(name, runner))
 }
 
-// Trials that all await one another: their names, and for how many turns.
+// The name of a trial that counts itself, the number that it awaits then, and for how many turns.
+type Meeting = (&'static str, u64, u64);
+
 fn that_meet<M: Clock + Copy + Drop>(
     machine: M,
     alloc: Global,
-    names: &[(&str, u64)],
+    meetings: &[Meeting],
 ) -> Result<Vec<Trial<Meets<M>>>, AllocError> {
     let count = new_count(alloc)?;
-    let awaited = names.len() as u64;
     let mut trials = Vec::new(alloc);
-    for (name, turns) in names {
-        trials.push(meeting(machine, alloc, name, *turns, &count, awaited)?)?;
+    for (name, awaited, turns) in meetings {
+        trials.push(meeting(machine, alloc, name, *turns, &count, *awaited)?)?;
     }
     Ok(trials)
 }
 
-const ONE: [(&str, u64); 1] = [("a", TURNS)];
+const ONE: &[Meeting] = &[("a", 1, TURNS)];
 
-static TWO: [(&str, u64); 2] = [("a", TURNS), ("b", TURNS)];
+const TWO: &[Meeting] = &[("a", 2, TURNS), ("b", 2, TURNS)];
 
-static THREE: [(&str, u64); 3] = [("a", TURNS), ("b", TURNS), ("c", TURNS)];
+const THREE: &[Meeting] = &[("a", 3, TURNS), ("b", 3, TURNS), ("c", 3, TURNS)];
 
-// What a run by so many threads leaves of trials that all await one another.
+// What a run by so many threads leaves of trials that count themselves.
 fn run_meeting<T: Spawner + Clock + 'static>(
     rt: &T,
     alloc: Global,
-    names: &[(&str, u64)],
+    meetings: &[Meeting],
+    schedule: Schedule,
     threads: usize,
     format: FormatSetting,
 ) -> Result<Left<Vec<u8>>, AllocError> {
     let args = asking(alloc, format, Some(threads));
-    let tests = that_meet(*rt, alloc, names)?;
-    Ok(run_in_workers(rt, alloc, &args, tests, Vec::new(alloc), 1))
+    let tests = that_meet(*rt, alloc, meetings)?;
+    let (bytes, workers) = (Vec::new(alloc), Workers { schedule, count: 1 });
+    Ok(run_in_workers(rt, alloc, &args, tests, bytes, workers))
 }
 
-// Whether all of these trials meet by so many threads.
-fn meet<T: Spawner + Clock + 'static>(
-    rt: &T,
-    alloc: Global,
-    names: &[(&str, u64)],
-    threads: usize,
-) -> Result<bool, AllocError> {
-    let left = run_meeting(rt, alloc, names, threads, FormatSetting::Pretty)?;
-    Ok(left.counts() == Some([names.len() as u64, 0, 0, 0, 0]))
-}
+// Trials that all await one another, and by how many threads.
+static MEETINGS: [(&[Meeting], usize); 4] = [(TWO, 2), (TWO, 20), (TWO, usize::MAX), (THREE, 3)];
 
 // As many workers as were asked for run at the same time.
 #[test]
 fn runs_as_many_as_asked(rt: HostRuntime) -> Result<(), Fail> {
-    assert!(rt; meet(&rt, rt.alloc(), &TWO, 2)?);
-    assert!(rt; meet(&rt, rt.alloc(), &TWO, 20)?);
-    assert!(rt; meet(&rt, rt.alloc(), &TWO, usize::MAX)?);
-    assert!(rt; meet(&rt, rt.alloc(), &THREE, 3)?);
+    let (alloc, format) = (rt.alloc(), FormatSetting::Pretty);
+    for schedule in SCHEDULES {
+        for (meetings, threads) in &MEETINGS {
+            let left = run_meeting(&rt, alloc, meetings, schedule, *threads, format)?;
+            let passed = meetings.len() as u64;
+            assert!(rt;
+                left.counts() == Some([passed, 0, 0, 0, 0]),
+                "{schedule:?} {threads}"
+            );
+        }
+    }
     Ok(())
 }
 
-static FIRST_GIVES_UP: [(&str, u64); 3] = [("a", FEW_TURNS), ("b", TURNS), ("c", TURNS)];
+const FIRST_GIVES_UP: &[Meeting] = &[("a", 3, FEW_TURNS), ("b", 3, TURNS), ("c", 3, TURNS)];
 
-// A trial without a worker waits its turn, and comes when the first one has given up.
+// Eight trials, the first of which awaits the others for so many turns.
+macro_rules! first_awaits {
+    ($turns:expr) => {
+        &[
+            ("a", 8, $turns),
+            ("b", 0, TURNS),
+            ("c", 0, TURNS),
+            ("d", 0, TURNS),
+            ("e", 0, TURNS),
+            ("f", 0, TURNS),
+            ("g", 0, TURNS),
+            ("h", 0, TURNS),
+        ]
+    };
+}
+
+// How trials come to two workers, the trials, and how many pass and fail. The first one of three awaits the last one, for which
+// there is no worker until it gives up. The first one of eight awaits all others: of those three have to wait for it in its
+// worker's share, and none in a queue.
+static WAITS: [(Schedule, &[Meeting], u64, u64); 4] = [
+    (Schedule::Shares, FIRST_GIVES_UP, 2, 1),
+    (Schedule::Queue, FIRST_GIVES_UP, 2, 1),
+    (Schedule::Shares, first_awaits!(FEW_TURNS), 7, 1),
+    (Schedule::Queue, first_awaits!(TURNS), 8, 0),
+];
+
 #[test]
 fn waits_for_a_worker(rt: HostRuntime) -> Result<(), Fail> {
-    let left = run_meeting(&rt, rt.alloc(), &FIRST_GIVES_UP, 2, FormatSetting::Pretty)?;
-    assert!(rt; left.counts() == Some([2, 1, 0, 0, 0]));
-    let report = str::from_utf8(&left.writer)?;
-    assert!(rt; report.contains("test a ... FAILED\n"));
-    assert!(rt; report.contains("---- a ----\nnot met\n"));
+    let (alloc, format) = (rt.alloc(), FormatSetting::Pretty);
+    for (schedule, meetings, passed, failed) in &WAITS {
+        let left = run_meeting(&rt, alloc, meetings, *schedule, 2, format)?;
+        assert!(rt;
+            left.counts() == Some([*passed, *failed, 0, 0, 0]),
+            "{schedule:?} {passed}"
+        );
+        let report = str::from_utf8(&left.writer)?;
+        let has_failed = *failed > 0;
+        assert!(rt; report.contains("test a ... FAILED\n") == has_failed);
+        assert!(rt; report.contains("---- a ----\nnot met\n") == has_failed);
+    }
     Ok(())
 }
 
@@ -169,16 +212,19 @@ impl Write for Raising {
 #[test]
 fn writes_a_row_when_its_trial_has_ended(rt: HostRuntime) -> Result<(), Fail> {
     let alloc = rt.alloc();
-    let count = new_count(alloc)?;
-    let mut tests = Vec::with_capacity(alloc, 2)?;
-    tests.push(meeting(rt, alloc, "a", TURNS, &new_count(alloc)?, 1)?)?;
-    tests.push(meeting(rt, alloc, "b", TURNS, &count, 2)?)?;
-    let writer = Raising {
-        line_ends: 0,
-        count,
-    };
-    let left = run_in_workers(&rt, alloc, &Arguments::new(alloc), tests, writer, 2);
-    assert!(rt; left.counts() == Some([2, 0, 0, 0, 0]));
+    for schedule in SCHEDULES {
+        let count = new_count(alloc)?;
+        let mut tests = Vec::with_capacity(alloc, 2)?;
+        tests.push(meeting(rt, alloc, "a", TURNS, &new_count(alloc)?, 1)?)?;
+        tests.push(meeting(rt, alloc, "b", TURNS, &count, 2)?)?;
+        let writer = Raising {
+            line_ends: 0,
+            count,
+        };
+        let (args, workers) = (Arguments::new(alloc), Workers { schedule, count: 2 });
+        let left = run_in_workers(&rt, alloc, &args, tests, writer, workers);
+        assert!(rt; left.counts() == Some([2, 0, 0, 0, 0]), "{schedule:?}");
+    }
     Ok(())
 }
 
@@ -237,16 +283,19 @@ fn that_sleep<M: Clock + Copy + Drop>(
 #[test]
 fn writes_rows_in_the_order_of_ends(rt: HostRuntime) -> Result<(), Fail> {
     let alloc = rt.alloc();
-    let writer = Slow {
-        machine: rt,
-        bytes: Vec::new(alloc),
-    };
-    let tests = that_sleep(rt, alloc)?;
-    let left = run_in_workers(&rt, alloc, &Arguments::new(alloc), tests, writer, 4);
-    assert!(rt; left.counts() == Some([4, 0, 0, 0, 0]));
-    let report = str::from_utf8(&left.writer.bytes)?;
-    let rows = "test b ... ok\ntest d ... ok\ntest a ... ok\ntest c ... ok\n";
-    assert!(rt; report.contains(rows));
+    for schedule in SCHEDULES {
+        let writer = Slow {
+            machine: rt,
+            bytes: Vec::new(alloc),
+        };
+        let tests = that_sleep(rt, alloc)?;
+        let (args, workers) = (Arguments::new(alloc), Workers { schedule, count: 4 });
+        let left = run_in_workers(&rt, alloc, &args, tests, writer, workers);
+        assert!(rt; left.counts() == Some([4, 0, 0, 0, 0]));
+        let report = str::from_utf8(&left.writer.bytes)?;
+        let rows = "test b ... ok\ntest d ... ok\ntest a ... ok\ntest c ... ok\n";
+        assert!(rt; report.contains(rows), "{schedule:?}");
+    }
     Ok(())
 }
 
@@ -259,52 +308,136 @@ fn are_pairs(bytes: &[u8]) -> bool {
 // report, in which the lines of each trial stand together, and the counts.
 #[test]
 fn keeps_pairs_of_lines_together(rt: HostRuntime) -> Result<(), Fail> {
-    for threads in [2, usize::MAX] {
-        let left = run_meeting(&rt, rt.alloc(), &TWO, threads, FormatSetting::Json)?;
-        assert!(rt; are_pairs(&left.writer));
-        assert!(rt; left.counts() == Some([2, 0, 0, 0, 0]));
-        assert!(rt; left.answer?.exit_code() == ExitCode::from(0));
+    let (alloc, format) = (rt.alloc(), FormatSetting::Json);
+    for schedule in SCHEDULES {
+        for threads in [2, usize::MAX] {
+            let left = run_meeting(&rt, alloc, TWO, schedule, threads, format)?;
+            assert!(rt; are_pairs(&left.writer));
+            assert!(rt; left.counts() == Some([2, 0, 0, 0, 0]));
+            assert!(rt; left.answer?.exit_code() == ExitCode::from(0));
+        }
     }
     Ok(())
 }
 
-// Passes if its number is even, and else fails.
-#[derive(Drop)]
-struct Numbered {
-    number: u64,
+// So many trials by so many workers, to which they come so, and how many of them pass, fail, are ignored and are measured.
+type Many = (Schedule, u64, usize, [u64; 4]);
+
+const QUARTERS: [u64; 4] = [2_500, 2_500, 2_500, 2_500];
+
+static MANY: [Many; 10] = [
+    (Schedule::Shares, 10_000, 1, QUARTERS),
+    (Schedule::Shares, 10_000, 2, QUARTERS),
+    (Schedule::Shares, 10_000, 4, QUARTERS),
+    (Schedule::Shares, 10_000, 16, QUARTERS),
+    (Schedule::Queue, 10_000, 1, QUARTERS),
+    (Schedule::Queue, 10_000, 2, QUARTERS),
+    (Schedule::Queue, 10_000, 4, QUARTERS),
+    (Schedule::Queue, 10_000, 16, QUARTERS),
+    (Schedule::Queue, 5_000, 5_000, [1_250, 1_250, 1_250, 1_250]),
+    (Schedule::Queue, 1, 2, [1, 0, 0, 0]),
+];
+
+// The trial of this number: of each four one passes, one fails with its number, one measures it, and one is ignored.
+fn trial_of(alloc: Global, number: u64) -> Result<Trial<Becomes>, AllocError> {
+    let text = format!(in alloc; "{number}")?;
+    let outcome = match number % 4 {
+        1 => outcome_with(alloc, Some(text.as_str()))?,
+        2 => Outcome::Measured(Measurement {
+            avg: number,
+            variance: 7,
+        }),
+        _ => Outcome::Passed,
+    };
+    Ok(Trial::new(text, Becomes(outcome)).with_ignored_flag(number % 4 == 3))
 }
 
-impl Task for Numbered {
-    fn run(self, _test_mode: bool) -> Outcome {
-        if self.number % 2 == 0 {
-            Outcome::Passed
-        } else {
-            Outcome::Failed(Failed::without_message())
-        }
-    }
-}
-
-// Ten thousand trials, of which each tenth is ignored.
-fn many_trials(alloc: Global) -> Result<Vec<Trial<Numbered>>, AllocError> {
-    let mut trials = Vec::with_capacity(alloc, 10_000)?;
-    for number in 0..10_000 {
-        let name = format!(in alloc; "{number:05}")?;
-        let ignored = number % 10 == 5;
-        trials.push(Trial::new(name, Numbered { number }).with_ignored_flag(ignored))?;
+fn many_trials(alloc: Global, count: u64) -> Result<Vec<Trial<Becomes>>, AllocError> {
+    let mut trials = Vec::new(alloc);
+    for number in 0..count {
+        trials.push(trial_of(alloc, number)?)?;
     }
     Ok(trials)
 }
 
-// Each of many trials is counted once, and the report has two lines for each, whatever the number of threads.
+// What a run of many trials leaves.
+fn run_many<T: Spawner + 'static>(
+    rt: &T,
+    alloc: Global,
+    many: &Many,
+) -> Result<Left<Vec<u8>>, AllocError> {
+    let (schedule, count, threads, _) = *many;
+    let args = asking(alloc, FormatSetting::Json, Some(threads));
+    let tests = many_trials(alloc, count)?;
+    let (bytes, workers) = (Vec::new(alloc), Workers { schedule, count: 1 });
+    Ok(run_in_workers(rt, alloc, &args, tests, bytes, workers))
+}
+
+// The two lines of the trial of this number.
+fn lines_of(alloc: Global, number: u64) -> Result<String, AllocError> {
+    let (kind, end) = match number % 4 {
+        0 => ("test", format!(in alloc; r#""event": "ok""#)?),
+        1 => (
+            "test",
+            format!(in alloc; r#""event": "failed", "stdout": "Error: \"{number}\"\n""#)?,
+        ),
+        2 => (
+            "bench",
+            format!(in alloc; r#""median": {number}, "deviation": 7"#)?,
+        ),
+        _ => ("test", format!(in alloc; r#""event": "ignored""#)?),
+    };
+    format!(in alloc;
+        r#"{{ "type": "test", "event": "started", "name": "{number}" }}
+{{ "type": "{kind}", "name": "{number}", {end} }}
+"#
+    )
+}
+
+// The report of many trials, in their order.
+fn report_of(alloc: Global, many: &Many) -> Result<String, AllocError> {
+    let (_, count, _, [passed, failed, ignored, measured]) = many;
+    let mut report = format!(in alloc;
+        r#"{{ "type": "suite", "event": "started", "test_count": {count} }}
+"#
+    )?;
+    for number in 0..*count {
+        report.push_str(lines_of(alloc, number)?.as_str())?;
+    }
+    let event = if *failed > 0 { "failed" } else { "ok" };
+    let summary = format!(in alloc;
+        r#"{{ "type": "suite", "event": "{event}", "passed": {passed}, "failed": {failed}, "ignored": {ignored}, "measured": {measured}, "filtered_out": 0, "exec_time": 0 }}
+"#
+    )?;
+    report.push_str(summary.as_str())?;
+    Ok(report)
+}
+
+fn sorted_lines(alloc: Global, report: &str) -> Result<Vec<&str>, AllocError> {
+    let mut lines = Vec::new(alloc);
+    for line in report.lines() {
+        lines.push(line)?;
+    }
+    lines.sort()?;
+    Ok(lines)
+}
+
+// Whether the bytes have the lines of the report, in any order.
+fn has_lines_of(alloc: Global, bytes: &[u8], report: &str) -> Result<bool, Fail> {
+    let lines = sorted_lines(alloc, str::from_utf8(bytes)?)?;
+    let expected = sorted_lines(alloc, report)?;
+    Ok(lines == expected)
+}
+
+// Each of many trials runs once, whatever the number of threads: the report has the lines of each once, with its own outcome.
 #[test]
-fn counts_each_of_many(rt: HostRuntime) -> Result<(), Fail> {
+fn runs_each_of_many_once(rt: HostRuntime) -> Result<(), Fail> {
     let alloc = rt.alloc();
-    let args = asking(alloc, FormatSetting::Json, None);
-    for processors in [1, 2, 4, 16] {
-        let tests = many_trials(alloc)?;
-        let left = run_in_workers(&rt, alloc, &args, tests, Vec::new(alloc), processors);
-        assert!(rt; left.counts() == Some([5_000, 4_000, 1_000, 0, 0]));
-        assert!(rt; str::from_utf8(&left.writer)?.lines().count() == 20_002);
+    for many in &MANY {
+        let left = run_many(&rt, alloc, many)?;
+        let expected = report_of(alloc, many)?;
+        let is_same = has_lines_of(alloc, &left.writer, expected.as_str())?;
+        assert!(rt; is_same, "{many:?}");
     }
     Ok(())
 }
@@ -312,7 +445,7 @@ fn counts_each_of_many(rt: HostRuntime) -> Result<(), Fail> {
 // The trials for so many threads, a filter, and whether a list is asked; what is counted unless there are no
 // threads for a trial, and what is written.
 struct Row {
-    names: &'static [(&'static str, u64)],
+    meetings: &'static [Meeting],
     threads: usize,
     filter: Option<&'static str>,
     list: bool,
@@ -323,7 +456,7 @@ struct Row {
 // Without a thread: a trial, no trial, a trial that is filtered out, and a list. With one the trial runs.
 static ROWS: [Row; 5] = [
     Row {
-        names: &ONE,
+        meetings: ONE,
         threads: 0,
         filter: None,
         list: false,
@@ -331,7 +464,7 @@ static ROWS: [Row; 5] = [
         text: "",
     },
     Row {
-        names: &[],
+        meetings: &[],
         threads: 0,
         filter: None,
         list: false,
@@ -339,7 +472,7 @@ static ROWS: [Row; 5] = [
         text: "\nrunning 0 tests\n\ntest result: ok. 0 passed; 0 failed; 0 ignored; 0 measured; 0 filtered out; finished in 0.00s\n\n",
     },
     Row {
-        names: &ONE,
+        meetings: ONE,
         threads: 1,
         filter: None,
         list: false,
@@ -347,7 +480,7 @@ static ROWS: [Row; 5] = [
         text: "\nrunning 1 test\ntest a ... ok\n\ntest result: ok. 1 passed; 0 failed; 0 ignored; 0 measured; 0 filtered out; finished in 0.00s\n\n",
     },
     Row {
-        names: &ONE,
+        meetings: ONE,
         threads: 0,
         filter: Some("z"),
         list: false,
@@ -355,7 +488,7 @@ static ROWS: [Row; 5] = [
         text: "\nrunning 0 tests\n\ntest result: ok. 0 passed; 0 failed; 0 ignored; 0 measured; 1 filtered out; finished in 0.00s\n\n",
     },
     Row {
-        names: &ONE,
+        meetings: ONE,
         threads: 0,
         filter: None,
         list: true,
@@ -369,25 +502,29 @@ fn run_row<T: Spawner + Clock + 'static>(
     rt: &T,
     alloc: Global,
     row: &Row,
+    schedule: Schedule,
 ) -> Result<Left<Vec<u8>>, AllocError> {
     let mut args = asking(alloc, FormatSetting::Pretty, Some(row.threads));
     args.list = row.list;
     if let Some(filter) = row.filter {
         args.filter.push(String::from_str(alloc, filter)?)?;
     }
-    let tests = that_meet(*rt, alloc, row.names)?;
-    Ok(run_in_workers(rt, alloc, &args, tests, Vec::new(alloc), 4))
+    let tests = that_meet(*rt, alloc, row.meetings)?;
+    let (bytes, workers) = (Vec::new(alloc), Workers { schedule, count: 4 });
+    Ok(run_in_workers(rt, alloc, &args, tests, bytes, workers))
 }
 
 #[test]
 fn wants_a_thread_for_a_trial(rt: HostRuntime) -> Result<(), Fail> {
-    for row in &ROWS {
-        let left = run_row(&rt, rt.alloc(), row)?;
-        let is_refused = matches!(left.answer, Err(RunError::ZeroThreads));
-        assert!(rt; left.counts() == row.counts);
-        assert!(rt; is_refused == row.counts.is_none());
-        assert!(rt; left.is_running || !is_refused);
-        assert!(rt; left.writer.as_slice() == row.text.as_bytes());
+    for schedule in SCHEDULES {
+        for row in &ROWS {
+            let left = run_row(&rt, rt.alloc(), row, schedule)?;
+            let is_refused = matches!(left.answer, Err(RunError::ZeroThreads));
+            assert!(rt; left.counts() == row.counts);
+            assert!(rt; is_refused == row.counts.is_none());
+            assert!(rt; left.is_running || !is_refused);
+            assert!(rt; left.writer.as_slice() == row.text.as_bytes());
+        }
     }
     Ok(())
 }

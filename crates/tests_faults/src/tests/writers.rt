@@ -2,9 +2,9 @@
 ghost use Rattle.std.specs.Prelude.{◌^◌, ◌<◌};
 
 use super::faulty_writer::{FAULTS, FULL};
-use super::in_both_orders;
-use super::runs::{Left, asking, outcome_with, run_into};
-use libtest_mimic::{FormatSetting, Outcome, Sink, Spawner, Task, Trial, WriteFault};
+use super::runs::{Left, SCHEDULES, asking, outcome_with, run_by};
+use super::{in_all_orders, in_both_orders};
+use libtest_mimic::{FormatSetting, Outcome, Schedule, Sink, Spawner, Task, Trial, WriteFault};
 use mimic_testkit::{Fault, FaultyWriter, Place};
 use std::alloc::{AllocError, Global};
 use std::io::ErrorKind;
@@ -21,78 +21,95 @@ pub(super) const TWO_PASSING: [&str; 2] = in_both_orders!(
     "{ \"type\": \"suite\", \"event\": \"ok\", \"passed\": 2, \"failed\": 0, \"ignored\": 0, \"measured\": 0, \"filtered_out\": 0, \"exec_time\": 0 }\n"
 );
 
-// A report of two tests, the second of which passes or fails with a message: its text, and that in which its rows stand the
-// other way round; where its rows begin; after how many bytes each test runs with one thread, which is where its announcement
+// A report of some tests, the last of which passes or fails with a message: its text, and those in which its rows stand in
+// another order; where its rows begin; after how many bytes each test runs with one thread, which is where its announcement
 // has ended; where its summary begins, and where it ends.
 #[derive(Clone, Copy)]
 struct Report {
     format: FormatSetting,
-    names: [&'static str; 2],
+    names: &'static [&'static str],
     message: Option<&'static str>,
-    texts: [&'static str; 2],
+    texts: &'static [&'static str],
     rows_at: usize,
-    runs_at: [usize; 2],
+    runs_at: &'static [usize],
     summary_at: usize,
     len: usize,
 }
 
 const PRETTY: Report = Report {
     format: FormatSetting::Pretty,
-    names: ["succeeding_test", "failing_test"],
+    names: &["succeeding_test", "failing_test"],
     message: Some("Woops"),
-    texts: in_both_orders!(
+    texts: &in_both_orders!(
         "\nrunning 2 tests\n",
         "test succeeding_test ... ok\n",
         "test failing_test    ... FAILED\n",
         "\nfailures:\n\n---- failing_test ----\nWoops\n\n\nfailures:\n    failing_test\n\ntest result: FAILED. 1 passed; 1 failed; 0 ignored; 0 measured; 0 filtered out; finished in 0.00s\n\n"
     ),
     rows_at: 17,
-    runs_at: [42, 70],
+    runs_at: &[42, 70],
     summary_at: 147,
     len: 247,
 };
 
 const TERSE: Report = Report {
     format: FormatSetting::Terse,
-    names: ["succeeding_test", "failing_test"],
+    names: &["succeeding_test", "failing_test"],
     message: Some("Woops"),
-    texts: in_both_orders!(
+    texts: &in_both_orders!(
         "\nrunning 2 tests\n",
         ".",
         "F",
         "\nfailures:\n\n---- failing_test ----\nWoops\n\n\nfailures:\n    failing_test\n\ntest result: FAILED. 1 passed; 1 failed; 0 ignored; 0 measured; 0 filtered out; finished in 0.00s\n\n"
     ),
     rows_at: 17,
-    runs_at: [17, 18],
+    runs_at: &[17, 18],
     summary_at: 89,
     len: 189,
 };
 
 const JSON: Report = Report {
     format: FormatSetting::Json,
-    names: ["succeeding_test", "failing_test"],
+    names: &["succeeding_test", "failing_test"],
     message: Some("Woops"),
-    texts: in_both_orders!(
+    texts: &in_both_orders!(
         "{ \"type\": \"suite\", \"event\": \"started\", \"test_count\": 2 }\n",
         "{ \"type\": \"test\", \"event\": \"started\", \"name\": \"succeeding_test\" }\n{ \"type\": \"test\", \"name\": \"succeeding_test\", \"event\": \"ok\" }\n",
         "{ \"type\": \"test\", \"event\": \"started\", \"name\": \"failing_test\" }\n{ \"type\": \"test\", \"name\": \"failing_test\", \"event\": \"failed\", \"stdout\": \"Error: \\\"Woops\\\"\\n\" }\n",
         "{ \"type\": \"suite\", \"event\": \"failed\", \"passed\": 1, \"failed\": 1, \"ignored\": 0, \"measured\": 0, \"filtered_out\": 0, \"exec_time\": 0 }\n"
     ),
     rows_at: 57,
-    runs_at: [123, 247],
+    runs_at: &[123, 247],
     summary_at: 341,
     len: 470,
 };
 
 const JSON_OF_PASSING: Report = Report {
     format: FormatSetting::Json,
-    names: ["a", "b"],
+    names: &["a", "b"],
     message: None,
-    texts: TWO_PASSING,
+    texts: &TWO_PASSING,
     rows_at: 57,
-    runs_at: [109, 208],
+    runs_at: &[109, 208],
     summary_at: 255,
     len: 380,
+};
+
+const THREE: Report = Report {
+    format: FormatSetting::Pretty,
+    names: &["a", "b", "c"],
+    message: Some("Woops"),
+    texts: &in_all_orders!(
+        "\nrunning 3 tests\n",
+        "test a ... ok\n",
+        "test b ... ok\n",
+        "test c ... FAILED\n",
+        "\nfailures:\n\n---- c ----\nWoops\n\n\nfailures:\n    c\n\ntest result: FAILED. 2 passed; 1 failed; 0 ignored; 0 measured; 0 filtered out; finished in 0.00s\n\n"
+    ),
+    rows_at: 17,
+    runs_at: &[28, 42, 56],
+    summary_at: 111,
+    len: 211,
 };
 
 // Adds its weight to those of the trials that ran, and becomes its outcome.
@@ -128,72 +145,101 @@ fn marking(
     Ok(Trial::new(name, runner))
 }
 
-// The weights of the two tests.
+// The weights of the tests.
+const WEIGHTS: [u64; 3] = [1, 2, 4];
+
 const FIRST: u64 = 1;
 
-const SECOND: u64 = 2;
+const BOTH: u64 = 3;
 
-const BOTH: u64 = FIRST + SECOND;
+// The sums of the weights of the first tests, by how many these are.
+const SUMS: [u64; 4] = [0, FIRST, BOTH, 7];
 
-fn two_tests(
+fn sum_of(count: usize) -> Option<u64> {
+    SUMS.get(count).copied()
+}
+
+// The tests of the report. The last one has its message.
+fn tests_of(
     alloc: Global,
     report: &Report,
     ran: &Arc<AtomicU64>,
 ) -> Result<Vec<Trial<Marks>>, AllocError> {
-    let mut tests = Vec::with_capacity(alloc, 2)?;
-    tests.push(marking(alloc, report.names[0], FIRST, ran, None)?)?;
-    tests.push(marking(alloc, report.names[1], SECOND, ran, report.message)?)?;
+    let mut tests = Vec::with_capacity(alloc, report.names.len())?;
+    for (name, weight) in report.names.iter().zip(&WEIGHTS) {
+        let is_last = report.names.last() == Some(name);
+        let message = if is_last { report.message } else { None };
+        tests.push(marking(alloc, name, *weight, ran, message)?)?;
+    }
     Ok(tests)
 }
 
-// What a run of the two tests leaves, and the sum of the weights of those that ran.
-fn run_two<T: Spawner + 'static>(
-    rt: &T,
-    alloc: Global,
-    report: &Report,
-    threads: Option<usize>,
-    writer: FaultyWriter,
-) -> Result<(Left<FaultyWriter>, u64), AllocError> {
-    let args = asking(alloc, report.format, threads);
-    let ran = Arc::new(alloc, AtomicU64::new(0))?;
-    let tests = two_tests(alloc, report, &ran)?;
-    let left = run_into(rt, alloc, &args, tests, writer);
-    Ok((left, ran.load(Ordering::SeqCst)))
-}
-
-// Whether the bytes are a beginning of the report, with its rows in either order.
-fn begin_one(report: &Report, bytes: &[u8]) -> bool {
-    report.texts[0].as_bytes().starts_with(bytes) || report.texts[1].as_bytes().starts_with(bytes)
-}
-
-// A report, the most bytes that a write takes, and the number of threads.
+// A report, the most bytes that a write takes, the number of threads, and how trials come to them if they are more than one.
+#[derive(Clone, Copy)]
 struct Run {
     report: Report,
     most: usize,
     threads: Option<usize>,
+    schedule: Schedule,
 }
 
-// The weights of the tests that ran if so many bytes were written. Both run by workers once the title is written.
-fn weights_at(run: &Run, len: usize) -> u64 {
-    let report = &run.report;
-    let runs_at = match run.threads {
-        Some(2) => [report.rows_at, report.rows_at],
-        _ => report.runs_at,
+// What the run leaves, and the sum of the weights of the tests that ran. There is none unless all workers have ended: then
+// nobody else has the count.
+fn run_tests<T: Spawner + 'static>(
+    rt: &T,
+    alloc: Global,
+    run: &Run,
+    writer: FaultyWriter,
+) -> Result<(Left<FaultyWriter>, Option<u64>), AllocError> {
+    let args = asking(alloc, run.report.format, run.threads);
+    let ran = Arc::new(alloc, AtomicU64::new(0))?;
+    let tests = tests_of(alloc, &run.report, &ran)?;
+    let left = run_by(rt, alloc, &args, tests, writer, run.schedule);
+    let sum = match Arc::into_inner(ran) {
+        Some(ran) => Some(ran.load(Ordering::SeqCst)),
+        None => None,
     };
-    if len >= runs_at[1] {
-        BOTH
-    } else if len >= runs_at[0] {
-        FIRST
-    } else {
-        0
-    }
+    Ok((left, sum))
 }
 
-// Whether the bytes are a beginning of the report. By workers its rows may stand in either order.
-fn stand(run: &Run, bytes: &[u8]) -> bool {
-    match run.threads {
-        Some(2) => begin_one(&run.report, bytes),
-        _ => run.report.texts[0].as_bytes().starts_with(bytes),
+impl Run {
+    fn has_workers(&self) -> bool {
+        self.threads.unwrap_or(1) > 1
+    }
+
+    // Whether the bytes are a beginning of the report. By workers its rows may stand in any order.
+    fn begins_with(&self, bytes: &[u8]) -> bool {
+        let texts = self.report.texts;
+        let orders = if self.has_workers() { texts.len() } else { 1 };
+        let mut begins = false;
+        for text in texts.iter().take(orders) {
+            begins = begins || text.as_bytes().starts_with(bytes);
+        }
+        begins
+    }
+
+    // How many tests have begun with one thread if so many bytes were written.
+    fn begun_at(&self, len: usize) -> usize {
+        let mut count: usize = 0;
+        for runs_at in self.report.runs_at {
+            count = count.saturating_add(usize::from(*runs_at <= len));
+        }
+        count
+    }
+
+    // Whether those tests ran that are to if so many bytes were written. By workers all run once the title is written; but those
+    // that no worker has taken from a queue are not run if the writer fails before all rows are written.
+    fn may_have_run(&self, len: usize, sum: Option<u64>) -> bool {
+        let report = &self.report;
+        let all = sum_of(report.names.len());
+        if !self.has_workers() {
+            return sum == sum_of(self.begun_at(len));
+        }
+        if len < report.rows_at {
+            return sum == Some(0);
+        }
+        let may_be_fewer = self.schedule == Schedule::Queue && len < report.summary_at;
+        sum == all || may_be_fewer && sum.is_some() && Some(0) < sum && sum < all
     }
 }
 
@@ -208,14 +254,14 @@ fn stops_at<T: Spawner + 'static>(
 ) -> Result<bool, AllocError> {
     let report = &run.report;
     let fault = (room < report.len).then_some(writer.fault);
-    let (left, ran) = run_two(rt, alloc, report, run.threads, writer)?;
+    let (left, sum) = run_tests(rt, alloc, run, writer)?;
     let bytes = left.writer.bytes.as_slice();
     Ok(
         left.is_stopped_by(fault)
             && bytes.len() == room
-            && stand(run, bytes)
+            && run.begins_with(bytes)
             && left.is_running == (room < report.summary_at)
-            && ran == weights_at(run, room),
+            && run.may_have_run(room, sum),
     )
 }
 
@@ -243,7 +289,9 @@ fn check_faults<T: Spawner + Abort + 'static>(
     alloc: Global,
     run: &Run,
 ) -> Result<(), AllocError> {
-    assert!(rt; run.report.texts[0].len() == run.report.len);
+    for text in run.report.texts {
+        assert!(rt; text.len() == run.report.len);
+    }
     if run.most == 1 {
         return check_each_byte(rt, alloc, run, FULL, false);
     }
@@ -255,10 +303,14 @@ fn check_faults<T: Spawner + Abort + 'static>(
 
 macro_rules! run {
     ($report:expr, $most:expr, $threads:expr) => {
+        run!($report, $most, $threads, Schedule::Shares)
+    };
+    ($report:expr, $most:expr, $threads:expr, $schedule:expr) => {
         Run {
             report: $report,
             most: $most,
             threads: $threads,
+            schedule: $schedule,
         }
     };
 }
@@ -283,16 +335,24 @@ fn stops_at_each_byte(rt: HostRuntime) -> Result<(), Fail> {
     Ok(())
 }
 
-static BY_WORKERS: [Run; 5] = [
-    run!(PRETTY, 1, Some(2)),
-    run!(PRETTY, usize::MAX, Some(2)),
-    run!(TERSE, 1, Some(2)),
-    run!(JSON_OF_PASSING, 1, Some(2)),
-    run!(JSON_OF_PASSING, usize::MAX, Some(2)),
+static BY_WORKERS: [Run; 13] = [
+    run!(PRETTY, 1, Some(2), Schedule::Shares),
+    run!(PRETTY, usize::MAX, Some(2), Schedule::Shares),
+    run!(TERSE, 1, Some(2), Schedule::Shares),
+    run!(JSON_OF_PASSING, 1, Some(2), Schedule::Shares),
+    run!(JSON_OF_PASSING, usize::MAX, Some(2), Schedule::Shares),
+    run!(THREE, usize::MAX, Some(3), Schedule::Shares),
+    run!(PRETTY, 1, Some(2), Schedule::Queue),
+    run!(PRETTY, usize::MAX, Some(2), Schedule::Queue),
+    run!(TERSE, 1, Some(2), Schedule::Queue),
+    run!(JSON_OF_PASSING, 1, Some(2), Schedule::Queue),
+    run!(JSON_OF_PASSING, usize::MAX, Some(2), Schedule::Queue),
+    run!(THREE, 1, Some(3), Schedule::Queue),
+    run!(THREE, usize::MAX, Some(3), Schedule::Queue),
 ];
 
-// With two workers the rows stand in the one order or the other; all else is as with one thread, but both tests run once
-// the title is written.
+// With two or three workers the rows stand in any order; all else is as with one thread, but all tests run once the title is
+// written, or from a queue those that workers have taken.
 #[test]
 fn stops_workers_at_each_byte(rt: HostRuntime) -> Result<(), Fail> {
     for run in &BY_WORKERS {
@@ -345,14 +405,15 @@ fn stops_at_flush<T: Spawner + 'static>(
     threads: Option<usize>,
 ) -> Result<bool, AllocError> {
     let writer = FaultyWriter::new(alloc).failing(Place::Flush(flush.number), fault);
-    let (left, ran) = run_two(rt, alloc, &flush.report, threads, writer)?;
+    let run = run!(flush.report, usize::MAX, threads);
+    let (left, sum) = run_tests(rt, alloc, &run, writer)?;
     let bytes = left.writer.bytes.as_slice();
     Ok(
         left.is_stopped_by(Some(fault))
             && bytes.len() == flush.len
-            && flush.report.texts[0].as_bytes().starts_with(bytes)
+            && run.begins_with(bytes)
             && left.is_running == (flush.len < flush.report.summary_at)
-            && ran == flush.ran,
+            && sum == Some(flush.ran),
     )
 }
 
@@ -368,25 +429,25 @@ fn stops_at_each_flush(rt: HostRuntime) -> Result<(), Fail> {
 }
 
 // Whether a run by two workers is stopped by the flush of this number, if there are so many. Behind a flush that fails
-// nothing is written, and both tests run.
+// nothing is written.
 fn stops_workers<T: Spawner + 'static>(
     rt: &T,
     alloc: Global,
-    report: &Report,
+    run: &Run,
     fault: Fault,
     number: u64,
     flushes: u64,
 ) -> Result<bool, AllocError> {
     let writer = FaultyWriter::new(alloc).failing(Place::Flush(number), fault);
-    let (left, ran) = run_two(rt, alloc, report, Some(2), writer)?;
+    let (left, sum) = run_tests(rt, alloc, run, writer)?;
     let bytes = left.writer.bytes.as_slice();
-    let is_whole = bytes.len() == report.len;
+    let is_whole = bytes.len() == run.report.len;
     Ok(
         left.is_stopped_by((number <= flushes).then_some(fault))
-            && begin_one(report, bytes)
+            && run.begins_with(bytes)
             && is_whole == (number >= flushes)
             && (is_whole || bytes.ends_with(b" ... "))
-            && ran == BOTH,
+            && run.may_have_run(bytes.len(), sum),
     )
 }
 
@@ -395,14 +456,14 @@ fn stops_workers<T: Spawner + 'static>(
 fn check_flushes<T: Spawner + Abort + 'static>(
     rt: &T,
     alloc: Global,
-    report: &Report,
+    run: &Run,
     flushes: u64,
 ) -> Result<(), AllocError>
     requires { flushes < 2 ^ 32 }
 {
     for fault in FLUSH_FAULTS {
         for number in 1..=flushes + 1 {
-            assert!(rt; stops_workers(rt, alloc, report, fault, number, flushes)?);
+            assert!(rt; stops_workers(rt, alloc, run, fault, number, flushes)?);
         }
     }
     Ok(())
@@ -410,9 +471,12 @@ fn check_flushes<T: Spawner + Abort + 'static>(
 
 #[test]
 fn stops_workers_at_each_flush(rt: HostRuntime) -> Result<(), Fail> {
-    check_flushes(&rt, rt.alloc(), &PRETTY, 3)?;
-    check_flushes(&rt, rt.alloc(), &TERSE, 1)?;
-    check_flushes(&rt, rt.alloc(), &JSON_OF_PASSING, 1)?;
+    for schedule in SCHEDULES {
+        for (report, flushes) in [(PRETTY, 3), (TERSE, 1), (JSON_OF_PASSING, 1)] {
+            let run = run!(report, usize::MAX, Some(2), schedule);
+            check_flushes(&rt, rt.alloc(), &run, flushes)?;
+        }
+    }
     Ok(())
 }
 

@@ -1,10 +1,11 @@
 //! An inbox: workers that report to one board, and a thread that takes.
-ghost use Rattle.std.specs.Prelude.{All};
-ghost use Rattle.mimic_pool.specs.Share.{AllRunners};
+ghost use Rattle.std.specs.Prelude.{◌≤◌, IfOk, List, length};
+ghost use Rattle.mimic_pool.specs.Supply.{Holds};
+ghost use Rattle.mimic_pool.specs.declared.share.Assigned.{Assigned};
 
 use super::{Plain, numbered};
 use mimic_pool::{
-    Desk, Inbox, Reports, Rows, Share, Untold, deal, join_all, prepare, put_joined, start_all,
+    Desk, Inbox, Reports, Rows, Schedule, Supply, Untold, join_all, put_joined, start_all,
 };
 use mimic_trial::{Failed, Outcome, Task};
 use std::alloc::{AllocError, Global};
@@ -119,54 +120,109 @@ impl Task for Awaits {
     }
 }
 
-// Runs the shares of two workers, and returns the rows in the order in which they were taken, and what the workers returned.
-// `taken` counts the rows.
-fn rows_taken<T: Task + Send + 'static, R: Threads + Wait + Copy + Drop + Send + 'static>(
+// A supply of so many tasks for two workers, none of which is ignored.
+fn supply_of<T: Task, R: Wait, F: Fn(usize) -> Result<T, AllocError>>(
     rt: &R,
     alloc: Global,
-    shares: Vec<Share<T>>,
+    schedule: Schedule,
     trials: usize,
+    task: F,
+) -> Result<Supply<T>, AllocError>
+    requires made { F.IsAlwaysCallable task }
+    requires runnable { (made : T) → T.can_run made }
+    ensures { IfOk result (λ supply. (held : List (Assigned T)) × (length held ≤ trials) × Holds T.can_run supply held) }
+{
+    let mut supply = Supply::new(alloc, schedule, trials, 2)?;
+    for place in 0..trials {
+        supply.put(rt, place, task(place)?, false)?;
+    }
+    Ok(supply)
+}
+
+// Runs so many tasks by two workers, and returns the rows in the order in which they were taken, and what the workers returned.
+// `taken` counts the rows.
+fn rows_taken<
+    T: Task + Send + 'static,
+    R: Threads + Wait + Copy + Drop + Send + 'static,
+    F: Fn(usize) -> Result<T, AllocError>,
+>(
+    rt: &R,
+    alloc: Global,
+    schedule: Schedule,
+    trials: usize,
+    task: F,
     taken: &AtomicU64,
 ) -> Result<(Vec<(usize, Outcome)>, Vec<Rows>), Fail>
-    requires { All (λ share. AllRunners T.can_run share) shares.items }
+    requires made { F.IsAlwaysCallable task }
+    requires runnable { (made : T) → T.can_run made }
 {
-    let mut inbox = Inbox::new(alloc, trials, shares.len())?;
-    let handles = Vec::with_capacity(alloc, shares.len())?;
     let mut rows = Vec::with_capacity(alloc, trials)?;
-    let starts = prepare(alloc, shares, &inbox)?;
-    let Ok(handles) = start_all(rt, alloc, starts, true, handles) else {
+    let supply = supply_of(rt, alloc, schedule, trials, task)?;
+    let (mut inbox, starts) = supply.prepare(rt, alloc, trials)?;
+    let Some(crew) = start_all(rt, alloc, starts, true) else {
         return Err(Fail::new("a worker could not be started"));
     };
     for _ in rt.forever() {
         let Some(row) = inbox.next(rt) else {
             break;
         };
-        rows.push(row)?;
+        // There is room for each, and one that were lost here would be missed.
+        let _ = rows.push(row);
         taken.fetch_add(1, Ordering::SeqCst);
     }
-    let joined = Vec::with_capacity(alloc, handles.len())?;
-    Ok((rows, join_all(rt, handles, joined)))
+    Ok((rows, join_all(rt, crew, true)))
 }
 
-// The shares of two workers of so many tasks, each of which returns the number of its place. A task at a multiple of `step`
-// ends once as many rows were taken as there are lower places.
-fn shares_of(
-    alloc: Global,
+// How tasks come to two workers, how many there are, and which of them await rows: the one at a multiple of `step` ends once
+// as many rows were taken as there are lower places.
+#[derive(Clone, Copy)]
+struct Asked {
+    schedule: Schedule,
     trials: usize,
     step: usize,
-    taken: &Arc<AtomicU64>,
-) -> Result<Vec<Share<Awaits>>, AllocError> {
-    let mut tasks = Vec::with_capacity(alloc, trials)?;
-    for place in 0..trials {
-        let rows = match place.checked_rem(step) {
+}
+
+impl Asked {
+    // The task at the place, which returns its number.
+    fn task(
+        &self,
+        alloc: Global,
+        place: usize,
+        taken: &Arc<AtomicU64>,
+    ) -> Result<Awaits, AllocError> {
+        let rows = match place.checked_rem(self.step) {
             Some(0) => place as u64,
             _ => 0,
         };
         let taken = Arc::try_clone(taken)?;
-        tasks.push(Awaits { taken, rows, place })?;
+        Ok(Awaits { taken, rows, place })
     }
-    let flags = vec![in alloc; false; tasks.len()]?;
-    deal(alloc, tasks, flags, 2)
+}
+
+// Whether these are the rows of so many places, each once and with its number.
+fn are_whole(alloc: Global, rows: &[(usize, Outcome)], trials: usize) -> Result<bool, AllocError> {
+    let mut came = vec![in alloc; false; trials]?;
+    let mut same = rows.len() == trials;
+    for (place, outcome) in rows {
+        let is_first = came.get(*place) == Some(&false);
+        same = same && is_first && *outcome == numbered(*place);
+        if is_first {
+            came[*place] = true;
+        }
+    }
+    Ok(same)
+}
+
+// Whether each of two workers reported the rows of its share in their order.
+fn are_in_order(rows: &[(usize, Outcome)]) -> bool {
+    let mut next = [0, 1];
+    let mut same = true;
+    for (place, _) in rows {
+        let worker = place % 2;
+        same = same && *place == next[worker];
+        next[worker] = place.saturating_add(2);
+    }
+    same
 }
 
 // Whether a desk has all that the workers returned, once the rows have arrived.
@@ -197,45 +253,53 @@ fn are_numbered(alloc: Global, joined: Vec<Rows>, trials: usize) -> Result<bool,
     Ok(same)
 }
 
-// Each row comes once, with its own outcome, and those of a worker in order, and the workers return the same.
+// Each row comes once, with its own outcome, and those of a share in order, and the workers return the same.
 fn check_rows<R: Threads + Wait + Abort + Copy + Drop + Send + 'static>(
     rt: &R,
     alloc: Global,
-    trials: usize,
-    step: usize,
+    asked: Asked,
 ) -> Result<(), Fail> {
+    let trials = asked.trials;
     let taken = Arc::new(alloc, AtomicU64::new(0))?;
-    let shares = shares_of(alloc, trials, step, &taken)?;
-    let (rows, joined) = rows_taken(rt, alloc, shares, trials, &taken)?;
-    let mut next = [0, 1];
-    for (place, outcome) in &rows {
-        let worker = place % 2;
-        assert_eq!(rt; *place, next[worker]);
-        assert!(rt; *outcome == numbered(*place));
-        next[worker] = place.saturating_add(2);
-    }
-    assert_eq!(rt; next, [trials, trials.saturating_add(1)]);
+    let task = |place: usize| asked.task(alloc, place, &taken);
+    let (rows, joined) = rows_taken(rt, alloc, asked.schedule, trials, task, &taken)?;
+    assert!(rt; are_whole(alloc, &rows, trials)?);
+    assert!(rt; asked.schedule == Schedule::Queue || are_in_order(&rows));
     assert!(rt; has_all(alloc, rows, &joined, trials)?);
     assert!(rt; are_numbered(alloc, joined, trials)?);
     Ok(())
 }
 
+static SCHEDULES: [Schedule; 2] = [Schedule::Shares, Schedule::Queue];
+
 // Two workers report as fast as they can.
 #[test]
 fn two_workers_lose_nothing(rt: HostRuntime) -> Result<(), Fail> {
-    for _round in 0..100 {
-        check_rows(&rt, rt.alloc(), 600, 600)?;
+    for round in 0..200 {
+        let asked = Asked {
+            schedule: SCHEDULES[round % 2],
+            trials: 600,
+            step: 600,
+        };
+        check_rows(&rt, rt.alloc(), asked)?;
     }
     Ok(())
 }
 
-// Each task, each of one worker, or each third awaits as many rows as there are lower places, so the taking thread is often
-// asleep when one ends, or about to be. A wake-up that is lost leaves it asleep while rows wait. Then a task waits in vain,
+// Each task, each of one worker's share, or each third awaits as many rows as there are lower places, so the taking thread is
+// often asleep when one ends, or about to be. A wake-up that is lost leaves it asleep while rows wait. Then a task waits in vain,
 // and fails.
 #[test]
 fn no_wake_up_is_lost(rt: HostRuntime) -> Result<(), Fail> {
-    for step in [1, 2, 3] {
-        check_rows(&rt, rt.alloc(), 6_000, step)?;
+    for schedule in SCHEDULES {
+        for step in [1, 2, 3] {
+            let asked = Asked {
+                schedule,
+                trials: 6_000,
+                step,
+            };
+            check_rows(&rt, rt.alloc(), asked)?;
+        }
     }
     Ok(())
 }

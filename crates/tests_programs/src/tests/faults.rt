@@ -2,7 +2,7 @@
 use libtest_mimic::{
     Arguments, Conclusion, Failed, FormatSetting, Outcome, RunError, Sink, Task, Trial, WriteFault,
 };
-use mimic_main::{FlushPolicy, Job, Output, StillClock, run_into};
+use mimic_main::{FlushPolicy, Job, Output, Schedule, StillClock, run_into};
 use mimic_testkit::{Fault, FaultyWriter, Place};
 use std::alloc::{AllocError, Global};
 use std::io;
@@ -114,6 +114,7 @@ fn run_three<T: Threads + Wait + Copy + Drop + Send + 'static>(
         clock: StillClock,
         default_threads: 1,
         auto_colours: false,
+        schedule: Schedule::Queue,
     };
     let (telling, ran) = run_into(rt, alloc, job, output);
     assert_memory(&ran)?;

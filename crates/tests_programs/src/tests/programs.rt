@@ -6,20 +6,23 @@ use super::outputs::Marked;
 use super::runs::{Host, run_tests};
 use libtest_mimic::pool::{Arrival, Untold};
 use libtest_mimic::{Arguments, Failed, FormatSetting, Outcome, RunError, Task, Trial, WriteFault};
-use mimic_main::{FlushPolicy, Program, StillClock};
+use mimic_main::{FlushPolicy, Program, Schedule, StillClock};
 use mimic_testkit::{Fault, FaultyWriter, Place};
 use std::alloc::{AllocError, Global};
 use std::fmt::Debug;
 use std::io::{ErrorKind, IsTerminal, Write};
 use std::process::{Abort, ExitCode, Termination};
+use std::sync::Arc;
+use std::sync::atomic::{AtomicU64, Ordering};
 use std::test::Fail;
-use std::{fs, io};
+use std::{fs, io, thread};
 
 const PLAIN: Program<'static> = Program {
     name: "plain",
     threads: 4,
     auto_colours: false,
     prints_causes: false,
+    schedule: Schedule::Queue,
 };
 
 const TELLING: Program<'static> = Program {
@@ -27,6 +30,7 @@ const TELLING: Program<'static> = Program {
     threads: 4,
     auto_colours: true,
     prints_causes: true,
+    schedule: Schedule::Queue,
 };
 
 // A test that passes.
@@ -296,6 +300,65 @@ fn runs_nothing_without_a_title(rt: HostRuntime) -> Result<(), Fail> {
     Ok(())
 }
 
+// A test that counts itself, and passes if so many have done so before it has looked that often.
+#[derive(Drop)]
+struct Awaits {
+    count: Arc<AtomicU64>,
+    awaited: u64,
+    looks: u64,
+}
+
+impl Task for Awaits {
+    fn run(self, _test_mode: bool) -> Outcome {
+        self.count.fetch_add(1, Ordering::SeqCst);
+        for _ in 0..self.looks {
+            if self.count.load(Ordering::SeqCst) >= self.awaited {
+                return Outcome::Passed;
+            }
+            thread::yield_now();
+        }
+        Outcome::Failed(Failed::without_message())
+    }
+}
+
+// Eight tests, the first of which awaits the others.
+fn eight_tests(alloc: Global, looks: u64) -> Result<Vec<Trial<Awaits>>, AllocError> {
+    let count = Arc::new(alloc, AtomicU64::new(0))?;
+    let mut tests = Vec::new(alloc);
+    for awaited in [8, 0, 0, 0, 0, 0, 0, 0] {
+        let awaits = Awaits {
+            count: Arc::try_clone(&count)?,
+            awaited,
+            looks,
+        };
+        tests.push(Trial::new(String::from_str(alloc, "a")?, awaits))?;
+    }
+    Ok(tests)
+}
+
+// How tests come to two workers, how often the first one looks for the others, and the status: from a queue the other worker takes
+// them all, and in the first worker's share three wait behind it, so it fails however often it looks.
+static SCHEDULED: [(Schedule, u64, u8); 2] = [
+    (Schedule::Queue, 10_000_000, 0),
+    (Schedule::Shares, 1_000, 101),
+];
+
+#[test]
+fn deals_out_or_queues(rt: HostRuntime) -> Result<(), Fail> {
+    for (schedule, looks, status) in &SCHEDULED {
+        let program = Program {
+            threads: 2,
+            schedule: *schedule,
+            ..PLAIN
+        };
+        let args = Arguments::new(rt.alloc());
+        let tests = eight_tests(rt.alloc(), *looks)?;
+        let left = run_program(&rt, &program, args, tests, FaultyWriter::new(rt.alloc()))?;
+        assert!(rt; left.status == ExitCode::from(*status), "{schedule:?}");
+    }
+    Ok(())
+}
+
 const TITLE: &str = "{ \"type\": \"suite\", \"event\": \"started\", \"test_count\": 1 }\n";
 
 const TITLE_AND_ANNOUNCEMENT: &str = r#"{ "type": "suite", "event": "started", "test_count": 1 }
@@ -489,7 +552,7 @@ fn shows_values_of_programs(rt: HostRuntime) -> Result<(), Fail> {
     check_debug(&rt, alloc, &Untold, "Untold")?;
     check_debug(&rt, alloc, &StillClock, "StillClock")?;
     let program =
-        "Program { name: \"telling\", threads: 4, auto_colours: true, prints_causes: true }";
+        "Program { name: \"telling\", threads: 4, auto_colours: true, prints_causes: true, schedule: Queue }";
     check_debug(&rt, alloc, &TELLING, program)
 }
 

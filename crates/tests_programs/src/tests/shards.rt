@@ -4,7 +4,7 @@ use super::known_machine::{
 };
 use super::runs::Host;
 use libtest_mimic::{Outcome, RunError, Task, Trial};
-use mimic_main::Program;
+use mimic_main::{Program, Schedule};
 use std::alloc::Global;
 use std::fs;
 use std::process::{Abort, ExitCode, Termination};
@@ -349,6 +349,7 @@ const UNSHARDED: Program<'static> = Program {
     threads: 1,
     auto_colours: false,
     prints_causes: true,
+    schedule: Schedule::Queue,
 };
 
 // `Program::run` goes by the line alone.

@@ -2,8 +2,8 @@
 ghost use Rattle.mimic_trial.specs.Trial.{AllCanRun};
 
 use libtest_mimic::{
-    Arguments, Clock, ColorSetting, Conclusion, FormatSetting, RunError, Sink, Spawner, Stopwatch,
-    Task, Trial, run, run_here,
+    Arguments, Clock, ColorSetting, Conclusion, FormatSetting, RunError, Schedule, Sink, Spawner,
+    Stopwatch, Task, Trial, run, run_from_queue, run_here,
 };
 use mimic_testkit::{Entry, FaultyWriter, TwoReadings, known_trials};
 use std::alloc::{AllocError, Global};
@@ -123,20 +123,26 @@ pub(super) fn run_by_clock<R: Task, C: Clock + Drop>(
     Ok(Left::of(conclusion, sink, &watch))
 }
 
-// By as many workers as are asked for, or else by one, with this clock.
+// By as many workers as are asked for, or else by one, to which trials come so, with this clock.
 pub(super) fn run_in_workers<R: Task + Send + 'static, C: Clock + Drop, T: Spawner + 'static>(
     rt: &T,
     alloc: Global,
     asked: &Asked,
     tests: Vec<Trial<R>>,
     clock: C,
+    schedule: Schedule,
 ) -> Result<Left, RunError>
     requires { AllCanRun R.can_run tests.items }
 {
     let args = asking(alloc, asked)?;
     let mut sink = Sink::new(FaultyWriter::new(alloc));
     let mut watch = Stopwatch::new(clock);
-    let conclusion = run(rt, alloc, &args, tests, &mut sink, &mut watch, 1, false)?;
+    let conclusion = match schedule {
+        Schedule::Shares => run(rt, alloc, &args, tests, &mut sink, &mut watch, 1, false)?,
+        Schedule::Queue => {
+            run_from_queue(rt, alloc, &args, tests, &mut sink, &mut watch, 1, false)?
+        }
+    };
     Ok(Left::of(conclusion, sink, &watch))
 }
 

@@ -2,7 +2,8 @@
 use super::in_memory::{Asked, Left, NOTHING, run_ample, run_by_clock, run_in_workers};
 use super::test_trial;
 use libtest_mimic::{
-    ColorSetting, Failed, FormatSetting, Outcome, RunError, Spawner, Stopwatch, Task, Trial,
+    ColorSetting, Failed, FormatSetting, Outcome, RunError, Schedule, Spawner, Stopwatch, Task,
+    Trial,
 };
 use mimic_testkit::{Known, MIXED_BAG, RaisedClock, TwoReadings, known_trials};
 use std::alloc::{AllocError, Global};
@@ -157,7 +158,8 @@ fn tells_the_time(rt: HostRuntime) -> Result<(), Fail> {
     Ok(())
 }
 
-const BY_WORKERS: Option<usize> = Some(2);
+// The calling thread, or how trials come to two workers.
+const BY: [Option<Schedule>; 3] = [None, Some(Schedule::Shares), Some(Schedule::Queue)];
 
 // The ends of a report of a second and a half, in pretty and in JSON.
 const LATER: &[u8] = b"; finished in 1.50s\n\n";
@@ -174,21 +176,26 @@ fn run_later<T: Spawner + 'static>(
     rt: &T,
     alloc: Global,
     mut asked: Asked,
+    schedule: Schedule,
 ) -> Result<Left, RunError> {
-    asked.threads = BY_WORKERS;
+    asked.threads = Some(2);
     let clock = TwoReadings {
         first: 700,
         second: 1_500_000_700,
     };
     let tests = known_trials(alloc, &MIXED_BAG[..2])?;
-    run_in_workers(rt, alloc, &asked, tests, clock)
+    run_in_workers(rt, alloc, &asked, tests, clock, schedule)
 }
 
 // With workers it is told from the first two readings too.
 #[test]
 fn tells_the_time_of_workers(rt: HostRuntime) -> Result<(), Fail> {
-    assert!(rt; is_later(&run_later(&rt, rt.alloc(), PRETTY)?, LATER));
-    assert!(rt; is_later(&run_later(&rt, rt.alloc(), JSON)?, LATER_JSON));
+    for schedule in [Schedule::Shares, Schedule::Queue] {
+        let left = run_later(&rt, rt.alloc(), PRETTY, schedule)?;
+        assert!(rt; is_later(&left, LATER));
+        let left = run_later(&rt, rt.alloc(), JSON, schedule)?;
+        assert!(rt; is_later(&left, LATER_JSON));
+    }
     Ok(())
 }
 
@@ -208,33 +215,32 @@ impl Task for Raises {
     }
 }
 
-// What a run of one trial that raises the clock leaves, by so many workers or by the calling thread.
+// What a run of one trial that raises the clock leaves, by workers to which trials come so, or by the calling thread.
 fn run_raising<T: Spawner + 'static>(
     rt: &T,
     alloc: Global,
     mut asked: Asked,
-    threads: Option<usize>,
+    by: Option<Schedule>,
 ) -> Result<Left, RunError> {
-    asked.threads = threads;
+    asked.threads = by.map(|_| 2);
     let name = String::from_str(alloc, "a")?;
     let mut tests = Vec::with_capacity(alloc, 1)?;
     let nanos = Arc::new(alloc, AtomicU64::new(0))?;
     tests.push(Trial::new(name, Raises(Arc::try_clone(&nanos)?)))?;
     let clock = RaisedClock { nanos };
-    if threads.is_some() {
-        run_in_workers(rt, alloc, &asked, tests, clock)
-    } else {
-        run_by_clock(alloc, &asked, tests, clock)
+    match by {
+        Some(schedule) => run_in_workers(rt, alloc, &asked, tests, clock, schedule),
+        None => run_by_clock(alloc, &asked, tests, clock),
     }
 }
 
 // The time reported is that which the trials took, by one thread and by a worker: a runner raises the clock as it ends.
 #[test]
 fn times_the_trials(rt: HostRuntime) -> Result<(), Fail> {
-    for threads in [None, BY_WORKERS] {
-        let left = run_raising(&rt, rt.alloc(), PRETTY, threads)?;
+    for by in BY {
+        let left = run_raising(&rt, rt.alloc(), PRETTY, by)?;
         assert!(rt; is_later(&left, LATER));
-        let left = run_raising(&rt, rt.alloc(), JSON, threads)?;
+        let left = run_raising(&rt, rt.alloc(), JSON, by)?;
         assert!(rt; is_later(&left, LATER_JSON));
     }
     Ok(())
@@ -243,12 +249,12 @@ fn times_the_trials(rt: HostRuntime) -> Result<(), Fail> {
 // The selection takes time as well: a trial that is filtered out raises the clock.
 #[test]
 fn times_the_selection(rt: HostRuntime) -> Result<(), Fail> {
-    for threads in [None, BY_WORKERS] {
+    for by in BY {
         let asked = Asked {
             skip: Some("a"),
             ..PRETTY
         };
-        let left = run_raising(&rt, rt.alloc(), asked, threads)?;
+        let left = run_raising(&rt, rt.alloc(), asked, by)?;
         assert!(rt; left.counts() == [0, 0, 0, 0, 1]);
         assert!(rt; is_later(&left, LATER));
     }

@@ -1,4 +1,4 @@
-use Rattle.std.proofs.Common.{◌%◌, ap, arith}
+use Rattle.std.proofs.Common.{◌%◌, ap, arith, refl}
 use Rattle.std.proofs.lemmas.Nat.{mod_below}
 use Rattle.mimic_pool.proofs.Dealing.{dealt_more, map_kept, on_refusal}
 use Rattle.mimic_pool.proofs.share.deal_next.Goals as goal
@@ -9,7 +9,7 @@ returns-in_err-push-clause-refused g c =
     on_refusal c.from_residual.result (map_kept c.args.shares.now.items (c.args.place % c.len.result) _ _ (omega (arith, below, c.len.ensures, c.args.shares.now.ok.0)) c.index_mut.ensures.value c.in_err-push.ensures.items)
 
 pub returns-clause-dealt : goal.returns-clause-dealt
-returns-clause-dealt g c = λ runners flags as_many as_many_flags dealt.
+returns-clause-dealt g c = λ trials dealt.
     let below = mod_below c.args.place c.len.result (omega (arith, c.len.ensures, c.requires.some_worker)) in
-    dealt_more _ c.args.place _ _ _ _ runners flags c.args.runner c.args.ignored (ap (λ n. c.args.place % n) c.len.ensures)
-    (omega (arith, below, c.len.ensures, c.args.shares.now.ok.0)) c.index_mut.ensures.value c.in_ok-push.ensures.items as_many as_many_flags dealt
+    dealt_more _ c.args.place _ _ _ _ trials _ refl (ap (λ n. c.args.place % n) c.len.ensures)
+    (omega (arith, below, c.len.ensures, c.args.shares.now.ok.0)) c.index_mut.ensures.value c.in_ok-push.ensures.items dealt

@@ -1,11 +1,12 @@
-use Rattle.std.proofs.Common.{◌≡◌, length, vec_len}
-use Rattle.libtest_mimic.proofs.Dealing.{IsDealtSoFar}
+use Rattle.std.proofs.Common.{length}
+use Rattle.mimic_trial.specs.Trial.{AllCanRun}
+use Rattle.libtest_mimic.proofs.Supplying.{IsPutSoFar}
 use Rattle.libtest_mimic.proofs.running.in_workers.take_apart.Given as goal
 
 abbrev pub invariant-loop-trial : goal.invariant-loop-trial
 invariant-loop-trial g l = record {
-  dealt : IsDealtSoFar l.args l.fn.trials.items l.left l.infos.items l.shares.items;
-  len : vec_len l.shares ≡ l.fn.workers;
+  supplied : IsPutSoFar g.R.Task.can_run l.args l.fn.trials.items l.left l.infos.items l.supply;
+  runnable : AllCanRun g.R.Task.can_run l.left;
 }
 
 -- the trials that are left

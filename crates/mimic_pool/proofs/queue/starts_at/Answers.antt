@@ -1,0 +1,27 @@
+use Rattle.std.proofs.Common.{◌≡◌, ◌∙◌, ap, rules, subst, sym}
+use Rattle.std.specs.Prelude.{All}
+use Rattle.std.specs.Arc.{arc_value}
+use Rattle.std.proofs.lemmas.List.Elements.{All-push}
+use Rattle.crossbeam_queue.specs.SegTies.{IsSegPassOf}
+use Rattle.mimic_pool.specs.Queue.{IsFresh}
+use Rattle.mimic_pool.specs.declared.shared_queue.Account.{Account}
+use Rattle.mimic_pool.specs.declared.taker.TakerStart.{TakerStart}
+use Rattle.mimic_pool.proofs.queue.starts_at.Goals as goal
+
+pub loop-number-preserved : goal.loop-number-preserved
+loop-number-preserved g c =
+    let was = c.loop-number.invariant in
+    let left = c.another.ensures.left in
+    let queue = (arc_value c.args.queue.now).queue in
+    let same : (arc_value c.in_ok-theirs.theirs).queue ≡ queue = search rules in
+    let ours : IsSegPassOf (arc_value c.in_ok-theirs.theirs).queue c.another.result = search rules in
+    let start : TakerStart _ = record { queue = c.in_ok-theirs.theirs; pass = c.another.result; room = c.in_ok-room.room; board = c.in_ok-board.board; number = c.loop-number.number; budget = c.saturating_add-budget.result } in
+    let fresh : IsFresh queue start = record { same = same; ours = ours; fresh = c.another.ensures.new; empty = c.in_ok-room.ensures.empty } in
+    record {
+      ours = search rules;
+      len = search rules;
+      parts = search rules;
+      put = ap (λ (v : Account _). v.put) left ∙ was.put;
+      taken = ap (λ (v : Account _). v.taken) left ∙ was.taken;
+      starts = subst (All (IsFresh queue)) (sym c.in_ok-push.ensures.items) (All-push (IsFresh queue) c.loop-number.starts.items start was.starts fresh);
+    }

@@ -1,9 +1,0 @@
-use Rattle.std.proofs.Common.{◌≡◌, ◌++◌}
-use Rattle.std.specs.Vec.Iter.{into_iter_items}
-use Rattle.mimic_pool.specs.Joined.{shares_of}
-use Rattle.mimic_pool.proofs.threads.prepare.Given as goal
-
-abbrev pub invariant-loop-share : goal.invariant-loop-share
-invariant-loop-share g l = record {
-  shares : shares_of l.starts.items ++ into_iter_items l.share-iterator ≡ l.fn.shares.items;
-}

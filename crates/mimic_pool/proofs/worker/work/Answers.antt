@@ -1,0 +1,25 @@
+use Rattle.std.proofs.Common.{◌≡◌, ◌∙◌, ◌++◌, ap, arith, length, rules, subst, sym}
+use Rattle.mimic_pool.specs.Answers.{Answers}
+use Rattle.mimic_pool.proofs.Elements.{none_of}
+use Rattle.mimic_pool.proofs.Sources.{all_returned}
+use Rattle.mimic_pool.proofs.Working.{answers_length}
+use Rattle.mimic_pool.proofs.worker.work.Goals as goal
+
+pub returns-clause-answers : goal.returns-clause-answers
+returns-clause-answers g c =
+    let empty : length c.args.room.items ≡ 0 = search rules in
+    subst (λ l. Answers g.T.Task.gives c.args.test_mode l c.work_from-rows.result.1.items) c.into_remaining.ensures
+    (all_returned g.T.Task.gives c.args.test_mode _ _ _ _ _ _ c.work_from-rows.ensures.worked c.work_from-rows.ensures.ended (none_of c.args.room.items empty))
+
+pub returns-clause-counted : goal.returns-clause-counted
+returns-clause-counted g c =
+    let empty : length c.args.room.items ≡ 0 = search rules in
+    let rows = answers_length g.T.Task.gives c.args.test_mode _ _ (returns-clause-answers g c) in
+    let counted = c.work_from-rows.ensures.counted in
+    omega (arith, rows, counted, empty)
+
+pub returns-clause-heard : goal.returns-clause-heard
+returns-clause-heard g c = λ told heard.
+    let empty : length c.args.room.items ≡ 0 = search rules in
+    let worked = c.work_from-rows.ensures.worked in
+    subst (λ l. g.R.Reports.heard c.work_from-rows.new.reports (told ++ l)) (sym (worked.added ∙ ap (λ l. l ++ worked.rows) (none_of c.args.room.items empty))) (worked.hears told heard)

@@ -1,0 +1,56 @@
+-- Shares that workers start with, run and return.
+use Rattle.std.specs.Prelude.{◌≡◌, ◌≤◌, ◌∷◌, [], All, Bool, List, length, map, vec_capacity, vec_len}
+use Rattle.mimic_trial.specs.Places.{Placed}
+use Rattle.mimic_trial.specs.Promise.{Gives}
+use Rattle.mimic_pool.specs.Answers.{Answers}
+use Rattle.mimic_pool.specs.Share.{AreShares, items_of}
+use Rattle.mimic_pool.specs.declared.share.Assigned.{Assigned}
+use Rattle.mimic_pool.specs.declared.share.Share.{Share}
+use Rattle.mimic_pool.specs.declared.shares.ShareCrew.{ShareCrew}
+use Rattle.mimic_pool.specs.declared.shares.ShareStarts.{ShareStarts}
+use Rattle.mimic_pool.specs.declared.start.AnswersShare.{AnswersShare}
+use Rattle.mimic_pool.specs.declared.start.Start.{Start}
+use Rattle.std.specs.declared.thread.PromisedHandle.{PromisedHandle}
+
+module _ {X : Type 0} where
+  -- the shares that workers start with, one for each
+  abbrev pub shares_of : List (Start X) → List (Share X)
+  shares_of starts = map (λ start. start.share) starts
+
+  -- the job of a started worker: the mode, and the items of its share
+  abbrev pub job_of : {T : Type 0} → PromisedHandle T (AnswersShare X) → Bool × List (Assigned X)
+  job_of handle = (handle.promise.test_mode, items_of handle.promise.share.value)
+
+  -- the jobs of these shares in this mode
+  abbrev pub jobs_of : Bool → List (Share X) → List (Bool × List (Assigned X))
+  jobs_of mode shares = map (λ share. (mode, items_of share)) shares
+
+  -- the trials were dealt into these shares, at least one, and each of them may be run
+  pub record AreDealt (can_run : X → Type 0) (shares : List (Share X)) (trials : List (Assigned X)) : Type 0 where
+    pub some : 1 ≤ length shares
+    pub dealt : AreShares trials (length shares) shares
+    pub runnable : All (λ item. can_run item.runner) trials
+
+  -- a worker can be started on each share, and joined
+  pub record AreReadyShares (can_run : X → Type 0) (starts : ShareStarts X) (trials : List (Assigned X)) : Type 0 where
+    pub dealt : AreDealt can_run (shares_of starts.starts.items) trials
+    pub no_handles : vec_len starts.handles ≡ 0
+    pub fits : vec_len starts.starts ≤ vec_capacity starts.handles
+    pub none_joined : vec_len starts.joined ≡ 0
+    pub fits_joined : vec_len starts.starts ≤ vec_capacity starts.joined
+
+  -- a worker was started on each share in this mode
+  pub record RunsShares (crew : ShareCrew X) (mode : Bool) (trials : List (Assigned X)) : Type 0 where
+    pub shares : List (Share X)
+    pub some : 1 ≤ length shares
+    pub dealt : AreShares trials (length shares) shares
+    pub started : map job_of crew.handles.items ≡ jobs_of mode shares
+    pub none_joined : vec_len crew.joined ≡ 0
+    pub fits_joined : vec_len crew.handles ≤ vec_capacity crew.joined
+
+-- for each job in turn there are rows that answer it
+abbrev pub AreAnswered : {X : Type 0} → Gives X → List (Bool × List (Assigned X)) → List (List Placed) → Type 0
+AreAnswered gives [] [] = Unit {0}
+AreAnswered gives [] (rows ∷ joined) = ⊥
+AreAnswered gives (job ∷ jobs) [] = ⊥
+AreAnswered gives (job ∷ jobs) (rows ∷ joined) = Answers gives job.0 job.1 rows × AreAnswered gives jobs joined

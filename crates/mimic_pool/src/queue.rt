@@ -1,0 +1,375 @@
+//! Trials in a queue, and workers that take them when they are free.
+ghost use Rattle.std.specs.Prelude.{◌≡◌, ◌++◌, ◌∷◌, ◌+◌, ◌<◌, ◌≤◌, [], All, Bool, IfErr, IfNone, IfOk, IfSome, List, OnOk, length, map, true, vec_capacity, vec_len};
+ghost use Rattle.std.specs.Arc.{arc_value};
+ghost use Rattle.std.specs.List.{flat_map};
+ghost use Rattle.std.specs.List.Sorted.{IsPermutation};
+ghost use Rattle.crossbeam_queue.specs.SegTies.{IsSegPassOf};
+ghost use Rattle.mimic_trial.specs.Places.{Placed};
+ghost use Rattle.mimic_pool.specs.Balance.{all_parts};
+ghost use Rattle.mimic_pool.specs.Joined.{AreJoined};
+ghost use Rattle.mimic_pool.specs.Passes.{account_of};
+ghost use Rattle.mimic_pool.specs.Queue.{AnswersTakes, AreReadyTakers, HasTaken, HoldsQueue, IsFilling, IsFresh, IsJob, RunsQueue};
+ghost use Rattle.mimic_pool.specs.Rows.{rows_in};
+ghost use Rattle.mimic_pool.specs.Share.{AllRunners, items_of};
+ghost use Rattle.mimic_pool.specs.declared.share.Assigned.{Assigned};
+
+use crate::inbox::Inbox;
+use crate::reports::Unheard;
+use crate::rows::Rows;
+use crate::share::{Assigned, Share};
+use crate::shared_queue::{MOST_IN_SHARE, QueuePass, SharedQueue};
+use crate::spawner::Spawner;
+use crate::taker::{AnswersTaken, Taken, TakerStart, take_and_work};
+use crate::worker::work_from;
+use mimic_trial::Task;
+use std::alloc::{AllocError, Global};
+use std::snapshot::Snapshot;
+use std::sync::{Arc, Wait};
+use std::thread::PromisedHandle;
+use std::{mem, thread};
+
+// Each worker gets so many shares, if all take equally many.
+const SHARES_A_WORKER: usize = 64;
+
+type TakerHandle<T> = PromisedHandle<Taken<T>, AnswersTaken<T>>;
+
+/// Trials that wait for workers, in the order in which they were put.
+#[derive(Drop)]
+pub struct Queue<T: Task> {
+    pub(crate) queue: Arc<SharedQueue<T>>,
+    pub(crate) pass: QueuePass<T>,
+    // The share that is being filled, which is not in the queue yet, and how many trials it gets.
+    pub(crate) next: Share<T>,
+    pub(crate) size: usize,
+    pub(crate) workers: usize,
+    pub(crate) alloc: Global,
+}
+
+/// What workers start with, and room for their handles and for what each returns.
+#[derive(Drop)]
+pub struct QueueStarts<T: Task> {
+    pub(crate) queue: Arc<SharedQueue<T>>,
+    pub(crate) pass: QueuePass<T>,
+    pub(crate) starts: Vec<TakerStart<T>>,
+    pub(crate) handles: Vec<TakerHandle<T>>,
+    pub(crate) joined: Vec<Rows>,
+    // Room for the rows of trials that no worker took.
+    pub(crate) last: Rows,
+}
+
+/// Workers that were started, and what those returned that could not be.
+pub struct QueueCrew<T: Task> {
+    pub(crate) queue: Arc<SharedQueue<T>>,
+    pub(crate) pass: QueuePass<T>,
+    pub(crate) handles: Vec<TakerHandle<T>>,
+    pub(crate) joined: Vec<Rows>,
+    pub(crate) last: Rows,
+    pub(crate) test_mode: bool,
+}
+
+impl<T: Task> Queue<T> {
+    // An empty queue, from which so many workers will take so many trials.
+    pub(crate) fn new(alloc: Global, trials: usize, workers: usize) -> Result<Queue<T>, AllocError>
+        requires some_worker { 1 ≤ workers }
+        ensures { IfOk result (λ queue. HoldsQueue T.can_run queue []) }
+    {
+        let (queue, pass) = SharedQueue::new(alloc)?;
+        let queue = Arc::new(alloc, queue)?;
+        let size = (trials / SHARES_A_WORKER / workers)
+            .max(1)
+            .min(MOST_IN_SHARE);
+        let items = Vec::with_capacity(alloc, size)?;
+        Ok(Queue {
+            queue,
+            pass,
+            next: Share { items },
+            size,
+            workers,
+            alloc,
+        })
+    }
+
+    // Puts a trial behind the others. If an allocation fails, the runner is dropped.
+    pub(crate) fn put<R: Wait>(&mut self, rt: &R, item: Assigned<T>) -> Result<(), AllocError>
+        requires held { (trials : List (Assigned T)) × HoldsQueue T.can_run self.old trials }
+        requires runnable { T.can_run item.runner }
+        ensures put { OnOk result ((trials : List (Assigned T)) → HoldsQueue T.can_run self.old trials
+            → HoldsQueue T.can_run self.new (trials ++ item ∷ [])) }
+    {
+        self.next.items.push(item)?;
+        if self.next.len() < self.size {
+            return Ok(());
+        }
+        self.flush(rt)
+    }
+
+    // Puts the share that was being filled into the queue, and begins another one.
+    fn flush<R: Wait>(&mut self, rt: &R) -> Result<(), AllocError>
+        requires held { (trials : List (Assigned T)) × IsFilling T.can_run self.old trials }
+        requires few { length (items_of self.old.next) ≤ self.old.size }
+        ensures put { OnOk result ((trials : List (Assigned T)) → IsFilling T.can_run self.old trials
+            → HoldsQueue T.can_run self.new trials) }
+        ensures empty { OnOk result (items_of self.new.next ≡ []) }
+    {
+        let items = Vec::with_capacity(self.alloc, self.size)?;
+        let share = mem::replace(&mut self.next, Share { items });
+        match self.queue.put(rt, &mut self.pass, share) {
+            Ok(()) => Ok(()),
+            Err(_) => Err(AllocError),
+        }
+    }
+}
+
+// Makes the workers of the queue ready to run its trials, of which there are `count`, and an inbox to which they will report.
+pub(crate) fn prepare_takers<T: Task, R: Wait>(
+    rt: &R,
+    alloc: Global,
+    queue: Queue<T>,
+    count: usize,
+) -> Result<(Inbox, QueueStarts<T>), AllocError>
+    requires held { (trials : List (Assigned T)) × HoldsQueue T.can_run queue trials }
+    ensures ready { IfOk result (λ made. (trials : List (Assigned T)) → length trials ≤ count
+        → HoldsQueue T.can_run queue trials → AreReadyTakers made.1 trials) }
+{
+    let mut queue = queue;
+    queue.flush(rt)?;
+    let Queue {
+        queue,
+        mut pass,
+        workers,
+        ..
+    } = queue;
+    let inbox = Inbox::new(alloc, count, workers)?;
+    let starts = starts_at(alloc, &queue, &mut pass, workers, count, &inbox)?;
+    let handles = Vec::with_capacity(alloc, starts.len())?;
+    let joined = Vec::with_capacity(alloc, starts.len() + 1)?;
+    let last = Rows::with_capacity(alloc, count)?;
+    let starts = QueueStarts {
+        queue,
+        pass,
+        starts,
+        handles,
+        joined,
+        last,
+    };
+    Ok((inbox, starts))
+}
+
+// What each of so many workers starts with: a pass, and room for its part of so many rows and for a share more.
+fn starts_at<T: Task>(
+    alloc: Global,
+    queue: &Arc<SharedQueue<T>>,
+    pass: &mut QueuePass<T>,
+    workers: usize,
+    count: usize,
+    inbox: &Inbox,
+) -> Result<Vec<TakerStart<T>>, AllocError>
+    requires ours { IsSegPassOf (arc_value queue.now).queue pass.old }
+    requires parts { (account_of pass.old).parts ≡ all_parts }
+    requires some_worker { 1 ≤ workers }
+    ensures ours { OnOk result (IsSegPassOf (arc_value queue.now).queue pass.new) }
+    ensures put { OnOk result ((account_of pass.new).put ≡ (account_of pass.old).put) }
+    ensures taken { OnOk result ((account_of pass.new).taken ≡ (account_of pass.old).taken) }
+    ensures parts { IfOk result (λ starts. (account_of pass.new).parts + vec_len starts ≡ all_parts) }
+    ensures some_part { OnOk result (0 < (account_of pass.new).parts) }
+    ensures starts { IfOk result (λ starts. All (IsFresh (arc_value queue.now).queue) starts.items) }
+{
+    let room = count.div_ceil(workers).saturating_add(MOST_IN_SHARE);
+    let budget = (count as u64).saturating_add(MOST_IN_SHARE as u64);
+    let mut starts = Vec::with_capacity(alloc, workers)?;
+    for number in 0..workers {
+        let room = Rows::with_capacity(alloc, room)?;
+        let board = inbox.board()?;
+        let theirs = Arc::try_clone(queue)?;
+        starts.push(TakerStart {
+            queue: theirs,
+            pass: queue.another(pass),
+            room,
+            board,
+            number,
+            budget,
+        })?;
+    }
+    Ok(starts)
+}
+
+// Starts the workers. If one can't be started, no more are, and those that were take all trials. `None` if none could be started.
+pub(crate) fn start_takers<T: Task + Send + 'static, R: Spawner + 'static>(
+    rt: &R,
+    alloc: Global,
+    starts: QueueStarts<T>,
+    test_mode: bool,
+) -> Option<QueueCrew<T>>
+    requires ready { (trials : List (Assigned T)) × AreReadyTakers starts trials }
+    ensures started { IfSome result (λ crew. (trials : List (Assigned T)) → AreReadyTakers starts trials
+        → RunsQueue T.gives crew test_mode trials) }
+{
+    let QueueStarts {
+        queue,
+        mut pass,
+        starts,
+        mut handles,
+        mut joined,
+        last,
+    } = starts;
+    let mut is_refused = false;
+    for start in starts {
+        match start_taker(rt, alloc, &queue, start, test_mode, is_refused) {
+            Ok(handle) => handles.push_reserved(handle),
+            Err(taken) => {
+                is_refused = true;
+                let Taken { rows, pass: other } = taken;
+                queue.absorb(&mut pass, other);
+                joined.push_reserved(rows);
+            }
+        }
+    }
+    if handles.is_empty() {
+        return None;
+    }
+    Some(QueueCrew {
+        queue,
+        pass,
+        handles,
+        joined,
+        last,
+        test_mode,
+    })
+}
+
+// Starts a worker. If no thread can be made, or none could be made for one before it, the worker may take no trial, and ends here.
+fn start_taker<T: Task + Send + 'static, R: Spawner + 'static>(
+    rt: &R,
+    alloc: Global,
+    queue: &SharedQueue<T>,
+    start: TakerStart<T>,
+    test_mode: bool,
+    is_refused: bool,
+) -> Result<TakerHandle<T>, Taken<T>>
+    requires fresh { IsFresh queue.now.queue start }
+    ensures started { IfOk result (IsJob queue.now.queue test_mode) }
+    ensures ended { IfErr result (HasTaken T.gives test_mode queue.now.queue) }
+{
+    let (theirs, number) = (*rt, start.number);
+    if is_refused {
+        return Err(take_and_work(theirs, alloc, start, test_mode));
+    }
+    let promise = AnswersTaken {
+        queue: Snapshot::of(queue),
+        test_mode,
+    };
+    let started = thread::spawn_with(
+        rt,
+        promise,
+        move || -> Taken<T>
+            requires fresh { IsFresh (arc_value start.queue).queue start }
+            ensures { HasTaken T.gives test_mode (arc_value start.queue).queue result }
+        { take_and_work(theirs, alloc, start, test_mode) },
+    );
+    match started {
+        Ok(handle) => Ok(handle),
+        Err(refused) => {
+            queue.close_from(number);
+            Err((refused.value)())
+        }
+    }
+}
+
+// Joins the workers, and returns the rows of each, and last those of trials that no worker took. If not all trials are to be run,
+// those that wait are dropped first, so that workers find no more.
+pub(crate) fn join_takers<T: Task + Send + 'static, R: Spawner>(
+    rt: &R,
+    crew: QueueCrew<T>,
+    whole: bool,
+) -> Vec<Rows>
+    requires running { (mode : Bool) × (trials : List (Assigned T)) × RunsQueue T.gives crew mode trials }
+    ensures joined { (mode : Bool) (trials : List (Assigned T)) → RunsQueue T.gives crew mode trials
+        → AreJoined T.gives mode trials whole (map rows_in result.items) }
+{
+    let QueueCrew {
+        queue,
+        mut pass,
+        handles,
+        mut joined,
+        last,
+        test_mode,
+    } = crew;
+    drop_unless(whole, rt, &queue, &mut pass);
+    for handle in handles {
+        let Taken { rows, pass: other } = handle.join(rt);
+        queue.absorb(&mut pass, other);
+        joined.push_reserved(rows);
+    }
+    let last = empty(rt, &queue, &mut pass, test_mode, whole, last);
+    joined.push_reserved(last);
+    joined
+}
+
+// Takes all trials that wait, and drops them, unless all are to be run.
+fn drop_unless<T: Task, R: Wait>(
+    whole: bool,
+    rt: &R,
+    queue: &SharedQueue<T>,
+    pass: &mut QueuePass<T>,
+)
+    requires ours { IsSegPassOf queue.now.queue pass.old }
+    requires parts { 0 < (account_of pass.old).parts }
+    ensures ours { IsSegPassOf queue.now.queue pass.new }
+    ensures parts { (account_of pass.new).parts ≡ (account_of pass.old).parts }
+    ensures put { (account_of pass.new).put ≡ (account_of pass.old).put }
+    ensures answers { (mode : Bool) (rows : List Placed) → AnswersTakes T.gives mode whole (account_of pass.old).taken rows
+        → AnswersTakes T.gives mode whole (account_of pass.new).taken rows }
+{
+    if whole {
+        return;
+    }
+    for _ in rt.forever() {
+        let Some(_share) = queue.take(rt, pass) else {
+            return;
+        };
+    }
+}
+
+// Takes all trials that are left, by the pass that has all parts, and runs them, or drops them if not all are to be run. Then what
+// was taken is what was put.
+fn empty<T: Task, R: Wait>(
+    rt: &R,
+    queue: &SharedQueue<T>,
+    pass: &mut QueuePass<T>,
+    test_mode: bool,
+    whole: bool,
+    mut rows: Rows,
+) -> Rows
+    requires ours { IsSegPassOf queue.now.queue pass.old }
+    requires parts { (account_of pass.old).parts ≡ all_parts }
+    requires no_rows { rows.items ≡ [] }
+    requires fits { length (account_of pass.old).put ≤ length (account_of pass.old).taken + rows.room }
+    ensures put { (account_of pass.new).put ≡ (account_of pass.old).put }
+    ensures all { IsPermutation (account_of pass.new).put (account_of pass.new).taken }
+    ensures answers { (before : List Placed) → AnswersTakes T.gives test_mode whole (account_of pass.old).taken before
+        → AnswersTakes T.gives test_mode whole (account_of pass.new).taken (before ++ result.items) }
+{
+    for _ in rt.forever() {
+        let Some(share) = queue.take(rt, pass) else {
+            return rows;
+        };
+        rows = end_share(share, test_mode, whole, rows);
+    }
+    unreachable!()
+}
+
+// Runs the share, or drops it if not all trials are to be run.
+fn end_share<T: Task>(share: Share<T>, test_mode: bool, whole: bool, rows: Rows) -> Rows
+    requires runnable { AllRunners T.can_run share }
+    requires fits { length (items_of share) ≤ rows.room }
+    ensures room { rows.room ≤ result.room + length (items_of share) }
+    ensures answers { (taken : List (Assigned T)) (before : List Placed)
+        → AnswersTakes T.gives test_mode whole taken (before ++ rows.items)
+        → AnswersTakes T.gives test_mode whole (taken ++ items_of share) (before ++ result.items) }
+{
+    if !whole {
+        return rows;
+    }
+    let (_, rows) = work_from(share.into_remaining(), test_mode, &mut Unheard::new(), rows);
+    rows
+}

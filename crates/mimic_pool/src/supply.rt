@@ -1,0 +1,163 @@
+//! How trials get to workers.
+ghost use Rattle.std.specs.Prelude.{◌≡◌, ◌++◌, ◌∷◌, ◌≤◌, ◌||◌, [], Bool, IfOk, IfSome, List, OnOk, length, map};
+ghost use Rattle.mimic_pool.specs.Joined.{AreJoined};
+ghost use Rattle.mimic_pool.specs.Rows.{rows_in};
+ghost use Rattle.mimic_pool.specs.Supply.{AreReady, Holds, Runs, runs_all};
+ghost use Rattle.mimic_pool.specs.declared.share.Assigned.{Assigned};
+
+use crate::inbox::Inbox;
+use crate::queue::{Queue, QueueCrew, QueueStarts, join_takers, prepare_takers, start_takers};
+use crate::rows::Rows;
+use crate::share::{Assigned, Share, deal_next, empty_shares};
+use crate::shares::{ShareCrew, ShareStarts, join_shares, prepare_shares, start_shares};
+use crate::spawner::Spawner;
+use mimic_trial::Task;
+use std::alloc::{AllocError, Global};
+use std::sync::Wait;
+
+/// Which worker runs which trial.
+#[derive(Clone, Copy, Debug, PartialEq, Eq)]
+pub enum Schedule {
+    /// Trials are dealt out beforehand: the one at a place goes to the worker whose number is the place's remainder by the number of
+    /// workers.
+    Shares,
+    /// Trials wait in one queue, and a worker takes the next ones when it is free.
+    Queue,
+}
+
+/// Trials that wait for workers.
+#[derive(Drop)]
+pub enum Supply<T: Task> {
+    /// A share for each worker.
+    Shares(Vec<Share<T>>),
+    /// One queue for all workers.
+    Queue(Queue<T>),
+}
+
+/// What workers start with. All memory is taken by then, except for copies of messages, for the threads, and for rows of a worker
+/// that takes many more trials from a queue than others.
+#[derive(Drop)]
+pub enum Starts<T: Task> {
+    /// A worker for each share.
+    Shares(ShareStarts<T>),
+    /// Workers that take from one queue.
+    Queue(QueueStarts<T>),
+}
+
+/// Workers that were started.
+pub enum Crew<T: Task> {
+    /// Each runs its share.
+    Shares(ShareCrew<T>),
+    /// They take from one queue.
+    Queue(QueueCrew<T>),
+}
+
+impl<T: Task> Supply<T> {
+    /// For so many workers, which are to run so many trials, before any is put.
+    pub fn new(
+        alloc: Global,
+        schedule: Schedule,
+        trials: usize,
+        workers: usize,
+    ) -> Result<Supply<T>, AllocError>
+        requires some_worker { 1 ≤ workers }
+        ensures { IfOk result (λ supply. Holds T.can_run supply []) }
+    {
+        match schedule {
+            Schedule::Shares => Ok(Supply::Shares(empty_shares(alloc, trials, workers)?)),
+            Schedule::Queue => Ok(Supply::Queue(Queue::new(alloc, trials, workers)?)),
+        }
+    }
+
+    /// Puts one trial more: its place, which is the number of those before it, its runner, and whether that is not to be called. If
+    /// an allocation fails, the runner is dropped.
+    pub fn put<R: Wait>(
+        &mut self,
+        rt: &R,
+        place: usize,
+        runner: T,
+        ignored: bool,
+    ) -> Result<(), AllocError>
+        requires held { (trials : List (Assigned T)) × Holds T.can_run self.old trials }
+        requires runnable { T.can_run runner }
+        ensures put { OnOk result ((trials : List (Assigned T)) → length trials ≡ place → Holds T.can_run self.old trials
+            → Holds T.can_run self.new (trials ++ record { place = place; runner = runner; ignored = ignored } ∷ [])) }
+    {
+        match self {
+            Supply::Shares(shares) => deal_next(shares, place, runner, ignored),
+            Supply::Queue(queue) => {
+                let item = Assigned {
+                    place,
+                    runner,
+                    ignored,
+                };
+                queue.put(rt, item)
+            }
+        }
+    }
+
+    /// Makes the workers ready to run the trials, of which there are `count`, and an inbox to which they will report.
+    pub fn prepare<R: Wait>(
+        self,
+        rt: &R,
+        alloc: Global,
+        count: usize,
+    ) -> Result<(Inbox, Starts<T>), AllocError>
+        requires held { (trials : List (Assigned T)) × Holds T.can_run self trials }
+        ensures ready { IfOk result (λ made. (trials : List (Assigned T)) → length trials ≤ count
+            → Holds T.can_run self trials → AreReady T.can_run made.1 trials) }
+    {
+        match self {
+            Supply::Shares(shares) => {
+                let (inbox, starts) = prepare_shares(alloc, shares, count)?;
+                Ok((inbox, Starts::Shares(starts)))
+            }
+            Supply::Queue(queue) => {
+                let (inbox, starts) = prepare_takers(rt, alloc, queue, count)?;
+                Ok((inbox, Starts::Queue(starts)))
+            }
+        }
+    }
+}
+
+/// Starts the workers. `None` if one that has a share can't be started, or none that takes from a queue; then those that were are
+/// joined.
+pub fn start_all<T: Task + Send + 'static, R: Spawner + 'static>(
+    rt: &R,
+    alloc: Global,
+    starts: Starts<T>,
+    test_mode: bool,
+) -> Option<Crew<T>>
+    requires ready { (trials : List (Assigned T)) × AreReady T.can_run starts trials }
+    ensures started { IfSome result (λ crew. (trials : List (Assigned T)) → AreReady T.can_run starts trials
+        → Runs T.gives crew test_mode trials) }
+{
+    match starts {
+        Starts::Shares(starts) => {
+            let crew = start_shares(rt, alloc, starts, test_mode)?;
+            Some(Crew::Shares(crew))
+        }
+        Starts::Queue(starts) => {
+            let crew = start_takers(rt, alloc, starts, test_mode)?;
+            Some(Crew::Queue(crew))
+        }
+    }
+}
+
+/// Joins the workers, and returns the rows of each: a place and the outcome there, for each trial that it ran. If not the `whole`
+/// of the trials is to be run, those that wait in a queue are dropped, and workers end what they have taken. A worker runs all of its
+/// share.
+pub fn join_all<T: Task + Send + 'static, R: Spawner>(
+    rt: &R,
+    crew: Crew<T>,
+    whole: bool,
+) -> Vec<Rows>
+    requires running { (mode : Bool) × (trials : List (Assigned T)) × Runs T.gives crew mode trials }
+    ensures joined { (mode : Bool) (trials : List (Assigned T)) → Runs T.gives crew mode trials
+        → AreJoined T.gives mode trials (runs_all crew || whole) (map rows_in result.items) }
+{
+    match crew {
+        Crew::Shares(crew) => join_shares(rt, crew),
+        Crew::Queue(crew) => join_takers(rt, crew, whole),
+    }
+}
