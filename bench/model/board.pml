@@ -226,7 +226,7 @@ inline notify_if_needed() {
 #define REPORTED_PLACE place
 #endif
 
-/* mimic_pool/src/threads.rt: fn start_worker */
+/* mimic_pool/src/shares.rt: fn start_worker */
 proctype Worker(byte me) {
     byte place = me;    /* mimic_pool/src/share.rt: fn deal_next */
     byte index;
@@ -345,7 +345,7 @@ closes_one:
 #endif
     WAKE_AND_NOTIFY;
 
-    /* mimic_pool/src/threads.rt: fn start_worker. Its answers can be joined. */
+    /* mimic_pool/src/shares.rt: fn start_worker. Its answers can be joined. */
 ends:
     skip;
     d_step {
@@ -406,7 +406,7 @@ active proctype Run() {
     :: faulted = true; goto returns
     fi;
 
-    /* mimic_pool/src/threads.rt: fn start_all */
+    /* mimic_pool/src/shares.rt: fn start_all */
     do
     :: w < W ->
         if
@@ -568,7 +568,7 @@ arrived:
     fi;
 #endif
 
-    /* mimic_pool/src/threads.rt: fn join_all */
+    /* mimic_pool/src/shares.rt: fn join_all */
 joins:
     w = 0;
     do
