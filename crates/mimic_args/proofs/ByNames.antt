@@ -1,5 +1,5 @@
--- What a parse reads of the words doesn't depend on where the names of a reader are kept, nor on which options exclude which.
-use Rattle.std.proofs.Common.{◌≡◌, ◌∙◌, ◌==◌, ◌&&◌, ap, ap₂, Bool, cond, drop, false, fold, is_some, length, List, map, None, not, Option, refl, Some, suc, sym, true, zero, ℕ, [], ◌∷◌}
+-- What a parse reads of the words doesn't depend on where the names of a reader are kept.
+use Rattle.std.proofs.Common.{◌≡◌, ◌∙◌, ◌==◌, ◌&&◌, ap, ap₂, Bool, cond, drop, false, fold, is_some, length, List, map, None, not, Option, refl, Some, suc, sym, zero, ℕ, [], ◌∷◌}
 use Rattle.std.specs.Borrow.{Bor}
 use Rattle.std.specs.Option.{option_map, option_map_or}
 use Rattle.std.specs.Prelude.{encode_utf8, slice_get}
@@ -20,9 +20,9 @@ abbrev pub named_reader : ValueParser → ValueParser
 named_reader (vp.Names listed) = reader_of (texts listed.now)
 named_reader p = p
 
--- the argument with that reader, and without exclusions
+-- the argument with that reader
 abbrev pub by_names : Rule → Rule
-by_names a = record a { parser = option_map named_reader a.parser; is_free = true }
+by_names a = record a { parser = option_map named_reader a.parser }
 
 abbrev pub all_by_names : Shape → Shape
 all_by_names s = record s { rules = map by_names s.rules }

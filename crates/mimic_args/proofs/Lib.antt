@@ -1,11 +1,9 @@
 pub mod Accepted
 pub mod ByNames
 pub mod Declaring
-pub mod Excluded
 pub mod OneFault
 pub mod Passed
 pub mod Refusals
 pub mod SameFaults
 pub mod SameLines
 pub mod SimpleLine
-pub mod Used

@@ -54,7 +54,7 @@ only_rule id (x ∷ xs) r (suc k) d one lt hit = go (bytes_eq x.id.now id) refl 
     go false e later = later (rw e at one)
 
 -- the entry of an id that has a first value
-pub first_entry : (P : Entry → Type 0) (xs : List Entry) (id t : Text) → All P xs → first_of id (map row_of xs) ≡ Some t
+first_entry : (P : Entry → Type 0) (xs : List Entry) (id t : Text) → All P xs → first_of id (map row_of xs) ≡ Some t
     → (e : Entry) × (bytes_eq e.0.now id ≡ true) × (slice_get (texts e.1.vals.items) 0 ≡ Some t) × P e
 first_entry P [] id t all found =
     let bad : None ≡ Some t = found in

@@ -1,4 +1,4 @@
--- Which fault a line has doesn't depend on where the names of a reader are kept, nor on which options exclude which.
+-- Which fault a line has doesn't depend on where the names of a reader are kept.
 use Rattle.std.proofs.Common.{◌≡◌, ◌∙◌, ◌&&◌, ◌||◌, ap, ap₂, Bool, cond, drop, is_some, length, List, map, None, not, Option, refl, Some, suc, sym, zero, ℕ, [], ◌∷◌}
 use Rattle.std.specs.List.{list_any}
 use Rattle.std.specs.Option.{option_map, option_map_or}

@@ -3,9 +3,9 @@ use Rattle.std.proofs.Common.{◌≡◌, ◌∙◌, ap, false, List, map, refl, 
 use Rattle.clap.proofs.FaultLemmas.{leaf_fault}
 use Rattle.clap.specs.Faults.{fault_of, level_fault}
 use Rattle.clap.specs.Simple.{App, argument_words, built, matches_of}
-use Rattle.clap.specs.Walk.{Text, Walk, finished, nothing_held, walk}
+use Rattle.clap.specs.Walk.{Text, finished, nothing_held, walk}
 use Rattle.clap.specs.declared.builder.value_parser.ValueParser.{ValueParser}
-use Rattle.mimic_args.specs.CommandLine.{AreReaders, TakesOnly, harness_options, line_options, plus, reader_of}
+use Rattle.mimic_args.specs.CommandLine.{AreReaders, TakesOnly, line_options, plus, reader_of}
 use Rattle.mimic_args.proofs.ByNames.{by_names, named_reader, same_finished, same_walk}
 use Rattle.mimic_args.proofs.SameFaults.{same_level}
 use Rattle.mimic_args.proofs.SimpleLine.{parsed_options}
@@ -35,15 +35,5 @@ same_matches u c f words readers =
     let app = parsed_options u c f in
     let rules = (built app).top.rules in
     sym (ap (λ w. finished (map by_names rules) w.held) (same_walk rules [] nothing_held (argument_words app words))
-    ∙ same_finished rules (walk rules [] nothing_held (argument_words app words)).held)
-    ∙ ap (λ a. matches_of a words) (line_of u c f readers)
-
--- exclusions change nothing of what the words hold
-pub same_harness : (u c f : ValueParser) (words : List Text) → AreReaders u c f → matches_of (harness_options u c f).0 words ≡ matches_of line_options words
-unfolding plus
-same_harness u c f words readers =
-    let app = (harness_options u c f).0 in
-    let rules = (built app).top.rules in
-    sym (ap (λ (w : Walk). finished (map by_names rules) w.held) (same_walk rules [] nothing_held (argument_words app words))
     ∙ same_finished rules (walk rules [] nothing_held (argument_words app words)).held)
     ∙ ap (λ a. matches_of a words) (line_of u c f readers)

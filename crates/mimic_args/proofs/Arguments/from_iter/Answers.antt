@@ -18,16 +18,6 @@ returns-in-Err-clause-refused g c =
     let fault = ap (λ (a : App). fault_of a words) app ∙ same_fault made.0 made.1 made.2 words made.3 in
     refused_for words c.in-Err.error _ (subst (λ (k : Kinds). HasKind k c.in-Err.error) fault has) c.in_ok-error_of-in-Err.ensures
 
-pub text_of_excluded-requires : goal.text_of_excluded-requires
-text_of_excluded-requires g c =
-    let made = c.in_ok-command.ensures in
-    let both = ap₂ (λ t q. options_with t q made.0 made.1 made.2) c.test.ensures.declared c.quiet.ensures.declared in
-    let app = ap (λ (o : Options). o.0) (made.4 ∙ both) in
-    let words = map g.S.AsStr.text c.args.words.now in
-    let rows = (c.in-Ok.ensures.matches (ap is_simple app ∙ is_simple_line made.0 made.1 made.2)).0
-    ∙ ap (λ (a : App). matches_of a words) app ∙ same_matches made.0 made.1 made.2 words made.3 in
-    sym (ap asks_for_excluded rows) ∙ sym c.asks_for_excluded.ensures ∙ c.if-asks_for_excluded.true
-
 pub returns-then-asks_for_excluded-clause-refused : goal.returns-then-asks_for_excluded-clause-refused
 returns-then-asks_for_excluded-clause-refused g c =
     let made = c.in_ok-command.ensures in
