@@ -9,6 +9,7 @@ ghost use Rattle.mimic_main.specs.Ended.{EndsAsAsked, EndsByLine, EndsForLine, E
 
 use crate::clock::MonotonicClock;
 use crate::colours::shows_colours;
+use crate::job::Job;
 use crate::program::Program;
 use crate::sharding::{ShardError, Sharding};
 use crate::status::Status;
@@ -262,10 +263,16 @@ impl<'a> Program<'a> {
         if let Some(shard) = shard {
             self.print_shard(shard, tests.len(), total, err);
         }
-        let (line, out) = (Ok(args), machine.stdout());
-        let clock = MonotonicClock::new(machine);
-        let (_, status) = self.harness_run(&host, &host, alloc, line, tests, out, err, clock);
-        status
+        let job = Job {
+            args: &args,
+            tests,
+            clock: MonotonicClock::new(machine),
+            default_threads: self.threads,
+            auto_colours: self.auto_colours,
+            schedule: self.schedule,
+        };
+        let (_, ran) = job.run(&host, &host, alloc, machine.stdout());
+        self.status_of(ran, args.logfile.as_ref(), err)
     }
 
     /// What `main` is to return if making the trials may be refused: what their run returned, or 1 after the reason

@@ -95,7 +95,7 @@ impl Program<'_> {
     }
 
     // The exit status of a run into the logfile, if there is one. A fault is printed.
-    fn status_of<E: Write>(
+    pub(crate) fn status_of<E: Write>(
         &self,
         ran: Result<Conclusion, Fault>,
         logfile: Option<&String>,
@@ -208,7 +208,7 @@ fn print_line<L: Display + Drop, E: Write>(line: L, err: &mut E) {
 
 impl<R: Task + Send + 'static, C: Clock + Drop> Job<'_, R, C> {
     // Runs into the logfile if there is one, which is made or emptied first, else to `out`, which is given back.
-    fn run<T: Spawner + 'static, F: Files, O: Write + IsTerminal>(
+    pub(crate) fn run<T: Spawner + 'static, F: Files, O: Write + IsTerminal>(
         self,
         rt: &T,
         files: &F,
