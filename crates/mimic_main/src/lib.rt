@@ -22,6 +22,7 @@
 
 mod clock;
 mod colours;
+mod entry;
 mod job;
 mod machine;
 mod output;
@@ -32,9 +33,10 @@ mod status;
 
 pub use clock::{MonotonicClock, StillClock};
 pub use colours::shows_colours;
+pub use entry::{run_line, run_program, trials_of_cases};
 pub use job::{Job, run_into};
 pub use libtest_mimic::Schedule;
-pub use machine::{Machine, Streams, run_line, run_program, trials_of_cases};
+pub use machine::{Machine, Streams};
 pub use mimic_shard::{Shard, ShardFault};
 pub use output::Output;
 pub use policy::FlushPolicy;

@@ -1,7 +1,7 @@
 use Rattle.std.proofs.Common.{rules, All}
 use Rattle.mimic_main.proofs.Cases.{can_run}
-use Rattle.mimic_main.specs.contracts.machine.trials_of_cases.F-FnOnce.{words}
-use Rattle.mimic_main.proofs.machine.trials_of_cases.Goals as goal
+use Rattle.mimic_main.specs.contracts.entry.trials_of_cases.F-FnOnce.{words}
+use Rattle.mimic_main.proofs.entry.trials_of_cases.Goals as goal
 
 pub returns-in_ok-of_cases-in-Ok-clause-runnable : goal.returns-in_ok-of_cases-in-Ok-clause-runnable
 returns-in_ok-of_cases-in-Ok-clause-runnable g c =

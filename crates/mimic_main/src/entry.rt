@@ -1,0 +1,230 @@
+//! A whole program on a machine: the calls of its `main`.
+ghost use Rattle.std.specs.Prelude.{◌≡◌, ◌≤◌, All, IfOk, OnErr, false, true};
+ghost use Rattle.std.specs.NonZero.{non_zero_usize_get};
+ghost use Rattle.std.specs.Result.{is_ok};
+ghost use Rattle.libtest_mimic.specs.Suite.{asking};
+ghost use Rattle.libtest_mimic.specs.Trial.{AllCanRun};
+ghost use Rattle.mimic_trial.specs.Case.{AreTestsOf};
+ghost use Rattle.mimic_main.specs.Ended.{EndsAsAsked, EndsByLine, EndsForLine, EndsInPart, EndsSomehow, IsOfReadLine, number_of};
+
+use crate::clock::MonotonicClock;
+use crate::colours::shows_colours;
+use crate::job::Job;
+use crate::machine::Machine;
+use crate::program::Program;
+use crate::sharding::{ShardError, Sharding};
+use crate::status::Status;
+use libtest_mimic::{
+    Arguments, ArgumentsError, Case, Failed, RunError, Schedule, Spawner, Task, Trial,
+};
+use std::alloc::Global;
+use std::convert::AsStr;
+use std::fmt::Display;
+use std::num::NonZeroUsize;
+use std::{io, thread};
+
+/// Runs or lists the trials as the program's command line and its environment ask, and returns what its `main` is to return.
+///
+/// If the line does not say how many threads run them, it is as many as the machine can run at once. The report goes to
+/// standard output, in colours if [`shows_colours`](crate::shows_colours) says so, or into the logfile. A fault is printed on
+/// standard error with its cause. If the trials could not be made, the reason is printed there, and the status is 1.
+///
+/// No contract says which words and variables a process gets, so this one is about some of them, and never excludes the statuses
+/// 0, 1 and 2.
+pub fn run_program<M: Machine, R: Task + Send + 'static, X: Display + Drop>(
+    machine: &M,
+    name: &str,
+    tests: Result<Vec<Trial<R>>, X>,
+) -> Status
+    requires { IfOk tests (λ made. AllCanRun R.can_run made.items) }
+    ensures made { IfOk tests (λ made. EndsByLine R.gives made.items (number_of result)) }
+    ensures refused { OnErr tests (number_of result ≡ 1) }
+{
+    let line = Arguments::from_args(machine, machine.alloc());
+    let sharding = Sharding::from_env(machine);
+    let program = Program::on(machine, name);
+    program.run_line(machine, line, sharding, tests)
+}
+
+/// Runs or lists the trials as `run_program` does, for a line that was read already, as by a program with words of its own
+/// (`Line` of `libtest_mimic`), and for variables that were read by [`Sharding::from_env`](crate::Sharding::from_env).
+pub fn run_line<M: Machine, R: Task + Send + 'static, X: Display + Drop>(
+    machine: &M,
+    name: &str,
+    line: Result<Arguments, ArgumentsError>,
+    sharding: Result<Sharding, ShardError>,
+    tests: Result<Vec<Trial<R>>, X>,
+) -> Status
+    requires { IfOk tests (λ made. AllCanRun R.can_run made.items) }
+    ensures made { IfOk tests (λ made. EndsForLine R.gives made.items line sharding (number_of result)) }
+    ensures refused { OnErr tests (number_of result ≡ 1) }
+{
+    Program::on(machine, name).run_line(machine, line, sharding, tests)
+}
+
+/// Makes tests of a table for [`run_program`]: one for each case, in their order. A case is its name and its input, and passes if
+/// the check, which all share, returns `Ok` for its input. Returns `Err` if the table could not be made, or if an allocation fails.
+pub fn trials_of_cases<
+    N: AsStr + Drop,
+    I: Drop,
+    F: FnOnce(I) -> Result<(), Failed> + Copy + Drop,
+    X: Into<RunError>,
+>(
+    alloc: Global,
+    cases: Result<Vec<(N, I)>, X>,
+    check: F,
+) -> Result<Vec<Trial<Case<I, F>>>, RunError>
+    requires { IfOk cases (λ made. All (λ case. F.pre check case.1) made.items) }
+    ensures tests { IfOk result
+        (λ tests. IfOk cases (λ made. AreTestsOf N.text check made.items tests.items)) }
+    ensures runnable { IfOk result
+        (λ tests. AllCanRun (λ case. F.pre case.check case.input) tests.items) }
+    ensures refused { OnErr cases (is_ok result ≡ false) }
+{
+    match cases {
+        Ok(cases) => Ok(Trial::of_cases(alloc, cases, check)?),
+        Err(error) => Err(error.into()),
+    }
+}
+
+// How many threads the machine can run at once, and 1 if it does not say.
+fn threads_at_once<T: Spawner>(rt: &T) -> usize
+    ensures { 1 ≤ result }
+{
+    count_or_one(thread::available_parallelism(rt))
+}
+
+// The count that the machine gave, and 1 if it gave none.
+fn count_or_one(given: io::Result<NonZeroUsize>) -> usize
+    ensures some { 1 ≤ result }
+    ensures given { IfOk given (λ count. result ≡ non_zero_usize_get count) }
+    ensures unknown { OnErr given (result ≡ 1) }
+{
+    match given {
+        Ok(count) => count.get(),
+        Err(_) => 1,
+    }
+}
+
+impl<'a> Program<'a> {
+    /// A program of this name that leaves to the machine what a line leaves open: as many threads as that can run at once, and
+    /// colours if [`shows_colours`](crate::shows_colours) says so of its standard output. It prints faults with their causes, and
+    /// its workers take trials from one queue.
+    pub fn on<M: Machine>(machine: &M, name: &'a str) -> Program<'a>
+        ensures name { result.name.now ≡ name.now }
+        ensures threads { 1 ≤ result.threads }
+        ensures causes { result.prints_causes ≡ true }
+        ensures schedule { result.schedule ≡ Schedule.Queue }
+    {
+        Program {
+            name,
+            threads: threads_at_once(&machine.host()),
+            auto_colours: shows_colours(machine, &machine.stdout()),
+            prints_causes: true,
+            schedule: Schedule::Queue,
+        }
+    }
+
+    /// Runs or lists the trials as the machine's command line asks, whatever the variables of its environment hold, and returns
+    /// what `main` is to return.
+    ///
+    /// Trials that are boxed closures are handed in here, by the function that makes the boxes.
+    pub fn run<M: Machine, R: Task + Send + 'static>(
+        &self,
+        machine: &M,
+        tests: Vec<Trial<R>>,
+    ) -> Status
+        requires runnable { AllCanRun R.can_run tests.items }
+        requires some_thread { 1 ≤ self.now.threads }
+        ensures { IsOfReadLine (EndsSomehow (asking R.gives self.now.threads self.now.auto_colours tests.items)) (number_of result) }
+    {
+        let line = Arguments::from_args(machine, machine.alloc());
+        let made: Result<Vec<Trial<R>>, RunError> = Ok(tests);
+        self.run_line(machine, line, Ok(Sharding::none()), made)
+    }
+
+    /// Runs or lists the trials as the line and the variables ask, on the machine's streams and by its clock, and returns what
+    /// `main` is to return. A shard is named in one line on standard error.
+    ///
+    /// A fault is printed there, the first of these: the trials could not be made (status 1), the line was refused (2), the
+    /// variables were (2), the status file can't be touched (2), the logfile can't be made (1), the run was refused (1). If help
+    /// is asked for, it is printed whatever the variables hold. The status is 1, too, if there is no memory for any of this.
+    pub fn run_line<M: Machine, R: Task + Send + 'static, X: Display + Drop>(
+        &self,
+        machine: &M,
+        line: Result<Arguments, ArgumentsError>,
+        sharding: Result<Sharding, ShardError>,
+        tests: Result<Vec<Trial<R>>, X>,
+    ) -> Status
+        requires runnable { IfOk tests (λ made. AllCanRun R.can_run made.items) }
+        requires some_thread { 1 ≤ self.now.threads }
+        ensures made { IfOk tests
+            (λ made. EndsAsAsked (asking R.gives self.now.threads self.now.auto_colours) made.items line sharding (number_of result)) }
+        ensures refused { OnErr tests (number_of result ≡ 1) }
+    {
+        let mut err = machine.stderr();
+        let tests = match tests {
+            Ok(tests) => tests,
+            Err(reason) => return self.refuse(reason, &mut err),
+        };
+        let args = match line {
+            Ok(args) => args,
+            Err(error) => return self.status_without(error, &mut machine.stdout(), &mut err),
+        };
+        match sharding {
+            Ok(sharding) => self.run_part(machine, args, sharding, tests, &mut err),
+            Err(error) => self.status_without_part(&error, &mut err),
+        }
+    }
+
+    // Runs or lists what these variables ask for, and prints which shard of the trials it is.
+    fn run_part<M: Machine, R: Task + Send + 'static>(
+        &self,
+        machine: &M,
+        args: Arguments,
+        sharding: Sharding,
+        tests: Vec<Trial<R>>,
+        err: &mut M::Stderr,
+    ) -> Status
+        requires runnable { AllCanRun R.can_run tests.items }
+        requires some_thread { 1 ≤ self.now.threads }
+        ensures { EndsInPart (asking R.gives self.now.threads self.now.auto_colours) tests.items args sharding (number_of result) }
+    {
+        let host = machine.host();
+        let alloc = machine.alloc();
+        let (shard, total) = (sharding.shard, tests.len());
+        let (args, tests) = match sharding.part(&host, machine, alloc, args, tests) {
+            Ok(part) => part,
+            Err(error) => return self.status_without_part(&error, err),
+        };
+        if let Some(shard) = shard {
+            self.print_shard(shard, tests.len(), total, err);
+        }
+        let job = Job {
+            args: &args,
+            tests,
+            clock: MonotonicClock::new(machine),
+            default_threads: self.threads,
+            auto_colours: self.auto_colours,
+            schedule: self.schedule,
+        };
+        let (_, ran) = job.run(&host, &host, alloc, machine.stdout());
+        self.status_of(ran, args.logfile.as_ref(), err)
+    }
+
+    /// What `main` is to return if making the trials may be refused: what their run returned, or 1 after the reason
+    /// is printed on standard error.
+    pub fn end<M: Machine, X: Display + Drop>(
+        &self,
+        machine: &M,
+        ended: Result<Status, X>,
+    ) -> Status
+        ensures ran { IfOk ended (λ status. result ≡ status) }
+        ensures refused { OnErr ended (number_of result ≡ 1) }
+    {
+        match ended {
+            Ok(status) => status,
+            Err(reason) => self.refuse(reason, &mut machine.stderr()),
+        }
+    }
+}
