@@ -235,7 +235,6 @@ proctype Worker(byte me) {
 
     /* mimic_pool/src/worker.rt: fn work
      * mimic_pool/src/board_reports.rt: fn tell
-     * mimic_pool/src/board_reports.rt: fn report
      * The trial runs, and its outcome is copied. A trial may last until nothing else can move. Then all rows of trials that have
      * ended must stand in the report. */
 works:
@@ -406,7 +405,7 @@ active proctype Run() {
     :: faulted = true; goto returns
     fi;
 
-    /* mimic_pool/src/shares.rt: fn start_all */
+    /* mimic_pool/src/shares.rt: fn start_workers */
     do
     :: w < W ->
         if
@@ -568,7 +567,7 @@ arrived:
     fi;
 #endif
 
-    /* mimic_pool/src/shares.rt: fn join_all */
+    /* mimic_pool/src/shares.rt: fn join_workers */
 joins:
     w = 0;
     do

@@ -134,7 +134,6 @@ inline notify_if_needed() {
     runs[place]++
 
 /* mimic_pool/src/board_reports.rt: fn tell
- * mimic_pool/src/board_reports.rt: fn report
  * mimic_pool/src/shared_board.rt: fn report
  * mimic_pool/src/board.rt: fn report */
 #define REPORTS \
@@ -164,11 +163,10 @@ inline notify_if_needed() {
     closed = (closed < W -> closed + 1 : closed); \
     must_notify = CLOSE_NOTIFIES
 
-/* When nothing but trials goes on, each row that was reported must stand in the report, and after a fault nothing may be left for a
- * worker to take. */
+/* When nothing but trials goes on, each row that was reported must stand in the report, and after a fault no worker may take more. */
 #define ALL_IN_TIME \
     assert(!owes || written == reported); \
-    assert(!faulted || IS_EMPTY)
+    assert(!faulted || limit == 0)
 
 /* work_from, on a thread of the worker's own or, if that could not be started, on the run's. */
 inline work(me) {
@@ -464,10 +462,10 @@ writes:
     :: d_step { WRITES(came); place = 0 }; goto next
     :: d_step { faulted = true; owes = false; place = 0 }
     fi;
-#ifndef DROPS_AFTER_THE_JOINS
-    drop_left();
+#ifndef TAKES_ON_AFTER_A_FAULT
+    limit = 0;
 #endif
-#ifdef RETURNS_AFTER_THE_DROPS
+#ifdef RETURNS_BEFORE_THE_JOINS
     goto returns;
 #endif
 
@@ -504,12 +502,10 @@ joins:
 joined_all:
     skip;
 #endif
-#ifdef DROPS_AFTER_THE_JOINS
     if
-    :: faulted -> drop_left()
+    :: faulted -> drop_left(); assert(!faulted || IS_EMPTY)
     :: else
     fi;
-#endif
 
     /* What is left because no worker had room. */
 #ifndef RUNS_NOTHING_LEFT

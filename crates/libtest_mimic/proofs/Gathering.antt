@@ -1,6 +1,6 @@
 -- What workers told and answered: the title, the rows that were told, and then those that were missing.
 use Rattle.std.proofs.Common.{◌≡◌, ◌∙◌, ℕ, ◌<◌, ◌||◌, Bool, true, false, inr, List, [], ◌∷◌, ◌++◌, Option, None, Some, Result, Ok, Err, length, map, drop, refl, sym, ap, subst, arith}
-use Rattle.std.specs.List.{flat_map, range_with_len}
+use Rattle.std.specs.List.{range_with_len}
 use Rattle.std.specs.List.Sorted.{IsPermutation}
 use Rattle.std.specs.Prelude.{IfErr, IsErrAnd, MatchResult, slice_get}
 use Rattle.std.proofs.Math.Seq.{drop-append_seam}
@@ -10,9 +10,9 @@ use Rattle.mimic_trial.specs.declared.trial.TestInfo.{TestInfo}
 use Rattle.mimic_trial.specs.Places.{Placed, placed_at, placed_if, places_of}
 use Rattle.mimic_pool.specs.declared.share.Assigned.{Assigned}
 use Rattle.mimic_pool.specs.Arrivals.{Arrived, missing_of}
-use Rattle.mimic_pool.specs.Joined.{AnswersPart, AreJoined, put_each}
+use Rattle.mimic_pool.specs.Joined.{AreJoined, AreOutcomes, put_each}
 use Rattle.mimic_pool.specs.Share.{assigned_from}
-use Rattle.mimic_pool.proofs.Joining.{joined_own}
+use Rattle.mimic_pool.proofs.Joining.{joined_whole}
 use Rattle.mimic_trial.specs.Promise.{Gives}
 use Rattle.mimic_printer.specs.declared.Printer.{Printer}
 use Rattle.mimic_printer.specs.Report.{rows_text, title_text}
@@ -55,19 +55,19 @@ follows a b c s t (Err e) p q =
 -- ---- what the workers answered
 
 module _ {R : Type 0} (gives : Gives R) (mode : Bool) (rs : List R) (bs : List Bool) (same : length rs ≡ length bs) where
-  -- if no trial was dropped: what the desk has that was completed with what the workers returned
-  pub completed_gathered : (whole : Bool) (joined : List (List Placed)) (old new : Arrived) (done : IsCompleted whole old joined new) → AnswersPart gives mode (assigned_from 0 rs bs) [] (flat_map (λ rows. rows) joined) → old.places ≡ length rs
+  -- there are as many outcomes as trials
+  pub outcomes_count : (whole : Bool) (joined : List (List Placed)) (old new : Arrived) (done : IsCompleted whole old joined new) → old.places ≡ length rs → length done.outcomes ≡ length (assigned_from 0 rs bs)
+  outcomes_count whole joined old new done places = done.count ∙ places ∙ sym (length_assigned 0 rs bs same)
+
+  -- if each place has an own outcome: what the desk has that was completed with what the workers returned
+  pub completed_gathered : (whole : Bool) (joined : List (List Placed)) (old new : Arrived) (done : IsCompleted whole old joined new) → AreOutcomes gives mode (assigned_from 0 rs bs) (put_each joined done.outcomes) → old.places ≡ length rs
       → Gathered gives mode (assigned_from 0 rs bs) (places_of new.rows) (put_each joined done.outcomes)
-  completed_gathered whole joined old new done answered places =
+  completed_gathered whole joined old new done own places =
       let all : length rs ≡ length (assigned_from 0 rs bs) = sym (length_assigned 0 rs bs same) in
       record {
-        answered = joined_own gives mode rs bs joined done.outcomes answered (done.count ∙ places ∙ all);
+        answered = own;
         whole = subst (λ (k : ℕ). IsPermutation (places_of new.rows) (range_with_len 0 k)) (places ∙ all) done.all;
       }
-
-  -- none was dropped if all were to be run
-  pub none_dropped : (whole : Bool) (joined : List (List Placed)) (are : AreJoined gives mode (assigned_from 0 rs bs) whole joined) → whole ≡ true → AnswersPart gives mode (assigned_from 0 rs bs) [] (flat_map (λ rows. rows) joined)
-  none_dropped whole joined are all = subst (λ l. AnswersPart gives mode (assigned_from 0 rs bs) l (flat_map (λ rows. rows) joined)) (are.all all) are.answered
 
 -- ---- the rows that were missing
 
@@ -145,7 +145,7 @@ pub told_refused : {R : Type 0} (gives : Gives R) (mode : Bool) (rs : List R) (b
 told_refused gives mode rs bs same p infos true whole old new joined done part are places a b stopped = (
   new.rows,
   [],
-  all_gathered gives mode (assigned_from 0 rs bs) new.rows (put_each joined done.outcomes) done.returned (completed_gathered gives mode rs bs same whole joined old new done (none_dropped gives mode rs bs same true joined are refl) places),
+  all_gathered gives mode (assigned_from 0 rs bs) new.rows (put_each joined done.outcomes) done.returned (completed_gathered gives mode rs bs same whole joined old new done (joined_whole gives mode rs bs true joined are refl done.outcomes (outcomes_count gives mode rs bs same whole joined old new done places)) places),
   λ _. refl,
   stopped_told p infos whole old new joined done a b stopped,
 )

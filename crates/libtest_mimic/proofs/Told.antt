@@ -1,15 +1,14 @@
 -- Rows that workers told, in the order in which they came, and rows by place.
-use Rattle.std.proofs.Common.{◌≡◌, ◌∙◌, ℕ, suc, zero, ◌-◌, ◌<◌, ◌≤◌, drop, nat_lt, not, ◌&&◌, ◌||◌, Bool, true, false, cond, List, [], ◌∷◌, ◌++◌, None, Some, length, map, refl, sym, ap, append-nil, arith, inl, inr, slice_index_or}
+use Rattle.std.proofs.Common.{◌≡◌, ◌∙◌, ℕ, suc, zero, ◌-◌, ◌<◌, ◌≤◌, drop, nat_lt, not, ◌&&◌, Bool, true, false, cond, List, [], ◌∷◌, ◌++◌, Some, length, map, refl, sym, ap, append-nil, arith, slice_index_or}
 use Rattle.std.specs.Prelude.{All, slice_get}
-use Rattle.std.proofs.lemmas.Bool.Decides.{nat_tests, eqb_tells}
-use Rattle.std.proofs.lemmas.Bool.{eq-eqb}
+use Rattle.std.proofs.lemmas.Bool.Decides.{nat_tests}
 use Rattle.std.proofs.lemmas.List.{length-map, map-append}
 use Rattle.std.proofs.lemmas.List.Concat.{flat_map-append}
 use Rattle.mimic_trial.specs.declared.outcome.Outcome.{Outcome}
 use Rattle.mimic_trial.specs.declared.trial.TestInfo.{TestInfo}
 use Rattle.std.proofs.lemmas.List.Elements.{All-head, All-tail}
 use Rattle.mimic_trial.specs.Places.{Placed, places_of}
-use Rattle.mimic_pool.specs.Arrivals.{Arrived, arrival_of, arrived_at, has_come, rows_after}
+use Rattle.mimic_pool.specs.Arrivals.{Arrived, arrival_of, has_come, rows_after}
 use Rattle.mimic_pool.specs.declared.desk.Arrival.TheVariants.{First, Again, Stranger}
 use Rattle.mimic_printer.specs.declared.Printer.{Printer}
 use Rattle.mimic_printer.specs.Report.{row_text, rows_text}
@@ -34,15 +33,9 @@ first_row d p o e =
       ap (λ b. cond (b && not (has_come p d.rows)) (d.rows ++ (p, o) ∷ []) d.rows) h.0 ∙ ap (λ b. cond (true && not b) (d.rows ++ (p, o) ∷ []) d.rows) h.1,
     )
 
-pub arrived_last : (p : ℕ) (o : Outcome) (rows : List Placed) → has_come p rows ≡ false → arrived_at p (rows ++ (p, o) ∷ []) ≡ Some o
-arrived_last p o [] h = ap (λ b. cond b (Some o) None) (eq-eqb p p refl)
-arrived_last p o (r ∷ rs) h =
-    elim (eqb_tells p r.0) [
-      | inl e ↦ absurd (let k : true ≡ false = ap (λ b. b || has_come p rs) (sym e.0) ∙ h in cc)
-      | inr e ↦
-          let rest : has_come p rs ≡ false = ap (λ b. b || has_come p rs) (sym e.0) ∙ h in
-          ap (λ b. cond b (Some r.1) (arrived_at p (rs ++ (p, o) ∷ []))) e.0 ∙ arrived_last p o rs rest
-    ]
+pub row_last : (rows : List Placed) (row : Placed) → slice_get (rows ++ row ∷ []) (length rows) ≡ Some row
+row_last [] row = refl
+row_last (r ∷ rows) row = row_last rows row
 
 -- ---- texts of rows at places
 

@@ -9,8 +9,7 @@ use Rattle.mimic_trial.specs.Places.{Placed}
 use Rattle.mimic_trial.specs.Promise.{Gives}
 use Rattle.mimic_pool.specs.declared.share.Assigned.{Assigned}
 use Rattle.mimic_pool.specs.Answers.{Answers}
-use Rattle.mimic_pool.specs.Joined.{AreJoined}
-use Rattle.mimic_pool.specs.Queue.{AnswersTakes}
+use Rattle.mimic_pool.specs.Joined.{AnswersSome, AreJoined}
 use Rattle.mimic_pool.proofs.Working.{answers_both}
 
 module _ {X : Type 0} where
@@ -25,52 +24,49 @@ module _ {X : Type 0} where
 module _ {X : Type 0} (gives : Gives X) (mode : Bool) where
   module _ (whole : Bool) where
     -- more were taken and answered
-    pub takes_answered : (taken more : List (Assigned X)) (rows all : List Placed) (was : AnswersTakes gives mode whole taken rows) → Answers gives mode (was.given ++ more) all → AnswersTakes gives mode whole (taken ++ more) all
+    pub takes_answered : (taken more : List (Assigned X)) (rows all : List Placed) (was : AnswersSome gives mode whole taken rows) → Answers gives mode (was.answered.given ++ more) all → AnswersSome gives mode whole (taken ++ more) all
     takes_answered taken more rows all was answers = record {
-      given = was.given ++ more;
       dropped = was.dropped;
-      parts = given_more taken was.given was.dropped more was.parts;
-      answers = answers;
+      answered = record { given = was.answered.given ++ more; parts = given_more taken was.answered.given was.dropped more was.answered.parts; answers = answers };
       all = was.all;
     }
 
     -- those that another took, and its rows, are more
-    pub takes_both : (taken more longer : List (Assigned X)) (rows last next : List Placed) → longer ≡ taken ++ more → next ≡ rows ++ last → Answers gives mode more last → AnswersTakes gives mode whole taken rows
-        → AnswersTakes gives mode whole longer next
+    pub takes_both : (taken more longer : List (Assigned X)) (rows last next : List Placed) → longer ≡ taken ++ more → next ≡ rows ++ last → Answers gives mode more last → AnswersSome gives mode whole taken rows
+        → AnswersSome gives mode whole longer next
     takes_both taken more longer rows last next is_longer is_next answers was =
-        subst (λ l. AnswersTakes gives mode whole l next) (sym is_longer) (subst (λ l. AnswersTakes gives mode whole (taken ++ more) l) (sym is_next) (takes_answered taken more rows (rows ++ last) was (answers_both gives mode was.given more rows last was.answers answers)))
+        subst (λ l. AnswersSome gives mode whole l next) (sym is_longer) (subst (λ l. AnswersSome gives mode whole (taken ++ more) l) (sym is_next) (takes_answered taken more rows (rows ++ last) was (answers_both gives mode was.answered.given more rows last was.answered.answers answers)))
 
     -- more were taken and dropped
-    pub takes_dropped : (taken more longer : List (Assigned X)) (rows : List Placed) → longer ≡ taken ++ more → whole ≡ false → AnswersTakes gives mode whole taken rows → AnswersTakes gives mode whole longer rows
+    pub takes_dropped : (taken more longer : List (Assigned X)) (rows : List Placed) → longer ≡ taken ++ more → whole ≡ false → AnswersSome gives mode whole taken rows → AnswersSome gives mode whole longer rows
     takes_dropped taken more longer rows is_longer part was =
-        let parts : IsPermutation (taken ++ more) (was.given ++ (was.dropped ++ more)) = subst (λ l. IsPermutation (taken ++ more) l) (append_assoc was.given was.dropped more) (IsPermutation-append_left more _ _ was.parts) in
+        let given = was.answered.given in
+        let parts : IsPermutation (taken ++ more) (given ++ (was.dropped ++ more)) = subst (λ l. IsPermutation (taken ++ more) l) (append_assoc given was.dropped more) (IsPermutation-append_left more _ _ was.answered.parts) in
         record {
-          given = was.given;
           dropped = was.dropped ++ more;
-          parts = subst (λ l. IsPermutation l (was.given ++ (was.dropped ++ more))) (sym is_longer) parts;
-          answers = was.answers;
+          answered = record { given = given; parts = subst (λ l. IsPermutation l (given ++ (was.dropped ++ more))) (sym is_longer) parts; answers = was.answered.answers };
           all = λ all. absurd (false≢true (sym part ∙ all));
         }
 
     -- none was dropped, whether all are to be run or not
-    pub takes_any : (taken : List (Assigned X)) (rows : List Placed) → AnswersTakes gives mode true taken rows → AnswersTakes gives mode whole taken rows
-    takes_any taken rows was = record { given = was.given; dropped = was.dropped; parts = was.parts; answers = was.answers; all = λ _. was.all refl }
+    pub takes_any : (taken : List (Assigned X)) (rows : List Placed) → AnswersSome gives mode true taken rows → AnswersSome gives mode whole taken rows
+    takes_any taken rows was = record { dropped = was.dropped; answered = was.answered; all = λ _. was.all refl }
 
     -- all that was put was taken
     pub takes_whole : (trials put taken : List (Assigned X)) (joined : List (List Placed)) (rows : List Placed) → put ≡ trials → IsPermutation put taken → rows ≡ flat_map (λ rows. rows) joined
-        → AnswersTakes gives mode whole taken rows → AreJoined gives mode trials whole joined
+        → AnswersSome gives mode whole taken rows → AreJoined gives mode trials whole joined
     takes_whole trials put taken joined rows is same are was = record {
       dropped = was.dropped;
       answered = record {
-        given = was.given;
-        parts = subst (λ l. IsPermutation l (was.given ++ was.dropped)) is (IsPermutation-trans _ _ _ same was.parts);
-        answers = subst (λ l. Answers gives mode was.given l) are was.answers;
+        given = was.answered.given;
+        parts = subst (λ l. IsPermutation l (was.answered.given ++ was.dropped)) is (IsPermutation-trans _ _ _ same was.answered.parts);
+        answers = subst (λ l. Answers gives mode was.answered.given l) are was.answered.answers;
       };
       all = was.all;
     }
 
-  pub takes_none : (taken : List (Assigned X)) → taken ≡ [] → AnswersTakes gives mode true taken []
-  takes_none taken none = record { given = []; dropped = []; parts = subst (λ l. IsPermutation l []) (sym none) (IsPermutation-refl []); answers = tt; all = λ _. refl }
+  pub takes_none : (taken : List (Assigned X)) → taken ≡ [] → AnswersSome gives mode true taken []
+  takes_none taken none = record { dropped = []; answered = record { given = []; parts = subst (λ l. IsPermutation l []) (sym none) (IsPermutation-refl []); answers = tt }; all = λ _. refl }
 
 -- the rows of one more
 pub rows_pushed : {V Y : Type 0} (f : V → List Y) (old new : List V) (last : V) → new ≡ old ++ last ∷ [] → flat_map f new ≡ flat_map f old ++ f last

@@ -1,7 +1,6 @@
 -- A desk that has all rows that were returned stands for them.
-use Rattle.std.proofs.Common.{◌≡◌, ◌∙◌, ◌↔◌, ℕ, ◌+◌, ◌≤◌, Bool, true, false, not, Bor, List, [], ◌∷◌, ◌++◌, Option, Some, None, All, is_some, length, length-append, slice_index_or, slice_set, refl, sym, ap, subst, append-nil, arith}
+use Rattle.std.proofs.Common.{◌≡◌, ◌∙◌, ℕ, ◌+◌, ◌≤◌, List, [], ◌∷◌, ◌++◌, Some, None, All, is_some, length, length-append, slice_index_or, slice_set, refl, sym, ap, subst, append-nil, arith}
 use Rattle.std.specs.Prelude.{slice_get, unwrap_or}
-use Rattle.std.specs.Option.{option_copied, option_eq}
 use Rattle.std.specs.List.{AllByRecursion, range_with_len}
 use Rattle.std.specs.List.Sorted.{IsPermutation}
 use Rattle.std.proofs.lemmas.List.{nil_from_length, set-get_or}
@@ -11,14 +10,13 @@ use Rattle.std.proofs.lemmas.List.Sorted.{length_permutation}
 use Rattle.std.proofs.lemmas.Option.{get_or_from_slice_get, slice_get-get_or}
 use Rattle.mimic_trial.specs.declared.outcome.Outcome.{Outcome}
 use Rattle.mimic_trial.specs.declared.outcome.Outcome.TheVariants.{Ignored}
-use Rattle.mimic_trial.specs.Same.{outcome_decides, same_outcome}
 use Rattle.mimic_trial.specs.Places.{Placed, places_of}
 use Rattle.mimic_pool.specs.Arrivals.{Arrived, arrived_at, missing_of, outcomes_by_place}
 use Rattle.mimic_pool.specs.Joined.{put_all, put_each}
 use Rattle.mimic_pool.specs.Returned.{HasAll, StandsFor}
-use Rattle.mimic_pool.specs.Seats.{IsSeated, arrived_of}
+use Rattle.mimic_pool.specs.Seats.{IsSeated, arrived_of, lying_at}
 use Rattle.mimic_pool.specs.declared.desk.Desk.TheInside.{Inside}
-use Rattle.mimic_pool.proofs.Seating.{order_shown, row_shown, shown_whole, some_below}
+use Rattle.mimic_pool.proofs.Seating.{length_lying, order_shown, row_shown, shown_whole, some_below}
 use Rattle.mimic_pool.proofs.Settling.{all_settled}
 
 -- ---- rows that are put where they stand already
@@ -41,11 +39,12 @@ put_each_same (rows ∷ returned) outcomes all =
 module _ (desk : Inside) (seated : IsSeated desk) where
   outcome_stands : (p : ℕ) (o : Outcome) → arrived_at p (arrived_of desk).rows ≡ Some o → slice_get (outcomes_by_place (arrived_of desk)) p ≡ Some o
   outcome_stands p o at =
-      let lies : slice_index_or desk.seats p None ≡ Some o = sym (row_shown desk.seats desk.order.items seated.taken p) ∙ at in
-      let low = some_below desk.seats p (ap is_some lies) in
+      let lies : slice_index_or (lying_at desk) p None ≡ Some o = sym (row_shown (lying_at desk) desk.order.items seated.taken p) ∙ at in
+      let low = some_below (lying_at desk) p (ap is_some lies) in
+      let len = length_lying desk.outcomes.items desk.seats.items in
       let here = λ (place : ℕ). unwrap_or (arrived_at place (arrived_of desk).rows) Ignored in
-      slice_get-get_or (outcomes_by_place (arrived_of desk)) p Ignored (omega (arith, low, length-map-range_with_len here 0 (length desk.seats)))
-      ∙ (ap Some (get_or-map-range_with_len here 0 (length desk.seats) p p Ignored low (omega arith)) ∙ ap (λ found. Some (unwrap_or found Ignored)) at)
+      slice_get-get_or (outcomes_by_place (arrived_of desk)) p Ignored (omega (arith, low, len, length-map-range_with_len here 0 (length desk.seats.items)))
+      ∙ (ap Some (get_or-map-range_with_len here 0 (length desk.seats.items) p p Ignored (omega (arith, low, len)) (omega arith)) ∙ ap (λ found. Some (unwrap_or found Ignored)) at)
 
   stands_for : (returned : List (List Placed)) → HasAll (arrived_of desk) returned → StandsFor (arrived_of desk) returned
   stands_for returned has =
@@ -55,9 +54,9 @@ module _ (desk : Inside) (seated : IsSeated desk) where
         unchanged = put_each_same returned (outcomes_by_place shown)
             (recursion_from_All (λ rows. All (λ row. slice_get (outcomes_by_place shown) row.0 ≡ Some row.1) rows) returned
             (λ k d low. λ j e lower. outcome_stands _ _ (has.same k d low j e lower)));
-        rows = all_settled desk.seats desk.order.items (outcomes_by_place shown)
-            (λ p o lies. outcome_stands p o (row_shown desk.seats desk.order.items seated.taken p ∙ lies));
-        len = length-map-range_with_len here 0 (length desk.seats);
+        rows = all_settled (lying_at desk) desk.order.items (outcomes_by_place shown)
+            (λ p o lies. outcome_stands p o (row_shown (lying_at desk) desk.order.items seated.taken p ∙ lies));
+        len = length-map-range_with_len here 0 (length desk.seats.items);
         whole = subst (λ (l : List ℕ). IsPermutation l (range_with_len 0 shown.places)) (ap (λ l. places_of shown.rows ++ l) has.complete ∙ append-nil (places_of shown.rows)) whole;
       }
 
@@ -68,41 +67,16 @@ all_stand desk shown returned seated is =
 
 -- ---- whether a desk has all rows
 
-not_false : (b : Bool) → false ≡ not b → b ≡ true
-not_false true e = refl
-not_false false e = absurd (cc)
-
--- what was found compares as the outcome
-pub found_same : (found : Option (Bor Outcome)) (outcome : Bor Outcome) → false ≡ not (option_eq (λ x y. same_outcome x.now y.now) found (Some outcome)) → option_copied found ≡ Some outcome.now
-found_same None outcome e = absurd (cc)
-found_same (Some found) outcome e =
-    let is : same_outcome found.now outcome.now ≡ true = not_false (same_outcome found.now outcome.now) e in
-    ap Some ((outcome_decides found.now outcome.now).0 is)
-
 -- the order and the places at which nothing arrived are as many as there are places
-order_counts : (desk : Inside) (shown : Arrived) → IsSeated desk → arrived_of desk ≡ shown → length desk.order.items + length (missing_of shown) ≡ length desk.seats
+order_counts : (desk : Inside) (shown : Arrived) → IsSeated desk → arrived_of desk ≡ shown → length desk.order.items + length (missing_of shown) ≡ length desk.seats.items
 order_counts desk shown seated is =
     let all = length_permutation _ _ (shown_whole desk shown seated is) in
-    let order = ap length (order_shown desk.seats desk.order.items seated.taken) ∙ ap (λ d. length (places_of d.rows)) is in
+    let order = ap length (order_shown (lying_at desk) desk.order.items seated.taken) ∙ ap (λ d. length (places_of d.rows)) is in
     omega (arith, all, order, length-append (places_of shown.rows) (missing_of shown), length-range_with_len 0 shown.places, ap (λ d. d.places) is)
 
 -- nothing is missing exactly if the order is as long as there are places
-pub missing_none : (desk : Inside) (shown : Arrived) → IsSeated desk → arrived_of desk ≡ shown → length desk.seats ≤ length desk.order.items → missing_of shown ≡ []
+pub missing_none : (desk : Inside) (shown : Arrived) → IsSeated desk → arrived_of desk ≡ shown → length desk.seats.items ≤ length desk.order.items → missing_of shown ≡ []
 missing_none desk shown seated is long = nil_from_length _ (omega (arith, long, order_counts desk shown seated is))
 
-pub order_as_long : (desk : Inside) (shown : Arrived) → IsSeated desk → arrived_of desk ≡ shown → missing_of shown ≡ [] → length desk.order.items ≡ length desk.seats
+pub order_as_long : (desk : Inside) (shown : Arrived) → IsSeated desk → arrived_of desk ≡ shown → missing_of shown ≡ [] → length desk.order.items ≡ length desk.seats.items
 order_as_long desk shown seated is none = omega (arith, ap length none, order_counts desk shown seated is)
-
--- each of the rows is what arrived at its place
-abbrev pub HaveArrived : Arrived → List Placed → Type 0
-HaveArrived desk rows = All (λ row. arrived_at row.0 desk.rows ≡ Some row.1) rows
-
--- each of the rows lies in its seat
-abbrev pub AllLie : List (Option Outcome) → List Placed → Type 0
-AllLie seats rows = All (λ row. slice_index_or seats row.0 None ≡ Some row.1) rows
-
--- rows that lie in their seats are those that arrived
-pub lie_arrived : (desk : Inside) (shown : Arrived) (rows : List Placed) → IsSeated desk → arrived_of desk ≡ shown → AllLie desk.seats rows ↔ HaveArrived shown rows
-lie_arrived desk shown rows seated is =
-    let there = row_shown desk.seats desk.order.items seated.taken in
-    subst (λ (d : Arrived). AllLie desk.seats rows ↔ HaveArrived d rows) is ((λ lie k d low. there _ ∙ lie k d low), (λ came k d low. sym (there _) ∙ came k d low))

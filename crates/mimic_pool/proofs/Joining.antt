@@ -1,5 +1,5 @@
 -- What the joined outcomes are: at each place one of the item there.
-use Rattle.std.proofs.Common.{◌≡◌, ◌⊎◌, inl, inr, ℕ, suc, zero, ◌+◌, ◌<◌, Bool, List, [], ◌∷◌, ◌++◌, length, slice_index_or, slice_set, All, refl, sym, ◌∙◌, ap, append-nil, subst, arith}
+use Rattle.std.proofs.Common.{◌≡◌, ◌⊎◌, inl, inr, ℕ, suc, zero, ◌+◌, ◌<◌, Bool, true, List, [], ◌∷◌, ◌++◌, length, slice_index_or, slice_set, All, refl, sym, ◌∙◌, ap, append-nil, subst, arith}
 use Rattle.std.specs.List.{Contains, flat_map}
 use Rattle.std.specs.List.Sorted.{IsPermutation}
 use Rattle.std.proofs.lemmas.List.Sorted.{All-permutation, Contains-permutation}
@@ -14,7 +14,7 @@ use Rattle.mimic_trial.specs.Promise.{Gives, IsOutcomeOf}
 use Rattle.mimic_pool.specs.declared.share.Assigned.{Assigned}
 use Rattle.mimic_pool.specs.Answers.{Answers}
 use Rattle.mimic_pool.specs.Share.{assigned_from}
-use Rattle.mimic_pool.specs.Joined.{AnswersPart, AreOutcomes, IsOutcomeAt, put_all, put_each}
+use Rattle.mimic_pool.specs.Joined.{AnswersPart, AnswersSome, AreOutcomes, IsOutcomeAt, put_all, put_each}
 
 module _ {X : Type 0} where
   -- the item is the one at its place
@@ -141,6 +141,12 @@ module _ {X : Type 0} (gives : Gives X) (mode : Bool) (rs : List X) (bs : List B
         λ p low. own_put gives mode items part.given rows outcomes p len placed part.answers (inl (has_taken items part.given p same low (λ d. assigned_place 0 p rs bs d low ∙ omega arith))),
       ) in
       subst (λ l. AreOutcomes gives mode items l) (sym (put_flat joined outcomes)) all
+
+  -- if the whole was run, each place has an own outcome
+  pub joined_whole : (whole : Bool) (joined : List (List Placed)) → AnswersSome gives mode whole (assigned_from 0 rs bs) (flat_map (λ rows. rows) joined) → whole ≡ true
+      → (outcomes : List Outcome) → length outcomes ≡ length (assigned_from 0 rs bs) → AreOutcomes gives mode (assigned_from 0 rs bs) (put_each joined outcomes)
+  joined_whole whole joined are all outcomes len =
+      joined_own joined outcomes (subst (λ l. AnswersPart gives mode (assigned_from 0 rs bs) l (flat_map (λ rows. rows) joined)) (are.all all) are.answered) len
 
   -- what stands at the place is own, or it is what stood there before
   abbrev pub IsOwnOr : List Outcome → List Outcome → ℕ → Type 0

@@ -1,15 +1,14 @@
 pub mod Dealing
 pub mod Working
 pub mod FirstArrivals
-pub mod Marking
 pub mod Reporting
+pub mod Posting
 pub mod Joining
 pub mod Ordering
 pub mod Seating
 pub mod Settling
 pub mod Arriving
 pub mod Having
-pub mod Keeping
 pub mod Returning
 pub mod Balancing
 pub mod Sources

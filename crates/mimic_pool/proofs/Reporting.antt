@@ -119,7 +119,7 @@ drop_suc zero (x ∷ xs) = refl
 drop_suc (suc k) (x ∷ xs) = drop_suc k xs
 
 -- the rows behind the first that waits
-drop_first : {X : Type 0} (k : ℕ) (xs : List X) → drop 1 (drop k xs) ≡ drop (k + 1) xs
+pub drop_first : {X : Type 0} (k : ℕ) (xs : List X) → drop 1 (drop k xs) ≡ drop (k + 1) xs
 drop_first k xs = let one : suc k ≡ k + 1 = omega arith in drop_suc k xs ∙ ap (λ n. drop n xs) one
 
 first_of : {X : Type 0} (k : ℕ) (xs : List X) → slice_get xs k ≡ slice_get (drop k xs) 0

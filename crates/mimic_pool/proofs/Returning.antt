@@ -1,21 +1,62 @@
--- What the places, the marks and the kept outcomes of rows that a worker returns show.
+-- What the places, the marks and the kept outcomes of rows show.
 use Rattle.std.proofs.Common.{◌≡◌, ◌∙◌, ◌↔◌, ℕ, suc, zero, ◌+◌, ◌-◌, ◌<◌, ◌≤◌, All, Bor, true, List, [], ◌∷◌, ◌++◌, None, Some, drop, length, length-append, slice_index_or, refl, sym, ap, arith}
 use Rattle.std.specs.Prelude.{IfSome, IsSome, Option, slice_get}
 use Rattle.std.specs.List.{zip}
 use Rattle.std.specs.Option.{option_copied, option_eq}
 use Rattle.std.proofs.Math.Seq.{drop-cons}
 use Rattle.std.proofs.lemmas.List.{drop-append-le, drop-drop, length-drop, nil_from_length}
-use Rattle.std.proofs.lemmas.List.Elements.{All-cons, All-head, All-push, All-tail}
+use Rattle.std.proofs.lemmas.List.Elements.{All-cons, All-head, All-tail}
 use Rattle.std.proofs.lemmas.Slice.Zip.{get_or-zip}
 use Rattle.mimic_trial.specs.declared.outcome.Outcome.{Outcome}
 use Rattle.mimic_trial.specs.Places.{Placed}
 use Rattle.mimic_trial.specs.Same.{outcome_decides, same_outcome}
-use Rattle.mimic_pool.specs.Marks.{is_marked, kept_after, kept_of, mark_of, outcome_by, rows_of, weight_of, weight_of_all}
+use Rattle.mimic_trial.specs.declared.outcome.Outcome.TheVariants as outcome
+use Rattle.mimic_pool.specs.Marks.{kept_after, kept_of, mark_of, outcome_by, rows_of, weight_of, weight_of_all}
 use Rattle.mimic_pool.specs.declared.marks.Mark.{Mark}
-use Rattle.mimic_pool.specs.declared.marks.Mark.TheVariants.{Kept}
-use Rattle.mimic_pool.proofs.Having.{AllLie}
-use Rattle.mimic_pool.proofs.Keeping.{kept_got}
-use Rattle.mimic_pool.proofs.Marking.{marked_by, rows_append, told_again, weight_append, weight_few, weight_kept}
+use Rattle.mimic_pool.specs.declared.marks.Mark.TheVariants.{Passed, Ignored, Kept}
+use Rattle.mimic_pool.proofs.Elements.{item_got}
+
+-- ---- an outcome and its mark
+
+told_again : (o : Outcome) → outcome_by (mark_of o) (kept_of o) ≡ o
+told_again outcome.Passed = refl
+told_again (outcome.Failed failed) = refl
+told_again outcome.Ignored = refl
+told_again (outcome.Measured measured) = refl
+
+weight_kept : (o : Outcome) → length (kept_of o) ≡ weight_of (mark_of o)
+weight_kept outcome.Passed = refl
+weight_kept (outcome.Failed failed) = refl
+weight_kept outcome.Ignored = refl
+weight_kept (outcome.Measured measured) = refl
+
+weight_one : (m : Mark) → weight_of m ≤ 1
+weight_one Passed = omega arith
+weight_one Ignored = omega arith
+weight_one Kept = omega arith
+
+-- ---- marked places
+
+weight_append : (ms ns : List (ℕ × Mark)) → weight_of_all (ms ++ ns) ≡ weight_of_all ms + weight_of_all ns
+weight_append [] ns = omega arith
+weight_append (m ∷ ms) ns = let rest = weight_append ms ns in omega arith
+
+weight_few : (ms : List (ℕ × Mark)) → weight_of_all ms ≤ length ms
+weight_few [] = omega arith
+weight_few (m ∷ ms) = let one = weight_one m.1 in let rest = weight_few ms in omega arith
+
+-- a row more, whose outcome is kept behind the others
+rows_append : (ms : List (ℕ × Mark)) (kept more : List Outcome) (p : ℕ) (m : Mark) → length kept ≡ weight_of_all ms
+    → rows_of (ms ++ (p, m) ∷ []) (kept ++ more) ≡ rows_of ms kept ++ (p, outcome_by m more) ∷ []
+rows_append [] [] more p m len = refl
+rows_append [] (o ∷ kept) more p m len = absurd (omega arith)
+rows_append ((q, Passed) ∷ ms) kept more p m len = ap (λ rows. (q, outcome.Passed) ∷ rows) (rows_append ms kept more p m (omega arith))
+rows_append ((q, Ignored) ∷ ms) kept more p m len = ap (λ rows. (q, outcome.Ignored) ∷ rows) (rows_append ms kept more p m (omega arith))
+rows_append ((q, Kept) ∷ ms) [] more p m len = absurd (omega arith)
+rows_append ((q, Kept) ∷ ms) (o ∷ kept) more p m len = ap (λ rows. (q, o) ∷ rows) (rows_append ms kept more p m (omega arith))
+
+pub weight_left : (m : Mark) (kept : List Outcome) → length (kept_after m kept) ≡ length kept - weight_of m
+weight_left m kept = length-drop (weight_of m) kept
 
 -- ---- one row more
 
@@ -82,10 +123,7 @@ module _ (places : List ℕ) (marks : List Mark) (same : length marks ≡ length
   pub none_left : (k : ℕ) → length places ≤ k → drop k (zip places marks) ≡ []
   none_left k high = nil_from_length (drop k (zip places marks)) (let len = length_zipped places marks same in let left = length-drop k (zip places marks) in omega (arith, len, left, high))
 
-pub marked_more : (marks : List Mark) (o : Outcome) → All (λ mark. is_marked mark ≡ true) marks → All (λ mark. is_marked mark ≡ true) (marks ++ mark_of o ∷ [])
-marked_more marks o all = All-push (λ mark. is_marked mark ≡ true) marks (mark_of o) all (marked_by o)
-
--- ---- rows that lie at their places
+-- ---- what holds of each row
 
 kept_found : (kept : List Outcome) (i : ℕ) → i < length kept → slice_get kept i ≡ Some (outcome_by Kept (drop i kept))
 kept_found [] i low = absurd (omega arith)
@@ -102,27 +140,24 @@ same_found (Some seat) (Some got) o is =
 
 pub same_kept : (seat got : Option (Bor Outcome)) (kept : List Outcome) (i : ℕ) → i < length kept → (IsSome got → i < length kept) → (i < length kept → IsSome got) → IfSome got (λ x. x.now ≡ slice_index_or kept i x.now)
     → (option_eq (λ x y. same_outcome x.now y.now) seat got ≡ true) ↔ (option_copied seat ≡ Some (outcome_by Kept (drop i kept)))
-same_kept seat got kept i low within some is = same_found seat got (outcome_by Kept (drop i kept)) (kept_got got kept i within some is ∙ kept_found kept i low)
+same_kept seat got kept i low within some is = same_found seat got (outcome_by Kept (drop i kept)) (item_got got kept i within some is ∙ kept_found kept i low)
 
-module _ (seats : List (Option Outcome)) where
-  pub lie_none : (ms : List (ℕ × Mark)) (kept : List Outcome) → ms ≡ [] → AllLie seats (rows_of ms kept)
-  lie_none ms kept none = rw none (λ k d low. absurd (omega arith))
+module _ (P : Placed → Type 0) where
+  pub all_none : (ms : List (ℕ × Mark)) (kept : List Outcome) → ms ≡ [] → All P (rows_of ms kept)
+  all_none ms kept none = rw none (λ k d low. absurd (omega arith))
 
   -- the marks of a first row and those behind it
   module _ (ms rest : List (ℕ × Mark)) (p : ℕ) (m : Mark) (is : ms ≡ (p, m) ∷ rest) (kept : List Outcome) (i : ℕ) where
     rows_first : rows_of ms (drop i kept) ≡ (p, outcome_by m (drop i kept)) ∷ rows_of rest (drop (i + weight_of m) kept)
     rows_first = ap (λ l. rows_of l (drop i kept)) is ∙ ap (λ k. (p, outcome_by m (drop i kept)) ∷ rows_of rest k) (drop-drop (weight_of m) i kept)
 
-    -- it lies there, so all do if those behind it do
-    pub lie_behind : slice_index_or seats p None ≡ Some (outcome_by m (drop i kept)) → AllLie seats (rows_of rest (drop (i + weight_of m) kept)) ↔ AllLie seats (rows_of ms (drop i kept))
-    lie_behind here =
-        let P : Placed → Type 0 = λ row. slice_index_or seats row.0 None ≡ Some row.1 in
+    -- it holds of the first, so it holds of all if it does of those behind it
+    pub all_behind : P (p, outcome_by m (drop i kept)) → All P (rows_of rest (drop (i + weight_of m) kept)) ↔ All P (rows_of ms (drop i kept))
+    all_behind here =
         let row : Placed = (p, outcome_by m (drop i kept)) in
         let behind = rows_of rest (drop (i + weight_of m) kept) in
         rw rows_first (λ all. All-cons P row behind here all, λ all. All-tail P row behind all)
 
-    -- if all do, it does
-    pub lies_first : AllLie seats (rows_of ms (drop i kept)) → slice_index_or seats p None ≡ Some (outcome_by m (drop i kept))
-    lies_first all =
-        let P : Placed → Type 0 = λ row. slice_index_or seats row.0 None ≡ Some row.1 in
-        All-head P (p, outcome_by m (drop i kept)) (rows_of rest (drop (i + weight_of m) kept)) (rw rows_first at all)
+    -- if it holds of all, it does of the first
+    pub all_first : All P (rows_of ms (drop i kept)) → P (p, outcome_by m (drop i kept))
+    all_first all = All-head P (p, outcome_by m (drop i kept)) (rows_of rest (drop (i + weight_of m) kept)) (rw rows_first at all)

@@ -5,6 +5,7 @@ use Rattle.std.specs.List.Sorted.{IsPermutation}
 use mathlib.Core.Option.{some}
 use lib.ListN.{get_elem?}
 use Rattle.mimic_pool.specs.declared.shared_queue.Account.{Account}
+use Rattle.mimic_pool.specs.declared.shared_queue.TheConstants.{MOST_IN_BATCH}
 use Rattle.mimic_pool.specs.declared.share.Assigned.{Assigned}
 use Rattle.mimic_pool.specs.declared.share.Share.{Share}
 use Rattle.mimic_pool.specs.Share.{AllRunners, items_of}
@@ -12,10 +13,6 @@ use Rattle.mimic_pool.specs.Share.{AllRunners, items_of}
 -- all parts of the right to know the whole
 abbrev pub all_parts : ℕ
 all_parts = 2 ^ 64
-
--- how many trials a share of the queue has at most
-abbrev pub most_in_share : ℕ
-most_in_share = 32
 
 module _ {X : Type 0} where
   abbrev pub account : ℕ → List (Assigned X) → List (Assigned X) → Account X
@@ -33,14 +30,14 @@ module _ {X : Type 0} where
   abbrev pub takes_of : List (Account X) → List (Assigned X)
   takes_of accounts = flat_map (λ v. v.taken) accounts
 
-  -- the trials of these shares
+  -- the trials of these batches
   abbrev pub trials_in : List (Share X) → List (Assigned X)
   trials_in shares = flat_map items_of shares
 
-  -- each trial of the share may be run, and there are not too many
+  -- each trial of the batch may be run, and there are no more than a batch may have
   pub record IsItem (can_run : X → Type 0) (share : Share X) : Type 0 where
     pub runnable : AllRunners can_run share
-    pub few : length (items_of share) ≤ most_in_share
+    pub few : length (items_of share) ≤ MOST_IN_BATCH
 
   -- all parts are with those who have an account, and the trials that were put are those that were taken and those that are left
   pub record IsBalanced (can_run : X → Type 0) (shares : List (Share X)) (accounts : List (Account X)) : Type 0 where
@@ -53,7 +50,7 @@ module _ {X : Type 0} where
   abbrev pub Balances : Account X → List (Share X) → Type 0
   Balances v shares = v.parts ≡ all_parts → IsPermutation v.put (v.taken ++ trials_in shares)
 
-  -- the share was taken, its trials may be run, and who has all parts has not taken more than it put
+  -- the batch was taken, its trials may be run, and who has all parts has not taken more than it put
   pub record Took (can_run : X → Type 0) (v : Account X) (share : Share X) (w : Account X) : Type 0 where
     pub is : w ≡ account v.parts v.put (v.taken ++ items_of share)
     pub item : IsItem can_run share

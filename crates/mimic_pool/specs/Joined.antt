@@ -25,13 +25,17 @@ module _ {X : Type 0} (gives : Gives X) where
     pub parts : IsPermutation trials (given ++ dropped)
     pub answers : Answers gives mode given rows
 
-  -- the rows of all workers answer the trials, each once, but for those that were dropped, of which there are none if all were to be run
-  pub record AreJoined (mode : Bool) (trials : List (Assigned X)) (whole : Bool) (joined : List (List Placed)) : Type 0 where
+  -- these rows answer some of the trials, each once, in some order, and all of them if the whole is to be run
+  pub record AnswersSome (mode whole : Bool) (trials : List (Assigned X)) (rows : List Placed) : Type 0 where
     pub dropped : List (Assigned X)
-    pub answered : AnswersPart mode trials dropped (flat_map (λ rows. rows) joined)
+    pub answered : AnswersPart mode trials dropped rows
     pub all : whole ≡ true → dropped ≡ []
 
-  -- what stands at the place is an outcome of the item there
+  -- the rows of all workers do
+  abbrev pub AreJoined : Bool → List (Assigned X) → Bool → List (List Placed) → Type 0
+  AreJoined mode trials whole joined = AnswersSome mode whole trials (flat_map (λ rows. rows) joined)
+
+  -- the outcome at the place is one of the item there
   abbrev pub IsOutcomeAt : Bool → List (Assigned X) → List Outcome → ℕ → Type 0
   IsOutcomeAt mode items outcomes place =
       (x : Assigned X) (o : Outcome)

@@ -10,9 +10,8 @@ pub mod Seats
 pub mod Board
 pub mod Inbox
 pub mod Marks
-pub mod Kept
+pub mod Posted
 pub mod Rows
-pub mod RowMarks
 pub mod Balance
 pub mod Passes
 pub mod Queue

@@ -1,25 +1,17 @@
--- What a board keeps inside: a mark for each place, and the outcomes that don't fit in a mark. No public clause names these words.
-use Rattle.std.specs.Prelude.{ℕ, ◌≡◌, ◌+◌, ◌≤◌, Bool, true, false, List, [], ◌∷◌, drop, eqb, length, map, slice_index_or, vec_capacity}
+-- What rows keep inside: places, a mark for each, and the outcomes that don't fit in a mark. No public clause names these words.
+use Rattle.std.specs.Prelude.{ℕ, ◌≡◌, ◌+◌, ◌-◌, ◌≤◌, List, [], ◌∷◌, drop, length, vec_capacity}
+use Rattle.std.specs.List.{zip}
 use Rattle.std.specs.VecDeque.{deque_capacity, deque_items}
-use Rattle.std.specs.List.{list_any, IsDistinct}
 use Rattle.mimic_trial.specs.declared.outcome.Outcome.{Outcome}
 use Rattle.mimic_trial.specs.declared.outcome.Outcome.TheVariants as outcome
 use Rattle.mimic_trial.specs.Places.{Placed}
-use Rattle.mimic_pool.specs.Board.{Posted}
-use Rattle.mimic_pool.specs.declared.board.Board.TheInside.{Inside}
+use Rattle.mimic_pool.specs.Rows.{Returned}
 use Rattle.mimic_pool.specs.declared.marks.Mark.{Mark}
-use Rattle.mimic_pool.specs.declared.marks.Mark.TheVariants.{Free, Passed, Ignored, Kept}
-
--- whether a report was accepted at the place of the mark
-abbrev pub is_marked : Mark → Bool
-is_marked Free = false
-is_marked Passed = true
-is_marked Ignored = true
-is_marked Kept = true
+use Rattle.mimic_pool.specs.declared.marks.Mark.TheVariants.{Passed, Ignored, Kept}
+use Rattle.mimic_pool.specs.declared.rows.Rows.TheInside.{Inside}
 
 -- how many kept outcomes belong to the mark
 abbrev pub weight_of : Mark → ℕ
-weight_of Free = 0
 weight_of Passed = 0
 weight_of Ignored = 0
 weight_of Kept = 1
@@ -40,7 +32,6 @@ kept_of (outcome.Measured measured) = outcome.Measured measured ∷ []
 
 -- the outcome of a mark, where its own and all later kept ones are given
 abbrev pub outcome_by : Mark → List Outcome → Outcome
-outcome_by Free kept = outcome.Ignored
 outcome_by Passed kept = outcome.Passed
 outcome_by Ignored kept = outcome.Ignored
 outcome_by Kept [] = outcome.Ignored
@@ -49,10 +40,6 @@ outcome_by Kept (outcome ∷ kept) = outcome
 -- the kept outcomes after that of a mark
 abbrev pub kept_after : Mark → List Outcome → List Outcome
 kept_after mark kept = drop (weight_of mark) kept
-
--- the places in this order, each with its mark
-abbrev pub marked_at : List Mark → List ℕ → List (ℕ × Mark)
-marked_at marks places = map (λ place. (place, slice_index_or marks place Free)) places
 
 -- how many kept outcomes belong to these marks
 abbrev pub weight_of_all : List (ℕ × Mark) → ℕ
@@ -64,28 +51,23 @@ abbrev pub rows_of : List (ℕ × Mark) → List Outcome → List Placed
 rows_of [] kept = []
 rows_of (marked ∷ more) kept = (marked.0, outcome_by marked.1 kept) ∷ rows_of more (kept_after marked.1 kept)
 
--- the places that wait, in their order, each with its mark
-abbrev pub waiting_marks : Inside → List (ℕ × Mark)
-waiting_marks board = marked_at board.marks.items (drop board.taken board.order.items)
+-- the places that are left, in their order, each with its mark
+abbrev pub marks_left : Inside → List (ℕ × Mark)
+marks_left rows = drop rows.taken (zip rows.places.items rows.marks.items)
 
--- what a board with this inside shows
-abbrev pub posted : Inside → Posted
-posted board = record {
-  places = length board.marks.items;
-  workers = board.workers;
-  closed = board.closed;
-  order = board.order.items;
-  taken = board.taken;
-  waiting = rows_of (waiting_marks board) (deque_items board.kept);
+-- what rows with this inside show
+abbrev pub returned_of : Inside → Returned
+returned_of rows = record {
+  order = rows.places.items;
+  taken = rows.taken;
+  items = rows_of (marks_left rows) (deque_items rows.kept);
+  room = vec_capacity rows.places - length rows.places.items;
 }
 
--- a place is in the order exactly if it is marked, none stands there twice, what is kept belongs to the marks that wait, and there is room for all
-pub record IsBoard (board : Inside) : Type 0 where
-  pub marked : (place : ℕ)
-      → list_any (eqb place) board.order.items ≡ is_marked (slice_index_or board.marks.items place Free)
-  pub distinct : IsDistinct eqb board.order.items
-  pub taken : board.taken ≤ length board.order.items
-  pub kept : length (deque_items board.kept) ≡ weight_of_all (waiting_marks board)
-  pub order_room : length board.marks.items ≤ vec_capacity board.order
-  pub kept_room : length board.marks.items ≤ deque_capacity board.kept
-  pub closed : board.closed ≤ board.workers
+-- what is kept belongs to the marks that are left, and there is room for a mark and a kept outcome of each place
+pub record AreMarked (rows : Inside) : Type 0 where
+  pub taken : rows.taken ≤ length rows.places.items
+  pub marks : length rows.marks.items ≡ length rows.places.items
+  pub kept : length (deque_items rows.kept) ≡ weight_of_all (marks_left rows)
+  pub marks_room : vec_capacity rows.places ≤ vec_capacity rows.marks
+  pub kept_room : vec_capacity rows.places ≤ deque_capacity rows.kept

@@ -2,20 +2,20 @@
 use Rattle.std.specs.Prelude.{◌≡◌, ◌+◌, ◌++◌, ◌<◌, ◌≤◌, ℕ, All, Bool, List, [], length, true, vec_capacity, vec_len}
 use Rattle.std.specs.Arc.{arc_value}
 use Rattle.std.specs.List.{flat_map}
-use Rattle.std.specs.List.Sorted.{IsPermutation}
 use Rattle.std.specs.declared.alloc.Global.{Global}
 use Rattle.std.specs.declared.thread.PromisedHandle.{PromisedHandle}
 use Rattle.crossbeam_queue.specs.SegTies.{IsSegPassOf, SegId}
-use Rattle.mimic_trial.specs.Places.{Placed}
 use Rattle.mimic_trial.specs.Promise.{Gives}
 use Rattle.mimic_pool.specs.Answers.{Answers}
-use Rattle.mimic_pool.specs.Balance.{account, all_parts, most_in_share}
+use Rattle.mimic_pool.specs.Joined.{AnswersSome}
+use Rattle.mimic_pool.specs.Balance.{account, all_parts}
 use Rattle.mimic_pool.specs.Passes.{account_of}
 use Rattle.mimic_pool.specs.Share.{AllRunners, items_of}
 use Rattle.mimic_pool.specs.declared.queue.Queue.{Queue}
 use Rattle.mimic_pool.specs.declared.queue.QueueCrew.{QueueCrew}
 use Rattle.mimic_pool.specs.declared.queue.QueueStarts.{QueueStarts}
 use Rattle.mimic_pool.specs.declared.share.Assigned.{Assigned}
+use Rattle.mimic_pool.specs.declared.shared_queue.TheConstants.{MOST_IN_BATCH}
 use Rattle.mimic_pool.specs.declared.taker.AnswersTaken.{AnswersTaken}
 use Rattle.mimic_pool.specs.declared.taker.Taken.{Taken}
 use Rattle.mimic_pool.specs.declared.taker.TakerStart.{TakerStart}
@@ -35,7 +35,7 @@ module _ {X : Type 0} where
     pub taken : (before : List (Assigned X)) → (account_of first.pass).taken ≡ before ++ first.left
         → (account_of last.pass).taken ≡ (before ++ items) ++ last.left
 
-  -- the worker may take, and what is left of its share may be run and has room
+  -- the worker may take, and what is left of its batch may be run and has room
   pub record MayTake {R : Type 0} (can_run : X → Type 0) (taker : Taker X R) (room : ℕ) : Type 0 where
     pub ours : IsSegPassOf (queue_id taker) taker.pass
     pub some_part : 0 < (account_of taker.pass).parts
@@ -58,7 +58,7 @@ module _ {X : Type 0} where
     pub same : handle.promise.queue.value.queue ≡ queue
     pub mode_is : handle.promise.test_mode ≡ mode
 
-  -- these trials were put, those of the share that is being filled among them, and no worker has a part
+  -- these trials were put, those of the batch that is being filled among them, and no worker has a part
   pub record IsFilling (can_run : X → Type 0) (queue : Queue X) (trials : List (Assigned X)) : Type 0 where
     pub ours : IsSegPassOf (arc_value queue.queue).queue queue.pass
     pub parts : (account_of queue.pass).parts ≡ all_parts
@@ -66,10 +66,10 @@ module _ {X : Type 0} where
     pub put : (account_of queue.pass).put ++ items_of queue.next ≡ trials
     pub runnable : AllRunners can_run queue.next
     pub some : 1 ≤ queue.size
-    pub few : queue.size ≤ most_in_share
+    pub few : queue.size ≤ MOST_IN_BATCH
     pub workers : 1 ≤ queue.workers
 
-  -- and the share that is being filled has room for one more
+  -- these trials were put, and the batch that is being filled has room for one more
   pub record HoldsQueue (can_run : X → Type 0) (queue : Queue X) (trials : List (Assigned X)) : Type 0 where
     pub filling : IsFilling can_run queue trials
     pub room : length (items_of queue.next) < queue.size
@@ -86,18 +86,10 @@ module _ {X : Type 0} where
     pub fits : vec_len starts.starts ≤ vec_capacity starts.handles
     pub none_joined : vec_len starts.joined ≡ 0
     pub fits_joined : vec_len starts.starts < vec_capacity starts.joined
-    pub no_rows : starts.last.items ≡ []
-    pub fits_rows : length trials ≤ starts.last.room
+    pub no_rows : starts.spare.items ≡ []
+    pub fits_rows : length trials ≤ starts.spare.room
 
 module _ {X : Type 0} (gives : Gives X) (mode : Bool) where
-  -- these rows answer the trials that were taken, each once, but for those that were dropped, of which there are none if all are to be run
-  pub record AnswersTakes (whole : Bool) (taken : List (Assigned X)) (rows : List Placed) : Type 0 where
-    pub given : List (Assigned X)
-    pub dropped : List (Assigned X)
-    pub parts : IsPermutation taken (given ++ dropped)
-    pub answers : Answers gives mode given rows
-    pub all : whole ≡ true → dropped ≡ []
-
   -- the worker has put nothing, and returned its part and an own outcome of each trial that it took
   pub record HasTaken (queue : SegId Global) (taken : Taken X) : Type 0 where
     pub ours : IsSegPassOf queue taken.pass
@@ -112,8 +104,8 @@ pub record RunsQueue {X : Type 0} (gives : Gives X) (crew : QueueCrew X) (mode :
   pub some_part : 0 < (account_of crew.pass).parts
   pub parts : (account_of crew.pass).parts + vec_len crew.handles ≡ all_parts
   pub put : (account_of crew.pass).put ≡ trials
-  pub answered : AnswersTakes gives crew.test_mode true (account_of crew.pass).taken (flat_map (λ rows. rows.items) crew.joined.items)
+  pub answered : AnswersSome gives crew.test_mode true (account_of crew.pass).taken (flat_map (λ rows. rows.items) crew.joined.items)
   pub jobs : All (IsJob (arc_value crew.queue).queue crew.test_mode) crew.handles.items
   pub fits : vec_len crew.joined + vec_len crew.handles < vec_capacity crew.joined
-  pub no_rows : crew.last.items ≡ []
-  pub fits_rows : length trials ≤ crew.last.room
+  pub no_rows : crew.spare.items ≡ []
+  pub fits_rows : length trials ≤ crew.spare.room

@@ -12,7 +12,7 @@ module _ {X : Type 0} where
   abbrev pub places_in : Share X → List ℕ
   places_in share = map (λ item. item.place) (items_of share)
 
-  -- a share has room for so many runners
+  -- a share has room for this many runners
   abbrev pub HasRoom : ℕ → Share X → Type 0
   HasRoom runners share = runners ≤ vec_capacity share.items
 

@@ -1,5 +1,5 @@
 -- Trials on their way to workers: put, ready to be run, and run.
-use Rattle.std.specs.Prelude.{Bool, List, false, true}
+use Rattle.std.specs.Prelude.{ℕ, Bool, List, false, true, vec_len}
 use Rattle.mimic_trial.specs.Promise.{Gives}
 use Rattle.mimic_pool.specs.Queue.{AreReadyTakers, HoldsQueue, RunsQueue}
 use Rattle.mimic_pool.specs.Shares.{AreDealt, AreReadyShares, RunsShares}
@@ -21,6 +21,11 @@ module _ {X : Type 0} where
   abbrev pub AreReady : (X → Type 0) → Starts X → List (Assigned X) → Type 0
   AreReady can_run (starts.Shares made) trials = AreReadyShares can_run made trials
   AreReady can_run (starts.Queue made) trials = AreReadyTakers made trials
+
+  -- how many workers can be started
+  abbrev pub workers_of : Starts X → ℕ
+  workers_of (starts.Shares made) = vec_len made.starts
+  workers_of (starts.Queue made) = vec_len made.starts
 
   -- workers were started for these trials in this mode
   abbrev pub Runs : Gives X → Crew X → Bool → List (Assigned X) → Type 0

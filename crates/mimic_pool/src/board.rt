@@ -4,10 +4,9 @@ ghost use Rattle.mimic_trial.specs.Places.{Placed};
 ghost use Rattle.mimic_pool.specs.Arrivals.{first_arrivals};
 ghost use Rattle.mimic_pool.specs.Board.{Agrees, HandsOnFirstReports, HasHistory, accepts, after_close, after_report, after_take, empty_board};
 
-use crate::marks::{Mark, marked, unmarked};
+use crate::rows::Rows;
 use mimic_trial::Outcome;
 use std::alloc::{AllocError, Global};
-use std::collections::VecDeque;
 use std::marker::Model;
 
 /// Rows that workers reported, each a place and the outcome there, and how many of the workers have closed. Contracts see
@@ -16,18 +15,16 @@ use std::marker::Model;
 /// A report of a place is accepted once. The rows are taken in the order of their reports.
 #[derive(Drop)]
 pub struct Board {
-    marks: Vec<Mark>,
-    order: Vec<usize>,
-    // Outcomes of waiting rows that don't fit in a mark, in order.
-    kept: VecDeque<Outcome>,
-    taken: usize,
+    rows: Rows,
+    // For each place whether it was reported.
+    reported: Vec<bool>,
     workers: usize,
     closed: usize,
 }
 
 impl Model for Board {
     ghost use Rattle.mimic_pool.specs.Board.{Posted};
-    ghost use Rattle.mimic_pool.specs.Marks.{IsBoard, posted};
+    ghost use Rattle.mimic_pool.specs.Posted.{IsBoard, posted};
 
     ghost Value = { Posted };
 
@@ -37,7 +34,7 @@ impl Model for Board {
 }
 
 impl Board {
-    /// A board of `n` places for so many workers. Nothing was reported, and no worker has closed. All of its memory is taken
+    /// A board of `n` places for this many workers. Nothing was reported, and no worker has closed. All of its memory is taken
     /// here.
     ///
     /// Whatever calls workers and the taking thread make on it from here on, in whatever order: the rows that were taken, and
@@ -48,17 +45,11 @@ impl Board {
         ensures agrees { IfOk result (λ board. Agrees board []) }
         ensures law { OnOk result HandsOnFirstReports }
     {
-        let mut marks = Vec::with_capacity(alloc, n)?;
-        let order = Vec::with_capacity(alloc, n)?;
-        let kept = VecDeque::with_capacity(alloc, n)?;
-        for _place in 0..n {
-            marks.push(Mark::Free)?;
-        }
+        let rows = Rows::with_capacity(alloc, n)?;
+        let reported = vec![in alloc; false; n]?;
         Ok(Board {
-            marks,
-            order,
-            kept,
-            taken: 0,
+            rows,
+            reported,
             workers,
             closed: 0,
         })
@@ -73,14 +64,11 @@ impl Board {
         ensures agrees { (reports : List Placed) → Agrees self.old reports
             → Agrees self.new (reports ++ (place, outcome) ∷ []) }
     {
-        if place >= self.marks.len() {
+        if place >= self.reported.len() || self.reported[place] {
             return Err(outcome);
         }
-        let Mark::Free = self.marks[place] else {
-            return Err(outcome);
-        };
-        self.marks[place] = marked(outcome, &mut self.kept);
-        self.order.push_reserved(place);
+        self.reported[place] = true;
+        self.rows.push_reserved(place, outcome);
         Ok(())
     }
 
@@ -94,13 +82,7 @@ impl Board {
         ensures row { (reports : List Placed) → Agrees self.old reports
             → result ≡ slice_get (first_arrivals self.old.places reports) self.old.taken }
     {
-        if self.taken >= self.order.len() {
-            return None;
-        }
-        let place = self.order[self.taken];
-        let outcome = unmarked(self.marks[place], &mut self.kept);
-        self.taken += 1;
-        Some((place, outcome))
+        self.rows.next()
     }
 
     /// Closes one more worker. If all have closed, nothing changes.
@@ -125,7 +107,7 @@ impl Board {
     pub fn has_waiting(&self) -> bool
         ensures { IsTrue result ↔ (self.now.waiting ≢ []) }
     {
-        self.taken < self.order.len()
+        self.rows.len() > 0
     }
 
     /// All places that were reported, in the order of their reports.
@@ -133,7 +115,7 @@ impl Board {
         ensures order { result.now ≡ self.now.order }
         ensures history { HasHistory self.now }
     {
-        self.order.as_slice()
+        self.rows.order()
     }
 
     /// How many of them were taken.
@@ -141,6 +123,6 @@ impl Board {
         ensures taken { result ≡ self.now.taken }
         ensures history { HasHistory self.now }
     {
-        self.taken
+        self.rows.taken()
     }
 }

@@ -1,5 +1,5 @@
 //! The desk where outcomes arrive from the workers.
-ghost use Rattle.std.specs.Prelude.{◌≡◌, ◌++◌, ◌∷◌, [], ◌↔◌, ◌<◌, All, IfErr, IfOk, IsTrue, List, MatchResult, None, OnOk, Some, length, map, option_map, slice_get, slice_index_or, vec_len, ℕ};
+ghost use Rattle.std.specs.Prelude.{◌≡◌, ◌++◌, ◌∷◌, [], ◌↔◌, ◌<◌, All, IfErr, IfOk, IsTrue, List, MatchResult, OnOk, Some, length, map, slice_get, vec_capacity, vec_len, ℕ};
 ghost use Rattle.std.specs.Iterator.{YieldsFirst, item_count};
 ghost use Rattle.std.specs.List.{range_with_len};
 ghost use Rattle.std.specs.List.Sorted.{IsPermutation};
@@ -7,13 +7,13 @@ ghost use Rattle.std.specs.Option.{option_copied};
 ghost use Rattle.mimic_trial.specs.Places.{Placed, placed_at, places_of};
 ghost use Rattle.mimic_trial.specs.declared.outcome.Outcome.{Outcome as AnOutcome};
 ghost use Rattle.mimic_pool.specs.Arrivals.{AgreesAt, arrival_of, arrived_at, first_arrivals, missing_of, order_of, rows_after};
+ghost use Rattle.mimic_pool.specs.Marks.{kept_of};
 ghost use Rattle.mimic_pool.specs.Missing.{free_from, missing_items};
 ghost use Rattle.mimic_pool.specs.Returned.{HasAll, StandsFor};
 ghost use Rattle.mimic_pool.specs.Rows.{rows_in};
-ghost use Rattle.mimic_pool.specs.Seats.{SeatAgreesAt};
+ghost use Rattle.mimic_pool.specs.Seats.{Begins, outcome_in};
 
 use crate::rows::Rows;
-use crate::seats::Seats;
 use mimic_trial::Outcome;
 use std::alloc::{AllocError, Global};
 use std::marker::Model;
@@ -35,7 +35,10 @@ pub enum Arrival {
 /// Outcomes may be lost on their way, come twice, come from nowhere, and come in any order.
 #[derive(Drop)]
 pub struct Desk {
-    seats: Seats,
+    // For each place: 0 if nothing arrived there, else the number of its outcome among these, counted from 1.
+    seats: Vec<usize>,
+    // `Passed`, `Ignored`, and behind these two each other outcome that arrived.
+    outcomes: Vec<Outcome>,
     order: Vec<usize>,
 }
 
@@ -55,9 +58,19 @@ impl Desk {
     pub fn new(alloc: Global, n: usize) -> Result<Desk, AllocError>
         ensures { IfOk result (λ desk. desk ≡ record { places = n; rows = [] }) }
     {
-        let seats = Seats::new(alloc, n)?;
+        let Some(all) = n.checked_add(2) else {
+            return Err(AllocError);
+        };
+        let seats = vec![in alloc; 0; n]?;
+        let mut outcomes = Vec::with_capacity(alloc, all)?;
+        outcomes.push_reserved(Outcome::Passed);
+        outcomes.push_reserved(Outcome::Ignored);
         let order = Vec::with_capacity(alloc, n)?;
-        Ok(Desk { seats, order })
+        Ok(Desk {
+            seats,
+            outcomes,
+            order,
+        })
     }
 
     /// Takes an arrival. Only the first one at a place of the desk changes it.
@@ -72,10 +85,10 @@ impl Desk {
         if place >= self.seats.len() {
             return Arrival::Stranger;
         }
-        if self.seats.is_taken(place) {
+        if self.seats[place] != 0 {
             return Arrival::Again;
         }
-        self.seats.put(place, outcome);
+        self.seats[place] = seated(outcome, &mut self.outcomes);
         self.order.push_reserved(place);
         Arrival::First
     }
@@ -84,7 +97,10 @@ impl Desk {
     pub fn outcome(&self, place: usize) -> Option<&Outcome>
         ensures { option_copied result ≡ arrived_at place self.now.rows }
     {
-        self.seats.get(place)
+        match self.seats.get(place) {
+            Some(seat) => lying(self.outcomes.as_slice(), *seat),
+            None => None,
+        }
     }
 
     /// The places of the first arrivals, in the order in which they came.
@@ -103,7 +119,7 @@ impl Desk {
         ensures whole { IsPermutation (places_of self.now.rows ++ missing_items result)
             (range_with_len 0 self.now.places) }
     {
-        free_seats(&self.seats)
+        free_seats(self.seats.as_slice())
     }
 
     /// Compares the first arrivals with the outcomes that workers returned, which stand by place. An `Err` names the
@@ -118,7 +134,12 @@ impl Desk {
             (self.now.rows ≡ placed_at (places_of self.now.rows) joined.now) }
         ensures below { IfErr result (λ place. place < self.now.places) }
     {
-        first_difference(&self.seats, joined)
+        for place in 0..self.seats.len() {
+            if !agrees(self.outcome(place), &joined[place]) {
+                return Err(place);
+            }
+        }
+        Ok(())
     }
 
     /// Whether something arrived at each place, and each of the rows that workers returned is what arrived at its place.
@@ -131,7 +152,7 @@ impl Desk {
             return false;
         }
         for rows in joined {
-            if !rows.lie_at(&self.seats) {
+            if !rows.have_arrived(self) {
                 return false;
             }
         }
@@ -156,20 +177,21 @@ impl Desk {
         }
     }
 
-    /// The first arrival of this number, counted from 0 in the order in which they came: its place, and its outcome.
-    pub fn row(&self, number: usize) -> Option<(usize, &Outcome)>
-        ensures { option_map (λ row. (row.0, row.1.now)) result ≡ slice_get self.now.rows number }
+    /// The first arrival of this number, counted from 0 in the order in which they came: its place, and its outcome. There must be
+    /// one, as at an index of a slice.
+    pub fn row(&self, number: usize) -> (usize, &Outcome)
+        requires { number < length self.now.rows }
+        ensures { slice_get self.now.rows number ≡ Some (result.0, result.1.now) }
     {
-        let place = *self.order.get(number)?;
-        let outcome = self.seats.get(place)?;
-        Some((place, outcome))
+        let place = self.order[number];
+        (place, &self.outcomes[self.seats[place] - 1])
     }
 }
 
 /// The places of a desk at which nothing arrived, rising.
 #[derive(Drop)]
 pub struct Missing<'a> {
-    seats: &'a Seats,
+    seats: &'a [usize],
     next: usize,
 }
 
@@ -184,7 +206,7 @@ impl<'a> Iterator for Missing<'a> {
         while self.next < self.seats.len() {
             let place = self.next;
             self.next += 1;
-            if self.seats.get(place).is_none() {
+            if self.seats[place] == 0 {
                 return Some(place);
             }
         }
@@ -193,27 +215,36 @@ impl<'a> Iterator for Missing<'a> {
 }
 
 // The places of free seats, rising.
-fn free_seats(seats: &Seats) -> Missing<'_>
+fn free_seats(seats: &[usize]) -> Missing<'_>
     ensures { missing_items result ≡ free_from 0 seats.now }
 {
     Missing { seats, next: 0 }
 }
 
-// The least place whose seat is taken by another outcome than the joined one.
-fn first_difference(seats: &Seats, joined: &[Outcome]) -> Result<(), usize>
-    requires { length joined.now ≡ length seats.now }
-    ensures below { IfErr result (λ place. place < length seats.now) }
-    ensures found { MatchResult result
-        (λ _. (place : ℕ) → SeatAgreesAt seats.now joined.now place)
-        (λ differs. (¬ SeatAgreesAt seats.now joined.now differs)
-        × ((place : ℕ) → place < differs → SeatAgreesAt seats.now joined.now place)) }
+// The seat of the outcome, which is put behind the others if it isn't one of the first two.
+fn seated(outcome: Outcome, outcomes: &mut Vec<Outcome>) -> usize
+    requires begins { Begins outcomes.old.items }
+    requires room { vec_len outcomes.old < vec_capacity outcomes.old }
+    ensures outcomes { outcomes.new.items ≡ outcomes.old.items ++ kept_of outcome }
+    ensures room { vec_capacity outcomes.new ≡ vec_capacity outcomes.old }
+    ensures seat { outcome_in outcomes.new.items result ≡ Some outcome }
 {
-    for place in 0..seats.len() {
-        if !agrees(seats.get(place), &joined[place]) {
-            return Err(place);
+    match outcome {
+        Outcome::Passed => 1,
+        Outcome::Ignored => 2,
+        Outcome::Failed(_) | Outcome::Measured(_) => {
+            outcomes.push_reserved(outcome);
+            outcomes.len()
         }
     }
-    Ok(())
+}
+
+// What lies in the seat.
+fn lying(outcomes: &[Outcome], seat: usize) -> Option<&Outcome>
+    ensures { option_copied result ≡ outcome_in outcomes.now seat }
+{
+    let index = seat.checked_sub(1)?;
+    outcomes.get(index)
 }
 
 // Whether nothing lies there, or this outcome.

@@ -36,7 +36,7 @@ pub struct Inbox {
 }
 
 impl Inbox {
-    /// An inbox of `n` places and so many workers, none of which has reported.
+    /// An inbox of `n` places for `workers`, none of which has reported.
     pub fn new(alloc: Global, n: usize, workers: usize) -> Result<Inbox, AllocError>
         ensures { IfOk result (λ inbox. board_of inbox ≡ empty_board n workers) }
     {

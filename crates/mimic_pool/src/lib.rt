@@ -27,7 +27,6 @@ mod remaining;
 mod reports;
 mod room;
 mod rows;
-mod seats;
 mod share;
 mod shared_board;
 mod shared_queue;

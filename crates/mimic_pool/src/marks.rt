@@ -1,16 +1,14 @@
 //! Marks, by which most outcomes are known.
-ghost use Rattle.std.specs.Prelude.{◌≡◌, ◌++◌, ◌<◌, ◌≤◌, IsTrue};
+ghost use Rattle.std.specs.Prelude.{◌≡◌, ◌++◌, ◌<◌, ◌≤◌};
 ghost use Rattle.std.specs.VecDeque.{deque_capacity, deque_items, deque_len};
-ghost use Rattle.mimic_pool.specs.Marks.{is_marked, kept_after, kept_of, mark_of, outcome_by, weight_of};
+ghost use Rattle.mimic_pool.specs.Marks.{kept_after, kept_of, mark_of, outcome_by, weight_of};
 
 use mimic_trial::Outcome;
 use std::collections::VecDeque;
 
-// What is kept for a place: most outcomes are known by the mark alone.
+// What is kept for a row: most outcomes are known by the mark alone.
 #[derive(Clone, Copy)]
 pub(crate) enum Mark {
-    // There is no outcome.
-    Free,
     // The outcome is `Passed`.
     Passed,
     // The outcome is `Ignored`.
@@ -38,8 +36,7 @@ pub(crate) fn marked(outcome: Outcome, kept: &mut VecDeque<Outcome>) -> Mark
 
 // The outcome of the mark, which is taken out of the kept ones if it lies there.
 pub(crate) fn unmarked(mark: Mark, kept: &mut VecDeque<Outcome>) -> Outcome
-    requires marked { IsTrue (is_marked mark) }
-    requires kept { weight_of mark ≤ deque_len kept.old }
+    requires { weight_of mark ≤ deque_len kept.old }
     ensures outcome { result ≡ outcome_by mark (deque_items kept.old) }
     ensures kept { deque_items kept.new ≡ kept_after mark (deque_items kept.old) }
     ensures room { deque_capacity kept.new ≡ deque_capacity kept.old }
@@ -53,7 +50,6 @@ pub(crate) fn unmarked(mark: Mark, kept: &mut VecDeque<Outcome>) -> Outcome
             };
             outcome
         }
-        Mark::Free => unreachable!(),
     }
 }
 
@@ -63,6 +59,6 @@ pub(crate) fn weight(mark: Mark) -> usize
 {
     match mark {
         Mark::Kept => 1,
-        Mark::Free | Mark::Passed | Mark::Ignored => 0,
+        Mark::Passed | Mark::Ignored => 0,
     }
 }

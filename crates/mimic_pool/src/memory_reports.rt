@@ -67,7 +67,7 @@ impl Reports for MemoryReports {
         ensures refused { OnErr result (rows_told self.new ≡ rows_told self.old) }
     {
         let kept = self.keep(place, outcome);
-        self.counts.count(kept)
+        self.counts.count(kept.is_ok())
     }
 
     fn refusals(&self) -> u64 {

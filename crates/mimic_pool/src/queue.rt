@@ -6,9 +6,11 @@ ghost use Rattle.std.specs.List.Sorted.{IsPermutation};
 ghost use Rattle.crossbeam_queue.specs.SegTies.{IsSegPassOf};
 ghost use Rattle.mimic_trial.specs.Places.{Placed};
 ghost use Rattle.mimic_pool.specs.Balance.{all_parts};
-ghost use Rattle.mimic_pool.specs.Joined.{AreJoined};
+ghost use Rattle.mimic_pool.specs.Board.{empty_board};
+ghost use Rattle.mimic_pool.specs.Inbox.{board_of};
+ghost use Rattle.mimic_pool.specs.Joined.{AnswersSome, AreJoined};
 ghost use Rattle.mimic_pool.specs.Passes.{account_of};
-ghost use Rattle.mimic_pool.specs.Queue.{AnswersTakes, AreReadyTakers, HasTaken, HoldsQueue, IsFilling, IsFresh, IsJob, RunsQueue};
+ghost use Rattle.mimic_pool.specs.Queue.{AreReadyTakers, HasTaken, HoldsQueue, IsFilling, IsFresh, IsJob, RunsQueue};
 ghost use Rattle.mimic_pool.specs.Rows.{rows_in};
 ghost use Rattle.mimic_pool.specs.Share.{AllRunners, items_of};
 ghost use Rattle.mimic_pool.specs.declared.share.Assigned.{Assigned};
@@ -17,7 +19,7 @@ use crate::inbox::Inbox;
 use crate::reports::Unheard;
 use crate::rows::Rows;
 use crate::share::{Assigned, Share};
-use crate::shared_queue::{MOST_IN_SHARE, QueuePass, SharedQueue};
+use crate::shared_queue::{MOST_IN_BATCH, QueuePass, SharedQueue};
 use crate::spawner::Spawner;
 use crate::taker::{AnswersTaken, Taken, TakerStart, take_and_work};
 use crate::worker::work_from;
@@ -28,8 +30,8 @@ use std::sync::{Arc, Wait};
 use std::thread::PromisedHandle;
 use std::{mem, thread};
 
-// Each worker gets so many shares, if all take equally many.
-const SHARES_A_WORKER: usize = 64;
+// Each worker takes this many batches or more, if all take equally many.
+const BATCHES_A_WORKER: usize = 64;
 
 type TakerHandle<T> = PromisedHandle<Taken<T>, AnswersTaken<T>>;
 
@@ -38,7 +40,7 @@ type TakerHandle<T> = PromisedHandle<Taken<T>, AnswersTaken<T>>;
 pub struct Queue<T: Task> {
     pub(crate) queue: Arc<SharedQueue<T>>,
     pub(crate) pass: QueuePass<T>,
-    // The share that is being filled, which is not in the queue yet, and how many trials it gets.
+    // The batch that is being filled, which is not in the queue yet, and how many trials it gets.
     pub(crate) next: Share<T>,
     pub(crate) size: usize,
     pub(crate) workers: usize,
@@ -54,7 +56,7 @@ pub struct QueueStarts<T: Task> {
     pub(crate) handles: Vec<TakerHandle<T>>,
     pub(crate) joined: Vec<Rows>,
     // Room for the rows of trials that no worker took.
-    pub(crate) last: Rows,
+    pub(crate) spare: Rows,
 }
 
 /// Workers that were started, and what those returned that could not be.
@@ -63,21 +65,21 @@ pub struct QueueCrew<T: Task> {
     pub(crate) pass: QueuePass<T>,
     pub(crate) handles: Vec<TakerHandle<T>>,
     pub(crate) joined: Vec<Rows>,
-    pub(crate) last: Rows,
+    pub(crate) spare: Rows,
     pub(crate) test_mode: bool,
 }
 
 impl<T: Task> Queue<T> {
-    // An empty queue, from which so many workers will take so many trials.
+    // An empty queue, from which `workers` will take `trials`.
     pub(crate) fn new(alloc: Global, trials: usize, workers: usize) -> Result<Queue<T>, AllocError>
         requires some_worker { 1 ≤ workers }
         ensures { IfOk result (λ queue. HoldsQueue T.can_run queue []) }
     {
         let (queue, pass) = SharedQueue::new(alloc)?;
         let queue = Arc::new(alloc, queue)?;
-        let size = (trials / SHARES_A_WORKER / workers)
+        let size = (trials / BATCHES_A_WORKER / workers)
             .max(1)
-            .min(MOST_IN_SHARE);
+            .min(MOST_IN_BATCH);
         let items = Vec::with_capacity(alloc, size)?;
         Ok(Queue {
             queue,
@@ -89,7 +91,7 @@ impl<T: Task> Queue<T> {
         })
     }
 
-    // Puts a trial behind the others. If an allocation fails, the runner is dropped.
+    // Puts a trial behind the others. If an allocation fails, trials are dropped, and the queue is of no more use.
     pub(crate) fn put<R: Wait>(&mut self, rt: &R, item: Assigned<T>) -> Result<(), AllocError>
         requires held { (trials : List (Assigned T)) × HoldsQueue T.can_run self.old trials }
         requires runnable { T.can_run item.runner }
@@ -103,7 +105,7 @@ impl<T: Task> Queue<T> {
         self.flush(rt)
     }
 
-    // Puts the share that was being filled into the queue, and begins another one.
+    // Puts the batch that was being filled into the queue, and begins another one.
     fn flush<R: Wait>(&mut self, rt: &R) -> Result<(), AllocError>
         requires held { (trials : List (Assigned T)) × IsFilling T.can_run self.old trials }
         requires few { length (items_of self.old.next) ≤ self.old.size }
@@ -111,9 +113,12 @@ impl<T: Task> Queue<T> {
             → HoldsQueue T.can_run self.new trials) }
         ensures empty { OnOk result (items_of self.new.next ≡ []) }
     {
+        if self.next.len() == 0 {
+            return Ok(());
+        }
         let items = Vec::with_capacity(self.alloc, self.size)?;
-        let share = mem::replace(&mut self.next, Share { items });
-        match self.queue.put(rt, &mut self.pass, share) {
+        let batch = mem::replace(&mut self.next, Share { items });
+        match self.queue.put(rt, &mut self.pass, batch) {
             Ok(()) => Ok(()),
             Err(_) => Err(AllocError),
         }
@@ -128,6 +133,7 @@ pub(crate) fn prepare_takers<T: Task, R: Wait>(
     count: usize,
 ) -> Result<(Inbox, QueueStarts<T>), AllocError>
     requires held { (trials : List (Assigned T)) × HoldsQueue T.can_run queue trials }
+    ensures inbox { IfOk result (λ made. board_of made.0 ≡ empty_board count (vec_len made.1.starts)) }
     ensures ready { IfOk result (λ made. (trials : List (Assigned T)) → length trials ≤ count
         → HoldsQueue T.can_run queue trials → AreReadyTakers made.1 trials) }
 {
@@ -143,19 +149,19 @@ pub(crate) fn prepare_takers<T: Task, R: Wait>(
     let starts = starts_at(alloc, &queue, &mut pass, workers, count, &inbox)?;
     let handles = Vec::with_capacity(alloc, starts.len())?;
     let joined = Vec::with_capacity(alloc, starts.len() + 1)?;
-    let last = Rows::with_capacity(alloc, count)?;
+    let spare = Rows::with_capacity(alloc, count)?;
     let starts = QueueStarts {
         queue,
         pass,
         starts,
         handles,
         joined,
-        last,
+        spare,
     };
     Ok((inbox, starts))
 }
 
-// What each of so many workers starts with: a pass, and room for its part of so many rows and for a share more.
+// What each of the workers of the inbox starts with: a pass, and room for an equal part of `count` rows and for a batch more.
 fn starts_at<T: Task>(
     alloc: Global,
     queue: &Arc<SharedQueue<T>>,
@@ -167,6 +173,8 @@ fn starts_at<T: Task>(
     requires ours { IsSegPassOf (arc_value queue.now).queue pass.old }
     requires parts { (account_of pass.old).parts ≡ all_parts }
     requires some_worker { 1 ≤ workers }
+    requires inbox { (board_of inbox.now).workers ≡ workers }
+    ensures len { IfOk result (λ starts. vec_len starts ≡ workers) }
     ensures ours { OnOk result (IsSegPassOf (arc_value queue.now).queue pass.new) }
     ensures put { OnOk result ((account_of pass.new).put ≡ (account_of pass.old).put) }
     ensures taken { OnOk result ((account_of pass.new).taken ≡ (account_of pass.old).taken) }
@@ -174,15 +182,15 @@ fn starts_at<T: Task>(
     ensures some_part { OnOk result (0 < (account_of pass.new).parts) }
     ensures starts { IfOk result (λ starts. All (IsFresh (arc_value queue.now).queue) starts.items) }
 {
-    let room = count.div_ceil(workers).saturating_add(MOST_IN_SHARE);
-    let budget = (count as u64).saturating_add(MOST_IN_SHARE as u64);
+    let room = count.div_ceil(workers).saturating_add(MOST_IN_BATCH);
+    let budget = (count as u64).saturating_add(MOST_IN_BATCH as u64);
     let mut starts = Vec::with_capacity(alloc, workers)?;
     for number in 0..workers {
         let room = Rows::with_capacity(alloc, room)?;
         let board = inbox.board()?;
-        let theirs = Arc::try_clone(queue)?;
+        let shared = Arc::try_clone(queue)?;
         starts.push(TakerStart {
-            queue: theirs,
+            queue: shared,
             pass: queue.another(pass),
             room,
             board,
@@ -210,14 +218,12 @@ pub(crate) fn start_takers<T: Task + Send + 'static, R: Spawner + 'static>(
         starts,
         mut handles,
         mut joined,
-        last,
+        spare,
     } = starts;
-    let mut is_refused = false;
     for start in starts {
-        match start_taker(rt, alloc, &queue, start, test_mode, is_refused) {
+        match start_taker(rt, alloc, &queue, start, test_mode) {
             Ok(handle) => handles.push_reserved(handle),
             Err(taken) => {
-                is_refused = true;
                 let Taken { rows, pass: other } = taken;
                 queue.absorb(&mut pass, other);
                 joined.push_reserved(rows);
@@ -232,7 +238,7 @@ pub(crate) fn start_takers<T: Task + Send + 'static, R: Spawner + 'static>(
         pass,
         handles,
         joined,
-        last,
+        spare,
         test_mode,
     })
 }
@@ -244,15 +250,14 @@ fn start_taker<T: Task + Send + 'static, R: Spawner + 'static>(
     queue: &SharedQueue<T>,
     start: TakerStart<T>,
     test_mode: bool,
-    is_refused: bool,
 ) -> Result<TakerHandle<T>, Taken<T>>
     requires fresh { IsFresh queue.now.queue start }
     ensures started { IfOk result (IsJob queue.now.queue test_mode) }
     ensures ended { IfErr result (HasTaken T.gives test_mode queue.now.queue) }
 {
-    let (theirs, number) = (*rt, start.number);
-    if is_refused {
-        return Err(take_and_work(theirs, alloc, start, test_mode));
+    let (worker_rt, number) = (*rt, start.number);
+    if !queue.is_open_to(number) {
+        return Err(take_and_work(worker_rt, alloc, start, test_mode));
     }
     let promise = AnswersTaken {
         queue: Snapshot::of(queue),
@@ -264,7 +269,7 @@ fn start_taker<T: Task + Send + 'static, R: Spawner + 'static>(
         move || -> Taken<T>
             requires fresh { IsFresh (arc_value start.queue).queue start }
             ensures { HasTaken T.gives test_mode (arc_value start.queue).queue result }
-        { take_and_work(theirs, alloc, start, test_mode) },
+        { take_and_work(worker_rt, alloc, start, test_mode) },
     );
     match started {
         Ok(handle) => Ok(handle),
@@ -275,8 +280,8 @@ fn start_taker<T: Task + Send + 'static, R: Spawner + 'static>(
     }
 }
 
-// Joins the workers, and returns the rows of each, and last those of trials that no worker took. If not all trials are to be run,
-// those that wait are dropped first, so that workers find no more.
+// Joins the workers, and returns the rows of each, and last those of trials that no worker took. If not the whole is to be run,
+// workers end what they have taken and take no more, and the trials that are left are dropped.
 pub(crate) fn join_takers<T: Task + Send + 'static, R: Spawner>(
     rt: &R,
     crew: QueueCrew<T>,
@@ -291,48 +296,25 @@ pub(crate) fn join_takers<T: Task + Send + 'static, R: Spawner>(
         mut pass,
         handles,
         mut joined,
-        last,
+        spare,
         test_mode,
     } = crew;
-    drop_unless(whole, rt, &queue, &mut pass);
+    if !whole {
+        queue.close_from(0);
+    }
     for handle in handles {
         let Taken { rows, pass: other } = handle.join(rt);
         queue.absorb(&mut pass, other);
         joined.push_reserved(rows);
     }
-    let last = empty(rt, &queue, &mut pass, test_mode, whole, last);
-    joined.push_reserved(last);
+    let rows = take_left(rt, &queue, &mut pass, test_mode, whole, spare);
+    joined.push_reserved(rows);
     joined
-}
-
-// Takes all trials that wait, and drops them, unless all are to be run.
-fn drop_unless<T: Task, R: Wait>(
-    whole: bool,
-    rt: &R,
-    queue: &SharedQueue<T>,
-    pass: &mut QueuePass<T>,
-)
-    requires ours { IsSegPassOf queue.now.queue pass.old }
-    requires parts { 0 < (account_of pass.old).parts }
-    ensures ours { IsSegPassOf queue.now.queue pass.new }
-    ensures parts { (account_of pass.new).parts ≡ (account_of pass.old).parts }
-    ensures put { (account_of pass.new).put ≡ (account_of pass.old).put }
-    ensures answers { (mode : Bool) (rows : List Placed) → AnswersTakes T.gives mode whole (account_of pass.old).taken rows
-        → AnswersTakes T.gives mode whole (account_of pass.new).taken rows }
-{
-    if whole {
-        return;
-    }
-    for _ in rt.forever() {
-        let Some(_share) = queue.take(rt, pass) else {
-            return;
-        };
-    }
 }
 
 // Takes all trials that are left, by the pass that has all parts, and runs them, or drops them if not all are to be run. Then what
 // was taken is what was put.
-fn empty<T: Task, R: Wait>(
+fn take_left<T: Task, R: Wait>(
     rt: &R,
     queue: &SharedQueue<T>,
     pass: &mut QueuePass<T>,
@@ -346,30 +328,30 @@ fn empty<T: Task, R: Wait>(
     requires fits { length (account_of pass.old).put ≤ length (account_of pass.old).taken + rows.room }
     ensures put { (account_of pass.new).put ≡ (account_of pass.old).put }
     ensures all { IsPermutation (account_of pass.new).put (account_of pass.new).taken }
-    ensures answers { (before : List Placed) → AnswersTakes T.gives test_mode whole (account_of pass.old).taken before
-        → AnswersTakes T.gives test_mode whole (account_of pass.new).taken (before ++ result.items) }
+    ensures answers { (before : List Placed) → AnswersSome T.gives test_mode whole (account_of pass.old).taken before
+        → AnswersSome T.gives test_mode whole (account_of pass.new).taken (before ++ result.items) }
 {
     for _ in rt.forever() {
-        let Some(share) = queue.take(rt, pass) else {
+        let Some(batch) = queue.take(rt, pass) else {
             return rows;
         };
-        rows = end_share(share, test_mode, whole, rows);
+        rows = end_batch(batch, test_mode, whole, rows);
     }
     unreachable!()
 }
 
-// Runs the share, or drops it if not all trials are to be run.
-fn end_share<T: Task>(share: Share<T>, test_mode: bool, whole: bool, rows: Rows) -> Rows
-    requires runnable { AllRunners T.can_run share }
-    requires fits { length (items_of share) ≤ rows.room }
-    ensures room { rows.room ≤ result.room + length (items_of share) }
+// Runs the batch, or drops it if not all trials are to be run.
+fn end_batch<T: Task>(batch: Share<T>, test_mode: bool, whole: bool, rows: Rows) -> Rows
+    requires runnable { AllRunners T.can_run batch }
+    requires fits { length (items_of batch) ≤ rows.room }
+    ensures room { rows.room ≤ result.room + length (items_of batch) }
     ensures answers { (taken : List (Assigned T)) (before : List Placed)
-        → AnswersTakes T.gives test_mode whole taken (before ++ rows.items)
-        → AnswersTakes T.gives test_mode whole (taken ++ items_of share) (before ++ result.items) }
+        → AnswersSome T.gives test_mode whole taken (before ++ rows.items)
+        → AnswersSome T.gives test_mode whole (taken ++ items_of batch) (before ++ result.items) }
 {
     if !whole {
         return rows;
     }
-    let (_, rows) = work_from(share.into_remaining(), test_mode, &mut Unheard::new(), rows);
+    let (_, rows) = work_from(batch.into_remaining(), test_mode, &mut Unheard::new(), rows);
     rows
 }

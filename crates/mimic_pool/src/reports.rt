@@ -1,5 +1,5 @@
 //! What workers report their rows to.
-ghost use Rattle.std.specs.Prelude.{◌≡◌, ◌↔◌, ◌++◌, ◌∷◌, ◌+◌, ◌<◌, [], ℕ, IsOk, List, OnErr, OnOk, ⊤};
+ghost use Rattle.std.specs.Prelude.{◌≡◌, ◌↔◌, ◌++◌, ◌∷◌, ◌+◌, ◌<◌, [], ℕ, IsOk, IsTrue, List, OnErr, OnOk, ⊤};
 ghost use Rattle.mimic_trial.specs.Places.{Placed};
 
 use mimic_trial::Outcome;
@@ -66,8 +66,7 @@ impl Reports for Unheard {
     ghost heard = { λ _ _. ⊤ };
 
     fn tell(&mut self, _place: usize, _outcome: &Outcome) -> Result<(), Untold> {
-        let reported: Result<(), Untold> = Ok(());
-        self.counts.count(reported)
+        self.counts.count(true)
     }
 
     fn refusals(&self) -> u64 {
@@ -99,23 +98,20 @@ impl Counts {
     }
 
     // Counts one more row, as reported or as refused.
-    pub(crate) fn count<E: Drop>(&mut self, row: Result<(), E>) -> Result<(), Untold>
+    pub(crate) fn count(&mut self, is_told: bool) -> Result<(), Untold>
         requires room { (self.old.told < u64.MAX) × (self.old.refusals < u64.MAX) }
-        ensures same { IsOk result ↔ IsOk row }
+        ensures same { IsOk result ↔ IsTrue is_told }
         ensures told { OnOk result ((self.new.told ≡ self.old.told + 1)
             × (self.new.refusals ≡ self.old.refusals)) }
         ensures untold { OnErr result ((self.new.told ≡ self.old.told)
             × (self.new.refusals ≡ self.old.refusals + 1)) }
     {
-        match row {
-            Ok(()) => {
-                self.told += 1;
-                Ok(())
-            }
-            Err(_) => {
-                self.refusals += 1;
-                Err(Untold)
-            }
+        if is_told {
+            self.told += 1;
+            Ok(())
+        } else {
+            self.refusals += 1;
+            Err(Untold)
         }
     }
 }

@@ -14,7 +14,7 @@ pub(crate) trait Room {
     // How many more rows there is room for.
     ghost room_in: { Self → ℕ };
 
-    // Makes room for so many more rows, if there is memory.
+    // Makes room for this many more rows, if there is memory.
     fn reserve(&mut self, rows: usize) -> Result<(), AllocError>
         ensures rows { rows_in self.new ≡ rows_in self.old }
         ensures as_much { room_in self.old ≤ room_in self.new }

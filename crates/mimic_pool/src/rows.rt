@@ -1,20 +1,21 @@
-//! The rows that a worker returns.
-ghost use Rattle.std.specs.Prelude.{◌≡◌, ◌++◌, ◌∷◌, [], ◌+◌, ◌≤◌, ◌↔◌, All, IfOk, IsTrue, MatchOption, None, OnOk, Some, drop, length, map, slice_index_or, vec_len};
+//! Rows in their order, most of which are known by a mark.
+ghost use Rattle.std.specs.Prelude.{◌≡◌, ◌++◌, ◌∷◌, [], ◌+◌, ◌≤◌, ◌↔◌, IfNone, IfOk, IfSome, IsTrue, OnOk, Some, drop, length, map, vec_len};
 ghost use Rattle.std.specs.Option.{option_copied};
 ghost use Rattle.std.specs.VecDeque.{deque_items, deque_len};
 ghost use Rattle.mimic_pool.specs.Joined.{put_all, put_each};
 ghost use Rattle.mimic_pool.specs.Marks.{outcome_by, weight_of};
+ghost use Rattle.mimic_pool.specs.Returned.{HaveArrived};
 ghost use Rattle.mimic_pool.specs.Rows.{rows_in};
 
+use crate::desk::Desk;
 use crate::marks::{Mark, marked, unmarked, weight};
-use crate::seats::Seats;
 use mimic_trial::Outcome;
 use std::alloc::{AllocError, Global};
 use std::collections::VecDeque;
 use std::marker::Model;
 
-/// What a worker returns: a place and the outcome there, for each trial of its share. Contracts see the rows that were not
-/// taken, in their order, and how many more there is room for.
+/// Rows, each a place and the outcome there: those that a worker returns, or that wait at a board. Contracts see the rows that
+/// were not taken, in their order, the places of all, how many were taken, and how many more there is room for.
 ///
 /// A row whose outcome is `Passed` or `Ignored` takes nine bytes.
 #[derive(Drop)]
@@ -31,7 +32,7 @@ impl Model for Rows {
 
     ghost Value = { Returned };
 
-    ghost use Rattle.mimic_pool.specs.RowMarks.{AreMarked, returned_of};
+    ghost use Rattle.mimic_pool.specs.Marks.{AreMarked, returned_of};
 
     ghost view = { returned_of };
 
@@ -39,9 +40,11 @@ impl Model for Rows {
 }
 
 impl Rows {
-    /// Room for so many rows. All of its memory is taken here.
+    /// Room for `n` rows. All of its memory is taken here.
     pub fn with_capacity(alloc: Global, n: usize) -> Result<Rows, AllocError>
         ensures empty { IfOk result (λ rows. rows.items ≡ []) }
+        ensures order { IfOk result (λ rows. rows.order ≡ []) }
+        ensures taken { IfOk result (λ rows. rows.taken ≡ 0) }
         ensures room { IfOk result (λ rows. n ≤ rows.room) }
     {
         let kept = VecDeque::with_capacity(alloc, n)?;
@@ -55,10 +58,12 @@ impl Rows {
         })
     }
 
-    /// Makes room for so many more rows, if there is memory. It makes more than that if there are many rows, so that rows that are
+    /// Makes room for this many more rows, if there is memory. It makes more than that if there are many rows, so that rows that are
     /// added one by one seldom take memory.
     pub fn reserve(&mut self, more: usize) -> Result<(), AllocError>
         ensures items { self.new.items ≡ self.old.items }
+        ensures order { self.new.order ≡ self.old.order }
+        ensures taken { self.new.taken ≡ self.old.taken }
         ensures as_much { self.old.room ≤ self.new.room }
         ensures room { OnOk result (more ≤ self.new.room) }
     {
@@ -87,6 +92,8 @@ impl Rows {
     pub fn push_reserved(&mut self, place: usize, outcome: Outcome)
         requires { 1 ≤ self.old.room }
         ensures items { self.new.items ≡ self.old.items ++ (place, outcome) ∷ [] }
+        ensures order { self.new.order ≡ self.old.order ++ place ∷ [] }
+        ensures taken { self.new.taken ≡ self.old.taken }
         ensures room { self.old.room ≡ self.new.room + 1 }
     {
         let mark = marked(outcome, &mut self.kept);
@@ -96,9 +103,11 @@ impl Rows {
 
     /// Takes the first row of those that were not taken.
     pub fn next(&mut self) -> Option<(usize, Outcome)>
-        ensures { MatchOption result
-            ((self.old.items ≡ []) × (self.new ≡ self.old))
-            (λ row. self.old.items ≡ row ∷ self.new.items) }
+        ensures none { IfNone result ((self.old.items ≡ []) × (self.new ≡ self.old)) }
+        ensures some { IfSome result (λ row. self.old.items ≡ row ∷ self.new.items) }
+        ensures order { self.new.order ≡ self.old.order }
+        ensures taken { IfSome result (λ _. self.new.taken ≡ self.old.taken + 1) }
+        ensures room { self.new.room ≡ self.old.room }
     {
         if self.taken >= self.places.len() {
             return None;
@@ -109,14 +118,28 @@ impl Rows {
         Some((place, outcome))
     }
 
-    // Whether each of the rows lies at its place.
-    pub(crate) fn lie_at(&self, seats: &Seats) -> bool
-        ensures { IsTrue result ↔ All (λ row. slice_index_or seats.now row.0 None ≡ Some row.1) self.now.items }
+    /// The places of all rows that were added, in their order.
+    pub fn order(&self) -> &[usize]
+        ensures { result.now ≡ self.now.order }
+    {
+        self.places.as_slice()
+    }
+
+    /// How many of them were taken.
+    pub fn taken(&self) -> usize
+        ensures { result ≡ self.now.taken }
+    {
+        self.taken
+    }
+
+    // Whether each of the rows is what arrived at its place.
+    pub(crate) fn have_arrived(&self, desk: &Desk) -> bool
+        ensures { IsTrue result ↔ HaveArrived desk.now self.now.items }
     {
         let mut kept = 0;
         for number in self.taken..self.places.len() {
             let mark = self.marks[number];
-            if !lies(seats.get(self.places[number]), mark, &self.kept, kept) {
+            if !is_marked_so(desk.outcome(self.places[number]), mark, &self.kept, kept) {
                 return false;
             }
             kept += weight(mark);
@@ -125,15 +148,15 @@ impl Rows {
     }
 }
 
-// Whether the outcome of the mark is what lies there. It is the kept one of this index, if it doesn't fit in the mark.
-fn lies(seat: Option<&Outcome>, mark: Mark, kept: &VecDeque<Outcome>, index: usize) -> bool
+// Whether this is the outcome of the mark, which is the kept one of this index if it doesn't fit in the mark.
+fn is_marked_so(found: Option<&Outcome>, mark: Mark, kept: &VecDeque<Outcome>, index: usize) -> bool
     requires { index + weight_of mark ≤ deque_len kept.now }
-    ensures { IsTrue result ↔ (option_copied seat.entry ≡ Some (outcome_by mark (drop index (deque_items kept.now)))) }
+    ensures { IsTrue result ↔ (option_copied found.entry ≡ Some (outcome_by mark (drop index (deque_items kept.now)))) }
 {
     match mark {
-        Mark::Passed => matches!(seat, Some(Outcome::Passed)),
-        Mark::Ignored | Mark::Free => matches!(seat, Some(Outcome::Ignored)),
-        Mark::Kept => seat == kept.get(index),
+        Mark::Passed => matches!(found, Some(Outcome::Passed)),
+        Mark::Ignored => matches!(found, Some(Outcome::Ignored)),
+        Mark::Kept => found == kept.get(index),
     }
 }
 

@@ -16,7 +16,7 @@ pub(crate) struct Assigned<T> {
     pub(crate) ignored: bool,
 }
 
-/// What one worker runs: runners with their places, in rising order of these.
+/// Runners with their places, in rising order of these: what one worker runs, or what it takes from a queue at once.
 #[derive(Drop)]
 pub struct Share<T = Runner> {
     pub(crate) items: Vec<Assigned<T>>,
@@ -48,7 +48,7 @@ impl<T> Share<T> {
     }
 }
 
-/// Deals the runners at the places 0, 1, .. out to so many workers. The runner at a place goes, with its flag, to the
+/// Deals the runners at the places 0, 1, .. out to `workers`. The runner at a place goes, with its flag, to the
 /// worker whose number is the place's remainder by the number of workers.
 ///
 /// `ignored` says of each place whether its runner is not to be called.
@@ -73,7 +73,7 @@ pub fn deal<T: Drop>(
     Ok(shares)
 }
 
-/// The shares of so many workers before anything is dealt to them. Each has room for its part of so many runners.
+/// The shares of `workers` before anything is dealt to them. Each has room for its equal part of `runners`.
 pub fn empty_shares<T: Drop>(
     alloc: Global,
     runners: usize,

@@ -16,9 +16,9 @@ use std::marker::PhantomData;
 use std::sync::Wait;
 use std::sync::atomic::{AtomicUsize, Ordering};
 
-// How many trials a share has at most. A worker ends what it has taken before it sees that a run is to end, and small shares keep
+// How many trials a batch has at most. A worker ends what it has taken before it sees that a run is to end, and small batches keep
 // all workers busy to the end.
-pub(crate) const MOST_IN_SHARE: usize = 32;
+pub(crate) const MOST_IN_BATCH: usize = 32;
 
 // What the owner of a pass has put and taken, and its parts of the right to know the whole. No value of it is made.
 pub(crate) struct Account<T> {
@@ -62,7 +62,7 @@ impl<T> Join<Account<T>> for Parts {
     ghost spent = { account 0 [] [] };
 }
 
-// A share was put.
+// A batch was put.
 struct Puts;
 
 impl<T> Step<Share<T>, Account<T>> for Puts {
@@ -73,7 +73,7 @@ impl<T> Step<Share<T>, Account<T>> for Puts {
     ghost then = { λ v share w. w ≡ account v.parts (v.put ++ items_of share) v.taken };
 }
 
-// A share was taken.
+// A batch was taken.
 struct Takes<T> {
     of: PhantomData<T>,
 }
@@ -90,7 +90,7 @@ impl<T: Task> Lesson<Share<T>, Account<T>> for Takes<T> {
     ghost fact = { Balances };
 }
 
-// Shares of consecutive trials, from which workers take the next one when they are free.
+// Batches, each a share of consecutive trials, of which workers take the next one when they are free.
 pub(crate) struct SharedQueue<T: Task> {
     pub(crate) queue: RuledSegQueue<Share<T>, Account<T>, Balanced<T>>,
     // The workers with a number below it may take.
@@ -118,7 +118,7 @@ impl<T: Task> SharedQueue<T> {
         Ok((SharedQueue { queue, limit }, pass))
     }
 
-    // Puts a share behind the others. If there is no memory, it is handed back.
+    // Puts a batch behind the others. If there is no memory, it is handed back.
     pub(crate) fn put<R: Wait>(
         &self,
         rt: &R,
@@ -135,7 +135,7 @@ impl<T: Task> SharedQueue<T> {
         self.queue.push_as::<Puts, R>(rt, pass, share)
     }
 
-    // Takes the next share. If there is none, and the pass has all parts, the trials that were put are those that were taken.
+    // Takes the next batch. If there is none, and the pass has all parts, the trials that were put are those that were taken.
     pub(crate) fn take<R: Wait>(&self, rt: &R, pass: &mut QueuePass<T>) -> Option<Share<T>>
         requires ours { IsSegPassOf self.now.queue pass.old }
         requires parts { 0 < (account_of pass.old).parts }

@@ -1,6 +1,7 @@
 //! Trials that are dealt out to workers beforehand.
 ghost use Rattle.std.specs.Prelude.{◌≡◌, ◌≤◌, [], All, Bool, IfOk, IfSome, List, MatchResult, length, map, take, true, vec_capacity, vec_len};
 ghost use Rattle.mimic_pool.specs.Answers.{Answers};
+ghost use Rattle.mimic_pool.specs.Board.{empty_board};
 ghost use Rattle.mimic_pool.specs.Inbox.{board_of};
 ghost use Rattle.mimic_pool.specs.Rows.{rows_in};
 ghost use Rattle.mimic_pool.specs.Share.{AllRunners, items_of};
@@ -44,6 +45,7 @@ pub(crate) fn prepare_shares<T: Task>(
     shares: Vec<Share<T>>,
     count: usize,
 ) -> Result<(Inbox, ShareStarts<T>), AllocError>
+    ensures inbox { IfOk result (λ made. board_of made.0 ≡ empty_board count (vec_len made.1.starts)) }
     ensures ready { IfOk result (λ made. (trials : List (Assigned T)) → AreDealt T.can_run shares.items trials
         → AreReadyShares T.can_run made.1 trials) }
 {
@@ -74,10 +76,10 @@ pub(crate) fn start_shares<T: Task + Send + 'static, R: Spawner + 'static>(
         handles,
         joined,
     } = starts;
-    match start_all(rt, alloc, starts, test_mode, handles) {
+    match start_workers(rt, alloc, starts, test_mode, handles) {
         Ok(handles) => Some(ShareCrew { handles, joined }),
         Err(handles) => {
-            join_all(rt, handles, joined);
+            join_workers(rt, handles, joined);
             None
         }
     }
@@ -93,7 +95,7 @@ pub(crate) fn join_shares<T: Task + Send + 'static, R: Threads>(
         → AreJoined T.gives mode trials true (map rows_in result.items) }
 {
     let ShareCrew { handles, joined } = crew;
-    join_all(rt, handles, joined)
+    join_workers(rt, handles, joined)
 }
 
 // What each worker starts with, one for each share: room for what it returns, and the board of the inbox.
@@ -116,7 +118,7 @@ fn starts_on<T: Task>(
 
 // Starts a worker for each share, and keeps their handles in `handles`, which takes no memory. If a worker can't be started, no
 // more are, and the handles of those that were, of the first shares, are returned. The others never close.
-fn start_all<T: Task + Send + 'static, R: Spawner + 'static>(
+fn start_workers<T: Task + Send + 'static, R: Spawner + 'static>(
     rt: &R,
     alloc: Global,
     starts: Vec<Start<T>>,
@@ -156,7 +158,7 @@ fn start_worker<T: Task + Send + 'static, R: Spawner + 'static>(
         share: Snapshot::of(&share),
         test_mode,
     };
-    let theirs = *rt;
+    let worker_rt = *rt;
     let started = thread::spawn_with(
         rt,
         promise,
@@ -166,7 +168,7 @@ fn start_worker<T: Task + Send + 'static, R: Spawner + 'static>(
             requires fits { length (items_of share) ≤ room.room }
             ensures { Answers T.gives test_mode (items_of share) result.items }
         {
-            let mut reports = BoardReports::new(theirs, alloc, board);
+            let mut reports = BoardReports::new(worker_rt, alloc, board);
             let (_, rows) = work_from(share.into_remaining(), test_mode, &mut reports, room);
             rows
         },
@@ -175,7 +177,7 @@ fn start_worker<T: Task + Send + 'static, R: Spawner + 'static>(
 }
 
 // Joins the workers one after another, and keeps the rows that each returned in `joined`, which takes no memory.
-fn join_all<T: Task + Send + 'static, R: Threads>(
+fn join_workers<T: Task + Send + 'static, R: Threads>(
     rt: &R,
     handles: Handles<T>,
     mut joined: Vec<Rows>,

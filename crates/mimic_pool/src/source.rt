@@ -12,7 +12,7 @@ pub(crate) trait Source<T: Task> {
     // From one state to another these trials were handed out, in their order.
     ghost goes_on: { Self → List (Assigned T) → Self → Type 0 };
 
-    // The next trials can be handed out if there is room for so many rows.
+    // The next trials can be handed out if there is room for this many rows.
     ghost is_ready: { Self → ℕ → Type 0 };
 
     // How many more trials there are at most.

@@ -10,9 +10,9 @@ use std::snapshot::Snapshot;
 use std::sync::Arc;
 use std::thread::Promise;
 
-/// What a worker starts with: its share, room for what it returns, and the board that it reports to.
+// What a worker starts with: its share, room for what it returns, and the board that it reports to.
 #[derive(Drop)]
-pub struct Start<T> {
+pub(crate) struct Start<T> {
     pub(crate) share: Share<T>,
     pub(crate) room: Rows,
     pub(crate) board: Arc<SharedBoard>,
@@ -20,9 +20,9 @@ pub struct Start<T> {
     pub(crate) ghost fits: { length (items_of share) ≤ room.room },
 }
 
-/// What a worker's thread promises: it returns an outcome for each trial of its share.
+// What a worker's thread promises: it returns an outcome for each trial of its share.
 #[derive(Drop)]
-pub struct AnswersShare<T> {
+pub(crate) struct AnswersShare<T> {
     pub(crate) share: Snapshot<Share<T>>,
     pub(crate) test_mode: bool,
 }

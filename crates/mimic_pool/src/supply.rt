@@ -1,8 +1,12 @@
 //! How trials get to workers.
-ghost use Rattle.std.specs.Prelude.{◌≡◌, ◌++◌, ◌∷◌, ◌≤◌, ◌||◌, [], Bool, IfOk, IfSome, List, OnOk, length, map};
-ghost use Rattle.mimic_pool.specs.Joined.{AreJoined};
+ghost use Rattle.std.specs.Prelude.{◌≡◌, ◌++◌, ◌∷◌, ◌≤◌, ◌||◌, [], Bool, IfOk, IfSome, List, OnOk, length, map, true};
+ghost use Rattle.mimic_trial.specs.declared.outcome.Outcome.{Outcome as AnOutcome};
+ghost use Rattle.mimic_pool.specs.Board.{empty_board};
+ghost use Rattle.mimic_pool.specs.Inbox.{board_of};
+ghost use Rattle.mimic_pool.specs.Joined.{AreJoined, AreOutcomes, put_each};
 ghost use Rattle.mimic_pool.specs.Rows.{rows_in};
-ghost use Rattle.mimic_pool.specs.Supply.{AreReady, Holds, Runs, runs_all};
+ghost use Rattle.mimic_pool.specs.Supply.{AreReady, Holds, Runs, runs_all, workers_of};
+ghost use Rattle.mimic_pool.specs.Share.{assigned_from};
 ghost use Rattle.mimic_pool.specs.declared.share.Assigned.{Assigned};
 
 use crate::inbox::Inbox;
@@ -35,7 +39,7 @@ pub enum Supply<T: Task> {
 }
 
 /// What workers start with. All memory is taken by then, except for copies of messages, for the threads, and for rows of a worker
-/// that takes many more trials from a queue than others.
+/// that takes more trials from a queue than its equal part.
 #[derive(Drop)]
 pub enum Starts<T: Task> {
     /// A worker for each share.
@@ -53,7 +57,7 @@ pub enum Crew<T: Task> {
 }
 
 impl<T: Task> Supply<T> {
-    /// For so many workers, which are to run so many trials, before any is put.
+    /// For `workers`, which are to run `trials`, before any is put.
     pub fn new(
         alloc: Global,
         schedule: Schedule,
@@ -69,8 +73,8 @@ impl<T: Task> Supply<T> {
         }
     }
 
-    /// Puts one trial more: its place, which is the number of those before it, its runner, and whether that is not to be called. If
-    /// an allocation fails, the runner is dropped.
+    /// Puts one trial more: its place, its runner, and whether that is not to be called. If an allocation fails, trials may have been
+    /// dropped, and the supply is of no more use.
     pub fn put<R: Wait>(
         &mut self,
         rt: &R,
@@ -80,7 +84,7 @@ impl<T: Task> Supply<T> {
     ) -> Result<(), AllocError>
         requires held { (trials : List (Assigned T)) × Holds T.can_run self.old trials }
         requires runnable { T.can_run runner }
-        ensures put { OnOk result ((trials : List (Assigned T)) → length trials ≡ place → Holds T.can_run self.old trials
+        ensures put { OnOk result ((trials : List (Assigned T)) → Holds T.can_run self.old trials
             → Holds T.can_run self.new (trials ++ record { place = place; runner = runner; ignored = ignored } ∷ [])) }
     {
         match self {
@@ -96,7 +100,7 @@ impl<T: Task> Supply<T> {
         }
     }
 
-    /// Makes the workers ready to run the trials, of which there are `count`, and an inbox to which they will report.
+    /// Makes the workers ready to run the trials, of which there are `count`, and an inbox to which they, and no others, will report.
     pub fn prepare<R: Wait>(
         self,
         rt: &R,
@@ -104,6 +108,7 @@ impl<T: Task> Supply<T> {
         count: usize,
     ) -> Result<(Inbox, Starts<T>), AllocError>
         requires held { (trials : List (Assigned T)) × Holds T.can_run self trials }
+        ensures inbox { IfOk result (λ made. board_of made.0 ≡ empty_board count (workers_of made.1)) }
         ensures ready { IfOk result (λ made. (trials : List (Assigned T)) → length trials ≤ count
             → Holds T.can_run self trials → AreReady T.can_run made.1 trials) }
     {
@@ -121,7 +126,7 @@ impl<T: Task> Supply<T> {
 }
 
 /// Starts the workers. `None` if one that has a share can't be started, or none that takes from a queue; then those that were are
-/// joined.
+/// joined. After `None` no more is to be taken from the inbox: it waits for all workers, and some were never started.
 pub fn start_all<T: Task + Send + 'static, R: Spawner + 'static>(
     rt: &R,
     alloc: Global,
@@ -145,8 +150,8 @@ pub fn start_all<T: Task + Send + 'static, R: Spawner + 'static>(
 }
 
 /// Joins the workers, and returns the rows of each: a place and the outcome there, for each trial that it ran. If not the `whole`
-/// of the trials is to be run, those that wait in a queue are dropped, and workers end what they have taken. A worker runs all of its
-/// share.
+/// of the trials is to be run, workers end what they have taken from a queue and take no more, and the trials that are left there are
+/// dropped. A worker runs all of its share.
 pub fn join_all<T: Task + Send + 'static, R: Spawner>(
     rt: &R,
     crew: Crew<T>,
@@ -155,6 +160,9 @@ pub fn join_all<T: Task + Send + 'static, R: Spawner>(
     requires running { (mode : Bool) × (trials : List (Assigned T)) × Runs T.gives crew mode trials }
     ensures joined { (mode : Bool) (trials : List (Assigned T)) → Runs T.gives crew mode trials
         → AreJoined T.gives mode trials (runs_all crew || whole) (map rows_in result.items) }
+    ensures outcomes { (mode : Bool) (runners : List T) (flags : List Bool) → Runs T.gives crew mode (assigned_from 0 runners flags)
+        → (runs_all crew || whole) ≡ true → (outcomes : List AnOutcome) → length outcomes ≡ length (assigned_from 0 runners flags)
+        → AreOutcomes T.gives mode (assigned_from 0 runners flags) (put_each (map rows_in result.items) outcomes) }
 {
     match crew {
         Crew::Shares(crew) => join_shares(rt, crew),

@@ -9,7 +9,7 @@ use crate::room::Room;
 use crate::rows::Rows;
 use crate::share::Assigned;
 use crate::shared_board::SharedBoard;
-use crate::shared_queue::{MOST_IN_SHARE, QueuePass, SharedQueue};
+use crate::shared_queue::{MOST_IN_BATCH, QueuePass, SharedQueue};
 use crate::source::Source;
 use crate::spawner::Spawner;
 use crate::worker::work_from;
@@ -19,7 +19,7 @@ use std::snapshot::Snapshot;
 use std::sync::{Arc, Wait};
 use std::thread::Promise;
 
-// A worker's end of a queue. It takes the next share once it has handed out the one before.
+// A worker's end of a queue. It takes the next batch once it has handed out the one before.
 #[derive(Drop)]
 pub(crate) struct Taker<T: Task, R: Wait + Drop> {
     pub(crate) rt: R,
@@ -33,7 +33,7 @@ pub(crate) struct Taker<T: Task, R: Wait + Drop> {
 }
 
 impl<T: Task, R: Wait + Drop> Taker<T, R> {
-    // Takes the next share, if the worker may and has room for the rows of any share.
+    // Takes the next batch, if the worker may, and has room for the rows of the largest one.
     fn take<O: Room>(&mut self, room: &mut O) -> Option<()>
         requires ready { MayTake T.can_run self.old (O.room_in room.old) }
         requires none_left { self.old.left ≡ [] }
@@ -44,10 +44,10 @@ impl<T: Task, R: Wait + Drop> Taker<T, R> {
         ensures none { result ≡ None → self.new.left ≡ [] }
         ensures most { most_of self.new ≤ most_of self.old }
     {
-        if self.budget < MOST_IN_SHARE as u64 || !self.queue.is_open_to(self.number) {
+        if self.budget < MOST_IN_BATCH as u64 || !self.queue.is_open_to(self.number) {
             return None;
         }
-        room.reserve(MOST_IN_SHARE).ok()?;
+        room.reserve(MOST_IN_BATCH).ok()?;
         let share = self.queue.take(&self.rt, &mut self.pass)?;
         self.budget -= share.len() as u64;
         self.left = share.into_remaining();

@@ -54,11 +54,10 @@ fn write_arrival<W: Write>(
         → Put base (shown W.contents sink.old) (told_text printer.now infos.now desk.old)
         → Writes base (shown W.contents sink.new) (told_text printer.now infos.now desk.new) result }
 {
+    let number = desk.order().len();
     match desk.arrive(place, outcome) {
         Arrival::First => {
-            let Some(outcome) = desk.outcome(place) else {
-                unreachable!()
-            };
+            let (_, outcome) = desk.row(number);
             printer.print_row(sink, &infos[place], outcome)
         }
         Arrival::Again | Arrival::Stranger => Ok(()),
@@ -80,9 +79,7 @@ pub(super) fn write_missing<W: Write>(
         (rows_text printer.now (drop first (rows_at (map label_of infos.now) desk.now.rows))) result }
 {
     for number in first..desk.order().len() {
-        let Some((place, returned)) = desk.row(number) else {
-            unreachable!()
-        };
+        let (place, returned) = desk.row(number);
         printer.print_row(sink, &infos[place], returned)?;
     }
     Ok(())

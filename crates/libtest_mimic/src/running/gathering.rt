@@ -34,8 +34,8 @@ pub struct Started<R: Task> {
 /// after the workers have been joined those that did not. Returns the desk, at which an outcome of each trial has arrived then.
 ///
 /// `infos` are by place, counted from 0. It is refused for a write fault, or with `Arrival` for the least place at which
-/// something else arrived first than its worker returned, also after a write fault. After a write fault, the trials that are left
-/// in a queue are taken from it and dropped.
+/// something else arrived first than its worker returned, also after a write fault. After a write fault, workers take no more
+/// trials from a queue, and those that are left there are dropped.
 pub fn gather_rows<R: Task + Send + 'static, W: Write, T: Spawner + 'static>(
     rt: &T,
     printer: &Printer,

@@ -1,14 +1,15 @@
 //! Trials that are not run after a write fault.
 use super::faulty_writer::FULL;
 use super::runs::{Left, asking, run_by};
-use super::threads::{TURNS, reaches_in_time};
-use libtest_mimic::{Failed, FormatSetting, Outcome, Schedule, Spawner, Task, Trial};
+use libtest_mimic::{FormatSetting, Outcome, Schedule, Spawner, Task, Trial};
 use mimic_testkit::{FaultyWriter, Place};
 use std::alloc::{AllocError, Global};
 use std::rt::Clock;
 use std::sync::Arc;
 use std::sync::atomic::{AtomicU64, Ordering};
 use std::test::Fail;
+use std::thread;
+use std::time::Duration;
 
 // How many runners were called, and how many were dropped without a call.
 #[derive(Drop)]
@@ -17,68 +18,67 @@ struct Counts {
     dropped: AtomicU64,
 }
 
-// Passes once so many runners were dropped without a call. If that doesn't happen in time, it fails, and lets no other one wait.
-struct Awaits<M: Clock + Drop> {
+// Passes after some milliseconds.
+struct Sleeps<M: Clock + Drop> {
     machine: M,
     counts: Arc<Counts>,
-    awaited: u64,
+    millis: u64,
 }
 
-impl<M: Clock + Drop> Drop for Awaits<M> {
+impl<M: Clock + Drop> Drop for Sleeps<M> {
     fn drop(self) {
-        let Awaits {
+        let Sleeps {
             machine: _,
             counts,
-            awaited: _,
+            millis: _,
         } = self;
         counts.dropped.fetch_add(1, Ordering::SeqCst);
     }
 }
 
-impl<M: Clock + Drop> Task for Awaits<M> {
+impl<M: Clock + Drop> Task for Sleeps<M> {
     fn run(self, _test_mode: bool) -> Outcome {
         // It is taken apart, so it isn't dropped as one that was not called.
-        let Awaits {
+        let Sleeps {
             machine,
             counts,
-            awaited,
+            millis,
         } = self;
         counts.called.fetch_add(1, Ordering::SeqCst);
-        if reaches_in_time(&machine, TURNS, &counts.dropped, awaited) {
-            return Outcome::Passed;
-        }
-        counts.dropped.store(u64::MAX / 2, Ordering::SeqCst);
-        Outcome::Failed(Failed::without_message())
+        thread::sleep(&machine, Duration::from_millis(millis));
+        Outcome::Passed
     }
 }
 
-// So many trials. The first one ends at once, and each other one when so many runners were dropped.
-fn that_await<M: Clock + Copy + Drop>(
+// `count` trials. The first one ends at once, and each other one after `millis` milliseconds.
+fn that_sleep<M: Clock + Copy + Drop>(
     machine: M,
     alloc: Global,
     count: u64,
-    awaited: u64,
+    millis: u64,
     counts: &Arc<Counts>,
-) -> Result<Vec<Trial<Awaits<M>>>, AllocError> {
+) -> Result<Vec<Trial<Sleeps<M>>>, AllocError> {
     let mut trials = Vec::new(alloc);
     for number in 0..count {
-        let awaits = Awaits {
+        let sleeps = Sleeps {
             machine,
             counts: Arc::try_clone(counts)?,
-            awaited: if number == 0 { 0 } else { awaited },
+            millis: if number == 0 { 0 } else { millis },
         };
-        trials.push(Trial::new(String::new(alloc), awaits))?;
+        trials.push(Trial::new(String::new(alloc), sleeps))?;
     }
     Ok(trials)
 }
 
-// A run by two workers whose writer fails at the first row: how trials come to them, how many there are, and how many are called at
-// least and at most. All are that are dealt out. From a queue it is the first one, and what each worker takes then: one trial, or up
-// to 32 at once of a run of more than 64 trials for each worker.
+// A run by two workers whose writer fails at the first row: how trials come to them, how many there are, how long each of them but the
+// first takes, and how many are called at least and at most. All are that are dealt out. From a queue it is the first one, and what
+// each worker takes before the fault is known: one trial, or up to 32 at once of a run of more than 64 trials for each worker. If that
+// takes long, on a busy machine, workers may take some more in the meantime.
 #[derive(Clone, Copy, Debug)]
 struct Ended {
     schedule: Schedule,
     count: u64,
+    millis: u64,
     least: u64,
     most: u64,
 }
@@ -87,20 +87,23 @@ static ENDED: [Ended; 3] = [
     Ended {
         schedule: Schedule::Shares,
         count: 100,
+        millis: 1,
         least: 100,
         most: 100,
     },
     Ended {
         schedule: Schedule::Queue,
         count: 100,
+        millis: 50,
         least: 1,
-        most: 3,
+        most: 40,
     },
     Ended {
         schedule: Schedule::Queue,
         count: 10_000,
+        millis: 4,
         least: 1,
-        most: 64,
+        most: 500,
     },
 ];
 
@@ -118,8 +121,7 @@ impl Ended {
         };
         let counts = Arc::new(alloc, counts)?;
         let args = asking(alloc, FormatSetting::Terse, Some(2));
-        let awaited = self.count.saturating_sub(self.most);
-        let tests = that_await(*rt, alloc, self.count, awaited, &counts)?;
+        let tests = that_sleep(*rt, alloc, self.count, self.millis, &counts)?;
         let left = run_by(rt, alloc, &args, tests, writer, self.schedule);
         let Some(counts) = Arc::into_inner(counts) else {
             return Err(Fail::new("a worker runs on"));
@@ -130,7 +132,6 @@ impl Ended {
     }
 }
 
-// All trials but the first one wait until all have been dropped that are not to be called, so none is taken before that.
 #[test]
 fn takes_no_more_after_a_fault(rt: HostRuntime) -> Result<(), Fail> {
     let alloc = rt.alloc();

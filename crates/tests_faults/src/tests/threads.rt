@@ -17,18 +17,13 @@ use std::time::Duration;
 use std::{io, thread};
 
 // How often a trial looks for the others, a millisecond apart, before it gives up.
-pub(super) const TURNS: u64 = 30_000;
+const TURNS: u64 = 30_000;
 
 // How often a trial looks that is to give up.
 const FEW_TURNS: u64 = 100;
 
 // Whether the count reaches the number in time.
-pub(super) fn reaches_in_time<M: Clock>(
-    machine: &M,
-    turns: u64,
-    count: &AtomicU64,
-    number: u64,
-) -> bool {
+fn reaches_in_time<M: Clock>(machine: &M, turns: u64, count: &AtomicU64, number: u64) -> bool {
     for _ in 0..turns {
         if count.load(Ordering::SeqCst) >= number {
             return true;

@@ -38,10 +38,13 @@ fn settled(alloc: Global, desk: &Desk, joined: [Plain; 3]) -> Result<Result<(), 
 
 // Whether the desk shows this row as the one of this number, or none.
 fn shows_row(desk: &Desk, number: usize, want: Option<(usize, Plain)>) -> bool {
-    match (desk.row(number), want) {
-        (Some((place, outcome)), Some((at, plain))) => place == at && plain.is(outcome),
-        (None, None) => true,
-        _ => false,
+    if number >= desk.order().len() {
+        return want.is_none();
+    }
+    let (place, outcome) = desk.row(number);
+    match want {
+        Some((at, plain)) => place == at && plain.is(outcome),
+        None => false,
     }
 }
 

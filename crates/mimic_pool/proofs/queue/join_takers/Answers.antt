@@ -1,4 +1,4 @@
-use Rattle.std.proofs.Common.{◌∙◌, ◌++◌, ap, append-nil, arith, map, rules, subst, sym}
+use Rattle.std.proofs.Common.{◌∙◌, ◌++◌, ap, append-nil, arith, map, refl, rules, subst, sym}
 use Rattle.std.specs.Arc.{arc_value}
 use Rattle.std.specs.Vec.Iter.{into_iter_items}
 use Rattle.std.proofs.lemmas.List.Folds.{flat_map-map}
@@ -23,11 +23,11 @@ pub loop-handle-init : goal.loop-handle-init
 loop-handle-init g c =
     let was = c.requires.running.2 in
     record {
-      ours = search rules;
-      some_part = omega (arith, was.some_part, c.drop_unless.ensures.parts);
+      ours = was.ours;
+      some_part = was.some_part;
       parts = search rules;
-      put = c.drop_unless.ensures.put;
-      answered = c.drop_unless.ensures.answers c.args.crew.test_mode _ (takes_any g.T.Task.gives c.args.crew.test_mode c.args.whole _ _ was.answered);
+      put = refl;
+      answered = takes_any g.T.Task.gives c.args.crew.test_mode c.args.whole _ _ was.answered;
       jobs = search rules;
       fits = search rules;
     }
@@ -56,9 +56,9 @@ pub returns : goal.returns
 returns g c = record {
   joined = λ mode trials runs.
       let was = c.loop-handle.invariant in
-      let whole = c.empty-last.ensures in
+      let whole = c.take_left-rows.ensures in
       let joined = c.push_reserved-2.new.self.items in
-      let rows = rows_pushed (λ rows. rows.items) c.loop-handle.joined.items joined c.empty-last.result c.push_reserved-2.ensures.items in
+      let rows = rows_pushed (λ rows. rows.items) c.loop-handle.joined.items joined c.take_left-rows.result c.push_reserved-2.ensures.items in
       let all = takes_whole g.T.Task.gives c.args.crew.test_mode c.args.whole trials _ _ (map rows_in joined) _ (whole.put ∙ was.put ∙ runs.put) whole.all (sym rows ∙ sym (flat_map-map (λ (rows : _). rows) rows_in joined)) (whole.answers _ was.answered) in
       subst (λ mode. AreJoined g.T.Task.gives mode trials c.args.whole (map rows_in joined)) runs.mode_is all;
 }

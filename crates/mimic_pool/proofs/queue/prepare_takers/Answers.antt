@@ -1,4 +1,5 @@
 use Rattle.std.proofs.Common.{◌∙◌, ◌++◌, ap, append-nil, rules, sym}
+use Rattle.mimic_pool.specs.Board.{empty_board}
 use Rattle.mimic_pool.specs.Passes.{account_of}
 use Rattle.mimic_pool.proofs.queue.prepare_takers.Goals as goal
 
@@ -13,6 +14,7 @@ starts_at-requires-clause-some_worker g c = (c.in_ok-flush.ensures.put c.require
 
 pub returns : goal.returns
 returns g c = record {
+  inbox = c.in_ok-inbox.ensures ∙ ap (empty_board c.args.count) (sym c.in_ok-starts.ensures.len);
   ready = λ trials fits held.
       let flushed = (c.in_ok-flush.ensures.put trials held.filling).filling in
       let starts = c.in_ok-starts.ensures in

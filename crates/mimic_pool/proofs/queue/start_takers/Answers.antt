@@ -2,8 +2,9 @@ use Rattle.std.proofs.Common.{◌≡◌, ◌∙◌, ◌++◌, [], ap, append-nil
 use Rattle.std.specs.Arc.{arc_value}
 use Rattle.std.specs.List.{flat_map}
 use Rattle.std.specs.Vec.Iter.{into_iter_items}
+use Rattle.mimic_pool.specs.Joined.{AnswersSome}
 use Rattle.mimic_pool.specs.Passes.{account_of}
-use Rattle.mimic_pool.specs.Queue.{AnswersTakes, IsFresh, IsJob}
+use Rattle.mimic_pool.specs.Queue.{IsFresh, IsJob}
 use Rattle.mimic_pool.specs.declared.shared_queue.Account.{Account}
 use Rattle.mimic_pool.proofs.Elements.{none_of, rest_of, with_one}
 use Rattle.mimic_pool.proofs.Emptying.{rows_pushed, takes_both, takes_none}
@@ -19,7 +20,7 @@ loop-start-init g c =
       some_part = ready.some_part;
       parts = search rules;
       put = refl;
-      answered = subst (λ l. AnswersTakes g.T.Task.gives c.args.test_mode true (account_of c.args.starts.pass).taken l) (sym rows) (takes_none g.T.Task.gives c.args.test_mode (account_of c.args.starts.pass).taken ready.none_taken);
+      answered = subst (λ l. AnswersSome g.T.Task.gives c.args.test_mode true (account_of c.args.starts.pass).taken l) (sym rows) (takes_none g.T.Task.gives c.args.test_mode (account_of c.args.starts.pass).taken ready.none_taken);
       jobs = search rules;
       left = search rules;
       fits = search rules;

@@ -4,8 +4,9 @@ use Rattle.std.specs.List.{flat_map}
 use Rattle.std.specs.Vec.Iter.{into_iter_items, into_iter_len}
 use Rattle.crossbeam_queue.specs.SegTies.{IsSegPassOf}
 use Rattle.mimic_pool.specs.Balance.{all_parts}
+use Rattle.mimic_pool.specs.Joined.{AnswersSome}
 use Rattle.mimic_pool.specs.Passes.{account_of}
-use Rattle.mimic_pool.specs.Queue.{AnswersTakes, IsFresh, IsJob}
+use Rattle.mimic_pool.specs.Queue.{IsFresh, IsJob}
 use Rattle.mimic_pool.proofs.queue.start_takers.Given as goal
 
 abbrev pub invariant-loop-start : goal.invariant-loop-start
@@ -14,7 +15,7 @@ invariant-loop-start g l = record {
   some_part : 0 < (account_of l.pass).parts;
   parts : (account_of l.pass).parts + vec_len l.handles + into_iter_len l.start-iterator ≡ all_parts;
   put : (account_of l.pass).put ≡ (account_of l.fn.starts.pass).put;
-  answered : AnswersTakes g.T.Task.gives l.test_mode true (account_of l.pass).taken (flat_map (λ rows. rows.items) l.joined.items);
+  answered : AnswersSome g.T.Task.gives l.test_mode true (account_of l.pass).taken (flat_map (λ rows. rows.items) l.joined.items);
   jobs : All (IsJob (arc_value l.queue).queue l.test_mode) l.handles.items;
   left : All (IsFresh (arc_value l.queue).queue) (into_iter_items l.start-iterator);
   fits : vec_len l.handles + into_iter_len l.start-iterator ≤ vec_capacity l.handles;

@@ -13,9 +13,9 @@ loop-number-preserved g c =
     let was = c.loop-number.invariant in
     let left = c.another.ensures.left in
     let queue = (arc_value c.args.queue.now).queue in
-    let same : (arc_value c.in_ok-theirs.theirs).queue ≡ queue = search rules in
-    let ours : IsSegPassOf (arc_value c.in_ok-theirs.theirs).queue c.another.result = search rules in
-    let start : TakerStart _ = record { queue = c.in_ok-theirs.theirs; pass = c.another.result; room = c.in_ok-room.room; board = c.in_ok-board.board; number = c.loop-number.number; budget = c.saturating_add-budget.result } in
+    let same : (arc_value c.in_ok-shared.shared).queue ≡ queue = search rules in
+    let ours : IsSegPassOf (arc_value c.in_ok-shared.shared).queue c.another.result = search rules in
+    let start : TakerStart _ = record { queue = c.in_ok-shared.shared; pass = c.another.result; room = c.in_ok-room.room; board = c.in_ok-board.board; number = c.loop-number.number; budget = c.saturating_add-budget.result } in
     let fresh : IsFresh queue start = record { same = same; ours = ours; fresh = c.another.ensures.new; empty = c.in_ok-room.ensures.empty } in
     record {
       ours = search rules;

@@ -11,8 +11,8 @@ pub returns : goal.returns
 returns g c = record {
   joined = λ mode trials runs.
       let given = flat_map items_of runs.shares in
-      let joined = map rows_in c.join_all.result.items in
-      let answered = subst (λ jobs. AreAnswered g.T.Task.gives jobs joined) runs.started c.join_all.ensures in
+      let joined = map rows_in c.join_workers.result.items in
+      let answered = subst (λ jobs. AreAnswered g.T.Task.gives jobs joined) runs.started c.join_workers.ensures in
       record {
         dropped = [];
         answered = record {

@@ -11,7 +11,7 @@ use Rattle.mimic_printer.proofs.Appending.{Put-refl}
 use Rattle.libtest_mimic.specs.declared.running.RunError.TheVariants.{Write}
 use Rattle.libtest_mimic.specs.Steps.{told_text}
 use Rattle.libtest_mimic.proofs.Arranged.{order_below}
-use Rattle.libtest_mimic.proofs.Gathering.{completed_gathered, differs_refused, follows, none_dropped, nothing_told, on_error, put_all, stopped_missing, told_refused}
+use Rattle.libtest_mimic.proofs.Gathering.{completed_gathered, differs_refused, follows, outcomes_count, nothing_told, on_error, put_all, stopped_missing, told_refused}
 use Rattle.libtest_mimic.proofs.Returned.{all_gathered}
 use Rattle.libtest_mimic.proofs.running.gathering.gather_rows.Goals as goal
 
@@ -61,8 +61,9 @@ returns-in_err-write_missing-clause-rows g c = λ rs bs mode runners flags runs.
     let places = c.write_arrivals-written.ensures.places ∙ ap (λ d. d.places) c.requires.ready.desk ∙ sym runners in
     let done = c.in_ok-complete.ensures.completed in
     let whole : c.is_ok-whole.result ≡ true = c.is_ok-whole.ensures.value ∙ ap is_ok c.in_ok-written.was in
-    let none = none_dropped g.R.Task.gives mode rs bs same _ _ (c.join_all-joined.ensures.joined mode _ runs) (or_true (runs_all c.args.started.crew) c.is_ok-whole.result whole) in
-    let all = completed_gathered g.R.Task.gives mode rs bs same _ _ _ _ done none places in
+    let count = outcomes_count g.R.Task.gives mode rs bs same _ _ _ _ done places in
+    let own = c.join_all-joined.ensures.outcomes mode rs bs runs (or_true (runs_all c.args.started.crew) c.is_ok-whole.result whole) done.outcomes count in
+    let all = completed_gathered g.R.Task.gives mode rs bs same _ _ _ _ done own places in
     let before = shown g.W.Write.contents c.args.sink.now in
     let written = subst (λ r. Writes before (shown g.W.Write.contents c.write_arrivals-written.new.sink) (told_text c.args.printer.now c.args.infos.now c.write_arrivals-written.new.desk) r) c.in_ok-written.was (c.write_arrivals-written.ensures.told before (nothing_told c.args.printer.now c.args.infos.now _ _ c.requires.ready.desk before)) in
     let told = ap length c.order-told.ensures ∙ length-map c.write_arrivals-written.new.desk.rows (λ r. r.0) in
@@ -80,8 +81,9 @@ returns-clause-rows g c = λ rs bs mode runners flags runs.
     let places = c.write_arrivals-written.ensures.places ∙ ap (λ d. d.places) c.requires.ready.desk ∙ sym runners in
     let done = c.in_ok-complete.ensures.completed in
     let whole : c.is_ok-whole.result ≡ true = c.is_ok-whole.ensures.value ∙ ap is_ok c.in_ok-written.was in
-    let none = none_dropped g.R.Task.gives mode rs bs same _ _ (c.join_all-joined.ensures.joined mode _ runs) (or_true (runs_all c.args.started.crew) c.is_ok-whole.result whole) in
-    let all = completed_gathered g.R.Task.gives mode rs bs same _ _ _ _ done none places in
+    let count = outcomes_count g.R.Task.gives mode rs bs same _ _ _ _ done places in
+    let own = c.join_all-joined.ensures.outcomes mode rs bs runs (or_true (runs_all c.args.started.crew) c.is_ok-whole.result whole) done.outcomes count in
+    let all = completed_gathered g.R.Task.gives mode rs bs same _ _ _ _ done own places in
     let before = shown g.W.Write.contents c.args.sink.now in
     let written = subst (λ r. Writes before (shown g.W.Write.contents c.write_arrivals-written.new.sink) (told_text c.args.printer.now c.args.infos.now c.write_arrivals-written.new.desk) r) c.in_ok-written.was (c.write_arrivals-written.ensures.told before (nothing_told c.args.printer.now c.args.infos.now _ _ c.requires.ready.desk before)) in
     let told = ap length c.order-told.ensures ∙ length-map c.write_arrivals-written.new.desk.rows (λ r. r.0) in (

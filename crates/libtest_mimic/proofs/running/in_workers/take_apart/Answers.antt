@@ -6,7 +6,7 @@ use Rattle.mimic_trial.specs.Trial.{info_of, runner_of}
 use Rattle.mimic_pool.specs.Share.{assigned_from}
 use Rattle.mimic_pool.specs.Supply.{Holds}
 use Rattle.mimic_pool.proofs.Dealing.{assigned_more}
-use Rattle.libtest_mimic.proofs.Arranged.{flags_length, flags_push, length_assigned}
+use Rattle.libtest_mimic.proofs.Arranged.{flags_length, flags_push}
 use Rattle.libtest_mimic.proofs.Supplying.{put_all, seen_next}
 use Rattle.libtest_mimic.proofs.running.in_workers.take_apart.Goals as goal
 
@@ -54,8 +54,7 @@ loop-trial-preserved g c =
     let same = runners_seen ∙ flags_seen in
     let at : 0 + length old.runners ≡ c.len-in-Some.result = omega (arith, runners_seen, place) in
     let more = assigned_more 0 c.len-in-Some.result old.runners old.flags runner flag at same in
-    let before : length (assigned_from 0 old.runners old.flags) ≡ c.len-in-Some.result = length_assigned 0 old.runners old.flags same ∙ runners_seen ∙ sym place in
-    let after = c.in_ok-put.ensures.put (assigned_from 0 old.runners old.flags) before old.held in
+    let after = c.in_ok-put.ensures.put (assigned_from 0 old.runners old.flags) old.held in
     record {
       supplied = record {
         seen = seen ++ t ∷ [];

@@ -1,23 +1,19 @@
-use Rattle.std.proofs.Common.{arith, ◌∙◌, ap, eqb, refl, sym}
+use Rattle.std.proofs.Common.{arith, ◌∙◌, ap, eqb, false, refl, slice_index_or, sym}
 use Rattle.std.specs.List.{list_any}
-use Rattle.mimic_pool.specs.Marks.{is_marked}
+use Rattle.mimic_pool.proofs.Elements.{all_same}
 use Rattle.mimic_pool.proofs.Reporting.{all_calls}
 use Rattle.mimic_pool.proofs.Seating.{distinct_none}
 use Rattle.mimic_pool.proofs.board.Board.new.Goals as goal
 
 pub invariant_of-result : goal.invariant_of-result
 invariant_of-result c =
-    let order = c.in_ok-order.ensures.items in
-    let kept = c.in_ok-kept.ensures.items in
-    let marks = c.loop-place.marks.ok in
-    let len = c.loop-place.invariant.len in
+    let order = c.in_ok-rows.ensures.order in
     record {
-      marked = λ place. ap (λ places. list_any (eqb place) places) order ∙ sym (ap is_marked (c.loop-place.invariant.free place));
+      known = λ place. ap (list_any (eqb place)) order ∙ sym (ap (λ flags. slice_index_or flags place false) (c.in_ok-reported.ensures.items_if_clones_equal (λ y is. is)) ∙ all_same false c.args.n place);
       distinct = rw order distinct_none;
-      taken = omega arith;
-      kept = rw (order, kept) refl;
-      order_room = let room = c.in_ok-order.ensures.capacity in omega arith;
-      kept_room = let room = c.in_ok-kept.ensures.capacity in omega arith;
+      taken = omega (arith, c.in_ok-rows.ensures.taken);
+      waiting = rw (order, c.in_ok-rows.ensures.empty, c.in_ok-rows.ensures.taken) refl;
+      room = omega (arith, c.in_ok-rows.ensures.room, c.in_ok-reported.ensures.len, c.in_ok-reported.reported.ok);
       closed = omega arith;
     }
 

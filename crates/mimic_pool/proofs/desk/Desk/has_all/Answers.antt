@@ -2,7 +2,8 @@ use Rattle.std.proofs.Common.{◌≡◌, ◌∙◌, ap, arith, map, refl, slice_
 use Rattle.std.proofs.lemmas.List.{get_or-map, length-map, take_all}
 use Rattle.std.proofs.lemmas.List.Elements.{All-map, All-more}
 use Rattle.mimic_pool.specs.Rows.{rows_in}
-use Rattle.mimic_pool.proofs.Having.{HaveArrived, all_stand, lie_arrived, missing_none, order_as_long}
+use Rattle.mimic_pool.specs.Returned.{HaveArrived}
+use Rattle.mimic_pool.proofs.Having.{all_stand, missing_none, order_as_long}
 use Rattle.mimic_pool.proofs.desk.Desk.has_all.Goals as goal
 
 pub returns-then-len-clause-all : goal.returns-then-len-clause-all
@@ -16,13 +17,12 @@ returns-then-len-clause-all c = (
 pub loop-rows-preserved : goal.loop-rows-preserved
 loop-rows-preserved c =
     let rows = c.rows-item.result in
-    let lie = c.lie_at.ensures.0 c.if-not-lie_at.false in
-    let here : HaveArrived c.args.self.now (rows_in rows) = (lie_arrived c.self.inside c.args.self.now (rows_in rows) c.self.invariant c.self.view_is).0 lie in
+    let here : HaveArrived c.args.self.now (rows_in rows) = c.have_arrived.ensures.0 c.if-not-have_arrived.false in
     All-more (λ rows. HaveArrived c.args.self.now (rows_in rows)) c.args.joined.now c.loop-rows.rows-index rows c.loop-rows-test.true c.loop-rows.invariant
     (rw (← c.rows-item.is) here)
 
-pub returns-then-not-lie_at-clause-all : goal.returns-then-not-lie_at-clause-all
-returns-then-not-lie_at-clause-all c =
+pub returns-then-not-have_arrived-clause-all : goal.returns-then-not-have_arrived-clause-all
+returns-then-not-have_arrived-clause-all c =
     let rows = c.rows-item.result in (
       λ t. absurd (cc),
       λ has.
@@ -30,8 +30,7 @@ returns-then-not-lie_at-clause-all c =
           get_or-map rows_in c.args.joined.now c.loop-rows.rows-index rows (rows_in rows) c.loop-rows-test.true ∙ ap rows_in (sym c.rows-item.is) in
           let here : HaveArrived c.args.self.now (rows_in rows) =
           rw at at (has.same c.loop-rows.rows-index (rows_in rows) (omega (arith, c.loop-rows-test.true, length-map c.args.joined.now rows_in))) in
-          let lie = (lie_arrived c.self.inside c.args.self.now (rows_in rows) c.self.invariant c.self.view_is).1 here in
-          sym c.if-not-lie_at.true ∙ c.lie_at.ensures.1 lie,
+          sym c.if-not-have_arrived.true ∙ c.have_arrived.ensures.1 here,
     )
 
 pub returns-clause-all : goal.returns-clause-all

@@ -1,6 +1,6 @@
 use Rattle.std.proofs.Common.{All, take}
 use Rattle.mimic_pool.specs.Rows.{rows_in}
-use Rattle.mimic_pool.proofs.Having.{HaveArrived}
+use Rattle.mimic_pool.specs.Returned.{HaveArrived}
 use Rattle.mimic_pool.proofs.desk.Desk.has_all.Given as goal
 
 abbrev pub invariant-loop-rows : goal.invariant-loop-rows

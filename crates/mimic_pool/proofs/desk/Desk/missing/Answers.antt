@@ -3,13 +3,14 @@ use Rattle.std.specs.List.{range_with_len}
 use Rattle.std.specs.List.Sorted.{IsPermutation}
 use Rattle.mimic_trial.specs.Places.{places_of}
 use Rattle.mimic_pool.specs.Arrivals.{missing_of}
+use Rattle.mimic_pool.specs.Missing.{free_from}
 use Rattle.mimic_pool.proofs.FirstArrivals.{order_same}
 use Rattle.mimic_pool.proofs.Seating.{missing_shown, shown_whole}
 use Rattle.mimic_pool.proofs.desk.Desk.missing.Goals as goal
 
 pub returns-clause-places : goal.returns-clause-places
 returns-clause-places c =
-    c.free_seats.ensures ∙ (missing_shown c.self.inside.seats c.self.inside.order.items c.self.invariant.taken ∙ ap missing_of c.self.view_is)
+    c.free_seats.ensures ∙ (ap (free_from 0) c.as_slice.ensures.value ∙ (missing_shown c.self.inside c.self.invariant ∙ ap missing_of c.self.view_is))
 
 pub returns-clause-order : goal.returns-clause-order
 returns-clause-order c = order_same _ _ _ (returns-clause-places c)

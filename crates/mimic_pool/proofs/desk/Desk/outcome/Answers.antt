@@ -1,10 +1,13 @@
 use Rattle.std.proofs.Common.{◌∙◌, ap, sym}
-use Rattle.mimic_pool.specs.Arrivals.{arrived_at}
-use Rattle.mimic_pool.proofs.Seating.{row_shown}
+use Rattle.mimic_pool.specs.Seats.{outcome_in}
+use Rattle.mimic_pool.proofs.Seating.{none_arrived, seat_arrived}
 use Rattle.mimic_pool.proofs.desk.Desk.outcome.Goals as goal
 
-pub returns : goal.returns
-returns c =
-    let taken = row_shown c.self.inside.seats c.self.inside.order.items c.self.invariant.taken c.args.place in
-    let e = ap (λ v. arrived_at c.args.place v.rows) c.self.view_is in
-    c.get.ensures ∙ (sym taken ∙ e)
+pub returns-in-Some : goal.returns-in-Some
+returns-in-Some c =
+    let at = c.in-Some.ensures.lookup in
+    rw (← c.self.view_is) (c.lying.ensures ∙ (ap (λ os. outcome_in os c.in-Some.seat.now) c.as_slice.ensures.value
+    ∙ seat_arrived c.self.inside c.self.invariant c.args.place c.in-Some.seat.now (rw (← c.deref.ensures.value) at.3.0) (rw (← c.deref.ensures.value) at.1)))
+
+pub returns-in-None : goal.returns-in-None
+returns-in-None c = rw (← c.self.view_is) (sym (none_arrived c.self.inside c.self.invariant c.args.place (rw (← c.deref.ensures.value) c.in-None.ensures.lookup.3)))

@@ -1,21 +1,30 @@
-use Rattle.std.proofs.Common.{◌≡◌, ◌∙◌, Some, None, ap, arith, slice_get, sym}
-use Rattle.std.specs.Prelude.{option_map}
-use Rattle.std.proofs.lemmas.Option.{slice_get-get_or, slice_get_past}
-use Rattle.mimic_pool.proofs.Seating.{none_numbered, row_numbered}
+use Rattle.std.proofs.Common.{arith}
+use Rattle.mimic_pool.proofs.Seating.{place_low, row_lies, row_low, seat_some}
 use Rattle.mimic_pool.proofs.desk.Desk.row.Goals as goal
 
-pub returns-in_err-place : goal.returns-in_err-place
-returns-in_err-place c =
-    let order = c.deref.ensures.value in
-    let at : slice_get c.self.inside.order.items c.args.number ≡ None = rw (← order) (slice_get_past _ c.args.number c.in_err-place.ensures.lookup.3) in
-    let none = none_numbered c.self.inside.seats c.self.inside.order.items c.args.number c.self.invariant.taken at in
-    ap (option_map (λ row. (row.0, row.1.now))) c.from_residual.ensures ∙ (sym none ∙ ap (λ d. slice_get d.rows c.args.number) c.self.view_is)
+pub index-place-requires : goal.index-place-requires
+index-place-requires c =
+    let low = row_low c.self.inside c.self.invariant c.args.self.now c.args.number c.self.view_is c.requires in
+    omega (arith, low, c.self.inside.order.ok)
+
+pub index-requires : goal.index-requires
+index-requires c =
+    let low = row_low c.self.inside c.self.invariant c.args.self.now c.args.number c.self.view_is c.requires in
+    omega (arith, place_low c.self.inside c.self.invariant c.args.number c.index-place.result.now c.index-place.result.now low c.index-place.ensures, c.self.inside.seats.ok)
+
+pub overflow_sub-index : goal.overflow_sub-index
+overflow_sub-index c =
+    let low = row_low c.self.inside c.self.invariant c.args.self.now c.args.number c.self.view_is c.requires in
+    let some = seat_some c.self.inside c.self.invariant c.args.number c.index-place.result.now c.index.result.now low c.index-place.ensures c.index.ensures in
+    some.0
+
+pub index-requires-2 : goal.index-requires-2
+index-requires-2 c =
+    let low = row_low c.self.inside c.self.invariant c.args.self.now c.args.number c.self.view_is c.requires in
+    let some = seat_some c.self.inside c.self.invariant c.args.number c.index-place.result.now c.index.result.now low c.index-place.ensures c.index.ensures in
+    omega (arith, some.0, some.1, c.self.inside.outcomes.ok)
 
 pub returns : goal.returns
 returns c =
-    let order = c.deref.ensures.value in
-    let place = c.in_ok-place.field-0.now in
-    let at : slice_get c.self.inside.order.items c.args.number ≡ Some place =
-    rw (← order) (slice_get-get_or _ c.args.number place (omega (arith, c.in_ok-place.ensures.lookup)) ∙ ap Some (sym c.in_ok-place.ensures.lookup.1)) in
-    let row = row_numbered c.self.inside.seats c.self.inside.order.items c.args.number c.self.invariant.taken place c.in_ok-outcome.outcome.now at (sym c.in_ok-outcome.ensures) in
-    sym row ∙ ap (λ d. slice_get d.rows c.args.number) c.self.view_is
+    let low = row_low c.self.inside c.self.invariant c.args.self.now c.args.number c.self.view_is c.requires in
+    rw (← c.self.view_is) (row_lies c.self.inside c.self.invariant c.args.number c.index-place.result.now c.index.result.now low c.index-place.ensures c.index.ensures c.index-2.result.now c.index-2.ensures)

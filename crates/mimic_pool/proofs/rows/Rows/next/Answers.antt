@@ -1,17 +1,16 @@
 use Rattle.std.proofs.Common.{◌<◌, ◌≤◌, ◌∙◌, ap, arith, length, refl, sym}
 use Rattle.mimic_pool.specs.Marks.{rows_of, weight_of_all}
-use Rattle.mimic_pool.proofs.Marking.{weight_left}
-use Rattle.mimic_pool.proofs.Returning.{first_left, none_left}
+use Rattle.mimic_pool.proofs.Returning.{first_left, none_left, weight_left}
 use Rattle.mimic_pool.proofs.rows.Rows.next.Goals as goal
 
-pub returns-then-self-len : goal.returns-then-self-len
-returns-then-self-len c =
+pub returns-then-self-len-clause-none : goal.returns-then-self-len-clause-none
+returns-then-self-len-clause-none c =
     let rows = c.self.inside in
     let high : length rows.places.items ≤ rows.taken = omega (arith, c.if-self-len.true, c.len.ensures, rows.places.ok) in
     (ap (λ r. r.items) (sym c.self.view_is) ∙ ap (λ left. rows_of left rows.kept.items) (none_left rows.places.items rows.marks.items c.self.invariant.marks rows.taken high), refl)
 
-pub unmarked-outcome-requires-clause-kept : goal.unmarked-outcome-requires-clause-kept
-unmarked-outcome-requires-clause-kept c =
+pub unmarked-outcome-requires : goal.unmarked-outcome-requires
+unmarked-outcome-requires c =
     let rows = c.self.inside in
     let inv = c.self.invariant in
     let low : rows.taken < length rows.places.items = omega (arith, c.if-self-len.false, c.len.ensures, rows.places.ok) in
@@ -27,14 +26,13 @@ invariant_of-self c =
     record {
       taken = omega (arith, low);
       marks = inv.marks;
-      marked = inv.marked;
       kept = rw c.unmarked-outcome.ensures.kept (omega (arith, weight_left c.index.result.now rows.kept.items, weight, inv.kept));
       marks_room = inv.marks_room;
       kept_room = omega (arith, inv.kept_room, c.unmarked-outcome.ensures.room);
     }
 
-pub returns : goal.returns
-returns c =
+pub returns-clause-some : goal.returns-clause-some
+returns-clause-some c =
     let rows = c.self.inside in
     let low : rows.taken < length rows.places.items = omega (arith, c.if-self-len.false, c.len.ensures, rows.places.ok) in
     let is = first_left rows.places.items rows.marks.items c.self.invariant.marks rows.taken c.index-place.result.now c.index.result.now low c.index-place.ensures c.index.ensures in

@@ -1,5 +1,5 @@
 use Rattle.std.proofs.Common.{ap, arith, length-append, ◌∷◌, []}
-use Rattle.mimic_pool.proofs.Returning.{kept_fits, marked_more, rows_more, weight_more}
+use Rattle.mimic_pool.proofs.Returning.{kept_fits, rows_more, weight_more}
 use Rattle.mimic_pool.proofs.rows.Rows.push_reserved.Goals as goal
 
 pub marked-mark-requires : goal.marked-mark-requires
@@ -25,7 +25,6 @@ invariant_of-self c =
     record {
       taken = rw placed (omega (arith, inv.taken, length-append places (c.args.place ∷ [])));
       marks = rw (pushed, placed) (omega (arith, inv.marks, length-append places (c.args.place ∷ []), length-append marks (c.marked-mark.result ∷ [])));
-      marked = rw (pushed, mark) (marked_more marks c.args.outcome inv.marked);
       kept = rw (pushed, placed, mark, kept) (weight_more places marks inv.marks c.self.inside.taken inv.taken c.args.place c.args.outcome _ inv.kept);
       marks_room = omega (arith, inv.marks_room, c.push_reserved.ensures.capacity, c.push_reserved-2.ensures.capacity);
       kept_room = omega (arith, inv.kept_room, c.marked-mark.ensures.room, c.push_reserved-2.ensures.capacity);

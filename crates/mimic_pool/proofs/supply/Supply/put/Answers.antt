@@ -10,5 +10,5 @@ returns-in-Shares g c = record {
       let old = c.in-Shares.shares in
       let before : length old.items ≡ vec_len old = search rules in
       let after : length c.deal_next.new.shares.items ≡ vec_len old = search rules in
-      on_ok c.deal_next.result (λ dealt trials place held. deals_one g.T.Task.can_run old.items c.deal_next.new.shares.items (vec_len old) trials _ before after dealt c.requires.runnable (subst (λ supply. Holds g.T.Task.can_run supply trials) c.in-Shares.is held)) c.deal_next.ensures.dealt;
+      on_ok c.deal_next.result (λ dealt trials held. deals_one g.T.Task.can_run old.items c.deal_next.new.shares.items (vec_len old) trials _ before after dealt c.requires.runnable (subst (λ supply. Holds g.T.Task.can_run supply trials) c.in-Shares.is held)) c.deal_next.ensures.dealt;
 }

@@ -1,0 +1,22 @@
+use Rattle.std.proofs.Common.{◌≡◌, ◌∙◌, ◌∷◌, [], ap, length, map, rules, sym}
+use Rattle.std.proofs.lemmas.List.{length-map, map-append}
+use Rattle.std.specs.Vec.Iter.{into_iter_items}
+use Rattle.mimic_pool.specs.Rows.{rows_in}
+use Rattle.mimic_pool.specs.Shares.{job_of}
+use Rattle.mimic_pool.proofs.Sharing.{job_answered, jobs_done}
+use Rattle.mimic_pool.proofs.shares.join_workers.Goals as goal
+
+pub loop-handle-preserved : goal.loop-handle-preserved
+loop-handle-preserved g c =
+    let pushed = ap (map rows_in) c.push_reserved.ensures.items ∙ map-append rows_in c.loop-handle.joined.items (c.join.result ∷ []) in
+    record {
+      answered = job_answered g.T.Task.gives _ _ _ (map rows_in c.loop-handle.joined.items) _ _ (rows_in c.join.result) (ap (map job_of) c.in-Some.ensures.steps.0) pushed c.join.ensures c.loop-handle.invariant.answered;
+      len = search rules;
+      room = search rules;
+    }
+
+pub returns : goal.returns
+returns g c =
+    let left = into_iter_items c.loop-handle.handle-iterator in
+    let none : length left ≡ 0 = sym c.loop-handle.handle-iterator.rest.ok.0 ∙ c.in-None.ensures.steps.0 in
+    jobs_done g.T.Task.gives _ (map job_of left) _ (length-map left job_of ∙ none) c.loop-handle.invariant.answered
