@@ -1,4 +1,4 @@
-//! Tests of shards, of reports that are joined or refused, and of a watch. There is no code but these.
+//! Tests of shards, of reports that are joined, judged, compared and shown, and of a watch. There is no code but these.
 #![tactic(auto)]
 
 #[cfg(test)]

@@ -33,11 +33,11 @@ const BOTH: &str = r#"{ "type": "suite", "event": "started", "test_count": 2 }
 // A reader over a text, which gives at most so many bytes a read. Each second read is interrupted, and behind the text it
 // fails if it is to.
 #[derive(Drop)]
-struct Slow<'a> {
-    text: &'a str,
+pub(super) struct Slow<'a> {
+    bytes: &'a [u8],
     most: usize,
     interrupts: bool,
-    fails: Option<ErrorKind>,
+    pub(super) fails: Option<ErrorKind>,
 }
 
 impl Read for Slow<'_> {
@@ -46,24 +46,24 @@ impl Read for Slow<'_> {
         if self.interrupts {
             return Err(ErrorKind::Interrupted.into());
         }
-        let bytes = self.text.as_bytes();
-        let count = bytes.len().min(buf.len()).min(self.most);
+        let count = self.bytes.len().min(buf.len()).min(self.most);
         if count == 0 {
             return match self.fails {
                 Some(kind) => Err(kind.into()),
                 None => Ok(0),
             };
         }
-        buf[..count].copy_from_slice(&bytes[..count]);
-        self.text = self.text.get(count..).unwrap_or("");
+        let (now, later) = self.bytes.split_at(count);
+        buf[..count].copy_from_slice(now);
+        self.bytes = later;
         Ok(count)
     }
 }
 
 impl<'a> Slow<'a> {
-    fn of(text: &'a str) -> Slow<'a> {
+    pub(super) fn of(text: &'a str) -> Slow<'a> {
         Slow {
-            text,
+            bytes: text.as_bytes(),
             most: 7,
             interrupts: false,
             fails: None,

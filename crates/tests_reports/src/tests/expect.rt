@@ -1,0 +1,420 @@
+//! What no clause says of known failures: the status of each case, what is printed, and what is no file of known failures. Expected
+//! texts are worked by hand.
+use super::lines::{
+    A_FAILED, A_IGNORED, A_MEASURED, A_PASSED, A_SILENT, FILTERED, NONE, Y_AND_X, announced,
+    failed, passed, summary, text_of, title,
+};
+use super::reading::Slow;
+use super::writers::has_stopped;
+use mimic_expect::{
+    ExpectFault, Expectation, InputEnd, KnownFault, Verdict, read_known, write_unexpected,
+};
+use mimic_input::Ending;
+use mimic_printer::Sink;
+use mimic_testkit::{Fault, FaultyWriter, Place};
+use std::alloc::{AllocError, Global};
+use std::io::{ErrorKind, Read, Write};
+use std::test::Fail;
+
+// The line of the numbers: of the known failures that were met, and of those that failed, passed, failed with another message, and
+// are absent.
+macro_rules! numbers {
+    ($met:literal, $failed:literal, $passed:literal, $other:literal, $absent:literal) => {
+        concat!(
+            $met,
+            " known failures; ",
+            $failed,
+            " failed; ",
+            $passed,
+            " passed; ",
+            $other,
+            " with another message; ",
+            $absent,
+            " absent\n"
+        )
+    };
+}
+
+// Judges what the readers give, and returns the writer, and the verdict. This is the one place that calls `write_unexpected`, and it
+// promises nothing, so that no test carries that contract.
+fn judge<I: Read + Drop, W: Write>(
+    alloc: Global,
+    known: &[Expectation],
+    inputs: Vec<I>,
+    lax: bool,
+    writer: W,
+) -> (W, Result<Verdict, ExpectFault>) {
+    let mut sink = Sink::new(writer);
+    let judged = write_unexpected(alloc, known, inputs, lax, &mut sink);
+    (sink.into_inner(), judged)
+}
+
+// Reads known failures. This is the one place that calls `read_known`, and it promises nothing either.
+fn known_in(alloc: Global, lines: &[&str]) -> Result<Result<Vec<Expectation>, KnownFault>, Fail> {
+    let text = text_of(alloc, lines)?;
+    Ok(read_known(alloc, text.as_bytes()))
+}
+
+// An input: its lines, and the error behind them, if it fails.
+type Input = (&'static [&'static str], Option<ErrorKind>);
+
+fn readers_of<'a>(
+    alloc: Global,
+    texts: &'a [String],
+    inputs: &[Input],
+) -> Result<Vec<Slow<'a>>, AllocError> {
+    let mut readers = Vec::new(alloc);
+    for (text, (_, fails)) in texts.iter().zip(inputs) {
+        let mut reader = Slow::of(text.as_str());
+        reader.fails = *fails;
+        readers.push(reader)?;
+    }
+    Ok(readers)
+}
+
+fn texts_of(alloc: Global, inputs: &[Input]) -> Result<Vec<String>, AllocError> {
+    let mut texts = Vec::new(alloc);
+    for (lines, _) in inputs {
+        texts.push(text_of(alloc, lines)?)?;
+    }
+    Ok(texts)
+}
+
+// Judges the inputs by known failures, and returns the verdict, and what is printed.
+fn judged(
+    alloc: Global,
+    known: &[&str],
+    inputs: &[Input],
+    lax: bool,
+) -> Result<(Verdict, String), Fail> {
+    let known = known_in(alloc, known)??;
+    let texts = texts_of(alloc, inputs)?;
+    let readers = readers_of(alloc, &texts, inputs)?;
+    let (bytes, verdict) = judge(alloc, &known, readers, lax, Vec::new(alloc));
+    Ok((verdict?, String::from_utf8(bytes)?))
+}
+
+// Known failures, a report, and what is printed: first the failure that has no known name, and then what the known failures say, in
+// the order of their lines.
+const KNOWN: &[&str] = &[failed!("c"), "# why\n", failed!("a", "z")];
+
+const FINDINGS: &[&str] = &[
+    title!(2),
+    announced!("a"),
+    failed!("a", "y"),
+    announced!("b"),
+    failed!("b"),
+    summary!("failed", 0, 2, 0, 0, 0, "0"),
+];
+
+const FOUND: &[&str] = &[
+    "failed: ",
+    failed!("b"),
+    "absent, line 1 can go: ",
+    failed!("c"),
+    "another message, line 3 can go: ",
+    failed!("a", "y"),
+    numbers!(0, 1, 0, 1, 1),
+];
+
+// The lines of known failures, those of a report, the status, and what is printed.
+static RULES: [(&[&str], &[&str], u8, &[&str]); 11] = [
+    // A line without a message expects any, and the last line needs no end.
+    (
+        &["{ \"type\": \"test\", \"name\": \"a\", \"event\": \"failed\" }"],
+        A_FAILED,
+        0,
+        &[numbers!(1, 0, 0, 0, 0)],
+    ),
+    (
+        &[],
+        A_FAILED,
+        101,
+        &["failed: ", failed!("a", "x"), numbers!(0, 1, 0, 0, 0)],
+    ),
+    // An empty message is one.
+    (
+        &[failed!("a", "")],
+        A_SILENT,
+        101,
+        &[
+            "another message, line 1 can go: ",
+            failed!("a"),
+            numbers!(0, 0, 0, 1, 0),
+        ],
+    ),
+    // A trial of another kind is another.
+    (
+        &[failed!(["k"] "a", "x")],
+        A_FAILED,
+        101,
+        &[
+            "failed: ",
+            failed!("a", "x"),
+            "absent, line 1 can go: ",
+            failed!(["k"] "a", "x"),
+            numbers!(0, 1, 0, 0, 1),
+        ],
+    ),
+    (
+        &["# why\n", "\n", failed!("a", "x")],
+        A_PASSED,
+        101,
+        &[
+            "passed, line 3 can go: ",
+            failed!("a", "x"),
+            numbers!(0, 0, 1, 0, 0),
+        ],
+    ),
+    (
+        &[failed!(["k"] "a")],
+        A_MEASURED,
+        101,
+        &[
+            "passed, line 1 can go: ",
+            failed!(["k"] "a"),
+            numbers!(0, 0, 1, 0, 0),
+        ],
+    ),
+    (&[failed!("a")], A_IGNORED, 0, &[numbers!(0, 0, 0, 0, 0)]),
+    // The first failure meets the line of its message, though the line before expects any.
+    (
+        &[failed!("a"), failed!("a", "y")],
+        Y_AND_X,
+        0,
+        &[numbers!(2, 0, 0, 0, 0)],
+    ),
+    // A line expects one failure.
+    (
+        &[failed!("a"), failed!("a")],
+        A_FAILED,
+        101,
+        &[
+            "absent, line 2 can go: ",
+            failed!("a"),
+            numbers!(1, 0, 0, 0, 1),
+        ],
+    ),
+    (KNOWN, FINDINGS, 101, FOUND),
+    // A name is printed as a report has it, so that it ends no line.
+    (
+        &[failed!(["\\u001b"] "a\\n\\\"\\\\")],
+        &[
+            title!(1),
+            announced!(["\\u001b"] "a\\n\\\"\\\\"),
+            passed!(["\\u001b"] "a\\n\\\"\\\\"),
+            summary!("ok", 1, 0, 0, 0, 0, "0"),
+        ],
+        101,
+        &[
+            "passed, line 1 can go: ",
+            failed!(["\\u001b"] "a\\n\\\"\\\\"),
+            numbers!(0, 0, 1, 0, 0),
+        ],
+    ),
+];
+
+#[test]
+fn judges_a_report(rt: HostRuntime) -> Result<(), Fail> {
+    let alloc = rt.alloc();
+    for (known, report, status, expected) in &RULES {
+        let (verdict, printed) = judged(alloc, known, &[(*report, None)], false)?;
+        let expected = text_of(alloc, expected)?;
+        assert!(rt;
+            verdict.status() == *status && printed == expected,
+            "{printed}"
+        );
+    }
+    Ok(())
+}
+
+// The lines of known failures, those of a report, the status, and the one with `lax`.
+static LAX: [(&[&str], &[&str], u8, u8); 4] = [
+    (&[failed!("a", "x")], A_PASSED, 101, 0),
+    (&[failed!("a")], NONE, 101, 101),
+    (
+        &[failed!("b")],
+        &[
+            title!(2),
+            announced!("a"),
+            failed!("a"),
+            announced!("b"),
+            passed!("b"),
+            summary!("failed", 1, 1, 0, 0, 0, "0"),
+        ],
+        101,
+        101,
+    ),
+    (
+        &[failed!("a")],
+        &[title!(1), announced!("a"), passed!("a")],
+        1,
+        1,
+    ),
+];
+
+// With `lax` the same is printed.
+#[test]
+fn lets_known_failures_pass(rt: HostRuntime) -> Result<(), Fail> {
+    let alloc = rt.alloc();
+    for (known, report, strict, lax) in &LAX {
+        let (verdict, printed) = judged(alloc, known, &[(*report, None)], false)?;
+        assert!(rt; verdict.status() == *strict, "{printed}");
+        let (verdict, same) = judged(alloc, known, &[(*report, None)], true)?;
+        assert!(rt; verdict.status() == *lax && same == printed, "{same}");
+    }
+    Ok(())
+}
+
+// Inputs, the status, how each ended, and what is printed if `a` is known to fail with `x`.
+static INPUTS: [(&[Input], u8, &str, &[&str]); 7] = [
+    (
+        &[(A_FAILED, None), (NONE, None)],
+        0,
+        "whole\nwhole\n",
+        &[numbers!(1, 0, 0, 0, 0)],
+    ),
+    // The line expects one failure in both reports together.
+    (
+        &[(A_FAILED, None), (A_FAILED, None)],
+        101,
+        "whole\nwhole\n",
+        &["failed: ", failed!("a", "x"), numbers!(1, 1, 0, 0, 0)],
+    ),
+    // The trial may have been filtered out.
+    (
+        &[(NONE, None), (FILTERED, None)],
+        0,
+        "whole\nwhole\n",
+        &[numbers!(0, 0, 0, 0, 0)],
+    ),
+    // The trial that was running isn't absent.
+    (
+        &[(NONE, None), (&[title!(1), announced!("a")], None)],
+        1,
+        "whole\nthe report is cut\n",
+        &[numbers!(0, 0, 0, 0, 0)],
+    ),
+    // Behind the wrong line nothing counts.
+    (
+        &[(
+            &[
+                title!(2),
+                announced!("a"),
+                failed!("a", "x"),
+                "what\n",
+                announced!("b"),
+                failed!("b"),
+            ],
+            None,
+        )],
+        1,
+        "line 4: not what a report has there\n",
+        &[numbers!(1, 0, 0, 0, 0)],
+    ),
+    // What is unexpected is printed even if an input is none.
+    (
+        &[(&[], None), (FINDINGS, None)],
+        1,
+        "the report is cut\nwhole\n",
+        &[
+            "failed: ",
+            failed!("b"),
+            "another message, line 1 can go: ",
+            failed!("a", "y"),
+            numbers!(0, 1, 0, 1, 0),
+        ],
+    ),
+    (
+        &[
+            (&[title!(1), announced!("a")], Some(ErrorKind::BrokenPipe)),
+            (A_FAILED, None),
+        ],
+        1,
+        "broken pipe\nwhole\n",
+        &[numbers!(1, 0, 0, 0, 0)],
+    ),
+];
+
+// Shows how each input ended, in a line.
+fn shown(alloc: Global, ends: &[InputEnd]) -> Result<String, AllocError> {
+    let mut shown = String::new(alloc);
+    for end in ends {
+        let line = match end {
+            InputEnd::Ended(Ending::Whole { .. }) => String::from_str(alloc, "whole\n")?,
+            InputEnd::Ended(Ending::Cut(stop)) => format!(in alloc; "{stop}\n")?,
+            InputEnd::Failed(error) => format!(in alloc; "{error}\n")?,
+        };
+        shown.push_str(line.as_str())?;
+    }
+    Ok(shown)
+}
+
+#[test]
+fn judges_what_inputs_give(rt: HostRuntime) -> Result<(), Fail> {
+    let alloc = rt.alloc();
+    for (inputs, status, ends, expected) in &INPUTS {
+        let (verdict, printed) = judged(alloc, &[failed!("a", "x")], inputs, false)?;
+        let expected = text_of(alloc, expected)?;
+        assert!(rt;
+            verdict.status() == *status && printed == expected,
+            "{printed}"
+        );
+        let shown = shown(alloc, &verdict.ends)?;
+        assert!(rt; shown.as_str() == *ends, "{shown}");
+    }
+    Ok(())
+}
+
+// Lines of which one is not that of a failed trial, and its number.
+static UNREAD: [(&[&str], usize); 5] = [
+    (A_FAILED, 1),
+    (&[failed!("a"), "\n", passed!("a")], 3),
+    (&[failed!("a"), " # why\n", "what\n"], 2),
+    (&["\r\n"], 1),
+    // A report doesn't escape this letter.
+    (&[failed!("\\u0061")], 1),
+];
+
+#[test]
+fn refuses_other_lines(rt: HostRuntime) -> Result<(), Fail> {
+    for (lines, number) in &UNREAD {
+        let fault = known_in(rt.alloc(), lines)?.err().ok_or("read")?;
+        assert!(rt;
+            matches!(&fault, KnownFault::Line(line) if line == number),
+            "{fault:?}"
+        );
+        let shown = format!(in rt.alloc(); "{fault}")?;
+        assert!(rt;
+            shown.as_str() == "not the line of a failed trial",
+            "{shown}"
+        );
+    }
+    Ok(())
+}
+
+// Whether a writer that fails at the place got what comes before it, and no call after it.
+fn stops_so(alloc: Global, place: Place, fault: Fault) -> Result<bool, Fail> {
+    let known = known_in(alloc, KNOWN)??;
+    let report = text_of(alloc, FINDINGS)?;
+    let inputs = vec![in alloc; Slow::of(report.as_str())]?;
+    let writer = FaultyWriter::new(alloc).failing(place, fault);
+    let (writer, judged) = judge(alloc, &known, inputs, false, writer);
+    let found = text_of(alloc, FOUND)?;
+    Ok(matches!(judged, Err(ExpectFault::Write(_))) && has_stopped(&writer, found.as_bytes()))
+}
+
+#[test]
+fn stops_at_a_write_fault(rt: HostRuntime) -> Result<(), Fail> {
+    for place in [
+        Place::Byte(0),
+        Place::Byte(60),
+        Place::Byte(200),
+        Place::Flush(1),
+    ] {
+        for fault in Fault::ALL {
+            assert!(rt; stops_so(rt.alloc(), place, fault)?, "{place:?} {fault:?}");
+        }
+    }
+    Ok(())
+}

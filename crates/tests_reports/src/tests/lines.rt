@@ -1,0 +1,178 @@
+//! The lines of reports in JSON, and small reports. Names, kinds and messages are given as they are escaped there.
+use super::reading::Slow;
+use mimic_input::{RowsRead, read_rows};
+use std::alloc::{AllocError, Global};
+use std::test::Fail;
+
+// The title of a report, with the number of its trials.
+macro_rules! title {
+    ($count:literal) => {
+        concat!(
+            "{ \"type\": \"suite\", \"event\": \"started\", \"test_count\": ",
+            $count,
+            " }\n"
+        )
+    };
+}
+
+// The announcement of a trial.
+macro_rules! announced {
+    ($([$kind:literal])? $name:literal) => {
+        concat!(
+            "{ \"type\": \"test\", \"event\": \"started\", \"name\": \"",
+            $name,
+            $("\", \"kind\": \"", $kind,)?
+            "\" }\n"
+        )
+    };
+}
+
+// The outcome of a trial that passed.
+macro_rules! passed {
+    ($([$kind:literal])? $name:literal) => {
+        concat!(
+            "{ \"type\": \"test\", \"name\": \"",
+            $name,
+            $("\", \"kind\": \"", $kind,)?
+            "\", \"event\": \"ok\" }\n"
+        )
+    };
+}
+
+// The outcome of a trial that was ignored.
+macro_rules! ignored {
+    ($([$kind:literal])? $name:literal) => {
+        concat!(
+            "{ \"type\": \"test\", \"name\": \"",
+            $name,
+            $("\", \"kind\": \"", $kind,)?
+            "\", \"event\": \"ignored\" }\n"
+        )
+    };
+}
+
+// The outcome of a trial that failed, with its message if it has one.
+macro_rules! failed {
+    ($([$kind:literal])? $name:literal $(, $message:literal)?) => {
+        concat!(
+            "{ \"type\": \"test\", \"name\": \"",
+            $name,
+            $("\", \"kind\": \"", $kind,)?
+            "\", \"event\": \"failed\"",
+            $(", \"stdout\": \"Error: \\\"", $message, "\\\"\\n\"",)?
+            " }\n"
+        )
+    };
+}
+
+// The outcome of a benchmark, with its average and variance.
+macro_rules! measured {
+    ($([$kind:literal])? $name:literal, $average:literal, $variance:literal) => {
+        concat!(
+            "{ \"type\": \"bench\", \"name\": \"",
+            $name,
+            $("\", \"kind\": \"", $kind,)?
+            "\", \"median\": ",
+            $average,
+            ", \"deviation\": ",
+            $variance,
+            " }\n"
+        )
+    };
+}
+
+// The summary: how many trials passed, failed, were ignored, were measured and were filtered out, and the seconds.
+macro_rules! summary {
+    ($event:literal, $passed:literal, $failed:literal, $ignored:literal, $measured:literal, $filtered:literal, $seconds:literal) => {
+        concat!(
+            "{ \"type\": \"suite\", \"event\": \"",
+            $event,
+            "\", \"passed\": ",
+            $passed,
+            ", \"failed\": ",
+            $failed,
+            ", \"ignored\": ",
+            $ignored,
+            ", \"measured\": ",
+            $measured,
+            ", \"filtered_out\": ",
+            $filtered,
+            ", \"exec_time\": ",
+            $seconds,
+            " }\n"
+        )
+    };
+}
+
+pub(super) use announced;
+pub(super) use failed;
+pub(super) use ignored;
+pub(super) use measured;
+pub(super) use passed;
+pub(super) use summary;
+pub(super) use title;
+
+// Returns the lines as one text.
+pub(super) fn text_of(alloc: Global, lines: &[&str]) -> Result<String, AllocError> {
+    let mut text = String::new(alloc);
+    for line in lines {
+        text.push_str(line)?;
+    }
+    Ok(text)
+}
+
+// Returns what is read of the lines.
+pub(super) fn read(alloc: Global, lines: &[&str]) -> Result<RowsRead, Fail> {
+    let text = text_of(alloc, lines)?;
+    Ok(read_rows(alloc, Slow::of(text.as_str()))?)
+}
+
+// Reports without a row. From the second one a trial was filtered out.
+pub(super) const NONE: &[&str] = &[title!(0), summary!("ok", 0, 0, 0, 0, 0, "0")];
+
+pub(super) const FILTERED: &[&str] = &[title!(0), summary!("ok", 0, 0, 0, 0, 1, "0")];
+
+// Reports of one trial, and of two with the same name.
+pub(super) const A_PASSED: &[&str] = &[
+    title!(1),
+    announced!("a"),
+    passed!("a"),
+    summary!("ok", 1, 0, 0, 0, 0, "0"),
+];
+
+pub(super) const A_IGNORED: &[&str] = &[
+    title!(1),
+    announced!("a"),
+    ignored!("a"),
+    summary!("ok", 0, 0, 1, 0, 0, "0"),
+];
+
+pub(super) const A_MEASURED: &[&str] = &[
+    title!(1),
+    announced!(["k"] "a"),
+    measured!(["k"] "a", 1234, 5),
+    summary!("ok", 0, 0, 0, 1, 0, "0"),
+];
+
+pub(super) const A_FAILED: &[&str] = &[
+    title!(1),
+    announced!("a"),
+    failed!("a", "x"),
+    summary!("failed", 0, 1, 0, 0, 0, "0"),
+];
+
+pub(super) const A_SILENT: &[&str] = &[
+    title!(1),
+    announced!("a"),
+    failed!("a"),
+    summary!("failed", 0, 1, 0, 0, 0, "0"),
+];
+
+pub(super) const Y_AND_X: &[&str] = &[
+    title!(2),
+    announced!("a"),
+    failed!("a", "y"),
+    announced!("a"),
+    failed!("a", "x"),
+    summary!("failed", 0, 2, 0, 0, 0, "0"),
+];
