@@ -9,10 +9,11 @@ use Rattle.std.proofs.lemmas.List.Sums.{sum_by-cons}
 use Rattle.std.proofs.lemmas.Map.Keys.{IsDistinct-cons, IsDistinct-head, IsDistinct-tail}
 use Rattle.mimic_printer.specs.Json.{Entry}
 use Rattle.mimic_printer.specs.Row.{Label}
+use Rattle.mimic_events.specs.Key.{same_label}
+use Rattle.mimic_events.proofs.Keys.{same_label-decides}
 use Rattle.mimic_input.specs.declared.rows_read.RowsRead.{RowsRead}
 use Rattle.mimic_escapes.proofs.Laws.{lines_have_no_control}
-use Rattle.mimic_compare.specs.Classes.{Compared, compared, comparisons, distinct, labels_in, same_label}
-use Rattle.mimic_compare.specs.Keys.{same_label-decides}
+use Rattle.mimic_compare.specs.Classes.{Compared, compared, comparisons, distinct, labels_in}
 use Rattle.mimic_compare.specs.Text.{place_of, same_class}
 use Rattle.mimic_compare.specs.Written.{ArePartitioned, ComparisonLaws, SaysWorse, all_classes, found_in, is_worse, labels_of, stands_in, verdict_of}
 use Rattle.mimic_compare.specs.declared.class.Class.{Class}

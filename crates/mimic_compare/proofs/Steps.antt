@@ -1,42 +1,44 @@
 -- One more row.
-use Rattle.std.proofs.Common.{◌≡◌, ◌&&◌, ◌||◌, ◌==◌, not, ℕ, ◌+◌, ◌-◌, ◌^◌, ◌<◌, ◌≤◌, Bool, true, false, cond, List, [], ◌∷◌, ◌++◌, length, length-append, map, filter, take, length-take, get_or, unwrap_or, refl, sym, ap, ap₂, subst, ◌∙◌, append-nil, append_assoc, inl, inr, arith, add-zero}
-use Rattle.std.specs.Prelude.{Option, Some, count_by}
-use Rattle.std.specs.Cmp.{decided}
+use Rattle.std.proofs.Common.{◌≡◌, ◌&&◌, ◌||◌, ◌==◌, not, ℕ, ◌+◌, ◌-◌, ◌^◌, ◌<◌, ◌≤◌, Bool, true, false, cond, List, [], ◌∷◌, ◌++◌, length, length-append, map, filter, take, length-take, get_or, unwrap_or, refl, sym, ap, ap₂, subst, ◌∙◌, append-nil, arith, add-zero}
+use Rattle.std.specs.Prelude.{Option, None, Some, count_by}
+use Rattle.std.specs.HashMap.{HashMap, get}
+use Rattle.std.specs.HashSet.{HashSet, contains}
 use Rattle.std.specs.List.{list_any}
-use Rattle.std.proofs.lemmas.Bool.{cases_Bool, ne_eqb, eq-eqb}
-use Rattle.std.proofs.lemmas.List.{length-map, map-append, take_more}
+use Rattle.std.specs.Option.{option_eq}
+use Rattle.std.specs.Str.{bytes_eq}
+use Rattle.std.proofs.Math.Bool.{and_comm}
+use Rattle.std.proofs.lemmas.Bool.{ne_eqb, eq-eqb}
+use Rattle.std.proofs.lemmas.List.{length-map, map-append, map_more}
 use Rattle.std.proofs.lemmas.List.Concat.{flat_map-append}
 use Rattle.std.proofs.lemmas.List.Elements.{filter-append}
 use Rattle.std.proofs.lemmas.List.Folds.{list_any-append}
 use Rattle.std.proofs.lemmas.List.Sums.{count_by-le-length, sum_by_push}
+use Rattle.std.proofs.lemmas.Simd.{map-map}
 use Rattle.mimic_trial.specs.declared.outcome.Outcome.{Outcome}
 use Rattle.mimic_trial.specs.declared.outcome.Outcome.TheVariants as outcome
 use Rattle.mimic_trial.specs.declared.outcome.measurement.Measurement.{Measurement}
 use Rattle.mimic_trial.specs.Count.{is_failed, is_ignored_outcome}
-use Rattle.mimic_trial.specs.Same.{outcome_decides, same_outcome}
+use Rattle.mimic_trial.specs.Failed.{same_text}
+use Rattle.mimic_trial.specs.Same.{same_outcome}
 use Rattle.mimic_printer.specs.Json.{Entry}
 use Rattle.mimic_printer.specs.Row.{Label}
 use Rattle.mimic_events.specs.Contents.{entry_read}
+use Rattle.mimic_events.specs.Key.{Key, is_same, key_in, label_in, message_of, same_key, same_label}
+use Rattle.mimic_events.specs.declared.key.Key.{Key as Found}
+use Rattle.mimic_events.specs.declared.key.Key.TheVariants.{Trial, Failure}
 use Rattle.mimic_events.specs.declared.report.Row.{Row}
-use Rattle.mimic_compare.specs.Classes.{Compared, average_of, averages, compared, comparisons, distinct, failures, have_other_messages, ignored, labels_in, outcomes_with, same_label, times}
-use Rattle.mimic_compare.specs.Keys.{comparison_read, has_other_times, label_in, label_of_row, same_entry, same_entry-decides, same_label-decides}
+use Rattle.mimic_events.proofs.Keys.{at_row, same_key-decides, same_key-symm, same_label-decides, same_label-symm}
+use Rattle.mimic_compare.specs.Classes.{Compared, average_of, averages, compared, comparisons, distinct, failures, have_other_messages, ignored, labels_in, outcomes_with, times}
+use Rattle.mimic_compare.specs.Keys.{AddsOthers, HasTallies, HasTimes, comparison_read, is_other, times_of}
 use Rattle.mimic_compare.specs.Tallies.{HasRoom, last_or, tally_of}
 use Rattle.mimic_compare.specs.declared.comparison.Comparison.{Comparison}
-use Rattle.mimic_compare.specs.declared.key.Named.{Named}
-use Rattle.mimic_compare.specs.declared.key.Failure.{Failure}
 use Rattle.mimic_compare.specs.declared.tally.Tally.{Tally}
 use denote.Ref.{Bor}
 
 -- ---- tests
 
-abbrev is_same : (a b : Label) → same_label a b ≡ true → a ≡ b
-is_same a b h = (same_label-decides a b).0 h
-
-flipped : (a b : Label) (v : Bool) → same_label a b ≡ v → same_label b a ≡ v
-flipped a b v h = (decided same_label same_label-decides).symm b a ∙ h
-
-flipped_entry : (a b : Entry) (v : Bool) → same_entry a b ≡ v → same_entry b a ≡ v
-flipped_entry a b v h = (decided same_entry same_entry-decides).symm b a ∙ h
+alike : (a b : Label) → same_label a b ≡ true → a ≡ b
+alike a b h = (same_label-decides a b).0 h
 
 -- ---- lists with one more element
 
@@ -59,13 +61,6 @@ any-push p xs x = list_any-append p xs (x ∷ []) ∙ ap (λ b. list_any p xs ||
     or_false : (b : Bool) → (b || false) ≡ b
     or_false true = refl
     or_false false = refl
-
--- a row as a key, wherever it lies
-abbrev pub named : Row → Named
-named row = record { row = record { ref_ptr = (0, 0); now = row } }
-
-abbrev pub failure : Row → Failure
-failure row = record { row = record { ref_ptr = (0, 0); now = row } }
 
 -- ---- tallies
 
@@ -115,8 +110,7 @@ room_of t os e h = subst HasRoom (sym e) (room os h)
 
 pub entries_more : (rows : List Row) (i : ℕ) (row : Row) → i < length rows → row ≡ get_or rows i row
     → map entry_read (take (i + 1) rows) ≡ map entry_read (take i rows) ++ entry_read row ∷ []
-entries_more rows i row lt is =
-    ap (map entry_read) (take_more rows i row lt ∙ ap (λ (x : Row). take i rows ++ x ∷ []) (sym is)) ∙ map-append entry_read (take i rows) (row ∷ [])
+entries_more rows i row lt is = map_more entry_read rows i row lt ∙ ap (λ (x : Row). map entry_read (take i rows) ++ entry_read x ∷ []) (sym is)
 
 pub outcomes-push : (label : Label) (es : List Entry) (e : Entry) → outcomes_with label (es ++ e ∷ []) ≡ outcomes_with label es ++ cond (same_label label e.label) (e.outcome ∷ []) []
 outcomes-push label es e =
@@ -142,104 +136,111 @@ few_outcomes label rows i lt small =
     omega (arith, lt, small, outcomes-le label (map entry_read (take i rows)), length-map (take i rows) entry_read, length-take i rows)
 
 -- the tallies of one more row
-pub tallied : (rows : List Row) (i : ℕ) (row : Row) (before after : Named → Option Tally) (t : Tally) → i < length rows → row ≡ get_or rows i row
-    → ((q : Named) → unwrap_or (before q) (tally_of []) ≡ tally_of (outcomes_with (label_in q) (map entry_read (take i rows))))
-    → ((q : Named) → after q ≡ cond (same_label (label_of_row row) (label_in q)) (Some t) (before q))
-    → t ≡ tally_of (outcomes_with (label_of_row row) (map entry_read (take i rows)) ++ row.outcome ∷ [])
-    → (q : Named) → unwrap_or (after q) (tally_of []) ≡ tally_of (outcomes_with (label_in q) (map entry_read (take (i + 1) rows)))
-tallied rows i row before after t lt is has updates e q =
-    let es : List Entry = map entry_read (take i rows) in
-    let more : outcomes_with (label_in q) (map entry_read (take (i + 1) rows)) ≡ outcomes_with (label_in q) es ++ cond (same_label (label_in q) (label_of_row row)) (row.outcome ∷ []) [] =
-    ap (outcomes_with (label_in q)) (entries_more rows i row lt is) ∙ outcomes-push (label_in q) es (entry_read row) in
-    let at : (b : Bool) → same_label (label_of_row row) (label_in q) ≡ b → unwrap_or (cond b (Some t) (before q)) (tally_of []) ≡ tally_of (outcomes_with (label_in q) es ++ cond b (row.outcome ∷ []) [])
-    → unwrap_or (after q) (tally_of []) ≡ tally_of (outcomes_with (label_in q) (map entry_read (take (i + 1) rows))) =
-    λ b h step. ap (λ (o : Option Tally). unwrap_or o (tally_of [])) (updates q ∙ ap (λ (x : Bool). cond x (Some t) (before q)) h)
-    ∙ (step ∙ ap tally_of (ap (λ (x : Bool). outcomes_with (label_in q) es ++ cond x (row.outcome ∷ []) []) (sym (flipped (label_of_row row) (label_in q) b h)) ∙ sym more)) in
-    elim (cases_Bool (same_label (label_of_row row) (label_in q))) [
-      | inl same ↦ at true same (e ∙ ap (λ (l : Label). tally_of (outcomes_with l es ++ row.outcome ∷ [])) (is_same (label_of_row row) (label_in q) same))
-      | inr other ↦ at false other (has q ∙ ap tally_of (sym (append-nil (outcomes_with (label_in q) es))))
-    ]
+pub tallied : {S : Type 0} (rows : List Row) (i : ℕ) (row : Row) (old new : HashMap Found Tally S) (t : Tally) → i < length rows → row ≡ get_or rows i row
+    → HasTallies old (map entry_read (take i rows)) → ((key : Found) → get is_same new key ≡ cond (is_same (Trial (at_row row)) key) (Some t) (get is_same old key))
+    → t ≡ tally_of (outcomes_with (label_in row) (map entry_read (take i rows)) ++ row.outcome ∷ []) → HasTallies new (map entry_read (take (i + 1) rows))
+tallied rows i row old new t lt is has updates e q =
+    ap (λ (o : Option Tally). unwrap_or o (tally_of [])) (updates (Trial q)) ∙ at (same_label label sought) refl ∙ ap tally_of (sym more)
+  where
+    es : List Entry
+    es = map entry_read (take i rows)
+
+    label : Label
+    label = label_in row
+
+    sought : Label
+    sought = label_in q.now
+
+    more : outcomes_with sought (map entry_read (take (i + 1) rows)) ≡ outcomes_with sought es ++ cond (same_label label sought) (row.outcome ∷ []) []
+    more = ap (outcomes_with sought) (entries_more rows i row lt is)
+        ∙ (outcomes-push sought es (entry_read row) ∙ ap (λ (b : Bool). outcomes_with sought es ++ cond b (row.outcome ∷ []) []) (same_label-symm sought label))
+
+    at : (b : Bool) → same_label label sought ≡ b → unwrap_or (cond b (Some t) (get is_same old (Trial q))) (tally_of []) ≡ tally_of (outcomes_with sought es ++ cond b (row.outcome ∷ []) [])
+    at true h = e ∙ ap (λ (l : Label). tally_of (outcomes_with l es ++ row.outcome ∷ [])) (alike label sought h)
+    at false h = has q ∙ ap tally_of (sym (append-nil (outcomes_with sought es)))
 
 -- ---- failures
 
-abbrev pub Times : List Entry → Entry → ℕ
-Times es e = times e.outcome (outcomes_with e.label es)
-
--- how many times an entry stands there with one more
-times-push : (es : List Entry) (e q : Entry) → Times (es ++ e ∷ []) q ≡ Times es q + cond (same_entry q e) 1 0
-times-push es e q =
-    ap (times q.outcome) (outcomes-push q.label es e) ∙ at (same_label q.label e.label)
+-- what the key of a failure says of another entry: it is this failure
+same_failure : (key : Key) (e : Entry) → (same_label key.label e.label && same_outcome (outcome.Failed key.message) e.outcome) ≡ (is_failed e.outcome && same_key key (key_in e))
+same_failure key e = at e.outcome (same_label key.label e.label)
   where
-    at : (b : Bool) → times q.outcome (outcomes_with q.label es ++ cond b (e.outcome ∷ []) []) ≡ Times es q + cond (b && same_outcome q.outcome e.outcome) 1 0
-    at true = counted (same_outcome q.outcome) (outcomes_with q.label es) e.outcome
-    at false = ap (times q.outcome) (append-nil (outcomes_with q.label es)) ∙ sym (add-zero (Times es q))
+    texts : (f g : Option (List ℕ)) (b : Bool) → (b && same_text f g) ≡ (option_eq bytes_eq f g && b)
+    texts None None b = and_comm b true
+    texts None (Some g) b = and_comm b false
+    texts (Some f) None b = and_comm b false
+    texts (Some f) (Some g) b = and_comm b (bytes_eq f g)
 
-both : (a b : Bool) → (a && b) ≡ true → (a ≡ true) × (b ≡ true)
-both true b h = (refl, h)
-both false b h = absurd (cc)
+    at : (o : Outcome) (b : Bool) → (b && same_outcome (outcome.Failed key.message) o) ≡ (is_failed o && (option_eq bytes_eq key.message (message_of o) && b))
+    at (outcome.Failed g) b = texts key.message g b
+    at outcome.Passed b = and_comm b false
+    at outcome.Ignored b = and_comm b false
+    at (outcome.Measured m) b = and_comm b false
 
--- what is not failed is no failure
-unlike : (e q : Entry) → is_failed e.outcome ≡ false → is_failed q.outcome ≡ true → same_entry q e ≡ false
-unlike e q sound failed = elim (cases_Bool (same_entry q e)) [
-  | inl same ↦
-      let alike : q.outcome ≡ e.outcome = (outcome_decides q.outcome e.outcome).0 (both (same_label q.label e.label) (same_outcome q.outcome e.outcome) same).1 in
-      let wrong : is_failed q.outcome ≡ is_failed e.outcome = ap is_failed alike in
-      absurd (cc)
-  | inr other ↦ other
-]
+-- how many times a failure stands there with one more entry
+times-push : (es : List Entry) (e : Entry) (key : Key) → times_of key (es ++ e ∷ []) ≡ times_of key es + cond (is_failed e.outcome && same_key key (key_in e)) 1 0
+times-push es e key =
+    ap (times (outcome.Failed key.message)) (outcomes-push key.label es e) ∙ at (same_label key.label e.label) ∙ ap (λ (b : Bool). times_of key es + cond b 1 0) (same_failure key e)
+  where
+    test : Outcome → Bool
+    test = same_outcome (outcome.Failed key.message)
 
-abbrev pub HasTimesOf : (Failure → Option ℕ) → List Entry → Type 0
-HasTimesOf found es = (failure : Failure) → is_failed failure.row.now.outcome ≡ true → unwrap_or (found failure) 0 ≡ Times es (entry_read failure.row.now)
+    at : (b : Bool) → times (outcome.Failed key.message) (outcomes_with key.label es ++ cond b (e.outcome ∷ []) []) ≡ times_of key es + cond (b && test e.outcome) 1 0
+    at true = counted test (outcomes_with key.label es) e.outcome
+    at false = ap (times (outcome.Failed key.message)) (append-nil (outcomes_with key.label es)) ∙ sym (add-zero (times_of key es))
 
-pub times_small : (e : Entry) (rows : List Row) (i n : ℕ) → i < length rows → length rows < 2 ^ 64 → n ≡ Times (map entry_read (take i rows)) e → n < 2 ^ 64 - 1
-times_small e rows i n lt small is =
-    omega (arith, lt, small, is, count_by-le-length (same_outcome e.outcome) (outcomes_with e.label (map entry_read (take i rows))), few_outcomes e.label rows i lt small)
+pub times_small : (key : Key) (rows : List Row) (i n : ℕ) → i < length rows → length rows < 2 ^ 64 → n ≡ times_of key (map entry_read (take i rows)) → n < 2 ^ 64 - 1
+times_small key rows i n lt small is =
+    omega (arith, lt, small, is, count_by-le-length (same_outcome (outcome.Failed key.message)) (outcomes_with key.label (map entry_read (take i rows))), few_outcomes key.label rows i lt small)
 
--- one more failure
-pub times_more : (rows : List Row) (i : ℕ) (row : Row) (before after : Failure → Option ℕ) (n : ℕ) → i < length rows → row ≡ get_or rows i row
-    → HasTimesOf before (map entry_read (take i rows))
-    → ((q : Failure) → after q ≡ cond (same_entry (entry_read row) (entry_read q.row.now)) (Some (n + 1)) (before q))
-    → n ≡ Times (map entry_read (take i rows)) (entry_read row) → HasTimesOf after (map entry_read (take (i + 1) rows))
-times_more rows i row before after n lt is has updates e q failed =
-    let es : List Entry = map entry_read (take i rows) in
-    let row_entry : Entry = entry_read row in
-    let q_entry : Entry = entry_read q.row.now in
-    let more : Times (map entry_read (take (i + 1) rows)) q_entry ≡ Times es q_entry + cond (same_entry q_entry row_entry) 1 0 =
-    ap (λ (l : List Entry). Times l q_entry) (entries_more rows i row lt is) ∙ times-push es row_entry q_entry in
-    let at : (b : Bool) → same_entry row_entry q_entry ≡ b → unwrap_or (cond b (Some (n + 1)) (before q)) 0 ≡ Times es q_entry + cond b 1 0 → unwrap_or (after q) 0 ≡ Times (map entry_read (take (i + 1) rows)) q_entry =
-    λ b h step. ap (λ (o : Option ℕ). unwrap_or o 0) (updates q ∙ ap (λ (x : Bool). cond x (Some (n + 1)) (before q)) h)
-    ∙ (step ∙ (ap (λ (x : Bool). Times es q_entry + cond x 1 0) (sym (flipped_entry row_entry q_entry b h)) ∙ sym more)) in
-    elim (cases_Bool (same_entry row_entry q_entry)) [
-      | inl same ↦ at true same (ap (λ (k : ℕ). k + 1) (e ∙ ap (Times es) ((same_entry-decides row_entry q_entry).0 same)))
-      | inr other ↦ at false other (has q failed ∙ sym (add-zero (Times es q_entry)))
-    ]
+module _ {S : Type 0} (rows : List Row) (i : ℕ) (row : Row) (lt : i < length rows) (is : row ≡ get_or rows i row) (old : HashMap Found ℕ S) (has : HasTimes old (map entry_read (take i rows))) where
+  abbrev pub times_before : Key → ℕ
+  times_before key = times_of key (map entry_read (take i rows))
 
--- one more row that is no failure
-pub times_kept : (rows : List Row) (i : ℕ) (row : Row) (found : Failure → Option ℕ) → i < length rows → row ≡ get_or rows i row
-    → HasTimesOf found (map entry_read (take i rows)) → is_failed row.outcome ≡ false → HasTimesOf found (map entry_read (take (i + 1) rows))
-times_kept rows i row found lt is has sound q failed =
-    let es : List Entry = map entry_read (take i rows) in
-    let q_entry : Entry = entry_read q.row.now in
-    has q failed ∙ sym (ap (λ (l : List Entry). Times l q_entry) (entries_more rows i row lt is) ∙ times-push es (entry_read row) q_entry
-    ∙ ap (λ (x : Bool). Times es q_entry + cond x 1 0) (unlike (entry_read row) q_entry sound failed) ∙ add-zero (Times es q_entry))
+  times_after : (key : Key) (f : Bool) → is_failed row.outcome ≡ f → times_of key (map entry_read (take (i + 1) rows)) ≡ times_before key + cond (f && same_key key (key_in (entry_read row))) 1 0
+  times_after key f h =
+      ap (times_of key) (entries_more rows i row lt is) ∙ (times-push (map entry_read (take i rows)) (entry_read row) key
+      ∙ ap (λ (b : Bool). times_before key + cond (b && same_key key (key_in (entry_read row))) 1 0) h)
+
+  -- one more failure
+  pub times_more : (new : HashMap Found ℕ S) (n : ℕ) → ((key : Found) → get is_same new key ≡ cond (is_same (Failure (at_row row)) key) (Some (n + 1)) (get is_same old key))
+      → is_failed row.outcome ≡ true → n ≡ times_before (key_in (entry_read row)) → HasTimes new (map entry_read (take (i + 1) rows))
+  times_more new n updates failed e q =
+      ap (λ (o : Option ℕ). unwrap_or o 0) (updates (Failure q)) ∙ at (same_key own sought) refl ∙ sym (times_after sought true failed ∙ ap (λ (b : Bool). times_before sought + cond b 1 0) (same_key-symm sought own))
+    where
+      own : Key
+      own = key_in (entry_read row)
+
+      sought : Key
+      sought = key_in (entry_read q.now)
+
+      at : (b : Bool) → same_key own sought ≡ b → unwrap_or (cond b (Some (n + 1)) (get is_same old (Failure q))) 0 ≡ times_before sought + cond b 1 0
+      at true h = ap (λ (k : ℕ). k + 1) (e ∙ ap times_before ((same_key-decides own sought).0 h))
+      at false h = has q ∙ sym (add-zero (times_before sought))
+
+  -- one more row that is no failure
+  pub times_kept : is_failed row.outcome ≡ false → HasTimes old (map entry_read (take (i + 1) rows))
+  times_kept sound q =
+      let sought : Key = key_in (entry_read q.now) in
+      has q ∙ sym (times_after sought false sound ∙ add-zero (times_before sought))
 
 -- ---- other messages
 
 -- one more row, which is found or not
-pub others_more : (rows : List Row) (i : ℕ) (row : Row) (before after : List Entry) (start old new : Named → Bool) (b : Bool) → i < length rows → row ≡ get_or rows i row
-    → (is_failed row.outcome && not (Times before (entry_read row) == Times after (entry_read row))) ≡ b
-    → ((q : Named) → old q ≡ (start q || list_any (has_other_times (label_in q) before after) (map entry_read (take i rows))))
-    → ((q : Named) → new q ≡ cond (b && same_label (label_of_row row) (label_in q)) true (old q))
-    → (q : Named) → new q ≡ (start q || list_any (has_other_times (label_in q) before after) (map entry_read (take (i + 1) rows)))
+pub others_more : {S : Type 0} (rows : List Row) (i : ℕ) (row : Row) (before after : List Entry) (start old new : HashSet Found S) (b : Bool) → i < length rows → row ≡ get_or rows i row
+    → is_other before after (entry_read row) ≡ b → AddsOthers start old before after (map entry_read (take i rows))
+    → ((key : Found) → contains is_same new key ≡ cond (b && is_same (Trial (at_row row)) key) true (contains is_same old key))
+    → AddsOthers start new before after (map entry_read (take (i + 1) rows))
 others_more rows i row before after start old new b lt is found has updates q =
-    let test : Entry → Bool = has_other_times (label_in q) before after in
+    let label : Label = label_in row in
+    let sought : Label = label_in q.now in
+    let test : Entry → Bool = λ e. same_label sought e.label && is_other before after e in
     let es : List Entry = map entry_read (take i rows) in
-    let label : Label = label_of_row row in
-    let more : list_any test (map entry_read (take (i + 1) rows)) ≡ (list_any test es || (same_label (label_in q) label && b)) =
-    ap (list_any test) (entries_more rows i row lt is) ∙ any-push test es (entry_read row) ∙ ap (λ (x : Bool). list_any test es || (same_label (label_in q) label && x)) found in
-    updates q ∙ ap (λ (x : Bool). cond (b && same_label label (label_in q)) true x) (has q)
-    ∙ shuffle b (same_label label (label_in q)) (same_label (label_in q) label) (start q) (list_any test es) (sym (flipped label (label_in q) (same_label label (label_in q)) refl))
-    ∙ ap (λ (x : Bool). start q || x) (sym more)
+    let first : Bool = contains is_same start (Trial q) in
+    let more : list_any test (map entry_read (take (i + 1) rows)) ≡ (list_any test es || (same_label sought label && b)) =
+    ap (list_any test) (entries_more rows i row lt is) ∙ any-push test es (entry_read row) ∙ ap (λ (x : Bool). list_any test es || (same_label sought label && x)) found in
+    updates (Trial q) ∙ ap (λ (x : Bool). cond (b && same_label label sought) true x) (has q) ∙ shuffle b (same_label label sought) (same_label sought label) first (list_any test es) (same_label-symm label sought)
+    ∙ ap (λ (x : Bool). first || x) (sym more)
   where
     shuffle : (b s t u v : Bool) → s ≡ t → cond (b && s) true (u || v) ≡ (u || (v || (t && b)))
     shuffle b s t u v e = subst (λ (x : Bool). cond (b && s) true (u || v) ≡ (u || (v || (x && b)))) e (plain b s u v)
@@ -287,33 +288,26 @@ any_with label p r fits (e ∷ es) = at (same_label label e.label) refl (any_wit
     at true h rest = ap₂ (λ x y. x || y) (fits e h) rest
     at false h rest = rest
 
-pub other_messages_are : (label : Label) (old new : List Entry) → (list_any (has_other_times label old new) old || list_any (has_other_times label old new) new)
+-- a failure stands as often as the key of its entry says
+as_failure : (o : Outcome) (old new : List Outcome)
+    → (is_failed o && not (times (outcome.Failed (message_of o)) old == times (outcome.Failed (message_of o)) new)) ≡ (is_failed o && not (times o old == times o new))
+as_failure outcome.Passed old new = refl
+as_failure (outcome.Failed f) old new = refl
+as_failure outcome.Ignored old new = refl
+as_failure (outcome.Measured m) old new = refl
+
+pub other_messages_are : (label : Label) (old new : List Entry)
+    → (list_any (λ e. same_label label e.label && is_other old new e) old || list_any (λ e. same_label label e.label && is_other old new e) new)
     ≡ have_other_messages (outcomes_with label old) (outcomes_with label new)
 other_messages_are label old new =
-    let test : Label → Outcome → Bool = λ l o. is_failed o && not (times o (outcomes_with l old) == times o (outcomes_with l new)) in
-    let all : (es : List Entry) → list_any (has_other_times label old new) es ≡ list_any (test label) (outcomes_with label es) =
-    any_with label (test label) (λ e. test e.label e.outcome) (λ e h. ap (λ (l : Label). test l e.outcome) (sym (is_same label e.label h))) in
-    ap₂ (λ x y. x || y) (all old) (all new) ∙ sym (list_any-append (test label) (outcomes_with label old) (outcomes_with label new))
+    let test : Outcome → Bool = λ o. is_failed o && not (times o (outcomes_with label old) == times o (outcomes_with label new)) in
+    let fits : (e : Entry) → same_label label e.label ≡ true → is_other old new e ≡ test e.outcome =
+    λ e h. as_failure e.outcome (outcomes_with e.label old) (outcomes_with e.label new)
+    ∙ ap (λ (l : Label). is_failed e.outcome && not (times e.outcome (outcomes_with l old) == times e.outcome (outcomes_with l new))) (sym (alike label e.label h)) in
+    let all : (es : List Entry) → list_any (λ e. same_label label e.label && is_other old new e) es ≡ list_any test (outcomes_with label es) = any_with label test (is_other old new) fits in
+    ap₂ (λ x y. x || y) (all old) (all new) ∙ sym (list_any-append test (outcomes_with label old) (outcomes_with label new))
 
 -- ---- labels
-
-pub labels_more : (rows : List Row) (i : ℕ) (row : Row) (labels : List Label) → i < length rows → row ≡ get_or rows i row
-    → labels ++ map label_of_row (take (i + 1) rows) ≡ (labels ++ map label_of_row (take i rows)) ++ label_of_row row ∷ []
-labels_more rows i row labels lt is =
-    ap (λ (l : List Label). labels ++ l) (ap (map label_of_row) (take_more rows i row lt ∙ ap (λ (x : Row). take i rows ++ x ∷ []) (sym is)) ∙ map-append label_of_row (take i rows) (row ∷ []))
-    ∙ sym (append_assoc labels (map label_of_row (take i rows)) (label_of_row row ∷ []))
-
-pub seen_more : (labels : List Label) (label : Label) (old new : Named → Bool) → ((q : Named) → old q ≡ list_any (same_label (label_in q)) labels)
-    → ((q : Named) → new q ≡ cond (same_label label (label_in q)) true (old q)) → (q : Named) → new q ≡ list_any (same_label (label_in q)) (labels ++ label ∷ [])
-seen_more labels label old new has updates q =
-    updates q ∙ ap (λ (x : Bool). cond (same_label label (label_in q)) true x) (has q) ∙ ap (λ (x : Bool). cond x true (list_any (same_label (label_in q)) labels)) (sym (flipped label (label_in q) (same_label label (label_in q)) refl))
-    ∙ turned (same_label (label_in q) label) (list_any (same_label (label_in q)) labels) ∙ sym (any-push (same_label (label_in q)) labels label)
-  where
-    turned : (a b : Bool) → cond a true b ≡ (b || a)
-    turned true true = refl
-    turned true false = refl
-    turned false true = refl
-    turned false false = refl
 
 -- one more label
 pub distinct-push : (labels : List Label) (label : Label) → distinct (labels ++ label ∷ []) ≡ cond (list_any (same_label label) labels) (distinct labels) (distinct labels ++ label ∷ [])
@@ -326,7 +320,7 @@ distinct-push (first ∷ labels) label =
     test other = not (same_label first other)
 
     cut : (b : Bool) → same_label label first ≡ b → filter (λ other. not (same_label first other)) (label ∷ []) ≡ cond b [] (label ∷ [])
-    cut b h = ap (λ (x : Bool). cond (not x) (label ∷ []) []) (flipped label first b h) ∙ turn b
+    cut b h = ap (λ (x : Bool). cond (not x) (label ∷ []) []) (same_label-symm first label ∙ h) ∙ turn b
       where
         turn : (b : Bool) → cond (not b) (label ∷ []) [] ≡ cond b [] (label ∷ [])
         turn true = refl
@@ -368,18 +362,11 @@ pub compared_more : (f : Bor Row → Compared) (rows : List (Bor Row)) (i : ℕ)
     → comparison_read x ≡ f row → new ≡ old ++ x ∷ [] → map comparison_read old ≡ map f (take i rows) → map comparison_read new ≡ map f (take (i + 1) rows)
 compared_more f rows i row old new x lt is reads news before =
     ap (map comparison_read) news ∙ map-append comparison_read old (x ∷ []) ∙ ap₂ (λ (l : List Compared) (y : Compared). l ++ y ∷ []) before reads
-    ∙ sym (ap (map f) (take_more rows i row lt ∙ ap (λ (y : Bor Row). take i rows ++ y ∷ []) (sym is)) ∙ map-append f (take i rows) (row ∷ []))
+    ∙ sym (map_more f rows i row lt ∙ ap (λ (y : Bor Row). map f (take i rows) ++ f y ∷ []) (sym is))
 
-labels_read : (rows : List Row) → map label_of_row rows ≡ labels_in (map entry_read rows)
-labels_read [] = refl
-labels_read (row ∷ rows) = ap (λ (l : List Label). label_of_row row ∷ l) (labels_read rows)
-
-each_read : (f : Label → Compared) (rows : List (Bor Row)) → map (λ row. f (label_of_row row.now)) rows ≡ map f (map (λ row. label_of_row row.now) rows)
-each_read f [] = refl
-each_read f (row ∷ rows) = ap (λ (l : List Compared). f (label_of_row row.now) ∷ l) (each_read f rows)
-
-pub all_compared : (judged : Bool) (old new : List Row) (firsts : List (Bor Row)) → map (λ row. label_of_row row.now) firsts ≡ distinct (map label_of_row new ++ map label_of_row old)
-    → map (λ row. compared judged (map entry_read old) (map entry_read new) (label_of_row row.now)) firsts ≡ comparisons judged (map entry_read old) (map entry_read new)
+pub all_compared : (judged : Bool) (old new : List Row) (firsts : List (Bor Row)) → map (λ row. label_in row.now) firsts ≡ distinct (map label_in new ++ map label_in old)
+    → map (λ row. compared judged (map entry_read old) (map entry_read new) (label_in row.now)) firsts ≡ comparisons judged (map entry_read old) (map entry_read new)
 all_compared judged old new firsts is =
     let f : Label → Compared = compared judged (map entry_read old) (map entry_read new) in
-    each_read f firsts ∙ ap (map f) (is ∙ ap₂ (λ (x y : List Label). distinct (x ++ y)) (labels_read new) (labels_read old))
+    let labels : (rows : List Row) → map label_in rows ≡ labels_in (map entry_read rows) = λ rows. sym (map-map (λ (e : Entry). e.label) entry_read rows) in
+    sym (map-map f (λ (row : Bor Row). label_in row.now) firsts) ∙ ap (map f) (is ∙ ap₂ (λ (x y : List Label). distinct (x ++ y)) (labels new) (labels old))

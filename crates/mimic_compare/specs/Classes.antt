@@ -1,21 +1,17 @@
 -- What became of each kind and name from an old report to a new one (our own).
 use Rattle.std.specs.Prelude.{◌==◌, ◌&&◌, ◌||◌, ℕ, Bool, if◌then◌else◌, nat_lt, not, List, [], ◌∷◌, ◌++◌, count_by, filter, length, map, Option, Some, None}
 use Rattle.std.specs.List.{flat_map, list_any}
-use Rattle.std.specs.Str.{bytes_eq}
 use Rattle.mimic_trial.specs.declared.outcome.Outcome.{Outcome}
 use Rattle.mimic_trial.specs.declared.outcome.Outcome.TheVariants as outcome
 use Rattle.mimic_trial.specs.Count.{is_failed, is_ignored_outcome}
 use Rattle.mimic_trial.specs.Same.{same_outcome}
 use Rattle.mimic_printer.specs.Json.{Entry}
 use Rattle.mimic_printer.specs.Row.{Label}
+use Rattle.mimic_events.specs.Key.{same_label}
 use Rattle.mimic_compare.specs.declared.class.Class.{Class}
 use Rattle.mimic_compare.specs.declared.class.Class.TheVariants.{Regressed, Missing, NotRun, New, NotRunBefore, NewlyIgnored, NewlyPassing, AnotherMessage, Unchanged}
 
 -- ---- kinds and names
-
--- both have the same kind and name
-abbrev pub same_label : Label → Label → Bool
-same_label a b = bytes_eq a.kind b.kind && bytes_eq a.name b.name
 
 -- each of the labels once, where it stands first
 abbrev pub distinct : List Label → List Label

@@ -5,10 +5,11 @@ use Rattle.mimic_printer.specs.Json.{Entry}
 use Rattle.mimic_printer.specs.Row.{Label}
 use Rattle.mimic_printer.specs.Sink.{Put, Shown, Stopped}
 use Rattle.mimic_events.specs.Contents.{entry_read}
+use Rattle.mimic_events.specs.Key.{same_label}
 use Rattle.mimic_input.specs.declared.ending.Ending.{Ending}
 use Rattle.mimic_input.specs.declared.ending.Ending.TheVariants.{Whole, Cut}
 use Rattle.mimic_input.specs.declared.rows_read.RowsRead.{RowsRead}
-use Rattle.mimic_compare.specs.Classes.{Compared, comparisons, labels_in, same_label}
+use Rattle.mimic_compare.specs.Classes.{Compared, comparisons, labels_in}
 use Rattle.mimic_compare.specs.Text.{changes, comparison_text, count_of, same_class}
 use Rattle.mimic_escapes.specs.Laws.{HasNoControl}
 use Rattle.mimic_escapes.specs.declared.place.Place.TheVariants.{Line}

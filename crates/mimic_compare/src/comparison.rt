@@ -3,14 +3,14 @@ ghost use Rattle.std.specs.Prelude.{◌≡◌, ◌++◌, List, IfOk, OnOk, map};
 ghost use Rattle.mimic_printer.specs.Json.{Entry};
 ghost use Rattle.mimic_printer.specs.Row.{Label};
 ghost use Rattle.mimic_events.specs.Contents.{entry_read};
+ghost use Rattle.mimic_events.specs.Key.{HasTrials, label_in};
 ghost use Rattle.mimic_compare.specs.Classes.{comparisons, compared, distinct};
-ghost use Rattle.mimic_compare.specs.Keys.{HasLabels, comparison_read, label_of_row, IsOf};
+ghost use Rattle.mimic_compare.specs.Keys.{comparison_read, IsOf};
 
 use crate::class::Class;
-use crate::key::Named;
 use crate::messages::others_in;
 use crate::tally::{Tally, tallies_in};
-use mimic_events::Row;
+use mimic_events::{Key, Row};
 use std::alloc::{AllocError, Global};
 use std::collections::{HashMap, HashSet};
 
@@ -27,16 +27,16 @@ pub(crate) struct Comparison<'a> {
 // Adds the rows whose kind and name was not seen before.
 fn add_firsts<'a>(
     firsts: &mut Vec<&'a Row>,
-    seen: &mut HashSet<Named<'a>>,
+    seen: &mut HashSet<Key<'a>>,
     rows: &'a [Row],
 ) -> Result<(), AllocError>
-    ensures { OnOk result ((labels : List Label) → HasLabels seen.old labels
-        → map (λ row. label_of_row row.now) firsts.old.items ≡ distinct labels
-        → HasLabels seen.new (labels ++ map label_of_row rows.now)
-        × (map (λ row. label_of_row row.now) firsts.new.items ≡ distinct (labels ++ map label_of_row rows.now))) }
+    ensures { OnOk result ((labels : List Label) → HasTrials seen.old labels
+        → map (λ row. label_in row.now) firsts.old.items ≡ distinct labels
+        → HasTrials seen.new (labels ++ map label_in rows.now)
+        × (map (λ row. label_in row.now) firsts.new.items ≡ distinct (labels ++ map label_in rows.now))) }
 {
     for row in rows {
-        if seen.insert(Named { row })? {
+        if seen.insert(Key::Trial(row))? {
             firsts.push(row)?;
         }
     }
@@ -49,8 +49,8 @@ fn first_rows<'a>(
     first: &'a [Row],
     second: &'a [Row],
 ) -> Result<Vec<&'a Row>, AllocError>
-    ensures { IfOk result (λ firsts. map (λ row. label_of_row row.now) firsts.items
-        ≡ distinct (map label_of_row first.now ++ map label_of_row second.now)) }
+    ensures { IfOk result (λ firsts. map (λ row. label_in row.now) firsts.items
+        ≡ distinct (map label_in first.now ++ map label_in second.now)) }
 {
     let mut seen = HashSet::new(alloc);
     let mut firsts = Vec::new(alloc);
@@ -62,28 +62,28 @@ fn first_rows<'a>(
 // What is known of each kind and name.
 #[derive(Drop)]
 struct Tallies<'a> {
-    old: HashMap<Named<'a>, Tally>,
-    new: HashMap<Named<'a>, Tally>,
+    old: HashMap<Key<'a>, Tally>,
+    new: HashMap<Key<'a>, Tally>,
     // Those whose failures have other messages.
-    others: HashSet<Named<'a>>,
+    others: HashSet<Key<'a>>,
 }
 
 impl<'a> Tallies<'a> {
     fn compare(&self, row: &'a Row, is_judged: bool) -> Comparison<'a>
         ensures { (old new : List Entry) → IsOf self.now old new
-            → comparison_read result ≡ compared is_judged old new (label_of_row row.now) }
+            → comparison_read result ≡ compared is_judged old new (label_in row.now) }
     {
         let old = self
             .old
-            .get(&Named { row })
+            .get(&Key::Trial(row))
             .copied()
             .unwrap_or(Tally::EMPTY);
         let new = self
             .new
-            .get(&Named { row })
+            .get(&Key::Trial(row))
             .copied()
             .unwrap_or(Tally::EMPTY);
-        let has_other_messages = (&self.others).contains(&Named { row });
+        let has_other_messages = (&self.others).contains(&Key::Trial(row));
         let averages = if old.measured == 1 && new.measured == 1 {
             Some((old.average, new.average))
         } else {

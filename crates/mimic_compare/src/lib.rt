@@ -13,7 +13,6 @@
 
 mod class;
 mod comparison;
-mod key;
 mod lines;
 mod messages;
 mod tally;

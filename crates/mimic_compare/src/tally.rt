@@ -1,15 +1,11 @@
 //! Counts the rows of each kind and name.
-ghost use Rattle.std.specs.Prelude.{◌≡◌, ◌++◌, ◌∷◌, [], List, IfOk, map, unwrap_or};
-ghost use Rattle.std.specs.HashMap.{get};
+ghost use Rattle.std.specs.Prelude.{◌≡◌, ◌++◌, ◌∷◌, [], List, IfOk, map};
 ghost use Rattle.mimic_trial.specs.declared.outcome.Outcome.{Outcome as OutcomeRead};
 ghost use Rattle.mimic_events.specs.Contents.{entry_read};
-ghost use Rattle.mimic_compare.specs.Classes.{outcomes_with};
-ghost use Rattle.mimic_compare.specs.Keys.{is_named, label_in};
+ghost use Rattle.mimic_compare.specs.Keys.{HasTallies};
 ghost use Rattle.mimic_compare.specs.Tallies.{HasRoom, tally_of};
-ghost use Rattle.mimic_compare.specs.declared.key.Named.{Named as NamedRead};
 
-use crate::key::Named;
-use mimic_events::Row;
+use mimic_events::{Key, Row};
 use mimic_trial::Outcome;
 use std::alloc::{AllocError, Global};
 use std::collections::HashMap;
@@ -56,20 +52,16 @@ impl Tally {
 }
 
 // Returns the tally of each kind and name that the rows have.
-pub(crate) fn tallies_in(
-    alloc: Global,
-    rows: &[Row],
-) -> Result<HashMap<Named<'_>, Tally>, AllocError>
-    ensures { IfOk result (λ tallies. (named : NamedRead) → unwrap_or (get is_named tallies named) (tally_of [])
-        ≡ tally_of (outcomes_with (label_in named) (map entry_read rows.now))) }
+pub(crate) fn tallies_in(alloc: Global, rows: &[Row]) -> Result<HashMap<Key<'_>, Tally>, AllocError>
+    ensures { IfOk result (λ tallies. HasTallies tallies (map entry_read rows.now)) }
 {
     let mut tallies = HashMap::new(alloc);
     for row in rows {
         let tally = (&tallies)
-            .get(&Named { row })
+            .get(&Key::Trial(row))
             .copied()
             .unwrap_or(Tally::EMPTY);
-        tallies.insert(Named { row }, tally.with(&row.outcome))?;
+        tallies.insert(Key::Trial(row), tally.with(&row.outcome))?;
     }
     Ok(tallies)
 }

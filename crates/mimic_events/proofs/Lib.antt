@@ -8,6 +8,7 @@ pub mod FirstLines
 pub mod Followers
 pub mod Forgetting
 pub mod Fronts
+pub mod Keys
 pub mod NamedLines
 pub mod PlainLanes
 pub mod PlainRows

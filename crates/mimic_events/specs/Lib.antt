@@ -1,6 +1,7 @@
 pub mod Contents
 pub mod Feed
 pub mod Follower
+pub mod Key
 pub mod LineParts
 pub mod Progress
 pub mod Readers

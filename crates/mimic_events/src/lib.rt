@@ -29,6 +29,7 @@ mod counts;
 mod ends;
 mod feed;
 mod follower;
+mod key;
 mod lines;
 mod numbers;
 mod progress;
@@ -44,6 +45,7 @@ mod write;
 
 pub use feed::{Feed, read_report};
 pub use follower::Follower;
+pub use key::Key;
 pub use lines::read_failed_line;
 pub use report::{Label, Report, Row, Totals};
 pub use tally::Tally;

@@ -1,5 +1,5 @@
 -- What lines say with the rows that answer them.
-use Rattle.std.proofs.Common.{◌≡◌, ℕ, suc, ◌+◌, ◌<◌, ◌≤◌, Bool, List, [], ◌∷◌, ◌++◌, length, map, drop, drop-cons, take, get_or, sym, ap, ap₂, subst, ◌∙◌, append_assoc, append-nil, arith}
+use Rattle.std.proofs.Common.{◌≡◌, ℕ, suc, ◌+◌, ◌<◌, ◌≤◌, Bool, List, [], ◌∷◌, ◌++◌, length, map, drop, drop-cons, take, get_or, sym, ap, ap₂, ◌∙◌, append_assoc, append-nil, arith}
 use Rattle.std.specs.Prelude.{Option, None, Some}
 use Rattle.std.specs.Map.{lookup, remove_entry}
 use Rattle.std.specs.List.{slice_get}
@@ -8,11 +8,10 @@ use Rattle.std.proofs.lemmas.Option.{slice_get-get_or, slice_get_past}
 use Rattle.mimic_printer.specs.Json.{Entry}
 use Rattle.mimic_events.specs.Contents.{entry_read}
 use Rattle.mimic_events.specs.declared.report.Row.{Row}
-use Rattle.mimic_expect.specs.Expect.{Finding, Key, answers, any_in, fate, same_key}
+use Rattle.mimic_events.specs.Key.{Key, any_in, same_key}
+use Rattle.mimic_expect.specs.Expect.{Finding, answers, fate}
 use Rattle.mimic_expect.specs.Judging.{entries_read, expected_at, finding_read, row_at, said}
 use Rattle.mimic_expect.specs.Known.{Expected, expected_read}
-use Rattle.mimic_expect.specs.Pool.{HasLeft}
-use Rattle.mimic_expect.specs.declared.pool.Pool.{Pool}
 use Rattle.mimic_expect.specs.declared.judgement.Unexpected.{Unexpected}
 use Rattle.mimic_expect.specs.declared.known.Expectation.{Expectation}
 use denote.Ref.{Bor}
@@ -53,13 +52,6 @@ said_step are_all rows now e expected row old new is news =
     let here : Option Entry → List Finding = λ o. fate are_all (e, o) in
     ap (λ (l : List Finding). l ++ rest) (news ∙ ap (λ (o : Option Entry). old ++ here o) is)
     ∙ append_assoc old (here (row_at rows (lookup (same_key (any_in e.entry)) now))) rest
-
--- ---- one answer
-
-pub answer_at : (rows : List Entry) (k key : Key) (left : List (Key × ℕ)) (pool : Pool) (place : Option ℕ) (row : Option Entry) → k ≡ key → place ≡ lookup (same_key k) left
-    → HasLeft pool (remove_entry (same_key k) left) → row ≡ row_at rows place → (row ≡ row_at rows (lookup (same_key key) left)) × HasLeft pool (remove_entry (same_key key) left)
-answer_at rows k key left pool place row is found has e =
-    (e ∙ (ap (row_at rows) found ∙ ap (λ (x : Key). row_at rows (lookup (same_key x) left)) is), subst (λ (x : Key). HasLeft pool (remove_entry (same_key x) left)) is has)
 
 -- ---- findings that stand already
 

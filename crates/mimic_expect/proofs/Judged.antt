@@ -1,7 +1,7 @@
 -- Rows that are judged one after another.
 use Rattle.std.proofs.Common.{◌≡◌, ◌||◌, ℕ, suc, ◌+◌, ◌-◌, ◌<◌, ◌^◌, Bool, true, false, cond, not, List, [], ◌∷◌, ◌++◌, length, length-append, map, Option, None, Some, IfSome, Result, Ok, Err, refl, sym, ap, ap₂, subst, ◌∙◌, append_assoc, append-nil, arith, inl, inr}
 use Rattle.std.specs.Prelude.{MatchResult, filter}
-use Rattle.std.specs.List.{AllZip, flat_map}
+use Rattle.std.specs.List.{AllZip, flat_map, list_any}
 use Rattle.std.specs.Result.{IsErrAnd}
 use Rattle.std.specs.Io.KnownBytes.{Consumes}
 use Rattle.std.proofs.lemmas.List.{map-append}
@@ -15,13 +15,15 @@ use Rattle.mimic_printer.specs.Json.{Entry}
 use Rattle.mimic_printer.specs.Sink.{Put, Shown}
 use Rattle.mimic_printer.proofs.Appending.{Put-Stopped, Put-refl, Put-trans}
 use Rattle.mimic_events.specs.Contents.{entry_read}
+use Rattle.mimic_events.specs.Key.{label_in, same_label}
 use Rattle.mimic_events.specs.declared.report.Row.{Row}
+use Rattle.mimic_events.proofs.Keys.{same_label-symm}
 use Rattle.mimic_events.specs.Feed.{AreEnded}
 use Rattle.mimic_input.specs.Readings.{HasCome, pending}
 use Rattle.mimic_input.specs.declared.rows.InputRows.{InputRows}
-use Rattle.mimic_expect.specs.Expect.{FailedRow, any_in, is_known, known_rows, rows_with, same_key, unknown_failures}
+use Rattle.mimic_expect.specs.Expect.{FailedRow, is_known, known_rows, rows_with, unknown_failures}
 use Rattle.mimic_expect.specs.FindingText.{finding_text}
-use Rattle.mimic_expect.specs.Judge.{Judged, Judges, has_key}
+use Rattle.mimic_expect.specs.Judge.{Judged, Judges, labels_known}
 use Rattle.mimic_expect.specs.Known.{Expected, expected_read}
 use Rattle.mimic_expect.specs.Verdict.{HasEndedRows, HasLeft, InputRead, rows_of}
 use Rattle.mimic_expect.specs.declared.verdict.ExpectFault.{ExpectFault}
@@ -57,9 +59,9 @@ judges_then a b c xs ys m n s t u p q =
 
 -- ---- one row
 
-pub known_keys : (known : List Expectation) (row : Entry) → is_known (map expected_read known) row ≡ has_key known (any_in row)
-known_keys [] row = refl
-known_keys (e ∷ known) row = ap (λ (b : Bool). same_key (any_in (entry_read e.row)) (any_in row) || b) (known_keys known row)
+pub known_labels : (known : List Expectation) (row : Entry) → is_known (map expected_read known) row ≡ list_any (same_label row.label) (labels_known known)
+known_labels [] row = refl
+known_labels (e ∷ known) row = ap₂ (λ (a b : Bool). a || b) (same_label-symm (label_in e.row) row.label) (known_labels known row)
 
 module _ (known : List Expected) (rows : List Entry) (row : Entry) where
   abbrev now : Judged
@@ -149,10 +151,10 @@ rows_before remaining (Some all) r entries h = at (remaining r.input) h.gone
 -- ---- a row that a judge takes
 
 pub row_kept : (self : Judged) (known : List Expectation) (rows new : List Row) (row : Row) (s : Shown) → self ≡ record { known = map expected_read known; rows = map entry_read rows }
-    → has_key known (any_in (entry_read row)) ≡ true → new ≡ rows ++ row ∷ [] → Judges self (record { known = map expected_read known; rows = map entry_read new }) (entry_read row ∷ []) 0 s s
+    → is_known (map expected_read known) (entry_read row) ≡ true → new ≡ rows ++ row ∷ [] → Judges self (record { known = map expected_read known; rows = map entry_read new }) (entry_read row ∷ []) 0 s s
 row_kept self known rows new row s e has news =
     let all = map expected_read known in
-    let kept = judges_known all (map entry_read rows) (entry_read row) s (known_keys known (entry_read row) ∙ has) in
+    let kept = judges_known all (map entry_read rows) (entry_read row) s has in
     subst (λ (j : Judged). Judges j (record { known = all; rows = map entry_read new }) (entry_read row ∷ []) 0 s s) (sym e)
     (subst (λ (l : List Entry). Judges (record { known = all; rows = map entry_read rows }) (record { known = all; rows = l }) (entry_read row ∷ []) 0 s s)
     (sym (ap (map entry_read) news ∙ map-append entry_read rows (row ∷ []))) kept)
@@ -164,16 +166,16 @@ not_failed Ignored h = refl
 not_failed (Measured m) h = refl
 
 pub row_passed : (self : Judged) (known : List Expectation) (rows : List Row) (row : Row) (s : Shown) → self ≡ record { known = map expected_read known; rows = map entry_read rows }
-    → has_key known (any_in (entry_read row)) ≡ false → ((m : Option (List ℕ)) → row.outcome ≡ Failed m → ⊥) → Judges self self (entry_read row ∷ []) 0 s s
+    → is_known (map expected_read known) (entry_read row) ≡ false → ((m : Option (List ℕ)) → row.outcome ≡ Failed m → ⊥) → Judges self self (entry_read row ∷ []) 0 s s
 row_passed self known rows row s e has h =
     subst (λ (j : Judged). Judges j j (entry_read row ∷ []) 0 s s) (sym e)
-    (judges_other (map expected_read known) (map entry_read rows) (entry_read row) s (known_keys known (entry_read row) ∙ has) (not_failed row.outcome h))
+    (judges_other (map expected_read known) (map entry_read rows) (entry_read row) s has (not_failed row.outcome h))
 
 pub row_failed : (self : Judged) (known : List Expectation) (rows : List Row) (row : Row) (m : Option (List ℕ)) (s t : Shown) → self ≡ record { known = map expected_read known; rows = map entry_read rows }
-    → has_key known (any_in (entry_read row)) ≡ false → row.outcome ≡ Failed m → Put s t (finding_text (FailedRow (entry_read row))) → Judges self self (entry_read row ∷ []) 1 s t
+    → is_known (map expected_read known) (entry_read row) ≡ false → row.outcome ≡ Failed m → Put s t (finding_text (FailedRow (entry_read row))) → Judges self self (entry_read row ∷ []) 1 s t
 row_failed self known rows row m s t e has is p =
     subst (λ (j : Judged). Judges j j (entry_read row ∷ []) 1 s t) (sym e)
-    (judges_failed (map expected_read known) (map entry_read rows) (entry_read row) s t (known_keys known (entry_read row) ∙ has) (ap is_failed is) p)
+    (judges_failed (map expected_read known) (map entry_read rows) (entry_read row) s t has (ap is_failed is) p)
 
 -- ---- faults
 

@@ -12,7 +12,8 @@ use Rattle.mimic_trial.specs.Count.{is_failed, is_ignored_outcome}
 use Rattle.mimic_printer.specs.Json.{Entry}
 use Rattle.mimic_events.specs.Contents.{entry_read}
 use Rattle.mimic_events.specs.declared.report.Row.{Row}
-use Rattle.mimic_expect.specs.Expect.{Finding, Key, answers, any_in, fate, has_passed, key_in, keyed, labelled, left_by, met_by, rows_with, same_key, unanswered, unmet_by}
+use Rattle.mimic_events.specs.Key.{Key, any_in, key_in, same_key}
+use Rattle.mimic_expect.specs.Expect.{Finding, answers, fate, has_passed, keyed, labelled, left_by, met_by, rows_with, unanswered, unmet_by}
 use Rattle.mimic_expect.specs.Judging.{entries_read, row_at, said}
 use Rattle.mimic_expect.specs.Known.{Expected, expected_read}
 use Rattle.mimic_expect.specs.Pool.{numbered}

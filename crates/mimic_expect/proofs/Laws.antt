@@ -7,8 +7,9 @@ use Rattle.std.specs.Option.{is_some, option_or}
 use Rattle.std.proofs.lemmas.List.Sorted.{IsPermutation-cons, IsPermutation-middle, IsPermutation-refl, IsPermutation-sym, IsPermutation-trans}
 use Rattle.mimic_printer.specs.Json.{Entry}
 use Rattle.mimic_printer.specs.Row.{Label}
-use Rattle.mimic_expect.specs.Expect.{Fits, IsMatching, Key, any_in, key_in, keyed, left_by, meets, message_of, met_by, same_key, unmet_by, with_row, without}
-use Rattle.mimic_expect.specs.Keys.{same_key-decides}
+use Rattle.mimic_events.specs.Key.{Key, any_in, key_in, message_of, same_key}
+use Rattle.mimic_events.proofs.Keys.{same_key-decides}
+use Rattle.mimic_expect.specs.Expect.{Fits, IsMatching, keyed, left_by, meets, met_by, unmet_by, with_row, without}
 use Rattle.mimic_expect.specs.Known.{Expected}
 use Rattle.mimic_expect.proofs.Meeting.{keeps}
 

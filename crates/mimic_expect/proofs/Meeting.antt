@@ -11,7 +11,8 @@ use Rattle.std.specs.Prelude.{Option, None, Some}
 use Rattle.std.specs.Map.{lookup, remove_entry}
 use Rattle.std.specs.Option.{is_some, option_or}
 use Rattle.mimic_printer.specs.Json.{Entry}
-use Rattle.mimic_expect.specs.Expect.{Key, any_in, key_in, meets, same_key, unmet_by, without}
+use Rattle.mimic_events.specs.Key.{Key, any_in, key_in, same_key}
+use Rattle.mimic_expect.specs.Expect.{meets, unmet_by, without}
 
 module _ {X : Type 0} where
   pub keeps : (test : Key → Bool) (left : List (Key × X)) → lookup test left ≡ None → remove_entry test left ≡ left
@@ -62,23 +63,17 @@ module _ {X : Type 0} where
           ∙ (append_assoc unmet (row ∷ []) (unmet_by (without left row) rows)
           ∙ ap (λ (c : Bool). unmet ++ cond c (unmet_by (without left row) rows) (row ∷ unmet_by (without left row) rows)) e)
 
-  pub meet_then : (k : Key) (left : List (Key × X)) (row : Entry) (r : Option X) → k ≡ key_in row → r ≡ lookup (same_key k) left → is_some r ≡ true
-      → (true ≡ is_some (meets left row)) × (remove_entry (same_key k) left ≡ without left row)
-  meet_then k left row r is found some =
-      let own_some : is_some (own left row) ≡ true = ap is_some (ap (λ (x : Key). lookup (same_key x) left) (sym is) ∙ sym found) ∙ some in
-      let m = met_own left row own_some in
-      (sym m.0, ap (λ (x : Key). remove_entry (same_key x) left) is ∙ sym m.1)
+  pub meet_then : (left : List (Key × X)) (row : Entry) (r : Option X) → r ≡ own left row → is_some r ≡ true
+      → (true ≡ is_some (meets left row)) × (remove_entry (same_key (key_in row)) left ≡ without left row)
+  meet_then left row r found some =
+      let m = met_own left row (ap is_some (sym found) ∙ some) in
+      (sym m.0, sym m.1)
 
-  pub meet_else : (k j : Key) (left : List (Key × X)) (row : Entry) (r s : Option X) → k ≡ key_in row → j ≡ any_in row → r ≡ lookup (same_key k) left → is_some r ≡ false
-      → s ≡ lookup (same_key j) (remove_entry (same_key k) left)
-      → (is_some s ≡ is_some (meets left row)) × (remove_entry (same_key j) (remove_entry (same_key k) left) ≡ without left row)
-  meet_else k j left row r s is js found none next =
-      let own_none : is_some (own left row) ≡ false = ap is_some (ap (λ (x : Key). lookup (same_key x) left) (sym is) ∙ sym found) ∙ none in
-      let m = met_any left row own_none in
-      let same_left : remove_entry (same_key k) left ≡ left = ap (λ (x : Key). remove_entry (same_key x) left) is ∙ m.2 in (
-        ap is_some (next ∙ ap₂ (λ (x : Key) (l : List (Key × X)). lookup (same_key x) l) js same_left) ∙ sym m.0,
-        ap₂ (λ (x : Key) (l : List (Key × X)). remove_entry (same_key x) l) js same_left ∙ sym m.1,
-      )
+  pub meet_else : (left : List (Key × X)) (row : Entry) (r s : Option X) → r ≡ own left row → is_some r ≡ false → s ≡ any (remove_entry (same_key (key_in row)) left) row
+      → (is_some s ≡ is_some (meets left row)) × (remove_entry (same_key (any_in row)) (remove_entry (same_key (key_in row)) left) ≡ without left row)
+  meet_else left row r s found none next =
+      let m = met_any left row (ap is_some (sym found) ∙ none) in
+      (ap is_some (next ∙ ap (λ (l : List (Key × X)). any l row) m.2) ∙ sym m.0, ap (remove_entry (same_key (any_in row))) m.2 ∙ sym m.1)
 
 -- ---- references to rows
 

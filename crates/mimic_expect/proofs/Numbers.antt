@@ -6,7 +6,8 @@ use Rattle.std.proofs.lemmas.List.{get_or_default}
 use Rattle.std.specs.Map.{lookup, remove_entry}
 use Rattle.std.specs.Option.{is_some, option_or}
 use Rattle.mimic_printer.specs.Json.{Entry}
-use Rattle.mimic_expect.specs.Expect.{Key, answers, any_in, key_in, left_by, meets, met_by, same_key, unanswered, unmet_by, with_row, without}
+use Rattle.mimic_events.specs.Key.{Key, any_in, key_in, same_key}
+use Rattle.mimic_expect.specs.Expect.{answers, left_by, meets, met_by, unanswered, unmet_by, with_row, without}
 use Rattle.mimic_expect.specs.Known.{Expected}
 use Rattle.mimic_expect.specs.Pool.{numbered}
 

@@ -1,15 +1,14 @@
 -- Which of many keys are left, and the first one of them.
 use Rattle.std.proofs.Common.{◌≡◌, ◌⊎◌, ℕ, zero, suc, ◌+◌, ◌<◌, ◌≤◌, Bool, true, false, cond, List, [], ◌∷◌, ◌++◌, length, map, drop, take, get_or, refl, sym, ap, ap₂, subst, ◌∙◌, length-take-le, drop-cons, set, ◌≢◌, inl, inr, arith, add-one}
 use Rattle.std.specs.Prelude.{Option, None, Some, not, unwrap_or}
-use Rattle.std.specs.Cmp.{decided}
 use Rattle.std.specs.HashMap.{HashMap, get}
 use Rattle.std.specs.Map.{lookup, remove_entry, update}
 use Rattle.std.proofs.lemmas.Bool.{lt-ltb, le-ltb, cases_lt}
-use Rattle.std.proofs.lemmas.List.{get_or-drop, get_or-map, get_or-set_other, get_or-set_same, get_or_default, length-map, map-append, take_more}
-use Rattle.mimic_expect.specs.Expect.{Key, same_key}
-use Rattle.mimic_expect.specs.Keys.{is_same, key_read, same_key-decides}
+use Rattle.std.proofs.lemmas.List.{get_or-drop, get_or-map, get_or-set_other, get_or-set_same, length-map, map-append, map_more}
+use Rattle.mimic_events.specs.Key.{Key, is_same, key_read, same_key}
+use Rattle.mimic_events.proofs.Keys.{same_key-decides, same_key-symm}
 use Rattle.mimic_expect.specs.Pool.{AreChained, HasLeft, first_from, is_left, left_from, numbered}
-use Rattle.mimic_expect.specs.declared.key.Key.{Key as Found}
+use Rattle.mimic_events.specs.declared.key.Key.{Key as Found}
 use Rattle.mimic_expect.specs.declared.pool.Pool.{Pool}
 
 -- ---- tests
@@ -19,9 +18,6 @@ Items = List (Key × ℕ)
 
 same : (a b : Key) → same_key a b ≡ true → a ≡ b
 same a b h = (same_key-decides a b).0 h
-
-other_way : (a b : Key) (v : Bool) → same_key a b ≡ v → same_key b a ≡ v
-other_way a b v h = (decided same_key same_key-decides).symm b a ∙ h
 
 here : (n m : ℕ) → m ≤ n → is_left n (Some m) ≡ true
 here n m h = ap not (le-ltb n m h)
@@ -68,7 +64,7 @@ late_first key end from (k ∷ keys) = at (same_key k key) refl (late_first key 
   where
     at : (b : Bool) → same_key k key ≡ b → Late key (unwrap_or (first_from (from + 1) keys key) end) (from + 1) keys → Late key (unwrap_or (cond b (Some from) (first_from (from + 1) keys key)) end) from (k ∷ keys)
     at true is rest = (λ h. omega arith, late_all key from (from + 1) keys (omega arith))
-    at false is rest = (λ h. let also : same_key k key ≡ true = other_way key k true h in absurd (cc), rest)
+    at false is rest = (λ h. let also : same_key k key ≡ true = same_key-symm k key ∙ h in absurd (cc), rest)
 
 -- the key of the number q is this one, and the next ones like it have numbers from r on
 abbrev pub Stands : Key → ℕ → ℕ → ℕ → List Key → Type 0
@@ -368,7 +364,7 @@ pub left_more : (first : Key → Option ℕ) (items : List Found) (n : ℕ) (key
 left_more first items n key lt is =
     let before = map key_read (take n items) in
     let counted : 0 + length before ≡ n = omega (arith, length-map (take n items) key_read, length-take-le n items (omega (arith, lt))) in
-    ap (left_from first 0) (ap (map key_read) (take_more items n key lt) ∙ (map-append key_read (take n items) (get_or items n key ∷ []) ∙ ap (λ (k : Found). before ++ key_read k ∷ []) is))
+    ap (left_from first 0) (map_more key_read items n key lt ∙ ap (λ (k : Found). before ++ key_read k ∷ []) is)
     ∙ (left_from-push first 0 before (key_read key) ∙ ap (λ (m : ℕ). left_from first 0 before ++ last first (key_read key) m) counted)
 
 abbrev pub snd : Key × ℕ → ℕ
@@ -384,20 +380,15 @@ numbers_more first old key n b e = map-append snd old (last first key n) ∙ ap 
     at true false e = absurd (cc)
     at false true e = absurd (cc)
 
--- what stands past the end of a list of keys
-abbrev pub nobody : Found
-nobody = record { kind = record { ref_ptr = (0, 0); now = [] }; name = record { ref_ptr = (0, 0); now = [] }; message = None }
-
-pub left_step : (pool : Pool) (left : Items) (has : HasLeft pool left) (items : List Found) (n : ℕ) (b : Bool) (old new : List ℕ) → items ≡ pool.keys.items → n < length items
-    → b ≡ is_left n (get is_same pool.first (get_or items n nobody)) → old ≡ map snd (left_from has.first 0 (map key_read (take n pool.keys.items))) → new ≡ old ++ cond b (n ∷ []) []
+pub left_step : (pool : Pool) (left : Items) (has : HasLeft pool left) (items : List Found) (n : ℕ) (key : Found) (b : Bool) (old new : List ℕ) → items ≡ pool.keys.items → n < length items → key ≡ get_or items n key
+    → b ≡ is_left n (get is_same pool.first key) → old ≡ map snd (left_from has.first 0 (map key_read (take n pool.keys.items))) → new ≡ old ++ cond b (n ∷ []) []
     → new ≡ map snd (left_from has.first 0 (map key_read (take (n + 1) pool.keys.items)))
-left_step pool left has items n b old new same_items lt is_b olds news =
-    let key = get_or items n nobody in
+left_step pool left has items n key b old new same_items lt is is_b olds news =
     let first = has.first in
     let P : List Found → Type 0 = λ l. new ≡ map snd (left_from first 0 (map key_read (take (n + 1) l))) in
     let before : old ≡ map snd (left_from first 0 (map key_read (take n items))) = olds ∙ ap (λ (l : List Found). map snd (left_from first 0 (map key_read (take n l)))) (sym same_items) in
     subst P same_items
     (news
     ∙ (ap (λ (l : List ℕ). l ++ cond b (n ∷ []) []) before
-    ∙ sym (ap (map snd) (left_more first items n key lt (get_or_default items n key nobody lt))
+    ∙ sym (ap (map snd) (left_more first items n key lt (sym is))
     ∙ numbers_more first (left_from first 0 (map key_read (take n items))) (key_read key) n b (is_b ∙ ap (is_left n) (has.found key)))))

@@ -13,8 +13,9 @@ use Rattle.mimic_trial.specs.declared.outcome.Outcome.{Outcome}
 use Rattle.mimic_trial.specs.declared.outcome.Outcome.TheVariants.{Failed, Ignored, Measured, Passed}
 use Rattle.mimic_trial.specs.Count.{is_failed, is_ignored_outcome}
 use Rattle.mimic_printer.specs.Json.{Entry}
-use Rattle.mimic_expect.specs.Expect.{ExpectLaws, FailedRow, Finding, HasSame, Key, answers, any_in, fate, findings, findings_in_turn, findings_with, has_passed, is_known, key_in, keyed, known_rows, labelled, left_by, left_in, meets, met_by, others_in, rows_with, same_key, unanswered, unknown_failures, unmet_by, with_row, without}
-use Rattle.mimic_expect.specs.Keys.{same_key-decides}
+use Rattle.mimic_events.specs.Key.{Key, any_in, key_in, same_key}
+use Rattle.mimic_events.proofs.Keys.{same_key-decides}
+use Rattle.mimic_expect.specs.Expect.{ExpectLaws, FailedRow, Finding, HasSame, answers, fate, findings, findings_in_turn, findings_with, has_passed, is_known, keyed, known_rows, labelled, left_by, left_in, meets, met_by, others_in, rows_with, unanswered, unknown_failures, unmet_by, with_row, without}
 use Rattle.mimic_expect.specs.Known.{Expected}
 use Rattle.mimic_expect.proofs.Laws.{all_left, all_without, matching_law, stays}
 

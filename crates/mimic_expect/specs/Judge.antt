@@ -1,10 +1,11 @@
 -- Rows that are judged one by one. No public clause names these words.
-use Rattle.std.specs.Prelude.{◌≡◌, ℕ, Bool, List, ◌++◌, map, length}
-use Rattle.std.specs.List.{flat_map, list_any}
+use Rattle.std.specs.Prelude.{◌≡◌, ℕ, List, ◌++◌, map, length}
+use Rattle.std.specs.List.{flat_map}
 use Rattle.mimic_printer.specs.Json.{Entry}
+use Rattle.mimic_printer.specs.Row.{Label}
 use Rattle.mimic_printer.specs.Sink.{Put, Shown}
-use Rattle.mimic_events.specs.Contents.{entry_read}
-use Rattle.mimic_expect.specs.Expect.{FailedRow, Key, any_in, known_rows, same_key, unknown_failures}
+use Rattle.mimic_events.specs.Key.{label_in}
+use Rattle.mimic_expect.specs.Expect.{FailedRow, known_rows, unknown_failures}
 use Rattle.mimic_expect.specs.FindingText.{finding_text}
 use Rattle.mimic_expect.specs.Known.{Expected}
 use Rattle.mimic_expect.specs.declared.known.Expectation.{Expectation}
@@ -14,9 +15,9 @@ pub record Judged : Type 0 where
   pub known : List Expected
   pub rows : List Entry
 
--- some known failure has this kind and name
-abbrev pub has_key : List Expectation → Key → Bool
-has_key known key = list_any (λ expectation. same_key (any_in (entry_read expectation.row)) key) known
+-- the kinds and names of the known failures
+abbrev pub labels_known : List Expectation → List Label
+labels_known known = map (λ expectation. label_in expectation.row) known
 
 -- the rows were judged: those whose kind and name some known failure has are kept, and the failures among the others have lines,
 -- which are so many

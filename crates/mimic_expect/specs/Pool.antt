@@ -1,9 +1,8 @@
 -- Numbered keys, of which the first one left can be taken. No public clause names these words.
 use Rattle.std.specs.Prelude.{◌≡◌, ℕ, ◌+◌, ◌<◌, Bool, false, cond, nat_lt, not, List, [], ◌∷◌, drop, length, map, slice_index, slice_index_or, Option, None, Some, unwrap_or}
 use Rattle.std.specs.HashMap.{get}
-use Rattle.mimic_expect.specs.Expect.{Key, same_key}
-use Rattle.mimic_expect.specs.Keys.{is_same, key_read}
-use Rattle.mimic_expect.specs.declared.key.Key.{Key as Found}
+use Rattle.mimic_events.specs.Key.{Key, is_same, key_read, same_key}
+use Rattle.mimic_events.specs.declared.key.Key.{Key as Found}
 use Rattle.mimic_expect.specs.declared.pool.Pool.{Pool}
 
 -- the keys with their numbers, from this one on

@@ -1,22 +1,19 @@
 //! Judges rows that come one by one.
 ghost use Rattle.std.specs.Prelude.{◌≡◌, ◌∷◌, [], IfOk, MatchResult, cond, length, map};
-ghost use Rattle.std.specs.HashSet.{contains};
 ghost use Rattle.mimic_trial.specs.Count.{is_failed};
 ghost use Rattle.mimic_printer.specs.Sink.{HasFaultLeft, shown};
 ghost use Rattle.mimic_events.specs.Contents.{entry_read};
 ghost use Rattle.mimic_expect.specs.Expect.{findings, keyed, met_by, rows_with};
-ghost use Rattle.mimic_expect.specs.Judge.{Judges, has_key};
-ghost use Rattle.mimic_expect.specs.Keys.{is_same, key_read};
-ghost use Rattle.mimic_expect.specs.declared.key.Key.{Key as Found};
+ghost use Rattle.mimic_expect.specs.Judge.{Judges, labels_known};
+ghost use Rattle.mimic_events.specs.Key.{HasTrials};
 ghost use Rattle.mimic_expect.specs.Judging.{finding_read};
 ghost use Rattle.mimic_expect.specs.Known.{expected_read};
 ghost use Rattle.mimic_expect.specs.Verdict.{HasLeft};
 
 use crate::judgement::{Judgement, Unexpected, judge};
-use crate::key::Key;
 use crate::known::Expectation;
 use crate::verdict::ExpectFault;
-use mimic_events::Row;
+use mimic_events::{Key, Row};
 use mimic_printer::Sink;
 use mimic_trial::Outcome;
 use std::alloc::{AllocError, Global};
@@ -35,13 +32,11 @@ pub(crate) struct Judge<'a> {
 }
 
 impl<'a> Model for Judge<'a> {
-    ghost use Rattle.std.specs.Prelude.{◌≡◌, map};
-    ghost use Rattle.std.specs.HashSet.{contains};
+    ghost use Rattle.std.specs.Prelude.{map};
     ghost use Rattle.mimic_events.specs.Contents.{entry_read};
-    ghost use Rattle.mimic_expect.specs.Judge.{Judged, has_key};
-    ghost use Rattle.mimic_expect.specs.Keys.{is_same, key_read};
+    ghost use Rattle.mimic_events.specs.Key.{HasTrials};
+    ghost use Rattle.mimic_expect.specs.Judge.{Judged, labels_known};
     ghost use Rattle.mimic_expect.specs.Known.{expected_read};
-    ghost use Rattle.mimic_expect.specs.declared.key.Key.{Key as Found};
 
     ghost Value = { Judged };
 
@@ -50,8 +45,7 @@ impl<'a> Model for Judge<'a> {
       rows = map entry_read j.rows.items;
     } };
 
-    ghost invariant = { λ j. (key : Found) → contains is_same j.labels key
-        ≡ has_key j.known.now (key_read key) };
+    ghost invariant = { λ j. HasTrials j.labels (labels_known j.known.now) };
 }
 
 impl<'a> Judge<'a> {
@@ -80,7 +74,7 @@ impl<'a> Judge<'a> {
             (shown W.contents sink.old) (shown W.contents sink.new))
             (HasLeft (shown W.contents sink.old) (shown W.contents sink.new)) }
     {
-        if (&self.labels).contains(&Key::any(&row)) {
+        if (&self.labels).contains(&Key::Trial(&row)) {
             self.rows.push(row)?;
             return Ok(false);
         }
@@ -104,12 +98,11 @@ impl<'a> Judge<'a> {
 
 // Returns the kinds and names of the known failures.
 fn labels_in(alloc: Global, known: &[Expectation]) -> Result<HashSet<Key<'_>>, AllocError>
-    ensures { IfOk result (λ labels. (key : Found) → contains is_same labels key
-        ≡ has_key known.now (key_read key)) }
+    ensures { IfOk result (λ labels. HasTrials labels (labels_known known.now)) }
 {
     let mut labels = HashSet::new(alloc);
     for expectation in known {
-        labels.insert(Key::any(&expectation.row))?;
+        labels.insert(Key::Trial(&expectation.row))?;
     }
     Ok(labels)
 }

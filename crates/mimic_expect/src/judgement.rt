@@ -6,16 +6,15 @@ ghost use Rattle.std.specs.Option.{is_some, option_to_list};
 ghost use Rattle.mimic_trial.specs.Count.{is_failed, is_ignored_outcome};
 ghost use Rattle.mimic_printer.specs.Json.{Entry};
 ghost use Rattle.mimic_events.specs.Contents.{entry_read};
-ghost use Rattle.mimic_expect.specs.Expect.{FailedRow, Key as KeyRead, answers, any_in, counts, fate, findings, findings_with, has_passed, is_absent_line, is_failed_row, is_other_message, is_passed_line, key_in, keyed, left_by, meets, met_by, rows_with, same_key, unanswered, unmet_by, without};
+ghost use Rattle.mimic_events.specs.Key.{Key as KeyRead, any_in, key_in, key_read, same_key};
+ghost use Rattle.mimic_expect.specs.Expect.{FailedRow, answers, counts, fate, findings, findings_with, has_passed, is_absent_line, is_failed_row, is_other_message, is_passed_line, keyed, left_by, meets, met_by, rows_with, unanswered, unmet_by, without};
 ghost use Rattle.mimic_expect.specs.Judging.{entries_read, expected_at, finding_read, row_at, said};
-ghost use Rattle.mimic_expect.specs.Keys.{key_read};
 ghost use Rattle.mimic_expect.specs.Known.{Expected, expected_read};
 ghost use Rattle.mimic_expect.specs.Pool.{HasLeft};
 
-use crate::key::Key;
 use crate::known::Expectation;
 use crate::pool::Pool;
-use mimic_events::Row;
+use mimic_events::{Key, Row};
 use mimic_trial::Outcome;
 use std::alloc::{AllocError, Global};
 
@@ -42,7 +41,7 @@ fn keys_of(alloc: Global, known: &[Expectation]) -> Result<Vec<Key<'_>>, AllocEr
 {
     let mut keys = Vec::new(alloc);
     for expectation in known {
-        keys.push(Key::of(&expectation.row))?;
+        keys.push(Key::Failure(&expectation.row))?;
     }
     Ok(keys)
 }
@@ -54,7 +53,7 @@ fn labels_of<'a>(alloc: Global, rows: &[&'a Row]) -> Result<Vec<Key<'a>>, AllocE
 {
     let mut keys = Vec::new(alloc);
     for row in rows {
-        keys.push(Key::any(row))?;
+        keys.push(Key::Trial(row))?;
     }
     Ok(keys)
 }
@@ -93,7 +92,7 @@ fn meet<'a>(pool: &mut Pool<'a>, row: &'a Row) -> bool
         → (result ≡ is_some (meets left (entry_read row.now)))
         × HasLeft pool.new (without left (entry_read row.now)) }
 {
-    pool.take(&Key::of(row)).is_some() || pool.take(&Key::any(row)).is_some()
+    pool.take(&Key::Failure(row)).is_some() || pool.take(&Key::Trial(row)).is_some()
 }
 
 // Returns the failures that meet nothing, and takes from the pool what the others meet.
@@ -161,7 +160,7 @@ fn answer<'a>(
         (lookup (same_key (any_in (entry_read expectation.now.row))) left))
         × HasLeft others.new (remove_entry (same_key (any_in (entry_read expectation.now.row))) left) }
 {
-    let place = others.take(&Key::any(&expectation.row))?;
+    let place = others.take(&Key::Trial(&expectation.row))?;
     match rows.get(place) {
         Some(row) => Some(*row),
         None => None,

@@ -12,7 +12,6 @@
 mod inputs;
 mod judge;
 mod judgement;
-mod key;
 mod known;
 mod pool;
 mod unexpected;

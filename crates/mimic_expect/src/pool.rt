@@ -2,11 +2,10 @@
 ghost use Rattle.std.specs.Prelude.{◌≡◌, List, ℕ, IfOk, map};
 ghost use Rattle.std.specs.HashMap.{get};
 ghost use Rattle.std.specs.Map.{lookup, remove_entry};
-ghost use Rattle.mimic_expect.specs.Expect.{Key as KeyRead, same_key};
-ghost use Rattle.mimic_expect.specs.Keys.{is_same, key_read};
+ghost use Rattle.mimic_events.specs.Key.{Key as KeyRead, is_same, key_read, same_key};
 ghost use Rattle.mimic_expect.specs.Pool.{HasLeft, is_left, numbered};
 
-use crate::key::Key;
+use mimic_events::Key;
 use std::alloc::{AllocError, Global};
 use std::collections::HashMap;
 

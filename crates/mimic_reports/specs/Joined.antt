@@ -4,6 +4,7 @@ use Rattle.std.specs.List.{flat_map, range_with_len}
 use Rattle.mimic_printer.specs.Json.{Contents, Entry}
 use Rattle.mimic_printer.specs.Row.{Label}
 use Rattle.mimic_events.specs.Contents.{entry_read}
+use Rattle.mimic_events.specs.Key.{label_in}
 use Rattle.mimic_events.specs.declared.report.Report.{Report}
 use Rattle.mimic_events.specs.declared.report.Row.{Row}
 use Rattle.mimic_shard.specs.Shard.{shard_of}
@@ -52,11 +53,7 @@ pub record FallsByOne (earlier later : Report) : Type 0 where
   pub no_rise : trials_in later ≤ trials_in earlier
   pub one : trials_in earlier ≤ trials_in later + 1
 
--- the kind and the name that a row shows
-abbrev pub label_in : Row → Label
-label_in row = (entry_read row).label
-
--- those of all rows of a report
+-- the kinds and names that the rows of a report show
 abbrev pub labels_in : Report → List Label
 labels_in report = map label_in report.rows.items
 

@@ -1,6 +1,6 @@
 -- Reports in the XML that readers of JUnit's reports take. No standard fixes it: the elements and attributes are those that
 -- Jenkins, GitLab, Surefire and junitparser read; what stands in messages is our own.
-use Rattle.std.specs.Prelude.{ℕ, ◌+◌, ◌==◌, if◌then◌else◌, List, [], ◌∷◌, length, map, count_by, codes, decimal, Option, Some, None, string_bytes}
+use Rattle.std.specs.Prelude.{ℕ, ◌+◌, List, [], ◌∷◌, length, map, count_by, codes, decimal, Option, Some, None, string_bytes}
 use Rattle.std.specs.List.{concat, flat_map}
 use Rattle.mimic_trial.specs.declared.outcome.Outcome.{Outcome}
 use Rattle.mimic_trial.specs.declared.outcome.Outcome.TheVariants.{Passed, Failed, Ignored, Measured}

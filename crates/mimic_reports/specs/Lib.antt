@@ -2,7 +2,6 @@ pub mod Faults
 pub mod Inputs
 pub mod Joined
 pub mod Junit
-pub mod Names
 pub mod Show
 pub mod Suites
 pub mod Text

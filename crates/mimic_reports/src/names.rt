@@ -1,58 +1,13 @@
 //! Whether a kind and a name stands in two reports.
 ghost use Rattle.std.specs.Prelude.{◌<◌, ◌++◌, List, length, map, All, AllPairs, Contains, IfOk, OnOk, MatchOption, slice_index_or};
 ghost use Rattle.mimic_printer.specs.Row.{Label};
+ghost use Rattle.mimic_events.specs.Key.{HasTrials, label_in};
 ghost use Rattle.mimic_events.specs.declared.report.Row.{Row};
-ghost use Rattle.mimic_reports.specs.Joined.{HaveOwnNames, IsNamedTwice, label_in};
-ghost use Rattle.mimic_reports.specs.Names.{HasLabels};
+ghost use Rattle.mimic_reports.specs.Joined.{HaveOwnNames, IsNamedTwice};
 
-use mimic_events::{Report, Row};
+use mimic_events::{Key, Report, Row};
 use std::alloc::{AllocError, Global};
 use std::collections::HashSet;
-use std::hash::{Hash, Hasher};
-
-// A row of which the kind and the name alone are compared. It takes no more memory than a reference.
-#[derive(Clone, Copy)]
-pub(crate) struct Named<'a> {
-    row: &'a Row,
-}
-
-impl PartialEq for Named<'_> {
-    ghost use Rattle.mimic_reports.specs.Names.{is_named};
-    ghost use Rattle.std.specs.Cmp.Rules.{comparing};
-    ghost use Rattle.std.proofs.Common.{rules};
-
-    ghost eq = { is_named };
-
-    ghost laws = { Prim.search (comparing, rules) };
-
-    fn eq(&self, other: &Self) -> bool {
-        self.row.kind == other.row.kind && self.row.name == other.row.name
-    }
-}
-
-impl Eq for Named<'_> {
-    ghost use Rattle.std.specs.Cmp.Rules.{comparing};
-    ghost use Rattle.std.proofs.Common.{rules};
-
-    ghost laws = { Prim.search (comparing, rules) };
-}
-
-impl Hash for Named<'_> {
-    ghost use Rattle.std.specs.Prelude.{◌++◌, string_bytes};
-    ghost use Rattle.std.specs.Hash as fed;
-    ghost use Rattle.std.specs.Cmp.Rules.{hashing};
-    ghost use Rattle.std.proofs.Common.{rules};
-
-    ghost hash_input = { λ x. fed.str (string_bytes x.row.now.kind)
-        ++ fed.str (string_bytes x.row.now.name) };
-
-    ghost respects_eq = { Prim.search (hashing, rules) };
-
-    fn hash<H: Hasher>(&self, state: &mut H) {
-        self.row.kind.hash(state);
-        self.row.name.hash(state);
-    }
-}
 
 // Returns the place of the first report with a row whose kind and name stand in a report before it, and that of its first such
 // row.
@@ -84,14 +39,14 @@ fn rows_of(reports: &[Report]) -> usize {
 
 // Returns the place of the first row whose kind and name were seen.
 #[inline(never)]
-fn seen_row(seen: &HashSet<Named<'_>>, rows: &[Row]) -> Option<usize>
-    ensures { (labels : List Label) → HasLabels seen.now labels → MatchOption result
+fn seen_row(seen: &HashSet<Key<'_>>, rows: &[Row]) -> Option<usize>
+    ensures { (labels : List Label) → HasTrials seen.now labels → MatchOption result
         (All (λ row. ¬ Contains labels (label_in row)) rows.now)
         (λ place. (place < length rows.now)
         × ((d : Row) → Contains labels (label_in (slice_index_or rows.now place d)))) }
 {
     for (place, row) in rows.iter().enumerate() {
-        if (&*seen).contains(&Named { row }) {
+        if (&*seen).contains(&Key::Trial(row)) {
             return Some(place);
         }
     }
@@ -99,12 +54,12 @@ fn seen_row(seen: &HashSet<Named<'_>>, rows: &[Row]) -> Option<usize>
 }
 
 #[inline(never)]
-fn add_names<'a>(seen: &mut HashSet<Named<'a>>, rows: &'a [Row]) -> Result<(), AllocError>
-    ensures { OnOk result ((labels : List Label) → HasLabels seen.old labels
-        → HasLabels seen.new (labels ++ map label_in rows.now)) }
+fn add_names<'a>(seen: &mut HashSet<Key<'a>>, rows: &'a [Row]) -> Result<(), AllocError>
+    ensures { OnOk result ((labels : List Label) → HasTrials seen.old labels
+        → HasTrials seen.new (labels ++ map label_in rows.now)) }
 {
     for row in rows {
-        seen.insert(Named { row })?;
+        seen.insert(Key::Trial(row))?;
     }
     Ok(())
 }

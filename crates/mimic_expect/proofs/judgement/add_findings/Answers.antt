@@ -3,7 +3,8 @@ use Rattle.std.specs.Map.{remove_entry}
 use Rattle.std.specs.Prelude.{option_map}
 use Rattle.std.proofs.lemmas.List.{drop_all}
 use Rattle.mimic_events.specs.Contents.{entry_read}
-use Rattle.mimic_expect.specs.Expect.{answers, any_in, fate, same_key, unanswered}
+use Rattle.mimic_events.specs.Key.{any_in, same_key}
+use Rattle.mimic_expect.specs.Expect.{answers, fate, unanswered}
 use Rattle.mimic_expect.specs.Judging.{entries_read, expected_at, finding_read, said}
 use Rattle.mimic_expect.specs.Known.{expected_read}
 use Rattle.mimic_expect.specs.Pool.{HasLeft}

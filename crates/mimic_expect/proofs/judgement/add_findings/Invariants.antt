@@ -1,5 +1,6 @@
 use Rattle.std.proofs.Common.{◌≡◌, ◌++◌, ℕ, List, drop, map}
-use Rattle.mimic_expect.specs.Expect.{Key, answers, unanswered}
+use Rattle.mimic_events.specs.Key.{Key}
+use Rattle.mimic_expect.specs.Expect.{answers, unanswered}
 use Rattle.mimic_expect.specs.Judging.{entries_read, expected_at, finding_read, said}
 use Rattle.mimic_expect.specs.Pool.{HasLeft}
 use Rattle.mimic_expect.proofs.judgement.add_findings.Given as goal

@@ -5,7 +5,7 @@ use Rattle.mimic_trial.specs.Count.{is_failed}
 use Rattle.mimic_events.specs.Contents.{entry_read}
 use Rattle.mimic_expect.specs.Expect.{FailedRow, answers, rows_with}
 use Rattle.mimic_expect.specs.Judging.{entries_read, expected_at, finding_read, said}
-use Rattle.mimic_expect.specs.Keys.{key_read}
+use Rattle.mimic_events.specs.Key.{key_read}
 use Rattle.mimic_expect.specs.Pool.{numbered}
 use Rattle.mimic_expect.proofs.Judgements.{no_row, others_are, others_below, said_are}
 use Rattle.mimic_expect.proofs.judgement.findings_of.Goals as goal

@@ -1,7 +1,6 @@
 use Rattle.std.proofs.Common.{◌≡◌, map, take}
 use Rattle.mimic_events.specs.Contents.{entry_read}
-use Rattle.mimic_expect.specs.Expect.{key_in}
-use Rattle.mimic_expect.specs.Keys.{key_read}
+use Rattle.mimic_events.specs.Key.{key_in, key_read}
 use Rattle.mimic_expect.proofs.judgement.keys_of.Given as goal
 
 abbrev pub invariant-loop-expectation : goal.invariant-loop-expectation

@@ -1,6 +1,6 @@
 use Rattle.std.proofs.Common.{◌∙◌, All, ap, get_or, length, map, subst, sym, ◌<◌}
 use Rattle.mimic_expect.specs.Judging.{entries_read}
-use Rattle.mimic_expect.specs.Keys.{key_read}
+use Rattle.mimic_events.specs.Key.{key_read}
 use Rattle.mimic_expect.specs.Known.{expected_read}
 use Rattle.mimic_expect.specs.Pool.{numbered}
 use Rattle.mimic_expect.proofs.Judgements.{left_are, left_below, no_line, unmet_are}

@@ -1,5 +1,6 @@
 use Rattle.std.proofs.Common.{◌≡◌, ◌++◌, ℕ, List, drop}
-use Rattle.mimic_expect.specs.Expect.{Key, left_by, unmet_by}
+use Rattle.mimic_events.specs.Key.{Key}
+use Rattle.mimic_expect.specs.Expect.{left_by, unmet_by}
 use Rattle.mimic_expect.specs.Judging.{entries_read}
 use Rattle.mimic_expect.specs.Pool.{HasLeft}
 use Rattle.mimic_expect.proofs.judgement.unmet_in.Given as goal

@@ -1,8 +1,7 @@
 use Rattle.std.specs.Prelude.{List, ◌++◌, map, take}
 use Rattle.mimic_printer.specs.Row.{Label}
-use Rattle.mimic_reports.specs.Joined.{label_in}
-use Rattle.mimic_reports.specs.Names.{HasLabels}
+use Rattle.mimic_events.specs.Key.{HasTrials, label_in}
 use Rattle.mimic_reports.proofs.names.add_names.Given as goal
 
 abbrev pub invariant-loop-row : goal.invariant-loop-row
-invariant-loop-row l = (labels : List Label) → HasLabels l.fn.seen labels → HasLabels l.seen (labels ++ map label_in (take l.row-index l.rows))
+invariant-loop-row l = (labels : List Label) → HasTrials l.fn.seen labels → HasTrials l.seen (labels ++ map label_in (take l.row-index l.rows))

@@ -1,5 +1,5 @@
 use Rattle.std.proofs.Common.{arith, subst}
-use Rattle.mimic_reports.specs.Names.{HasLabels}
+use Rattle.mimic_events.specs.Key.{HasTrials}
 use Rattle.mimic_reports.proofs.SeenNames.{own_more, seen_more, twice}
 use Rattle.mimic_reports.proofs.names.named_twice.Goals as goal
 
@@ -10,7 +10,7 @@ returns-in-Some c =
 
 pub loop-place-preserved : goal.loop-place-preserved
 loop-place-preserved c = record {
-  seen = subst (HasLabels c.add_names.new.seen)
+  seen = subst (HasTrials c.add_names.new.seen)
       (seen_more c.args.reports.now c.loop-place.place c.index-reports-place.result c.deref-in-loop-place.result.now c.loop-place-test.true c.index-reports-place.is c.deref-in-loop-place.ensures.value)
       (c.in_ok-add_names.ensures _ c.loop-place.invariant.seen);
   pairs = own_more c.args.reports.now c.loop-place.place c.index-reports-place.result c.deref.result.now c.loop-place-test.true c.index-reports-place.is c.deref.ensures.value

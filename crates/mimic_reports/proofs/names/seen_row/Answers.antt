@@ -2,13 +2,16 @@ use Rattle.std.proofs.Common.{◌≡◌, ◌∙◌, true, false, ap, arith, get_
 use Rattle.std.specs.Prelude.{Contains}
 use Rattle.std.proofs.lemmas.Bool.{cases_lt}
 use Rattle.std.proofs.lemmas.List.{get_or_default}
-use Rattle.mimic_reports.specs.Joined.{label_in}
-use Rattle.mimic_reports.proofs.SeenNames.{named}
+use Rattle.std.proofs.lemmas.Map.Made.{is_member-Decides}
+use Rattle.mimic_events.specs.Key.{label_in}
+use Rattle.mimic_events.specs.declared.key.Key.TheVariants.{Trial}
+use Rattle.mimic_events.proofs.Keys.{at_row, same_label-decides}
 use Rattle.mimic_reports.proofs.names.seen_row.Goals as goal
 
 pub returns-then-contains : goal.returns-then-contains
 returns-then-contains c = λ labels has.
-    let in_labels : Contains labels (label_in c.index-rows-place.result) = (has (named c.index-rows-place.result)).0 (sym c.contains.ensures ∙ c.if-contains.true) in
+    let row = c.index-rows-place.result in
+    let in_labels = (is_member-Decides same_label-decides labels (label_in row)).0 (sym (has (Trial (at_row row))) ∙ (sym c.contains.ensures ∙ c.if-contains.true)) in
     (c.loop-place-test.true, λ d. subst (λ row. Contains labels (label_in row)) (c.index-rows-place.is ∙ get_or_default c.args.rows.now c.loop-place.place c.index-rows-place.result d c.loop-place-test.true) in_labels)
 
 pub loop-place-preserved : goal.loop-place-preserved
@@ -19,7 +22,8 @@ loop-place-preserved c = λ labels has k d lt found.
           let here : c.loop-place.place ≡ k = omega (arith, le, lt) in
           let same : get_or c.args.rows.now k d ≡ c.index-rows-place.result =
           ap (λ n. get_or c.args.rows.now n d) (sym here) ∙ sym (c.index-rows-place.is ∙ get_or_default c.args.rows.now c.loop-place.place c.index-rows-place.result d c.loop-place-test.true) in
-          let yes : c.contains.result ≡ true = c.contains.ensures ∙ (has (named c.index-rows-place.result)).1 (subst (λ row. Contains labels (label_in row)) same found) in
+          let row = c.index-rows-place.result in
+          let yes : c.contains.result ≡ true = c.contains.ensures ∙ (has (Trial (at_row row)) ∙ (is_member-Decides same_label-decides labels (label_in row)).1 (subst (λ row. Contains labels (label_in row)) same found)) in
           let no : c.contains.result ≡ false = c.if-contains.false in
           cc
     ]

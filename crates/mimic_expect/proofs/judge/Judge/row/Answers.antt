@@ -1,24 +1,24 @@
-use Rattle.std.proofs.Common.{◌≡◌, ◌∙◌, ap, false, sym, true}
+use Rattle.std.proofs.Common.{◌∙◌, sym}
 use Rattle.mimic_events.specs.Contents.{entry_read}
-use Rattle.mimic_expect.specs.Expect.{any_in}
-use Rattle.mimic_expect.specs.Judge.{has_key}
-use Rattle.mimic_expect.proofs.Judged.{row_failed, row_kept, row_passed}
+use Rattle.mimic_events.specs.declared.key.Key.TheVariants.{Trial}
+use Rattle.mimic_events.proofs.Keys.{at_row}
+use Rattle.mimic_expect.proofs.Judged.{known_labels, row_failed, row_kept, row_passed}
 use Rattle.mimic_expect.proofs.judge.Judge.row.Goals as goal
 
 pub returns-then-contains : goal.returns-then-contains
 returns-then-contains g c =
     let known = c.self.inside.known.now in
-    let has : has_key known (any_in (entry_read c.args.row)) ≡ true = ap (has_key known) (sym c.any.ensures) ∙ (sym (c.self.invariant c.any.result) ∙ (sym c.contains.ensures ∙ c.if-contains.true)) in
+    let has = known_labels known (entry_read c.args.row) ∙ (sym (c.self.invariant (Trial (at_row c.args.row))) ∙ (sym c.contains.ensures ∙ c.if-contains.true)) in
     row_kept c.args.self.now known c.self.inside.rows.items c.push.new.self.items c.args.row _ (sym c.self.view_is) has c.in_ok-push.ensures.items
 
 pub returns-in_default : goal.returns-in_default
 returns-in_default g c =
     let known = c.self.inside.known.now in
-    let has : has_key known (any_in (entry_read c.args.row)) ≡ false = ap (has_key known) (sym c.any.ensures) ∙ (sym (c.self.invariant c.any.result) ∙ (sym c.contains.ensures ∙ c.if-contains.false)) in
+    let has = known_labels known (entry_read c.args.row) ∙ (sym (c.self.invariant (Trial (at_row c.args.row))) ∙ (sym c.contains.ensures ∙ c.if-contains.false)) in
     row_passed c.args.self.now known c.self.inside.rows.items c.args.row _ (sym c.self.view_is) has c.in_default.not-Failed
 
 pub returns : goal.returns
 returns g c =
     let known = c.self.inside.known.now in
-    let has : has_key known (any_in (entry_read c.args.row)) ≡ false = ap (has_key known) (sym c.any.ensures) ∙ (sym (c.self.invariant c.any.result) ∙ (sym c.contains.ensures ∙ c.if-contains.false)) in
+    let has = known_labels known (entry_read c.args.row) ∙ (sym (c.self.invariant (Trial (at_row c.args.row))) ∙ (sym c.contains.ensures ∙ c.if-contains.false)) in
     row_failed c.args.self.now known c.self.inside.rows.items c.args.row c.in-Failed.field-0 _ _ (sym c.self.view_is) has c.in-Failed.is c.in_ok-put.ensures

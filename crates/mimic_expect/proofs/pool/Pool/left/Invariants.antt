@@ -1,6 +1,5 @@
 use Rattle.std.proofs.Common.{◌≡◌, ℕ, List, map, take}
-use Rattle.mimic_expect.specs.Expect.{Key}
-use Rattle.mimic_expect.specs.Keys.{key_read}
+use Rattle.mimic_events.specs.Key.{Key, key_read}
 use Rattle.mimic_expect.specs.Pool.{HasLeft, left_from}
 use Rattle.mimic_expect.proofs.pool.Pool.left.Given as goal
 

@@ -1,5 +1,5 @@
 use Rattle.std.proofs.Common.{◌≡◌, ◌+◌, ◌-◌, ◌<◌, ◌∙◌, ap, arith, drop, length, map, sym, unwrap_or, length-set}
-use Rattle.mimic_expect.specs.Keys.{key_read}
+use Rattle.mimic_events.specs.Key.{key_read}
 use Rattle.mimic_expect.specs.Pool.{first_from}
 use Rattle.mimic_expect.specs.declared.pool.Pool.{Pool}
 use Rattle.mimic_expect.proofs.Pools.{found_more, leads_more, made}

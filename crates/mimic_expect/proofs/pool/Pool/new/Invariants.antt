@@ -1,9 +1,8 @@
 use Rattle.std.proofs.Common.{◌≡◌, ℕ, ◌+◌, ◌<◌, ◌≤◌, drop, get_or, length, map, unwrap_or}
 use Rattle.std.specs.HashMap.{get}
-use Rattle.mimic_expect.specs.Expect.{Key}
-use Rattle.mimic_expect.specs.Keys.{is_same, key_read}
+use Rattle.mimic_events.specs.Key.{Key, is_same, key_read}
 use Rattle.mimic_expect.specs.Pool.{first_from}
-use Rattle.mimic_expect.specs.declared.key.Key.{Key as Found}
+use Rattle.mimic_events.specs.declared.key.Key.{Key as Found}
 use Rattle.mimic_expect.proofs.pool.Pool.new.Given as goal
 
 abbrev pub invariant-loop-number : goal.invariant-loop-number

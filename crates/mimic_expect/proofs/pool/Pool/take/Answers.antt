@@ -1,7 +1,7 @@
 use Rattle.std.proofs.Common.{◌≡◌, ◌∙◌, arith, refl, sym, ap, get_or, length}
 use Rattle.std.specs.Option.{is_some}
 use Rattle.std.specs.HashMap.{get}
-use Rattle.mimic_expect.specs.Keys.{is_same}
+use Rattle.mimic_events.specs.Key.{is_same}
 use Rattle.mimic_expect.specs.declared.pool.Pool.{Pool}
 use Rattle.mimic_expect.proofs.Pools.{take_none, take_some, written_back}
 use Rattle.mimic_expect.proofs.pool.Pool.take.Goals as goal
