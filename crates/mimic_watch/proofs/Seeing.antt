@@ -1,10 +1,10 @@
 -- Rows that have ended, one after another.
-use Rattle.std.proofs.Common.{◌≡◌, inl, inr, ℕ, ◌+◌, ◌-◌, ◌<◌, ◌^◌, cond, List, [], ◌∷◌, ◌++◌, length, length-append, refl, sym, ap, ap₂, ◌∙◌, subst, arith, append_assoc, append-nil}
-use Rattle.std.specs.Prelude.{count_by}
+use Rattle.std.proofs.Common.{◌≡◌, inl, inr, ℕ, ◌-◌, ◌<◌, ◌^◌, List, [], ◌∷◌, ◌++◌, length, length-append, refl, sym, ap, ap₂, ◌∙◌, subst, arith, append_assoc, append-nil}
 use Rattle.std.proofs.lemmas.List.{length-map, map-append, flat_map_more}
-use Rattle.std.proofs.lemmas.List.Sums.{count_by-le-length, sum_by_push}
 use Rattle.mimic_trial.specs.declared.outcome.Outcome.{Outcome}
-use Rattle.mimic_trial.specs.Count.{is_failed}
+use Rattle.mimic_trial.specs.declared.outcome.conclusion.Conclusion.{Conclusion}
+use Rattle.mimic_trial.specs.Count.{HasRoom, counted, counts_of}
+use Rattle.mimic_trial.proofs.Counting.{HasRoom-counts, counts-push}
 use Rattle.mimic_printer.specs.Json.{Entry}
 use Rattle.mimic_events.specs.Contents.{entry_read}
 use Rattle.mimic_events.specs.Feed.{AreEnded}
@@ -28,31 +28,29 @@ few bytes entries e h = elim h.begun [
   | inr b ↦ let within = b.within in let number = b.number in omega (arith, within, number, length-append entries (e ∷ []))
 ]
 
--- one more failure, if it is one
-one_failed : (entries : List Entry) (e : Entry) → count_by is_failed (outcomes_in (entries ++ e ∷ [])) ≡ count_by is_failed (outcomes_in entries) + cond (is_failed e.outcome) 1 0
-one_failed entries e =
-    ap (count_by is_failed) (map-append (λ (x : Entry). x.outcome) entries (e ∷ []))
-    ∙ sum_by_push (λ (o : Outcome). cond (is_failed o) 1 0) (outcomes_in entries) e.outcome
-
-few_failed : (entries : List Entry) → length entries < 2 ^ 64 - 1 → count_by is_failed (outcomes_in entries) < 2 ^ 64 - 1
-few_failed entries h = omega (arith, h, count_by-le-length is_failed (outcomes_in entries), length-map entries (λ (x : Entry). x.outcome))
+-- one more outcome
+one_counted : (entries : List Entry) (e : Entry) → counted (counts_of (outcomes_in entries) 0) e.outcome ≡ counts_of (outcomes_in (entries ++ e ∷ [])) 0
+one_counted entries e =
+    sym (ap (λ (os : List Outcome). counts_of os 0) (map-append (λ (x : Entry). x.outcome) entries (e ∷ []))
+    ∙ counts-push (outcomes_in entries) e.outcome 0)
 
 -- a row was followed, and then counted
 pub row_seen : (old mid new : Viewer) (bytes front : List ℕ) (put waiting : List Entry) (e : Entry) → FollowsOn old.follower front mid.follower (e ∷ [])
-    → mid.ended ≡ old.ended → mid.failed ≡ old.failed → mid.waiting.items ≡ old.waiting.items → SeesRow mid e new
+    → mid.ended ≡ old.ended → mid.counts ≡ old.counts → mid.waiting.items ≡ old.waiting.items → SeesRow mid e new
     → HasSeen old bytes put waiting → HasSeen new (bytes ++ front) put (waiting ++ e ∷ [])
-row_seen old mid new bytes front put waiting e on ended failed shown sees h =
+row_seen old mid new bytes front put waiting e on ended counts shown sees h =
     let all : List Entry = put ++ waiting in
     let more : all ++ e ∷ [] ≡ put ++ (waiting ++ e ∷ []) = append_assoc put waiting (e ∷ []) in
     let next : HasFollowed mid.follower (bytes ++ front) (all ++ e ∷ []) = on bytes all h.followed in
     let room : length all < 2 ^ 64 - 1 = few (bytes ++ front) all e next.ended in
+    let one_more : HasRoom (counts_of (outcomes_in all) 0) = HasRoom-counts (outcomes_in all) 0 (omega (arith, room, length-map all (λ (x : Entry). x.outcome))) in
     record {
       followed = subst (λ (f : Follower). HasFollowed f (bytes ++ front) (put ++ (waiting ++ e ∷ []))) (sym sees.follower)
           (subst (HasFollowed mid.follower (bytes ++ front)) more next);
       ended = sees.ended (omega (arith, ended, h.ended, room)) ∙ omega (arith, ended, h.ended, ap length more, length-append all (e ∷ []));
-      failed = sees.failed (omega (arith, failed, h.failed, few_failed all room))
-          ∙ ap (λ (n : ℕ). n + cond (is_failed e.outcome) 1 0) (failed ∙ h.failed)
-          ∙ sym (one_failed all e) ∙ ap (λ (l : List Entry). count_by is_failed (outcomes_in l)) more;
+      counts = sees.counts (subst HasRoom (sym (counts ∙ h.counts)) one_more)
+          ∙ ap (λ (c : Conclusion). counted c e.outcome) (counts ∙ h.counts)
+          ∙ one_counted all e ∙ ap (λ (l : List Entry). counts_of (outcomes_in l) 0) more;
       shown = sees.shown ∙ ap (λ (l : List ℕ). l ++ row_text e) (shown ∙ h.shown) ∙ flat_map_more row_text [] waiting e;
     }
 
@@ -77,8 +75,8 @@ nothing_taken w piece = record {
 
 pub row_taken : (start old mid new : Viewer) (piece rest : List ℕ) (row : Row) (left : List ℕ) → TakenSoFar start piece old rest
     → SeesRow mid (entry_read row) new → FollowsRow old.follower rest mid.follower row left
-    → mid.ended ≡ old.ended → mid.failed ≡ old.failed → mid.waiting.items ≡ old.waiting.items → mid.live ≡ old.live → TakenSoFar start piece new left
-row_taken start old mid new piece rest row left so_far sees f ended failed shown live = record {
+    → mid.ended ≡ old.ended → mid.counts ≡ old.counts → mid.waiting.items ≡ old.waiting.items → mid.live ≡ old.live → TakenSoFar start piece new left
+row_taken start old mid new piece rest row left so_far sees f ended counts shown live = record {
   live = sees.live ∙ live ∙ so_far.live;
   seen = λ before put waiting h.
       let s = so_far.seen before put waiting h in
@@ -88,14 +86,14 @@ row_taken start old mid new piece rest row left so_far sees f ended failed shown
         s.2 ∙ ap (λ (l : List ℕ). s.0 ++ l) f.parts ∙ sym (append_assoc s.0 f.front left),
         subst (λ (x : List ℕ × List Entry). HasSeen new x.0 put x.1)
             (ap₂ (λ (x : List ℕ) (y : List Entry). (x, y)) (append_assoc before s.0 f.front) (append_assoc waiting s.1 (e ∷ [])))
-            (row_seen old mid new (before ++ s.0) f.front put (waiting ++ s.1) e f.followed ended failed shown sees s.3),
+            (row_seen old mid new (before ++ s.0) f.front put (waiting ++ s.1) e f.followed ended counts shown sees s.3),
       );
 }
 
 -- no row ends in the rest
 pub rest_taken : (start old new : Viewer) (piece rest : List ℕ) → TakenSoFar start piece old rest → FollowsOn old.follower rest new.follower []
-    → new.ended ≡ old.ended → new.failed ≡ old.failed → new.waiting.items ≡ old.waiting.items → SeesOn start piece new
-rest_taken start old new piece rest so_far on ended failed shown = λ before put waiting h.
+    → new.ended ≡ old.ended → new.counts ≡ old.counts → new.waiting.items ≡ old.waiting.items → SeesOn start piece new
+rest_taken start old new piece rest so_far on ended counts shown = λ before put waiting h.
     let s = so_far.seen before put waiting h in
     let seen = s.3 in
     let all : List Entry = put ++ (waiting ++ s.1) in
@@ -105,7 +103,7 @@ rest_taken start old new piece rest so_far on ended failed shown = λ before put
         followed = subst (λ (x : List ℕ). HasFollowed new.follower x all) bytes
             (subst (HasFollowed new.follower ((before ++ s.0) ++ rest)) (append-nil all) (on (before ++ s.0) all seen.followed));
         ended = ended ∙ seen.ended;
-        failed = failed ∙ seen.failed;
+        counts = counts ∙ seen.counts;
         shown = shown ∙ seen.shown;
       },
     )

@@ -8,13 +8,14 @@ use Rattle.mimic_printer.proofs.Appending.{Put-Stopped, Put-refl, Put-trans, Put
 use Rattle.mimic_events.specs.Feed.{AreEnded}
 use Rattle.mimic_events.specs.Reading.{Decodes}
 use Rattle.mimic_events.specs.SoFar.{IsFirstWrong}
+use Rattle.mimic_input.specs.Readings.{IsReading}
 use Rattle.mimic_input.proofs.ReadBytes.{read_more, read_on}
 use Rattle.mimic_watch.specs.declared.verdict.Verdict.{Verdict}
 use Rattle.mimic_watch.specs.declared.verdict.WatchFault.{WatchFault}
 use Rattle.mimic_watch.specs.declared.verdict.WatchFault.TheVariants.{OutOfMemory, Input, Write}
 use Rattle.mimic_watch.specs.declared.viewer.Viewer.{Viewer}
 use Rattle.mimic_watch.specs.Moments.{AreMomentsAfter, IsDrawn, IsMoment, Moment, ended_in, moment_text, moments_text}
-use Rattle.mimic_watch.specs.Watched.{AreCounts, HasFailed, HasWatched, IsLast, IsVerdict, last_text}
+use Rattle.mimic_watch.specs.Watched.{AreCounts, HasFailed, HasWatched, IsLast, last_text}
 use Rattle.mimic_watch.specs.Watching.{DrawsSeen, EndsAs, HasSeen, IsNoWrite, IsOver, IsWatching, LeavesMoment, LeftBy, PutsSeen, SeesOn, StaysSeen, put_text}
 use Rattle.mimic_watch.proofs.Ending.{left_alone}
 
@@ -206,16 +207,17 @@ module _ (live : Bool) (start now : Option (List ℕ)) (a b c : Shown) (w : View
   }
 
   -- the end
-  pub moment_last : (verdict : Verdict) → IsOver now h.bytes → Put b c (put_text erases w.waiting.items drawn ++ last_text verdict)
-      → EndsAs h.bytes (ended_in h.moments ++ h.waiting) verdict × AreCounts (ended_in h.moments ++ h.waiting) verdict → HasWatched live start a c verdict
+  pub moment_last : (verdict : Verdict) → IsOver now h.bytes → Put b c (put_text erases w.waiting.items drawn ++ last_text verdict.counts verdict.ending)
+      → EndsAs h.bytes (ended_in h.moments ++ h.waiting) verdict.ending × AreCounts (ended_in h.moments ++ h.waiting) verdict → HasWatched live start a c verdict
   moment_last verdict over p ends =
       let rows : ended_in h.moments ++ h.waiting ≡ ended_in (h.moments ++ moment ∷ []) = sym (more_ended h.moments moment) in
       record {
         moments = h.moments ++ moment ∷ [];
         each = each_now;
-        is_verdict = subst (λ (es : List Entry). IfSome start (IsVerdict es verdict)) rows (ends.0 start now h.gone over);
+        ending = subst (λ (es : List Entry). IfSome start (IsReading es verdict.ending)) rows (ends.0 start now h.gone over);
         counts = subst (λ (es : List Entry). AreCounts es verdict) rows ends.1;
-        put = subst (Put a c) (all_text (last_text verdict)) (Put-trans (moments_text h.moments) (put_text erases w.waiting.items drawn ++ last_text verdict) h.put p);
+        put = subst (Put a c) (all_text (last_text verdict.counts verdict.ending))
+            (Put-trans (moments_text h.moments) (put_text erases w.waiting.items drawn ++ last_text verdict.counts verdict.ending) h.put p);
       }
 
 -- ---- turns of the loop
@@ -237,8 +239,8 @@ over_wrong now bytes (Some number) is wrong = inr (number, wrong.0)
 
 -- what the end returns
 pub finished : (live : Bool) (start now : Option (List ℕ)) (a b c : Shown) (w : Viewer) (result : Result Verdict WatchFault) (h : IsWatching live start now a b w) → IsOver now h.bytes
-    → IfOk result (λ verdict. (bytes : List ℕ) (put waiting : List Entry) → HasSeen w bytes put waiting → EndsAs bytes (put ++ waiting) verdict × AreCounts (put ++ waiting) verdict)
-    → MatchResult result (λ verdict. Put b c (put_text w.live w.waiting.items [] ++ last_text verdict))
+    → IfOk result (λ verdict. (bytes : List ℕ) (put waiting : List Entry) → HasSeen w bytes put waiting → EndsAs bytes (put ++ waiting) verdict.ending × AreCounts (put ++ waiting) verdict)
+    → MatchResult result (λ verdict. Put b c (put_text w.live w.waiting.items [] ++ last_text verdict.counts verdict.ending))
     (λ fault. (last : List ℕ) × IsLast last × LeftBy fault b c (put_text w.live w.waiting.items [] ++ last))
     → MatchResult result (HasWatched live start a c) (HasFailed live start now a c)
 finished live start now a b c w (Ok verdict) h over ends p =

@@ -1,5 +1,5 @@
 -- What a watch has seen and put.
-use Rattle.std.specs.Prelude.{◌≡◌, ◌⊎◌, ℕ, ◌++◌, nat_lt, if◌then◌else◌, Bool, false, List, [], Option, IfSome, ⊤}
+use Rattle.std.specs.Prelude.{◌≡◌, ◌⊎◌, ℕ, ◌++◌, nat_lt, if◌then◌else◌, Bool, false, List, [], Option, IfSome}
 use Rattle.std.specs.Io.KnownBytes.{Consumes}
 use Rattle.mimic_text.specs.declared.formats.FormatSetting.TheVariants.{Pretty}
 use Rattle.mimic_trial.specs.declared.outcome.conclusion.Conclusion.{Conclusion}
@@ -8,9 +8,10 @@ use Rattle.mimic_printer.specs.Json.{Entry}
 use Rattle.mimic_printer.specs.Report.{result_summary}
 use Rattle.mimic_printer.specs.Sink.{Put, Shown, Stopped}
 use Rattle.mimic_events.specs.Feed.{AreEnded}
-use Rattle.mimic_input.specs.Readings.{IsStopped, IsWhole}
+use Rattle.mimic_input.specs.declared.ending.Ending.{Ending}
+use Rattle.mimic_input.specs.declared.ending.Ending.TheVariants.{Whole, Cut}
+use Rattle.mimic_input.specs.Readings.{IsReading}
 use Rattle.mimic_watch.specs.declared.verdict.Verdict.{Verdict}
-use Rattle.mimic_watch.specs.declared.verdict.Verdict.TheVariants.{Whole, Cut}
 use Rattle.mimic_watch.specs.declared.verdict.WatchFault.{WatchFault}
 use Rattle.mimic_watch.specs.declared.verdict.WatchFault.TheVariants.{OutOfMemory, Input, Write}
 use Rattle.mimic_watch.specs.Moments.{AreMomentsAfter, Moment, ended_in, moments_text, outcomes_in}
@@ -18,40 +19,38 @@ use Rattle.mimic_watch.specs.Moments.{AreMomentsAfter, Moment, ended_in, moments
 -- ---- verdicts
 
 -- 101 if a trial failed, else 0; and 1 if the report isn't whole
-abbrev pub status_of : Verdict → ℕ
-status_of (Whole counts nanos) = if nat_lt 0 counts.num_failed then 101 else 0
-status_of (Cut stop) = 1
+abbrev pub status_of : Conclusion → Ending → ℕ
+status_of counts (Whole filtered_out nanos) = if nat_lt 0 counts.num_failed then 101 else 0
+status_of counts (Cut stop) = 1
 
--- the bytes are a report of these rows exactly if the verdict is so; else a front of them, all unless a line of it is wrong, is none,
--- and these rows have ended in it
-abbrev pub IsVerdict : List Entry → Verdict → List ℕ → Type 0
-IsVerdict entries (Whole counts nanos) bytes = IsWhole bytes entries counts.num_filtered_out nanos
-IsVerdict entries (Cut stop) bytes = IsStopped bytes entries stop
+-- how many trials were filtered out, as far as the ending says
+abbrev pub filtered_out_in : Ending → ℕ
+filtered_out_in (Whole filtered_out nanos) = filtered_out
+filtered_out_in (Cut stop) = 0
 
--- the counts of a whole report are those of its rows
+-- the counts are those of these rows and of the trials that were filtered out
 abbrev pub AreCounts : List Entry → Verdict → Type 0
-AreCounts entries (Whole counts nanos) = counts ≡ counts_of (outcomes_in entries) counts.num_filtered_out
-AreCounts entries (Cut stop) = ⊤
+AreCounts entries verdict = verdict.counts ≡ counts_of (outcomes_in entries) (filtered_out_in verdict.ending)
 
 -- the harness's summary in pretty, without colours
 abbrev pub plain_summary : Conclusion → ℕ → List ℕ
 plain_summary counts nanos = result_summary (record { format = Pretty; colour = false; name_width = 0; kind_width = 0 }) counts nanos
 
 -- what is put at last: the summary of a whole report
-abbrev pub last_text : Verdict → List ℕ
-last_text (Whole counts nanos) = plain_summary counts nanos
-last_text (Cut stop) = []
+abbrev pub last_text : Conclusion → Ending → List ℕ
+last_text counts (Whole filtered_out nanos) = plain_summary counts nanos
+last_text counts (Cut stop) = []
 
 -- ---- watches
 
--- the input was a report or none, as the verdict says; what was put shows each of its rows that have ended once, in their order, and
+-- the input was a report or none, as the ending says; what was put shows each of its rows that have ended once, in their order, and
 -- then the summary
 pub record HasWatched (live : Bool) (start : Option (List ℕ)) (old new : Shown) (verdict : Verdict) : Type 0 where
   pub moments : List Moment
   pub each : AreMomentsAfter start live [] moments
-  pub is_verdict : IfSome start (IsVerdict (ended_in moments) verdict)
+  pub ending : IfSome start (IsReading (ended_in moments) verdict.ending)
   pub counts : AreCounts (ended_in moments) verdict
-  pub put : Put old new (moments_text moments ++ last_text verdict)
+  pub put : Put old new (moments_text moments ++ last_text verdict.counts verdict.ending)
 
 -- with a fault of the writer a beginning of the text was put, and else all of it
 abbrev pub IsLeft : WatchFault → Shown → Shown → List ℕ → List ℕ → Type 0

@@ -1,20 +1,20 @@
 -- What a watch knows on the way. No public clause names these words.
-use Rattle.std.specs.Prelude.{◌≡◌, ◌⊎◌, ℕ, ◌+◌, ◌-◌, ◌<◌, ◌^◌, cond, Bool, true, if◌then◌else◌, List, [], ◌++◌, length, count_by, Result, Ok, Err, Option, IfSome, ⊤}
+use Rattle.std.specs.Prelude.{◌≡◌, ◌⊎◌, ℕ, ◌+◌, ◌-◌, ◌<◌, ◌^◌, Bool, true, if◌then◌else◌, List, [], ◌++◌, length, Result, Ok, Err, Option, IfSome, ⊤}
 use Rattle.std.specs.Io.KnownBytes.{Consumes, IsAtEnd}
 use Rattle.std.specs.List.{flat_map}
-use Rattle.mimic_trial.specs.Count.{is_failed}
+use Rattle.mimic_trial.specs.Count.{HasRoom, counted, counts_of}
 use Rattle.mimic_printer.specs.Json.{Entry}
 use Rattle.mimic_printer.specs.Sink.{Put, Shown, Stopped}
 use Rattle.mimic_events.specs.Follower.{HasFollowed}
 use Rattle.mimic_events.specs.SoFar.{IsFirstWrong}
-use Rattle.mimic_watch.specs.declared.verdict.Verdict.{Verdict}
+use Rattle.mimic_input.specs.declared.ending.Ending.{Ending}
+use Rattle.mimic_input.specs.Readings.{IsReading}
 use Rattle.mimic_watch.specs.declared.verdict.WatchFault.{WatchFault}
 use Rattle.mimic_watch.specs.declared.verdict.WatchFault.TheVariants.{OutOfMemory, Input, Write}
 use Rattle.mimic_watch.specs.declared.viewer.Viewer.{Viewer}
 use Rattle.mimic_watch.specs.Frames.{erase}
 use Rattle.mimic_watch.specs.Moments.{AreMomentsAfter, IsDrawn, Moment, ended_in, moments_text, outcomes_in}
 use Rattle.mimic_watch.specs.Rows.{row_text}
-use Rattle.mimic_watch.specs.Watched.{IsVerdict}
 
 -- ---- what has come
 
@@ -22,7 +22,7 @@ use Rattle.mimic_watch.specs.Watched.{IsVerdict}
 pub record HasSeen (w : Viewer) (bytes : List ℕ) (put waiting : List Entry) : Type 0 where
   pub followed : HasFollowed w.follower bytes (put ++ waiting)
   pub ended : w.ended ≡ length (put ++ waiting)
-  pub failed : w.failed ≡ count_by is_failed (outcomes_in (put ++ waiting))
+  pub counts : w.counts ≡ counts_of (outcomes_in (put ++ waiting)) 0
   pub shown : w.waiting.items ≡ flat_map row_text waiting
 
 -- whatever had come, these bytes follow it, and the rows that they end wait with the others
@@ -35,7 +35,7 @@ pub record SeesRow (old : Viewer) (entry : Entry) (new : Viewer) : Type 0 where
   pub follower : new.follower ≡ old.follower
   pub live : new.live ≡ old.live
   pub ended : old.ended < 2 ^ 64 - 1 → new.ended ≡ old.ended + 1
-  pub failed : old.failed < 2 ^ 64 - 1 → new.failed ≡ old.failed + cond (is_failed entry.outcome) 1 0
+  pub counts : HasRoom old.counts → new.counts ≡ counted old.counts entry.outcome
   pub shown : new.waiting.items ≡ old.waiting.items ++ row_text entry
 
 -- what is seen stays so, but for the time
@@ -78,9 +78,9 @@ PutsSeen old new = (bytes : List ℕ) (put waiting : List Entry) → HasSeen old
 abbrev pub IsOver : Option (List ℕ) → List ℕ → Type 0
 IsOver now bytes = IsAtEnd now ⊎ ((number : ℕ) × IsFirstWrong number bytes)
 
--- whatever was followed up to the end of an input is as the verdict says
-abbrev pub EndsAs : List ℕ → List Entry → Verdict → Type 0
-EndsAs bytes entries verdict = (start now : Option (List ℕ)) → Consumes start now bytes → IsOver now bytes → IfSome start (IsVerdict entries verdict)
+-- whatever was followed up to the end of an input ends so
+abbrev pub EndsAs : List ℕ → List Entry → Ending → Type 0
+EndsAs bytes entries ending = (start now : Option (List ℕ)) → Consumes start now bytes → IsOver now bytes → IfSome start (IsReading entries ending)
 
 -- a fault of the reader, or for want of memory
 abbrev pub IsNoWrite : WatchFault → Type 0

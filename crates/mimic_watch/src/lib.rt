@@ -1,14 +1,15 @@
 //! Shows a JSON report as it comes: its failures and measurements, and on a terminal how far the run is.
 //!
 //! ```rust
+//! use mimic_input::Ending;
 //! use mimic_printer::Sink;
-//! use mimic_watch::{Verdict, watch};
+//! use mimic_watch::watch;
 //!
 //! let mut sink = Sink::new(stdout);
 //! let verdict = watch(alloc, &mut input, &mut sink, &clock, is_terminal)?;
-//! match verdict {
-//!     Verdict::Whole { counts, nanos } => {}
-//!     Verdict::Cut(stop) => {}
+//! match verdict.ending {
+//!     Ending::Whole { filtered_out, nanos } => {}
+//!     Ending::Cut(stop) => {}
 //! }
 //! ```
 #![tactic(auto)]

@@ -2,7 +2,7 @@
 ghost use Rattle.std.specs.Prelude.{◌≡◌};
 ghost use Rattle.mimic_watch.specs.declared.verdict.WatchFault.TheVariants.{OutOfMemory, Write};
 
-use mimic_input::Stop;
+use mimic_input::Ending;
 use mimic_printer::WriteFault;
 use mimic_trial::Conclusion;
 use std::alloc::AllocError;
@@ -11,27 +11,42 @@ use thiserror::Error;
 
 /// What the report was that was watched.
 #[derive(Debug, Drop)]
-pub enum Verdict {
-    /// A whole report: how many of its trials have each outcome, and how many nanoseconds the run took.
-    Whole { counts: Conclusion, nanos: u64 },
-    /// No report, or one that was cut.
-    Cut(Stop),
+pub struct Verdict {
+    /// How many of the rows that have ended have each outcome. Unless the report is whole, it counts no trial as filtered out.
+    pub counts: Conclusion,
+    /// How the report ended.
+    pub ending: Ending,
 }
 
 impl Verdict {
-    ghost use Rattle.mimic_watch.specs.Watched.{status_of};
+    ghost use Rattle.std.specs.Prelude.{List};
+    ghost use Rattle.mimic_trial.specs.Count.{counts_of};
+    ghost use Rattle.mimic_printer.specs.Json.{Entry};
+    ghost use Rattle.mimic_watch.specs.Moments.{outcomes_in};
+    ghost use Rattle.mimic_watch.specs.Watched.{AreCounts, status_of};
 
     /// The status of a watch of a report that isn't whole.
     pub const CUT: u8 = 1;
 
+    // Returns the verdict on a report whose rows have these counts. The ending says how many trials were filtered out.
+    pub(crate) fn new(mut counts: Conclusion, ending: Ending) -> Verdict
+        ensures ending { result.ending ≡ ending }
+        ensures counts { (entries : List Entry) → counts ≡ counts_of (outcomes_in entries) 0 → AreCounts entries result }
+    {
+        if let Ending::Whole { filtered_out, .. } = &ending {
+            counts.num_filtered_out = *filtered_out;
+        }
+        Verdict { counts, ending }
+    }
+
     /// Returns the status that a program is to end with: 101 if a trial failed, 0 if none did, and 1 if the report isn't whole.
     pub fn status(&self) -> u8
-        ensures { result ≡ status_of self.now }
+        ensures { result ≡ status_of self.now.counts self.now.ending }
     {
-        match self {
-            Verdict::Whole { counts, .. } if counts.has_failed() => Conclusion::FAILED,
-            Verdict::Whole { .. } => 0,
-            Verdict::Cut(_) => Verdict::CUT,
+        match &self.ending {
+            Ending::Whole { .. } if self.counts.has_failed() => Conclusion::FAILED,
+            Ending::Whole { .. } => 0,
+            Ending::Cut(_) => Verdict::CUT,
         }
     }
 }

@@ -4,18 +4,18 @@ ghost use Rattle.mimic_printer.specs.Json.{Entry};
 ghost use Rattle.mimic_printer.specs.Sink.{HasFaultLeft, Puts, shown};
 ghost use Rattle.mimic_events.specs.Contents.{label_read};
 ghost use Rattle.mimic_events.specs.Follower.{HasFollowed};
-ghost use Rattle.mimic_watch.specs.Watched.{AreCounts, HasFailed, HasWatched, last_text};
+ghost use Rattle.mimic_watch.specs.Watched.{HasFailed, HasWatched, last_text};
 ghost use Rattle.mimic_watch.specs.Watching.{EndsAs, IsNoWrite, Leaves, put_text};
 
 use crate::frame::{ERASE, View, first_line, push_frame, second_line};
 use crate::pace::{Pace, nanos};
 use crate::row::push_row;
 use crate::verdict::{Verdict, WatchFault};
-use mimic_events::{Follower, Label, Row, Totals};
-use mimic_input::Stop;
+use mimic_events::{Follower, Label, Row};
+use mimic_input::{Ending, Stop};
 use mimic_printer::{Printer, Sink, WriteFault};
 use mimic_text::FormatSetting;
-use mimic_trial::Outcome;
+use mimic_trial::{Conclusion, Outcome};
 use std::alloc::{AllocError, Global};
 use std::io;
 use std::io::{ErrorKind, Read, Write};
@@ -34,10 +34,9 @@ struct Viewer {
     // Whether it is shown on a terminal.
     live: bool,
     follower: Follower,
-    // The rows that have ended, and how many of them failed or were ignored.
+    // The rows that have ended, and how many of them have each outcome.
     ended: u64,
-    failed: u64,
-    ignored: u64,
+    counts: Conclusion,
     // What rows show and was not put yet.
     waiting: Vec<u8>,
     // Room for what is put at once.
@@ -117,8 +116,7 @@ impl Viewer {
             live,
             follower: Follower::new(alloc),
             ended: 0,
-            failed: 0,
-            ignored: 0,
+            counts: Conclusion::empty(0),
             waiting: Vec::new(alloc),
             text: Vec::new(alloc),
             pace: Pace::new(now),
@@ -143,10 +141,12 @@ impl Viewer {
         ensures { OnOk result (SeesRow self.old (entry_read row.now) self.new) }
     {
         self.ended = self.ended.saturating_add(1);
+        let counts = &mut self.counts;
         match &row.outcome {
-            Outcome::Failed(_) => self.failed = self.failed.saturating_add(1),
-            Outcome::Ignored => self.ignored = self.ignored.saturating_add(1),
-            Outcome::Passed | Outcome::Measured(_) => {}
+            Outcome::Passed => counts.num_passed = counts.num_passed.saturating_add(1),
+            Outcome::Failed(_) => counts.num_failed = counts.num_failed.saturating_add(1),
+            Outcome::Ignored => counts.num_ignored = counts.num_ignored.saturating_add(1),
+            Outcome::Measured(_) => counts.num_measured = counts.num_measured.saturating_add(1),
         }
         push_row(&mut self.waiting, row)
     }
@@ -157,7 +157,7 @@ impl Viewer {
         ensures live { OnOk result (self.new.live ≡ self.old.live) }
         ensures drawn { IfOk result (λ found. IfSome found (λ drawn. DrawsSeen self.new drawn.items)) }
     {
-        let ran = self.ended.saturating_sub(self.ignored);
+        let ran = self.ended.saturating_sub(self.counts.num_ignored);
         self.pace.note(now, self.ended, ran);
         if self.pace.is_due(self.live) {
             self.pace.draw();
@@ -199,7 +199,7 @@ impl Viewer {
 
     fn view(&self, ran: u64) -> View
         ensures ended { result.ended ≡ self.now.ended }
-        ensures failed { result.failed ≡ self.now.failed }
+        ensures failed { result.failed ≡ self.now.counts.num_failed }
         ensures announced { (bytes : List ℕ) (rows : List Entry) → HasFollowed self.now.follower bytes rows
             → Decodes BeginsWithTitle bytes result.announced }
     {
@@ -209,7 +209,7 @@ impl Viewer {
             cells: cells(self.ended, rows),
             announced,
             ended: self.ended,
-            failed: self.failed,
+            failed: self.counts.num_failed,
             elapsed: self.pace.elapsed(),
             left: self.pace.left(rows.saturating_sub(self.ended), ran),
         }
@@ -233,10 +233,10 @@ impl Viewer {
         requires { HasFaultLeft sink.old }
         ensures verdict { IfOk result (λ verdict. (bytes : List ℕ) (put waiting : List Entry)
             → HasSeen self bytes put waiting
-            → EndsAs bytes (put ++ waiting) verdict × AreCounts (put ++ waiting) verdict) }
+            → EndsAs bytes (put ++ waiting) verdict.ending × AreCounts (put ++ waiting) verdict) }
         ensures put { MatchResult result
             (λ verdict. Put (shown W.contents sink.old) (shown W.contents sink.new)
-            (put_text self.live self.waiting.items [] ++ last_text verdict))
+            (put_text self.live self.waiting.items [] ++ last_text verdict.counts verdict.ending))
             (λ fault. (last : List ℕ) × IsLast last × LeftBy fault (shown W.contents sink.old) (shown W.contents sink.new)
             (put_text self.live self.waiting.items [] ++ last)) }
     {
@@ -244,12 +244,14 @@ impl Viewer {
             alloc,
             live,
             follower,
+            counts,
             waiting,
             text,
             ..
         } = self;
         let mut text = text;
-        let verdict = verdict_of(alloc, follower)?;
+        let ending = ending_of(alloc, follower)?;
+        let verdict = Verdict::new(counts, ending);
         put_moment(sink, &mut text, live, &waiting, b"")?;
         put_last(sink, &verdict)?;
         Ok(verdict)
@@ -309,9 +311,9 @@ fn put_whole<W: Write>(sink: &mut Sink<W>, text: &[u8]) -> Result<(), WriteFault
 // Puts the summary of a whole report.
 fn put_last<W: Write>(sink: &mut Sink<W>, verdict: &Verdict) -> Result<(), WriteFault>
     requires { HasFaultLeft sink.old }
-    ensures { Puts W.contents sink.old sink.new (last_text verdict.now) result }
+    ensures { Puts W.contents sink.old sink.new (last_text verdict.now.counts verdict.now.ending) result }
 {
-    let Verdict::Whole { counts, nanos } = verdict else {
+    let Ending::Whole { nanos, .. } = &verdict.ending else {
         return sink.put(b"");
     };
     let printer = Printer {
@@ -320,41 +322,33 @@ fn put_last<W: Write>(sink: &mut Sink<W>, verdict: &Verdict) -> Result<(), Write
         name_width: 0,
         kind_width: 0,
     };
-    printer.print_summary(sink, counts, *nanos)?;
+    printer.print_summary(sink, &verdict.counts, *nanos)?;
     sink.flush()
 }
 
-// Returns what the report was that was followed to its end.
-fn verdict_of(alloc: Global, follower: Follower) -> Result<Verdict, AllocError>
-    ensures { IfOk result (λ verdict. (bytes : List ℕ) (entries : List Entry)
-        → HasFollowed follower bytes entries → EndsAs bytes entries verdict × AreCounts entries verdict) }
+// Returns how the report ended that was followed to its end.
+fn ending_of(alloc: Global, follower: Follower) -> Result<Ending, AllocError>
+    ensures { IfOk result (λ ending. (bytes : List ℕ) (entries : List Entry)
+        → HasFollowed follower bytes entries → EndsAs bytes entries ending) }
 {
     let announced = follower.announced();
     let wrong_line = follower.first_wrong_line();
     let running = copy_of(alloc, follower.running())?;
     match follower.finish()? {
         Some(totals) => {
-            prove!(rows_fit(&totals));
-            Ok(Verdict::Whole {
-                counts: totals.counts,
+            // Reading the number of rows shows that it fits.
+            let _rows = totals.rows;
+            Ok(Ending::Whole {
+                filtered_out: totals.counts.num_filtered_out,
                 nanos: totals.nanos,
             })
         }
-        None => Ok(Verdict::Cut(Stop {
+        None => Ok(Ending::Cut(Stop {
             announced,
             running,
             wrong_line,
         })),
     }
-}
-
-// Shows that the number of rows fits.
-fn rows_fit(totals: &Totals) -> bool
-    ensures fits { totals.now.rows < 2 ^ 64 }
-    ensures always { result ≡ true }
-{
-    let _rows = totals.rows;
-    true
 }
 
 fn copy_of(alloc: Global, label: Option<&Label>) -> Result<Option<Label>, AllocError>

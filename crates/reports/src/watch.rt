@@ -1,8 +1,9 @@
 //! Shows the report on standard input as it comes.
 use crate::faults::refuse_all;
 use crate::pump::{Incoming, Pipe, pump};
+use mimic_input::Ending;
 use mimic_printer::Sink;
-use mimic_watch::{ERASE, Verdict, WatchFault, watch};
+use mimic_watch::{ERASE, WatchFault, watch};
 use std::alloc::Global;
 use std::io::{Eprint, IsTerminal, Stdin, Stdout, Write};
 use std::rt::{Clock, Env};
@@ -56,7 +57,7 @@ fn show<H: Host>(host: &H, alloc: Global, incoming: &mut Incoming<'_, H>, stdout
     let mut sink = Sink::new(stdout);
     match watch(alloc, incoming, &mut sink, host, live) {
         Ok(verdict) => {
-            if let Verdict::Cut(stop) = &verdict {
+            if let Ending::Cut(stop) = &verdict.ending {
                 refuse_all(host, stop);
             }
             verdict.status()

@@ -1,4 +1,5 @@
-use Rattle.std.proofs.Common.{◌≡◌, ◌∙◌, ◌++◌, [], arith, codes, rules}
+use Rattle.std.proofs.Common.{◌≡◌, ◌∙◌, ◌++◌, [], ap, arith, codes, rules}
+use Rattle.mimic_trial.specs.declared.outcome.conclusion.Conclusion.{Conclusion}
 use Rattle.mimic_watch.specs.Frames.{first_line, frame}
 use Rattle.mimic_watch.proofs.Titles.{announced_by}
 use Rattle.mimic_watch.proofs.viewer.Viewer.drawing.Goals as goal
@@ -10,7 +11,7 @@ returns-in_ok-push_frame c = λ start now bytes put waiting gone h.
       view = c.view.result;
       second = c.in_ok-second.second.items;
       ended = c.view.ensures.ended ∙ h.ended;
-      failed = c.view.ensures.failed ∙ h.failed;
+      failed = c.view.ensures.failed ∙ ap (λ (x : Conclusion). x.num_failed) h.counts;
       announced = announced_by start now bytes c.view.result.announced gone (c.view.ensures.announced bytes _ h.followed);
       fits = c.in_ok-second.ensures;
       text = rw c.if-self.true text;
@@ -23,7 +24,7 @@ returns-in_ok-extend_from_slice c = λ start now bytes put waiting gone h.
       view = c.view.result;
       second = [];
       ended = c.view.ensures.ended ∙ h.ended;
-      failed = c.view.ensures.failed ∙ h.failed;
+      failed = c.view.ensures.failed ∙ ap (λ (x : Conclusion). x.num_failed) h.counts;
       announced = announced_by start now bytes c.view.result.announced gone (c.view.ensures.announced bytes _ h.followed);
       fits = record { short = omega arith; plain = tt };
       text = rw c.if-self.false text;

@@ -1,11 +1,14 @@
-use Rattle.std.proofs.Common.{ℕ, List, [], inl, refl, subst}
+use Rattle.std.proofs.Common.{ℕ, List, [], ◌++◌, inl, refl, sym, subst}
 use Rattle.mimic_printer.specs.Sink.{Put, shown}
-use Rattle.mimic_printer.proofs.Appending.{Put-Stopped, Put-trans}
-use Rattle.mimic_watch.specs.declared.verdict.WatchFault.TheVariants.{Write}
+use Rattle.mimic_printer.proofs.Appending.{Put-Stopped, Put-refl, Put-trans}
+use Rattle.mimic_watch.specs.declared.verdict.WatchFault.TheVariants.{OutOfMemory, Write}
 use Rattle.mimic_watch.specs.Watched.{last_text}
-use Rattle.mimic_watch.specs.Watching.{LeftBy, put_text}
+use Rattle.mimic_watch.specs.Watching.{EndsAs, LeftBy, put_text}
 use Rattle.mimic_watch.proofs.Ending.{last_is, left_alone, on_error}
 use Rattle.mimic_watch.proofs.viewer.Viewer.finish.Goals as goal
+
+pub returns-in_err-ending-clause-put : goal.returns-in_err-ending-clause-put
+returns-in_err-ending-clause-put g c = on_error _ OutOfMemory _ _ c.from_residual.ensures.1 ([], inl refl, Put-refl _)
 
 pub returns-in_err-put_moment-clause-put : goal.returns-in_err-put_moment-clause-put
 returns-in_err-put_moment-clause-put g c =
@@ -15,13 +18,16 @@ returns-in_err-put_moment-clause-put g c =
 
 pub returns-in_err-put_last-clause-put : goal.returns-in_err-put_last-clause-put
 returns-in_err-put_last-clause-put g c =
-    let verdict = c.in_ok-verdict.verdict in
+    let verdict = c.new-verdict.result in
     let P : List ℕ → Type 0 = λ w. Put (shown g.W.Write.contents c.args.sink.now) (shown g.W.Write.contents c.put_moment.new.sink) (put_text c.args.self.live w []) in
     on_error _ (Write c.in_err-put_last.field-0.0) _ _ c.from_residual-in_err-put_last.ensures.1
-    (last_text verdict, last_is verdict, Put-Stopped _ _ (subst P c.deref.ensures.value c.in_ok-put_moment.ensures) c.in_err-put_last.ensures)
+    (last_text verdict.counts verdict.ending, last_is verdict.counts verdict.ending, Put-Stopped _ _ (subst P c.deref.ensures.value c.in_ok-put_moment.ensures) c.in_err-put_last.ensures)
 
 pub returns-clause-verdict : goal.returns-clause-verdict
-returns-clause-verdict g c = λ bytes put waiting h. c.in_ok-verdict.ensures bytes _ h.followed
+returns-clause-verdict g c = λ bytes put waiting h. (
+  subst (EndsAs bytes (put ++ waiting)) (sym c.new-verdict.ensures.ending) (c.in_ok-ending.ensures bytes _ h.followed),
+  c.new-verdict.ensures.counts (put ++ waiting) h.counts,
+)
 
 pub returns-clause-put : goal.returns-clause-put
 returns-clause-put g c =
