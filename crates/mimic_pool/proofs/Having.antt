@@ -1,5 +1,5 @@
 -- A desk that has all rows that were returned stands for them.
-use Rattle.std.proofs.Common.{◌≡◌, ◌∙◌, ℕ, ◌+◌, ◌≤◌, List, [], ◌∷◌, ◌++◌, Some, None, All, is_some, length, length-append, slice_index_or, slice_set, refl, sym, ap, subst, append-nil, arith}
+use Rattle.std.proofs.Common.{◌≡◌, ◌∙◌, ℕ, ◌+◌, ◌≤◌, List, [], ◌∷◌, ◌++◌, Some, All, is_some, length, length-append, slice_set, refl, sym, ap, subst, append-nil, arith}
 use Rattle.std.specs.Prelude.{slice_get, unwrap_or}
 use Rattle.std.specs.List.{AllByRecursion, range_with_len}
 use Rattle.std.specs.List.Sorted.{IsPermutation}
@@ -16,7 +16,7 @@ use Rattle.mimic_pool.specs.Joined.{put_all, put_each}
 use Rattle.mimic_pool.specs.Returned.{HasAll, StandsFor}
 use Rattle.mimic_pool.specs.Seats.{IsSeated, arrived_of, lying_at}
 use Rattle.mimic_pool.specs.declared.desk.Desk.TheInside.{Inside}
-use Rattle.mimic_pool.proofs.Seating.{length_lying, order_shown, row_shown, shown_whole, some_below}
+use Rattle.mimic_pool.proofs.Seating.{lies_below, order_shown, row_shown, shown_whole}
 use Rattle.mimic_pool.proofs.Settling.{all_settled}
 
 -- ---- rows that are put where they stand already
@@ -39,12 +39,14 @@ put_each_same (rows ∷ returned) outcomes all =
 module _ (desk : Inside) (seated : IsSeated desk) where
   outcome_stands : (p : ℕ) (o : Outcome) → arrived_at p (arrived_of desk).rows ≡ Some o → slice_get (outcomes_by_place (arrived_of desk)) p ≡ Some o
   outcome_stands p o at =
-      let lies : slice_index_or (lying_at desk) p None ≡ Some o = sym (row_shown (lying_at desk) desk.order.items seated.taken p) ∙ at in
-      let low = some_below (lying_at desk) p (ap is_some lies) in
-      let len = length_lying desk.outcomes.items desk.seats.items in
+      let lies : lying_at desk p ≡ Some o =
+      sym (row_shown (lying_at desk) desk.order.items seated.taken p) ∙ at in
+      let low = lies_below desk seated p (ap is_some lies) in
       let here = λ (place : ℕ). unwrap_or (arrived_at place (arrived_of desk).rows) Ignored in
-      slice_get-get_or (outcomes_by_place (arrived_of desk)) p Ignored (omega (arith, low, len, length-map-range_with_len here 0 (length desk.seats.items)))
-      ∙ (ap Some (get_or-map-range_with_len here 0 (length desk.seats.items) p p Ignored (omega (arith, low, len)) (omega arith)) ∙ ap (λ found. Some (unwrap_or found Ignored)) at)
+      slice_get-get_or (outcomes_by_place (arrived_of desk)) p Ignored
+      (omega (arith, low, length-map-range_with_len here 0 desk.places))
+      ∙ (ap Some (get_or-map-range_with_len here 0 desk.places p p Ignored low (omega arith))
+      ∙ ap (λ found. Some (unwrap_or found Ignored)) at)
 
   stands_for : (returned : List (List Placed)) → HasAll (arrived_of desk) returned → StandsFor (arrived_of desk) returned
   stands_for returned has =
@@ -56,7 +58,7 @@ module _ (desk : Inside) (seated : IsSeated desk) where
             (λ k d low. λ j e lower. outcome_stands _ _ (has.same k d low j e lower)));
         rows = all_settled (lying_at desk) desk.order.items (outcomes_by_place shown)
             (λ p o lies. outcome_stands p o (row_shown (lying_at desk) desk.order.items seated.taken p ∙ lies));
-        len = length-map-range_with_len here 0 (length desk.seats.items);
+        len = length-map-range_with_len here 0 desk.places;
         whole = subst (λ (l : List ℕ). IsPermutation l (range_with_len 0 shown.places)) (ap (λ l. places_of shown.rows ++ l) has.complete ∙ append-nil (places_of shown.rows)) whole;
       }
 
@@ -68,15 +70,18 @@ all_stand desk shown returned seated is =
 -- ---- whether a desk has all rows
 
 -- the order and the places at which nothing arrived are as many as there are places
-order_counts : (desk : Inside) (shown : Arrived) → IsSeated desk → arrived_of desk ≡ shown → length desk.order.items + length (missing_of shown) ≡ length desk.seats.items
+order_counts : (desk : Inside) (shown : Arrived) → IsSeated desk → arrived_of desk ≡ shown
+    → length desk.order.items + length (missing_of shown) ≡ desk.places
 order_counts desk shown seated is =
     let all = length_permutation _ _ (shown_whole desk shown seated is) in
     let order = ap length (order_shown (lying_at desk) desk.order.items seated.taken) ∙ ap (λ d. length (places_of d.rows)) is in
     omega (arith, all, order, length-append (places_of shown.rows) (missing_of shown), length-range_with_len 0 shown.places, ap (λ d. d.places) is)
 
 -- nothing is missing exactly if the order is as long as there are places
-pub missing_none : (desk : Inside) (shown : Arrived) → IsSeated desk → arrived_of desk ≡ shown → length desk.seats.items ≤ length desk.order.items → missing_of shown ≡ []
+pub missing_none : (desk : Inside) (shown : Arrived) → IsSeated desk → arrived_of desk ≡ shown
+    → desk.places ≤ length desk.order.items → missing_of shown ≡ []
 missing_none desk shown seated is long = nil_from_length _ (omega (arith, long, order_counts desk shown seated is))
 
-pub order_as_long : (desk : Inside) (shown : Arrived) → IsSeated desk → arrived_of desk ≡ shown → missing_of shown ≡ [] → length desk.order.items ≡ length desk.seats.items
+pub order_as_long : (desk : Inside) (shown : Arrived) → IsSeated desk → arrived_of desk ≡ shown
+    → missing_of shown ≡ [] → length desk.order.items ≡ desk.places
 order_as_long desk shown seated is none = omega (arith, ap length none, order_counts desk shown seated is)

@@ -1,10 +1,8 @@
--- What the seats and the order of a desk show.
-use Rattle.std.proofs.Common.{◌≡◌, ◌≢◌, ℕ, suc, zero, ◌+◌, ◌-◌, ◌<◌, ◌≤◌, ◌==◌, eqb, Bool, true, false, not, ◌||◌, cond, List, [], ◌∷◌, ◌++◌, Option, Some, None, is_some, filter, length, length-append, map, slice_index_or, slice_set, refl, sym, ◌∙◌, ap, ap₂, subst, vec_capacity, inl, inr, arith}
+-- What the seats and the order of a desk show. `lying` says what lies at each place.
+use Rattle.std.proofs.Common.{◌≡◌, ◌≢◌, ℕ, suc, zero, ◌+◌, ◌-◌, ◌<◌, ◌≤◌, ◌==◌, eqb, Bool, true, false, not, ◌||◌, cond, List, [], ◌∷◌, ◌++◌, Option, Some, None, is_some, filter, length, length-append, map, slice_index_or, refl, sym, ◌∙◌, ap, ap₂, subst, vec_capacity, inl, inr, arith}
 use Rattle.std.specs.Prelude.{slice_get}
-use Rattle.std.specs.List.{AllByRecursion, list_any, IsDistinct, range_with_len}
-use Rattle.std.proofs.Math.ListN.{length-set}
-use Rattle.std.proofs.lemmas.Grind.{get_or-set_at}
-use Rattle.std.proofs.lemmas.List.{get_or-set_other, get_or_default, length-map}
+use Rattle.std.specs.List.{list_any, IsDistinct, range_with_len}
+use Rattle.std.proofs.lemmas.List.{length-map}
 use Rattle.std.proofs.lemmas.List.Concat.{flat_map-append}
 use Rattle.std.proofs.lemmas.List.Folds.{list_any-append}
 use Rattle.std.specs.Cmp.{IsEquivalence}
@@ -24,26 +22,27 @@ use Rattle.mimic_pool.specs.declared.desk.Desk.TheInside.{Inside}
 use Rattle.mimic_pool.proofs.Ordering.{order_whole}
 use Rattle.std.specs.List.Sorted.{IsPermutation}
 
--- each place in the order has a seat that is taken
-AllTaken : List (Option Outcome) → List ℕ → Type 0
-AllTaken seats order = (q : ℕ) → list_any (eqb q) order ≡ true → is_some (slice_index_or seats q None) ≡ true
+-- something lies at each place in the order
+AllTaken : (ℕ → Option Outcome) → List ℕ → Type 0
+AllTaken lying order = (q : ℕ) → list_any (eqb q) order ≡ true → is_some (lying q) ≡ true
 
 true_after : (b : Bool) → (b || true) ≡ true
 true_after true = refl
 true_after false = refl
 
-module _ (seats : List (Option Outcome)) (x : ℕ) (xs : List ℕ) where
-  taken_first : AllTaken seats (x ∷ xs) → is_some (slice_index_or seats x None) ≡ true
+module _ (lying : ℕ → Option Outcome) (x : ℕ) (xs : List ℕ) where
+  taken_first : AllTaken lying (x ∷ xs) → is_some (lying x) ≡ true
   unfolding AllTaken
   taken_first all = all x (ap (λ b. b || list_any (eqb x) xs) (eq-eqb x x refl))
 
-  taken_rest : AllTaken seats (x ∷ xs) → AllTaken seats xs
+  taken_rest : AllTaken lying (x ∷ xs) → AllTaken lying xs
   unfolding AllTaken
   taken_rest all = λ q h. all q (ap (λ b. eqb q x || b) h ∙ true_after (eqb q x))
 
-all_taken : (seats : List (Option Outcome)) (order : List ℕ) → ((q : ℕ) → list_any (eqb q) order ≡ is_some (slice_index_or seats q None)) → AllTaken seats order
+all_taken : (lying : ℕ → Option Outcome) (order : List ℕ)
+    → ((q : ℕ) → list_any (eqb q) order ≡ is_some (lying q)) → AllTaken lying order
 unfolding AllTaken
-all_taken seats order taken = λ q h. sym (taken q) ∙ h
+all_taken lying order taken = λ q h. sym (taken q) ∙ h
 
 -- ---- the row of one seat that is taken, before others
 
@@ -62,46 +61,49 @@ module _ (x : ℕ) (rest : List Placed) where
 
 -- ---- all rows
 
-has_seated : (seats : List (Option Outcome)) (order : List ℕ) (p : ℕ) → AllTaken seats order → has_come p (seated_at order seats) ≡ list_any (eqb p) order
-has_seated seats [] p all = refl
-has_seated seats (x ∷ xs) p all =
-    come_if x (seated_at xs seats) p (slice_index_or seats x None) (taken_first seats x xs all)
-    ∙ ap (λ t. eqb p x || t) (has_seated seats xs p (taken_rest seats x xs all))
-
-order_seated : (seats : List (Option Outcome)) (order : List ℕ) → AllTaken seats order → order ≡ map (λ r. r.0) (seated_at order seats)
-order_seated seats [] all = refl
-order_seated seats (x ∷ xs) all =
-    ap (λ t. x ∷ t) (order_seated seats xs (taken_rest seats x xs all))
-    ∙ sym (place_if x (seated_at xs seats) (slice_index_or seats x None) (taken_first seats x xs all))
-
-row_found : (seats : List (Option Outcome)) (order : List ℕ) (p : ℕ) → AllTaken seats order
-    → arrived_at p (seated_at order seats) ≡ cond (list_any (eqb p) order) (slice_index_or seats p None) None
-row_found seats [] p all = refl
-row_found seats (x ∷ xs) p all =
-    let here = slice_index_or seats p None in
-    let there = slice_index_or seats x None in
-    let rest = arrived_at p (seated_at xs seats) in
-    let P : Bool → Type 0 = λ t. cond t there rest ≡ cond (t || list_any (eqb p) xs) here None in
-    found_if x (seated_at xs seats) p there (taken_first seats x xs all) ∙ elim (eqb_tells p x) [
-      | inl h ↦ subst P (sym h.0) (ap (λ q. slice_index_or seats q None) (sym h.1))
-      | inr h ↦ subst P (sym h.0) (row_found seats xs p (taken_rest seats x xs all))
-    ]
-
 some_or_none : (o : Option Outcome) → cond (is_some o) o None ≡ o
 some_or_none (Some o) = refl
 some_or_none None = refl
 
-module _ (seats : List (Option Outcome)) (order : List ℕ) (taken : (q : ℕ) → list_any (eqb q) order ≡ is_some (slice_index_or seats q None)) where
-  pub has_shown : (p : ℕ) → has_come p (seated_at order seats) ≡ list_any (eqb p) order
-  has_shown p = has_seated seats order p (all_taken seats order taken)
+module _ (lying : ℕ → Option Outcome) where
+  has_seated : (order : List ℕ) (p : ℕ) → AllTaken lying order
+      → has_come p (seated_at order lying) ≡ list_any (eqb p) order
+  has_seated [] p all = refl
+  has_seated (x ∷ xs) p all =
+      come_if x (seated_at xs lying) p (lying x) (taken_first lying x xs all)
+      ∙ ap (λ t. eqb p x || t) (has_seated xs p (taken_rest lying x xs all))
 
-  pub order_shown : order ≡ map (λ r. r.0) (seated_at order seats)
-  order_shown = order_seated seats order (all_taken seats order taken)
+  order_seated : (order : List ℕ) → AllTaken lying order
+      → order ≡ map (λ r. r.0) (seated_at order lying)
+  order_seated [] all = refl
+  order_seated (x ∷ xs) all =
+      ap (λ t. x ∷ t) (order_seated xs (taken_rest lying x xs all))
+      ∙ sym (place_if x (seated_at xs lying) (lying x) (taken_first lying x xs all))
 
-  pub row_shown : (p : ℕ) → arrived_at p (seated_at order seats) ≡ slice_index_or seats p None
-  row_shown p =
-      row_found seats order p (all_taken seats order taken)
-      ∙ (ap (λ t. cond t (slice_index_or seats p None) None) (taken p) ∙ some_or_none (slice_index_or seats p None))
+  row_found : (order : List ℕ) (p : ℕ) → AllTaken lying order
+      → arrived_at p (seated_at order lying) ≡ cond (list_any (eqb p) order) (lying p) None
+  row_found [] p all = refl
+  row_found (x ∷ xs) p all =
+      let rest = arrived_at p (seated_at xs lying) in
+      let P : Bool → Type 0 =
+      λ t. cond t (lying x) rest ≡ cond (t || list_any (eqb p) xs) (lying p) None in
+      found_if x (seated_at xs lying) p (lying x) (taken_first lying x xs all)
+      ∙ elim (eqb_tells p x) [
+        | inl h ↦ subst P (sym h.0) (ap lying (sym h.1))
+        | inr h ↦ subst P (sym h.0) (row_found xs p (taken_rest lying x xs all))
+      ]
+
+  module _ (order : List ℕ) (taken : (q : ℕ) → list_any (eqb q) order ≡ is_some (lying q)) where
+    pub has_shown : (p : ℕ) → has_come p (seated_at order lying) ≡ list_any (eqb p) order
+    has_shown p = has_seated order p (all_taken lying order taken)
+
+    pub order_shown : order ≡ map (λ r. r.0) (seated_at order lying)
+    order_shown = order_seated order (all_taken lying order taken)
+
+    pub row_shown : (p : ℕ) → arrived_at p (seated_at order lying) ≡ lying p
+    row_shown p =
+        row_found order p (all_taken lying order taken)
+        ∙ (ap (λ t. cond t (lying p) None) (taken p) ∙ some_or_none (lying p))
 
 -- ---- the row of one number
 
@@ -109,33 +111,23 @@ later_row : (x number : ℕ) (rest : List Placed) (o : Option Outcome) → is_so
 later_row x number rest (Some o) some = refl
 later_row x number rest None some = absurd (cc)
 
-row_got : (seats : List (Option Outcome)) (order : List ℕ) (number p : ℕ) (o : Outcome) → AllTaken seats order → slice_get order number ≡ Some p
-    → slice_index_or seats p None ≡ Some o → slice_get (seated_at order seats) number ≡ Some (p, o)
-row_got seats [] number p o all at lies = absurd (cc)
-row_got seats (x ∷ xs) zero p o all at lies =
-    let same : x ≡ p = cc in
-    ap (λ q. slice_get (placed_if q (slice_index_or seats q None) ++ seated_at xs seats) 0) same ∙ ap (λ v. slice_get (placed_if p v ++ seated_at xs seats) 0) lies
-row_got seats (x ∷ xs) (suc number) p o all at lies =
-    later_row x number (seated_at xs seats) (slice_index_or seats x None) (taken_first seats x xs all) ∙ row_got seats xs number p o (taken_rest seats x xs all) at lies
+module _ (lying : ℕ → Option Outcome) (p : ℕ) (o : Outcome) (lies : lying p ≡ Some o) where
+  row_got : (order : List ℕ) (number : ℕ) → AllTaken lying order → slice_get order number ≡ Some p
+      → slice_get (seated_at order lying) number ≡ Some (p, o)
+  row_got [] number all at = absurd (cc)
+  row_got (x ∷ xs) zero all at =
+      let same : x ≡ p = cc in
+      ap (λ q. slice_get (placed_if q (lying q) ++ seated_at xs lying) 0) same
+      ∙ ap (λ v. slice_get (placed_if p v ++ seated_at xs lying) 0) lies
+  row_got (x ∷ xs) (suc number) all at =
+      later_row x number (seated_at xs lying) (lying x) (taken_first lying x xs all)
+      ∙ row_got xs number (taken_rest lying x xs all) at
 
--- the row of this number is the outcome that lies at the place of this number
-pub row_numbered : (seats : List (Option Outcome)) (order : List ℕ) (number p : ℕ) (o : Outcome) → ((q : ℕ) → list_any (eqb q) order ≡ is_some (slice_index_or seats q None))
-    → slice_get order number ≡ Some p → slice_index_or seats p None ≡ Some o → slice_get (seated_at order seats) number ≡ Some (p, o)
-row_numbered seats order number p o taken at lies = row_got seats order number p o (all_taken seats order taken) at lies
-
--- a seat that is not in the order is written: the rows stay
-pub shown_set : (seats : List (Option Outcome)) (order : List ℕ) (q : ℕ) (v : Option Outcome)
-    → list_any (eqb q) order ≡ false → seated_at order (slice_set seats q v) ≡ seated_at order seats
-shown_set seats [] q v none = refl
-shown_set seats (x ∷ xs) q v none =
-    elim (eqb_tells q x) [
-      | inl h ↦ absurd (grind (arith, h.0, none))
-      | inr h ↦
-          let rest : list_any (eqb q) xs ≡ false = ap (λ t. t || list_any (eqb q) xs) (sym h.0) ∙ none in
-          let other : x ≢ q = λ e. h.1 (sym e) in
-          ap (λ o. placed_if x o ++ seated_at xs (slice_set seats q v)) (get_or-set_other seats q x v None other)
-          ∙ ap (λ rows. placed_if x (slice_index_or seats x None) ++ rows) (shown_set seats xs q v rest)
-    ]
+  -- the row of this number is the outcome that lies at the place of this number
+  pub row_numbered : (order : List ℕ) (number : ℕ)
+      → ((q : ℕ) → list_any (eqb q) order ≡ is_some (lying q))
+      → slice_get order number ≡ Some p → slice_get (seated_at order lying) number ≡ Some (p, o)
+  row_numbered order number taken at = row_got order number (all_taken lying order taken) at
 
 pub or_false : (b : Bool) → (b || (false || false)) ≡ b
 or_false true = refl
@@ -154,16 +146,6 @@ eqb_equiv = record {
   ];
   congr = λ x y z h. ap (λ v. eqb v z) (eqb-true x y h);
 }
-
-past_none : (seats : List (Option Outcome)) (p : ℕ) → length seats ≤ p → slice_index_or seats p None ≡ None
-past_none [] p high = refl
-past_none (x ∷ seats) zero high = absurd (omega arith)
-past_none (x ∷ seats) (suc p) high = past_none seats p (omega arith)
-
-pub some_below : (seats : List (Option Outcome)) (q : ℕ) → is_some (slice_index_or seats q None) ≡ true → q < length seats
-some_below [] q h = absurd (cc)
-some_below (x ∷ xs) zero h = omega arith
-some_below (x ∷ xs) (suc q) h = let rest = some_below xs q h in omega arith
 
 pub distinct_more : (xs : List ℕ) (p : ℕ) → IsDistinct eqb xs → list_any (eqb p) xs ≡ false → IsDistinct eqb (xs ++ p ∷ [])
 distinct_more xs p d none = IsDistinct-push eqb_equiv xs p d none
@@ -197,29 +179,39 @@ module _ (order : List ℕ) (p : ℕ) where
         let len = length-append order (p ∷ []) in
         omega arith
 
--- the order knows of the seat that is taken
-pub taken_more : (seats : List (Option Outcome)) (order : List ℕ) (p : ℕ) (o : Outcome) → p < length seats
-    → ((q : ℕ) → list_any (eqb q) order ≡ is_some (slice_index_or seats q None))
-    → (q : ℕ) → list_any (eqb q) (order ++ p ∷ []) ≡ is_some (slice_index_or (slice_set seats p (Some o)) q None)
-taken_more seats order p o low taken =
-    flags_more order p (λ q. is_some (slice_index_or seats q None)) (λ q. is_some (slice_index_or (slice_set seats p (Some o)) q None)) taken
-    (ap is_some (get_or-set_at seats p p (Some o) None refl low)) (λ q other. ap is_some (get_or-set_other seats p q (Some o) None other))
+-- what lies at places, and what lies there once something lies at one more
+module _ (lying now : ℕ → Option Outcome) (p : ℕ) (others : (q : ℕ) → q ≢ p → now q ≡ lying q) where
+  -- the rows of an order without that place stay
+  shown_others : (order : List ℕ) → list_any (eqb p) order ≡ false
+      → seated_at order now ≡ seated_at order lying
+  shown_others [] none = refl
+  shown_others (x ∷ xs) none =
+      elim (eqb_tells p x) [
+        | inl h ↦ absurd (grind (arith, h.0, none))
+        | inr h ↦
+            let rest : list_any (eqb p) xs ≡ false =
+            ap (λ t. t || list_any (eqb p) xs) (sym h.0) ∙ none in
+            let other : x ≢ p = λ e. h.1 (sym e) in
+            ap₂ (λ o rows. placed_if x o ++ rows) (others x other) (shown_others xs rest)
+      ]
 
--- the rows after a first arrival
-pub shown_more : (seats : List (Option Outcome)) (order : List ℕ) (p : ℕ) (o : Outcome) → p < length seats → list_any (eqb p) order ≡ false
-    → seated_at (order ++ p ∷ []) (slice_set seats p (Some o)) ≡ seated_at order seats ++ (p, o) ∷ []
-shown_more seats order p o low none =
-    flat_map-append (λ q. placed_if q (slice_index_or (slice_set seats p (Some o)) q None)) order (p ∷ [])
-    ∙ (ap (λ rows. rows ++ seated_at (p ∷ []) (slice_set seats p (Some o))) (shown_set seats order p (Some o) none)
-    ∙ ap (λ v. seated_at order seats ++ (placed_if p v ++ [])) (get_or-set_at seats p p (Some o) None refl low))
+  module _ (order : List ℕ) (o : Outcome) (here : now p ≡ Some o) where
+    -- the order knows of the place
+    pub taken_more : ((q : ℕ) → list_any (eqb q) order ≡ is_some (lying q)) → (q : ℕ)
+        → list_any (eqb q) (order ++ p ∷ []) ≡ is_some (now q)
+    taken_more taken = flags_more order p (λ q. is_some (lying q)) (λ q. is_some (now q)) taken
+        (ap is_some here) (λ q other. ap is_some (others q other))
+
+    -- the rows after a first arrival
+    pub shown_more : list_any (eqb p) order ≡ false
+        → seated_at (order ++ p ∷ []) now ≡ seated_at order lying ++ (p, o) ∷ []
+    shown_more none =
+        flat_map-append (λ q. placed_if q (now q)) order (p ∷ [])
+        ∙ ap₂ (λ rows v. rows ++ (placed_if p v ++ [])) (shown_others order none) here
 
 pub distinct_none : IsDistinct eqb []
 unfolding IsDistinct
 distinct_none = tt
-
-pub order_below : (seats : List (Option Outcome)) (order : List ℕ) → ((q : ℕ) → list_any (eqb q) order ≡ is_some (slice_index_or seats q None))
-    → (q : ℕ) → list_any (eqb q) order ≡ true → q < length seats
-order_below seats order taken q h = some_below seats q (sym (taken q) ∙ h)
 
 -- ---- seats
 
@@ -240,48 +232,40 @@ free_seat outcomes (suc index) low = elim (eqb_tells (suc index) 0) [
   | inr e ↦ e.0 ∙ sym (ap not (some_there outcomes index (omega arith)))
 ]
 
-pub length_lying : (outcomes : List Outcome) (seats : List ℕ) → length (map (outcome_in outcomes) seats) ≡ length seats
-length_lying outcomes [] = refl
-length_lying outcomes (seat ∷ seats) = ap suc (length_lying outcomes seats)
+some_below : (outcomes : List Outcome) (seats : List ℕ) (p : ℕ)
+    → is_some (outcome_in outcomes (slice_index_or seats p 0)) ≡ true → p < length seats
+some_below outcomes [] p some = absurd (cc)
+some_below outcomes (seat ∷ seats) zero some = omega arith
+some_below outcomes (seat ∷ seats) (suc p) some = let rest = some_below outcomes seats p some in
+    omega arith
 
--- what lies at the place of a seat
-pub lies_in : (outcomes : List Outcome) (seats : List ℕ) (p : ℕ) → slice_index_or (map (outcome_in outcomes) seats) p None ≡ outcome_in outcomes (slice_index_or seats p 0)
-lies_in outcomes [] p = refl
-lies_in outcomes (seat ∷ seats) zero = refl
-lies_in outcomes (seat ∷ seats) (suc p) = lies_in outcomes seats p
+-- where the seats are free nothing came, so that the same places are missing
+filter_same : (f g : ℕ → Bool) → ((p : ℕ) → f p ≡ g p) → (places : List ℕ)
+    → filter f places ≡ filter g places
+filter_same f g same [] = refl
+filter_same f g same (p ∷ places) =
+    ap₂ (λ t rest. cond t (p ∷ rest) rest) (same p) (filter_same f g same places)
 
--- each seat's outcome is there
-abbrev pub Found : List Outcome → List ℕ → Type 0
-Found outcomes seats = AllByRecursion (λ seat. seat ≤ length outcomes) seats
+module _ (desk : Inside) (is : IsSeated desk) where
+  -- whether something lies at the place is said by its seat
+  pub free_at : (p : ℕ)
+      → (slice_index_or desk.seats.items p 0 == 0) ≡ not (is_some (lying_at desk p))
+  free_at p = free_seat desk.outcomes.items (slice_index_or desk.seats.items p 0) (is.found p)
 
-pub found_at : (outcomes : List Outcome) (seats : List ℕ) (p : ℕ) → Found outcomes seats → slice_index_or seats p 0 ≤ length outcomes
-found_at outcomes [] p found = omega arith
-found_at outcomes (seat ∷ seats) zero found = found.0
-found_at outcomes (seat ∷ seats) (suc p) found = found_at outcomes seats p found.1
+  pub missing_shown : free_from 0 desk.places desk.seats.items ≡ missing_of (arrived_of desk)
+  missing_shown = filter_same _ _
+      (λ p. free_at p ∙ (ap not (sym (is.taken p))
+      ∙ ap not (sym (has_shown (lying_at desk) desk.order.items is.taken p))))
+      (range_with_len 0 desk.places)
 
--- whether something lies at the place is said by its seat
-pub free_at : (outcomes : List Outcome) (seats : List ℕ) (p : ℕ) → Found outcomes seats → (slice_index_or seats p 0 == 0) ≡ not (is_some (slice_index_or (map (outcome_in outcomes) seats) p None))
-free_at outcomes seats p found = free_seat outcomes (slice_index_or seats p 0) (found_at outcomes seats p found) ∙ ap (λ o. not (is_some o)) (sym (lies_in outcomes seats p))
+  -- something lies only at places that the desk has
+  pub lies_below : (p : ℕ) → is_some (lying_at desk p) ≡ true → p < desk.places
+  lies_below p some = omega
+      (arith, is.within, some_below desk.outcomes.items desk.seats.items p some)
 
-free_rows : (rows : List Placed) (k : ℕ) (seats : List ℕ)
-    → ((i : ℕ) → i < length seats → (slice_index_or seats i 0 == 0) ≡ not (has_come (k + i) rows))
-    → free_from k seats ≡ filter (λ p. not (has_come p rows)) (range_with_len k (length seats))
-free_rows rows k [] h = refl
-free_rows rows k (seat ∷ seats) h =
-    let zero_is : k + 0 ≡ k = omega arith in
-    let head : (seat == 0) ≡ not (has_come k rows) = h 0 (omega arith) ∙ ap (λ p. not (has_come p rows)) zero_is in
-    let rest : free_from (k + 1) seats ≡ filter (λ p. not (has_come p rows)) (range_with_len (k + 1) (length seats)) =
-    free_rows rows (k + 1) seats (λ i low. let e : k + suc i ≡ k + 1 + i = omega arith in h (suc i) (omega arith) ∙ ap (λ p. not (has_come p rows)) e) in
-    ap (λ xs. cond (seat == 0) (k ∷ xs) xs) rest
-    ∙ ap (λ t. cond t (k ∷ filter (λ p. not (has_come p rows)) (range_with_len (k + 1) (length seats))) (filter (λ p. not (has_come p rows)) (range_with_len (k + 1) (length seats)))) head
-
-pub missing_shown : (desk : Inside) → IsSeated desk → free_from 0 desk.seats.items ≡ missing_of (arrived_of desk)
-missing_shown desk seated =
-    let rows = (arrived_of desk).rows in
-    let lying = lying_at desk in
-    free_rows rows 0 desk.seats.items (λ i low.
-    let e : 0 + i ≡ i = omega arith in
-    free_at desk.outcomes.items desk.seats.items i seated.found ∙ (ap not (sym (seated.taken i)) ∙ (ap not (sym (has_shown lying desk.order.items seated.taken i)) ∙ ap (λ p. not (has_come p rows)) (sym e))))
+  -- each place in the order is one of the desk's
+  pub places_below : (q : ℕ) → list_any (eqb q) desk.order.items ≡ true → q < desk.places
+  places_below q h = lies_below q (sym (is.taken q) ∙ h)
 
 -- ---- a seat is written
 
@@ -293,26 +277,6 @@ get_front (o ∷ outcomes) more (suc i) low = get_front outcomes more i (omega a
 in_front : (outcomes more : List Outcome) (seat : ℕ) → seat ≤ length outcomes → outcome_in (outcomes ++ more) seat ≡ outcome_in outcomes seat
 in_front outcomes more zero low = refl
 in_front outcomes more (suc index) low = get_front outcomes more index (omega arith)
-
--- more outcomes behind those that are there
-module _ (outcomes more : List Outcome) where
-  pub lying_front : (seats : List ℕ) → Found outcomes seats → map (outcome_in (outcomes ++ more)) seats ≡ map (outcome_in outcomes) seats
-  lying_front [] found = refl
-  lying_front (seat ∷ seats) found = ap₂ (λ o os. o ∷ os) (in_front outcomes more seat found.0) (lying_front seats found.1)
-
-  found_more : (seats : List ℕ) → Found outcomes seats → Found (outcomes ++ more) seats
-  found_more [] found = tt
-  found_more (seat ∷ seats) found = let first = found.0 in let len = length-append outcomes more in (omega arith, found_more seats found.1)
-
-  pub found_set : (seats : List ℕ) (p seat : ℕ) → Found outcomes seats → seat ≤ length (outcomes ++ more) → Found (outcomes ++ more) (slice_set seats p seat)
-  found_set [] p seat found low = tt
-  found_set (x ∷ seats) zero seat found low = (low, found_more seats found.1)
-  found_set (x ∷ seats) (suc p) seat found low = let first = found.0 in let len = length-append outcomes more in (omega arith, found_set seats p seat found.1 low)
-
-pub lying_set : (outcomes : List Outcome) (seats : List ℕ) (p seat : ℕ) → map (outcome_in outcomes) (slice_set seats p seat) ≡ slice_set (map (outcome_in outcomes) seats) p (outcome_in outcomes seat)
-lying_set outcomes [] p seat = refl
-lying_set outcomes (x ∷ seats) zero seat = refl
-lying_set outcomes (x ∷ seats) (suc p) seat = ap (λ os. outcome_in outcomes x ∷ os) (lying_set outcomes seats p seat)
 
 -- a seat with an outcome is one of those that are there
 pub seat_low : (outcomes : List Outcome) (seat : ℕ) (o : Outcome) → outcome_in outcomes seat ≡ Some o → seat ≤ length outcomes
@@ -333,32 +297,18 @@ kept_one (outcome.Failed failed) = omega arith
 kept_one outcome.Ignored = omega arith
 kept_one (outcome.Measured measured) = omega arith
 
--- no seat is taken
-module _ (outcomes : List Outcome) where
-  pub none_lie : (seats : List ℕ) (p : ℕ) → ((q : ℕ) → slice_index_or seats q 0 ≡ 0) → is_some (slice_index_or (map (outcome_in outcomes) seats) p None) ≡ false
-  none_lie seats p free = ap is_some (lies_in outcomes seats p ∙ ap (outcome_in outcomes) (free p))
-
-  pub none_found : (seats : List ℕ) → ((q : ℕ) → slice_index_or seats q 0 ≡ 0) → Found outcomes seats
-  none_found [] free = tt
-  none_found (seat ∷ seats) free = let none = free 0 in (omega arith, none_found seats (λ q. free (suc q)))
-
--- each place in the order is one of the desk's
-pub places_below : (desk : Inside) → IsSeated desk → (q : ℕ) → list_any (eqb q) desk.order.items ≡ true → q < length desk.seats.items
-places_below desk seated q h =
-    let low = order_below (lying_at desk) desk.order.items seated.taken q h in
-    let len = length_lying desk.outcomes.items desk.seats.items in
-    omega arith
-
 -- the places of what a desk shows, and then those that are missing, are all places, each once
 pub shown_whole : (desk : Inside) (shown : Arrived) → IsSeated desk → arrived_of desk ≡ shown → IsPermutation (places_of shown.rows ++ missing_of shown) (range_with_len 0 shown.places)
 shown_whole desk shown seated is =
-    let seats = lying_at desk in
+    let lying = lying_at desk in
     let order = desk.order.items in
-    let same : order ≡ places_of (seated_at order seats) = order_shown seats order seated.taken in
+    let same : order ≡ places_of (seated_at order lying) = order_shown lying order seated.taken in
     let P : List ℕ → Type 0 = λ l. IsDistinct eqb l in
-    let Q : List ℕ → Type 0 = λ l. (p : ℕ) → list_any (eqb p) l ≡ true → p < length desk.seats.items in
+    let Q : List ℕ → Type 0 = λ l. (p : ℕ) → list_any (eqb p) l ≡ true → p < desk.places in
     let R : Arrived → Type 0 = λ d. IsPermutation (places_of d.rows ++ missing_of d) (range_with_len 0 d.places) in
-    let whole : R (arrived_of desk) = order_whole (length desk.seats.items) (seated_at order seats) _ (subst P same seated.distinct) (subst Q same (places_below desk seated)) refl in
+    let whole : R (arrived_of desk) =
+    order_whole desk.places (seated_at order lying) _ (subst P same seated.distinct)
+    (subst Q same (places_below desk seated)) refl in
     subst R is whole
 
 -- ---- an arrival at a desk
@@ -370,55 +320,81 @@ not_same false true e = absurd (cc)
 not_same false false e = refl
 
 module _ (desk : Inside) (is : IsSeated desk) where
-  -- what a look at the seat of a place says of the order
-  seat_known : (p now : ℕ) (b : Bool) → p < length desk.seats.items → now ≡ slice_index_or desk.seats.items p now → (now == 0) ≡ not b → list_any (eqb p) desk.order.items ≡ b
-  seat_known p now b low at said =
-      let here : now ≡ slice_index_or desk.seats.items p 0 = at ∙ sym (get_or_default desk.seats.items p 0 now low) in
-      is.taken p ∙ not_same (is_some (slice_index_or (lying_at desk) p None)) b (sym (free_at desk.outcomes.items desk.seats.items p is.found) ∙ (ap (λ seat. seat == 0) (sym here) ∙ said))
+  module _ (p seat : ℕ) (at : seat ≡ slice_index_or desk.seats.items p 0) where
+    -- what a look at the seat of a place says of the order
+    seat_known : (b : Bool) → (seat == 0) ≡ not b → list_any (eqb p) desk.order.items ≡ b
+    seat_known b said =
+        is.taken p ∙ not_same (is_some (lying_at desk p)) b
+        (sym (free_at desk is p) ∙ (ap (λ seat. seat == 0) (sym at) ∙ said))
 
-  module _ (p now : ℕ) (low : p < length desk.seats.items) (at : now ≡ slice_index_or desk.seats.items p now) where
-    pub seat_taken : (now ≡ 0 → ⊥) → list_any (eqb p) desk.order.items ≡ true
-    seat_taken some = elim (eqb_tells now 0) [ inl e ↦ absurd (some e.1) | inr e ↦ seat_known p now true low at e.0 ]
+    pub seat_taken : (seat ≡ 0 → ⊥) → list_any (eqb p) desk.order.items ≡ true
+    seat_taken some = elim (eqb_tells seat 0)
+        [ inl e ↦ absurd (some e.1) | inr e ↦ seat_known true e.0 ]
 
-    pub seat_free : now ≡ 0 → list_any (eqb p) desk.order.items ≡ false
-    seat_free none = elim (eqb_tells now 0) [ inl e ↦ seat_known p now false low at e.0 | inr e ↦ absurd (e.1 none) ]
+    pub seat_free : seat ≡ 0 → list_any (eqb p) desk.order.items ≡ false
+    seat_free none = elim (eqb_tells seat 0)
+        [ inl e ↦ seat_known false e.0 | inr e ↦ absurd (e.1 none) ]
 
   pub come_at : (p : ℕ) (b : Bool) → list_any (eqb p) desk.order.items ≡ b → has_come p (arrived_of desk).rows ≡ b
   come_at p b known = has_shown (lying_at desk) desk.order.items is.taken p ∙ known
 
-  module _ (p : ℕ) (low : p < length desk.seats.items) (free : list_any (eqb p) desk.order.items ≡ false) where
-    pub desk_fits : length desk.order.items < length desk.seats.items
-    desk_fits = room_left desk.order.items p (length desk.seats.items) (places_below desk is) low is.distinct free
+  module _ (p : ℕ) (low : p < desk.places) (free : list_any (eqb p) desk.order.items ≡ false) where
+    pub desk_fits : length desk.order.items < desk.places
+    desk_fits = room_left desk.order.items p desk.places (places_below desk is) low is.distinct free
 
-    module _ (o : Outcome) (new : Inside) (seat : ℕ) (seats : new.seats.items ≡ slice_set desk.seats.items p seat) (outcomes : new.outcomes.items ≡ desk.outcomes.items ++ kept_of o)
-        (lies : outcome_in new.outcomes.items seat ≡ Some o) (order : new.order.items ≡ desk.order.items ++ p ∷ []) where
-      lying_more : lying_at new ≡ slice_set (lying_at desk) p (Some o)
-      lying_more =
-          ap (map (outcome_in new.outcomes.items)) seats
-          ∙ (lying_set new.outcomes.items desk.seats.items p seat
-          ∙ ap₂ (λ l o. slice_set l p o) (ap (λ os. map (outcome_in os) desk.seats.items) outcomes ∙ lying_front desk.outcomes.items (kept_of o) desk.seats.items is.found) lies)
+    -- the seat of an outcome is written at the place
+    module _ (o : Outcome) (new : Inside) (seat : ℕ)
+        (outcomes : new.outcomes.items ≡ desk.outcomes.items ++ kept_of o)
+        (lies : outcome_in new.outcomes.items seat ≡ Some o)
+        (here : slice_index_or new.seats.items p 0 ≡ seat)
+        (others : (q : ℕ) → q ≢ p
+        → slice_index_or new.seats.items q 0 ≡ slice_index_or desk.seats.items q 0)
+        (order : new.order.items ≡ desk.order.items ++ p ∷ []) where
+      lying_here : lying_at new p ≡ Some o
+      lying_here = ap (outcome_in new.outcomes.items) here ∙ lies
 
-      lying_low : p < length (lying_at desk)
-      lying_low = omega (arith, low, length_lying desk.outcomes.items desk.seats.items)
+      lying_others : (q : ℕ) → q ≢ p → lying_at new q ≡ lying_at desk q
+      lying_others q other =
+          ap₂ outcome_in outcomes (others q other)
+          ∙ in_front desk.outcomes.items (kept_of o) (slice_index_or desk.seats.items q 0)
+          (is.found q)
+
+      found_more : (q : ℕ) → slice_index_or new.seats.items q 0 ≤ length new.outcomes.items
+      found_more q = elim (eqb_tells q p) [
+        | inl e ↦
+            let there : slice_index_or new.seats.items q 0 ≡ seat =
+            ap (λ r. slice_index_or new.seats.items r 0) e.1 ∙ here in
+            omega (arith, there, seat_low new.outcomes.items seat o lies)
+        | inr e ↦
+            let len = ap length outcomes ∙ length-append desk.outcomes.items (kept_of o) in
+            omega (arith, others q e.1, is.found q, len)
+      ]
 
       -- the desk shows one row more
       pub rows_more : (arrived_of new).rows ≡ (arrived_of desk).rows ++ (p, o) ∷ []
-      rows_more = ap₂ seated_at order lying_more ∙ shown_more (lying_at desk) desk.order.items p o lying_low free
+      rows_more =
+          ap (λ places. seated_at places (lying_at new)) order
+          ∙ shown_more (lying_at desk) (lying_at new) p lying_others desk.order.items o lying_here
+          free
 
-      pub desk_more : vec_capacity new.order ≡ vec_capacity desk.order → vec_capacity new.outcomes ≡ vec_capacity desk.outcomes → IsSeated new
-      desk_more room outcomes_room =
+      pub desk_more : new.places ≡ desk.places → length new.seats.items ≤ desk.places
+          → vec_capacity new.seats ≡ vec_capacity desk.seats
+          → vec_capacity new.outcomes ≡ vec_capacity desk.outcomes
+          → vec_capacity new.order ≡ vec_capacity desk.order → IsSeated new
+      desk_more places within seats_room outcomes_room order_room =
           let len = length-append desk.outcomes.items (kept_of o) in
-          let count = length-set desk.seats.items p seat in
           let longer = length-append desk.order.items (p ∷ []) in
-          let seat_is = seat_low new.outcomes.items seat o lies in
           record {
-            taken = rw (order, lying_more) (taken_more (lying_at desk) desk.order.items p o lying_low is.taken);
+            taken = rw order (taken_more (lying_at desk) (lying_at new) p lying_others
+                desk.order.items o lying_here is.taken);
             distinct = rw order (distinct_more desk.order.items p is.distinct free);
             begins = rw outcomes (begins_more desk.outcomes.items (kept_of o) is.begins);
-            found = rw (seats, outcomes) (found_set desk.outcomes.items (kept_of o) desk.seats.items p seat is.found (rw outcomes at seat_is));
+            found = found_more;
+            within = omega (arith, within, places);
             few = let few = is.few in let one = kept_one o in rw (order, outcomes) (omega (arith, len, longer, few, one));
-            room = let fits = is.room in rw seats (omega (arith, count, fits, room));
-            outcomes_room = let fits = is.outcomes_room in rw seats (omega (arith, count, fits, outcomes_room));
+            seats_room = omega (arith, is.seats_room, places, seats_room);
+            outcomes_room = omega (arith, is.outcomes_room, places, outcomes_room);
+            order_room = omega (arith, is.order_room, places, order_room);
           }
 
 -- ---- what lies at a place of a desk
@@ -429,12 +405,13 @@ in_order (x ∷ xs) zero p low at = ap (λ t. t || list_any (eqb p) xs) (eq-eqb 
 in_order (x ∷ xs) (suc number) p low at = ap (λ t. eqb p x || t) (in_order xs number p (omega arith) at) ∙ true_after (eqb p x)
 
 -- a seat that is taken is the number of an outcome
-seat_numbers : (outcomes : List Outcome) (seat : ℕ) → seat ≤ length outcomes → is_some (outcome_in outcomes seat) ≡ true → 1 ≤ seat
-seat_numbers outcomes zero low some = absurd (cc)
-seat_numbers outcomes (suc index) low some = omega arith
+seat_numbers : (outcomes : List Outcome) (seat : ℕ) → is_some (outcome_in outcomes seat) ≡ true
+    → 1 ≤ seat
+seat_numbers outcomes zero some = absurd (cc)
+seat_numbers outcomes (suc index) some = omega arith
 
 module _ (desk : Inside) (is : IsSeated desk) where
-  pub lies_arrived : (p : ℕ) → slice_index_or (lying_at desk) p None ≡ arrived_at p (arrived_of desk).rows
+  pub lies_arrived : (p : ℕ) → lying_at desk p ≡ arrived_at p (arrived_of desk).rows
   lies_arrived p = sym (row_shown (lying_at desk) desk.order.items is.taken p)
 
   pub row_low : (shown : Arrived) (number : ℕ) → arrived_of desk ≡ shown → number < length shown.rows → number < length desk.order.items
@@ -442,35 +419,61 @@ module _ (desk : Inside) (is : IsSeated desk) where
       let count = ap length (order_shown (lying_at desk) desk.order.items is.taken) in
       omega (arith, low, count, length-map (arrived_of desk).rows (λ r. r.0), ap (λ d. length d.rows) view)
 
-  -- what lies in the seat of a place arrived there
-  pub seat_arrived : (p seat : ℕ) → p < length desk.seats.items → seat ≡ slice_index_or desk.seats.items p seat → outcome_in desk.outcomes.items seat ≡ arrived_at p (arrived_of desk).rows
-  seat_arrived p seat low at =
-      let here : seat ≡ slice_index_or desk.seats.items p 0 = at ∙ sym (get_or_default desk.seats.items p 0 seat low) in
-      ap (outcome_in desk.outcomes.items) here ∙ (sym (lies_in desk.outcomes.items desk.seats.items p) ∙ lies_arrived p)
-
-  -- nothing arrived at a place that the desk doesn't have
-  pub none_arrived : (p : ℕ) → length desk.seats.items ≤ p → arrived_at p (arrived_of desk).rows ≡ None
-  none_arrived p high = sym (lies_arrived p) ∙ past_none (lying_at desk) p (let len = length_lying desk.outcomes.items desk.seats.items in omega arith)
-
   -- the place of a number in the order, its seat, and what lies there
-  module _ (number p seat : ℕ) (low : number < length desk.order.items) (at : p ≡ slice_index_or desk.order.items number p) where
-    pub place_low : p < length desk.seats.items
-    place_low = places_below desk is p (in_order desk.order.items number p low at)
+  module _ (number p seat : ℕ) (low : number < length desk.order.items)
+      (at : p ≡ slice_index_or desk.order.items number p)
+      (seated : seat ≡ slice_index_or desk.seats.items p 0) where
+    pub seat_some : (1 ≤ seat) × (seat ≤ length desk.outcomes.items)
+    seat_some =
+        let some : is_some (outcome_in desk.outcomes.items seat) ≡ true =
+        ap (λ s. is_some (outcome_in desk.outcomes.items s)) seated
+        ∙ (sym (is.taken p) ∙ in_order desk.order.items number p low at) in
+        (seat_numbers desk.outcomes.items seat some, omega (arith, is.found p, seated))
 
-    module _ (seated : seat ≡ slice_index_or desk.seats.items p seat) where
-      seat_is : seat ≡ slice_index_or desk.seats.items p 0
-      seat_is = seated ∙ sym (get_or_default desk.seats.items p 0 seat place_low)
+    pub row_lies : (o : Outcome) → o ≡ slice_index_or desk.outcomes.items (seat - 1) o
+        → slice_get (arrived_of desk).rows number ≡ Some (p, o)
+    row_lies o lies =
+        let taken = seat_some in
+        let here : lying_at desk p ≡ Some o =
+        ap (outcome_in desk.outcomes.items) (sym seated)
+        ∙ (outcome_at desk.outcomes.items seat (seat - 1) taken.0 refl
+        ∙ (slice_get-get_or desk.outcomes.items (seat - 1) o
+        (let some = taken.0 in let low = taken.1 in omega arith) ∙ ap Some (sym lies))) in
+        row_numbered (lying_at desk) p o here desk.order.items number is.taken
+        (slice_get-get_or desk.order.items number p low ∙ ap Some (sym at))
 
-      pub seat_some : (1 ≤ seat) × (seat ≤ length desk.outcomes.items)
-      seat_some =
-          let found : seat ≤ length desk.outcomes.items = let at_zero = found_at desk.outcomes.items desk.seats.items p is.found in omega (arith, at_zero, seat_is) in
-          let some : is_some (outcome_in desk.outcomes.items seat) ≡ true = ap (λ s. is_some (outcome_in desk.outcomes.items s)) seat_is ∙ (ap is_some (sym (lies_in desk.outcomes.items desk.seats.items p)) ∙ (sym (is.taken p) ∙ in_order desk.order.items number p low at)) in
-          (seat_numbers desk.outcomes.items seat found some, found)
+-- ---- seats that are written
 
-      pub row_lies : (o : Outcome) → o ≡ slice_index_or desk.outcomes.items (seat - 1) o → slice_get (arrived_of desk).rows number ≡ Some (p, o)
-      row_lies o lies =
-          let taken = seat_some in
-          row_numbered (lying_at desk) desk.order.items number p o is.taken
-          (slice_get-get_or desk.order.items number p low ∙ ap Some (sym at))
-          (lies_in desk.outcomes.items desk.seats.items p ∙ (ap (outcome_in desk.outcomes.items) (sym seat_is) ∙ (outcome_at desk.outcomes.items seat (seat - 1) taken.0 refl
-          ∙ (slice_get-get_or desk.outcomes.items (seat - 1) o (let some = taken.0 in let low = taken.1 in omega arith) ∙ ap Some (sym lies)))))
+-- free seats behind the others change nothing
+pub free_pushed : (seats : List ℕ) (p : ℕ)
+    → slice_index_or (seats ++ 0 ∷ []) p 0 ≡ slice_index_or seats p 0
+free_pushed [] zero = refl
+free_pushed [] (suc p) = refl
+free_pushed (seat ∷ seats) zero = refl
+free_pushed (seat ∷ seats) (suc p) = free_pushed seats p
+
+-- the places from this one on begin with it if its seat is free
+module _ (seats : List ℕ) (place places : ℕ) (low : place < places) where
+  free_left : (free : Bool) → (slice_index_or seats place 0 == 0) ≡ free
+      → free_from place (places - place) seats ≡ cond free
+      (place ∷ free_from (place + 1) (places - (place + 1)) seats)
+      (free_from (place + 1) (places - (place + 1)) seats)
+  free_left free is =
+      let count : places - place ≡ suc (places - (place + 1)) = omega arith in
+      ap (λ n. free_from place n seats) count
+      ∙ ap (λ t. cond t (place ∷ free_from (place + 1) (places - (place + 1)) seats)
+      (free_from (place + 1) (places - (place + 1)) seats)) is
+
+  module _ (seat : ℕ) (at : seat ≡ slice_index_or seats place 0) where
+    pub free_first : seat ≡ 0
+        → free_from place (places - place) seats ≡ place ∷ free_from (place + 1)
+        (places - (place + 1)) seats
+    free_first none = free_left true (ap (λ s. s == 0) (sym at ∙ none))
+
+    pub taken_passed : (seat ≡ 0 → ⊥)
+        → free_from place (places - place) seats ≡ free_from (place + 1) (places - (place + 1))
+        seats
+    taken_passed some = elim (eqb_tells seat 0) [
+      | inl e ↦ absurd (some e.1)
+      | inr e ↦ free_left false (ap (λ s. s == 0) (sym at) ∙ e.0)
+    ]

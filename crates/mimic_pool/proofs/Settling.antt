@@ -1,12 +1,12 @@
 -- If each place agrees with the joined outcomes, the rows of a desk are the joined outcomes.
-use Rattle.std.proofs.Common.{◌≡◌, ◌<◌, ◌∙◌, ◌++◌, ℕ, List, [], ◌∷◌, Option, None, Some, ap, arith, is_some, refl, slice_index_or, subst, sym}
+use Rattle.std.proofs.Common.{◌≡◌, ◌<◌, ◌∙◌, ◌++◌, ℕ, List, [], ◌∷◌, Option, None, Some, ap, is_some, refl, subst, sym}
 use Rattle.std.specs.Prelude.{slice_get}
 use Rattle.mimic_trial.specs.declared.outcome.Outcome.{Outcome}
 use Rattle.mimic_trial.specs.Places.{Placed, placed_at, placed_if, places_of}
 use Rattle.mimic_pool.specs.Arrivals.{AgreesAt, Arrived}
 use Rattle.mimic_pool.specs.Seats.{IsSeated, arrived_of, lying_at, seated_at}
 use Rattle.mimic_pool.specs.declared.desk.Desk.TheInside.{Inside}
-use Rattle.mimic_pool.proofs.Seating.{length_lying, row_shown, some_below}
+use Rattle.mimic_pool.proofs.Seating.{lies_below, row_shown}
 
 -- the row of one seat that agrees, before rows that are the joined outcomes
 module _ (joined : List Outcome) (place : ℕ) (rest : List Placed) (are : rest ≡ placed_at (places_of rest) joined) where
@@ -15,10 +15,13 @@ module _ (joined : List Outcome) (place : ℕ) (rest : List Placed) (are : rest 
   row_settled None agrees = are
   row_settled (Some o) agrees = ap (λ seat. placed_if place seat ++ rest) (sym (agrees o refl)) ∙ ap (λ rows. placed_if place (slice_get joined place) ++ rows) are
 
-pub all_settled : (seats : List (Option Outcome)) (order : List ℕ) (joined : List Outcome) → ((p : ℕ) (o : Outcome) → slice_index_or seats p None ≡ Some o → slice_get joined p ≡ Some o)
-    → seated_at order seats ≡ placed_at (places_of (seated_at order seats)) joined
-all_settled seats [] joined all = refl
-all_settled seats (p ∷ order) joined all = row_settled joined p (seated_at order seats) (all_settled seats order joined all) (slice_index_or seats p None) (all p)
+pub all_settled : (lying : ℕ → Option Outcome) (order : List ℕ) (joined : List Outcome)
+    → ((p : ℕ) (o : Outcome) → lying p ≡ Some o → slice_get joined p ≡ Some o)
+    → seated_at order lying ≡ placed_at (places_of (seated_at order lying)) joined
+all_settled lying [] joined all = refl
+all_settled lying (p ∷ order) joined all =
+    row_settled joined p (seated_at order lying) (all_settled lying order joined all) (lying p)
+    (all p)
 
 -- the joined outcomes agree with each place, and the rows are these outcomes
 pub record IsSettled (shown : Arrived) (joined : List Outcome) : Type 0 where
@@ -28,8 +31,8 @@ pub record IsSettled (shown : Arrived) (joined : List Outcome) : Type 0 where
 module _ (desk : Inside) (seated : IsSeated desk) (joined : List Outcome) where
   all_agree : ((p : ℕ) → p < (arrived_of desk).places → AgreesAt (arrived_of desk).rows joined p) → (p : ℕ) → AgreesAt (arrived_of desk).rows joined p
   all_agree agree p o at =
-      let low = some_below (lying_at desk) p (ap is_some (sym (row_shown (lying_at desk) desk.order.items seated.taken p) ∙ at)) in
-      agree p (omega (arith, low, length_lying desk.outcomes.items desk.seats.items)) o at
+      agree p (lies_below desk seated p
+      (ap is_some (sym (row_shown (lying_at desk) desk.order.items seated.taken p) ∙ at))) o at
 
   inside_settled : ((p : ℕ) → p < (arrived_of desk).places → AgreesAt (arrived_of desk).rows joined p) → IsSettled (arrived_of desk) joined
   inside_settled agree = record {

@@ -1,13 +1,12 @@
 -- The iterator over missing places.
-use Rattle.std.specs.Prelude.{ℕ, ◌+◌, ◌==◌, List, [], ◌∷◌, if◌then◌else◌, drop}
+use Rattle.std.specs.Prelude.{ℕ, ◌-◌, ◌==◌, List, filter, slice_index_or}
+use Rattle.std.specs.List.{range_with_len}
 use Rattle.mimic_pool.specs.declared.desk.Missing.{Missing}
 
--- the places of free seats, counted from this one on
-abbrev pub free_from : ℕ → List ℕ → List ℕ
-free_from place [] = []
-free_from place (seat ∷ seats) = if seat == 0 then place ∷ free_from (place + 1) seats else free_from
-    (place + 1) seats
+-- of this many places from this one on, those whose seats are free
+abbrev pub free_from : ℕ → ℕ → List ℕ → List ℕ
+free_from place count seats = filter (λ p. slice_index_or seats p 0 == 0) (range_with_len place count)
 
 -- the places that are still to come
 abbrev pub missing_items : Missing → List ℕ
-missing_items missing = free_from missing.next (drop missing.next missing.seats.now)
+missing_items missing = free_from missing.next (missing.places - missing.next) missing.seats.now

@@ -1,6 +1,6 @@
--- What a desk keeps inside: a seat for each place, the outcomes that lie there, and the places in order of arrival. No public clause names these words.
-use Rattle.std.specs.Prelude.{ℕ, zero, suc, ◌≡◌, ◌+◌, ◌≤◌, List, Option, Some, None, is_some, length, map, slice_get, slice_index_or, vec_capacity, eqb}
-use Rattle.std.specs.List.{AllByRecursion, flat_map, list_any, IsDistinct}
+-- What a desk keeps inside: the seats of its places, the outcomes that lie there, and the places in order of arrival. No public clause names these words.
+use Rattle.std.specs.Prelude.{ℕ, zero, suc, ◌≡◌, ◌+◌, ◌≤◌, List, Option, Some, None, is_some, length, slice_get, slice_index_or, vec_capacity, eqb}
+use Rattle.std.specs.List.{flat_map, list_any, IsDistinct}
 use Rattle.mimic_trial.specs.declared.outcome.Outcome.{Outcome}
 use Rattle.mimic_trial.specs.declared.outcome.Outcome.TheVariants.{Passed, Ignored}
 use Rattle.mimic_trial.specs.Places.{Placed, placed_if}
@@ -17,24 +17,26 @@ pub record Begins (outcomes : List Outcome) : Type 0 where
   pub passed : slice_get outcomes 0 ≡ Some Passed
   pub ignored : slice_get outcomes 1 ≡ Some Ignored
 
--- what lies at each place of a desk with this inside
-abbrev pub lying_at : Inside → List (Option Outcome)
-lying_at desk = map (outcome_in desk.outcomes.items) desk.seats.items
+-- what lies at the place of a desk with this inside: nothing if the seats don't go so far
+abbrev pub lying_at : Inside → ℕ → Option Outcome
+lying_at desk place = outcome_in desk.outcomes.items (slice_index_or desk.seats.items place 0)
 
 -- the places in this order, each with what lies there; a place where nothing lies is left out
-abbrev pub seated_at : List ℕ → List (Option Outcome) → List Placed
-seated_at order seats = flat_map (λ place. placed_if place (slice_index_or seats place None)) order
+abbrev pub seated_at : List ℕ → (ℕ → Option Outcome) → List Placed
+seated_at order lying = flat_map (λ place. placed_if place (lying place)) order
 
 -- what a desk with this inside shows
 abbrev pub arrived_of : Inside → Arrived
-arrived_of desk = record { places = length desk.seats.items; rows = seated_at desk.order.items (lying_at desk) }
+arrived_of desk = record { places = desk.places; rows = seated_at desk.order.items (lying_at desk) }
 
--- a place is in the order exactly if something lies there; none is there twice, each seat's outcome is there, and there is room for all
+-- a place is in the order exactly if something lies there; none is there twice, each seat's outcome is there, no seat is of a place that the desk doesn't have, and there is room for all
 pub record IsSeated (desk : Inside) : Type 0 where
-  pub taken : (place : ℕ) → list_any (eqb place) desk.order.items ≡ is_some (slice_index_or (lying_at desk) place None)
+  pub taken : (place : ℕ) → list_any (eqb place) desk.order.items ≡ is_some (lying_at desk place)
   pub distinct : IsDistinct eqb desk.order.items
   pub begins : Begins desk.outcomes.items
-  pub found : AllByRecursion (λ seat. seat ≤ length desk.outcomes.items) desk.seats.items
+  pub found : (place : ℕ) → slice_index_or desk.seats.items place 0 ≤ length desk.outcomes.items
+  pub within : length desk.seats.items ≤ desk.places
   pub few : length desk.outcomes.items ≤ length desk.order.items + 2
-  pub room : length desk.seats.items ≤ vec_capacity desk.order
-  pub outcomes_room : length desk.seats.items + 2 ≤ vec_capacity desk.outcomes
+  pub seats_room : desk.places ≤ vec_capacity desk.seats
+  pub outcomes_room : desk.places + 2 ≤ vec_capacity desk.outcomes
+  pub order_room : desk.places ≤ vec_capacity desk.order

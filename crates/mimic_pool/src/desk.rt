@@ -1,5 +1,5 @@
 //! The desk where outcomes arrive from the workers.
-ghost use Rattle.std.specs.Prelude.{◌≡◌, ◌++◌, ◌∷◌, [], ◌↔◌, ◌<◌, All, IfErr, IfOk, IsTrue, List, MatchResult, OnOk, Some, length, map, slice_get, vec_capacity, vec_len, ℕ};
+ghost use Rattle.std.specs.Prelude.{◌≡◌, ◌≢◌, ◌++◌, ◌∷◌, [], ◌↔◌, ◌<◌, ◌≤◌, All, IfErr, IfOk, IsTrue, List, MatchResult, OnOk, Some, length, map, slice_get, slice_index_or, vec_capacity, vec_len, ℕ};
 ghost use Rattle.std.specs.Iterator.{YieldsFirst, item_count};
 ghost use Rattle.std.specs.List.{range_with_len};
 ghost use Rattle.std.specs.List.Sorted.{IsPermutation};
@@ -35,7 +35,9 @@ pub enum Arrival {
 /// Outcomes may be lost on their way, come twice, come from nowhere, and come in any order.
 #[derive(Drop)]
 pub struct Desk {
-    // For each place: 0 if nothing arrived there, else the number of its outcome among these, counted from 1.
+    places: usize,
+    // For each place: 0 if nothing arrived there, else the number of its outcome among these, counted from 1. They go no
+    // further than the last place at which something arrived, so that memory is touched only as outcomes arrive.
     seats: Vec<usize>,
     // `Passed`, `Ignored`, and behind these two each other outcome that arrived.
     outcomes: Vec<Outcome>,
@@ -61,12 +63,13 @@ impl Desk {
         let Some(all) = n.checked_add(2) else {
             return Err(AllocError);
         };
-        let seats = vec![in alloc; 0; n]?;
+        let seats = Vec::with_capacity(alloc, n)?;
         let mut outcomes = Vec::with_capacity(alloc, all)?;
         outcomes.push_reserved(Outcome::Passed);
         outcomes.push_reserved(Outcome::Ignored);
         let order = Vec::with_capacity(alloc, n)?;
         Ok(Desk {
+            places: n,
             seats,
             outcomes,
             order,
@@ -82,13 +85,14 @@ impl Desk {
             → self.old.rows ≡ first_arrivals self.old.places arrivals
             → self.new.rows ≡ first_arrivals self.old.places (arrivals ++ (place, outcome) ∷ []) }
     {
-        if place >= self.seats.len() {
+        if place >= self.places {
             return Arrival::Stranger;
         }
-        if self.seats[place] != 0 {
+        if seat_at(self.seats.as_slice(), place) != 0 {
             return Arrival::Again;
         }
-        self.seats[place] = seated(outcome, &mut self.outcomes);
+        let seat = seated(outcome, &mut self.outcomes);
+        set_seat(&mut self.seats, place, seat);
         self.order.push_reserved(place);
         Arrival::First
     }
@@ -97,10 +101,8 @@ impl Desk {
     pub fn outcome(&self, place: usize) -> Option<&Outcome>
         ensures { option_copied result ≡ arrived_at place self.now.rows }
     {
-        match self.seats.get(place) {
-            Some(seat) => lying(self.outcomes.as_slice(), *seat),
-            None => None,
-        }
+        let seat = seat_at(self.seats.as_slice(), place);
+        lying(self.outcomes.as_slice(), seat)
     }
 
     /// The places of the first arrivals, in the order in which they came.
@@ -119,7 +121,7 @@ impl Desk {
         ensures whole { IsPermutation (places_of self.now.rows ++ missing_items result)
             (range_with_len 0 self.now.places) }
     {
-        free_seats(self.seats.as_slice())
+        free_seats(self.seats.as_slice(), self.places)
     }
 
     /// Compares the first arrivals with the outcomes that workers returned, which stand by place. An `Err` names the
@@ -134,7 +136,7 @@ impl Desk {
             (self.now.rows ≡ placed_at (places_of self.now.rows) joined.now) }
         ensures below { IfErr result (λ place. place < self.now.places) }
     {
-        for place in 0..self.seats.len() {
+        for place in 0..self.places {
             if !agrees(self.outcome(place), &joined[place]) {
                 return Err(place);
             }
@@ -148,7 +150,7 @@ impl Desk {
         ensures all { IsTrue result ↔ HasAll self.now (map rows_in joined.now) }
         ensures outcomes { IsTrue result → StandsFor self.now (map rows_in joined.now) }
     {
-        if self.order.len() < self.seats.len() {
+        if self.order.len() < self.places {
             return false;
         }
         for rows in joined {
@@ -166,7 +168,7 @@ impl Desk {
         ensures rows { self.new.rows ≡ self.old.rows ++ placed_at (missing_of self.old) outcomes.items }
         ensures whole { IsPermutation (places_of self.new.rows) (range_with_len 0 self.new.places) }
     {
-        if self.order.len() == self.seats.len() {
+        if self.order.len() == self.places {
             return;
         }
         let mut place = 0;
@@ -184,7 +186,8 @@ impl Desk {
         ensures { slice_get self.now.rows number ≡ Some (result.0, result.1.now) }
     {
         let place = self.order[number];
-        (place, &self.outcomes[self.seats[place] - 1])
+        let seat = seat_at(self.seats.as_slice(), place);
+        (place, &self.outcomes[seat - 1])
     }
 }
 
@@ -192,6 +195,7 @@ impl Desk {
 #[derive(Drop)]
 pub struct Missing<'a> {
     seats: &'a [usize],
+    places: usize,
     next: usize,
 }
 
@@ -203,10 +207,10 @@ impl<'a> Iterator for Missing<'a> {
     ghost remaining = { item_count missing_items };
 
     fn next(&mut self) -> Option<usize> {
-        while self.next < self.seats.len() {
+        while self.next < self.places {
             let place = self.next;
             self.next += 1;
-            if self.seats[place] == 0 {
+            if seat_at(self.seats, place) == 0 {
                 return Some(place);
             }
         }
@@ -214,11 +218,37 @@ impl<'a> Iterator for Missing<'a> {
     }
 }
 
-// The places of free seats, rising.
-fn free_seats(seats: &[usize]) -> Missing<'_>
-    ensures { missing_items result ≡ free_from 0 seats.now }
+// Of this many places those whose seats are free, rising.
+fn free_seats(seats: &[usize], places: usize) -> Missing<'_>
+    ensures { missing_items result ≡ free_from 0 places seats.now }
 {
-    Missing { seats, next: 0 }
+    Missing {
+        seats,
+        places,
+        next: 0,
+    }
+}
+
+// The seat of the place, and 0 if the seats don't go so far.
+fn seat_at(seats: &[usize], place: usize) -> usize
+    ensures { result ≡ slice_index_or seats.now place 0 }
+{
+    seats.get(place).copied().unwrap_or(0)
+}
+
+// Writes the seat of the place down, and 0 for the places before it that have none yet.
+fn set_seat(seats: &mut Vec<usize>, place: usize, seat: usize)
+    requires { place < vec_capacity seats.old }
+    ensures here { slice_index_or seats.new.items place 0 ≡ seat }
+    ensures others { (other : ℕ) → other ≢ place
+        → slice_index_or seats.new.items other 0 ≡ slice_index_or seats.old.items other 0 }
+    ensures len { (n : ℕ) → place < n → length seats.old.items ≤ n → length seats.new.items ≤ n }
+    ensures room { vec_capacity seats.new ≡ vec_capacity seats.old }
+{
+    while seats.len() <= place {
+        seats.push_reserved(0);
+    }
+    seats[place] = seat;
 }
 
 // The seat of the outcome, which is put behind the others if it isn't one of the first two.

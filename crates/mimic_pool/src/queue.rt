@@ -139,26 +139,43 @@ pub(crate) fn prepare_takers<T: Task, R: Wait>(
 {
     let mut queue = queue;
     queue.flush(rt)?;
+    let inbox = Inbox::new(alloc, count, queue.workers)?;
+    let starts = takers_of(alloc, queue, count, &inbox)?;
+    Ok((inbox, starts))
+}
+
+// Makes the workers of the queue ready to run its trials, all of which are in full batches, and to report to the inbox.
+fn takers_of<T: Task>(
+    alloc: Global,
+    queue: Queue<T>,
+    count: usize,
+    inbox: &Inbox,
+) -> Result<QueueStarts<T>, AllocError>
+    requires held { (trials : List (Assigned T)) × IsFilling T.can_run queue trials }
+    requires flushed { items_of queue.next ≡ [] }
+    requires inbox { (board_of inbox.now).workers ≡ queue.workers }
+    ensures len { IfOk result (λ made. vec_len made.starts ≡ queue.workers) }
+    ensures ready { IfOk result (λ made. (trials : List (Assigned T)) → length trials ≤ count
+        → IsFilling T.can_run queue trials → AreReadyTakers made trials) }
+{
     let Queue {
         queue,
         mut pass,
         workers,
         ..
     } = queue;
-    let inbox = Inbox::new(alloc, count, workers)?;
-    let starts = starts_at(alloc, &queue, &mut pass, workers, count, &inbox)?;
+    let starts = starts_at(alloc, &queue, &mut pass, workers, count, inbox)?;
     let handles = Vec::with_capacity(alloc, starts.len())?;
     let joined = Vec::with_capacity(alloc, starts.len() + 1)?;
     let spare = Rows::with_capacity(alloc, count)?;
-    let starts = QueueStarts {
+    Ok(QueueStarts {
         queue,
         pass,
         starts,
         handles,
         joined,
         spare,
-    };
-    Ok((inbox, starts))
+    })
 }
 
 // What each of the workers of the inbox starts with: a pass, and room for an equal part of `count` rows and for a batch more.
@@ -189,14 +206,14 @@ fn starts_at<T: Task>(
         let room = Rows::with_capacity(alloc, room)?;
         let board = inbox.board()?;
         let shared = Arc::try_clone(queue)?;
-        starts.push(TakerStart {
+        starts.push_reserved(TakerStart {
             queue: shared,
             pass: queue.another(pass),
             room,
             board,
             number,
             budget,
-        })?;
+        });
     }
     Ok(starts)
 }

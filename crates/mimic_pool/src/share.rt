@@ -87,9 +87,8 @@ pub fn empty_shares<T: Drop>(
     let room = runners.div_ceil(workers);
     let mut shares = Vec::with_capacity(alloc, workers)?;
     for _worker in 0..workers {
-        shares.push(Share {
-            items: Vec::with_capacity(alloc, room)?,
-        })?;
+        let items = Vec::with_capacity(alloc, room)?;
+        shares.push_reserved(Share { items });
     }
     Ok(shares)
 }

@@ -111,7 +111,7 @@ fn starts_on<T: Task>(
     for share in shares {
         let room = Rows::with_capacity(alloc, share.len())?;
         let board = inbox.board()?;
-        starts.push(Start { share, room, board })?;
+        starts.push_reserved(Start { share, room, board });
     }
     Ok(starts)
 }

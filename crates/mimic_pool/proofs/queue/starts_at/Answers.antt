@@ -1,11 +1,10 @@
-use Rattle.std.proofs.Common.{◌≡◌, ◌∙◌, ap, rules, subst, sym}
-use Rattle.std.specs.Prelude.{All}
+use Rattle.std.proofs.Common.{◌≡◌, ◌∙◌, ap, rules}
 use Rattle.std.specs.Arc.{arc_value}
-use Rattle.std.proofs.lemmas.List.Elements.{All-push}
 use Rattle.crossbeam_queue.specs.SegTies.{IsSegPassOf}
 use Rattle.mimic_pool.specs.Queue.{IsFresh}
 use Rattle.mimic_pool.specs.declared.shared_queue.Account.{Account}
 use Rattle.mimic_pool.specs.declared.taker.TakerStart.{TakerStart}
+use Rattle.mimic_pool.proofs.Elements.{with_one}
 use Rattle.mimic_pool.proofs.queue.starts_at.Goals as goal
 
 pub loop-number-preserved : goal.loop-number-preserved
@@ -20,8 +19,10 @@ loop-number-preserved g c =
     record {
       ours = search rules;
       len = search rules;
+      fits = search rules;
       parts = search rules;
       put = ap (λ (v : Account _). v.put) left ∙ was.put;
       taken = ap (λ (v : Account _). v.taken) left ∙ was.taken;
-      starts = subst (All (IsFresh queue)) (sym c.in_ok-push.ensures.items) (All-push (IsFresh queue) c.loop-number.starts.items start was.starts fresh);
+      starts = with_one (IsFresh queue) start c.loop-number.starts.items _
+          c.push_reserved.ensures.items was.starts fresh;
     }

@@ -1,4 +1,4 @@
-use Rattle.std.proofs.Common.{◌≡◌, ◌+◌, All, vec_len}
+use Rattle.std.proofs.Common.{◌≡◌, ◌+◌, ◌≤◌, All, vec_capacity, vec_len}
 use Rattle.std.specs.Arc.{arc_value}
 use Rattle.crossbeam_queue.specs.SegTies.{IsSegPassOf}
 use Rattle.mimic_pool.specs.Balance.{all_parts}
@@ -10,6 +10,7 @@ abbrev pub invariant-loop-number : goal.invariant-loop-number
 invariant-loop-number g l = record {
   ours : IsSegPassOf (arc_value l.queue).queue l.pass;
   len : vec_len l.starts ≡ l.number;
+  fits : l.workers ≤ vec_capacity l.starts;
   parts : (account_of l.pass).parts + l.number ≡ all_parts;
   put : (account_of l.pass).put ≡ (account_of l.fn.pass).put;
   taken : (account_of l.pass).taken ≡ (account_of l.fn.pass).taken;

@@ -10,7 +10,8 @@ use Rattle.mimic_pool.proofs.desk.Desk.missing.Goals as goal
 
 pub returns-clause-places : goal.returns-clause-places
 returns-clause-places c =
-    c.free_seats.ensures ∙ (ap (free_from 0) c.as_slice.ensures.value ∙ (missing_shown c.self.inside c.self.invariant ∙ ap missing_of c.self.view_is))
+    c.free_seats.ensures ∙ (ap (free_from 0 c.self.inside.places) c.as_slice.ensures.value
+    ∙ (missing_shown c.self.inside c.self.invariant ∙ ap missing_of c.self.view_is))
 
 pub returns-clause-order : goal.returns-clause-order
 returns-clause-order c = order_same _ _ _ (returns-clause-places c)

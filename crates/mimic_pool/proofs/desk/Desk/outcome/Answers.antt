@@ -1,13 +1,12 @@
-use Rattle.std.proofs.Common.{◌∙◌, ap, sym}
-use Rattle.mimic_pool.specs.Seats.{outcome_in}
-use Rattle.mimic_pool.proofs.Seating.{none_arrived, seat_arrived}
+use Rattle.std.proofs.Common.{◌≡◌, ◌∙◌, ap, ap₂, slice_index_or}
+use Rattle.mimic_pool.specs.Seats.{lying_at, outcome_in}
+use Rattle.mimic_pool.proofs.Seating.{lies_arrived}
 use Rattle.mimic_pool.proofs.desk.Desk.outcome.Goals as goal
 
-pub returns-in-Some : goal.returns-in-Some
-returns-in-Some c =
-    let at = c.in-Some.ensures.lookup in
-    rw (← c.self.view_is) (c.lying.ensures ∙ (ap (λ os. outcome_in os c.in-Some.seat.now) c.as_slice.ensures.value
-    ∙ seat_arrived c.self.inside c.self.invariant c.args.place c.in-Some.seat.now (rw (← c.deref.ensures.value) at.3.0) (rw (← c.deref.ensures.value) at.1)))
-
-pub returns-in-None : goal.returns-in-None
-returns-in-None c = rw (← c.self.view_is) (sym (none_arrived c.self.inside c.self.invariant c.args.place (rw (← c.deref.ensures.value) c.in-None.ensures.lookup.3)))
+pub returns : goal.returns
+returns c =
+    let seats = ap (λ seats. slice_index_or seats c.args.place 0) c.as_slice.ensures.value in
+    let lies : outcome_in c.as_slice-2.result.now c.seat_at-seat.result ≡ lying_at c.self.inside
+    c.args.place = ap₂ outcome_in c.as_slice-2.ensures.value (c.seat_at-seat.ensures ∙ seats) in
+    rw (← c.self.view_is)
+    (c.lying.ensures ∙ (lies ∙ lies_arrived c.self.inside c.self.invariant c.args.place))
