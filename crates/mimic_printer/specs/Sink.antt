@@ -1,6 +1,8 @@
 -- What a call that writes to a sink does: it appends its text, or a beginning of it and counts one more fault.
-use Rattle.std.specs.Prelude.{◌≡◌, ◌<◌, ℕ, ◌+◌, ◌-◌, ◌^◌, List, ◌++◌, Option, Result, MatchResult}
+use Rattle.std.specs.Prelude.{◌≡◌, ◌<◌, ℕ, ◌+◌, ◌-◌, ◌^◌, List, ◌++◌, Option, Result, Ok, Err, MatchResult}
 use Rattle.std.specs.Io.KnownBytes.{Appends}
+use Rattle.mimic_printer.specs.declared.sink.OutputFault.{OutputFault}
+use Rattle.mimic_printer.specs.declared.sink.OutputFault.TheVariants.{OutOfMemory, Write}
 use Rattle.mimic_printer.specs.declared.sink.Sink.{Sink}
 
 -- the writer that a sink holds
@@ -45,3 +47,13 @@ Writes old new text result = MatchResult result (λ _. Put old new text) (λ _. 
 -- the same of a sink
 abbrev pub Puts : {W E T : Type 0} → (W → Option (List ℕ)) → Sink W → Sink W → List ℕ → Result T E → Type 0
 Puts contents old new text result = Writes (shown contents old) (shown contents new) text result
+
+-- what a call leaves that could not write a text to its end: a beginning of it, and without memory nothing
+abbrev pub LeftBy : OutputFault → Shown → Shown → List ℕ → Type 0
+LeftBy OutOfMemory old new text = new ≡ old
+LeftBy (Write error) old new text = Stopped old new text
+
+-- with Ok the text was appended, with a fault of the writer a beginning of it, and without memory nothing
+abbrev pub LeavesText : {T : Type 0} → List ℕ → Shown → Shown → Result T OutputFault → Type 0
+LeavesText text old new (Ok value) = Put old new text
+LeavesText text old new (Err fault) = LeftBy fault old new text

@@ -1,6 +1,8 @@
 //! Counts the faults of a writer.
 ghost use Rattle.std.specs.Prelude.{◌≡◌, [], IsOk};
+ghost use Rattle.mimic_printer.specs.declared.sink.OutputFault.TheVariants.{OutOfMemory, Write as WriteStopped};
 
+use std::alloc::{AllocError, AllocFailed};
 use std::io;
 use std::io::Write;
 use thiserror::Error;
@@ -14,6 +16,17 @@ pub enum WriteFault {
     /// The writer took none of a piece that isn't empty.
     #[error("the writer took no byte")]
     Zero,
+}
+
+/// Why a text was not written to its end. Its text is what a user is to see.
+#[derive(Debug, Drop, Error)]
+pub enum OutputFault {
+    /// An allocation failed.
+    #[error("out of memory")]
+    OutOfMemory,
+    /// A write or a flush failed.
+    #[error("{0}")]
+    Write(WriteFault),
 }
 
 /// Holds a writer, and counts how many of its writes and flushes failed.
@@ -87,5 +100,29 @@ impl<W: Write> Sink<W> {
             return Err(WriteFault::Error(error));
         }
         Ok(())
+    }
+}
+
+impl From<AllocError> for OutputFault {
+    ghost from_gives = { λ _ fault. fault ≡ OutOfMemory };
+
+    fn from(_error: AllocError) -> OutputFault {
+        OutputFault::OutOfMemory
+    }
+}
+
+impl<T: Drop> From<AllocFailed<T>> for OutputFault {
+    ghost from_gives = { λ _ fault. fault ≡ OutOfMemory };
+
+    fn from(_refused: AllocFailed<T>) -> OutputFault {
+        OutputFault::OutOfMemory
+    }
+}
+
+impl From<WriteFault> for OutputFault {
+    ghost from_gives = { λ error fault. fault ≡ WriteStopped error };
+
+    fn from(error: WriteFault) -> OutputFault {
+        OutputFault::Write(error)
     }
 }
