@@ -3,7 +3,8 @@ use Rattle.std.specs.Prelude.{◌≡◌, ◌↔◌, ◌==◌, ◌&&◌, ◌||◌
 use Rattle.std.specs.List.{IsDistinct, flat_map, list_any}
 use Rattle.mimic_printer.specs.Json.{Entry}
 use Rattle.mimic_printer.specs.Row.{Label}
-use Rattle.mimic_printer.specs.Sink.{Put, Shown, Stopped}
+use Rattle.mimic_printer.specs.Sink.{LeftBy, Put, Shown}
+use Rattle.mimic_printer.specs.declared.sink.OutputFault.{OutputFault}
 use Rattle.mimic_events.specs.Contents.{entry_read}
 use Rattle.mimic_events.specs.Key.{same_label}
 use Rattle.mimic_input.specs.declared.ending.Ending.{Ending}
@@ -15,8 +16,6 @@ use Rattle.mimic_escapes.specs.Laws.{HasNoControl}
 use Rattle.mimic_escapes.specs.declared.place.Place.TheVariants.{Line}
 use Rattle.mimic_compare.specs.declared.class.Class.{Class}
 use Rattle.mimic_compare.specs.declared.class.Class.TheVariants.{Regressed, Missing, Unchanged}
-use Rattle.mimic_compare.specs.declared.verdict.CompareFault.{CompareFault}
-use Rattle.mimic_compare.specs.declared.verdict.CompareFault.TheVariants as fault
 use Rattle.mimic_compare.specs.declared.verdict.Verdict.{Verdict}
 
 -- the report has its end
@@ -42,10 +41,9 @@ verdict_of old new = record {
 }
 
 -- with Ok all of it was written, with a fault of the writer a beginning, and without memory nothing
-abbrev pub LeavesComparison : RowsRead → RowsRead → Shown → Shown → Result Verdict CompareFault → Type 0
+abbrev pub LeavesComparison : RowsRead → RowsRead → Shown → Shown → Result Verdict OutputFault → Type 0
 LeavesComparison before after old new (Ok verdict) = Put old new (comparison_text (found_in before after)) × (verdict ≡ verdict_of before after)
-LeavesComparison before after old new (Err fault.OutOfMemory) = new ≡ old
-LeavesComparison before after old new (Err (fault.Write error)) = Stopped old new (comparison_text (found_in before after))
+LeavesComparison before after old new (Err fault) = LeftBy fault old new (comparison_text (found_in before after))
 
 -- the status of a program: 101 if something regressed or is missing, else 1 if a report is cut, else 0
 abbrev pub status_of : Verdict → ℕ

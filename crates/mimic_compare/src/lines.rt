@@ -3,7 +3,7 @@ ghost use Rattle.std.specs.Prelude.{◌≡◌, count_by, map};
 ghost use Rattle.std.specs.List.{flat_map};
 ghost use Rattle.mimic_printer.specs.Sink.{HasFaultLeft, Puts};
 ghost use Rattle.mimic_compare.specs.Keys.{comparison_read};
-ghost use Rattle.mimic_compare.specs.Text.{benchmark_in, changes, closing, comparison_text, count_of, line_in, lines_of, number_text, numbers_text, opening, ratio_of, same_class, word};
+ghost use Rattle.mimic_compare.specs.Text.{benchmark_in, changes, comparison_text, count_of, line_in, lines_of, number_text, numbers_text, ratio_of, same_class, word};
 
 use crate::class::Class;
 use crate::comparison::Comparison;
@@ -39,18 +39,6 @@ fn word(class: Class) -> &'static str
     }
 }
 
-// Returns what stands around a kind.
-fn brackets(kind: &str) -> (&'static str, &'static str)
-    ensures opening { result.0.now ≡ opening kind.now }
-    ensures closing { result.1.now ≡ closing kind.now }
-{
-    if kind.is_empty() {
-        ("", "")
-    } else {
-        ("[", "] ")
-    }
-}
-
 // Writes the line of a kind and a name if it is of the class.
 #[tactic(auto, unfolding(crate::specs::Text::line_text))]
 fn put_line<'a, W: Write>(
@@ -64,15 +52,14 @@ fn put_line<'a, W: Write>(
     if comparison.class != class {
         return Ok(());
     }
-    let kind = comparison.row.kind.as_str();
-    let (open, close) = brackets(kind);
     let pieces = [
         Piece::Text(word(class)),
         Piece::Text(": "),
-        Piece::Text(open),
-        Piece::Escaped(kind, Place::Line),
-        Piece::Text(close),
-        Piece::Escaped(comparison.row.name.as_str(), Place::Line),
+        Piece::Label {
+            kind: comparison.row.kind.as_str(),
+            name: comparison.row.name.as_str(),
+            place: Place::Line,
+        },
         Piece::Text("\n"),
     ];
     put_pieces(sink, &pieces)
@@ -119,14 +106,13 @@ fn ratio_of(old: u64, new: u64) -> Option<u128>
 // Writes the line of a benchmark.
 macro_rules! put_averages {
     ($sink:expr, $row:expr, $old:expr, $new:expr, $($end:expr),+) => {{
-        let kind = $row.kind.as_str();
-        let (open, close) = brackets(kind);
         let pieces = [
             Piece::Text("bench: "),
-            Piece::Text(open),
-            Piece::Escaped(kind, Place::Line),
-            Piece::Text(close),
-            Piece::Escaped($row.name.as_str(), Place::Line),
+            Piece::Label {
+                kind: $row.kind.as_str(),
+                name: $row.name.as_str(),
+                place: Place::Line,
+            },
             Piece::Text(": "),
             Piece::Grouped($old),
             Piece::Text(" -> "),

@@ -2,27 +2,14 @@
 ghost use Rattle.std.specs.Prelude.{◌≡◌, ◌&&◌};
 ghost use Rattle.mimic_printer.specs.Sink.{HasFaultLeft, shown};
 ghost use Rattle.mimic_compare.specs.Written.{ComparisonLaws, LeavesComparison, is_full, is_whole};
-ghost use Rattle.mimic_compare.specs.declared.verdict.CompareFault.TheVariants.{OutOfMemory, Write as WriteStopped};
 
 use crate::class::Class;
 use crate::comparison::compare_rows;
 use crate::lines::{count_of, put_comparisons};
 use mimic_input::{Ending, RowsRead};
-use mimic_printer::{Sink, WriteFault};
-use std::alloc::{AllocError, Global};
+use mimic_printer::{OutputFault, Sink};
+use std::alloc::Global;
 use std::io::Write;
-use thiserror::Error;
-
-/// Why a comparison was not printed to its end.
-#[derive(Debug, Drop, Error)]
-pub enum CompareFault {
-    /// An allocation failed. Nothing was written.
-    #[error("out of memory")]
-    OutOfMemory,
-    /// A write or a flush failed. A beginning was written.
-    #[error("{0}")]
-    Write(WriteFault),
-}
 
 /// What a comparison found, in numbers.
 #[derive(Clone, Copy, Debug, PartialEq, Eq)]
@@ -62,14 +49,15 @@ impl Verdict {
 ///
 /// Whether a kind and a name are missing or new can be judged if both reports are whole and nothing was filtered out of them.
 ///
-/// It takes time and memory in proportion to the rows. Their texts stay where they are.
+/// It takes time and memory in proportion to the rows. Their texts stay where they are. Without memory nothing was written, and
+/// with a write fault a beginning of it all.
 #[tactic(auto, using(crate::proofs::Laws::comparison_laws))]
 pub fn write_comparison<W: Write>(
     alloc: Global,
     old: &RowsRead,
     new: &RowsRead,
     sink: &mut Sink<W>,
-) -> Result<Verdict, CompareFault>
+) -> Result<Verdict, OutputFault>
     requires { HasFaultLeft sink.old }
     ensures written { LeavesComparison old.now new.now (shown W.contents sink.old)
         (shown W.contents sink.new) result }
@@ -110,20 +98,4 @@ fn are_whole(old: &Ending, new: &Ending) -> bool
     ensures { result ≡ (is_whole old.now && is_whole new.now) }
 {
     matches!((old, new), (Ending::Whole { .. }, Ending::Whole { .. }))
-}
-
-impl From<AllocError> for CompareFault {
-    ghost from_gives = { λ _ fault. fault ≡ OutOfMemory };
-
-    fn from(_error: AllocError) -> CompareFault {
-        CompareFault::OutOfMemory
-    }
-}
-
-impl From<WriteFault> for CompareFault {
-    ghost from_gives = { λ error fault. fault ≡ WriteStopped error };
-
-    fn from(error: WriteFault) -> CompareFault {
-        CompareFault::Write(error)
-    }
 }

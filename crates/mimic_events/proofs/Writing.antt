@@ -26,14 +26,11 @@ label kind name = record { kind = kind; name = name }
 pub same_label : (k l n m : List ℕ) → k ≡ l → n ≡ m → label k n ≡ label l m
 same_label k l n m e f = ap₂ label e f
 
-pub row_stopped : {a b : Shown} (l m : Label) (o : Outcome) → l ≡ m → Stopped a b (json_announcement l) → Stopped a b (json_announcement m ++ (json_outcome m o ++ []))
-row_stopped {a} {b} l m o e h = subst (λ (x : Label). Stopped a b (json_announcement x ++ (json_outcome x o ++ []))) e (Stopped-more _ _ h)
-
-pub row_put : {E T : Type 0} (a b c : Shown) (l m : Label) (o : Outcome) (r : Result T E) → l ≡ m → Put a b (json_announcement l) → Writes b c (json_outcome l o) r
-    → Writes a c (json_announcement m ++ (json_outcome m o ++ [])) r
-row_put a b c l m o r e p q =
-    subst (λ (x : Label). Writes a c (json_announcement x ++ (json_outcome x o ++ [])) r) e
-    (Puts_then a b c _ _ r p (subst (λ (t : List ℕ). Writes b c t r) (sym (append-nil (json_outcome l o))) q))
+pub row_put : {E T : Type 0} (a b : Shown) (l m : Label) (o : Outcome) (r : Result T E) → l ≡ m
+    → Writes a b (json_announcement l ++ json_outcome l o) r → Writes a b (json_announcement m ++ (json_outcome m o ++ [])) r
+row_put a b l m o r e p =
+    subst (λ (x : Label). Writes a b (json_announcement x ++ (json_outcome x o ++ [])) r) e
+    (subst (λ (t : List ℕ). Writes a b (json_announcement l ++ t) r) (sym (append-nil (json_outcome l o))) p)
 
 -- ---- the text
 

@@ -1,5 +1,5 @@
 -- What a follower has read of a report, and the rows that it has handed out (our own).
-use Rattle.std.specs.Prelude.{◌≡◌, ◌<◌, ℕ, Bool, false, List, [], ◌∷◌, ◌++◌, length}
+use Rattle.std.specs.Prelude.{◌≡◌, ◌<◌, ℕ, Bool, false, List, [], ◌∷◌, ◌++◌, length, map}
 use Rattle.mimic_printer.specs.Json.{Entry}
 use Rattle.mimic_events.specs.declared.follower.Follower.{Follower}
 use Rattle.mimic_events.specs.declared.report.Row.{Row}
@@ -29,3 +29,12 @@ pub record FollowsRow (old : Follower) (piece : List ℕ) (new : Follower) (row 
   pub parts : piece ≡ front ++ left
   pub shorter : length left < length piece
   pub followed : FollowsOn old front new (entry_read row ∷ [])
+
+-- all bytes that it was fed, if these are the rows that it has handed out
+abbrev pub bytes_with : Follower → List Row → List ℕ
+bytes_with follower rows = bytes_of follower.reader (map entry_read rows)
+
+-- unless a piece was refused, these are the rows that it has handed out
+abbrev pub HasHandedOut : Follower → List Row → Type 0
+HasHandedOut follower rows = was_refused follower ≡ false
+    → HasFollowed follower (bytes_with follower rows) (map entry_read rows)

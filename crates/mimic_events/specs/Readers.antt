@@ -1,12 +1,11 @@
 -- Reading bytes that come in pieces: what is kept of them, and what is known of those that were read. Of public clauses only those of a tally and of a follower name these words.
-use Rattle.std.specs.Prelude.{◌≡◌, ◌≢◌, codes, ◌⊎◌, ◌<◌, ℕ, Bool, true, false, List, [], ◌++◌, length, map, Option, Some, None}
+use Rattle.std.specs.Prelude.{◌≡◌, ◌≢◌, codes, ◌⊎◌, ◌<◌, ℕ, Bool, true, false, List, [], ◌++◌, length, Option, Some, None}
 use Rattle.std.specs.List.{AllByRecursion, concat}
 use Rattle.mimic_printer.specs.Json.{Contents, Entry}
-use Rattle.mimic_events.specs.declared.report_reader.ReportReader.{ReportReader}
 use Rattle.mimic_events.specs.declared.report.Row.{Row}
 use Rattle.mimic_events.specs.declared.report.Totals.{Totals}
 use Rattle.mimic_events.specs.declared.row_reader.RowReader.{RowReader}
-use Rattle.mimic_events.specs.Contents.{Spells, entry_read, totals_of}
+use Rattle.mimic_events.specs.Contents.{Spells, totals_of}
 use Rattle.mimic_events.specs.Progress.{Fits, HasNoEnd, IsCounted, IsLine, Runs, State, Step, start, state_with, state_text, with_row}
 use Rattle.mimic_events.specs.Reading.{Decodes}
 
@@ -96,14 +95,3 @@ abbrev pub SumsUp : List ℕ → List Entry → Option Totals → Type 0
 SumsUp bytes entries None = Decodes Spells bytes None
 SumsUp bytes entries (Some totals) = Decodes Spells bytes (Some (report_with entries totals))
     × (totals ≡ totals_of (report_with entries totals))
-
--- ---- with the rows
-
-abbrev pub rows_so_far : ReportReader → List Entry
-rows_so_far r = map entry_read r.rows.items
-
-abbrev pub bytes_so_far : ReportReader → List ℕ
-bytes_so_far r = bytes_of r.reader (rows_so_far r)
-
-abbrev pub IsSoundSoFar : ReportReader → Type 0
-IsSoundSoFar r = IsSound r.reader (rows_so_far r)

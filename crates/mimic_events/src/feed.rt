@@ -5,8 +5,8 @@ ghost use Rattle.mimic_events.specs.Feed.{AreEnded, FindsSoFar};
 ghost use Rattle.mimic_events.specs.Reading.{Decodes};
 ghost use Rattle.mimic_events.specs.SoFar.{BeginsWithTitle, IsFirstWrong, ShowsRunning};
 
+use crate::follower::Follower;
 use crate::report::{Label, Report, Row};
-use crate::report_reader::ReportReader;
 use std::alloc::{AllocError, Global};
 use std::marker::Model;
 
@@ -17,21 +17,22 @@ use std::marker::Model;
 /// there.
 #[derive(Drop)]
 pub struct Feed {
-    alloc: Global,
-    reader: ReportReader,
-    failed: bool,
+    follower: Follower,
+    rows: Vec<Row>,
 }
 
 impl Model for Feed {
-    ghost use Rattle.std.specs.Prelude.{◌≡◌, false};
     ghost use Rattle.mimic_events.specs.Feed.{Fed};
-    ghost use Rattle.mimic_events.specs.Readers.{IsSoundSoFar, bytes_so_far};
+    ghost use Rattle.mimic_events.specs.Follower.{HasHandedOut, bytes_with, was_refused};
 
     ghost Value = { Fed };
 
-    ghost view = { λ f. record { bytes = bytes_so_far f.reader; failed = f.failed } };
+    ghost view = { λ f. record {
+      bytes = bytes_with f.follower f.rows.items;
+      failed = was_refused f.follower;
+    } };
 
-    ghost invariant = { λ f. f.failed ≡ false → IsSoundSoFar f.reader };
+    ghost invariant = { λ f. HasHandedOut f.follower f.rows.items };
 }
 
 impl Feed {
@@ -40,9 +41,8 @@ impl Feed {
         ensures { IfOk result (λ feed. feed ≡ record { bytes = []; failed = false }) }
     {
         Ok(Feed {
-            alloc,
-            reader: ReportReader::new(alloc),
-            failed: false,
+            follower: Follower::new(alloc),
+            rows: Vec::new(alloc),
         })
     }
 
@@ -53,14 +53,7 @@ impl Feed {
         ensures failed { OnErr result (self.new.failed ≡ true) }
         ensures refused { self.old.failed ≡ true → IsErr result }
     {
-        if self.failed {
-            return Err(AllocError);
-        }
-        // It stays so if the piece isn't read to its end.
-        self.failed = true;
-        self.reader.read_on(self.alloc, piece)?;
-        self.failed = false;
-        Ok(())
+        self.follower.keep_rows(piece, &mut self.rows)
     }
 
     /// Returns the rows that have ended so far, each by the line end of its outcome, and `None` after a refused piece.
@@ -68,10 +61,10 @@ impl Feed {
         ensures { MatchOption result (self.now.failed ≡ true) (λ rows. (self.now.failed ≡ false)
             × AreEnded self.now.bytes (map entry_read rows.now)) }
     {
-        if self.failed {
+        if self.follower.was_refused() {
             return None;
         }
-        Some(self.reader.rows())
+        Some(self.rows.as_slice())
     }
 
     /// Returns how many trials the title announces: `None` before its line has ended, if it is no title, and after a
@@ -79,10 +72,7 @@ impl Feed {
     pub fn announced(&self) -> Option<u64>
         ensures { FindsSoFar BeginsWithTitle self.now result }
     {
-        if self.failed {
-            return None;
-        }
-        self.reader.reader.announced()
+        self.follower.announced()
     }
 
     /// Returns the trial whose announcement stands without its outcome: `None` if there is none, and after a refused
@@ -91,10 +81,7 @@ impl Feed {
         ensures { FindsSoFar ShowsRunning self.now
             (option_map (λ label. label_read label.now) result) }
     {
-        if self.failed {
-            return None;
-        }
-        self.reader.reader.running()
+        self.follower.running()
     }
 
     /// Returns the number, from 1, of the first ended line that no report has there: `None` if there is none, and after a
@@ -102,10 +89,7 @@ impl Feed {
     pub fn first_wrong_line(&self) -> Option<u128>
         ensures { FindsSoFar IsFirstWrong self.now result }
     {
-        if self.failed {
-            return None;
-        }
-        self.reader.reader.first_wrong_line()
+        self.follower.first_wrong_line()
     }
 
     /// Returns the report that all bytes are together, `None` if they are none, and `Err` after a refused piece.
@@ -114,10 +98,15 @@ impl Feed {
             (λ found. Decodes Spells self.bytes (option_map contents_read found)) }
         ensures refused { self.failed ≡ true → IsErr result }
     {
-        if self.failed {
-            return Err(AllocError);
-        }
-        Ok(self.reader.into_report())
+        let Feed { follower, rows } = self;
+        let Some(totals) = follower.finish()? else {
+            return Ok(None);
+        };
+        Ok(Some(Report {
+            rows,
+            filtered_out: totals.counts.num_filtered_out,
+            nanos: totals.nanos,
+        }))
     }
 }
 

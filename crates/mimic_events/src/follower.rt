@@ -1,11 +1,11 @@
 //! Follows a report, and hands out its rows one by one.
-ghost use Rattle.std.specs.Prelude.{◌≡◌, [], true, IfOk, IsErr, List, MatchOption, None, OnErr, option_map, ℕ};
+ghost use Rattle.std.specs.Prelude.{◌≡◌, ◌++◌, [], false, true, IfOk, IsErr, List, MatchOption, None, OnErr, OnOk, option_map, ℕ};
 ghost use Rattle.mimic_printer.specs.Json.{Entry};
 ghost use Rattle.mimic_events.specs.Contents.{label_read};
-ghost use Rattle.mimic_events.specs.Follower.{FollowsOn, FollowsRow, HasFollowed, was_refused};
+ghost use Rattle.mimic_events.specs.Follower.{FollowsOn, FollowsRow, HasFollowed, HasHandedOut, bytes_with, was_refused};
+ghost use Rattle.mimic_events.specs.Readers.{SumsUp};
 ghost use Rattle.mimic_events.specs.Reading.{Decodes};
 ghost use Rattle.mimic_events.specs.SoFar.{BeginsWithTitle, IsFirstWrong, ShowsRunning};
-ghost use Rattle.mimic_events.specs.Tally.{SpellsTotals};
 
 use crate::report::{Label, Row, Totals};
 use crate::row_reader::RowReader;
@@ -54,6 +54,37 @@ impl Follower {
         Ok(found)
     }
 
+    // Returns whether a piece was refused.
+    pub(crate) fn was_refused(&self) -> bool
+        ensures { result ≡ was_refused self.now }
+    {
+        self.failed
+    }
+
+    // Takes the next piece, and appends the rows that end in it. If an allocation fails, this call and all later ones are
+    // refused.
+    pub(crate) fn keep_rows(&mut self, piece: &[u8], rows: &mut Vec<Row>) -> Result<(), AllocError>
+        requires { HasHandedOut self.old rows.old.items }
+        ensures rows { HasHandedOut self.new rows.new.items }
+        ensures taken { OnOk result ((was_refused self.new ≡ false) × (bytes_with self.new rows.new.items
+            ≡ bytes_with self.old rows.old.items ++ piece.now)) }
+        ensures failed { OnErr result (was_refused self.new ≡ true) }
+        ensures refused { was_refused self.old ≡ true → IsErr result }
+    {
+        if self.failed {
+            return Err(AllocError);
+        }
+        // It stays so if the piece isn't read to its end.
+        self.failed = true;
+        let mut left = piece;
+        while let Some((row, after)) = self.reader.next_row(self.alloc, left)? {
+            rows.push(row)?;
+            left = after;
+        }
+        self.failed = false;
+        Ok(())
+    }
+
     /// Returns how many trials the title announces: `None` before its line has ended, if it is no title, and after a
     /// refused piece.
     pub fn announced(&self) -> Option<u64>
@@ -97,7 +128,7 @@ impl Follower {
     /// piece.
     pub fn finish(self) -> Result<Option<Totals>, AllocError>
         ensures totals { IfOk result (λ found. (bytes : List ℕ) (rows : List Entry)
-            → HasFollowed self bytes rows → Decodes SpellsTotals bytes found) }
+            → HasFollowed self bytes rows → SumsUp bytes rows found) }
         ensures refused { was_refused self ≡ true → IsErr result }
     {
         if self.failed {

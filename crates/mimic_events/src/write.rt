@@ -8,8 +8,8 @@ ghost use Rattle.mimic_events.specs.Reading.{IsReadAs};
 ghost use Rattle.mimic_events.specs.Written.{FitsRow, row_lines};
 
 use crate::report::{Report, Row};
-use mimic_printer::json::{put_announcement, put_outcome, put_summary, put_title};
-use mimic_printer::{Sink, WriteFault};
+use mimic_printer::json::{put_summary, put_title};
+use mimic_printer::{Sink, WriteFault, json};
 use mimic_trial::Outcome;
 use std::io::Write;
 
@@ -53,15 +53,16 @@ fn put_rows<W: Write>(sink: &mut Sink<W>, rows: &[Row]) -> Result<(), WriteFault
     Ok(())
 }
 
-fn put_row<W: Write>(sink: &mut Sink<W>, row: &Row) -> Result<(), WriteFault>
+/// Writes the two lines of a row in JSON: its announcement and its outcome. It takes no memory.
+///
+/// With a fault a beginning of the lines was written.
+pub fn put_row<W: Write>(sink: &mut Sink<W>, row: &Row) -> Result<(), WriteFault>
     requires { HasFaultLeft sink.old }
     ensures written { Puts W.contents sink.old sink.new (row_lines row.now) result }
     ensures fits { OnOk result (FitsRow row.now) }
 {
     prove!(row_fits(row));
-    let (name, kind) = (row.name.as_str(), row.kind.as_str());
-    put_announcement(sink, name, kind)?;
-    put_outcome(sink, name, kind, &row.outcome)
+    json::put_row(sink, row.name.as_str(), row.kind.as_str(), &row.outcome)
 }
 
 // Shows that the name, the kind and the message of a row are text, and that its numbers fit.

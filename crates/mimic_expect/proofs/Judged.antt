@@ -19,15 +19,15 @@ use Rattle.mimic_events.specs.Key.{label_in, same_label}
 use Rattle.mimic_events.specs.declared.report.Row.{Row}
 use Rattle.mimic_events.proofs.Keys.{same_label-symm}
 use Rattle.mimic_events.specs.Feed.{AreEnded}
-use Rattle.mimic_input.specs.Readings.{HasCome, pending}
+use Rattle.mimic_input.specs.RowByRow.{HasCome, pending}
 use Rattle.mimic_input.specs.declared.rows.InputRows.{InputRows}
 use Rattle.mimic_expect.specs.Expect.{FailedRow, is_known, known_rows, rows_with, unknown_failures}
 use Rattle.mimic_expect.specs.FindingText.{finding_text}
 use Rattle.mimic_expect.specs.Judge.{Judged, Judges, labels_known}
 use Rattle.mimic_expect.specs.Known.{Expected, expected_read}
 use Rattle.mimic_expect.specs.Verdict.{HasEndedRows, HasLeft, InputRead, rows_of}
-use Rattle.mimic_expect.specs.declared.verdict.ExpectFault.{ExpectFault}
-use Rattle.mimic_expect.specs.declared.verdict.ExpectFault.TheVariants.{OutOfMemory, Write}
+use Rattle.mimic_printer.specs.declared.sink.OutputFault.{OutputFault}
+use Rattle.mimic_printer.specs.declared.sink.OutputFault.TheVariants.{OutOfMemory, Write}
 use Rattle.mimic_expect.specs.declared.known.Expectation.{Expectation}
 
 abbrev pub lines : List Entry → List ℕ
@@ -179,11 +179,11 @@ row_failed self known rows row m s t e has is p =
 
 -- ---- faults
 
-pub err_left : {T : Type 0} (P : T → Type 0) (a b : Shown) (result : Result T ExpectFault) (fault : ExpectFault) → IsErrAnd result (λ f. f ≡ fault) → HasLeft a b fault → MatchResult result P (HasLeft a b)
+pub err_left : {T : Type 0} (P : T → Type 0) (a b : Shown) (result : Result T OutputFault) (fault : OutputFault) → IsErrAnd result (λ f. f ≡ fault) → HasLeft a b fault → MatchResult result P (HasLeft a b)
 err_left P a b (Ok x) fault h left = absurd h
 err_left P a b (Err f) fault h left = subst (HasLeft a b) (sym h) left
 
-pub left_after : (a b c : Shown) (text : List ℕ) (fault : ExpectFault) → Put a b text → HasLeft b c fault → HasLeft a c fault
+pub left_after : (a b c : Shown) (text : List ℕ) (fault : OutputFault) → Put a b text → HasLeft b c fault → HasLeft a c fault
 left_after a b c text OutOfMemory p left = (text ++ left.0, Put-trans text left.0 p left.1)
 left_after a b c text (Write fault) p left = (text ++ left.0, Put-Stopped text left.0 p left.1)
 

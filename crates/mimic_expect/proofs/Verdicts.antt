@@ -22,8 +22,8 @@ use Rattle.mimic_expect.specs.Known.{Expected}
 use Rattle.mimic_expect.specs.Verdict.{HasLeft, InputRead, LeavesVerdict, has_all, have_all}
 use Rattle.mimic_expect.specs.declared.judgement.Judgement.{Judgement}
 use Rattle.mimic_expect.specs.declared.judgement.Unexpected.{Unexpected}
-use Rattle.mimic_expect.specs.declared.verdict.ExpectFault.{ExpectFault}
-use Rattle.mimic_expect.specs.declared.verdict.ExpectFault.TheVariants.{Write as WriteFailed}
+use Rattle.mimic_printer.specs.declared.sink.OutputFault.{OutputFault}
+use Rattle.mimic_printer.specs.declared.sink.OutputFault.TheVariants.{Write as WriteFailed}
 use Rattle.mimic_expect.specs.declared.verdict.InputEnd.{InputEnd}
 use Rattle.mimic_expect.specs.declared.verdict.Verdict.{Verdict}
 use Rattle.mimic_expect.proofs.Judged.{lines}
@@ -167,7 +167,7 @@ module _ (known : List Expected) (start new : Judged) (rows : List Entry) (are_a
 
 -- ---- what is left
 
-pub write_left : {I : Type 0} (remaining : I → Option (List ℕ)) (expected : List Expected) (inputs : List I) (lax : Bool) (old new : Shown) (result : Result Verdict ExpectFault) (error : WriteFault) (text : List ℕ)
+pub write_left : {I : Type 0} (remaining : I → Option (List ℕ)) (expected : List Expected) (inputs : List I) (lax : Bool) (old new : Shown) (result : Result Verdict OutputFault) (error : WriteFault) (text : List ℕ)
     → IsErrAnd result (λ fault. fault ≡ WriteFailed error) → Stopped old new text → LeavesVerdict remaining expected inputs lax old new result
 write_left remaining expected inputs lax old new (Ok x) error text h s = absurd h
 write_left remaining expected inputs lax old new (Err fault) error text h s = subst (HasLeft old new) (sym h) (text, s)

@@ -9,8 +9,8 @@ use Rattle.mimic_input.specs.declared.ending.Ending.TheVariants.{Whole}
 use Rattle.mimic_expect.specs.Expect.{counts, findings}
 use Rattle.mimic_expect.specs.FindingText.{rows_text}
 use Rattle.mimic_expect.specs.Known.{Expected}
-use Rattle.mimic_expect.specs.declared.verdict.ExpectFault.{ExpectFault}
-use Rattle.mimic_expect.specs.declared.verdict.ExpectFault.TheVariants.{OutOfMemory, Write}
+use Rattle.mimic_printer.specs.declared.sink.OutputFault.{OutputFault}
+use Rattle.mimic_printer.specs.declared.sink.OutputFault.TheVariants.{OutOfMemory, Write}
 use Rattle.mimic_expect.specs.declared.verdict.InputEnd.{InputEnd}
 use Rattle.mimic_expect.specs.declared.verdict.InputEnd.TheVariants.{Ended, Failed}
 use Rattle.mimic_expect.specs.declared.verdict.Verdict.{Verdict}
@@ -68,13 +68,13 @@ pub record IsVerdict {I : Type 0} (remaining : I → Option (List ℕ)) (expecte
   pub unexpected : verdict.is_unexpected ≡ list_any (counts lax) (findings expected (rows_of read) (have_all read))
 
 -- without memory some text was appended, and with a fault of the writer a beginning of one
-abbrev pub HasLeft : Shown → Shown → ExpectFault → Type 0
+abbrev pub HasLeft : Shown → Shown → OutputFault → Type 0
 HasLeft old new OutOfMemory = (text : List ℕ) × Put old new text
 HasLeft old new (Write fault) = (text : List ℕ) × Stopped old new text
 
 -- what a call leaves that judges the inputs
 abbrev pub LeavesVerdict : {I : Type 0} → (I → Option (List ℕ)) → List Expected → List I → Bool → Shown → Shown
-    → Result Verdict ExpectFault → Type 0
+    → Result Verdict OutputFault → Type 0
 LeavesVerdict remaining expected inputs lax old new (Ok verdict) =
     IsVerdict remaining expected inputs lax old new verdict
 LeavesVerdict remaining expected inputs lax old new (Err fault) = HasLeft old new fault

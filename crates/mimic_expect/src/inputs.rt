@@ -13,10 +13,10 @@ ghost use Rattle.mimic_expect.specs.Verdict.{HasLeft, InputRead, IsReadOf, Leave
 use crate::judge::Judge;
 use crate::judgement::Judgement;
 use crate::known::Expectation;
-use crate::verdict::{ExpectFault, InputEnd, Verdict, have_all};
+use crate::verdict::{InputEnd, Verdict, have_all};
 use itoa::Buffer;
-use mimic_input::{InputFault, InputRows};
-use mimic_printer::{Sink, WriteFault};
+use mimic_input::{InputRows, ReadFault};
+use mimic_printer::{OutputFault, Sink, WriteFault};
 use std::alloc::Global;
 use std::io::{ErrorKind, Read, Write};
 
@@ -39,7 +39,7 @@ pub fn write_unexpected<I: Read + Drop, W: Write>(
     inputs: Vec<I>,
     lax: bool,
     sink: &mut Sink<W>,
-) -> Result<Verdict, ExpectFault>
+) -> Result<Verdict, OutputFault>
     requires { HasFaultLeft sink.old }
     ensures verdict { LeavesVerdict I.remaining (map expected_read known.now) inputs.items lax
         (shown W.contents sink.old) (shown W.contents sink.new) result }
@@ -65,7 +65,7 @@ fn judge_inputs<I: Read + Drop, W: Write>(
     inputs: Vec<I>,
     judge: &mut Judge<'_>,
     sink: &mut Sink<W>,
-) -> Result<(u128, Vec<InputEnd>), ExpectFault>
+) -> Result<(u128, Vec<InputEnd>), OutputFault>
     requires { HasFaultLeft sink.old }
     ensures { MatchResult result
         (λ x. (read : List InputRead)
@@ -92,7 +92,7 @@ fn judge_input<I: Read + Drop, W: Write>(
     input: I,
     judge: &mut Judge<'_>,
     sink: &mut Sink<W>,
-) -> Result<(u64, InputEnd), ExpectFault>
+) -> Result<(u64, InputEnd), OutputFault>
     requires { HasFaultLeft sink.old }
     ensures { MatchResult result
         (λ x. (entries : List Entry) × IfSome (I.remaining input) (Reads entries x.1)
@@ -110,8 +110,8 @@ fn judge_input<I: Read + Drop, W: Write>(
                 }
             }
             Ok(None) => return Ok((failed, InputEnd::Ended(rows.finish()?))),
-            Err(InputFault::Input(error)) => return Ok((failed, InputEnd::Failed(error))),
-            Err(InputFault::OutOfMemory) => return Err(ExpectFault::OutOfMemory),
+            Err(ReadFault::Input(error)) => return Ok((failed, InputEnd::Failed(error))),
+            Err(_) => return Err(OutputFault::OutOfMemory),
         }
     }
     Ok((failed, InputEnd::Failed(ErrorKind::Other.into())))

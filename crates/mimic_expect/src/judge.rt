@@ -12,9 +12,8 @@ ghost use Rattle.mimic_expect.specs.Verdict.{HasLeft};
 
 use crate::judgement::{Judgement, Unexpected, judge};
 use crate::known::Expectation;
-use crate::verdict::ExpectFault;
 use mimic_events::{Key, Row};
-use mimic_printer::Sink;
+use mimic_printer::{OutputFault, Sink};
 use mimic_trial::Outcome;
 use std::alloc::{AllocError, Global};
 use std::collections::HashSet;
@@ -67,7 +66,7 @@ impl<'a> Judge<'a> {
         &mut self,
         row: Row,
         sink: &mut Sink<W>,
-    ) -> Result<bool, ExpectFault>
+    ) -> Result<bool, OutputFault>
         requires { HasFaultLeft sink.old }
         ensures { MatchResult result
             (λ unknown. Judges self.old self.new (entry_read row ∷ []) (cond unknown 1 0)

@@ -2,13 +2,9 @@
 ghost use Rattle.std.specs.Prelude.{◌≡◌};
 ghost use Rattle.std.specs.List.{list_all};
 ghost use Rattle.mimic_expect.specs.Verdict.{has_all, is_whole, status_of};
-ghost use Rattle.mimic_expect.specs.declared.verdict.ExpectFault.TheVariants.{OutOfMemory, Write as WriteFailed};
 
 use mimic_input::Ending;
-use mimic_printer::WriteFault;
-use std::alloc::{AllocError, AllocFailed};
 use std::io;
-use thiserror::Error;
 
 /// How an input ended.
 #[derive(Debug, Drop)]
@@ -26,17 +22,6 @@ pub struct Verdict {
     pub is_unexpected: bool,
     /// How each input ended, in their order.
     pub ends: Vec<InputEnd>,
-}
-
-/// Why what is unexpected was not written to its end. Its text is what a user is to see.
-#[derive(Debug, Drop, Error)]
-pub enum ExpectFault {
-    /// An allocation failed.
-    #[error("out of memory")]
-    OutOfMemory,
-    /// A write or a flush failed.
-    #[error("{0}")]
-    Write(WriteFault),
 }
 
 impl Verdict {
@@ -83,28 +68,4 @@ pub(crate) fn have_all(ends: &[InputEnd]) -> bool
     ensures { result ≡ list_all has_all ends.now }
 {
     ends.iter().all(|end| end.has_all())
-}
-
-impl From<AllocError> for ExpectFault {
-    ghost from_gives = { λ _ fault. fault ≡ OutOfMemory };
-
-    fn from(_error: AllocError) -> ExpectFault {
-        ExpectFault::OutOfMemory
-    }
-}
-
-impl<T: Drop> From<AllocFailed<T>> for ExpectFault {
-    ghost from_gives = { λ _ fault. fault ≡ OutOfMemory };
-
-    fn from(_refused: AllocFailed<T>) -> ExpectFault {
-        ExpectFault::OutOfMemory
-    }
-}
-
-impl From<WriteFault> for ExpectFault {
-    ghost from_gives = { λ error fault. fault ≡ WriteFailed error };
-
-    fn from(error: WriteFault) -> ExpectFault {
-        ExpectFault::Write(error)
-    }
 }

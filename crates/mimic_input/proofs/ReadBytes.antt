@@ -1,8 +1,14 @@
 -- What was read of an input, read by read.
-use Rattle.std.proofs.Common.{◌≡◌, ℕ, List, ◌++◌, Option, Some, None, IfSome, sym, ap, subst, ◌∙◌, append_assoc}
+use Rattle.std.proofs.Common.{◌≡◌, ℕ, List, ◌++◌, Option, Some, None, IfSome, sym, ap, subst, ◌∙◌, append_assoc, append-nil}
 use Rattle.std.specs.Io.KnownBytes.{Consumes, Keeps}
 use Rattle.std.specs.List.{concat}
+use Rattle.mimic_printer.specs.Json.{Entry}
+use Rattle.mimic_events.specs.Reading.{Decodes}
 use Rattle.mimic_events.specs.SoFar.{IsFirstWrong}
+use Rattle.mimic_input.specs.Inputs.{IsCut}
+use Rattle.mimic_input.specs.Readings.{IsReading}
+use Rattle.mimic_input.specs.declared.ending.Ending.TheVariants.{Cut}
+use Rattle.mimic_input.specs.declared.ending.Stop.{Stop}
 
 -- a read after others
 pub read_more : (a b c : Option (List ℕ)) (first second : List ℕ) → Consumes a b first → Consumes b c second → Consumes a c (first ++ second)
@@ -33,13 +39,17 @@ wrong_then number bytes more h = record {
   wrong = h.wrong;
 }
 
--- what was read of an input is wrong in it
-pub wrong_in : (a b : Option (List ℕ)) (bytes : List ℕ) (number : ℕ) → Consumes a b bytes → IsFirstWrong number bytes → IfSome a (IsFirstWrong number)
-wrong_in None b bytes number h w = tt
-wrong_in (Some xs) None bytes number h w = absurd h
-wrong_in (Some xs) (Some ys) bytes number h w = subst (IsFirstWrong number) (sym h) (wrong_then number bytes ys w)
+-- a report that stops at a wrong line
+pub wrong_in : (input : Option (List ℕ)) (entries : List Entry) (stop : Stop) (number : ℕ)
+    → IfSome input (IsReading entries (Cut stop)) → stop.wrong_line ≡ Some number → IfSome input (IsFirstWrong number)
+wrong_in None entries stop number h e = tt
+wrong_in (Some bytes) entries stop number h e =
+    subst (IsFirstWrong number) (sym h.parts) (wrong_then number h.front h.rest (subst (Decodes IsFirstWrong h.front) e h.wrong).0)
 
--- what was read to its end
-pub all_read : (P : List ℕ → Type 0) (a : Option (List ℕ)) (bytes : List ℕ) → IfSome a (λ all. bytes ≡ all) → P bytes → IfSome a P
-all_read P None bytes e h = tt
-all_read P (Some all) bytes e h = subst P e h
+-- a report that stops at the end of its bytes
+pub cut_in : (input : Option (List ℕ)) (entries : List Entry) (stop : Stop)
+    → IfSome input (IsReading entries (Cut stop)) → stop.wrong_line ≡ None → IfSome input IsCut
+cut_in None entries stop h e = tt
+cut_in (Some bytes) entries stop h e =
+    let whole : h.front ≡ bytes = sym (append-nil h.front) ∙ ap (λ (t : List ℕ). h.front ++ t) (sym (h.all e)) ∙ sym h.parts in
+    subst IsCut whole (record { none = h.none; right = subst (Decodes IsFirstWrong h.front) e h.wrong })

@@ -12,7 +12,7 @@ use Rattle.mimic_events.specs.SoFar.{IsFirstWrong}
 use Rattle.mimic_events.specs.Follower.{FollowsOn, FollowsRow, HasFollowed}
 use Rattle.mimic_input.proofs.ReadBytes.{read_more}
 use Rattle.mimic_input.specs.declared.rows.InputRows.{InputRows}
-use Rattle.mimic_input.specs.Readings.{HasCome, HasEnded, IsReady, pending}
+use Rattle.mimic_input.specs.RowByRow.{HasCome, HasEnded, IsReady, pending}
 
 -- what is left of a part of a list behind a front of it
 pub left_at : (xs front left : List ℕ) (from to : ℕ) → from ≤ to → to ≤ length xs → take (to - from) (drop from xs) ≡ front ++ left

@@ -1,2 +1,4 @@
 pub mod Inputs
 pub mod Readings
+pub mod RowByRow
+pub mod Stops

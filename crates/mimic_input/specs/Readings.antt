@@ -1,18 +1,14 @@
--- What was read of a report that may have no end, and how it comes from an input.
-use Rattle.std.specs.Prelude.{◌≡◌, ◌⊎◌, ℕ, ◌-◌, ◌<◌, ◌≤◌, List, [], ◌++◌, length, take, drop, Option, None, option_map}
+-- What was read of a report that may have no end.
+use Rattle.std.specs.Prelude.{◌≡◌, ◌⊎◌, ℕ, List, [], ◌++◌, Option, None, IfSome, option_map}
 use Rattle.std.specs.Io.KnownBytes.{Consumes, IsAtEnd}
 use Rattle.mimic_printer.specs.Json.{Contents, Entry}
 use Rattle.mimic_events.specs.Contents.{Spells, label_read}
 use Rattle.mimic_events.specs.Feed.{AreEnded}
-use Rattle.mimic_events.specs.Follower.{HasFollowed}
 use Rattle.mimic_events.specs.Reading.{Decodes}
 use Rattle.mimic_events.specs.SoFar.{BeginsWithTitle, IsFirstWrong, ShowsRunning}
 use Rattle.mimic_input.specs.declared.ending.Ending.{Ending}
 use Rattle.mimic_input.specs.declared.ending.Ending.TheVariants.{Whole, Cut}
 use Rattle.mimic_input.specs.declared.ending.Stop.{Stop}
-use Rattle.mimic_input.specs.declared.rows.InputRows.{InputRows}
-
--- ---- readings
 
 -- the bytes are the report of these rows, in which so many trials were filtered out, with this time
 abbrev pub IsWhole : List ℕ → List Entry → ℕ → ℕ → Type 0
@@ -36,28 +32,11 @@ abbrev pub IsReading : List Entry → Ending → List ℕ → Type 0
 IsReading entries (Whole filtered_out nanos) bytes = IsWhole bytes entries filtered_out nanos
 IsReading entries (Cut stop) bytes = IsStopped bytes entries stop
 
--- ---- reading row by row
+-- the input is at its end, or a line that was read is wrong
+abbrev pub IsOver : Option (List ℕ) → List ℕ → Type 0
+IsOver now bytes = IsAtEnd now ⊎ ((number : ℕ) × IsFirstWrong number bytes)
 
--- the places lie in the piece, which has room
-pub record IsReady {I : Type 0} (r : InputRows I) : Type 0 where
-  pub order : r.from ≤ r.to
-  pub within : r.to ≤ length r.piece.items
-  pub room : 0 < length r.piece.items
-
-module _ {I : Type 0} (remaining : I → Option (List ℕ)) where
-  -- what was read and not followed yet
-  abbrev pub pending : InputRows I → List ℕ
-  pending r = take (r.to - r.from) (drop r.from r.piece.items)
-
-  -- since the input was at its start, these rows have come
-  pub record HasCome (start : Option (List ℕ)) (r : InputRows I) (entries : List Entry) : Type 0 where
-    pub bytes : List ℕ
-    pub followed : HasFollowed r.follower bytes entries
-    pub gone : Consumes start (remaining r.input) (bytes ++ pending r)
-
-  -- these are all rows: the input is at its end, or a line that was read is wrong
-  pub record HasEnded (start : Option (List ℕ)) (r : InputRows I) (entries : List Entry) : Type 0 where
-    pub bytes : List ℕ
-    pub followed : HasFollowed r.follower bytes entries
-    pub gone : Consumes start (remaining r.input) bytes
-    pub last : IsAtEnd (remaining r.input) ⊎ ((number : ℕ) × IsFirstWrong number bytes)
+-- an input of which these bytes were read until it was over has these rows, and ends so
+abbrev pub EndsAs : List ℕ → List Entry → Ending → Type 0
+EndsAs bytes entries ending = (start now : Option (List ℕ)) → Consumes start now bytes → IsOver now bytes
+    → IfSome start (IsReading entries ending)

@@ -13,11 +13,15 @@
 #![tactic(auto)]
 
 mod ending;
+mod fault;
+mod piece;
 mod reading;
 mod rows;
 mod rows_read;
 
 pub use ending::{Ending, Stop};
-pub use reading::{ReadFault, read_from};
-pub use rows::{InputFault, InputRows};
+pub use fault::ReadFault;
+pub use piece::{PIECE, read_piece};
+pub use reading::read_from;
+pub use rows::InputRows;
 pub use rows_read::{RowsRead, read_rows};

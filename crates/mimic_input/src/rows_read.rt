@@ -1,10 +1,12 @@
 //! Reads the rows of a report that may have no end.
-ghost use Rattle.std.specs.Prelude.{IfOk, IfSome, map};
+ghost use Rattle.std.specs.Prelude.{IfErr, IfOk, IfSome, map};
 ghost use Rattle.mimic_events.specs.Contents.{entry_read};
+ghost use Rattle.mimic_input.specs.Inputs.{IsOfInput};
 ghost use Rattle.mimic_input.specs.Readings.{IsReading};
 
 use crate::ending::Ending;
-use crate::rows::{InputFault, InputRows};
+use crate::fault::ReadFault;
+use crate::rows::InputRows;
 use mimic_events::Row;
 use std::alloc::Global;
 use std::io::{ErrorKind, Read};
@@ -21,9 +23,10 @@ pub struct RowsRead {
 /// Reads a report to its end, or to the first line that no report has there, and keeps its rows.
 ///
 /// A read that was interrupted is tried again.
-pub fn read_rows<I: Read + Drop>(alloc: Global, input: I) -> Result<RowsRead, InputFault>
-    ensures { IfOk result (λ read. IfSome (I.remaining input)
+pub fn read_rows<I: Read + Drop>(alloc: Global, input: I) -> Result<RowsRead, ReadFault>
+    ensures read { IfOk result (λ read. IfSome (I.remaining input)
         (IsReading (map entry_read read.rows.items) read.ending)) }
+    ensures fault { IfErr result IsOfInput }
 {
     let mut rows = InputRows::new(alloc, input)?;
     let mut kept = Vec::new(alloc);
@@ -38,5 +41,5 @@ pub fn read_rows<I: Read + Drop>(alloc: Global, input: I) -> Result<RowsRead, In
             }
         }
     }
-    Err(InputFault::Input(ErrorKind::Other.into()))
+    Err(ReadFault::Input(ErrorKind::Other.into()))
 }

@@ -11,6 +11,7 @@ use Rattle.mimic_printer.specs.Json.{Entry}
 use Rattle.mimic_printer.specs.Row.{Label}
 use Rattle.mimic_events.specs.Contents.{label_read}
 use Rattle.mimic_events.specs.declared.report.Label.{Label as LabelRead}
+use Rattle.mimic_input.specs.Stops.{extent_text}
 use Rattle.mimic_input.specs.declared.ending.Ending.{Ending}
 use Rattle.mimic_input.specs.declared.ending.Ending.TheVariants.{Whole, Cut}
 use Rattle.mimic_input.specs.declared.ending.Stop.{Stop}
@@ -143,16 +144,10 @@ rows_text entries longest = concat (group_text Failed entries longest ∷ group_
 
 -- ---- how it ended
 
--- the line that is wrong
-abbrev pub wrong_part : Option ℕ → List ℕ
-wrong_part None = []
-wrong_part (Some number) = concat (codes "line " ∷ decimal number ∷ codes " is no line of a report; " ∷ [])
-
--- how far the report goes
-abbrev pub extent_part : ℕ → Option ℕ → List ℕ
-extent_part ended None = codes "no report"
-extent_part ended (Some announced) = concat (codes "the report ends after " ∷ decimal ended ∷ codes " of " ∷ decimal announced
-    ∷ codes " trials; missing: " ∷ decimal (announced - ended) ∷ [])
+-- how many trials have no row, if the report says how many there are
+abbrev pub missing_part : ℕ → Option ℕ → List ℕ
+missing_part ended None = []
+missing_part ended (Some announced) = concat (codes "; missing: " ∷ decimal (announced - ended) ∷ [])
 
 -- the trial that was announced and has not ended
 abbrev pub running_part : Option LabelRead → List ℕ
@@ -161,7 +156,7 @@ running_part (Some label) = concat (codes "; running: " ∷ label_part (label_re
 
 -- what is said of a report without its end, after so many rows
 unfoldable pub stop_text : ℕ → Stop → List ℕ
-stop_text ended stop = concat (codes "<p class=\"cut\">" ∷ wrong_part stop.wrong_line ∷ extent_part ended stop.announced
+stop_text ended stop = concat (codes "<p class=\"cut\">" ∷ extent_text ended stop ∷ missing_part ended stop.announced
     ∷ running_part stop.running ∷ codes "</p>\n" ∷ [])
 
 -- what is said of how a report ended

@@ -3,7 +3,7 @@ ghost use Rattle.std.specs.Prelude.{◌≡◌};
 ghost use Rattle.std.specs.Option.{option_copied};
 ghost use Rattle.mimic_printer.specs.Sink.{HasFaultLeft, Puts};
 ghost use Rattle.mimic_events.specs.Contents.{entry_read};
-ghost use Rattle.mimic_page.specs.Page.{counts_text, end_text, ending_text, extent_part, kind_end, kind_start, row_text, running_part, start_text, stop_text, verdict, wrong_part};
+ghost use Rattle.mimic_page.specs.Page.{counts_text, end_text, ending_text, kind_end, kind_start, missing_part, row_text, running_part, start_text, stop_text, verdict};
 
 use crate::script::{FILTER, SCRIPT, SCRIPT_DIGEST};
 use crate::style::STYLE;
@@ -131,44 +131,25 @@ fn put_stop<W: Write>(sink: &mut Sink<W>, ended: u64, stop: &Stop) -> Result<(),
     ensures { Puts W.contents sink.old sink.new (stop_text ended stop.now) result }
 {
     sink.put(b"<p class=\"cut\">")?;
-    put_wrong_line(sink, stop.wrong_line)?;
-    put_extent(sink, ended, stop.announced)?;
+    stop.put_extent(sink, u128::from(ended))?;
+    put_missing(sink, ended, stop.announced)?;
     put_running(sink, stop.running.as_ref())?;
     sink.put(b"</p>\n")
 }
 
-fn put_wrong_line<W: Write>(sink: &mut Sink<W>, number: Option<u128>) -> Result<(), WriteFault>
-    requires { HasFaultLeft sink.old }
-    ensures { Puts W.contents sink.old sink.new (wrong_part number) result }
-{
-    let Some(number) = number else {
-        return sink.put(b"");
-    };
-    let pieces = [
-        Piece::Text("line "),
-        Piece::Long(number),
-        Piece::Text(" is no line of a report; "),
-    ];
-    put_pieces(sink, &pieces)
-}
-
-fn put_extent<W: Write>(
+fn put_missing<W: Write>(
     sink: &mut Sink<W>,
     ended: u64,
     announced: Option<u64>,
 ) -> Result<(), WriteFault>
     requires { HasFaultLeft sink.old }
-    ensures { Puts W.contents sink.old sink.new (extent_part ended announced) result }
+    ensures { Puts W.contents sink.old sink.new (missing_part ended announced) result }
 {
     let Some(announced) = announced else {
-        return sink.put(b"no report");
+        return Ok(());
     };
     let pieces = [
-        Piece::Text("the report ends after "),
-        Piece::Number(ended),
-        Piece::Text(" of "),
-        Piece::Number(announced),
-        Piece::Text(" trials; missing: "),
+        Piece::Text("; missing: "),
         Piece::Number(announced.saturating_sub(ended)),
     ];
     put_pieces(sink, &pieces)
@@ -180,7 +161,7 @@ fn put_running<W: Write>(sink: &mut Sink<W>, running: Option<&Label>) -> Result<
         (running_part (option_copied running.entry)) result }
 {
     let Some(label) = running else {
-        return sink.put(b"");
+        return Ok(());
     };
     put_label!(sink, label, "; running: ", Piece::Text("</bdi>"))
 }

@@ -1,15 +1,14 @@
 //! Writes the page of a report.
 ghost use Rattle.std.specs.Prelude.{◌≡◌, map};
-ghost use Rattle.mimic_trial.specs.Count.{counts_of};
 ghost use Rattle.mimic_printer.specs.Sink.{HasFaultLeft, Puts};
 ghost use Rattle.mimic_events.specs.Contents.{entry_read};
-ghost use Rattle.mimic_page.specs.Page.{PageLaws, greatest_time, group_text, list_end, missing_in, page_text, row_in, rows_after, rows_text, time_of};
+ghost use Rattle.mimic_page.specs.Page.{PageLaws, greatest_time, group_text, list_end, missing_in, page_text, row_in, rows_text, time_of};
 
 use crate::elements::{put_counts, put_end, put_ending, put_row, put_start};
-use mimic_events::Row;
+use mimic_events::{Row, counts_of_rows};
 use mimic_input::{Ending, RowsRead};
 use mimic_printer::{Sink, WriteFault};
-use mimic_trial::{Conclusion, Outcome};
+use mimic_trial::Outcome;
 use std::io::Write;
 
 // How many rows of a report stand in one list at most.
@@ -44,7 +43,7 @@ pub fn write_page<'a, W: Write>(
 {
     let RowsRead { rows, ending } = read;
     let rows = rows.as_slice();
-    let counts = counts_of_rows(rows);
+    let counts = counts_of_rows(rows, 0);
     let ended = rows.len() as u64;
     put_start(sink, program, &counts, ending)?;
     put_ending(sink, ended, ending)?;
@@ -52,16 +51,6 @@ pub fn write_page<'a, W: Write>(
     put_groups(sink, rows)?;
     put_end(sink)?;
     sink.flush()
-}
-
-fn counts_of_rows(rows: &[Row]) -> Conclusion
-    ensures { result ≡ counts_of (map (λ row. row.outcome) rows.now) 0 }
-{
-    let mut counts = Conclusion::empty(0);
-    for row in rows {
-        counts.count(&row.outcome);
-    }
-    counts
 }
 
 // Returns how many rows are missing after so many.
@@ -86,6 +75,7 @@ fn put_groups<W: Write>(sink: &mut Sink<W>, rows: &[Row]) -> Result<(), WriteFau
     put_group(sink, Group::Others, rows, longest)
 }
 
+// Writes the rows of a group under its heading.
 fn put_group<W: Write>(
     sink: &mut Sink<W>,
     group: Group,
@@ -97,7 +87,10 @@ fn put_group<W: Write>(
         (group_text group (map entry_read rows.now) longest) result }
 {
     sink.put(group.heading())?;
-    put_rows(sink, group, rows, longest)?;
+    for (at, row) in rows.iter().enumerate() {
+        put_row_of(sink, group, row, longest)?;
+        sink.put(list_end(at + 1))?;
+    }
     sink.put(b"</ol>\n</section>\n")
 }
 
@@ -120,24 +113,6 @@ fn time_of(outcome: &Outcome) -> u64
     }
 }
 
-// Writes the rows of a group.
-fn put_rows<W: Write>(
-    sink: &mut Sink<W>,
-    group: Group,
-    rows: &[Row],
-    longest: u64,
-) -> Result<(), WriteFault>
-    requires { HasFaultLeft sink.old }
-    ensures { Puts W.contents sink.old sink.new
-        (rows_after 0 group longest (map entry_read rows.now)) result }
-{
-    for (at, row) in rows.iter().enumerate() {
-        put_row_of(sink, group, row, longest)?;
-        sink.put(list_end(at + 1))?;
-    }
-    Ok(())
-}
-
 // Writes the row if it stands in the group.
 fn put_row_of<W: Write>(
     sink: &mut Sink<W>,
@@ -150,10 +125,9 @@ fn put_row_of<W: Write>(
         (row_in group longest (entry_read row.now)) result }
 {
     if group.has(&row.outcome) {
-        put_row(sink, row, longest)
-    } else {
-        sink.put(b"")
+        put_row(sink, row, longest)?;
     }
+    Ok(())
 }
 
 // Returns what follows so many rows.

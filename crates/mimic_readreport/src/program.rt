@@ -6,8 +6,9 @@ ghost use Rattle.mimic_readreport.specs.Outputs.{Ended, IsOfInput, Leaves, PutsT
 
 use crate::line::line_of;
 use mimic_events::Tally;
+use mimic_input::{ReadFault, read_piece};
 use std::alloc::{AllocError, Global};
-use std::io::{ErrorKind, Read, Write};
+use std::io::{Read, Write};
 
 // The exit statuses.
 const SUCCESS: u8 = 0;
@@ -72,8 +73,7 @@ fn print_report<I: Read, O: Write>(alloc: Global, input: &mut I, out: &mut O) ->
     put_text(out, line.as_str())
 }
 
-// Feeds the input to its end, piece by piece. A read that was interrupted is tried again. Compiled into `main`, the loop takes
-// longer.
+// Feeds the input to its end, piece by piece. Compiled into `main`, the loop takes longer.
 #[inline(never)]
 fn tallied<I: Read>(alloc: Global, input: &mut I) -> Result<Tally, Fault>
     ensures read { IfOk result (λ tally. (all : List ℕ) × HasRead tally all
@@ -83,14 +83,11 @@ fn tallied<I: Read>(alloc: Global, input: &mut I) -> Result<Tally, Fault>
     let mut tally = Tally::new(alloc);
     let mut piece = [0; PIECE];
     for _ in 0..u64::MAX {
-        match input.read(&mut piece) {
+        match read_piece(input, &mut piece) {
             Ok(0) => return Ok(tally),
             Ok(count) => tally = tally.feed(&piece[..count])?,
-            Err(error) => match error.kind() {
-                ErrorKind::Interrupted => {}
-                ErrorKind::OutOfMemory => return Err(Fault::OutOfMemory),
-                _ => return Err(Fault::Read),
-            },
+            Err(ReadFault::OutOfMemory) => return Err(Fault::OutOfMemory),
+            Err(_) => return Err(Fault::Read),
         }
     }
     Err(Fault::Read)

@@ -1,19 +1,15 @@
 -- The document of reports, one after another.
-use Rattle.std.proofs.Common.{◌≡◌, ℕ, ◌<◌, List, [], ◌∷◌, ◌++◌, Option, Result, Ok, Err, length, map, codes, refl, sym, ap, ap₂, subst, ◌∙◌, append_assoc, append-nil}
+use Rattle.std.proofs.Common.{◌≡◌, ℕ, ◌<◌, List, [], ◌∷◌, ◌++◌, Option, length, map, codes, refl, sym, ap, ap₂, subst, ◌∙◌, append_assoc, append-nil}
 use Rattle.std.specs.List.{flat_map}
-use Rattle.std.specs.Result.{IsErrAnd}
 use Rattle.std.proofs.lemmas.List.Concat.{flat_map-append}
-use Rattle.mimic_printer.specs.Sink.{Put, Shown, Stopped}
-use Rattle.mimic_printer.specs.declared.sink.WriteFault.{WriteFault}
-use Rattle.mimic_printer.proofs.Appending.{Put-Stopped, Put-trans, Put_after}
+use Rattle.mimic_printer.specs.Sink.{Put, Shown}
+use Rattle.mimic_printer.proofs.Appending.{Put-trans, Put_after}
 use Rattle.mimic_reports.specs.declared.elements.Numbers.{Numbers}
 use Rattle.mimic_reports.specs.declared.junit.JunitFault.{JunitFault}
 use Rattle.mimic_reports.specs.declared.junit.JunitFault.TheVariants as junit
-use Rattle.mimic_reports.specs.declared.junit.SuiteFault.{SuiteFault}
-use Rattle.mimic_reports.specs.declared.junit.SuiteFault.TheVariants as suite
 use Rattle.mimic_reports.specs.declared.suite.Suite.{Suite as SuiteRead}
 use Rattle.mimic_reports.specs.Junit.{Suite, junit_text, numbers_of, root_start, suite_text, total}
-use Rattle.mimic_reports.specs.Suites.{HasLeft, IsShown, LeavesDocument, LeftBy, at_place, numbers_in}
+use Rattle.mimic_reports.specs.Suites.{HasLeft, IsShown, LeftBy, numbers_in}
 use Rattle.mimic_reports.specs.Turns.{Each}
 
 abbrev pub close_part : List ℕ
@@ -51,15 +47,13 @@ one_more_suite front written s {a} {b} {c} p q =
     ∙ ap (λ (l : List ℕ). front ++ l) (ap (λ (l : List ℕ). flat_map suite_text written ++ l) (sym (append-nil (suite_text s))) ∙ sym (flat_map-append suite_text written (s ∷ []))))
     (Put-trans _ (suite_text s) p q)
 
--- a fault of the writer
-pub write_left : {I : Type 0} (remaining : I → Option (List ℕ)) (reports : List (SuiteRead I)) (old new : Shown) (result : Result (Unit {0}) JunitFault) (error : WriteFault) (text : List ℕ)
-    → IsErrAnd result (λ fault. fault ≡ junit.Write error) → Stopped old new text → LeavesDocument remaining reports old new result
-write_left remaining reports old new (Ok x) error text h s = absurd h
-write_left remaining reports old new (Err fault) error text h s = subst (LeftBy reports old new) (sym h) (text, s)
-
--- a fault of a report
-pub report_left : {I : Type 0} (reports : List (SuiteRead I)) (a b c : Shown) (text : List ℕ) (fault : SuiteFault) (place : ℕ) → place < length reports → Put a b text → HasLeft b c fault
-    → LeftBy reports a c (at_place fault place)
-report_left reports a b c text (suite.Input fault) place within p left = (within, text ++ left.0, Put-trans text left.0 p left.1)
-report_left reports a b c text suite.Changed place within p left = (within, text ++ left.0, Put-trans text left.0 p left.1)
-report_left reports a b c text (suite.Write fault) place within p left = (text ++ left.0, Put-Stopped text left.0 p left.1)
+-- a fault of one of the reports
+pub left_by : {I : Type 0} (reports : List (SuiteRead I)) (place : ℕ) (old new : Shown)
+    (fault : JunitFault) → place < length reports → HasLeft place old new fault
+    → LeftBy reports old new fault
+left_by reports place old new junit.TooMany within left = absurd left
+left_by reports place old new (junit.Input at fault) within left =
+    (subst (λ n. n < length reports) (sym left.0) within, left.1, left.2)
+left_by reports place old new (junit.Changed at) within left =
+    (subst (λ n. n < length reports) (sym left.0) within, left.1, left.2)
+left_by reports place old new (junit.Write fault) within left = left

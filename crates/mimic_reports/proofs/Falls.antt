@@ -6,6 +6,7 @@ use Rattle.std.proofs.lemmas.List.{get_or-map, get_or_append_left, get_or_push, 
 use Rattle.std.proofs.lemmas.List.FromFn.{get_or-map-range_with_len, length-map-range_with_len, length-range_with_len}
 use Rattle.std.proofs.lemmas.List.Kept.{AllPairs-cons}
 use Rattle.std.proofs.lemmas.List.Quantifiers.{all_pairs_push}
+use Rattle.std.proofs.lemmas.Simd.{map-map}
 use Rattle.mimic_shard.specs.Shard.{shard_from, shard_of}
 use Rattle.mimic_reports.specs.Turns.{in_turn}
 use Rattle.mimic_reports.proofs.Turns.{from_first, one_step, shards_from, turn}
@@ -93,11 +94,6 @@ module _ {X : Type 0} where
 
 -- ---- numbers
 
-module _ {A B : Type 0} (f : A → B) (g : ℕ → A) where
-  fused : (is : List ℕ) → map (λ i. f (g i)) is ≡ map f (map g is)
-  fused [] = refl
-  fused (i ∷ is) = ap (λ l. f (g i) ∷ l) (fused is)
-
 abbrev pub shard_lengths : ℕ → List ℕ → List ℕ
 shard_lengths count xs = map (λ index. length (shard_of count index xs)) (range_with_len 0 count)
 
@@ -129,7 +125,7 @@ module _ {Y : Type 0} (size : Y → ℕ) where
   are_shards m ys n h =
       let xs : List ℕ = in_turn (lists_of ys) in
       let shards : shards_from (suc m) 0 xs ≡ lists_of ys = falls_shard (length xs) m 0 (lists_of ys) (length-map ys (λ y. range_with_len 0 (size y)) ∙ n) (lists_fall ys h) refl in
-      sym (fused (λ (l : List ℕ). length l) (λ index. shard_of (suc m) index xs) (range_with_len 0 (suc m)) ∙ (ap (map (λ (l : List ℕ). length l)) (from_first (suc m) xs ∙ shards) ∙ lengths ys))
+      sym (sym (map-map (λ (l : List ℕ). length l) (λ index. shard_of (suc m) index xs) (range_with_len 0 (suc m))) ∙ (ap (map (λ (l : List ℕ). length l)) (from_first (suc m) xs ∙ shards) ∙ lengths ys))
 
   pub sizes_fall : (m : ℕ) (ys : List Y) (xs : List ℕ) → length ys ≡ suc m → map size ys ≡ shard_lengths (suc m) xs → AllPairs SizesFall ys
   sizes_fall m ys xs n e i j d lt within =

@@ -1,18 +1,12 @@
 -- What a join of inputs leaves.
-use Rattle.std.proofs.Common.{◌≡◌, ℕ, Bool, List, Option, Result, Ok, Err, subst, sym}
+use Rattle.std.proofs.Common.{◌≡◌, ℕ, Bool, List, Option, Result, Ok, subst, sym}
 use Rattle.std.specs.Prelude.{MatchResult}
-use Rattle.std.specs.Result.{IsErrAnd}
-use Rattle.mimic_trial.specs.declared.outcome.conclusion.Conclusion.{Conclusion}
-use Rattle.mimic_printer.specs.Sink.{Shown, Stopped}
-use Rattle.mimic_printer.specs.declared.sink.WriteFault.{WriteFault}
 use Rattle.mimic_events.specs.declared.report.Report.{Report}
-use Rattle.mimic_reports.specs.Inputs.{AreReportsIn, AreShards, Leaves, joined_text}
+use Rattle.mimic_reports.specs.Inputs.{AreReportsIn, AreShards}
 use Rattle.mimic_reports.specs.Joined.{CanBeShards, IsRefused, joined_contents}
 use Rattle.mimic_reports.specs.Text.{contents_of}
 use Rattle.mimic_reports.specs.declared.join.Refusal.{Refusal}
 use Rattle.mimic_reports.specs.declared.text.Text.{Text}
-use Rattle.mimic_reports.specs.declared.faults.JoinFault.{JoinFault}
-use Rattle.mimic_reports.specs.declared.faults.JoinFault.TheVariants.{Write}
 
 -- reports that were read and are joined to this text
 pub read_joined : (inputs : List (Option (List ℕ))) (shards : ℕ) (equal_names : Bool) (reports slice : List Report) (answer : Result Text Refusal) (text : Text)
@@ -23,11 +17,3 @@ read_joined inputs shards equal_names reports slice answer text read same h is =
     let Fits : Result Text Refusal → Type 0 = λ a. MatchResult a (λ t. CanBeShards shards equal_names slice × (contents_of t ≡ joined_contents slice)) (IsRefused shards equal_names slice) in
     let fit : CanBeShards shards equal_names slice × (contents_of text ≡ joined_contents slice) = subst Fits is h in
     (record { reports = slice; read = subst (AreReportsIn inputs) (sym same) read; fit = fit.0 }, fit.1)
-
--- a fault of the writer
-pub write_leaves : (inputs : List (Option (List ℕ))) (shards : ℕ) (equal_names : Bool) (old new : Shown) (result : Result Conclusion JoinFault) (error : WriteFault)
-    → IsErrAnd result (λ fault. fault ≡ Write error) → (read : AreShards inputs shards equal_names) → Stopped old new (joined_text read.reports)
-    → Leaves inputs shards equal_names old new result
-write_leaves inputs shards equal_names old new (Ok counts) error h read stopped = absurd h
-write_leaves inputs shards equal_names old new (Err fault) error h read stopped =
-    subst (λ f. Leaves inputs shards equal_names old new (Err f)) (sym h) (read, stopped)

@@ -3,6 +3,7 @@ use Rattle.std.proofs.Common.{◌≡◌, ℕ, List, [], ◌∷◌, ◌++◌, len
 use Rattle.std.specs.Prelude.{Result}
 use Rattle.std.specs.List.{concat, flat_map}
 use Rattle.std.proofs.lemmas.List.{length-map}
+use Rattle.std.proofs.lemmas.Simd.{map-map}
 use Rattle.std.proofs.lemmas.List.Folds.{concat-append}
 use Rattle.mimic_trial.specs.Count.{counts_of}
 use Rattle.mimic_trial.specs.declared.outcome.Outcome.{Outcome}
@@ -36,26 +37,20 @@ text_parts t =
     ap₂ (λ (n : ℕ) (l : List ℕ). json_title n ++ l) (length-map t.rows.items (λ (row : Bor Row). entry_read row.now))
     (concat-append (flat_map entry_lines entries) (last ∷ []) ∙ ap₂ (λ (x y : List ℕ). x ++ y) (rows_flat t.rows.items) (append-nil last))
 
-outcomes_same : (rows : List (Bor Row)) → map (λ (entry : Entry). entry.outcome) (map (λ row. entry_read row.now) rows) ≡ map (λ row. row.now.outcome) rows
-outcomes_same [] = refl
-outcomes_same (row ∷ rows) = ap (λ (l : List Outcome). row.now.outcome ∷ l) (outcomes_same rows)
-
 -- the counts of its rows
 pub same_counts : (t : Text) (rows : List (Bor Row)) (counts : Conclusion) → rows ≡ t.rows.items → counts ≡ counts_of (map (λ row. row.now.outcome) rows) t.filtered_out
     → counts ≡ conclusion_of (contents_of t)
 same_counts t rows counts same e =
     e ∙ ap (λ (l : List (Bor Row)). counts_of (map (λ (row : Bor Row). row.now.outcome) l) t.filtered_out) same
-    ∙ ap (λ (os : List Outcome). counts_of os t.filtered_out) (sym (outcomes_same t.rows.items))
+    ∙ ap (λ (os : List Outcome). counts_of os t.filtered_out)
+    (sym (map-map (λ (entry : Entry). entry.outcome) (λ (row : Bor Row). entry_read row.now) t.rows.items))
 
 -- it says what the joined report does
-entries_same : (rows : List (Bor Row)) → map (λ row. entry_read row.now) rows ≡ map entry_read (map (λ row. row.now) rows)
-entries_same [] = refl
-entries_same (row ∷ rows) = ap (λ l. entry_read row.now ∷ l) (entries_same rows)
-
 pub same_contents : (t : Text) (reports : List Report) → map (λ row. row.now) t.rows.items ≡ in_turn (map rows_in reports) → t.filtered_out ≡ filtered_out_of reports
     → t.nanos ≡ greatest (map time_of reports) → contents_of t ≡ joined_contents reports
 same_contents t reports rows dropped time =
-    let entries : map (λ row. entry_read row.now) t.rows.items ≡ map entry_read (in_turn (map rows_in reports)) = entries_same t.rows.items ∙ ap (map entry_read) rows in
+    let entries : map (λ row. entry_read row.now) t.rows.items ≡ map entry_read (in_turn (map rows_in reports)) =
+    sym (map-map entry_read (λ (row : Bor Row). row.now) t.rows.items) ∙ ap (map entry_read) rows in
     rw (entries, dropped, time) refl
 
 -- ---- its parts one after another

@@ -1,6 +1,6 @@
 -- One more report is joined.
-use Rattle.std.proofs.Common.{◌≡◌, ℕ, ◌+◌, ◌<◌, ◌≤◌, arith, drop, get_or, length, take, take-append-drop, List, [], ◌∷◌, ◌++◌, map, sum, fold, refl, sym, ap, subst, ◌∙◌, append-nil}
-use Rattle.std.specs.Prelude.{max, IsPermutation}
+use Rattle.std.proofs.Common.{◌≡◌, ℕ, ◌+◌, ◌<◌, ◌≤◌, arith, drop, get_or, length, take, take-append-drop, List, [], ◌∷◌, ◌++◌, map, sum, refl, sym, ap, subst, ◌∙◌}
+use Rattle.std.specs.Prelude.{IsPermutation}
 use Rattle.std.specs.List.{flat_map, range_with_len}
 use Rattle.std.proofs.lemmas.List.Sorted.{IsPermutation-map, IsPermutation-refl, IsPermutation-trans, IsPermutation-append_left, IsPermutation-append_right}
 use Rattle.mimic_printer.specs.Json.{Entry}
@@ -10,11 +10,12 @@ use Rattle.mimic_shard.proofs.AllShards.{parts_of_shards}
 use Rattle.mimic_reports.specs.Turns.{before, rounds_of, in_turn}
 use Rattle.mimic_reports.proofs.Turns.{joined_rounds, shards_in_turn, turns_are_all}
 use Rattle.std.proofs.lemmas.List.Sums.{sum_by-append}
-use Rattle.std.proofs.lemmas.List.Concat.{flat_map-append}
+use Rattle.std.proofs.lemmas.List.Folds.{flat_map-map}
+use Rattle.std.proofs.lemmas.Simd.{map-map}
 use Rattle.std.proofs.lemmas.List.{map-append, take_more}
 use Rattle.mimic_events.specs.declared.report.Report.{Report}
 use Rattle.mimic_events.specs.declared.report.Row.{Row}
-use Rattle.mimic_reports.specs.Joined.{EachInSomeOrder, IsJoined, JoinsInOrder, JoinsShards, all_of, entries_in, filtered_out_of, greatest, rows_in, time_of}
+use Rattle.mimic_reports.specs.Joined.{EachInSomeOrder, IsJoined, JoinsInOrder, JoinsShards, all_of, entries_in, filtered_out_of, rows_in}
 
 abbrev pub rows_of : List Report → List Row
 rows_of reports = flat_map rows_in reports
@@ -32,16 +33,6 @@ filtered_out-part xs i r lt is =
     let one : filtered_out_of (r ∷ []) ≡ r.filtered_out = omega arith in
     omega (arith, front, whole, one)
 
-pub rows-push : (xs : List Report) (r : Report) → rows_of (xs ++ r ∷ []) ≡ rows_of xs ++ r.rows.items
-rows-push xs r = flat_map-append _ xs (r ∷ []) ∙ ap (λ (l : List Row). rows_of xs ++ l) (append-nil r.rows.items)
-
-fold-push : (f : ℕ → ℕ → ℕ) (a n : ℕ) (ns : List ℕ) → fold f a (ns ++ n ∷ []) ≡ f (fold f a ns) n
-fold-push f a n [] = refl
-fold-push f a n (m ∷ ns) = fold-push f (f a m) n ns
-
-pub times-push : (xs : List Report) (r : Report) → greatest (map time_of (xs ++ r ∷ [])) ≡ max (greatest (map time_of xs)) r.nanos
-times-push xs r = ap greatest (map-append _ xs (r ∷ [])) ∙ fold-push max 0 r.nanos (map time_of xs)
-
 -- ---- reports of shards
 
 module _ {X : Type 0} where
@@ -52,21 +43,13 @@ module _ {X : Type 0} where
   concat_orders (xs ∷ xss) (ys ∷ yss) h =
       IsPermutation-trans _ _ _ (IsPermutation-append_left (all_of xss) xs ys h.0) (IsPermutation-append_right ys (all_of xss) (all_of yss) (concat_orders xss yss h.1))
 
-  concat-map : (f : ℕ → List X) (is : List ℕ) → all_of (map f is) ≡ flat_map f is
-  concat-map f [] = refl
-  concat-map f (i ∷ is) = ap (λ (l : List X). f i ++ l) (concat-map f is)
-
 entries_joined : (reports : List Report) → map entry_read (rows_of reports) ≡ all_of (map entries_in reports)
 entries_joined [] = refl
 entries_joined (r ∷ reports) = map-append entry_read r.rows.items (rows_of reports) ∙ ap (λ (l : List Entry). entries_in r ++ l) (entries_joined reports)
 
 -- rows in turn are all rows
-flat : (rs : List Report) → flat_map (λ (xs : List Row). xs) (map rows_in rs) ≡ rows_of rs
-flat [] = refl
-flat (r ∷ rs) = ap (λ (l : List Row). r.rows.items ++ l) (flat rs)
-
 in_turn-rows : (reports : List Report) → IsPermutation (in_turn (map rows_in reports)) (rows_of reports)
-in_turn-rows reports = subst (IsPermutation (in_turn (map rows_in reports))) (flat reports) (turns_are_all (map rows_in reports))
+in_turn-rows reports = subst (IsPermutation (in_turn (map rows_in reports))) (flat_map-map (λ (xs : List Row). xs) rows_in reports) (turns_are_all (map rows_in reports))
 
 pub entries_turned : (reports : List Report) (whole : Report) → IsJoined reports whole → IsPermutation (entries_in whole) (all_of (map entries_in reports))
 entries_turned reports whole joined =
@@ -79,7 +62,7 @@ joins_shards count entries reports whole some each joined =
     let shards : ℕ → List Entry = λ index. all_of (shard_of count index entries) in
     IsPermutation-trans _ _ _ (entries_turned reports whole joined)
     (IsPermutation-trans _ _ _ (concat_orders (map entries_in reports) (map shards (range_with_len 0 count)) each)
-    (subst (λ (l : List Entry). IsPermutation l (all_of entries)) (sym (concat-map shards (range_with_len 0 count))) (parts_of_shards (λ es. es) count entries some)))
+    (subst (λ (l : List Entry). IsPermutation l (all_of entries)) (sym (flat_map-map (λ (es : List Entry). es) shards (range_with_len 0 count))) (parts_of_shards (λ es. es) count entries some)))
 
 -- ---- what is made of rows, in turn
 
@@ -100,11 +83,7 @@ module _ {X Y : Type 0} (f : X → Y) where
   pub in_turn-map : (xss : List (List X)) → map f (in_turn xss) ≡ in_turn (map (map f) xss)
   in_turn-map xss = joined-map (rounds_of xss) ∙ ap joined_rounds (rounds-map xss)
 
-entries_of_rows : (reports : List Report) → map (map entry_read) (map rows_in reports) ≡ map entries_in reports
-entries_of_rows [] = refl
-entries_of_rows (r ∷ reports) = ap (λ l. entries_in r ∷ l) (entries_of_rows reports)
-
 pub joins_in_order : JoinsInOrder
 joins_in_order count entries reports whole some each joined =
     ap (map entry_read) joined.rows ∙ (in_turn-map entry_read (map rows_in reports)
-    ∙ (ap in_turn (entries_of_rows reports ∙ each) ∙ shards_in_turn count entries some))
+    ∙ (ap in_turn (map-map (map entry_read) rows_in reports ∙ each) ∙ shards_in_turn count entries some))

@@ -6,9 +6,11 @@ pub mod JoinedText
 pub mod Joining
 pub mod Laws
 pub mod ReadInputs
+pub mod Results
 pub mod RowCounts
 pub mod SeenNames
 pub mod Showing
 pub mod SuiteText
+pub mod Taking
 pub mod Totals
 pub mod Turns

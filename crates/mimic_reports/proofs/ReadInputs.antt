@@ -2,7 +2,7 @@
 use Rattle.std.proofs.Common.{◌≡◌, ℕ, List, [], ◌∷◌, ◌++◌, length, length-append, map, take, get_or, Option, None, refl, sym, ap, subst, arith}
 use Rattle.std.proofs.lemmas.List.{length-map, map-append}
 use Rattle.mimic_events.specs.declared.report.Report.{Report}
-use Rattle.mimic_input.specs.declared.reading.ReadFault.{ReadFault}
+use Rattle.mimic_input.specs.declared.fault.ReadFault.{ReadFault}
 use Rattle.mimic_input.specs.Inputs.{GivesNone, IsReportIn}
 use Rattle.mimic_reports.specs.Inputs.{AreReportsIn, FailsAt}
 use Rattle.mimic_reports.specs.Turns.{Each}

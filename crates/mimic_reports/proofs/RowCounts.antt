@@ -1,8 +1,9 @@
 -- The outcomes of rows, counted as they come.
-use Rattle.std.proofs.Common.{◌≡◌, inl, inr, ℕ, suc, ◌+◌, ◌-◌, ◌<◌, ◌^◌, cond, List, [], ◌∷◌, ◌++◌, length, length-append, map, refl, sym, ap, ◌∙◌, arith}
-use Rattle.std.specs.Prelude.{count_by}
+use Rattle.std.proofs.Common.{◌≡◌, inl, inr, ℕ, suc, ◌+◌, ◌-◌, ◌<◌, ◌^◌, cond, List, [], ◌∷◌, ◌++◌, length, length-append, map, Option, Some, None, refl, sym, ap, subst, ◌∙◌, arith}
+use Rattle.std.specs.Prelude.{MatchOption, count_by}
 use Rattle.std.proofs.lemmas.List.{length-map, map-append}
 use Rattle.std.proofs.lemmas.List.Sums.{sum_by-cons}
+use Rattle.std.proofs.lemmas.Simd.{map-map}
 use Rattle.mimic_trial.specs.declared.outcome.Outcome.{Outcome}
 use Rattle.mimic_trial.specs.declared.outcome.Outcome.TheVariants.{Passed, Failed, Ignored, Measured}
 use Rattle.mimic_trial.specs.declared.outcome.conclusion.Conclusion.{Conclusion}
@@ -12,7 +13,10 @@ use Rattle.mimic_printer.specs.Json.{Entry}
 use Rattle.mimic_events.specs.Contents.{entry_read}
 use Rattle.mimic_events.specs.Feed.{AreEnded}
 use Rattle.mimic_events.specs.declared.report.Row.{Row}
+use Rattle.mimic_input.specs.RowByRow.{HasCome, HasEnded}
 use Rattle.mimic_input.specs.declared.ending.Ending.{Ending}
+use Rattle.mimic_input.specs.declared.rows.InputRows.{InputRows}
+use Rattle.mimic_reports.specs.declared.elements.Numbers.{Numbers}
 use Rattle.mimic_reports.specs.Junit.{numbers_of}
 use Rattle.mimic_reports.specs.Suites.{numbers_counted, rows_counted}
 
@@ -23,7 +27,7 @@ nil_not_push : (entries : List Entry) (e : Entry) → entries ++ e ∷ [] ≡ []
 nil_not_push entries e h = let n = ap length h in omega (arith, n, length-append entries (e ∷ []))
 
 -- there is room for one more
-pub room : (bytes : List ℕ) (entries : List Entry) (e : Entry) → AreEnded bytes (entries ++ e ∷ []) → HasRoom (counts_of (outcomes entries) 0)
+room : (bytes : List ℕ) (entries : List Entry) (e : Entry) → AreEnded bytes (entries ++ e ∷ []) → HasRoom (counts_of (outcomes entries) 0)
 room bytes entries e h =
     let few : length entries < 2 ^ 64 - 1 = elim h.begun [
       | inl none ↦ absurd (nil_not_push entries e none)
@@ -37,10 +41,29 @@ push entries e counts h =
     ap (λ (c : Conclusion). counted c e.outcome) h ∙ sym (counts-push (outcomes entries) e.outcome 0)
     ∙ ap (λ (os : List Outcome). counts_of os 0) (sym (map-append (λ (x : Entry). x.outcome) entries (e ∷ [])))
 
--- the outcomes of rows that are kept
-pub outcomes_kept : (rows : List Row) → map (λ row. row.outcome) rows ≡ outcomes (map entry_read rows)
-outcomes_kept [] = refl
-outcomes_kept (row ∷ rows) = ap (λ (os : List Outcome). row.outcome ∷ os) (outcomes_kept rows)
+-- ---- the next row of an input
+
+module _ {I : Type 0} (remaining : I → Option (List ℕ)) (start : Option (List ℕ))
+    (now : InputRows I) (entries : List Entry) (found : Option Row)
+    (came : MatchOption found (HasEnded remaining start now entries)
+    (λ row. HasCome remaining start now (entries ++ entry_read row ∷ []))) where
+  abbrev Came : Option Row → Type 0
+  Came o = MatchOption o (HasEnded remaining start now entries)
+      (λ row. HasCome remaining start now (entries ++ entry_read row ∷ []))
+
+  pub has_come : (row : Row) → found ≡ Some row
+      → HasCome remaining start now (entries ++ entry_read row ∷ [])
+  has_come row is = subst Came is came
+
+  pub has_ended : found ≡ None → HasEnded remaining start now entries
+  has_ended is = subst Came is came
+
+  -- there is room for it
+  pub has_room : (row : Row) (counts : Conclusion) → found ≡ Some row
+      → counts ≡ counts_of (outcomes entries) 0 → HasRoom counts
+  has_room row counts is h =
+      let come = has_come row is in
+      subst HasRoom (sym h) (room come.bytes entries (entry_read row) come.followed.ended)
 
 -- each row has one of the four outcomes that are counted
 unrolled : (x : Outcome) (os : List Outcome) → rows_counted (counts_of (x ∷ os) 0)
@@ -81,3 +104,18 @@ pub numbers_are : (program : List ℕ) (entries : List Entry) (ending : Ending) 
 numbers_are program entries ending counts h =
     ap (λ (c : Conclusion). numbers_counted c ending) h
     ∙ rw (rows_counted_are entries (counts_of (outcomes entries) 0) refl) refl
+
+-- the counts of rows that are kept, and what they are in numbers
+pub counts_kept : (rows : List Row) (counts : Conclusion)
+    → counts ≡ counts_of (map (λ row. row.outcome) rows) 0
+    → counts ≡ counts_of (outcomes (map entry_read rows)) 0
+counts_kept rows counts h =
+    h ∙ ap (λ (os : List Outcome). counts_of os 0)
+    (sym (map-map (λ (entry : Entry). entry.outcome) entry_read rows))
+
+pub numbers_kept : (program : List ℕ) (rows : List Row) (ending : Ending) (counts : Conclusion)
+    (numbers : Numbers) → counts ≡ counts_of (map (λ row. row.outcome) rows) 0
+    → numbers ≡ numbers_counted counts ending
+    → numbers ≡ numbers_of (record { program = program; entries = map entry_read rows; ending = ending })
+numbers_kept program rows ending counts numbers h n =
+    n ∙ numbers_are program (map entry_read rows) ending counts (counts_kept rows counts h)

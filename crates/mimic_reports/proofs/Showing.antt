@@ -1,6 +1,8 @@
 -- Reports as they are printed: the parts of their text, and how printing stops.
-use Rattle.std.proofs.Common.{◌≡◌, ◌∙◌, ℕ, suc, Bool, List, [], ◌∷◌, ◌++◌, ap, ap₂, length, map, refl, sym}
-use Rattle.std.proofs.lemmas.List.{map-append}
+use Rattle.std.proofs.Common.{◌≡◌, ◌∙◌, ℕ, Bool, List, [], ◌∷◌, ◌++◌, ap, ap₂, length, map, sym}
+use Rattle.std.proofs.lemmas.List.{length-map, map-append}
+use Rattle.std.proofs.lemmas.List.Folds.{flat_map-map}
+use Rattle.std.proofs.lemmas.Simd.{map-map}
 use Rattle.std.specs.List.{flat_map}
 use Rattle.mimic_text.specs.declared.formats.FormatSetting.TheVariants.{Pretty}
 use Rattle.mimic_trial.specs.Count.{counts_of}
@@ -9,7 +11,7 @@ use Rattle.mimic_trial.specs.declared.outcome.conclusion.Conclusion.{Conclusion}
 use Rattle.mimic_trial.specs.declared.trial.TestInfo.{TestInfo}
 use Rattle.mimic_printer.specs.declared.Printer.{Printer}
 use Rattle.mimic_printer.specs.Report.{failures_text, report_text, row_text, summary_text, title_text}
-use Rattle.mimic_printer.specs.Row.{label_of, outcomes_of, row_of, rows_from}
+use Rattle.mimic_printer.specs.Row.{PrintedRow, label_of, outcomes_of, row_of, rows_from}
 use Rattle.mimic_printer.specs.Widths.{kind_width_of, name_width_of}
 use Rattle.mimic_events.specs.declared.report.Row.{Row}
 use Rattle.mimic_reports.specs.Show.{labels_in, pretty_printer, printed_row}
@@ -17,16 +19,8 @@ use Rattle.mimic_reports.specs.Show.{labels_in, pretty_printer, printed_row}
 -- ---- rows
 
 labels-same : (rows : List (TestInfo × Outcome)) → labels_in (rows_from rows) ≡ map (λ row. label_of row.0) rows
-labels-same [] = refl
-labels-same (row ∷ rows) = ap (λ l. label_of row.0 ∷ l) (labels-same rows)
-
-length-same : (rows : List (TestInfo × Outcome)) → length (rows_from rows) ≡ length rows
-length-same [] = refl
-length-same (row ∷ rows) = ap (λ n. suc n) (length-same rows)
-
-text-same : (p : Printer) (rows : List (TestInfo × Outcome)) → flat_map (row_text p) (rows_from rows) ≡ flat_map (λ row. row_text p (row_of row.0 row.1)) rows
-text-same p [] = refl
-text-same p (row ∷ rows) = ap (λ t. row_text p (row_of row.0 row.1) ++ t) (text-same p rows)
+labels-same rows =
+    map-map (λ (row : PrintedRow). row.label) (λ (row : TestInfo × Outcome). row_of row.0 row.1) rows
 
 -- the printer of these columns
 pub printer-same : (colours : Bool) (rows : List (TestInfo × Outcome)) (n k : ℕ) → n ≡ name_width_of (map (λ row. label_of row.0) rows) → k ≡ kind_width_of (map (λ row. label_of row.0) rows)
@@ -52,6 +46,6 @@ pub text-parts : (p : Printer) (rows : List (TestInfo × Outcome)) (n : ℕ) (co
 unfolding report_text
 text-parts p rows n counts nanos count same =
     let parts : ℕ → List ℕ → Conclusion → List ℕ = λ k t s. title_text p k ++ (t ++ (failures_text p (rows_from rows) ++ (summary_text p s nanos ++ []))) in
-    ap (λ k. parts k (flat_map (row_text p) (rows_from rows)) (counts_of (outcomes_of (rows_from rows)) counts.num_filtered_out)) (length-same rows ∙ sym count)
-    ∙ ap (λ t. parts n t (counts_of (outcomes_of (rows_from rows)) counts.num_filtered_out)) (text-same p rows)
+    ap (λ k. parts k (flat_map (row_text p) (rows_from rows)) (counts_of (outcomes_of (rows_from rows)) counts.num_filtered_out)) (length-map rows (λ (row : TestInfo × Outcome). row_of row.0 row.1) ∙ sym count)
+    ∙ ap (λ t. parts n t (counts_of (outcomes_of (rows_from rows)) counts.num_filtered_out)) (flat_map-map (row_text p) (λ (row : TestInfo × Outcome). row_of row.0 row.1) rows)
     ∙ ap (λ s. parts n (flat_map (λ row. row_text p (row_of row.0 row.1)) rows) s) (sym same)

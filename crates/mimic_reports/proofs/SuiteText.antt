@@ -1,26 +1,23 @@
 -- The element of a report, by its parts, and what is left of it with a fault.
-use Rattle.std.proofs.Common.{◌≡◌, ℕ, List, [], ◌∷◌, ◌++◌, Option, IfSome, Result, Ok, Err, length, map, codes, refl, sym, ap, subst, ◌∙◌, append-nil}
-use Rattle.std.specs.Prelude.{MatchResult}
+use Rattle.std.proofs.Common.{◌≡◌, ℕ, List, [], ◌∷◌, ◌++◌, Option, IfSome, Result, length, map, codes, refl, sym, ap, subst, ◌∙◌, append-nil}
 use Rattle.std.specs.List.{flat_map}
-use Rattle.std.specs.Result.{IsErrAnd}
 use Rattle.std.proofs.lemmas.List.Concat.{flat_map-append}
+use Rattle.std.proofs.lemmas.List.Folds.{flat_map-map}
 use Rattle.mimic_printer.specs.Json.{Entry}
 use Rattle.mimic_printer.specs.Sink.{Put, Shown, Stopped, Writes}
 use Rattle.mimic_printer.proofs.Appending.{Put-Stopped, Put-trans, Puts_then, Stopped-more, stop2}
 use Rattle.mimic_events.specs.Contents.{entry_read}
 use Rattle.mimic_events.specs.declared.report.Row.{Row}
 use Rattle.mimic_reports.specs.declared.elements.Numbers.{Numbers}
-use Rattle.mimic_reports.specs.declared.junit.SuiteFault.{SuiteFault}
-use Rattle.mimic_reports.specs.declared.junit.SuiteFault.TheVariants as suite
+use Rattle.mimic_reports.specs.declared.junit.JunitFault.{JunitFault}
+use Rattle.mimic_reports.specs.declared.junit.JunitFault.TheVariants as junit
 use Rattle.mimic_reports.specs.Junit.{Suite, case_text, ending_text, numbers_of, suite_start, suite_text}
 use Rattle.mimic_reports.specs.declared.suite.Rows.{Rows}
 use Rattle.mimic_reports.specs.declared.suite.Rows.TheVariants.{Again, Kept}
 use Rattle.mimic_reports.specs.declared.suite.Suite.{Suite as SuiteRead}
 use Rattle.mimic_input.specs.Readings.{IsReading}
 use Rattle.mimic_reports.specs.Suites.{HasLeft, HasRows, IsShown, counts_in, numbers_counted, numbers_in}
-use Rattle.mimic_reports.proofs.RowCounts.{numbers_are, outcomes_kept}
-use Rattle.mimic_trial.specs.Count.{counts_of}
-use Rattle.mimic_trial.specs.declared.outcome.Outcome.{Outcome}
+use Rattle.mimic_reports.proofs.RowCounts.{numbers_kept}
 use Rattle.mimic_trial.specs.declared.outcome.conclusion.Conclusion.{Conclusion}
 use Rattle.std.specs.Global.{Vec}
 
@@ -47,25 +44,23 @@ module _ (s : Suite) (numbers : Numbers) (rows : List ℕ) (ended : ℕ) (n : nu
 
 -- the rows that are kept
 pub rows_kept : (program : List ℕ) (rows : List Row) → flat_map (λ row. case_text program (entry_read row)) rows ≡ flat_map (case_text program) (map entry_read rows)
-rows_kept program [] = refl
-rows_kept program (row ∷ rows) = ap (λ (l : List ℕ). case_text program (entry_read row) ++ l) (rows_kept program rows)
+rows_kept program rows = sym (flat_map-map (case_text program) entry_read rows)
 
 -- one more row
 pub one_more_row : (program : List ℕ) (entries : List Entry) (e : Entry) → flat_map (case_text program) (entries ++ e ∷ []) ≡ flat_map (case_text program) entries ++ case_text program e
 one_more_row program entries e =
     flat_map-append (case_text program) entries (e ∷ []) ∙ ap (λ (l : List ℕ). flat_map (case_text program) entries ++ l) (append-nil (case_text program e))
 
--- a fault
-pub err_left : {T : Type 0} (P : T → Type 0) (a b : Shown) (result : Result T SuiteFault) (fault : SuiteFault) → IsErrAnd result (λ f. f ≡ fault) → HasLeft a b fault
-    → MatchResult result P (HasLeft a b)
-err_left P a b (Ok x) fault h left = absurd h
-err_left P a b (Err f) fault h left = subst (HasLeft a b) (sym h) left
-
 -- a fault after what was written
-pub left_after : (a b c : Shown) (text : List ℕ) (fault : SuiteFault) → Put a b text → HasLeft b c fault → HasLeft a c fault
-left_after a b c text (suite.Input fault) p left = (text ++ left.0, Put-trans text left.0 p left.1)
-left_after a b c text suite.Changed p left = (text ++ left.0, Put-trans text left.0 p left.1)
-left_after a b c text (suite.Write fault) p left = (text ++ left.0, Put-Stopped text left.0 p left.1)
+pub left_after : (place : ℕ) (a b c : Shown) (text : List ℕ) (fault : JunitFault)
+    → Put a b text → HasLeft place b c fault → HasLeft place a c fault
+left_after place a b c text junit.TooMany p left = left
+left_after place a b c text (junit.Input at fault) p left =
+    (left.0, text ++ left.1, Put-trans text left.1 p left.2)
+left_after place a b c text (junit.Changed at) p left =
+    (left.0, text ++ left.1, Put-trans text left.1 p left.2)
+left_after place a b c text (junit.Write fault) p left =
+    (text ++ left.0, Put-Stopped text left.0 p left.1)
 
 -- ---- what is written of a report that was read
 
@@ -75,8 +70,7 @@ module _ {I : Type 0} (remaining : I → Option (List ℕ)) (report : SuiteRead 
   kept_shown rows e = record {
     program = refl;
     numbers = sym (ap (λ (r : Rows I). numbers_counted (counts_in r) report.ending) e
-        ∙ numbers_are report.program.now (map entry_read rows.items) report.ending (counts_of (map (λ (row : Row). row.outcome) rows.items) 0)
-        (ap (λ (os : List Outcome). counts_of os 0) (outcomes_kept rows.items)));
+        ∙ numbers_kept report.program.now rows.items report.ending _ _ refl refl);
     rows = subst (λ (r : Rows I). HasRows remaining r report.ending (map entry_read rows.items) report.ending) (sym e) (refl, refl);
   }
 
@@ -88,8 +82,3 @@ module _ {I : Type 0} (remaining : I → Option (List ℕ)) (report : SuiteRead 
     numbers = n ∙ same;
     rows = subst (λ (r : Rows I). HasRows remaining r report.ending written.entries written.ending) (sym e) reading;
   }
-
--- a result of which more is known
-pub more_known : {T E : Type 0} (P Q : T → Type 0) (R : E → Type 0) (result : Result T E) → ((x : T) → P x → Q x) → MatchResult result P R → MatchResult result Q R
-more_known P Q R (Ok x) f h = f x h
-more_known P Q R (Err e) f h = h

@@ -1,6 +1,6 @@
 -- The numbers of reports together.
-use Rattle.std.proofs.Common.{◌≡◌, inl, inr, ℕ, ◌+◌, ◌<◌, ◌≤◌, List, [], ◌∷◌, ◌++◌, length, get_or, take, drop, map, refl, sym, ap, ap₂, subst, ◌∙◌, arith, take-append-drop}
-use Rattle.std.proofs.lemmas.List.{map-append, take_all, take_more}
+use Rattle.std.proofs.Common.{◌≡◌, inl, inr, ℕ, ◌+◌, ◌<◌, List, [], ◌∷◌, ◌++◌, length, get_or, take, drop, map, refl, sym, ap, ap₂, subst, ◌∙◌, arith, take-append-drop}
+use Rattle.std.proofs.lemmas.List.{map-append, take_more}
 use Rattle.mimic_reports.specs.declared.elements.Numbers.{Numbers}
 use Rattle.mimic_reports.specs.Junit.{added, total}
 use Rattle.mimic_reports.specs.Suites.{IsTooGreat}
@@ -53,6 +53,3 @@ module _ {X : Type 0} (f : X → Numbers) (xs : List X) (at : ℕ) (d : X) (with
       (sym (total-append (map f (take (at + 1) xs)) (map f (drop (at + 1) xs))) ∙ ap total (sym (map-append f (take (at + 1) xs) (drop (at + 1) xs)))
       ∙ ap (λ (l : List X). total (map f l)) (take-append-drop (at + 1) xs))
       (too_great_more (total (map f (take (at + 1) xs))) (total (map f (drop (at + 1) xs))) (subst IsTooGreat (total_more all e) h))
-
-pub total_all : {X : Type 0} (f : X → Numbers) (xs : List X) (at : ℕ) (all : Numbers) → length xs ≤ at → all ≡ total (map f (take at xs)) → all ≡ total (map f xs)
-total_all f xs at all h e = e ∙ ap (λ l. total (map f l)) (take_all at xs h)

@@ -1,9 +1,8 @@
 -- Lists in turn.
-use Rattle.std.proofs.Common.{◌≡◌, ◌≢◌, ℕ, zero, suc, ◌+◌, ◌-◌, ◌%◌, ◌<◌, ◌≤◌, List, [], ◌∷◌, ◌++◌, length, length-append, map, refl, sym, ap, ap₂, subst, ◌∙◌, arith, append_assoc, inl, inr}
+use Rattle.std.proofs.Common.{◌≡◌, ◌≢◌, ℕ, zero, suc, ◌+◌, ◌-◌, ◌%◌, ◌<◌, ◌≤◌, List, [], ◌∷◌, ◌++◌, length, map, refl, sym, ap, ap₂, subst, ◌∙◌, arith, append_assoc, inl, inr}
 use Rattle.std.specs.List.{flat_map, range_with_len}
 use Rattle.std.specs.Prelude.{IsPermutation}
 use Rattle.std.proofs.lemmas.Bool.{cases_lt, eq-eqb, ne_eqb}
-use Rattle.std.proofs.lemmas.List.{map-append}
 use Rattle.std.proofs.lemmas.List.Sorted.{IsPermutation-refl, IsPermutation-trans, IsPermutation-cons, IsPermutation-append_right}
 use Rattle.std.proofs.lemmas.List.FromFn.{map-range_with_len_more}
 use Rattle.std.proofs.lemmas.List.Concat.{flat_map-append}
@@ -59,41 +58,6 @@ module _ {X : Type 0} where
 
   pub turn : (x : X) (xs : List X) (xss : List (List X)) → in_turn ((x ∷ xs) ∷ xss) ≡ x ∷ in_turn (xss ++ xs ∷ [])
   turn x xs xss = comes_first xs (rounds_of xss) x ∙ ap (λ (l : List (List X)). x ∷ joined_rounds l) (sym (rounds_behind xss xs))
-
-  pub took_one : (done : List X) (x : X) (list left : List X) (others : List (List X)) → list ≡ x ∷ left → (done ++ x ∷ []) ++ in_turn (others ++ left ∷ []) ≡ done ++ in_turn (list ∷ others)
-  took_one done x list left others e =
-      append_assoc done (x ∷ []) (in_turn (others ++ left ∷ [])) ∙ ap (λ l. done ++ l) (sym (turn x left others) ∙ sym (ap (λ l. in_turn (l ∷ others)) e))
-
-  pub took_none : (done list : List X) (others : List (List X)) → list ≡ [] → done ++ in_turn others ≡ done ++ in_turn (list ∷ others)
-  took_none done list others e = ap (λ l. done ++ in_turn (l ∷ others)) (sym e)
-
-  module _ {I : Type 0} (items : I → List X) (x : X) (done rows : List X) (list left : I) (lists others more : List I)
-      (front : lists ≡ list ∷ others) (first : items list ≡ x ∷ items left) (pushed : rows ≡ done ++ x ∷ []) (back : more ≡ others ++ left ∷ []) where
-    moved : in_turn (map items more) ≡ in_turn (map items others ++ items left ∷ [])
-    moved = ap in_turn (ap (map items) back ∙ map-append items others (left ∷ []))
-
-    pub turned : rows ++ in_turn (map items more) ≡ done ++ in_turn (map items lists)
-    turned = ap₂ (λ r l. r ++ l) pushed moved ∙ (took_one done x (items list) (items left) (map items others) first ∙ ap (λ l. done ++ in_turn (map items l)) (sym front))
-
-    pub turned-smaller : length (in_turn (map items more)) + length more < length (in_turn (map items lists)) + length lists
-    turned-smaller =
-        let e : in_turn (map items lists) ≡ x ∷ in_turn (map items more) =
-        ap (λ l. in_turn (map items l)) front ∙ (ap (λ l. in_turn (l ∷ map items others)) first ∙ (turn x (items left) (map items others) ∙ ap (λ l. x ∷ l) (sym moved))) in
-        let n : length (in_turn (map items lists)) ≡ suc (length (in_turn (map items more))) = ap length e in
-        let m : length more ≡ length others + 1 = ap length back ∙ length-append others (left ∷ []) in
-        let k : length lists ≡ suc (length others) = ap length front in
-        omega (arith, n, m, k)
-
-  -- a list that has no more is passed over
-  pub passed : {I : Type 0} (items : I → List X) (done : List X) (list : I) (lists others : List I) → lists ≡ list ∷ others → items list ≡ []
-      → done ++ in_turn (map items others) ≡ done ++ in_turn (map items lists)
-  passed items done list lists others front none = took_none done (items list) (map items others) none ∙ ap (λ l. done ++ in_turn (map items l)) (sym front)
-
-  pub passed-smaller : {I : Type 0} (items : I → List X) (list : I) (lists others : List I) → lists ≡ list ∷ others → items list ≡ []
-      → length (in_turn (map items others)) + length others < length (in_turn (map items lists)) + length lists
-  passed-smaller items list lists others front none =
-      let same : in_turn (map items others) ≡ in_turn (map items lists) = passed items [] list lists others front none in
-      omega (arith, ap length same, ap length front)
 
   -- ---- shards in turn
 

@@ -1,25 +1,12 @@
 -- Which reader, and which line of it, a fault is in.
 use Rattle.std.specs.Prelude.{ℕ, ◌+◌, ◌*◌, Option, Some, None}
+use Rattle.std.specs.Option.{option_and_then, option_map}
 use Rattle.mimic_reports.specs.declared.faults.JoinFault.{JoinFault}
 use Rattle.mimic_reports.specs.declared.faults.JoinFault.TheVariants as join
 use Rattle.mimic_reports.specs.declared.join.Refusal.{Refusal}
 use Rattle.mimic_reports.specs.declared.join.Refusal.TheVariants.{Number, Uneven, NamedTwice, TooMany}
-use Rattle.mimic_input.specs.declared.reading.ReadFault.{ReadFault}
-use Rattle.mimic_input.specs.declared.reading.ReadFault.TheVariants as read
-
--- the place of the report that is refused, if it is one
-abbrev pub refused_place : Refusal → Option ℕ
-refused_place (Number reports shards) = None
-refused_place (Uneven place) = Some place
-refused_place (NamedTwice place row) = Some place
-refused_place TooMany = None
-
--- the place of the reader
-abbrev pub place_of : JoinFault → Option ℕ
-place_of join.OutOfMemory = None
-place_of (join.Input place fault) = Some place
-place_of (join.Refused refusal) = refused_place refusal
-place_of (join.Write error) = None
+use Rattle.mimic_input.specs.declared.fault.ReadFault.{ReadFault}
+use Rattle.mimic_input.specs.declared.fault.ReadFault.TheVariants as read
 
 -- the line that announces the row of this place: the title comes first, and each row has two lines
 abbrev pub row_line : ℕ → ℕ
@@ -32,16 +19,24 @@ wrong_line (read.Input error) = None
 wrong_line (read.WrongLine number) = Some number
 wrong_line read.Cut = None
 
--- the line of the row that is refused, if one is
-abbrev pub refused_line : Refusal → Option ℕ
-refused_line (Number reports shards) = None
-refused_line (Uneven place) = None
-refused_line (NamedTwice place row) = Some (row_line row)
-refused_line TooMany = None
+-- the place of the report that is refused, if it is one, and the line of its row, if that is why
+abbrev pub refused_at : Refusal → Option (ℕ × Option ℕ)
+refused_at (Number reports shards) = None
+refused_at (Uneven place) = Some (place, None)
+refused_at (NamedTwice place row) = Some (place, Some (row_line row))
+refused_at TooMany = None
+
+-- the place of the reader that the fault is in, if it is one, and the line, if it is one
+abbrev pub fault_at : JoinFault → Option (ℕ × Option ℕ)
+fault_at join.OutOfMemory = None
+fault_at (join.Input place fault) = Some (place, wrong_line fault)
+fault_at (join.Refused refusal) = refused_at refusal
+fault_at (join.Write error) = None
+
+-- the place of the reader
+abbrev pub place_of : JoinFault → Option ℕ
+place_of fault = option_map (λ at. at.0) (fault_at fault)
 
 -- the line of the reader
 abbrev pub line_of : JoinFault → Option ℕ
-line_of join.OutOfMemory = None
-line_of (join.Input place fault) = wrong_line fault
-line_of (join.Refused refusal) = refused_line refusal
-line_of (join.Write error) = None
+line_of fault = option_and_then (λ at. at.1) (fault_at fault)

@@ -5,7 +5,7 @@ use Rattle.mimic_printer.specs.Json.{conclusion_of, json_report}
 use Rattle.mimic_printer.specs.Sink.{Put, Shown, Stopped}
 use Rattle.mimic_events.specs.declared.report.Report.{Report}
 use Rattle.mimic_input.specs.Inputs.{GivesNone, IsReportIn}
-use Rattle.mimic_input.specs.declared.reading.ReadFault.{ReadFault}
+use Rattle.mimic_input.specs.declared.fault.ReadFault.{ReadFault}
 use Rattle.mimic_reports.specs.Joined.{CanBeShards, IsRefused, joined_contents}
 use Rattle.mimic_reports.specs.Turns.{Each}
 use Rattle.mimic_reports.specs.declared.join.Refusal.{Refusal}

@@ -11,9 +11,10 @@ use Rattle.mimic_events.specs.declared.report.Label.{Label as LabelRead}
 use Rattle.mimic_input.specs.declared.ending.Ending.{Ending}
 use Rattle.mimic_input.specs.declared.ending.Ending.TheVariants.{Whole, Cut}
 use Rattle.mimic_input.specs.declared.ending.Stop.{Stop}
+use Rattle.mimic_input.specs.Stops.{extent_text}
 use Rattle.mimic_reports.specs.declared.elements.Numbers.{Numbers}
 use Rattle.mimic_escapes.specs.Escapes.{escaped}
-use Rattle.mimic_escapes.specs.Pieces.{first_line}
+use Rattle.mimic_escapes.specs.Pieces.{first_line, label_text}
 use Rattle.mimic_escapes.specs.declared.place.Place.TheVariants.{Content, Value}
 
 -- what is written of one report: the name of its program, its rows that have ended, and how it ended
@@ -98,36 +99,17 @@ case_text program entry = concat (codes "    <testcase classname=\"" ∷ escaped
 
 -- ---- a report without its end
 
--- the line that is wrong
-abbrev pub wrong_part : Option ℕ → List ℕ
-wrong_part None = []
-wrong_part (Some number) = concat (codes "line " ∷ decimal number ∷ codes " is no line of a report; " ∷ [])
-
--- how far the report goes
-abbrev pub extent_part : ℕ → Option ℕ → List ℕ
-extent_part ended None = codes "no report"
-extent_part ended (Some announced) = concat (codes "the report ends after " ∷ decimal ended ∷ codes " of " ∷ decimal announced ∷ codes " trials" ∷ [])
-
--- brackets around a kind, and nothing around an empty one
-abbrev pub opening : List ℕ → List ℕ
-opening [] = []
-opening (b ∷ kind) = codes "["
-
-abbrev pub closing : List ℕ → List ℕ
-closing [] = []
-closing (b ∷ kind) = codes "] "
-
 -- the trial that was announced and has not ended
 abbrev pub running_part : Option LabelRead → List ℕ
 running_part None = []
-running_part (Some label) = concat (codes "; running: " ∷ opening (string_bytes label.kind) ∷ escaped Value (string_bytes label.kind)
-    ∷ closing (string_bytes label.kind) ∷ escaped Value (string_bytes label.name) ∷ [])
+running_part (Some label) = concat (codes "; running: "
+    ∷ label_text Value (string_bytes label.kind) (string_bytes label.name) ∷ [])
 
 -- the line that says so, after so many rows
 unfoldable pub stop_text : List ℕ → ℕ → Stop → List ℕ
 stop_text program ended stop = concat (concat (codes "    <testcase classname=\"" ∷ escaped Value program
     ∷ codes "\" name=\"(whole report)\"><error type=\"incomplete\" message=\"" ∷ [])
-    ∷ wrong_part stop.wrong_line ∷ extent_part ended stop.announced ∷ running_part stop.running ∷ codes "\"/></testcase>\n" ∷ [])
+    ∷ extent_text ended stop ∷ running_part stop.running ∷ codes "\"/></testcase>\n" ∷ [])
 
 -- what follows the rows
 abbrev pub ending_text : List ℕ → ℕ → Ending → List ℕ

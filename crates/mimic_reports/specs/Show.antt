@@ -1,15 +1,12 @@
 -- Reports as the harness prints them in pretty.
-use Rattle.std.specs.Prelude.{◌≡◌, ℕ, Bool, List, Result, Ok, Err, map, string_bytes}
+use Rattle.std.specs.Prelude.{ℕ, Bool, List, map, string_bytes}
 use Rattle.mimic_text.specs.declared.formats.FormatSetting.TheVariants.{Pretty}
 use Rattle.mimic_printer.specs.declared.Printer.{Printer}
 use Rattle.mimic_printer.specs.Report.{failures_if_any, report_text}
 use Rattle.mimic_printer.specs.Row.{Label, PrintedRow}
-use Rattle.mimic_printer.specs.Sink.{Put, Shown, Stopped}
 use Rattle.mimic_printer.specs.Widths.{kind_width_of, name_width_of}
 use Rattle.mimic_events.specs.declared.report.Report.{Report}
 use Rattle.mimic_events.specs.declared.report.Row.{Row}
-use Rattle.mimic_reports.specs.declared.show.ShowFault.{ShowFault}
-use Rattle.mimic_reports.specs.declared.show.ShowFault.TheVariants as fault
 
 -- what is printed of a row that was read: its kind, its name and its outcome
 abbrev pub printed_row : Row → PrintedRow
@@ -42,9 +39,3 @@ pretty_report colours report = report_text (pretty_printer colours (printed_rows
 -- and what it prints of the failures alone
 abbrev pub pretty_failures : Report → List ℕ
 pretty_failures report = failures_if_any (printed_rows report)
-
--- with Ok the text was appended, with a fault of the writer a beginning of it, and without memory nothing
-abbrev pub Shows : List ℕ → Shown → Shown → Result (Unit {0}) ShowFault → Type 0
-Shows text old new (Ok done) = Put old new text
-Shows text old new (Err fault.OutOfMemory) = new ≡ old
-Shows text old new (Err (fault.Write error)) = Stopped old new text

@@ -9,8 +9,6 @@ use Rattle.mimic_reports.specs.declared.elements.Numbers.{Numbers}
 use Rattle.mimic_input.specs.declared.ending.Ending.{Ending}
 use Rattle.mimic_reports.specs.declared.junit.JunitFault.{JunitFault}
 use Rattle.mimic_reports.specs.declared.junit.JunitFault.TheVariants as junit
-use Rattle.mimic_reports.specs.declared.junit.SuiteFault.{SuiteFault}
-use Rattle.mimic_reports.specs.declared.junit.SuiteFault.TheVariants as suite
 use Rattle.mimic_reports.specs.declared.suite.Rows.{Rows}
 use Rattle.mimic_reports.specs.declared.suite.Rows.TheVariants.{Kept, Again}
 use Rattle.mimic_reports.specs.declared.suite.Suite.{Suite as SuiteRead}
@@ -97,16 +95,11 @@ abbrev pub LeavesDocument : {I : Type 0} → (I → Option (List ℕ)) → List 
 LeavesDocument remaining suites old new (Ok done) = (shown : List Suite) × Each (IsShown remaining) suites shown × Put old new (junit_text shown)
 LeavesDocument remaining suites old new (Err fault) = LeftBy suites old new fault
 
--- ---- one report. No public clause names the words below
+-- ---- one report. No public clause names this word
 
--- the same fault of the report at the place
-abbrev pub at_place : SuiteFault → ℕ → JunitFault
-at_place (suite.Input fault) place = junit.Input place fault
-at_place suite.Changed place = junit.Changed place
-at_place (suite.Write fault) place = junit.Write fault
-
--- what is left of a report with a fault
-abbrev pub HasLeft : Shown → Shown → SuiteFault → Type 0
-HasLeft old new (suite.Input fault) = (text : List ℕ) × Put old new text
-HasLeft old new suite.Changed = (text : List ℕ) × Put old new text
-HasLeft old new (suite.Write fault) = (text : List ℕ) × Stopped old new text
+-- what is left of the report of this place with a fault
+abbrev pub HasLeft : ℕ → Shown → Shown → JunitFault → Type 0
+HasLeft place old new junit.TooMany = ⊥
+HasLeft place old new (junit.Input at fault) = (at ≡ place) × (text : List ℕ) × Put old new text
+HasLeft place old new (junit.Changed at) = (at ≡ place) × (text : List ℕ) × Put old new text
+HasLeft place old new (junit.Write fault) = (text : List ℕ) × Stopped old new text

@@ -3,7 +3,7 @@ ghost use Rattle.std.specs.Prelude.{◌≡◌};
 ghost use Rattle.std.specs.Option.{option_copied};
 ghost use Rattle.mimic_printer.specs.Sink.{HasFaultLeft, Puts};
 ghost use Rattle.mimic_events.specs.Contents.{entry_read};
-ghost use Rattle.mimic_reports.specs.Junit.{case_text, class_point, closing, extent_part, opening, root_start, running_part, stop_text, suite_start, wrong_part};
+ghost use Rattle.mimic_reports.specs.Junit.{case_text, class_point, root_start, running_part, stop_text, suite_start};
 
 use mimic_escapes::{Piece, Place, put_pieces};
 use mimic_events::{Label, Row};
@@ -168,46 +168,9 @@ pub(crate) fn put_stop<'a, W: Write>(
         Piece::Text("\" name=\"(whole report)\"><error type=\"incomplete\" message=\""),
     ];
     put_pieces(sink, &front)?;
-    put_wrong_line(sink, stop.wrong_line)?;
-    put_extent(sink, ended, stop.announced)?;
+    stop.put_extent(sink, ended)?;
     put_running(sink, stop.running.as_ref())?;
     sink.put(b"\"/></testcase>\n")
-}
-
-fn put_wrong_line<W: Write>(sink: &mut Sink<W>, number: Option<u128>) -> Result<(), WriteFault>
-    requires { HasFaultLeft sink.old }
-    ensures { Puts W.contents sink.old sink.new (wrong_part number) result }
-{
-    let Some(number) = number else {
-        return sink.put(b"");
-    };
-    let pieces = [
-        Piece::Text("line "),
-        Piece::Long(number),
-        Piece::Text(" is no line of a report; "),
-    ];
-    put_pieces(sink, &pieces)
-}
-
-fn put_extent<W: Write>(
-    sink: &mut Sink<W>,
-    ended: u128,
-    announced: Option<u64>,
-) -> Result<(), WriteFault>
-    requires { HasFaultLeft sink.old }
-    ensures { Puts W.contents sink.old sink.new (extent_part ended announced) result }
-{
-    let Some(announced) = announced else {
-        return sink.put(b"no report");
-    };
-    let pieces = [
-        Piece::Text("the report ends after "),
-        Piece::Long(ended),
-        Piece::Text(" of "),
-        Piece::Number(announced),
-        Piece::Text(" trials"),
-    ];
-    put_pieces(sink, &pieces)
 }
 
 fn put_running<W: Write>(sink: &mut Sink<W>, running: Option<&Label>) -> Result<(), WriteFault>
@@ -216,30 +179,14 @@ fn put_running<W: Write>(sink: &mut Sink<W>, running: Option<&Label>) -> Result<
         (running_part (option_copied running.entry)) result }
 {
     let Some(label) = running else {
-        return sink.put(b"");
+        return Ok(());
     };
-    let kind = label.kind.as_str();
-    let (open, close) = brackets(kind);
-    let pieces = [
-        Piece::Text("; running: "),
-        Piece::Text(open),
-        Piece::Escaped(kind, Place::Value),
-        Piece::Text(close),
-        Piece::Escaped(label.name.as_str(), Place::Value),
-    ];
-    put_pieces(sink, &pieces)
-}
-
-// Returns what stands around a kind.
-fn brackets(kind: &str) -> (&'static str, &'static str)
-    ensures opening { result.0.now ≡ opening kind.now }
-    ensures closing { result.1.now ≡ closing kind.now }
-{
-    if kind.is_empty() {
-        ("", "")
-    } else {
-        ("[", "] ")
-    }
+    let label = Piece::Label {
+        kind: label.kind.as_str(),
+        name: label.name.as_str(),
+        place: Place::Value,
+    };
+    put_pieces(sink, &[Piece::Text("; running: "), label])
 }
 
 impl Numbers {

@@ -6,9 +6,8 @@ ghost use Rattle.mimic_reports.specs.Joined.{CanBeShards, IsRefused, joined_cont
 ghost use Rattle.mimic_reports.specs.Text.{contents_of};
 
 use crate::faults::JoinFault;
-use crate::join::{Refusal, refusal_of};
-use crate::numbers::totals;
-use crate::order::rows_in_turn;
+use crate::join::{Refusal, totals_of};
+use crate::order::refs_in_turn;
 use crate::text::Text;
 use mimic_events::Report;
 use mimic_input::read_from;
@@ -53,13 +52,11 @@ fn text_of(
         × (contents_of text ≡ joined_contents reports.now))
         (IsRefused shards equal_names reports.now)) }
 {
-    if let Some(refusal) = refusal_of(alloc, reports, shards, equal_names)? {
-        return Ok(Err(refusal));
-    }
-    let Some((filtered_out, nanos)) = totals(reports) else {
-        return Ok(Err(Refusal::TooMany));
+    let (filtered_out, nanos) = match totals_of(alloc, reports, shards, equal_names)? {
+        Ok(totals) => totals,
+        Err(refusal) => return Ok(Err(refusal)),
     };
-    let rows = rows_in_turn(alloc, reports)?;
+    let rows = refs_in_turn(alloc, reports)?;
     Ok(Ok(Text {
         rows,
         filtered_out,

@@ -1,15 +1,12 @@
 //! The reports of shards as one.
-ghost use Rattle.std.specs.Prelude.{◌≡◌, ◌≤◌, ◌^◌, IfOk, MatchOption, map};
-ghost use Rattle.std.specs.Vec.Iter.{into_iter_items};
-ghost use Rattle.mimic_reports.specs.Joined.{CanBeShards, IsJoined, IsRefused, Joins, JoinLaws, filtered_out_of};
-ghost use Rattle.mimic_reports.specs.Turns.{in_turn};
+ghost use Rattle.std.specs.Prelude.{◌≡◌, IfOk, MatchOption, MatchResult, map};
+ghost use Rattle.mimic_reports.specs.Joined.{CanBeShards, IsRefused, Joins, JoinLaws, filtered_out_of, greatest, time_of};
 
 use crate::names::named_twice;
 use crate::numbers::{totals, uneven};
-use mimic_events::{Report, Row};
+use crate::order::rows_in_turn;
+use mimic_events::Report;
 use std::alloc::{AllocError, Global};
-use std::collections::VecDeque;
-use std::vec::IntoIter;
 use thiserror::Error;
 
 /// Why reports are not joined. Places count from 0.
@@ -49,17 +46,41 @@ pub fn joined(
     // What holds of all reports that are joined: each row comes once, and the reports of all shards have each trial once.
     ensures laws { JoinLaws }
 {
-    if let Some(refusal) = refusal_of(alloc, &reports, shards, equal_names)? {
+    let (filtered_out, nanos) = match totals_of(alloc, &reports, shards, equal_names)? {
+        Ok(totals) => totals,
+        Err(refusal) => return Ok(Err(refusal)),
+    };
+    let rows = rows_in_turn(alloc, reports)?;
+    Ok(Ok(Report {
+        rows,
+        filtered_out,
+        nanos,
+    }))
+}
+
+// Returns the number of all trials that were filtered out and the time of the longest run, or why the reports are not joined.
+pub(crate) fn totals_of(
+    alloc: Global,
+    reports: &[Report],
+    shards: usize,
+    equal_names: bool,
+) -> Result<Result<(u64, u64), Refusal>, AllocError>
+    ensures { IfOk result (λ answer. MatchResult answer
+        (λ x. CanBeShards shards equal_names reports.now × (x.0 ≡ filtered_out_of reports.now)
+        × (x.1 ≡ greatest (map time_of reports.now)))
+        (IsRefused shards equal_names reports.now)) }
+{
+    if let Some(refusal) = refusal_of(alloc, reports, shards, equal_names)? {
         return Ok(Err(refusal));
     }
-    match whole(alloc, reports)? {
-        Some(report) => Ok(Ok(report)),
+    match totals(reports) {
+        Some(totals) => Ok(Ok(totals)),
         None => Ok(Err(Refusal::TooMany)),
     }
 }
 
 // Returns why the reports can't be those of so many shards of one list, and `None` if they can.
-pub(crate) fn refusal_of(
+fn refusal_of(
     alloc: Global,
     reports: &[Report],
     shards: usize,
@@ -82,40 +103,4 @@ pub(crate) fn refusal_of(
         Some((place, row)) => Ok(Some(Refusal::NamedTwice { place, row })),
         None => Ok(None),
     }
-}
-
-// Joins the reports, whatever they are. `None` says that too many trials were filtered out.
-fn whole(alloc: Global, reports: Vec<Report>) -> Result<Option<Report>, AllocError>
-    ensures { IfOk result (λ found. MatchOption found (2 ^ 64 ≤ filtered_out_of reports.items)
-        (IsJoined reports.items)) }
-{
-    let Some((filtered_out, nanos)) = totals(&reports) else {
-        return Ok(None);
-    };
-    let mut lists = VecDeque::new(alloc);
-    for report in reports {
-        lists.push_back(report.rows.into_iter())?;
-    }
-    let rows = taken_in_turn(alloc, lists)?;
-    Ok(Some(Report {
-        rows,
-        filtered_out,
-        nanos,
-    }))
-}
-
-// Takes the rows of the lists in turn. The first row of the first list comes, and what is left of that list goes behind the
-// others.
-fn taken_in_turn(alloc: Global, lists: VecDeque<IntoIter<Row>>) -> Result<Vec<Row>, AllocError>
-    ensures { IfOk result (λ rows. rows.items ≡ in_turn (map into_iter_items lists.items)) }
-{
-    let mut lists = lists;
-    let mut rows = Vec::new(alloc);
-    while let Some(mut list) = lists.pop_front() {
-        if let Some(row) = list.next() {
-            rows.push(row)?;
-            lists.push_back(list)?;
-        }
-    }
-    Ok(rows)
 }

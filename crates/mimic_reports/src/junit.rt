@@ -10,13 +10,11 @@ ghost use Rattle.mimic_input.specs.Readings.{IsReading};
 ghost use Rattle.mimic_reports.specs.Suites.{HasLeft, IsShown, IsTooGreat, LeavesDocument, numbers_in};
 ghost use Rattle.mimic_escapes.specs.Laws.{EscapeLaws};
 ghost use Rattle.mimic_reports.specs.declared.junit.JunitFault.TheVariants.{Write as WriteStopped};
-ghost use Rattle.mimic_reports.specs.declared.junit.SuiteFault.TheVariants.{Input, Write as WriteFailed};
-ghost use Rattle.mimic_input.specs.declared.rows.InputFault.TheVariants.{OutOfMemory};
 
 use crate::elements::{Numbers, put_case, put_root_start, put_stop, put_suite_start};
-use crate::suite::{Rows, Suite, counts_of_rows, numbers_counted, rows_counted};
-use mimic_events::Row;
-use mimic_input::{Ending, InputFault, InputRows};
+use crate::suite::{Rows, Suite, numbers_counted, rows_counted};
+use mimic_events::{Row, counts_of_rows};
+use mimic_input::{Ending, InputRows, ReadFault};
 use mimic_printer::{Sink, WriteFault};
 use mimic_trial::Conclusion;
 use std::alloc::{AllocError, Global};
@@ -31,7 +29,7 @@ pub enum JunitFault {
     TooMany,
     /// The report at this place couldn't be read again.
     #[error("{fault}")]
-    Input { place: usize, fault: InputFault },
+    Input { place: usize, fault: ReadFault },
     /// The report at this place has other numbers than when it was read first.
     #[error("it changed while it was read")]
     Changed { place: usize },
@@ -95,9 +93,7 @@ pub fn write_junit<I: Read + Drop, W: Write>(
     put_root_start(sink, &numbers)?;
     let mut place = 0;
     for suite in suites {
-        if let Err(fault) = put_suite(alloc, suite, sink) {
-            return Err(fault.at(place));
-        }
+        put_suite(alloc, place, suite, sink)?;
         place += 1;
     }
     sink.put(b"</testsuites>\n")?;
@@ -105,40 +101,18 @@ pub fn write_junit<I: Read + Drop, W: Write>(
     Ok(())
 }
 
-// Why a report was not written to its end.
-#[derive(Debug, Drop)]
-pub(crate) enum SuiteFault {
-    Input(InputFault),
-    Changed,
-    Write(WriteFault),
-}
-
-impl SuiteFault {
-    ghost use Rattle.std.specs.Prelude.{◌≡◌};
-    ghost use Rattle.mimic_reports.specs.Suites.{at_place};
-
-    fn at(self, place: usize) -> JunitFault
-        ensures { result ≡ at_place self place }
-    {
-        match self {
-            SuiteFault::Input(fault) => JunitFault::Input { place, fault },
-            SuiteFault::Changed => JunitFault::Changed { place },
-            SuiteFault::Write(fault) => JunitFault::Write(fault),
-        }
-    }
-}
-
-// Writes a report.
+// Writes the report of this place.
 fn put_suite<I: Read + Drop, W: Write>(
     alloc: Global,
+    place: usize,
     suite: Suite<'_, I>,
     sink: &mut Sink<W>,
-) -> Result<(), SuiteFault>
+) -> Result<(), JunitFault>
     requires { HasFaultLeft sink.old }
     ensures { MatchResult result (λ _. (written : ShownSuite)
         × IsShown I.remaining suite.entry written
         × Put (shown W.contents sink.old) (shown W.contents sink.new) (suite_text written))
-        (HasLeft (shown W.contents sink.old) (shown W.contents sink.new)) }
+        (HasLeft place (shown W.contents sink.old) (shown W.contents sink.new)) }
 {
     let numbers = suite.numbers();
     let Suite {
@@ -151,7 +125,9 @@ fn put_suite<I: Read + Drop, W: Write>(
             put_kept(sink, program, &rows, &ending)?;
             Ok(())
         }
-        Rows::Again { input, counts: _ } => put_counted(alloc, program, input, &numbers, sink),
+        Rows::Again { input, counts: _ } => {
+            put_counted(alloc, place, program, input, &numbers, sink)
+        }
     }
 }
 
@@ -167,7 +143,7 @@ fn put_kept<'a, W: Write>(
         (suite_text (record { program = program.now; entries = map entry_read rows.now; ending = ending.now }))
         result }
 {
-    let counts = counts_of_rows(rows);
+    let counts = counts_of_rows(rows, 0);
     put_suite_start(sink, program, &numbers_counted(&counts, ending))?;
     put_rows(sink, program, rows)?;
     put_suite_end(sink, program, rows_counted(&counts), ending)
@@ -208,25 +184,26 @@ fn put_suite_end<'a, W: Write>(
     }
 }
 
-// Writes a report whose rows are read again, and should have these numbers.
+// Writes the report of this place, whose rows are read again, and which should have these numbers.
 fn put_counted<'a, I: Read + Drop, W: Write>(
     alloc: Global,
+    place: usize,
     program: &'a str,
     input: I,
     numbers: &Numbers,
     sink: &mut Sink<W>,
-) -> Result<(), SuiteFault>
+) -> Result<(), JunitFault>
     requires { HasFaultLeft sink.old }
     ensures { MatchResult result (λ _. (written : ShownSuite) × (written.program ≡ program.now)
         × (numbers_of written ≡ numbers.now)
         × IfSome (I.remaining input) (IsReading written.entries written.ending)
         × Put (shown W.contents sink.old) (shown W.contents sink.new) (suite_text written))
-        (HasLeft (shown W.contents sink.old) (shown W.contents sink.new)) }
+        (HasLeft place (shown W.contents sink.old) (shown W.contents sink.new)) }
 {
     put_suite_start(sink, program, numbers)?;
-    let (counts, ending) = put_again(alloc, program, input, sink)?;
+    let (counts, ending) = put_again(alloc, place, program, input, sink)?;
     if numbers_counted(&counts, &ending) != *numbers {
-        return Err(SuiteFault::Changed);
+        return Err(JunitFault::Changed { place });
     }
     put_suite_end(sink, program, rows_counted(&counts), &ending)?;
     Ok(())
@@ -235,54 +212,46 @@ fn put_counted<'a, I: Read + Drop, W: Write>(
 // Writes the rows of an input as they come, and returns their counts and how the report ended.
 fn put_again<'a, I: Read + Drop, W: Write>(
     alloc: Global,
+    place: usize,
     program: &'a str,
     input: I,
     sink: &mut Sink<W>,
-) -> Result<(Conclusion, Ending), SuiteFault>
+) -> Result<(Conclusion, Ending), JunitFault>
     requires { HasFaultLeft sink.old }
     ensures { MatchResult result (λ x. (entries : List Entry)
         × (x.0 ≡ counts_of (map (λ entry. entry.outcome) entries) 0)
         × IfSome (I.remaining input) (IsReading entries x.1)
         × Put (shown W.contents sink.old) (shown W.contents sink.new)
         (flat_map (case_text program.now) entries))
-        (HasLeft (shown W.contents sink.old) (shown W.contents sink.new)) }
+        (HasLeft place (shown W.contents sink.old) (shown W.contents sink.new)) }
 {
-    let mut rows = InputRows::new(alloc, input)?;
+    let Ok(mut rows) = InputRows::new(alloc, input) else {
+        return Err(JunitFault::Input {
+            place,
+            fault: ReadFault::OutOfMemory,
+        });
+    };
     let mut counts = Conclusion::empty(0);
     for _ in 0..u64::MAX {
-        match rows.next_row()? {
-            Some(row) => {
+        match rows.next_row() {
+            Ok(Some(row)) => {
                 put_case(sink, program, &row)?;
                 counts.count(&row.outcome);
             }
-            None => return Ok((counts, rows.finish()?)),
+            Ok(None) => match rows.finish() {
+                Ok(ending) => return Ok((counts, ending)),
+                Err(AllocError) => return Err(JunitFault::Input {
+                    place,
+                    fault: ReadFault::OutOfMemory,
+                }),
+            },
+            Err(fault) => return Err(JunitFault::Input { place, fault }),
         }
     }
-    Err(SuiteFault::Input(InputFault::Input(ErrorKind::Other.into())))
-}
-
-impl From<AllocError> for SuiteFault {
-    ghost from_gives = { λ _ fault. fault ≡ Input OutOfMemory };
-
-    fn from(_error: AllocError) -> SuiteFault {
-        SuiteFault::Input(InputFault::OutOfMemory)
-    }
-}
-
-impl From<InputFault> for SuiteFault {
-    ghost from_gives = { λ error fault. fault ≡ Input error };
-
-    fn from(error: InputFault) -> SuiteFault {
-        SuiteFault::Input(error)
-    }
-}
-
-impl From<WriteFault> for SuiteFault {
-    ghost from_gives = { λ error fault. fault ≡ WriteFailed error };
-
-    fn from(error: WriteFault) -> SuiteFault {
-        SuiteFault::Write(error)
-    }
+    Err(JunitFault::Input {
+        place,
+        fault: ReadFault::Input(ErrorKind::Other.into()),
+    })
 }
 
 impl From<WriteFault> for JunitFault {

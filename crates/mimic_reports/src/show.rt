@@ -4,30 +4,17 @@ ghost use Rattle.std.specs.List.{flat_map};
 ghost use Rattle.mimic_trial.specs.Count.{counts_of};
 ghost use Rattle.mimic_printer.specs.Report.{failures_if_any, report_text, row_text};
 ghost use Rattle.mimic_printer.specs.Row.{label_of, outcomes_of, row_of, rows_from};
-ghost use Rattle.mimic_printer.specs.Sink.{HasFaultLeft, Puts, shown};
+ghost use Rattle.mimic_printer.specs.Sink.{HasFaultLeft, LeavesText, Puts, shown};
 ghost use Rattle.mimic_printer.specs.Widths.{kind_chars, kind_width_of, name_chars, name_width_of};
-ghost use Rattle.mimic_reports.specs.Show.{Shows, pretty_failures, pretty_printer, pretty_report, printed_row};
-ghost use Rattle.mimic_reports.specs.declared.show.ShowFault.TheVariants.{OutOfMemory, Write as WriteStopped};
+ghost use Rattle.mimic_reports.specs.Show.{pretty_failures, pretty_printer, pretty_report, printed_row};
 
 use mimic_events::{Report, Row};
-use mimic_printer::{Printer, Sink, WriteFault, widths};
+use mimic_printer::{OutputFault, Printer, Sink, WriteFault, widths};
 use mimic_text::FormatSetting;
 use mimic_trial::{Conclusion, Outcome, TestInfo};
 use std::alloc::{AllocError, Global};
 use std::io::Write;
 use std::slice;
-use thiserror::Error;
-
-/// Why a report was not printed to its end.
-#[derive(Debug, Drop, Error)]
-pub enum ShowFault {
-    /// An allocation failed. Nothing was written.
-    #[error("out of memory")]
-    OutOfMemory,
-    /// A write or a flush failed. A beginning was written.
-    #[error("{0}")]
-    Write(WriteFault),
-}
 
 /// Prints the report as the harness prints a run in pretty, with or without colours, and flushes it: the title, each row once
 /// in its order, the failures and the summary.
@@ -38,9 +25,9 @@ pub fn show_report<W: Write>(
     report: Report,
     colours: bool,
     sink: &mut Sink<W>,
-) -> Result<(), ShowFault>
+) -> Result<(), OutputFault>
     requires { HasFaultLeft sink.old }
-    ensures { Shows (pretty_report colours report) (shown W.contents sink.old)
+    ensures { LeavesText (pretty_report colours report) (shown W.contents sink.old)
         (shown W.contents sink.new) result }
 {
     let (counts, nanos) = (report.counts(), report.nanos);
@@ -55,9 +42,9 @@ pub fn show_failures<W: Write>(
     alloc: Global,
     report: Report,
     sink: &mut Sink<W>,
-) -> Result<(), ShowFault>
+) -> Result<(), OutputFault>
     requires { HasFaultLeft sink.old }
-    ensures { Shows (pretty_failures report) (shown W.contents sink.old)
+    ensures { LeavesText (pretty_failures report) (shown W.contents sink.old)
         (shown W.contents sink.new) result }
 {
     let rows = rows_to_print(alloc, report.rows)?;
@@ -163,20 +150,4 @@ fn put_failures<W: Write>(
 {
     Printer::new(FormatSetting::Pretty, false, 0, 0).print_failures_of(sink, rows)?;
     sink.flush()
-}
-
-impl From<AllocError> for ShowFault {
-    ghost from_gives = { λ _ fault. fault ≡ OutOfMemory };
-
-    fn from(_error: AllocError) -> ShowFault {
-        ShowFault::OutOfMemory
-    }
-}
-
-impl From<WriteFault> for ShowFault {
-    ghost from_gives = { λ error fault. fault ≡ WriteStopped error };
-
-    fn from(error: WriteFault) -> ShowFault {
-        ShowFault::Write(error)
-    }
 }

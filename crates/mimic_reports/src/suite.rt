@@ -1,12 +1,11 @@
 //! Reads reports that are to be written in XML.
-ghost use Rattle.std.specs.Prelude.{◌≡◌, ◌<◌, ◌^◌, List, IfOk, map};
-ghost use Rattle.mimic_trial.specs.Count.{counts_of};
+ghost use Rattle.std.specs.Prelude.{◌≡◌, ◌<◌, ◌^◌, List, IfOk};
 ghost use Rattle.mimic_printer.specs.Json.{Entry};
 ghost use Rattle.mimic_reports.specs.Suites.{IsReadFrom, KeepsRows, ReadsAgain, counts_in, numbers_counted, numbers_in, rows_counted};
 
 use crate::elements::Numbers;
-use mimic_events::Row;
-use mimic_input::{Ending, InputFault, InputRows, RowsRead, read_rows};
+use mimic_events::{Row, counts_of_rows};
+use mimic_input::{Ending, InputRows, ReadFault, RowsRead, read_rows};
 use mimic_trial::Conclusion;
 use std::alloc::Global;
 use std::io::{ErrorKind, Read};
@@ -31,7 +30,7 @@ pub(crate) enum Rows<I> {
 impl<'a, I: Read + Drop> Suite<'a, I> {
     /// Reads a report that can be read once only, and keeps its rows. Of what isn't a whole report these are the rows that have
     /// ended, before the first line that no report has there.
-    pub fn kept(alloc: Global, program: &'a str, input: I) -> Result<Suite<'a, I>, InputFault>
+    pub fn kept(alloc: Global, program: &'a str, input: I) -> Result<Suite<'a, I>, ReadFault>
         ensures { IfOk result (λ suite. (entries : List Entry)
             × IsReadFrom (I.remaining input) suite entries × KeepsRows suite.rows entries
             × (suite.program.now ≡ program.now)) }
@@ -50,7 +49,7 @@ impl<'a, I: Read + Drop> Suite<'a, I> {
         program: &'a str,
         input: I,
         again: I,
-    ) -> Result<Suite<'a, I>, InputFault>
+    ) -> Result<Suite<'a, I>, ReadFault>
         ensures { IfOk result (λ suite. (entries : List Entry)
             × IsReadFrom (I.remaining input) suite entries × ReadsAgain suite.rows again
             × (suite.program.now ≡ program.now)) }
@@ -72,7 +71,7 @@ impl<'a, I: Read + Drop> Suite<'a, I> {
                 }
             }
         }
-        Err(InputFault::Input(ErrorKind::Other.into()))
+        Err(ReadFault::Input(ErrorKind::Other.into()))
     }
 }
 
@@ -89,7 +88,7 @@ impl<I: Read> Suite<'_, I> {
         ensures { result ≡ numbers_in self.now }
     {
         match &self.rows {
-            Rows::Kept(rows) => numbers_counted(&counts_of_rows(rows), &self.ending),
+            Rows::Kept(rows) => numbers_counted(&counts_of_rows(rows, 0), &self.ending),
             Rows::Again { input: _, counts } => numbers_counted(counts, &self.ending),
         }
     }
@@ -123,14 +122,4 @@ pub(crate) fn rows_counted(counts: &Conclusion) -> u128
     let (passed, failed) = (counts.num_passed, counts.num_failed);
     let (ignored, measured) = (counts.num_ignored, counts.num_measured);
     u128::from(passed) + (u128::from(failed) + (u128::from(ignored) + u128::from(measured)))
-}
-
-pub(crate) fn counts_of_rows(rows: &[Row]) -> Conclusion
-    ensures { result ≡ counts_of (map (λ row. row.outcome) rows.now) 0 }
-{
-    let mut counts = Conclusion::empty(0);
-    for row in rows {
-        counts.count(&row.outcome);
-    }
-    counts
 }

@@ -7,8 +7,8 @@ ghost use Rattle.mimic_printer.specs.Sink.{HasFaultLeft, Puts};
 ghost use Rattle.mimic_events.specs.Written.{row_lines};
 ghost use Rattle.mimic_reports.specs.Text.{contents_of};
 
-use mimic_events::Row;
-use mimic_printer::json::{put_announcement, put_outcome, put_summary, put_title};
+use mimic_events::{Row, put_row};
+use mimic_printer::json::{put_summary, put_title};
 use mimic_printer::{Sink, WriteFault};
 use mimic_trial::Conclusion;
 use std::io::Write;
@@ -69,13 +69,4 @@ fn put_rows<W: Write>(sink: &mut Sink<W>, rows: &[&Row]) -> Result<(), WriteFaul
         put_row(sink, row)?;
     }
     Ok(())
-}
-
-fn put_row<W: Write>(sink: &mut Sink<W>, row: &Row) -> Result<(), WriteFault>
-    requires { HasFaultLeft sink.old }
-    ensures { Puts W.contents sink.old sink.new (row_lines row.now) result }
-{
-    let (name, kind) = (row.name.as_str(), row.kind.as_str());
-    put_announcement(sink, name, kind)?;
-    put_outcome(sink, name, kind, &row.outcome)
 }

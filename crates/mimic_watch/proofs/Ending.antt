@@ -2,13 +2,12 @@
 use Rattle.std.proofs.Common.{◌≡◌, inl, inr, ℕ, List, [], ◌++◌, Result, Ok, Err, MatchResult, refl, sym, subst, append-nil}
 use Rattle.std.specs.Prelude.{IsErrAnd}
 use Rattle.mimic_trial.specs.declared.outcome.conclusion.Conclusion.{Conclusion}
-use Rattle.mimic_printer.specs.Sink.{Shown, Stopped}
+use Rattle.mimic_printer.specs.Sink.{LeftBy, Shown, Stopped}
 use Rattle.mimic_input.specs.declared.ending.Ending.{Ending}
 use Rattle.mimic_input.specs.declared.ending.Ending.TheVariants.{Whole, Cut}
-use Rattle.mimic_watch.specs.declared.verdict.WatchFault.{WatchFault}
-use Rattle.mimic_watch.specs.declared.verdict.WatchFault.TheVariants.{OutOfMemory, Input, Write}
+use Rattle.mimic_printer.specs.declared.sink.OutputFault.{OutputFault}
+use Rattle.mimic_printer.specs.declared.sink.OutputFault.TheVariants.{OutOfMemory, Write}
 use Rattle.mimic_watch.specs.Watched.{IsLast, last_text}
-use Rattle.mimic_watch.specs.Watching.{LeftBy}
 
 -- a call that returned this fault
 pub on_error : {T E : Type 0} (r : Result T E) (error : E) (P : T → Type 0) (Q : E → Type 0) → IsErrAnd r (λ e. e ≡ error) → Q error → MatchResult r P Q
@@ -21,7 +20,6 @@ last_is counts (Whole filtered_out nanos) = inr (counts, nanos, refl)
 last_is counts (Cut stop) = inl refl
 
 -- nothing was put at last
-pub left_alone : (fault : WatchFault) (a b : Shown) (text : List ℕ) → LeftBy fault a b text → LeftBy fault a b (text ++ [])
+pub left_alone : (fault : OutputFault) (a b : Shown) (text : List ℕ) → LeftBy fault a b text → LeftBy fault a b (text ++ [])
 left_alone OutOfMemory a b text h = h
-left_alone (Input error) a b text h = h
 left_alone (Write error) a b text h = subst (Stopped a b) (sym (append-nil text)) h

@@ -62,15 +62,18 @@ pub record TakenSoFar (old : Viewer) (piece : List ℕ) (new : Viewer) (rest : L
   pub seen : (before : List ℕ) (put waiting : List Entry) → HasSeen old before put waiting
       → (front : List ℕ) × (more : List Entry) × (piece ≡ front ++ rest) × HasSeen new (before ++ front) put (waiting ++ more)
 
+-- nothing was read
+pub none_seen : (w : Viewer) → SeesOn w [] w
+none_seen w = λ before put waiting h. (
+  [],
+  subst (λ (x : List ℕ × List Entry). HasSeen w x.0 put x.1)
+      (ap₂ (λ (x : List ℕ) (y : List Entry). (x, y)) (sym (append-nil before)) (sym (append-nil waiting))) h,
+)
+
 pub nothing_taken : (w : Viewer) (piece : List ℕ) → TakenSoFar w piece w piece
 nothing_taken w piece = record {
   live = refl;
-  seen = λ before put waiting h. (
-    [],
-    [],
-    refl,
-    subst (λ (x : List ℕ × List Entry). HasSeen w x.0 put x.1) (ap₂ (λ (x : List ℕ) (y : List Entry). (x, y)) (sym (append-nil before)) (sym (append-nil waiting))) h,
-  );
+  seen = λ before put waiting h. let s = none_seen w before put waiting h in ([], s.0, refl, s.1);
 }
 
 pub row_taken : (start old mid new : Viewer) (piece rest : List ℕ) (row : Row) (left : List ℕ) → TakenSoFar start piece old rest

@@ -1,23 +1,24 @@
 -- A watch, moment by moment.
-use Rattle.std.proofs.Common.{◌≡◌, inl, inr, ℕ, ◌-◌, ◌<◌, ◌^◌, Bool, true, List, [], ◌∷◌, ◌++◌, Option, Some, None, is_some, Result, Ok, Err, IfOk, IfSome, MatchResult, refl, sym, ap, ◌∙◌, subst, append_assoc, append-nil}
+use Rattle.std.proofs.Common.{◌≡◌, inl, inr, ℕ, ◌-◌, ◌<◌, ◌^◌, Bool, true, List, [], ◌∷◌, ◌++◌, Option, Some, None, is_some, IfSome, refl, sym, ap, ◌∙◌, subst, append_assoc, append-nil}
 use Rattle.std.specs.Io.KnownBytes.{Consumes, Keeps}
 use Rattle.std.proofs.lemmas.List.Concat.{flat_map-append}
 use Rattle.mimic_printer.specs.Json.{Entry}
-use Rattle.mimic_printer.specs.Sink.{Put, Shown, Stopped}
-use Rattle.mimic_printer.proofs.Appending.{Put-Stopped, Put-refl, Put-trans, Put_after}
+use Rattle.mimic_printer.specs.Sink.{LeftBy, Put, Shown, Stopped}
+use Rattle.mimic_printer.specs.declared.sink.OutputFault.{OutputFault}
+use Rattle.mimic_printer.specs.declared.sink.OutputFault.TheVariants as output
+use Rattle.mimic_printer.proofs.Appending.{Put-Stopped, Put-refl, Put-trans}
 use Rattle.mimic_events.specs.Feed.{AreEnded}
 use Rattle.mimic_events.specs.Reading.{Decodes}
 use Rattle.mimic_events.specs.SoFar.{IsFirstWrong}
-use Rattle.mimic_input.specs.Readings.{IsReading}
-use Rattle.mimic_input.proofs.ReadBytes.{read_more, read_on}
+use Rattle.mimic_input.specs.Readings.{EndsAs, IsOver, IsReading}
+use Rattle.mimic_input.proofs.ReadBytes.{read_more}
 use Rattle.mimic_watch.specs.declared.verdict.Verdict.{Verdict}
 use Rattle.mimic_watch.specs.declared.verdict.WatchFault.{WatchFault}
-use Rattle.mimic_watch.specs.declared.verdict.WatchFault.TheVariants.{OutOfMemory, Input, Write}
+use Rattle.mimic_watch.specs.declared.verdict.WatchFault.TheVariants.{Write}
 use Rattle.mimic_watch.specs.declared.viewer.Viewer.{Viewer}
 use Rattle.mimic_watch.specs.Moments.{AreMomentsAfter, IsDrawn, IsMoment, Moment, ended_in, moment_text, moments_text}
-use Rattle.mimic_watch.specs.Watched.{AreCounts, HasFailed, HasWatched, IsLast, last_text}
-use Rattle.mimic_watch.specs.Watching.{DrawsSeen, EndsAs, HasSeen, IsNoWrite, IsOver, IsWatching, LeavesMoment, LeftBy, PutsSeen, SeesOn, StaysSeen, put_text}
-use Rattle.mimic_watch.proofs.Ending.{left_alone}
+use Rattle.mimic_watch.specs.Watched.{AreCounts, HasFailed, HasWatched, IsLast, IsLeft, last_text}
+use Rattle.mimic_watch.specs.Watching.{HasSeen, IsWatching, PutsSeen, SeesOn, StaysSeen, put_text}
 
 -- ---- one moment more
 
@@ -65,22 +66,10 @@ module _ (live : Bool) (start now next : Option (List ℕ)) (a b : Shown) (w : V
         put = h.put;
       }
 
-  -- nothing came
-  pub wait_on : Keeps now next → IsWatching live start next a b w
-  wait_on kept = record {
-    bytes = h.bytes;
-    moments = h.moments;
-    waiting = h.waiting;
-    each = h.each;
-    seen = h.seen;
-    live_is = h.live_is;
-    gone = read_on start now next h.bytes h.gone kept;
-    put = h.put;
-  }
-
   -- some bytes were read, and then a fault came
-  pub fail_now : (fault : WatchFault) (rest : List ℕ) → Consumes now next rest → IsNoWrite fault → HasFailed live start next a b fault
-  fail_now OutOfMemory rest gone harmless = record {
+  pub failed : (fault : WatchFault) (rest : List ℕ) → Consumes now next rest → IsLeft fault a b (moments_text h.moments) []
+      → HasFailed live start next a b fault
+  failed fault rest gone left = record {
     bytes = h.bytes;
     rest = rest;
     gone = read_more start now next h.bytes rest h.gone gone;
@@ -90,31 +79,14 @@ module _ (live : Bool) (start now next : Option (List ℕ)) (a b : Shown) (w : V
     ended = h.seen.followed.ended;
     last = [];
     is_last = inl refl;
-    left = h.put;
+    left = left;
   }
-  fail_now (Input error) rest gone harmless = record {
-    bytes = h.bytes;
-    rest = rest;
-    gone = read_more start now next h.bytes rest h.gone gone;
-    moments = h.moments;
-    waiting = h.waiting;
-    each = h.each;
-    ended = h.seen.followed.ended;
-    last = [];
-    is_last = inl refl;
-    left = h.put;
-  }
-  fail_now (Write error) rest gone harmless = absurd harmless
 
--- a fault of a read that took nothing
-none_more : (now next : Option (List ℕ)) → Keeps now next → Consumes now next []
+-- a read that failed took nothing
+pub none_more : (now next : Option (List ℕ)) → Keeps now next → Consumes now next []
 none_more None next k = tt
 none_more (Some xs) None k = k
 none_more (Some xs) (Some ys) k = sym k
-
-pub fail_read : (live : Bool) (start now next : Option (List ℕ)) (a b : Shown) (w : Viewer) → IsWatching live start now a b w → (fault : WatchFault) → Keeps now next
-    → IsNoWrite fault → HasFailed live start next a b fault
-fail_read live start now next a b w h fault kept harmless = fail_now live start now next a b w h fault [] (none_more now next kept) harmless
 
 pub stay : (live : Bool) (start now : Option (List ℕ)) (a b : Shown) (w v : Viewer) → IsWatching live start now a b w → StaysSeen w v → v.live ≡ w.live → IsWatching live start now a b v
 stay live start now a b w v h same l = record {
@@ -168,32 +140,12 @@ module _ (live : Bool) (start now : Option (List ℕ)) (a b c : Shown) (w : View
   }
 
   -- a fault at that moment, or at last
-  pub moment_left : (fault : WatchFault) (last : List ℕ) → IsLast last → LeftBy fault b c (put_text erases w.waiting.items drawn ++ last) → HasFailed live start now a c fault
-  moment_left OutOfMemory last is left = record {
-    bytes = h.bytes;
-    rest = [];
-    gone = subst (Consumes start now) (sym (append-nil h.bytes)) h.gone;
-    moments = h.moments;
-    waiting = h.waiting;
-    each = h.each;
-    ended = h.seen.followed.ended;
-    last = [];
-    is_last = inl refl;
-    left = Put_after (moments_text h.moments) h.put left;
-  }
-  moment_left (Input error) last is left = record {
-    bytes = h.bytes;
-    rest = [];
-    gone = subst (Consumes start now) (sym (append-nil h.bytes)) h.gone;
-    moments = h.moments;
-    waiting = h.waiting;
-    each = h.each;
-    ended = h.seen.followed.ended;
-    last = [];
-    is_last = inl refl;
-    left = Put_after (moments_text h.moments) h.put left;
-  }
-  moment_left (Write error) last is left = record {
+  pub moment_left : (fault : OutputFault) (last : List ℕ) → IsLast last → LeftBy fault b c (put_text erases w.waiting.items drawn ++ last)
+      → HasFailed live start now a c (Write fault)
+  moment_left output.OutOfMemory last is left =
+      subst (λ (x : Shown). HasFailed live start now a x (Write output.OutOfMemory)) (sym left)
+      (failed live start now now a b w h (Write output.OutOfMemory) [] (none_gone now) h.put)
+  moment_left (output.Write error) last is left = record {
     bytes = h.bytes;
     rest = [];
     gone = subst (Consumes start now) (sym (append-nil h.bytes)) h.gone;
@@ -222,46 +174,7 @@ module _ (live : Bool) (start now : Option (List ℕ)) (a b c : Shown) (w : View
 
 -- ---- turns of the loop
 
-pub put_on : (live : Bool) (start now : Option (List ℕ)) (a b c : Shown) (w v : Viewer) (drawn : List ℕ) → IsWatching live start now a b w → DrawsSeen w drawn
-    → LeavesMoment w drawn b c (Ok tt) → PutsSeen w v → v.live ≡ w.live → IsWatching live start now a c v
-put_on live start now a b c w v drawn h draws left puts l =
-    moment_put live start now a b c w h left.0 drawn left.1 (draws start now h.bytes (ended_in h.moments) h.waiting h.gone h.seen) v left.2 puts l
-
-pub fail_put : (live : Bool) (start now : Option (List ℕ)) (a b c : Shown) (w : Viewer) (drawn : List ℕ) (fault : WatchFault) → IsWatching live start now a b w → DrawsSeen w drawn
-    → LeavesMoment w drawn b c (Err fault) → HasFailed live start now a c fault
-fail_put live start now a b c w drawn fault h draws left =
-    moment_left live start now a b c w h left.0 drawn left.1 (draws start now h.bytes (ended_in h.moments) h.waiting h.gone h.seen) fault [] (inl refl) (left_alone fault b c _ left.2)
-
 -- a line that is wrong was read
 pub over_wrong : (now : Option (List ℕ)) (bytes : List ℕ) (found : Option ℕ) → is_some found ≡ true → Decodes IsFirstWrong bytes found → IsOver now bytes
 over_wrong now bytes None is wrong = absurd cc
 over_wrong now bytes (Some number) is wrong = inr (number, wrong.0)
-
--- what the end returns
-pub finished : (live : Bool) (start now : Option (List ℕ)) (a b c : Shown) (w : Viewer) (result : Result Verdict WatchFault) (h : IsWatching live start now a b w) → IsOver now h.bytes
-    → IfOk result (λ verdict. (bytes : List ℕ) (put waiting : List Entry) → HasSeen w bytes put waiting → EndsAs bytes (put ++ waiting) verdict.ending × AreCounts (put ++ waiting) verdict)
-    → MatchResult result (λ verdict. Put b c (put_text w.live w.waiting.items [] ++ last_text verdict.counts verdict.ending))
-    (λ fault. (last : List ℕ) × IsLast last × LeftBy fault b c (put_text w.live w.waiting.items [] ++ last))
-    → MatchResult result (HasWatched live start a c) (HasFailed live start now a c)
-finished live start now a b c w (Ok verdict) h over ends p =
-    moment_last live start now a b c w h w.live [] (λ e. e) (inl refl) verdict over p (ends h.bytes (ended_in h.moments) h.waiting h.seen)
-finished live start now a b c w (Err fault) h over ends p =
-    moment_left live start now a b c w h w.live [] (λ e. e) (inl refl) fault p.0 p.1 p.2
-
--- a read of no bytes
-pub none_read : (live : Bool) (start now next : Option (List ℕ)) (a b : Shown) (w : Viewer) → IsWatching live start now a b w → Consumes now next [] → IsWatching live start next a b w
-none_read live start now next a b w h gone = record {
-  bytes = h.bytes;
-  moments = h.moments;
-  waiting = h.waiting;
-  each = h.each;
-  seen = h.seen;
-  live_is = h.live_is;
-  gone = subst (Consumes start next) (append-nil h.bytes) (read_more start now next h.bytes [] h.gone gone);
-  put = h.put;
-}
-
--- a fault with no read
-pub fail_same : (live : Bool) (start now : Option (List ℕ)) (a b : Shown) (w : Viewer) → IsWatching live start now a b w → (fault : WatchFault) → IsNoWrite fault
-    → HasFailed live start now a b fault
-fail_same live start now a b w h fault harmless = fail_now live start now now a b w h fault [] (none_gone now) harmless

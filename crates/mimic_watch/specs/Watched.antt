@@ -7,13 +7,14 @@ use Rattle.mimic_trial.specs.Count.{counts_of}
 use Rattle.mimic_printer.specs.Json.{Entry}
 use Rattle.mimic_printer.specs.Report.{result_summary}
 use Rattle.mimic_printer.specs.Sink.{Put, Shown, Stopped}
+use Rattle.mimic_printer.specs.declared.sink.OutputFault.TheVariants as output
 use Rattle.mimic_events.specs.Feed.{AreEnded}
 use Rattle.mimic_input.specs.declared.ending.Ending.{Ending}
 use Rattle.mimic_input.specs.declared.ending.Ending.TheVariants.{Whole, Cut}
 use Rattle.mimic_input.specs.Readings.{IsReading}
 use Rattle.mimic_watch.specs.declared.verdict.Verdict.{Verdict}
 use Rattle.mimic_watch.specs.declared.verdict.WatchFault.{WatchFault}
-use Rattle.mimic_watch.specs.declared.verdict.WatchFault.TheVariants.{OutOfMemory, Input, Write}
+use Rattle.mimic_watch.specs.declared.verdict.WatchFault.TheVariants.{Read, Write}
 use Rattle.mimic_watch.specs.Moments.{AreMomentsAfter, Moment, ended_in, moments_text, outcomes_in}
 
 -- ---- verdicts
@@ -54,9 +55,9 @@ pub record HasWatched (live : Bool) (start : Option (List ℕ)) (old new : Shown
 
 -- with a fault of the writer a beginning of the text was put, and else all of it
 abbrev pub IsLeft : WatchFault → Shown → Shown → List ℕ → List ℕ → Type 0
-IsLeft OutOfMemory old new text last = Put old new text
-IsLeft (Input error) old new text last = Put old new text
-IsLeft (Write error) old new text last = Stopped old new (text ++ last)
+IsLeft (Read fault) old new text last = Put old new text
+IsLeft (Write output.OutOfMemory) old new text last = Put old new text
+IsLeft (Write (output.Write error)) old new text last = Stopped old new (text ++ last)
 
 -- nothing, or the summary of some report
 abbrev pub IsLast : List ℕ → Type 0

@@ -1,20 +1,19 @@
 -- What a watch knows on the way. No public clause names these words.
-use Rattle.std.specs.Prelude.{◌≡◌, ◌⊎◌, ℕ, ◌+◌, ◌-◌, ◌<◌, ◌^◌, Bool, true, if◌then◌else◌, List, [], ◌++◌, length, Result, Ok, Err, Option, IfSome, ⊤}
-use Rattle.std.specs.Io.KnownBytes.{Consumes, IsAtEnd}
+use Rattle.std.specs.Prelude.{◌≡◌, ℕ, ◌+◌, ◌-◌, ◌<◌, ◌^◌, Bool, true, if◌then◌else◌, List, [], ◌++◌, length, Result, MatchResult, Option}
+use Rattle.std.specs.Io.KnownBytes.{Consumes}
 use Rattle.std.specs.List.{flat_map}
 use Rattle.mimic_trial.specs.Count.{HasRoom, counted, counts_of}
 use Rattle.mimic_printer.specs.Json.{Entry}
-use Rattle.mimic_printer.specs.Sink.{Put, Shown, Stopped}
+use Rattle.mimic_printer.specs.Sink.{Put, Shown}
+use Rattle.mimic_printer.specs.declared.sink.OutputFault.{OutputFault}
 use Rattle.mimic_events.specs.Follower.{HasFollowed}
-use Rattle.mimic_events.specs.SoFar.{IsFirstWrong}
-use Rattle.mimic_input.specs.declared.ending.Ending.{Ending}
-use Rattle.mimic_input.specs.Readings.{IsReading}
-use Rattle.mimic_watch.specs.declared.verdict.WatchFault.{WatchFault}
-use Rattle.mimic_watch.specs.declared.verdict.WatchFault.TheVariants.{OutOfMemory, Input, Write}
+use Rattle.mimic_input.specs.Readings.{IsOver}
+use Rattle.mimic_watch.specs.declared.verdict.WatchFault.TheVariants.{Write}
 use Rattle.mimic_watch.specs.declared.viewer.Viewer.{Viewer}
 use Rattle.mimic_watch.specs.Frames.{erase}
 use Rattle.mimic_watch.specs.Moments.{AreMomentsAfter, IsDrawn, Moment, ended_in, moments_text, outcomes_in}
 use Rattle.mimic_watch.specs.Rows.{row_text}
+use Rattle.mimic_watch.specs.Watched.{HasFailed}
 
 -- ---- what has come
 
@@ -38,6 +37,14 @@ pub record SeesRow (old : Viewer) (entry : Entry) (new : Viewer) : Type 0 where
   pub counts : HasRoom old.counts → new.counts ≡ counted old.counts entry.outcome
   pub shown : new.waiting.items ≡ old.waiting.items ++ row_text entry
 
+-- a piece was read, and the rows that it ends wait with the others; it is the last one if the input is over
+pub record ReadsOn (before after : Option (List ℕ)) (old new : Viewer) (over : Bool) : Type 0 where
+  pub bytes : List ℕ
+  pub gone : Consumes before after bytes
+  pub seen : SeesOn old bytes new
+  pub live : new.live ≡ old.live
+  pub last : over ≡ true → (all : List ℕ) (put waiting : List Entry) → HasSeen new all put waiting → IsOver after all
+
 -- what is seen stays so, but for the time
 abbrev pub StaysSeen : Viewer → Viewer → Type 0
 StaysSeen old new = (bytes : List ℕ) (put waiting : List Entry) → HasSeen old bytes put waiting → HasSeen new bytes put waiting
@@ -53,40 +60,9 @@ DrawsSeen w drawn = (start now : Option (List ℕ)) (bytes : List ℕ) (put wait
 abbrev pub put_text : Bool → List ℕ → List ℕ → List ℕ
 put_text erases waiting drawn = (if erases then erase else []) ++ (waiting ++ drawn)
 
--- with a fault of the writer a beginning of the text was put, with another nothing
-abbrev pub LeftBy : WatchFault → Shown → Shown → List ℕ → Type 0
-LeftBy OutOfMemory before after text = Put before after []
-LeftBy (Input error) before after text = Put before after []
-LeftBy (Write error) before after text = Stopped before after text
-
-abbrev pub Leaves : Shown → Shown → List ℕ → Result (Unit {0}) WatchFault → Type 0
-Leaves before after text (Ok done) = Put before after text
-Leaves before after text (Err fault) = LeftBy fault before after text
-
--- what waited is put with what is drawn; only a terminal is erased
-abbrev pub LeavesMoment : Viewer → List ℕ → Shown → Shown → Result (Unit {0}) WatchFault → Type 0
-LeavesMoment w drawn before after result = (erases : Bool) × (erases ≡ true → w.live ≡ true)
-    × Leaves before after (put_text erases w.waiting.items drawn) result
-
 -- the rows that waited were put
 abbrev pub PutsSeen : Viewer → Viewer → Type 0
 PutsSeen old new = (bytes : List ℕ) (put waiting : List Entry) → HasSeen old bytes put waiting → HasSeen new bytes (put ++ waiting) []
-
--- ---- the end
-
--- the input is at its end, or a line that was read is wrong
-abbrev pub IsOver : Option (List ℕ) → List ℕ → Type 0
-IsOver now bytes = IsAtEnd now ⊎ ((number : ℕ) × IsFirstWrong number bytes)
-
--- whatever was followed up to the end of an input ends so
-abbrev pub EndsAs : List ℕ → List Entry → Ending → Type 0
-EndsAs bytes entries ending = (start now : Option (List ℕ)) → Consumes start now bytes → IsOver now bytes → IfSome start (IsReading entries ending)
-
--- a fault of the reader, or for want of memory
-abbrev pub IsNoWrite : WatchFault → Type 0
-IsNoWrite OutOfMemory = ⊤
-IsNoWrite (Input error) = ⊤
-IsNoWrite (Write error) = ⊥
 
 -- ---- the whole
 
@@ -100,3 +76,11 @@ pub record IsWatching (live : Bool) (start now : Option (List ℕ)) (before afte
   pub live_is : w.live ≡ live
   pub gone : Consumes start now bytes
   pub put : Put before after (moments_text moments)
+
+-- whatever was put so far, more rows were put or none; with a fault nothing more will be
+abbrev pub ShowsOn : Viewer → Viewer → Shown → Shown → Result (Unit {0}) OutputFault → Type 0
+ShowsOn old new before after result = MatchResult result
+    (λ _. (live : Bool) (start now : Option (List ℕ)) (first : Shown) → IsWatching live start now first before old
+    → IsWatching live start now first after new)
+    (λ fault. (live : Bool) (start now : Option (List ℕ)) (first : Shown) → IsWatching live start now first before old
+    → HasFailed live start now first after (Write fault))

@@ -1,12 +1,10 @@
 //! How a watch ends.
 ghost use Rattle.std.specs.Prelude.{◌≡◌};
-ghost use Rattle.mimic_watch.specs.declared.verdict.WatchFault.TheVariants.{OutOfMemory, Write};
+ghost use Rattle.mimic_watch.specs.declared.verdict.WatchFault.TheVariants.{Read, Write};
 
-use mimic_input::Ending;
-use mimic_printer::WriteFault;
+use mimic_input::{Ending, ReadFault};
+use mimic_printer::OutputFault;
 use mimic_trial::Conclusion;
-use std::alloc::AllocError;
-use std::io;
 use thiserror::Error;
 
 /// What the report was that was watched.
@@ -51,32 +49,29 @@ impl Verdict {
     }
 }
 
-/// Why a watch ended before its input did.
+/// Why a watch ended before its input did. Its text is what a user is to see.
 #[derive(Debug, Drop, Error)]
 pub enum WatchFault {
-    /// An allocation failed.
-    #[error("out of memory")]
-    OutOfMemory,
-    /// The reader returned an error other than `Interrupted`, `TimedOut` and `WouldBlock`.
+    /// No more could be read. `TimedOut` and `WouldBlock` are no such errors of the reader.
     #[error("{0}")]
-    Input(io::Error),
-    /// A write or a flush failed.
+    Read(ReadFault),
+    /// No more could be written.
     #[error("{0}")]
-    Write(WriteFault),
+    Write(OutputFault),
 }
 
-impl From<AllocError> for WatchFault {
-    ghost from_gives = { λ _ fault. fault ≡ OutOfMemory };
+impl From<ReadFault> for WatchFault {
+    ghost from_gives = { λ error fault. fault ≡ Read error };
 
-    fn from(_error: AllocError) -> WatchFault {
-        WatchFault::OutOfMemory
+    fn from(error: ReadFault) -> WatchFault {
+        WatchFault::Read(error)
     }
 }
 
-impl From<WriteFault> for WatchFault {
+impl From<OutputFault> for WatchFault {
     ghost from_gives = { λ error fault. fault ≡ Write error };
 
-    fn from(error: WriteFault) -> WatchFault {
+    fn from(error: OutputFault) -> WatchFault {
         WatchFault::Write(error)
     }
 }

@@ -1,28 +1,21 @@
 //! Shows a report as it comes.
-ghost use Rattle.std.specs.Prelude.{◌≡◌, ◌++◌, ◌<◌, ◌^◌, [], ℕ, List, IfErr, IfOk, MatchResult, OnOk, option_map, true};
-ghost use Rattle.mimic_printer.specs.Json.{Entry};
-ghost use Rattle.mimic_printer.specs.Sink.{HasFaultLeft, Puts, shown};
-ghost use Rattle.mimic_events.specs.Contents.{label_read};
-ghost use Rattle.mimic_events.specs.Follower.{HasFollowed};
+ghost use Rattle.std.specs.Prelude.{◌≡◌, MatchResult, OnOk};
+ghost use Rattle.mimic_printer.specs.Sink.{HasFaultLeft, LeavesText, Puts, shown};
 ghost use Rattle.mimic_watch.specs.Watched.{HasFailed, HasWatched, last_text};
-ghost use Rattle.mimic_watch.specs.Watching.{EndsAs, IsNoWrite, Leaves, put_text};
+ghost use Rattle.mimic_watch.specs.Watching.{put_text};
 
 use crate::frame::{ERASE, View, first_line, push_frame, second_line};
 use crate::pace::{Pace, nanos};
 use crate::row::push_row;
 use crate::verdict::{Verdict, WatchFault};
-use mimic_events::{Follower, Label, Row};
-use mimic_input::{Ending, Stop};
-use mimic_printer::{Printer, Sink, WriteFault};
+use mimic_events::{Follower, Row};
+use mimic_input::{Ending, PIECE, ReadFault, read_piece};
+use mimic_printer::{OutputFault, Printer, Sink, WriteFault};
 use mimic_text::FormatSetting;
 use mimic_trial::{Conclusion, Outcome};
 use std::alloc::{AllocError, Global};
-use std::io;
 use std::io::{ErrorKind, Read, Write};
 use std::rt::Clock;
-
-// The most bytes that are read at once.
-const PIECE: usize = 65_536;
 
 // On a terminal, what rows show waits for the next drawing unless it is so many bytes.
 const BLOCK: usize = 65_536;
@@ -64,48 +57,41 @@ pub fn watch<I: Read, W: Write, C: Clock>(
 {
     let mut now = nanos(clock, 0);
     let mut viewer = Viewer::new(alloc, live, now);
-    let mut piece = [0; PIECE];
+    let mut room = [0; PIECE];
     for _ in 0..u64::MAX {
-        match input.read(&mut piece) {
-            Ok(0) => return viewer.finish(sink),
-            Ok(count) => viewer.take(&piece[..count])?,
-            Err(error) => go_on(error)?,
-        }
-        if viewer.follower.first_wrong_line().is_some() {
-            return viewer.finish(sink);
+        if viewer.read(input, &mut room)? {
+            return Ok(viewer.finish(sink)?);
         }
         now = nanos(clock, now);
-        let Some(drawn) = viewer.drawn(now)? else {
-            continue;
-        };
-        viewer.put(sink, &drawn)?;
+        viewer.show(sink, now)?;
     }
-    Err(WatchFault::Input(ErrorKind::Other.into()))
+    Err(WatchFault::Read(ReadFault::Input(ErrorKind::Other.into())))
 }
 
-// Returns an error of the reader that says more than that nothing has come yet.
-fn go_on(error: io::Error) -> Result<(), WatchFault>
-    ensures { IfErr result IsNoWrite }
-{
-    match error.kind() {
-        ErrorKind::Interrupted | ErrorKind::TimedOut | ErrorKind::WouldBlock => Ok(()),
-        ErrorKind::OutOfMemory => Err(WatchFault::OutOfMemory),
-        _ => Err(WatchFault::Input(error)),
+// Returns a fault that says more than that nothing has come yet.
+fn go_on(fault: ReadFault) -> Result<(), ReadFault> {
+    match fault {
+        ReadFault::Input(error) => match error.kind() {
+            ErrorKind::TimedOut | ErrorKind::WouldBlock => Ok(()),
+            _ => Err(ReadFault::Input(error)),
+        },
+        fault => Err(fault),
     }
 }
 
 impl Viewer {
-    ghost use Rattle.std.specs.Prelude.{◌≡◌, ◌++◌, [], ℕ, List, Option, IfOk, IfSome, MatchResult, OnOk};
+    ghost use Rattle.std.specs.Prelude.{◌≡◌, ◌<◌, ◌++◌, [], ℕ, List, Option, IfOk, IfSome, MatchResult, OnErr, OnOk, length};
     ghost use Rattle.std.specs.Io.KnownBytes.{Consumes};
     ghost use Rattle.mimic_events.specs.Follower.{HasFollowed};
     ghost use Rattle.mimic_events.specs.Reading.{Decodes};
     ghost use Rattle.mimic_events.specs.SoFar.{BeginsWithTitle};
     ghost use Rattle.mimic_printer.specs.Json.{Entry};
-    ghost use Rattle.mimic_printer.specs.Sink.{HasFaultLeft, Put, shown};
+    ghost use Rattle.mimic_printer.specs.Sink.{HasFaultLeft, LeftBy, Put, shown};
     ghost use Rattle.mimic_events.specs.Contents.{entry_read};
     ghost use Rattle.mimic_watch.specs.Moments.{IsDrawing};
     ghost use Rattle.mimic_watch.specs.Watched.{AreCounts, IsLast, last_text};
-    ghost use Rattle.mimic_watch.specs.Watching.{DrawsSeen, EndsAs, HasSeen, LeavesMoment, LeftBy, PutsSeen, SeesOn, SeesRow, StaysSeen, put_text};
+    ghost use Rattle.mimic_input.specs.Readings.{EndsAs};
+    ghost use Rattle.mimic_watch.specs.Watching.{DrawsSeen, HasSeen, ReadsOn, SeesOn, SeesRow, ShowsOn, StaysSeen, put_text};
 
     fn new(alloc: Global, live: bool, now: u64) -> Viewer
         ensures seen { HasSeen result [] [] [] }
@@ -120,6 +106,28 @@ impl Viewer {
             waiting: Vec::new(alloc),
             text: Vec::new(alloc),
             pace: Pace::new(now),
+        }
+    }
+
+    // Reads the next piece, unless nothing has come yet, and returns whether the input is over: it is at its end, or a line is wrong.
+    fn read<I: Read>(&mut self, input: &mut I, room: &mut [u8]) -> Result<bool, ReadFault>
+        requires { 0 < length room.old }
+        ensures read { IfOk result
+            (ReadsOn (I.remaining input.old) (I.remaining input.new) self.old self.new) }
+        ensures room { length room.new ≡ length room.old }
+        ensures fault { OnErr result
+            ((rest : List ℕ) × Consumes (I.remaining input.old) (I.remaining input.new) rest) }
+    {
+        match read_piece(input, room) {
+            Ok(0) => Ok(true),
+            Ok(count) => {
+                self.take(&room[..count])?;
+                Ok(self.follower.first_wrong_line().is_some())
+            }
+            Err(fault) => {
+                go_on(fault)?;
+                Ok(false)
+            }
         }
     }
 
@@ -215,21 +223,22 @@ impl Viewer {
         }
     }
 
-    // Puts what waits, and what is drawn below it.
-    fn put<W: Write>(&mut self, sink: &mut Sink<W>, drawn: &[u8]) -> Result<(), WatchFault>
+    // Puts what waits with what is drawn below it at this time, if either is due.
+    fn show<W: Write>(&mut self, sink: &mut Sink<W>, now: u64) -> Result<(), OutputFault>
         requires { HasFaultLeft sink.old }
-        ensures put { LeavesMoment self.old drawn.now (shown W.contents sink.old) (shown W.contents sink.new) result }
-        ensures seen { OnOk result (PutsSeen self.old self.new) }
-        ensures live { OnOk result (self.new.live ≡ self.old.live) }
+        ensures { ShowsOn self.old self.new (shown W.contents sink.old) (shown W.contents sink.new) result }
     {
+        let Some(drawn) = self.drawn(now)? else {
+            return Ok(());
+        };
         let erases = self.live && !self.waiting.is_empty();
-        put_moment(sink, &mut self.text, erases, &self.waiting, drawn)?;
+        put_moment(sink, &mut self.text, erases, &self.waiting, &drawn)?;
         self.waiting.clear();
         Ok(())
     }
 
     // Puts what waits, and the summary of a whole report.
-    fn finish<W: Write>(self, sink: &mut Sink<W>) -> Result<Verdict, WatchFault>
+    fn finish<W: Write>(self, sink: &mut Sink<W>) -> Result<Verdict, OutputFault>
         requires { HasFaultLeft sink.old }
         ensures verdict { IfOk result (λ verdict. (bytes : List ℕ) (put waiting : List Entry)
             → HasSeen self bytes put waiting
@@ -250,7 +259,7 @@ impl Viewer {
             ..
         } = self;
         let mut text = text;
-        let ending = ending_of(alloc, follower)?;
+        let ending = Ending::of(alloc, follower)?;
         let verdict = Verdict::new(counts, ending);
         put_moment(sink, &mut text, live, &waiting, b"")?;
         put_last(sink, &verdict)?;
@@ -273,10 +282,10 @@ fn put_moment<W: Write>(
     erases: bool,
     waiting: &[u8],
     drawn: &[u8],
-) -> Result<(), WatchFault>
+) -> Result<(), OutputFault>
     requires { HasFaultLeft sink.old }
-    ensures { Leaves (shown W.contents sink.old) (shown W.contents sink.new)
-        (put_text erases waiting.now drawn.now) result }
+    ensures { LeavesText (put_text erases waiting.now drawn.now)
+        (shown W.contents sink.old) (shown W.contents sink.new) result }
 {
     set_moment(text, erases, waiting, drawn)?;
     put_whole(sink, text)?;
@@ -324,42 +333,4 @@ fn put_last<W: Write>(sink: &mut Sink<W>, verdict: &Verdict) -> Result<(), Write
     };
     printer.print_summary(sink, &verdict.counts, *nanos)?;
     sink.flush()
-}
-
-// Returns how the report ended that was followed to its end.
-fn ending_of(alloc: Global, follower: Follower) -> Result<Ending, AllocError>
-    ensures { IfOk result (λ ending. (bytes : List ℕ) (entries : List Entry)
-        → HasFollowed follower bytes entries → EndsAs bytes entries ending) }
-{
-    let announced = follower.announced();
-    let wrong_line = follower.first_wrong_line();
-    let running = copy_of(alloc, follower.running())?;
-    match follower.finish()? {
-        Some(totals) => {
-            // Reading the number of rows shows that it fits.
-            let _rows = totals.rows;
-            Ok(Ending::Whole {
-                filtered_out: totals.counts.num_filtered_out,
-                nanos: totals.nanos,
-            })
-        }
-        None => Ok(Ending::Cut(Stop {
-            announced,
-            running,
-            wrong_line,
-        })),
-    }
-}
-
-fn copy_of(alloc: Global, label: Option<&Label>) -> Result<Option<Label>, AllocError>
-    ensures { IfOk result (λ copy. option_map label_read copy
-        ≡ option_map (λ label. label_read label.now) label.entry) }
-{
-    let Some(label) = label else {
-        return Ok(None);
-    };
-    Ok(Some(Label {
-        name: String::from_str(alloc, label.name.as_str())?,
-        kind: String::from_str(alloc, label.kind.as_str())?,
-    }))
 }

@@ -3,9 +3,9 @@ use crate::faults::{refuse, refuse_all};
 use crate::input::Input;
 use crate::line::Compare;
 use crate::{BLOCK, REFUSED};
-use mimic_compare::{CompareFault, write_comparison};
+use mimic_compare::write_comparison;
 use mimic_input::{Ending, RowsRead, read_rows};
-use mimic_printer::Sink;
+use mimic_printer::{OutputFault, Sink};
 use std::alloc::Global;
 use std::io::BufWriter;
 
@@ -37,7 +37,7 @@ fn read(rt: &HostRuntime, alloc: Global, file: &str) -> Option<RowsRead> {
 
 fn print(rt: &HostRuntime, alloc: Global, old: &RowsRead, new: &RowsRead) -> u8 {
     let Ok(out) = BufWriter::with_capacity(alloc, BLOCK, rt.stdout()) else {
-        return refuse_all(rt, &CompareFault::OutOfMemory);
+        return refuse_all(rt, &OutputFault::OutOfMemory);
     };
     match write_comparison(alloc, old, new, &mut Sink::new(out)) {
         Ok(verdict) => verdict.status(),

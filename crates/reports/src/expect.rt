@@ -3,11 +3,9 @@ use crate::faults::{refuse, refuse_all};
 use crate::input::Input;
 use crate::line::Expect;
 use crate::{BLOCK, REFUSED};
-use mimic_expect::{
-    ExpectFault, Expectation, InputEnd, KnownFault, Verdict, read_known, write_unexpected,
-};
+use mimic_expect::{Expectation, InputEnd, KnownFault, Verdict, read_known, write_unexpected};
 use mimic_input::Ending;
-use mimic_printer::Sink;
+use mimic_printer::{OutputFault, Sink};
 use std::alloc::Global;
 use std::io::{BufWriter, Read};
 
@@ -36,13 +34,10 @@ fn print(
     alloc: Global,
     expect: &Expect,
     known: &[Expectation],
-) -> Result<Verdict, ExpectFault> {
-    let mut inputs = Vec::new(alloc);
-    for file in &expect.files {
-        inputs.push(Input::new(rt, file.as_str()))?;
-    }
+) -> Result<Verdict, OutputFault> {
+    let inputs = Input::all(rt, alloc, &expect.files)?;
     let Ok(out) = BufWriter::with_capacity(alloc, BLOCK, rt.stdout()) else {
-        return Err(ExpectFault::OutOfMemory);
+        return Err(OutputFault::OutOfMemory);
     };
     write_unexpected(alloc, known, inputs, expect.lax, &mut Sink::new(out))
 }

@@ -1,4 +1,5 @@
 //! Where a report is read from.
+use std::alloc::{AllocError, Global};
 use std::fs::File;
 use std::io::{Read, Stdin};
 use std::path::Path;
@@ -26,6 +27,19 @@ impl<'a> Input<'a> {
         } else {
             Input::Named { rt, path }
         }
+    }
+
+    /// The inputs of these names, in their order.
+    pub(crate) fn all(
+        rt: &'a HostRuntime,
+        alloc: Global,
+        paths: &'a [String],
+    ) -> Result<Vec<Input<'a>>, AllocError> {
+        let mut inputs = Vec::new(alloc);
+        for path in paths {
+            inputs.push(Input::new(rt, path.as_str()))?;
+        }
+        Ok(inputs)
     }
 }
 

@@ -4,7 +4,7 @@ use crate::input::{Input, STANDARD, name_of};
 use crate::line::Junit;
 use crate::{BLOCK, SUCCESS};
 use mimic_printer::Sink;
-use mimic_reports::{Ending, InputFault, JunitFault, Suite, write_junit};
+use mimic_reports::{Ending, JunitFault, ReadFault, Suite, write_junit};
 use std::alloc::Global;
 use std::fs;
 use std::io::BufWriter;
@@ -45,7 +45,7 @@ impl<'a> Sources<'a> {
             sources.status = refuse(rt, file, stop);
         }
         if sources.files.push(file).is_err() || sources.suites.push(suite).is_err() {
-            sources.status = refuse(rt, file, &InputFault::OutOfMemory);
+            sources.status = refuse(rt, file, &ReadFault::OutOfMemory);
         }
         sources
     }
@@ -57,7 +57,7 @@ impl<'a> Sources<'a> {
             status,
         } = self;
         let Ok(out) = BufWriter::with_capacity(alloc, BLOCK, rt.stdout()) else {
-            return refuse_all(rt, &InputFault::OutOfMemory);
+            return refuse_all(rt, &ReadFault::OutOfMemory);
         };
         match write_junit(alloc, suites, &mut Sink::new(out)) {
             Ok(()) => status,
@@ -80,7 +80,7 @@ fn read<'a>(
     alloc: Global,
     name: &'a str,
     file: &'a str,
-) -> Result<Suite<'a, Input<'a>>, InputFault> {
+) -> Result<Suite<'a, Input<'a>>, ReadFault> {
     let input = Input::new(rt, file);
     if file != STANDARD && is_regular(rt, file) {
         Suite::counted(alloc, name, input, Input::new(rt, file))

@@ -2,8 +2,9 @@
 use crate::input::STANDARD;
 use clap::error::ErrorKind;
 use clap::{Arg, ArgAction, ArgMatches, Command, value_parser};
-use std::alloc::{AllocError, AllocFailed, Global};
+use std::alloc::{AllocError, Global};
 use std::{env, io};
+use thiserror::Error;
 
 // What `--color` takes.
 static COLOURS: [&str; 3] = ["auto", "always", "never"];
@@ -76,14 +77,18 @@ pub(crate) enum Line {
 }
 
 /// Why a line asks for nothing.
-#[derive(Debug, Drop)]
+#[derive(Debug, Drop, Error)]
 pub(crate) enum LineError {
-    OutOfMemory,
+    #[error("out of memory")]
+    OutOfMemory(#[from(alloc)] AllocError),
     /// The words could not be read.
+    #[error("cannot read the arguments: {0}")]
     Unread(io::Error),
     /// Standard input is named twice.
+    #[error("standard input can be read once only")]
     TwoInputs,
     /// Help was asked for, or `clap` refused the line.
+    #[error("{0}")]
     Shown(clap::Error),
 }
 
@@ -341,16 +346,4 @@ fn file<'a>(alloc: Global, id: &'a str, help: &'a str) -> Arg<'a> {
 // Words that name files, of which there is at least one.
 fn files<'a>(alloc: Global, help: &'a str) -> Arg<'a> {
     file(alloc, "FILE", help).action(ArgAction::Append)
-}
-
-impl From<AllocError> for LineError {
-    fn from(_error: AllocError) -> LineError {
-        LineError::OutOfMemory
-    }
-}
-
-impl<T: Drop> From<AllocFailed<T>> for LineError {
-    fn from(_refused: AllocFailed<T>) -> LineError {
-        LineError::OutOfMemory
-    }
 }

@@ -5,6 +5,7 @@ mod compare;
 mod expect;
 mod faults;
 mod input;
+mod join;
 mod junit;
 mod line;
 mod page;
@@ -12,13 +13,8 @@ mod pump;
 mod show;
 mod watch;
 
-use input::Input;
-use line::{Join, Line, LineError};
-use mimic_printer::Sink;
-use mimic_reports::{JoinFault, join_reports};
-use mimic_trial::Conclusion;
-use std::alloc::Global;
-use std::io::BufWriter;
+use faults::refuse_all;
+use line::{Line, LineError};
 use std::process::ExitCode;
 
 // How many bytes of a report wait at most before they go out.
@@ -36,7 +32,7 @@ const TRIALS_FAILED: u8 = 101;
 fn main(rt: HostRuntime) -> ExitCode {
     let alloc = rt.alloc();
     let status = match Line::from_args(&rt, alloc) {
-        Ok(Line::Join(join)) => run(&rt, alloc, &join),
+        Ok(Line::Join(join)) => join::run(&rt, alloc, &join),
         Ok(Line::Junit(junit)) => junit::run(&rt, alloc, &junit),
         Ok(Line::Show(show)) => show::run(&rt, alloc, &show),
         Ok(Line::Expect(expect)) => expect::run(&rt, alloc, &expect),
@@ -48,48 +44,12 @@ fn main(rt: HostRuntime) -> ExitCode {
     ExitCode::from(status)
 }
 
-// Prints the joined report, or why there is none.
-fn run(rt: &HostRuntime, alloc: Global, join: &Join) -> u8 {
-    match print_joined(rt, alloc, join) {
-        Ok(counts) if counts.has_failed() => TRIALS_FAILED,
-        Ok(_) => SUCCESS,
-        Err(fault) => {
-            let _ = eprintln!(rt; "reports: {}", fault.with_names(&join.files));
-            REFUSED
-        }
-    }
-}
-
-fn print_joined(rt: &HostRuntime, alloc: Global, join: &Join) -> Result<Conclusion, JoinFault> {
-    let mut inputs = Vec::new(alloc);
-    for file in &join.files {
-        inputs.push(Input::new(rt, file.as_str()))?;
-    }
-    let Ok(out) = BufWriter::with_capacity(alloc, BLOCK, rt.stdout()) else {
-        return Err(JoinFault::OutOfMemory);
-    };
-    join_reports(
-        alloc,
-        inputs,
-        join.shards,
-        join.equal_names,
-        &mut Sink::new(out),
-    )
-}
-
 // Prints help, or why the line was refused.
 fn refuse(rt: &HostRuntime, error: &LineError) -> u8 {
     match error {
-        LineError::OutOfMemory => {
-            let _ = eprintln!(rt; "reports: out of memory");
-            REFUSED
-        }
-        LineError::Unread(error) => {
-            let _ = eprintln!(rt; "reports: cannot read the arguments: {error}");
-            USAGE
-        }
-        LineError::TwoInputs => {
-            let _ = eprintln!(rt; "reports: standard input can be read once only");
+        LineError::OutOfMemory(_) => refuse_all(rt, error),
+        LineError::Unread(_) | LineError::TwoInputs => {
+            refuse_all(rt, error);
             USAGE
         }
         LineError::Shown(error) => {

@@ -3,7 +3,7 @@ use crate::faults::{refuse, refuse_all};
 use crate::input::{Input, name_of};
 use crate::line::Page;
 use crate::{BLOCK, SUCCESS};
-use mimic_input::{Ending, InputFault, RowsRead, read_rows};
+use mimic_input::{Ending, ReadFault, RowsRead, read_rows};
 use mimic_page::write_page;
 use mimic_printer::Sink;
 use std::alloc::Global;
@@ -24,7 +24,7 @@ pub(crate) fn run(rt: &HostRuntime, alloc: Global, page: &Page) -> u8 {
 
 fn print(rt: &HostRuntime, alloc: Global, file: &str, read: &RowsRead) -> Result<(), u8> {
     let Ok(out) = BufWriter::with_capacity(alloc, BLOCK, rt.stdout()) else {
-        return Err(refuse_all(rt, &InputFault::OutOfMemory));
+        return Err(refuse_all(rt, &ReadFault::OutOfMemory));
     };
     write_page(name_of(file), read, &mut Sink::new(out)).map_err(|fault| refuse_all(rt, &fault))
 }

@@ -5,8 +5,8 @@ use crate::line::{Colours, Show};
 use crate::{BLOCK, REFUSED, SUCCESS, TRIALS_FAILED};
 use mimic_events::Report;
 use mimic_main::shows_colours;
-use mimic_printer::Sink;
-use mimic_reports::{ReadFault, ShowFault, read_from, show_failures, show_report};
+use mimic_printer::{OutputFault, Sink};
+use mimic_reports::{ReadFault, read_from, show_failures, show_report};
 use std::alloc::Global;
 use std::io::BufWriter;
 
@@ -32,7 +32,7 @@ fn status_of(report: &Report) -> u8 {
     }
 }
 
-fn print(rt: &HostRuntime, alloc: Global, show: &Show, report: Report) -> Result<(), ShowFault> {
+fn print(rt: &HostRuntime, alloc: Global, show: &Show, report: Report) -> Result<(), OutputFault> {
     let out = rt.stdout();
     let colours = match show.colours {
         Colours::Auto => shows_colours(rt, &out),
@@ -40,7 +40,7 @@ fn print(rt: &HostRuntime, alloc: Global, show: &Show, report: Report) -> Result
         Colours::Never => false,
     };
     let Ok(out) = BufWriter::with_capacity(alloc, BLOCK, out) else {
-        return Err(ShowFault::OutOfMemory);
+        return Err(OutputFault::OutOfMemory);
     };
     let mut sink = Sink::new(out);
     if show.only_failed {

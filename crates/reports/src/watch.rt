@@ -1,9 +1,9 @@
 //! Shows the report on standard input as it comes.
 use crate::faults::refuse_all;
 use crate::pump::{Incoming, Pipe, pump};
-use mimic_input::Ending;
+use mimic_input::{Ending, ReadFault};
 use mimic_printer::Sink;
-use mimic_watch::{ERASE, WatchFault, watch};
+use mimic_watch::{ERASE, watch};
 use std::alloc::Global;
 use std::io::{Eprint, IsTerminal, Stdin, Stdout, Write};
 use std::rt::{Clock, Env};
@@ -32,13 +32,13 @@ impl<H: Threads + Wait + Clock + Env + AllocGlobal + Eprint + Copy + Drop + Send
 /// Unless the input itself fails, it is read to its end, so that no pipe is closed on the harness.
 pub(crate) fn run<H: Host>(host: &H, alloc: Global, stdin: Stdin, stdout: Stdout) -> u8 {
     let Ok(pipe) = Pipe::new(alloc) else {
-        return refuse_all(host, &WatchFault::OutOfMemory);
+        return refuse_all(host, &ReadFault::OutOfMemory);
     };
     let Ok(pipe) = Arc::new(alloc, pipe) else {
-        return refuse_all(host, &WatchFault::OutOfMemory);
+        return refuse_all(host, &ReadFault::OutOfMemory);
     };
     let Ok(theirs) = Arc::try_clone(&pipe) else {
-        return refuse_all(host, &WatchFault::OutOfMemory);
+        return refuse_all(host, &ReadFault::OutOfMemory);
     };
     let (other, mut stdin) = (*host, stdin);
     let reader = match thread::spawn(host, move || pump(&other, &mut stdin, &theirs)) {

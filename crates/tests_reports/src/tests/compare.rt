@@ -3,10 +3,10 @@ use super::lines::{
     A_FAILED, A_IGNORED, A_MEASURED, A_PASSED, A_SILENT, FILTERED, NONE, Y_AND_X, announced,
     failed, measured, passed, read, summary, title,
 };
-use super::writers::has_stopped;
-use mimic_compare::{CompareFault, Verdict, write_comparison};
+use super::writers::{check_stops, has_stopped};
+use mimic_compare::{Verdict, write_comparison};
 use mimic_input::RowsRead;
-use mimic_printer::Sink;
+use mimic_printer::{OutputFault, Sink};
 use mimic_testkit::{Fault, FaultyWriter, Place};
 use std::alloc::{AllocError, Global};
 use std::io::Write;
@@ -20,7 +20,7 @@ fn compare<W: Write>(
     old: &RowsRead,
     new: &RowsRead,
     writer: W,
-) -> (W, Result<Verdict, CompareFault>) {
+) -> (W, Result<Verdict, OutputFault>) {
     let mut sink = Sink::new(writer);
     let compared = write_comparison(alloc, old, new, &mut sink);
     (sink.into_inner(), compared)
@@ -242,20 +242,20 @@ fn stops_so(alloc: Global, place: Place, fault: Fault) -> Result<bool, Fail> {
     let writer = FaultyWriter::new(alloc).failing(place, fault);
     let (writer, compared) = compare(alloc, &old, &new, writer);
     let expected = printed(alloc, CHANGED, 1)?;
-    Ok(matches!(compared, Err(CompareFault::Write(_))) && has_stopped(&writer, expected.as_bytes()))
+    Ok(matches!(compared, Err(OutputFault::Write(_))) && has_stopped(&writer, expected.as_bytes()))
 }
 
 #[test]
 fn stops_at_a_write_fault(rt: HostRuntime) -> Result<(), Fail> {
-    for place in [
+    let places = [
         Place::Byte(0),
         Place::Byte(12),
         Place::Byte(150),
         Place::Flush(1),
-    ] {
-        for fault in Fault::ALL {
-            assert!(rt; stops_so(rt.alloc(), place, fault)?, "{place:?} {fault:?}");
-        }
-    }
-    Ok(())
+    ];
+    check_stops(
+        &rt,
+        &places,
+        |place, fault| stops_so(rt.alloc(), place, fault),
+    )
 }

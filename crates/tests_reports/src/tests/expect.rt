@@ -5,12 +5,10 @@ use super::lines::{
     failed, passed, summary, text_of, title,
 };
 use super::reading::Slow;
-use super::writers::has_stopped;
-use mimic_expect::{
-    ExpectFault, Expectation, InputEnd, KnownFault, Verdict, read_known, write_unexpected,
-};
+use super::writers::{check_stops, has_stopped};
+use mimic_expect::{Expectation, InputEnd, KnownFault, Verdict, read_known, write_unexpected};
 use mimic_input::Ending;
-use mimic_printer::Sink;
+use mimic_printer::{OutputFault, Sink};
 use mimic_testkit::{Fault, FaultyWriter, Place};
 use std::alloc::{AllocError, Global};
 use std::io::{ErrorKind, Read, Write};
@@ -43,7 +41,7 @@ fn judge<I: Read + Drop, W: Write>(
     inputs: Vec<I>,
     lax: bool,
     writer: W,
-) -> (W, Result<Verdict, ExpectFault>) {
+) -> (W, Result<Verdict, OutputFault>) {
     let mut sink = Sink::new(writer);
     let judged = write_unexpected(alloc, known, inputs, lax, &mut sink);
     (sink.into_inner(), judged)
@@ -401,20 +399,20 @@ fn stops_so(alloc: Global, place: Place, fault: Fault) -> Result<bool, Fail> {
     let writer = FaultyWriter::new(alloc).failing(place, fault);
     let (writer, judged) = judge(alloc, &known, inputs, false, writer);
     let found = text_of(alloc, FOUND)?;
-    Ok(matches!(judged, Err(ExpectFault::Write(_))) && has_stopped(&writer, found.as_bytes()))
+    Ok(matches!(judged, Err(OutputFault::Write(_))) && has_stopped(&writer, found.as_bytes()))
 }
 
 #[test]
 fn stops_at_a_write_fault(rt: HostRuntime) -> Result<(), Fail> {
-    for place in [
+    let places = [
         Place::Byte(0),
         Place::Byte(60),
         Place::Byte(200),
         Place::Flush(1),
-    ] {
-        for fault in Fault::ALL {
-            assert!(rt; stops_so(rt.alloc(), place, fault)?, "{place:?} {fault:?}");
-        }
-    }
-    Ok(())
+    ];
+    check_stops(
+        &rt,
+        &places,
+        |place, fault| stops_so(rt.alloc(), place, fault),
+    )
 }

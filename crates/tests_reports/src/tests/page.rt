@@ -2,7 +2,7 @@
 use super::lines::{
     A_FAILED, NONE, announced, failed, ignored, measured, passed, read, summary, title,
 };
-use super::writers::has_stopped;
+use super::writers::{check_stops, has_stopped};
 use mimic_input::RowsRead;
 use mimic_page::write_page;
 use mimic_printer::{Sink, WriteFault};
@@ -228,16 +228,13 @@ fn stops_so(alloc: Global, page: &str, place: Place, fault: Fault) -> Result<boo
 #[test]
 fn stops_at_a_write_fault(rt: HostRuntime) -> Result<(), Fail> {
     let page = page_of(rt.alloc(), A_FAILED)?;
-    for place in [
+    let places = [
         Place::Byte(0),
         Place::Byte(500),
         Place::Byte(5_000),
         Place::Flush(1),
-    ] {
-        for fault in Fault::ALL {
-            let stops = stops_so(rt.alloc(), page.as_str(), place, fault)?;
-            assert!(rt; stops, "{place:?} {fault:?}");
-        }
-    }
-    Ok(())
+    ];
+    check_stops(&rt, &places, |place, fault| {
+        stops_so(rt.alloc(), page.as_str(), place, fault)
+    })
 }

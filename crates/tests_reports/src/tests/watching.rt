@@ -1,5 +1,6 @@
 //! What no clause says of a watch: when it draws, what the lines say of the time, and whole runs byte for byte. Expected texts are
 //! worked by hand.
+use mimic_input::ReadFault;
 use mimic_printer::Sink;
 use mimic_watch::{WatchFault, watch};
 use std::alloc::Global;
@@ -67,7 +68,8 @@ fn watched<I: Read>(
     };
     let status = match watch(alloc, input, &mut sink, &clock, live) {
         Ok(verdict) => verdict.status(),
-        Err(WatchFault::Input(error)) if error.kind() == ErrorKind::BrokenPipe => 99,
+        Err(WatchFault::Read(ReadFault::Input(error))) if error.kind() == ErrorKind::BrokenPipe =>
+            99,
         Err(_) => return Err("another fault".into()),
     };
     Ok((status, String::from_utf8(sink.into_inner())?))

@@ -1,5 +1,7 @@
 //! Writers that fail.
-use mimic_testkit::{FaultyWriter, Place};
+use mimic_testkit::{Fault, FaultyWriter, Place};
+use std::process::Abort;
+use std::test::Fail;
 
 // Whether the writer failed, had got all of the text up to there, or at a flush the whole, and was asked for nothing more.
 pub(super) fn has_stopped(writer: &FaultyWriter, text: &[u8]) -> bool {
@@ -8,4 +10,20 @@ pub(super) fn has_stopped(writer: &FaultyWriter, text: &[u8]) -> bool {
         _ => Some(text),
     };
     writer.has_failed && writer.calls_after == 0 && before == Some(writer.bytes.as_slice())
+}
+
+// Checks what a writer leaves that fails at one of the places: `stops_so` says whether that is as it should be.
+pub(super) fn check_stops<F: Fn(Place, Fault) -> Result<bool, Fail>>(
+    rt: &impl Abort,
+    places: &[Place],
+    stops_so: F,
+) -> Result<(), Fail>
+    requires { F.IsAlwaysCallable stops_so }
+{
+    for place in places {
+        for fault in Fault::ALL {
+            assert!(rt; stops_so(*place, fault)?, "{place:?} {fault:?}");
+        }
+    }
+    Ok(())
 }

@@ -1,14 +1,6 @@
-use Rattle.std.specs.Prelude.{string_bytes}
-use Rattle.mimic_printer.proofs.Appending.{Puts-stopped}
-use Rattle.mimic_events.proofs.Writing.{row_put, row_stopped, same_label}
+use Rattle.mimic_events.proofs.Writing.{row_put, same_label}
 use Rattle.mimic_events.proofs.write.put_row.Goals as goal
-
-pub returns-in_err-put_announcement-clause-written : goal.returns-in_err-put_announcement-clause-written
-returns-in_err-put_announcement-clause-written g c =
-    let same = same_label c.as_str-kind.result.now (string_bytes c.args.row.now.kind) c.as_str-name.result.now (string_bytes c.args.row.now.name) c.as_str-kind.ensures.value c.as_str-name.ensures.value in
-    Puts-stopped _ _ c.from_residual.ensures.0 (row_stopped _ _ c.args.row.now.outcome same c.in_err-put_announcement.ensures)
 
 pub returns-clause-written : goal.returns-clause-written
 returns-clause-written g c =
-    let same = same_label c.as_str-kind.result.now (string_bytes c.args.row.now.kind) c.as_str-name.result.now (string_bytes c.args.row.now.name) c.as_str-kind.ensures.value c.as_str-name.ensures.value in
-    row_put _ _ _ _ _ c.args.row.now.outcome _ same c.in_ok-put_announcement.ensures c.put_outcome.ensures
+    row_put _ _ _ _ c.args.row.now.outcome _ (same_label _ _ _ _ c.as_str-2.ensures.value c.as_str.ensures.value) c.put_row.ensures

@@ -1,9 +1,6 @@
-use Rattle.std.proofs.Common.{◌≡◌, ◌+◌, ◌++◌, ◌∷◌, [], Option, arith, cond, suc, subst, sym}
-use Rattle.std.specs.Prelude.{MatchOption}
+use Rattle.std.proofs.Common.{◌≡◌, ◌+◌, ◌++◌, ◌∷◌, [], arith, cond, suc, subst, sym}
 use Rattle.mimic_printer.specs.Sink.{shown}
 use Rattle.mimic_events.specs.Contents.{entry_read}
-use Rattle.mimic_events.specs.declared.report.Row.{Row}
-use Rattle.mimic_input.specs.Readings.{HasCome, HasEnded}
 use Rattle.mimic_expect.specs.Judge.{Judges}
 use Rattle.mimic_expect.proofs.Judged.{counted_none, counted_one, err_left, judges_then, left_after, room, rows_before}
 use Rattle.mimic_expect.proofs.inputs.judge_input.Goals as goal
@@ -19,9 +16,7 @@ pub overflow_add-failed : goal.overflow_add-failed
 overflow_add-failed g c =
     let come = c.loop.invariant.come in
     let start = g.I.Read.remaining c.args.input in
-    let Came : Option Row → Type 0 = λ o. MatchOption o (HasEnded g.I.Read.remaining start c.next_row.new.self come.0)
-    (λ row. HasCome g.I.Read.remaining start c.next_row.new.self (come.0 ++ entry_read row ∷ [])) in
-    let came = subst Came c.in-Ok-Some.field-0-is (c.in-Ok-Some.ensures.rows start come.0 come.1) in
+    let came = rw c.in-Ok-Some.field-0-is at c.in-Ok-Some.ensures.rows start come.0 come.1 in
     let fits = room came.bytes come.0 (entry_read c.in-Ok-Some.row) _ _ c.loop.failed _ _ came.followed.ended come.2 in
     omega (arith, fits)
 
@@ -29,9 +24,7 @@ pub returns-in-Ok-None : goal.returns-in-Ok-None
 returns-in-Ok-None g c =
     let come = c.loop.invariant.come in
     let start = g.I.Read.remaining c.args.input in
-    let Came : Option Row → Type 0 = λ o. MatchOption o (HasEnded g.I.Read.remaining start c.next_row.new.self come.0)
-    (λ row. HasCome g.I.Read.remaining start c.next_row.new.self (come.0 ++ entry_read row ∷ [])) in
-    (come.0, c.in_ok-finish-in-Ok-None.ensures start come.0 (subst Came c.in-Ok-None.field-0-is (c.in-Ok-None.ensures.rows start come.0 come.1)), come.2)
+    (come.0, c.in_ok-finish-in-Ok-None.ensures start come.0 (rw c.in-Ok-None.field-0-is at c.in-Ok-None.ensures.rows start come.0 come.1), come.2)
 
 pub returns-in-Err-Input : goal.returns-in-Err-Input
 returns-in-Err-Input g c =
@@ -43,8 +36,6 @@ loop-preserved g c =
     let come = c.loop.invariant.come in
     let start = g.I.Read.remaining c.args.input in
     let e = entry_read c.in-Ok-Some.row in
-    let Came : Option Row → Type 0 = λ o. MatchOption o (HasEnded g.I.Read.remaining start c.next_row.new.self come.0)
-    (λ row. HasCome g.I.Read.remaining start c.next_row.new.self (come.0 ++ entry_read row ∷ [])) in
     let unknown = c.in_ok-row-in-Ok-Some.field-0 in
     let counts : c.if-branch.failed ≡ c.loop.failed + cond unknown (suc 0) 0 = elim c.if-branch.branch [
       | then-branch w ↦ counted_one c.loop.failed c.if-branch.failed unknown w.if-branch.true w.failed-is
@@ -54,7 +45,7 @@ loop-preserved g c =
       ready = c.in-Ok-Some.ensures.ready;
       come = (
         come.0 ++ e ∷ [],
-        subst Came c.in-Ok-Some.field-0-is (c.in-Ok-Some.ensures.rows start come.0 come.1),
+        rw c.in-Ok-Some.field-0-is at c.in-Ok-Some.ensures.rows start come.0 come.1,
         subst (λ n. Judges c.args.judge.now c.row.new.self (come.0 ++ e ∷ []) n (shown g.W.Write.contents c.args.sink.now) (shown g.W.Write.contents c.row.new.sink)) (sym counts)
             (judges_then _ _ _ come.0 (e ∷ []) _ _ _ _ _ come.2 c.in_ok-row-in-Ok-Some.ensures),
       );

@@ -1,7 +1,7 @@
 -- The rows that have come are kept.
 use Rattle.std.proofs.Common.{map}
 use Rattle.mimic_events.specs.Contents.{entry_read}
-use Rattle.mimic_input.specs.Readings.{HasCome, IsReady}
+use Rattle.mimic_input.specs.RowByRow.{HasCome, IsReady}
 use Rattle.mimic_input.proofs.rows_read.read_rows.Given as goal
 
 abbrev pub invariant-loop : goal.invariant-loop

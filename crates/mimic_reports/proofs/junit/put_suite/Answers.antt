@@ -2,9 +2,10 @@ use Rattle.std.proofs.Common.{List, map, subst}
 use Rattle.mimic_printer.specs.Sink.{Put, shown}
 use Rattle.mimic_events.specs.Contents.{entry_read}
 use Rattle.mimic_events.specs.declared.report.Row.{Row}
-use Rattle.mimic_reports.specs.declared.junit.SuiteFault.TheVariants.{Write}
+use Rattle.mimic_reports.specs.declared.junit.JunitFault.TheVariants.{Write}
 use Rattle.mimic_reports.specs.Junit.{suite_text}
-use Rattle.mimic_reports.proofs.SuiteText.{again_shown, err_left, kept_shown, more_known}
+use Rattle.mimic_reports.proofs.Results.{err_left, more_known}
+use Rattle.mimic_reports.proofs.SuiteText.{again_shown, kept_shown}
 use Rattle.mimic_reports.proofs.junit.put_suite.Goals as goal
 
 pub returns-in-Kept : goal.returns-in-Kept
@@ -14,7 +15,7 @@ returns-in-Kept g c =
     (_, kept_shown g.I.Read.remaining c.args.suite c.in-Kept.rows c.in-Kept.is, subst P c.deref.ensures.value c.in_ok-put_kept-in-Kept.ensures)
 
 pub returns-in_err-put_kept-in-Kept : goal.returns-in_err-put_kept-in-Kept
-returns-in_err-put_kept-in-Kept g c = err_left _ _ _ _ (Write c.in_err-put_kept-in-Kept.field-0.0) c.from_residual.ensures.1 (_, c.in_err-put_kept-in-Kept.ensures)
+returns-in_err-put_kept-in-Kept g c = err_left _ _ _ (Write c.in_err-put_kept-in-Kept.field-0.0) c.from_residual.ensures.1 (_, c.in_err-put_kept-in-Kept.ensures)
 
 pub returns : goal.returns
 returns g c =

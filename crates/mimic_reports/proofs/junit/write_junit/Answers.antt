@@ -4,10 +4,13 @@ use Rattle.std.specs.List.{flat_map}
 use Rattle.std.specs.Vec.Iter.{into_iter_items}
 use Rattle.mimic_printer.specs.Sink.{Put, shown}
 use Rattle.mimic_printer.proofs.Appending.{Put-Stopped, Put-trans}
+use Rattle.mimic_reports.specs.declared.junit.JunitFault.TheVariants.{Write}
 use Rattle.mimic_reports.specs.Junit.{root_start, suite_text, total}
-use Rattle.mimic_reports.specs.Suites.{IsShown, LeftBy, numbers_in}
-use Rattle.mimic_reports.proofs.Documents.{close_part, leaves, one_more_suite, report_left, write_left}
+use Rattle.mimic_reports.specs.Suites.{IsShown, LeavesDocument, numbers_in}
+use Rattle.mimic_reports.proofs.Documents.{close_part, leaves, left_by, one_more_suite}
 use Rattle.mimic_reports.proofs.ReadInputs.{each_more}
+use Rattle.mimic_reports.proofs.Results.{at_fault}
+use Rattle.mimic_reports.proofs.SuiteText.{left_after}
 use Rattle.mimic_reports.proofs.junit.write_junit.Goals as goal
 
 pub loop-suite-init : goal.loop-suite-init
@@ -29,7 +32,7 @@ pub loop-suite-preserved : goal.loop-suite-preserved
 loop-suite-preserved g c =
     let before = c.loop-suite.invariant in
     let done = before.done in
-    let put = c.in_default-put_suite.ensures in
+    let put = c.in_ok-put_suite.ensures in
     let seen = c.loop-suite.yielded in
     record {
       seen = append_assoc seen (c.in-Some-suite.suite ∷ []) _ ∙ (ap (λ l. seen ++ l) (sym c.in-Some-suite.ensures.steps.0) ∙ before.seen);
@@ -42,29 +45,43 @@ loop-suite-preserved g c =
       );
     }
 
-pub returns-in-Err-clause-document : goal.returns-in-Err-clause-document
-returns-in-Err-clause-document g c =
+pub returns-in_err-put_suite-clause-document : goal.returns-in_err-put_suite-clause-document
+returns-in_err-put_suite-clause-document g c =
     let before = c.loop-suite.invariant in
     let done = before.done in
     let seen = ap length before.seen in
     let split = length-append c.loop-suite.yielded (into_iter_items c.loop-suite.suite-iterator) in
     let next = ap length c.in-Some-suite.ensures.steps.0 in
-    let within : c.loop-suite.place < length c.args.suites.items = omega (arith, before.place, seen, split, next) in
-    subst (LeftBy c.args.suites.items (shown g.W.Write.contents c.args.sink.now) (shown g.W.Write.contents c.put_suite.new.sink)) (sym c.at.ensures)
-    (report_left c.args.suites.items _ _ _ (root_start (total (map numbers_in c.args.suites.items)) ++ flat_map suite_text done.0) c.in-Err.fault c.loop-suite.place within
-    done.2 c.in-Err.ensures)
+    let suites = c.args.suites.items in
+    let place = c.loop-suite.place in
+    let fault = c.in_err-put_suite.field-0.0 in
+    let text : List _ = root_start (total (map numbers_in suites)) ++ flat_map suite_text done.0 in
+    let within : place < length suites = omega (arith, before.place, seen, split, next) in
+    at_fault (LeavesDocument g.I.Read.remaining suites _ _) _ fault
+    c.from_residual-in_err-put_suite.ensures.1
+    (left_by suites place _ _ fault within
+    (left_after place _ _ _ text fault done.2 c.in_err-put_suite.ensures))
 
 pub returns-in_err-put-clause-document : goal.returns-in_err-put-clause-document
 returns-in_err-put-clause-document g c =
-    write_left g.I.Read.remaining c.args.suites.items _ _ c.from_residual-in_err-put.result c.in_err-put.field-0.0 _ c.from_residual-in_err-put.ensures.1
-    (Put-Stopped (root_start (total (map numbers_in c.args.suites.items)) ++ flat_map suite_text c.loop-suite.invariant.done.0) close_part c.loop-suite.invariant.done.2
-    c.in_err-put.ensures.appends)
+    let suites = c.args.suites.items in
+    let done = c.loop-suite.invariant.done in
+    let text : List _ = root_start (total (map numbers_in suites)) ++ flat_map suite_text done.0 in
+    at_fault (LeavesDocument g.I.Read.remaining suites _ _) _ (Write c.in_err-put.field-0.0)
+    c.from_residual-in_err-put.ensures.1
+    (_, Put-Stopped text close_part done.2 c.in_err-put.ensures.appends)
 
 pub returns-in_err-flush-clause-document : goal.returns-in_err-flush-clause-document
 returns-in_err-flush-clause-document g c =
-    let text : List _ = root_start (total (map numbers_in c.args.suites.items)) ++ flat_map suite_text c.loop-suite.invariant.done.0 in
-    write_left g.I.Read.remaining c.args.suites.items _ _ c.from_residual-in_err-flush.result c.in_err-flush.field-0.0 _ c.from_residual-in_err-flush.ensures.1
-    (Put-Stopped (text ++ close_part) [] (Put-trans text close_part c.loop-suite.invariant.done.2 c.in_ok-put.ensures.appends) c.in_err-flush.ensures)
+    let suites = c.args.suites.items in
+    let done = c.loop-suite.invariant.done in
+    let text : List _ = root_start (total (map numbers_in suites)) ++ flat_map suite_text done.0 in
+    at_fault (LeavesDocument g.I.Read.remaining suites _ _) _ (Write c.in_err-flush.field-0.0)
+    c.from_residual-in_err-flush.ensures.1 (
+      _,
+      Put-Stopped (text ++ close_part) []
+          (Put-trans text close_part done.2 c.in_ok-put.ensures.appends) c.in_err-flush.ensures,
+    )
 
 pub returns-clause-document : goal.returns-clause-document
 returns-clause-document g c =

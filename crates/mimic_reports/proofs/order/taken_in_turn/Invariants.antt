@@ -1,10 +1,19 @@
-use Rattle.std.specs.Prelude.{◌≡◌, ◌+◌, ◌++◌, length, map}
-use Rattle.mimic_reports.specs.Turns.{in_turn}
+-- The lists give what is left of the rows.
+use Rattle.std.specs.Prelude.{List, All}
+use Rattle.std.specs.Iterator.{AlwaysYields, size}
+use Rattle.mimic_events.specs.declared.report.Row.{Row}
+use Rattle.mimic_reports.specs.Turns.{Each}
+use Rattle.mimic_reports.proofs.Taking.{Ends, Leave, left_in}
 use Rattle.mimic_reports.proofs.order.taken_in_turn.Given as goal
 
 abbrev pub invariant-loop-list : goal.invariant-loop-list
-invariant-loop-list l = map (λ row. row.now) l.rows.items ++ in_turn (map (λ list. list.now) l.lists.items) ≡ in_turn (map (λ list. list.now) l.fn.lists.items)
+invariant-loop-list g l = record {
+  ends : All (Ends g.I.Iterator.can_next g.I.Iterator.remaining) l.lists.items;
+  leave : (row_in : g.row.I-Item.Denot → Row) (all : List (List Row))
+      → Each (AlwaysYields g.I.Iterator.next_gives row_in) l.fn.lists.items all
+      → Leave g.I.Iterator.next_gives row_in l.lists.items l.rows.items all;
+}
 
 -- the rows that are left, and the lists
 abbrev pub decreases-loop-list : goal.decreases-loop-list
-decreases-loop-list l = length (in_turn (map (λ list. list.now) l.lists.items)) + length l.lists.items
+decreases-loop-list g l = left_in (λ list. size (g.I.Iterator.remaining list)) l.lists.items

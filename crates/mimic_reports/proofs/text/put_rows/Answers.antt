@@ -10,9 +10,9 @@ pub returns-in_err-put_row : goal.returns-in_err-put_row
 returns-in_err-put_row g c =
     let P : Bor Row → Type 0 = λ r. Stopped (shown g.W.Write.contents c.loop-row.sink) (shown g.W.Write.contents c.put_row.new.sink) (row_lines r.now) in
     Puts-stopped _ _ c.from_residual.ensures.0
-    (Stopped-next (λ (row : Bor Row). row_lines row.now) c.args.rows.now c.loop-row.row-index c.row-item.result c.loop-row-test.true c.loop-row.invariant (subst P c.row-item.is c.in_err-put_row.ensures))
+    (Stopped-next (λ (row : Bor Row). row_lines row.now) c.args.rows.now c.loop-row.row-index c.row-item.result c.loop-row-test.true c.loop-row.invariant (subst P c.row-item.is c.in_err-put_row.ensures.written))
 
 pub loop-row-preserved : goal.loop-row-preserved
 loop-row-preserved g c =
     let P : Bor Row → Type 0 = λ r. Put (shown g.W.Write.contents c.loop-row.sink) (shown g.W.Write.contents c.put_row.new.sink) (row_lines r.now) in
-    Put-next (λ (row : Bor Row). row_lines row.now) c.args.rows.now c.loop-row.row-index c.row-item.result c.loop-row-test.true c.loop-row.invariant (subst P c.row-item.is c.in_ok-put_row.ensures)
+    Put-next (λ (row : Bor Row). row_lines row.now) c.args.rows.now c.loop-row.row-index c.row-item.result c.loop-row-test.true c.loop-row.invariant (subst P c.row-item.is c.in_ok-put_row.ensures.written)

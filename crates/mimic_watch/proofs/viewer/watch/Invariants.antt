@@ -1,8 +1,12 @@
 -- What has come since the input was at its start, and what was put.
+use Rattle.std.proofs.Common.{◌<◌, length}
 use Rattle.mimic_printer.specs.Sink.{shown}
 use Rattle.mimic_watch.specs.Watching.{IsWatching}
 use Rattle.mimic_watch.proofs.viewer.watch.Given as goal
 
 abbrev pub invariant-loop : goal.invariant-loop
-invariant-loop g l =
-    IsWatching l.fn.live (g.I.Read.remaining l.fn.input) (g.I.Read.remaining l.input) (shown g.W.Write.contents l.fn.sink) (shown g.W.Write.contents l.sink) l.viewer
+invariant-loop g l = record {
+  watching : IsWatching l.fn.live (g.I.Read.remaining l.fn.input) (g.I.Read.remaining l.input)
+      (shown g.W.Write.contents l.fn.sink) (shown g.W.Write.contents l.sink) l.viewer;
+  room : 0 < length l.room;
+}

@@ -1,7 +1,7 @@
 -- What had come is all that has come.
 use Rattle.std.proofs.Common.{List, Option, ℕ}
 use Rattle.mimic_printer.specs.Json.{Entry}
-use Rattle.mimic_input.specs.Readings.{HasCome, IsReady}
+use Rattle.mimic_input.specs.RowByRow.{HasCome, IsReady}
 use Rattle.mimic_input.proofs.rows.InputRows.next_row.Given as goal
 
 abbrev pub invariant-loop : goal.invariant-loop

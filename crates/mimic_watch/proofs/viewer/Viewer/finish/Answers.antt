@@ -1,14 +1,15 @@
 use Rattle.std.proofs.Common.{ℕ, List, [], ◌++◌, inl, refl, sym, subst}
-use Rattle.mimic_printer.specs.Sink.{Put, shown}
-use Rattle.mimic_printer.proofs.Appending.{Put-Stopped, Put-refl, Put-trans}
-use Rattle.mimic_watch.specs.declared.verdict.WatchFault.TheVariants.{OutOfMemory, Write}
+use Rattle.mimic_printer.specs.Sink.{LeftBy, Put, shown}
+use Rattle.mimic_printer.proofs.Appending.{Put-Stopped, Put-trans}
+use Rattle.mimic_printer.specs.declared.sink.OutputFault.TheVariants.{OutOfMemory, Write}
 use Rattle.mimic_watch.specs.Watched.{last_text}
-use Rattle.mimic_watch.specs.Watching.{EndsAs, LeftBy, put_text}
+use Rattle.mimic_input.specs.Readings.{EndsAs}
+use Rattle.mimic_watch.specs.Watching.{put_text}
 use Rattle.mimic_watch.proofs.Ending.{last_is, left_alone, on_error}
 use Rattle.mimic_watch.proofs.viewer.Viewer.finish.Goals as goal
 
 pub returns-in_err-ending-clause-put : goal.returns-in_err-ending-clause-put
-returns-in_err-ending-clause-put g c = on_error _ OutOfMemory _ _ c.from_residual.ensures.1 ([], inl refl, Put-refl _)
+returns-in_err-ending-clause-put g c = on_error _ OutOfMemory _ _ c.from_residual.ensures.1 ([], inl refl, refl)
 
 pub returns-in_err-put_moment-clause-put : goal.returns-in_err-put_moment-clause-put
 returns-in_err-put_moment-clause-put g c =

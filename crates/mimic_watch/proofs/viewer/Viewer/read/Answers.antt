@@ -1,0 +1,23 @@
+use Rattle.std.proofs.Common.{◌∙◌, [], refl, rules, sym}
+use Rattle.mimic_watch.proofs.Seeing.{none_seen}
+use Rattle.mimic_watch.proofs.Watches.{none_more, over_wrong}
+use Rattle.mimic_watch.proofs.viewer.Viewer.read.Goals as goal
+
+pub returns-in_ok-take-in-Ok-clause-read : goal.returns-in_ok-take-in-Ok-clause-read
+returns-in_ok-take-in-Ok-clause-read g c = record {
+  bytes = _;
+  gone = c.in-Ok.ensures.piece.gone;
+  seen = c.in_ok-take-in-Ok.ensures.seen;
+  live = c.in_ok-take-in-Ok.ensures.live;
+  last = λ over all put waiting h.
+      over_wrong _ all c.first_wrong_line.result (sym c.is_some.ensures ∙ over) (c.first_wrong_line.ensures.found all _ h.followed);
+}
+
+pub returns-in_ok-go_on-in-Err-clause-read : goal.returns-in_ok-go_on-in-Err-clause-read
+returns-in_ok-go_on-in-Err-clause-read g c = record {
+  bytes = [];
+  gone = none_more _ _ c.in-Err.ensures.fault.1;
+  seen = none_seen _;
+  live = refl;
+  last = λ over. absurd (search rules);
+}
