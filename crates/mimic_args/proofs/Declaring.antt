@@ -20,12 +20,7 @@ is_empty-push xs ys x e = ne_eqb _ _ (λ n. omega (arith, n, ap length e, length
 
 rule-excluding : (old new : Arg) (id : Bor (List ℕ)) → AddsConflicts old new (id ∷ []) → rule_of new ≡ record (rule_of old) { is_free = false }
 rule-excluding old new id h =
-    let some = is_empty-push old.conflicts.items new.conflicts.items id h.1 in
-    let F : Bool → Rule = λ b. record (rule_of old) {
-      is_free = not old.exclusive && (b && (is_empty old.needs.items
-          && (is_empty old.r_ifs.items && (is_empty old.r_ifs_all.items && (is_empty old.r_unless.items && is_empty old.r_unless_all.items)))));
-    } in
-    ap rule_of h.0 ∙ ap F some ∙ ap (λ b. record (rule_of old) { is_free = b }) (and-false (not old.exclusive))
+    ap rule_of h.0 ∙ rw (is_empty-push old.conflicts.items new.conflicts.items id h.1, and-false (not old.exclusive))
 
 pub declared-excluding : (old new : Arg) (id : Bor (List ℕ)) → AddsConflicts old new (id ∷ []) → declared_of new ≡ excluding (declared_of old) id.now
 declared-excluding old new id h =

@@ -1,7 +1,6 @@
 pub mod Accepted
 pub mod ByNames
 pub mod Declaring
-pub mod OneFault
 pub mod Passed
 pub mod Refusals
 pub mod SameFaults

@@ -1,10 +1,10 @@
 -- If a parse took a line, the first value of an option passed the reader that is declared for it.
-use Rattle.std.proofs.Common.{◌≡◌, ◌∙◌, ◌<◌, ap, arith, Bool, drop, false, filter, inl, inr, length, List, map, None, refl, Some, subst, suc, sym, true, zero, ℕ, [], ◌∷◌}
+use Rattle.std.proofs.Common.{◌≡◌, ◌∙◌, ◌<◌, ap, arith, Bool, cond, false, filter, inl, inr, length, List, map, None, refl, Some, subst, suc, sym, true, zero, ℕ, [], ◌∷◌}
 use Rattle.std.proofs.lemmas.Bool.{cases_lt}
 use Rattle.std.proofs.lemmas.List.Elements.{All-drop, All-get_or}
 use Rattle.std.proofs.lemmas.Slice.Eq.{bytes_eq-Decides}
 use Rattle.std.specs.Borrow.{Bor}
-use Rattle.std.specs.List.{All, slice_index_or}
+use Rattle.std.specs.List.{All, AllByRecursion, slice_index_or}
 use Rattle.std.specs.Prelude.{codes, slice_get, unwrap_or}
 use Rattle.std.specs.Str.{bytes_eq}
 use Rattle.clap.proofs.SimpleLemmas.{plain_fields, simple_groups}
@@ -24,34 +24,21 @@ use Rattle.clap.specs.declared.parser.matches.ArgMatches.{ArgMatches}
 abbrev pub rules_of_id : Text → List Rule → List Rule
 rules_of_id id = filter (λ r. bytes_eq r.id id)
 
-none_left : (id : Text) (xs : List Arg) (k : ℕ) (d : Arg) → rules_of_id id (map rule_of xs) ≡ [] → k < length xs
-    → bytes_eq (slice_index_or xs k d).id.now id ≡ true → ⊥
-none_left id [] k d none lt hit = absurd (omega arith)
-none_left id (x ∷ xs) zero d none lt hit =
-    let bad : rule_of x ∷ rules_of_id id (map rule_of xs) ≡ [] = rw hit at none in
-    cc
-none_left id (x ∷ xs) (suc k) d none lt hit = go (bytes_eq x.id.now id) refl (λ more. none_left id xs k d more (omega arith) hit)
+-- what holds of the rules of an id holds of an argument that has it
+rule_fits : (P : Rule → Type 0) (id : Text) (xs : List Arg) (k : ℕ) (d : Arg) → AllByRecursion P (rules_of_id id (map rule_of xs)) → k < length xs
+    → bytes_eq (slice_index_or xs k d).id.now id ≡ true → P (rule_of (slice_index_or xs k d))
+rule_fits P id [] k d all lt hit = absurd (omega arith)
+rule_fits P id (x ∷ xs) zero d all lt hit = (rw hit at all).0
+rule_fits P id (x ∷ xs) (suc k) d all lt hit = rule_fits P id xs k d (others (bytes_eq x.id.now id) (rules_of_id id (map rule_of xs)) all) (omega arith) hit
   where
-    go : (b : Bool) → bytes_eq x.id.now id ≡ b → (rules_of_id id (map rule_of xs) ≡ [] → ⊥) → ⊥
-    go true e later =
-        let bad : rule_of x ∷ rules_of_id id (map rule_of xs) ≡ [] = rw e at none in
-        cc
-    go false e later = later (rw e at none)
+    others : (b : Bool) (rest : List Rule) → AllByRecursion P (cond b (rule_of x ∷ rest) rest) → AllByRecursion P rest
+    others true rest here = here.1
+    others false rest here = here
 
 -- the only rule of an id
 only_rule : (id : Text) (xs : List Arg) (r : Rule) (k : ℕ) (d : Arg) → rules_of_id id (map rule_of xs) ≡ r ∷ [] → k < length xs
     → bytes_eq (slice_index_or xs k d).id.now id ≡ true → rule_of (slice_index_or xs k d) ≡ r
-only_rule id [] r k d one lt hit = absurd (omega arith)
-only_rule id (x ∷ xs) r zero d one lt hit =
-    let same : rule_of x ∷ rules_of_id id (map rule_of xs) ≡ r ∷ [] = rw hit at one in
-    ap (λ l. slice_index_or l 0 r) same
-only_rule id (x ∷ xs) r (suc k) d one lt hit = go (bytes_eq x.id.now id) refl (λ more. only_rule id xs r k d more (omega arith) hit)
-  where
-    go : (b : Bool) → bytes_eq x.id.now id ≡ b → (rules_of_id id (map rule_of xs) ≡ r ∷ [] → rule_of (slice_index_or xs k d) ≡ r) → rule_of (slice_index_or xs k d) ≡ r
-    go true e later =
-        let same : rule_of x ∷ rules_of_id id (map rule_of xs) ≡ r ∷ [] = rw e at one in
-        absurd (none_left id xs k d (ap (drop 1) same) (omega arith) hit)
-    go false e later = later (rw e at one)
+only_rule id xs r k d one lt hit = rule_fits (λ x. x ≡ r) id xs k d (rw one (refl, tt)) lt hit
 
 -- the entry of an id that has a first value
 first_entry : (P : Entry → Type 0) (xs : List Entry) (id t : Text) → All P xs → first_of id (map row_of xs) ≡ Some t
@@ -105,10 +92,9 @@ argument_takes old m p id t q is pass =
     ]
 
 -- the first value of the option passed its reader
-pub first_passed : (old : Command) (m : ArgMatches) (app : App) (id t : Text) (q : ValueParser) → IsParsedFrom old m → app_of old ≡ app → is_simple app ≡ true
+pub first_passed : (old : Command) (m : ArgMatches) (app : App) (id t : Text) (q : ValueParser) → IsParsedFrom old m → app_of old ≡ app → is_simple (app_of old) ≡ true
     → IsReadBy id q app.top.rules → first_of id (rows_of (found_of m)) ≡ Some t → Accepts false q t
-first_passed old m app id t q p same simple is found =
-    let fits : is_simple (app_of old) ≡ true = ap is_simple same ∙ simple in
+first_passed old m app id t q p same fits is found =
     let rules : map rule_of (args_of old) ≡ app.top.rules = ap (λ (a : App). a.top.rules) same in
     let ready = both _ _ (both _ _ (both _ _ fits).0).0 in
     let fields = plain_fields old ready.0 in

@@ -1,5 +1,5 @@
 -- Lines of comparisons.
-use Rattle.std.proofs.Common.{◌≡◌, ◌&&◌, Bool, ℕ, ◌+◌, ◌<◌, ◌≤◌, List, [], ◌∷◌, cond, length, map, take, get_or, refl, sym, ap, ap₂, subst, ◌∙◌}
+use Rattle.std.proofs.Common.{◌≡◌, ℕ, ◌<◌, ◌≤◌, List, [], ◌∷◌, cond, length, map, take, get_or, refl, sym, ap, subst, ◌∙◌}
 use Rattle.std.specs.Prelude.{count_by}
 use Rattle.std.specs.List.{flat_map}
 use Rattle.std.proofs.lemmas.List.{take_all}
@@ -11,11 +11,7 @@ use Rattle.mimic_compare.specs.Classes.{Compared}
 use Rattle.mimic_compare.specs.Keys.{comparison_read}
 use Rattle.mimic_compare.specs.Text.{count_of, same_class}
 use Rattle.mimic_compare.specs.declared.class.Class.{Class}
-use Rattle.mimic_compare.specs.Written.{found_in, is_whole, verdict_of}
-use Rattle.mimic_compare.specs.declared.class.Class.TheVariants.{Regressed, Missing}
 use Rattle.mimic_compare.specs.declared.comparison.Comparison.{Comparison}
-use Rattle.mimic_compare.specs.declared.verdict.Verdict.{Verdict}
-use Rattle.mimic_input.specs.declared.rows_read.RowsRead.{RowsRead}
 
 module _ (f : Compared → List ℕ) where
   abbrev each : Comparison → List ℕ
@@ -36,12 +32,5 @@ module _ (f : Compared → List ℕ) where
 pub counts_read : (class : Class) (xs : List Comparison) → count_by (λ c. same_class c.class class) xs ≡ count_of class (map comparison_read xs)
 counts_read class [] = refl
 counts_read class (x ∷ xs) =
-    sum_by-cons (λ (c : Comparison). cond (same_class c.class class) 1 0) x xs ∙ ap (λ (n : ℕ). cond (same_class x.class class) 1 0 + n) (counts_read class xs)
-    ∙ sym (sum_by-cons (λ (c : Compared). cond (same_class c.class class) 1 0) (comparison_read x) (map comparison_read xs))
-
-pub verdict_is : (old new : RowsRead) (regressed missing : ℕ) (whole : Bool) → regressed ≡ count_of Regressed (found_in old new) → missing ≡ count_of Missing (found_in old new)
-    → whole ≡ (is_whole old.ending && is_whole new.ending)
-    → ◌≡◌ {A = Verdict} (record { regressed = regressed; missing = missing; are_whole = whole }) (verdict_of old new)
-verdict_is old new regressed missing whole r m w =
-    let verdict : ℕ → ℕ → Bool → Verdict = λ x y z. record { regressed = x; missing = y; are_whole = z } in
-    ap₂ (λ (x y : ℕ). verdict x y whole) r m ∙ ap (verdict (count_of Regressed (found_in old new)) (count_of Missing (found_in old new))) w
+    rw (sum_by-cons (λ (c : Comparison). cond (same_class c.class class) 1 0) x xs, counts_read class xs)
+    (sym (sum_by-cons (λ (c : Compared). cond (same_class c.class class) 1 0) (comparison_read x) (map comparison_read xs)))

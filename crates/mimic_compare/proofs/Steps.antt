@@ -1,5 +1,5 @@
 -- One more row.
-use Rattle.std.proofs.Common.{◌≡◌, ◌&&◌, ◌||◌, ◌==◌, not, ℕ, ◌+◌, ◌-◌, ◌^◌, ◌<◌, ◌≤◌, Bool, true, false, cond, List, [], ◌∷◌, ◌++◌, length, length-append, map, filter, take, length-take, get_or, unwrap_or, refl, sym, ap, ap₂, subst, ◌∙◌, append-nil, arith, add-zero}
+use Rattle.std.proofs.Common.{◌≡◌, ◌&&◌, ◌||◌, ◌==◌, not, ℕ, ◌+◌, ◌-◌, ◌^◌, ◌<◌, ◌≤◌, Bool, true, false, cond, List, [], ◌∷◌, ◌++◌, length, length-append, map, filter, take, length-take, get_or, unwrap_or, refl, sym, ap, ap₂, ◌∙◌, append-nil, arith, add-zero}
 use Rattle.std.specs.Prelude.{Option, None, Some, count_by}
 use Rattle.std.specs.HashMap.{HashMap, get}
 use Rattle.std.specs.HashSet.{HashSet, contains}
@@ -7,12 +7,11 @@ use Rattle.std.specs.List.{list_any}
 use Rattle.std.specs.Option.{option_eq}
 use Rattle.std.specs.Str.{bytes_eq}
 use Rattle.std.proofs.Math.Bool.{and_comm}
-use Rattle.std.proofs.lemmas.Bool.{ne_eqb, eq-eqb}
 use Rattle.std.proofs.lemmas.List.{length-map, map-append, map_more}
 use Rattle.std.proofs.lemmas.List.Concat.{flat_map-append}
 use Rattle.std.proofs.lemmas.List.Elements.{filter-append}
 use Rattle.std.proofs.lemmas.List.Folds.{list_any-append}
-use Rattle.std.proofs.lemmas.List.Sums.{count_by-le-length, sum_by_push}
+use Rattle.std.proofs.lemmas.List.Sums.{count_by-le-length, length-filter, sum_by_push}
 use Rattle.std.proofs.lemmas.Simd.{map-map}
 use Rattle.mimic_trial.specs.declared.outcome.Outcome.{Outcome}
 use Rattle.mimic_trial.specs.declared.outcome.Outcome.TheVariants as outcome
@@ -29,134 +28,93 @@ use Rattle.mimic_events.specs.declared.key.Key.TheVariants.{Trial, Failure}
 use Rattle.mimic_events.specs.declared.report.Row.{Row}
 use Rattle.mimic_events.proofs.Keys.{at_row, same_key-decides, same_key-symm, same_label-decides, same_label-symm}
 use Rattle.mimic_compare.specs.Classes.{Compared, average_of, averages, compared, comparisons, distinct, failures, have_other_messages, ignored, labels_in, outcomes_with, times}
-use Rattle.mimic_compare.specs.Keys.{AddsOthers, HasTallies, HasTimes, comparison_read, is_other, times_of}
+use Rattle.mimic_compare.specs.Keys.{AddsOthers, HasTallies, HasTimes, is_other, times_of}
 use Rattle.mimic_compare.specs.Tallies.{HasRoom, last_or, tally_of}
-use Rattle.mimic_compare.specs.declared.comparison.Comparison.{Comparison}
 use Rattle.mimic_compare.specs.declared.tally.Tally.{Tally}
 use denote.Ref.{Bor}
 
--- ---- tests
-
-alike : (a b : Label) → same_label a b ≡ true → a ≡ b
-alike a b h = (same_label-decides a b).0 h
-
 -- ---- lists with one more element
-
-length-push : {X : Type 0} (xs : List X) (x : X) → length (xs ++ x ∷ []) ≡ length xs + 1
-length-push xs x = length-append xs (x ∷ [])
 
 counted : {X : Type 0} (p : X → Bool) (xs : List X) (x : X) → count_by p (xs ++ x ∷ []) ≡ count_by p xs + cond (p x) 1 0
 counted p xs x = sum_by_push (λ y. cond (p y) 1 0) xs x
 
-uncounted : {X : Type 0} (p : X → Bool) (xs : List X) (x : X) → p x ≡ false → count_by p (xs ++ x ∷ []) ≡ count_by p xs
-uncounted p xs x h = counted p xs x ∙ ap (λ b. count_by p xs + cond b 1 0) h ∙ add-zero (count_by p xs)
-
-last_or-push : (n : ℕ) (ms : List ℕ) (m : ℕ) → last_or n (ms ++ m ∷ []) ≡ m
-last_or-push n [] m = refl
-last_or-push n (k ∷ ms) m = last_or-push k ms m
-
-any-push : {X : Type 0} (p : X → Bool) (xs : List X) (x : X) → list_any p (xs ++ x ∷ []) ≡ (list_any p xs || p x)
-any-push p xs x = list_any-append p xs (x ∷ []) ∙ ap (λ b. list_any p xs || b) (or_false (p x))
-  where
-    or_false : (b : Bool) → (b || false) ≡ b
-    or_false true = refl
-    or_false false = refl
+last_or_push : (n : ℕ) (ms : List ℕ) (m : ℕ) → last_or n (ms ++ m ∷ []) ≡ m
+last_or_push n [] m = refl
+last_or_push n (k ∷ ms) m = last_or_push k ms m
 
 -- ---- tallies
 
-averages-push : (os : List Outcome) (m : Measurement) → averages (os ++ outcome.Measured m ∷ []) ≡ averages os ++ m.avg ∷ []
-averages-push os m = flat_map-append average_of os (outcome.Measured m ∷ [])
+averages_push : (os : List Outcome) (m : Measurement) → averages (os ++ outcome.Measured m ∷ []) ≡ averages os ++ m.avg ∷ []
+averages_push os m = flat_map-append average_of os (outcome.Measured m ∷ [])
 
-measured_push : (os : List Outcome) (m : Measurement)
+pub measured_push : (os : List Outcome) (m : Measurement)
     → ◌≡◌ {A = Tally} (record { rows = length os + 1; failed = failures os; ignored = ignored os; measured = length (averages os) + 1; average = m.avg }) (tally_of (os ++ outcome.Measured m ∷ []))
 measured_push os m =
     rw (
-      length-push os (outcome.Measured m),
-      uncounted is_failed os (outcome.Measured m) refl,
-      uncounted is_ignored_outcome os (outcome.Measured m) refl,
-      averages-push os m,
-      length-push (averages os) m.avg,
-      last_or-push 0 (averages os) m.avg,
-    ) refl
-
-pub measured_more : (t : Tally) (os : List Outcome) (o : Outcome) (m : Measurement) → o ≡ outcome.Measured m → t ≡ tally_of os
-    → ◌≡◌ {A = Tally} (record { rows = t.rows + 1; failed = t.failed; ignored = t.ignored; measured = t.measured + 1; average = m.avg }) (tally_of (os ++ o ∷ []))
-measured_more t os o m is e =
-    let P : Tally → Type 0 = λ u. ◌≡◌ {A = Tally} (record { rows = u.rows + 1; failed = u.failed; ignored = u.ignored; measured = u.measured + 1; average = m.avg }) (tally_of (os ++ outcome.Measured m ∷ [])) in
-    subst P (sym e) (measured_push os m) ∙ ap (λ (x : Outcome). tally_of (os ++ x ∷ [])) (sym is)
+      length-append os (outcome.Measured m ∷ []),
+      counted is_failed os (outcome.Measured m),
+      counted is_ignored_outcome os (outcome.Measured m),
+      averages_push os m,
+      length-append (averages os) (m.avg ∷ []),
+      last_or_push 0 (averages os) m.avg,
+      add-zero (failures os),
+      add-zero (ignored os),
+    )
 
 averages-le : (os : List Outcome) → length (averages os) ≤ length os
 averages-le [] = omega arith
 averages-le (o ∷ os) = omega (arith, averages-le os, length-append (average_of o) (averages os), few o)
   where
     few : (o : Outcome) → length (average_of o) ≤ 1
-    few outcome.Passed = omega arith
-    few (outcome.Failed f) = omega arith
-    few outcome.Ignored = omega arith
     few (outcome.Measured m) = omega arith
+    few other = omega arith
 
-pub room : (os : List Outcome) → length os < 2 ^ 64 - 1 → HasRoom (tally_of os)
-room os h = record {
+pub room_of : (t : Tally) (os : List Outcome) → t ≡ tally_of os → length os < 2 ^ 64 - 1 → HasRoom t
+room_of t os e h = rw e (record {
   rows = h;
   failed = omega (arith, count_by-le-length is_failed os);
   ignored = omega (arith, count_by-le-length is_ignored_outcome os);
   measured = omega (arith, averages-le os);
-}
-
-pub room_of : (t : Tally) (os : List Outcome) → t ≡ tally_of os → length os < 2 ^ 64 - 1 → HasRoom t
-room_of t os e h = subst HasRoom (sym e) (room os h)
+})
 
 -- ---- outcomes of rows
 
 pub entries_more : (rows : List Row) (i : ℕ) (row : Row) → i < length rows → row ≡ get_or rows i row
     → map entry_read (take (i + 1) rows) ≡ map entry_read (take i rows) ++ entry_read row ∷ []
-entries_more rows i row lt is = map_more entry_read rows i row lt ∙ ap (λ (x : Row). map entry_read (take i rows) ++ entry_read x ∷ []) (sym is)
+entries_more rows i row lt is = rw (map_more entry_read rows i row lt, ← is)
 
 pub outcomes-push : (label : Label) (es : List Entry) (e : Entry) → outcomes_with label (es ++ e ∷ []) ≡ outcomes_with label es ++ cond (same_label label e.label) (e.outcome ∷ []) []
 outcomes-push label es e =
     let test : Entry → Bool = λ x. same_label label x.label in
     let read : Entry → Outcome = λ x. x.outcome in
-    ap (map read) (filter-append test es (e ∷ []))
-    ∙ (map-append read (filter test es) (filter test (e ∷ [])) ∙ ap (λ (l : List Outcome). map read (filter test es) ++ l) (one (test e)))
+    rw (filter-append test es (e ∷ []), map-append read (filter test es) (filter test (e ∷ []))) (ap (λ l. map read (filter test es) ++ l) (one (test e)))
   where
     one : (b : Bool) → map (λ (x : Entry). x.outcome) (cond b (e ∷ []) []) ≡ cond b (e.outcome ∷ []) []
     one true = refl
     one false = refl
 
-pub outcomes-le : (label : Label) (es : List Entry) → length (outcomes_with label es) ≤ length es
-outcomes-le label [] = omega arith
-outcomes-le label (e ∷ es) = at (same_label label e.label) (outcomes-le label es)
-  where
-    at : (b : Bool) → length (outcomes_with label es) ≤ length es → length (map (λ (x : Entry). x.outcome) (cond b (e ∷ filter (λ x. same_label label x.label) es) (filter (λ x. same_label label x.label) es))) ≤ length (e ∷ es)
-    at true h = omega (arith, h)
-    at false h = omega (arith, h)
-
 pub few_outcomes : (label : Label) (rows : List Row) (i : ℕ) → i < length rows → length rows < 2 ^ 64 → length (outcomes_with label (map entry_read (take i rows))) < 2 ^ 64 - 1
 few_outcomes label rows i lt small =
-    omega (arith, lt, small, outcomes-le label (map entry_read (take i rows)), length-map (take i rows) entry_read, length-take i rows)
+    let es : List Entry = map entry_read (take i rows) in
+    let own : Entry → Bool = λ e. same_label label e.label in
+    omega (arith, length-map (filter own es) (λ e. e.outcome), length-filter own es, count_by-le-length own es, length-map (take i rows) entry_read, length-take i rows)
 
 -- the tallies of one more row
 pub tallied : {S : Type 0} (rows : List Row) (i : ℕ) (row : Row) (old new : HashMap Found Tally S) (t : Tally) → i < length rows → row ≡ get_or rows i row
     → HasTallies old (map entry_read (take i rows)) → ((key : Found) → get is_same new key ≡ cond (is_same (Trial (at_row row)) key) (Some t) (get is_same old key))
     → t ≡ tally_of (outcomes_with (label_in row) (map entry_read (take i rows)) ++ row.outcome ∷ []) → HasTallies new (map entry_read (take (i + 1) rows))
 tallied rows i row old new t lt is has updates e q =
-    ap (λ (o : Option Tally). unwrap_or o (tally_of [])) (updates (Trial q)) ∙ at (same_label label sought) refl ∙ ap tally_of (sym more)
+    rw (updates (Trial q), entries_more rows i row lt is, outcomes-push sought es (entry_read row), same_label-symm sought (label_in row))
+    (at (same_label (label_in row) sought) refl)
   where
     es : List Entry
     es = map entry_read (take i rows)
 
-    label : Label
-    label = label_in row
-
     sought : Label
     sought = label_in q.now
 
-    more : outcomes_with sought (map entry_read (take (i + 1) rows)) ≡ outcomes_with sought es ++ cond (same_label label sought) (row.outcome ∷ []) []
-    more = ap (outcomes_with sought) (entries_more rows i row lt is)
-        ∙ (outcomes-push sought es (entry_read row) ∙ ap (λ (b : Bool). outcomes_with sought es ++ cond b (row.outcome ∷ []) []) (same_label-symm sought label))
-
-    at : (b : Bool) → same_label label sought ≡ b → unwrap_or (cond b (Some t) (get is_same old (Trial q))) (tally_of []) ≡ tally_of (outcomes_with sought es ++ cond b (row.outcome ∷ []) [])
-    at true h = e ∙ ap (λ (l : Label). tally_of (outcomes_with l es ++ row.outcome ∷ [])) (alike label sought h)
+    at : (b : Bool) → same_label (label_in row) sought ≡ b → unwrap_or (cond b (Some t) (get is_same old (Trial q))) (tally_of []) ≡ tally_of (outcomes_with sought es ++ cond b (row.outcome ∷ []) [])
+    at true h = e ∙ ap (λ (l : Label). tally_of (outcomes_with l es ++ row.outcome ∷ [])) ((same_label-decides (label_in row) sought).0 h)
     at false h = has q ∙ ap tally_of (sym (append-nil (outcomes_with sought es)))
 
 -- ---- failures
@@ -173,14 +131,12 @@ same_failure key e = at e.outcome (same_label key.label e.label)
 
     at : (o : Outcome) (b : Bool) → (b && same_outcome (outcome.Failed key.message) o) ≡ (is_failed o && (option_eq bytes_eq key.message (message_of o) && b))
     at (outcome.Failed g) b = texts key.message g b
-    at outcome.Passed b = and_comm b false
-    at outcome.Ignored b = and_comm b false
-    at (outcome.Measured m) b = and_comm b false
+    at other b = and_comm b false
 
 -- how many times a failure stands there with one more entry
 times-push : (es : List Entry) (e : Entry) (key : Key) → times_of key (es ++ e ∷ []) ≡ times_of key es + cond (is_failed e.outcome && same_key key (key_in e)) 1 0
 times-push es e key =
-    ap (times (outcome.Failed key.message)) (outcomes-push key.label es e) ∙ at (same_label key.label e.label) ∙ ap (λ (b : Bool). times_of key es + cond b 1 0) (same_failure key e)
+    rw (← same_failure key e, outcomes-push key.label es e) (at (same_label key.label e.label))
   where
     test : Outcome → Bool
     test = same_outcome (outcome.Failed key.message)
@@ -198,15 +154,13 @@ module _ {S : Type 0} (rows : List Row) (i : ℕ) (row : Row) (lt : i < length r
   times_before key = times_of key (map entry_read (take i rows))
 
   times_after : (key : Key) (f : Bool) → is_failed row.outcome ≡ f → times_of key (map entry_read (take (i + 1) rows)) ≡ times_before key + cond (f && same_key key (key_in (entry_read row))) 1 0
-  times_after key f h =
-      ap (times_of key) (entries_more rows i row lt is) ∙ (times-push (map entry_read (take i rows)) (entry_read row) key
-      ∙ ap (λ (b : Bool). times_before key + cond (b && same_key key (key_in (entry_read row))) 1 0) h)
+  times_after key f h = rw (entries_more rows i row lt is, times-push (map entry_read (take i rows)) (entry_read row) key, h)
 
   -- one more failure
   pub times_more : (new : HashMap Found ℕ S) (n : ℕ) → ((key : Found) → get is_same new key ≡ cond (is_same (Failure (at_row row)) key) (Some (n + 1)) (get is_same old key))
       → is_failed row.outcome ≡ true → n ≡ times_before (key_in (entry_read row)) → HasTimes new (map entry_read (take (i + 1) rows))
   times_more new n updates failed e q =
-      ap (λ (o : Option ℕ). unwrap_or o 0) (updates (Failure q)) ∙ at (same_key own sought) refl ∙ sym (times_after sought true failed ∙ ap (λ (b : Bool). times_before sought + cond b 1 0) (same_key-symm sought own))
+      rw (updates (Failure q), times_after sought true failed, same_key-symm sought own) (at (same_key own sought) refl)
     where
       own : Key
       own = key_in (entry_read row)
@@ -220,9 +174,7 @@ module _ {S : Type 0} (rows : List Row) (i : ℕ) (row : Row) (lt : i < length r
 
   -- one more row that is no failure
   pub times_kept : is_failed row.outcome ≡ false → HasTimes old (map entry_read (take (i + 1) rows))
-  times_kept sound q =
-      let sought : Key = key_in (entry_read q.now) in
-      has q ∙ sym (times_after sought false sound ∙ add-zero (times_before sought))
+  times_kept sound q = has q ∙ sym (times_after (key_in (entry_read q.now)) false sound ∙ add-zero (times_before (key_in (entry_read q.now))))
 
 -- ---- other messages
 
@@ -232,50 +184,19 @@ pub others_more : {S : Type 0} (rows : List Row) (i : ℕ) (row : Row) (before a
     → ((key : Found) → contains is_same new key ≡ cond (b && is_same (Trial (at_row row)) key) true (contains is_same old key))
     → AddsOthers start new before after (map entry_read (take (i + 1) rows))
 others_more rows i row before after start old new b lt is found has updates q =
-    let label : Label = label_in row in
     let sought : Label = label_in q.now in
     let test : Entry → Bool = λ e. same_label sought e.label && is_other before after e in
     let es : List Entry = map entry_read (take i rows) in
-    let first : Bool = contains is_same start (Trial q) in
-    let more : list_any test (map entry_read (take (i + 1) rows)) ≡ (list_any test es || (same_label sought label && b)) =
-    ap (list_any test) (entries_more rows i row lt is) ∙ any-push test es (entry_read row) ∙ ap (λ (x : Bool). list_any test es || (same_label sought label && x)) found in
-    updates (Trial q) ∙ ap (λ (x : Bool). cond (b && same_label label sought) true x) (has q) ∙ shuffle b (same_label label sought) (same_label sought label) first (list_any test es) (same_label-symm label sought)
-    ∙ ap (λ (x : Bool). first || x) (sym more)
+    rw (updates (Trial q), has q, entries_more rows i row lt is, list_any-append test es (entry_read row ∷ []), found, same_label-symm sought (label_in row))
+    (shuffle b (same_label (label_in row) sought) (contains is_same start (Trial q)) (list_any test es))
   where
-    shuffle : (b s t u v : Bool) → s ≡ t → cond (b && s) true (u || v) ≡ (u || (v || (t && b)))
-    shuffle b s t u v e = subst (λ (x : Bool). cond (b && s) true (u || v) ≡ (u || (v || (x && b)))) e (plain b s u v)
-      where
-        plain : (b s u v : Bool) → cond (b && s) true (u || v) ≡ (u || (v || (s && b)))
-        plain true true true v = refl
-        plain true true false true = refl
-        plain true true false false = refl
-        plain true false true v = refl
-        plain true false false true = refl
-        plain true false false false = refl
-        plain false true true v = refl
-        plain false true false true = refl
-        plain false true false false = refl
-        plain false false true v = refl
-        plain false false false true = refl
-        plain false false false false = refl
-
--- a failure that stands more often in the one than in the other
-pub differs : (o : Outcome) (a b m n : ℕ) → is_failed o ≡ true → m ≡ a → n ≡ b → (m ≡ n → ⊥) → (is_failed o && not (a == b)) ≡ true
-differs o a b m n failed p q ne =
-    let other : a ≡ b → ⊥ = λ e. ne (p ∙ (e ∙ sym q)) in
-    ap₂ (λ x y. x && not y) failed (ne_eqb a b other)
-
-pub agrees : (o : Outcome) (a b m n : ℕ) → is_failed o ≡ true → m ≡ a → n ≡ b → m ≡ n → (is_failed o && not (a == b)) ≡ false
-agrees o a b m n failed p q e = ap₂ (λ x y. x && not y) failed (eq-eqb a b (sym p ∙ (e ∙ q)))
-
-pub sound : (o : Outcome) (b : Bool) → is_failed o ≡ false → (is_failed o && b) ≡ false
-sound o b h = ap (λ x. x && b) h
+    shuffle : (b s u v : Bool) → cond (b && s) true (u || v) ≡ (u || (v || ((s && b) || false)))
+    shuffle true s u v = grind arith
+    shuffle false s u v = grind arith
 
 pub not_failed : (o : Outcome) → ((f : Option (List ℕ)) → o ≡ outcome.Failed f → ⊥) → is_failed o ≡ false
-not_failed outcome.Passed h = refl
 not_failed (outcome.Failed f) h = absurd (h f refl)
-not_failed outcome.Ignored h = refl
-not_failed (outcome.Measured m) h = refl
+not_failed other h = refl
 
 any_with : (label : Label) (p : Outcome → Bool) (r : Entry → Bool) → ((e : Entry) → same_label label e.label ≡ true → r e ≡ p e.outcome) → (es : List Entry)
     → list_any (λ e. same_label label e.label && r e) es ≡ list_any p (outcomes_with label es)
@@ -291,10 +212,8 @@ any_with label p r fits (e ∷ es) = at (same_label label e.label) refl (any_wit
 -- a failure stands as often as the key of its entry says
 as_failure : (o : Outcome) (old new : List Outcome)
     → (is_failed o && not (times (outcome.Failed (message_of o)) old == times (outcome.Failed (message_of o)) new)) ≡ (is_failed o && not (times o old == times o new))
-as_failure outcome.Passed old new = refl
 as_failure (outcome.Failed f) old new = refl
-as_failure outcome.Ignored old new = refl
-as_failure (outcome.Measured m) old new = refl
+as_failure other old new = refl
 
 pub other_messages_are : (label : Label) (old new : List Entry)
     → (list_any (λ e. same_label label e.label && is_other old new e) old || list_any (λ e. same_label label e.label && is_other old new e) new)
@@ -303,66 +222,33 @@ other_messages_are label old new =
     let test : Outcome → Bool = λ o. is_failed o && not (times o (outcomes_with label old) == times o (outcomes_with label new)) in
     let fits : (e : Entry) → same_label label e.label ≡ true → is_other old new e ≡ test e.outcome =
     λ e h. as_failure e.outcome (outcomes_with e.label old) (outcomes_with e.label new)
-    ∙ ap (λ (l : Label). is_failed e.outcome && not (times e.outcome (outcomes_with l old) == times e.outcome (outcomes_with l new))) (sym (alike label e.label h)) in
+    ∙ ap (λ (l : Label). is_failed e.outcome && not (times e.outcome (outcomes_with l old) == times e.outcome (outcomes_with l new))) (sym ((same_label-decides label e.label).0 h)) in
     let all : (es : List Entry) → list_any (λ e. same_label label e.label && is_other old new e) es ≡ list_any test (outcomes_with label es) = any_with label test (is_other old new) fits in
     ap₂ (λ x y. x || y) (all old) (all new) ∙ sym (list_any-append test (outcomes_with label old) (outcomes_with label new))
 
 -- ---- labels
 
 -- one more label
-pub distinct-push : (labels : List Label) (label : Label) → distinct (labels ++ label ∷ []) ≡ cond (list_any (same_label label) labels) (distinct labels) (distinct labels ++ label ∷ [])
+pub distinct-push : (labels : List Label) (label : Label)
+    → distinct (labels ++ label ∷ []) ≡ cond (not (list_any (same_label label) labels)) (distinct labels ++ label ∷ []) (distinct labels)
 distinct-push [] label = refl
-distinct-push (first ∷ labels) label =
-    ap (λ (l : List Label). first ∷ filter (λ other. not (same_label first other)) l) (distinct-push labels label)
-    ∙ at (same_label label first) refl (list_any (same_label label) labels)
+distinct-push (first ∷ labels) label = rw (distinct-push labels label) (at (same_label label first) refl (list_any (same_label label) labels))
   where
-    test : Label → Bool
-    test other = not (same_label first other)
+    kept : List Label → List Label
+    kept = filter (λ other. not (same_label first other))
 
-    cut : (b : Bool) → same_label label first ≡ b → filter (λ other. not (same_label first other)) (label ∷ []) ≡ cond b [] (label ∷ [])
-    cut b h = ap (λ (x : Bool). cond (not x) (label ∷ []) []) (same_label-symm first label ∙ h) ∙ turn b
-      where
-        turn : (b : Bool) → cond (not b) (label ∷ []) [] ≡ cond b [] (label ∷ [])
-        turn true = refl
-        turn false = refl
+    last : (b : Bool) → same_label label first ≡ b → kept (distinct labels ++ label ∷ []) ≡ kept (distinct labels) ++ cond b [] (label ∷ [])
+    last true h = rw (filter-append (λ other. not (same_label first other)) (distinct labels) (label ∷ []), same_label-symm first label, h)
+    last false h = rw (filter-append (λ other. not (same_label first other)) (distinct labels) (label ∷ []), same_label-symm first label, h)
 
-    at : (b : Bool) → same_label label first ≡ b → (c : Bool)
-        → first ∷ filter (λ other. not (same_label first other)) (cond c (distinct labels) (distinct labels ++ label ∷ []))
-        ≡ cond (b || c) (first ∷ filter (λ other. not (same_label first other)) (distinct labels)) ((first ∷ filter (λ other. not (same_label first other)) (distinct labels)) ++ label ∷ [])
+    at : (b : Bool) → same_label label first ≡ b → (c : Bool) → first ∷ kept (cond (not c) (distinct labels ++ label ∷ []) (distinct labels))
+        ≡ cond (not (b || c)) ((first ∷ kept (distinct labels)) ++ label ∷ []) (first ∷ kept (distinct labels))
     at true h true = refl
     at false h true = refl
-    at true h false =
-        ap (λ (l : List Label). first ∷ l)
-        (filter-append (λ other. not (same_label first other)) (distinct labels) (label ∷ [])
-        ∙ (ap (λ (l : List Label). filter (λ other. not (same_label first other)) (distinct labels) ++ l) (cut true h) ∙ append-nil (filter (λ other. not (same_label first other)) (distinct labels))))
-    at false h false =
-        ap (λ (l : List Label). first ∷ l)
-        (filter-append (λ other. not (same_label first other)) (distinct labels) (label ∷ [])
-        ∙ ap (λ (l : List Label). filter (λ other. not (same_label first other)) (distinct labels) ++ l) (cut false h))
-
-pub first_added : (labels : List Label) (label : Label) (has added : Bool) → has ≡ list_any (same_label label) labels → added ≡ not has → added ≡ true
-    → distinct (labels ++ label ∷ []) ≡ distinct labels ++ label ∷ []
-first_added labels label has added is e new = distinct-push labels label ∙ ap (λ (b : Bool). cond b (distinct labels) (distinct labels ++ label ∷ [])) (sym is ∙ unset has (sym e ∙ new))
-  where
-    unset : (b : Bool) → not b ≡ true → b ≡ false
-    unset true h = sym h
-    unset false h = refl
-
-pub first_seen : (labels : List Label) (label : Label) (has added : Bool) → has ≡ list_any (same_label label) labels → added ≡ not has → added ≡ false
-    → distinct (labels ++ label ∷ []) ≡ distinct labels
-first_seen labels label has added is e h = distinct-push labels label ∙ ap (λ (b : Bool). cond b (distinct labels) (distinct labels ++ label ∷ [])) (sym is ∙ is_set has (sym e ∙ h))
-  where
-    is_set : (b : Bool) → not b ≡ false → b ≡ true
-    is_set true h = refl
-    is_set false h = sym h
+    at true h false = ap (λ (l : List Label). first ∷ l) (last true h ∙ append-nil (kept (distinct labels)))
+    at false h false = ap (λ (l : List Label). first ∷ l) (last false h)
 
 -- ---- comparisons
-
-pub compared_more : (f : Bor Row → Compared) (rows : List (Bor Row)) (i : ℕ) (row : Bor Row) (old new : List Comparison) (x : Comparison) → i < length rows → row ≡ get_or rows i row
-    → comparison_read x ≡ f row → new ≡ old ++ x ∷ [] → map comparison_read old ≡ map f (take i rows) → map comparison_read new ≡ map f (take (i + 1) rows)
-compared_more f rows i row old new x lt is reads news before =
-    ap (map comparison_read) news ∙ map-append comparison_read old (x ∷ []) ∙ ap₂ (λ (l : List Compared) (y : Compared). l ++ y ∷ []) before reads
-    ∙ sym (map_more f rows i row lt ∙ ap (λ (y : Bor Row). map f (take i rows) ++ f y ∷ []) (sym is))
 
 pub all_compared : (judged : Bool) (old new : List Row) (firsts : List (Bor Row)) → map (λ row. label_in row.now) firsts ≡ distinct (map label_in new ++ map label_in old)
     → map (λ row. compared judged (map entry_read old) (map entry_read new) (label_in row.now)) firsts ≡ comparisons judged (map entry_read old) (map entry_read new)

@@ -18,10 +18,13 @@ use Rattle.mimic_compare.specs.declared.comparison.Tallies.{Tallies}
 use Rattle.mimic_compare.specs.declared.tally.Tally.{Tally}
 use denote.Ref.{Bor}
 
+-- the tally that the map has of the row's kind and name
+abbrev pub tally_in : {S : Type 0} → HashMap Found Tally S → Bor Row → Tally
+tally_in tallies row = unwrap_or (get is_same tallies (Trial row)) (tally_of [])
+
 -- the map has the tally of each kind and name
 abbrev pub HasTallies : {S : Type 0} → HashMap Found Tally S → List Entry → Type 0
-HasTallies tallies entries = (row : Bor Row) → unwrap_or (get is_same tallies (Trial row)) (tally_of [])
-    ≡ tally_of (outcomes_with (label_in row.now) entries)
+HasTallies tallies entries = (row : Bor Row) → tally_in tallies row ≡ tally_of (outcomes_with (label_in row.now) entries)
 
 -- how many times the failure of this key stands there
 abbrev pub times_of : Key → List Entry → ℕ

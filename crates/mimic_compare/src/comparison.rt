@@ -9,7 +9,7 @@ ghost use Rattle.mimic_compare.specs.Keys.{comparison_read, IsOf};
 
 use crate::class::Class;
 use crate::messages::others_in;
-use crate::tally::{Tally, tallies_in};
+use crate::tally::{Tally, tallies_in, tally_in};
 use mimic_events::{Key, Row};
 use std::alloc::{AllocError, Global};
 use std::collections::{HashMap, HashSet};
@@ -73,16 +73,8 @@ impl<'a> Tallies<'a> {
         ensures { (old new : List Entry) → IsOf self.now old new
             → comparison_read result ≡ compared is_judged old new (label_in row.now) }
     {
-        let old = self
-            .old
-            .get(&Key::Trial(row))
-            .copied()
-            .unwrap_or(Tally::EMPTY);
-        let new = self
-            .new
-            .get(&Key::Trial(row))
-            .copied()
-            .unwrap_or(Tally::EMPTY);
+        let old = tally_in(&self.old, row);
+        let new = tally_in(&self.new, row);
         let has_other_messages = (&self.others).contains(&Key::Trial(row));
         let averages = if old.measured == 1 && new.measured == 1 {
             Some((old.average, new.average))

@@ -1,13 +1,22 @@
 //! Finds the kinds and names whose failures have other messages in one report than in another.
-ghost use Rattle.std.specs.Prelude.{List, IfOk, OnOk, map};
+ghost use Rattle.std.specs.Prelude.{◌≡◌, List, IfOk, OnOk, map};
 ghost use Rattle.mimic_printer.specs.Json.{Entry};
 ghost use Rattle.mimic_events.specs.Contents.{entry_read};
-ghost use Rattle.mimic_compare.specs.Keys.{AddsOthers, HasOthers, HasTimes};
+ghost use Rattle.mimic_events.specs.Key.{key_in};
+ghost use Rattle.mimic_compare.specs.Keys.{AddsOthers, HasOthers, HasTimes, is_other, times_of};
 
 use mimic_events::{Key, Row};
 use mimic_trial::Outcome;
 use std::alloc::{AllocError, Global};
 use std::collections::{HashMap, HashSet};
+
+// Returns how many times the failure of the row stands there.
+fn times_of<'a>(failures: &HashMap<Key<'a>, u64>, row: &'a Row) -> u64
+    ensures { (entries : List Entry) → HasTimes failures.now entries
+        → result ≡ times_of (key_in (entry_read row.now)) entries }
+{
+    failures.get(&Key::Failure(row)).copied().unwrap_or(0)
+}
 
 // Returns how many times each failure stands in the rows.
 fn failures_in(alloc: Global, rows: &[Row]) -> Result<HashMap<Key<'_>, u64>, AllocError>
@@ -16,11 +25,19 @@ fn failures_in(alloc: Global, rows: &[Row]) -> Result<HashMap<Key<'_>, u64>, All
     let mut failures = HashMap::new(alloc);
     for row in rows {
         if let Outcome::Failed(_) = &row.outcome {
-            let times = (&failures).get(&Key::Failure(row)).copied().unwrap_or(0);
+            let times = times_of(&failures, row);
             failures.insert(Key::Failure(row), times + 1)?;
         }
     }
     Ok(failures)
+}
+
+// Returns whether the row is a failure that stands in one report more often than in the other.
+fn is_other<'a>(row: &'a Row, old: &HashMap<Key<'a>, u64>, new: &HashMap<Key<'a>, u64>) -> bool
+    ensures { (before after : List Entry) → HasTimes old.now before → HasTimes new.now after
+        → result ≡ is_other before after (entry_read row.now) }
+{
+    matches!(row.outcome, Outcome::Failed(_)) && times_of(old, row) != times_of(new, row)
 }
 
 // Adds the rows whose failure stands in one report more often than in the other.
@@ -34,12 +51,8 @@ fn add_others<'a>(
         → AddsOthers others.old others.new before after (map entry_read rows.now)) }
 {
     for row in rows {
-        if let Outcome::Failed(_) = &row.outcome {
-            let before = old.get(&Key::Failure(row)).copied().unwrap_or(0);
-            let after = new.get(&Key::Failure(row)).copied().unwrap_or(0);
-            if before != after {
-                others.insert(Key::Trial(row))?;
-            }
+        if is_other(row, old, new) {
+            others.insert(Key::Trial(row))?;
         }
     }
     Ok(())

@@ -2,7 +2,7 @@
 ghost use Rattle.std.specs.Prelude.{◌≡◌, ◌++◌, ◌∷◌, [], List, IfOk, map};
 ghost use Rattle.mimic_trial.specs.declared.outcome.Outcome.{Outcome as OutcomeRead};
 ghost use Rattle.mimic_events.specs.Contents.{entry_read};
-ghost use Rattle.mimic_compare.specs.Keys.{HasTallies};
+ghost use Rattle.mimic_compare.specs.Keys.{HasTallies, tally_in};
 ghost use Rattle.mimic_compare.specs.Tallies.{HasRoom, tally_of};
 
 use mimic_events::{Key, Row};
@@ -51,16 +51,23 @@ impl Tally {
     }
 }
 
+// Returns the tally of the row's kind and name.
+pub(crate) fn tally_in<'a>(tallies: &HashMap<Key<'a>, Tally>, row: &'a Row) -> Tally
+    ensures { result ≡ tally_in tallies.now row.entry }
+{
+    tallies
+        .get(&Key::Trial(row))
+        .copied()
+        .unwrap_or(Tally::EMPTY)
+}
+
 // Returns the tally of each kind and name that the rows have.
 pub(crate) fn tallies_in(alloc: Global, rows: &[Row]) -> Result<HashMap<Key<'_>, Tally>, AllocError>
     ensures { IfOk result (λ tallies. HasTallies tallies (map entry_read rows.now)) }
 {
     let mut tallies = HashMap::new(alloc);
     for row in rows {
-        let tally = (&tallies)
-            .get(&Key::Trial(row))
-            .copied()
-            .unwrap_or(Tally::EMPTY);
+        let tally = tally_in(&tallies, row);
         tallies.insert(Key::Trial(row), tally.with(&row.outcome))?;
     }
     Ok(tallies)

@@ -1,5 +1,5 @@
-use Rattle.std.proofs.Common.{rules, arith, ◌≡◌, ◌∙◌, ◌≤◌, ap, inl, inr, subst, sym, get_or, map}
-use Rattle.std.proofs.Math.Nat.{eq-or-lt_of_le}
+use Rattle.std.proofs.Common.{rules, arith, ◌≡◌, ◌∙◌, ap, sym, get_or, map}
+use borrow.Author.Count.{below_more}
 use Rattle.std.proofs.lemmas.List.{get_or-map, length-map}
 use Rattle.std.specs.Prelude.{◌≢◌}
 use Rattle.mimic_args.specs.Line.{separator}
@@ -17,12 +17,8 @@ returns-then-eq g c =
     }
 
 pub loop-own-preserved : goal.loop-own-preserved
-loop-own-preserved g c = λ k lt.
+loop-own-preserved g c =
     let at : get_or (map g.S.AsStr.text c.args.words.now) c.loop-own.own separator ≡ c.as_str.result.now =
     get_or-map g.S.AsStr.text c.args.words.now c.loop-own.own c.index-words-own.result separator (search (rules, c.loop-own-test.true)) ∙ (ap g.S.AsStr.text (sym c.index-words-own.is) ∙ sym c.as_str.ensures) in
     let other : c.as_str.result.now ≢ separator = search (rules, c.if-eq.ensures) in
-    let within : k ≤ c.loop-own.own = omega (arith, lt) in
-    elim (eq-or-lt_of_le within) [
-      | inl same ↦ subst (λ j. get_or (map g.S.AsStr.text c.args.words.now) j separator ≢ separator) (sym same) (λ e. other (sym at ∙ e))
-      | inr less ↦ c.loop-own.invariant k less
-    ]
+    below_more (λ k. get_or (map g.S.AsStr.text c.args.words.now) k separator ≢ separator) c.loop-own.own c.loop-own.invariant (λ e. other (sym at ∙ e))

@@ -1,7 +1,6 @@
-use Rattle.std.proofs.Common.{◌∙◌, ◌∷◌, [], ap₂, refl, subst}
+use Rattle.std.proofs.Common.{◌∙◌, ◌∷◌, [], subst}
 use Rattle.std.proofs.lemmas.Result.{IfOk-weaker}
 use Rattle.clap.specs.Words.{AddsArg, AddsInTurn}
-use Rattle.mimic_args.specs.CommandLine.{plus}
 use Rattle.mimic_args.proofs.Declaring.{AreLocal, options-in_turn, options-none}
 use Rattle.mimic_args.proofs.options.with_flags.Goals as goal
 
@@ -12,9 +11,6 @@ returns c =
     ∷ c.flag-7.result ∷ c.args.quiet ∷ [] in
     let none = options-none start _ c.new.ensures.app c.new.ensures.empty.0 in
     let local : AreLocal flags = (c.flag.ensures.local, (c.flag-2.ensures.local, (c.requires.0, (c.flag-3.ensures.local, (c.flag-4.ensures.local, (c.flag-5.ensures.local, (c.flag-6.ensures.local, (c.flag-7.ensures.local, (c.requires.1, tt))))))))) in
-    let declared = ap₂ plus (ap₂ plus (ap₂ plus (ap₂ plus (ap₂ plus (ap₂ plus (ap₂ plus (ap₂ plus (ap₂ plus none
-    c.flag.ensures.declared) c.flag-2.ensures.declared) refl) c.flag-3.ensures.declared) c.flag-4.ensures.declared)
-    c.flag-5.ensures.declared) c.flag-6.ensures.declared) c.flag-7.ensures.declared) refl in
     IfOk-weaker c.args-2.result _ _
-    (λ r h. options-in_turn flags start r (subst (λ all. AddsInTurn AddsArg start all r) c.in_ok-flags.ensures.items h) local ∙ declared)
+    (λ r h. options-in_turn flags start r (subst (λ all. AddsInTurn AddsArg start all r) c.in_ok-flags.ensures.items h) local ∙ cc none)
     c.args-2.ensures

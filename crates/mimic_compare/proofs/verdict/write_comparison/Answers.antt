@@ -1,13 +1,12 @@
 use Rattle.std.proofs.Common.{◌≡◌, ◌∙◌, List, ap, map, refl, subst}
-use Rattle.std.specs.Prelude.{count_by}
 use Rattle.mimic_printer.specs.Sink.{Put, shown}
 use Rattle.mimic_compare.specs.Classes.{Compared}
 use Rattle.mimic_compare.specs.Keys.{comparison_read}
-use Rattle.mimic_compare.specs.Text.{comparison_text, count_of, same_class}
+use Rattle.mimic_compare.specs.Text.{comparison_text}
 use Rattle.mimic_compare.specs.Written.{found_in}
 use Rattle.mimic_compare.specs.declared.class.Class.TheVariants.{Regressed, Missing}
 use Rattle.mimic_compare.specs.declared.comparison.Comparison.{Comparison}
-use Rattle.mimic_compare.proofs.Printed.{counts_read, verdict_is}
+use Rattle.mimic_compare.proofs.Printed.{counts_read}
 use Rattle.mimic_compare.proofs.verdict.write_comparison.Goals as goal
 
 pub returns-clause-written : goal.returns-clause-written
@@ -17,8 +16,14 @@ returns-clause-written g c =
     let is : map comparison_read items ≡ found = c.in_ok-found.ensures ∙ rw (c.are_full-is_judged.ensures, c.deref.ensures.value, c.deref-2.ensures.value) refl in
     let P : List Compared → Type 0 = λ f. Put (shown g.W.Write.contents c.args.sink.now) (shown g.W.Write.contents c.put_comparisons.new.sink) (comparison_text f) in (
       subst P (ap (map comparison_read) c.deref-3.ensures.value ∙ is) c.in_ok-put_comparisons.ensures,
-      verdict_is c.args.old.now c.args.new.now c.count_of.result c.count_of-2.result c.are_whole.result
-          (c.count_of.ensures ∙ ap (λ (l : List Comparison). count_by (λ x. same_class x.class Regressed) l) c.deref-4.ensures.value ∙ counts_read Regressed items ∙ ap (count_of Regressed) is)
-          (c.count_of-2.ensures ∙ ap (λ (l : List Comparison). count_by (λ x. same_class x.class Missing) l) c.deref-5.ensures.value ∙ counts_read Missing items ∙ ap (count_of Missing) is)
-          c.are_whole.ensures,
+      rw (
+        c.count_of.ensures,
+        c.deref-4.ensures.value,
+        counts_read Regressed items,
+        c.count_of-2.ensures,
+        c.deref-5.ensures.value,
+        counts_read Missing items,
+        is,
+        c.are_whole.ensures,
+      ),
     )
