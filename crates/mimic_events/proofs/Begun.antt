@@ -1,5 +1,6 @@
 -- Which lines begin a report: those that lead from the start to some state, and no others.
-use Rattle.std.proofs.Common.{◌≡◌, ◌⊎◌, ℕ, zero, suc, ◌+◌, ◌-◌, ◌<◌, ◌^◌, List, [], ◌∷◌, ◌++◌, length, Bool, true, false, Some, None, refl, sym, ap, subst, ◌∙◌, append_assoc, append-nil, inl, inr, arith}
+use Rattle.std.proofs.Common.{◌≡◌, ◌⊎◌, ℕ, zero, suc, ◌+◌, ◌-◌, ◌<◌, ◌^◌, List, [], ◌∷◌, ◌++◌, length, Bool, true, false, refl, sym, ap, subst, ◌∙◌, append_assoc, append-nil, inl, inr, arith}
+use Rattle.std.specs.Bool.{then_some}
 use Rattle.std.specs.List.{AllByRecursion, concat, flat_map}
 use Rattle.std.proofs.lemmas.List.{length-append}
 use Rattle.std.proofs.lemmas.List.Folds.{concat-append}
@@ -56,9 +57,8 @@ rows_begin (suc k) n es all small fits =
     let e : Entry = blank nameless in
     let more = rows_begin k n (es ++ e ∷ []) (omega (arith, all, length-append es (e ∷ []))) small
     (fits_more es e fits (record { label = record { name = IsUtf8-nil; kind = IsUtf8-nil }; outcome = tt })) in
-    let parts : json_title n ++ concat (flat_map entry_lines (es ++ e ∷ [])) ≡ (json_title n ++ concat (flat_map entry_lines es)) ++ (json_announcement nameless ++ json_outcome nameless Passed) =
-    ap (λ (x : List ℕ). json_title n ++ x) (rows_more es e) ∙ sym (append_assoc (json_title n) (concat (flat_map entry_lines es)) (json_announcement nameless ++ json_outcome nameless Passed)) in
-    front_begins (json_title n ++ concat (flat_map entry_lines es)) (json_announcement nameless ++ json_outcome nameless Passed) (subst BeginsReport parts more)
+    front_begins (json_title n ++ concat (flat_map entry_lines es)) (json_announcement nameless ++ json_outcome nameless Passed)
+    (simp append_assoc (rw (rows_more es e) at more))
 
 begins_at : (next : Next) (s : State) → s.announced < 2 ^ 64 → AllByRecursion FitsEntry s.entries → FitsNext next s → BeginsReport (text_so_far next s)
 begins_at title_next s small fits at =
@@ -69,9 +69,7 @@ begins_at (outcome_next label) s small fits at =
     let e : Entry = blank label in
     let more = rows_begin (s.announced - (length s.entries + 1)) s.announced (s.entries ++ e ∷ []) (omega (arith, at.0, length-append s.entries (e ∷ []))) small
     (fits_more s.entries e fits (record { label = at.1; outcome = tt })) in
-    let parts : json_title s.announced ++ concat (flat_map entry_lines (s.entries ++ e ∷ [])) ≡ (title_and s ++ json_announcement label) ++ json_outcome label Passed =
-    ap (λ (x : List ℕ). json_title s.announced ++ x) (rows_more s.entries e) ∙ simp append_assoc in
-    front_begins (title_and s ++ json_announcement label) (json_outcome label Passed) (subst BeginsReport parts more)
+    front_begins (title_and s ++ json_announcement label) (json_outcome label Passed) (simp append_assoc (rw (rows_more s.entries e) at more))
 begins_at (nothing_next filtered_out nanos) s small fits at =
     let c : Contents = record { entries = s.entries; filtered_out = filtered_out; nanos = nanos } in
     let few : length s.entries < 2 ^ 64 = omega (arith, at.0, small) in
@@ -208,13 +206,13 @@ stands_here s rest stuck n known h =
       ]
     ]
 
-pub finds_wrong : (s : State) (rest : List ℕ) (n : ℕ) → Known s rest true → n ≡ lines_of s + 1 → Decodes IsFirstWrong (state_text s ++ rest) (Some n)
-finds_wrong s rest n known e = (
+-- if the rest begins with a line that leads nowhere, that is the first wrong one
+pub finds_first : (s : State) (rest : List ℕ) (stuck : Bool) (n : ℕ) → Known s rest stuck → n ≡ lines_of s + 1
+    → Decodes IsFirstWrong (state_text s ++ rest) (then_some stuck n)
+finds_first s rest true n known e = (
   subst (λ (k : ℕ). IsFirstWrong k (state_text s ++ rest)) (sym e) (is_wrong s rest known),
   λ v h. (stands_here s rest true v known h).place ∙ sym e,
 )
-
-pub finds_no_wrong : (s : State) (rest : List ℕ) → Known s rest false → Decodes IsFirstWrong (state_text s ++ rest) None
-finds_no_wrong s rest known = λ v h.
+finds_first s rest false n known e = λ v h.
     let here = stands_here s rest false v known h in
     no_line here.line here.more rest here.whole known.unread (sym here.parts)

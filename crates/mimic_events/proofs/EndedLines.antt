@@ -1,14 +1,15 @@
 -- The lines of outcomes.
-use Rattle.std.proofs.Common.{◌≡◌, ◌≢◌, ℕ, List, ◌∷◌, ◌++◌, Bool, true, false, Option, Some, None, option_map, decimal, refl, sym, ap, subst, ◌∙◌, append_assoc, get_or, arith, ◌<◌, ◌^◌}
+use Rattle.std.proofs.Common.{◌≡◌, ◌≢◌, ℕ, List, ◌∷◌, ◌++◌, Bool, true, false, cond, eqb, Option, Some, None, option_map, decimal, refl, sym, ap, subst, ◌∙◌, append_assoc, get_or, arith, ◌<◌, ◌^◌}
 use Rattle.std.proofs.lemmas.Bool.{eqb-false}
 use Rattle.std.proofs.lemmas.List.{append_cancel_left}
 use Rattle.mimic_trial.specs.declared.outcome.Outcome.{Outcome}
 use Rattle.mimic_trial.specs.declared.outcome.Outcome.TheVariants.{Passed, Failed, Ignored, Measured}
 use Rattle.mimic_trial.specs.Count.{is_measured}
+use Rattle.mimic_trial.specs.Promise.{FitsTypes}
 use Rattle.mimic_text.specs.Escape.{escaped}
 use Rattle.mimic_printer.specs.Row.{Label}
 use Rattle.mimic_printer.specs.Json.{deviation_key, json_end, json_outcome, kind_field, median_key, outcome_front}
-use Rattle.mimic_events.specs.LineParts.{ReadsNumber, IsFailure, IsTail, tail}
+use Rattle.mimic_events.specs.LineParts.{ReadsNumber, IsFailure, IsTail, IsWord, tail}
 use Rattle.mimic_events.specs.Reading.{Decodes, IsOutcome}
 
 pub outcome_is : (label : Label) (o : Outcome) → json_outcome label o ≡ outcome_front (is_measured o) ++ (escaped label.name ++ 34 ∷ (kind_field label.kind ++ tail o))
@@ -33,9 +34,7 @@ abbrev followed : Label → List ℕ → List ℕ
 followed label rest = escaped label.name ++ 34 ∷ (kind_field label.kind ++ rest)
 
 regrouped : (b : Bool) (label : Label) (rest : List ℕ) → named b label ++ rest ≡ outcome_front b ++ followed label rest
-regrouped b label rest =
-    append_assoc (outcome_front b) (escaped label.name ++ 34 ∷ kind_field label.kind) rest
-    ∙ ap (λ (x : List ℕ). outcome_front b ++ x) (append_assoc (escaped label.name) (34 ∷ kind_field label.kind) rest)
+regrouped b label rest = simp append_assoc
 
 -- a line of an outcome is read apart so
 given : (b : Bool) (line : List ℕ) (label : Label) (rest : List ℕ) (v : Outcome) → line ≡ named b label ++ rest → IsOutcome label v line → (is_measured v ≡ b) × (tail v ≡ rest)
@@ -69,49 +68,35 @@ tail_some rest None a b c d = λ v h. let f = failed_with rest v a b c h in d f.
 tail_some rest (Some m) a b c d =
     ((refl, d.0.0, d.0.1), λ v h. let f = failed_with rest v a b c h in f.1 ∙ ap (λ (x : List ℕ). Failed (Some x)) (d.1 f.0 f.2))
 
-tail_passed : (v : Outcome) → IsTail false v (tail Passed) → v ≡ Passed
-tail_passed Passed h = refl
-tail_passed Ignored h = absurd (eqb-false 111 105 refl (ap (λ (z : List ℕ). get_or z 12 0) h.2))
-tail_passed (Failed None) h = absurd (eqb-false 111 102 refl (ap (λ (z : List ℕ). get_or z 12 0) h.2))
-tail_passed (Failed (Some m)) h = absurd (eqb-false 111 102 refl (ap (λ (z : List ℕ). get_or z 12 0) h.2))
-tail_passed (Measured m) h = absurd cc
+-- the outcome that the text says in a word
+abbrev word_in : List ℕ → Option Outcome
+word_in text = cond (eqb (get_or text 19 0) 44) None
+    (cond (eqb (get_or text 12 0) 111) (Some Passed) (cond (eqb (get_or text 12 0) 105) (Some Ignored) (Some (Failed None))))
 
-tail_ignored : (v : Outcome) → IsTail false v (tail Ignored) → v ≡ Ignored
-tail_ignored Passed h = absurd (eqb-false 105 111 refl (ap (λ (z : List ℕ). get_or z 12 0) h.2))
-tail_ignored Ignored h = refl
-tail_ignored (Failed None) h = absurd (eqb-false 105 102 refl (ap (λ (z : List ℕ). get_or z 12 0) h.2))
-tail_ignored (Failed (Some m)) h = absurd (eqb-false 105 102 refl (ap (λ (z : List ℕ). get_or z 12 0) h.2))
-tail_ignored (Measured m) h = absurd cc
+pub word_parts : (w : Outcome) → IsWord w → (is_measured w ≡ false) × FitsTypes w × (word_in (tail w) ≡ Some w)
+word_parts (Measured m) word = absurd word
+word_parts (Failed (Some message)) word = absurd word
+word_parts w word = (refl, tt, refl)
 
-tail_failed : (v : Outcome) → IsTail false v (tail (Failed None)) → v ≡ Failed None
-tail_failed Passed h = absurd (eqb-false 102 111 refl (ap (λ (z : List ℕ). get_or z 12 0) h.2))
-tail_failed Ignored h = absurd (eqb-false 102 105 refl (ap (λ (z : List ℕ). get_or z 12 0) h.2))
-tail_failed (Failed None) h = refl
-tail_failed (Failed (Some m)) h = absurd (eqb-false 32 44 refl (ap (λ (z : List ℕ). get_or z 19 0) h.2))
-tail_failed (Measured m) h = absurd cc
+one_word : (v w : Outcome) → IsWord w → IsTail false v (tail w) → v ≡ w
+one_word (Measured m) w word h = absurd cc
+one_word (Failed (Some message)) w word h = cc (ap word_in h.2, (word_parts w word).2)
+one_word v w word h = cc (ap word_in h.2, (word_parts w word).2)
 
-pub is_passed : (rest : List ℕ) → rest ≡ tail Passed → Decodes (IsTail false) rest (Some Passed)
-is_passed rest e = ((refl, tt, e), λ v h. tail_passed v (subst (IsTail false v) e h))
-
-pub is_ignored : (rest : List ℕ) → rest ≡ tail Ignored → Decodes (IsTail false) rest (Some Ignored)
-is_ignored rest e = ((refl, tt, e), λ v h. tail_ignored v (subst (IsTail false v) e h))
-
-pub is_failed : (rest : List ℕ) → rest ≡ tail (Failed None) → Decodes (IsTail false) rest (Some (Failed None))
-is_failed rest e = ((refl, tt, e), λ v h. tail_failed v (subst (IsTail false v) e h))
+pub is_word : (rest : List ℕ) (w : Outcome) → IsWord w → rest ≡ tail w → Decodes (IsTail false) rest (Some w)
+is_word rest w word e =
+    let parts = word_parts w word in
+    ((parts.0, parts.1, e), λ v h. one_word v w word (subst (IsTail false v) e h))
 
 -- ---- a measurement
 
 pub measured_first : (rest first : List ℕ) (v : Outcome) → IsTail true v rest → rest ≡ median_key ++ first → (x : ℕ) × (y : ℕ) × (v ≡ measured x y) × (x < 2 ^ 64) × (y < 2 ^ 64) × (first ≡ decimal x ++ (deviation_key ++ (decimal y ++ json_end)))
-measured_first rest first Passed h e = absurd cc
-measured_first rest first Ignored h e = absurd cc
-measured_first rest first (Failed m) h e = absurd cc
 measured_first rest first (Measured m) h e = (m.avg, m.variance, refl, h.1.0, h.1.1, append_cancel_left median_key first _ (sym e ∙ h.2))
+measured_first rest first v h e = absurd cc
 
 pub no_median : (rest : List ℕ) (v : Outcome) → ((more : List ℕ) → rest ≢ median_key ++ more) → IsTail true v rest → ⊥
-no_median rest Passed none h = absurd cc
-no_median rest Ignored none h = absurd cc
-no_median rest (Failed m) none h = absurd cc
 no_median rest (Measured m) none h = none (decimal m.avg ++ (deviation_key ++ (decimal m.variance ++ json_end))) h.2
+no_median rest v none h = absurd cc
 
 pub measured_second : (rest first second : List ℕ) (n : ℕ) (v : Outcome) → IsTail true v rest → rest ≡ median_key ++ first → ReadsNumber first (Some (n, second))
     → (y : ℕ) × (v ≡ measured n y) × (y < 2 ^ 64) × (second ≡ deviation_key ++ (decimal y ++ json_end))

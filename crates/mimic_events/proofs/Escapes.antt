@@ -1,9 +1,9 @@
 -- No spelling of a byte begins the spelling of another.
-use Rattle.std.proofs.Common.{◌≡◌, ℕ, ◌<◌, ◌≤◌, true, false, eqb, List, ◌∷◌, ◌++◌, refl, sym, ap, subst, ◌∙◌, arith, inl, inr}
-use Rattle.std.proofs.lemmas.Bool.{cases_lt, eqb-true, lt-ltb}
+use Rattle.std.proofs.Common.{◌≡◌, ℕ, ◌≤◌, true, false, eqb, List, ◌∷◌, ◌++◌, refl, sym, ap, subst, ◌∙◌, arith, inl, inr}
+use Rattle.std.proofs.lemmas.Bool.{cases_lt, eqb-true}
 use Rattle.std.proofs.lemmas.Bool.Decides.{nat_tests}
 use Rattle.std.proofs.lemmas.List.{append_cancel_left}
-use Rattle.mimic_text.specs.Escape.{escape, escape_char}
+use Rattle.mimic_text.specs.Escape.{escape}
 use Rattle.mimic_text.proofs.Bounded.{all_below, one_below}
 use Rattle.mimic_text.proofs.Escapes.{escape-high}
 use Rattle.mimic_events.specs.LineParts.{candidate_of, after_backslash, after_u}
@@ -35,7 +35,3 @@ one_split text b rest e v others f =
 -- a text that begins with a spelling has that of its candidate
 pub candidate_at : (text : List ℕ) (v : ℕ) (rest : List ℕ) → text ≡ escape v ++ rest → candidate_of text ≡ v
 candidate_at text v rest e = ap candidate_of e ∙ again v rest
-
--- a character of one byte is escaped as its byte is
-pub escape_char-ascii : (b : ℕ) → b < 128 → escape_char b ≡ escape b
-escape_char-ascii b h = rw (lt-ltb b 128 h) refl

@@ -2,7 +2,7 @@
 use Rattle.std.proofs.Common.{◌≡◌, ℕ, List, [], ◌∷◌, ◌++◌, true, false, Option, Some, None, IsUtf8, refl, sym, ap, ap₂, subst, ◌∙◌, get_or}
 use Rattle.std.proofs.lemmas.Bool.{eqb-false}
 use Rattle.mimic_trial.specs.declared.outcome.Outcome.{Outcome}
-use Rattle.mimic_trial.specs.declared.outcome.Outcome.TheVariants.{Passed, Failed, Ignored, Measured}
+use Rattle.mimic_trial.specs.declared.outcome.Outcome.TheVariants.{Failed}
 use Rattle.mimic_trial.specs.Count.{is_failed}
 use Rattle.mimic_text.specs.Escape.{escaped}
 use Rattle.mimic_printer.specs.Row.{Label}
@@ -17,10 +17,8 @@ abbrev followed : Label → Option (List ℕ) → List ℕ
 followed label message = escaped label.name ++ 34 ∷ (kind_field label.kind ++ tail (Failed message))
 
 failed_parts : (line : List ℕ) (label : Label) (o : Outcome) → is_failed o ≡ true → line ≡ json_outcome label o → (message : Option (List ℕ)) × (line ≡ outcome_front false ++ followed label message)
-failed_parts line label Passed h e = absurd cc
 failed_parts line label (Failed message) h e = (message, e ∙ outcome_is label (Failed message))
-failed_parts line label Ignored h e = absurd cc
-failed_parts line label (Measured m) h e = absurd cc
+failed_parts line label o h e = absurd cc
 
 -- the kind of such a line by what follows its name
 failed_kind : (line name rest : List ℕ) (entry : Entry) → ReadsNamed (outcome_front false) line (Some (name, rest)) → IsFailedLine entry line

@@ -1,5 +1,5 @@
 -- A text that was read, with a rest that is in memory, is no report of 2^64 rows or more.
-use Rattle.std.proofs.Common.{◌≡◌, ℕ, zero, suc, ◌+◌, ◌<◌, ◌≤◌, ◌^◌, ◌/◌, ◌%◌, List, [], ◌∷◌, ◌++◌, false, eqb, length, decimal, refl, sym, ap, ◌∙◌, append_assoc, append-nil, inl, inr, arith}
+use Rattle.std.proofs.Common.{◌≡◌, ℕ, zero, suc, ◌+◌, ◌<◌, ◌≤◌, ◌^◌, ◌/◌, ◌%◌, List, [], ◌∷◌, ◌++◌, false, eqb, length, decimal, refl, sym, ap, ◌∙◌, append_assoc, append-nil, inl, inr, arith, Some}
 use Rattle.std.specs.Fmt.{digits, digit_glyph, digits_onto}
 use Rattle.std.specs.List.{concat, flat_map}
 use Rattle.std.specs.Str.Parse.{AllDigits, digits_value}
@@ -14,7 +14,7 @@ use Rattle.std.proofs.lemmas.List.Folds.{concat-append}
 use Rattle.mimic_trial.specs.Count.{counts_of}
 use Rattle.mimic_printer.specs.Json.{Contents, Entry, IsJsonReport, conclusion_of, entry_lines, json_announcement, json_end, json_outcome, json_report, json_summary, json_title, title_front}
 use Rattle.mimic_printer.proofs.JsonLines.{announcement_line}
-use Rattle.mimic_events.specs.Progress.{Fits, Next, State, state_text, text_so_far, title_and, title_next, row_next, outcome_next, nothing_next}
+use Rattle.mimic_events.specs.Progress.{Fits, Next, State, announced_from, state_text, text_so_far, title_next, outcome_next, nothing_next}
 use Rattle.mimic_events.proofs.Digits.{decimal_digits, one_end}
 use Rattle.mimic_events.proofs.Summaries.{outcomes}
 use Rattle.mimic_events.proofs.WholeLines.{line_some}
@@ -84,18 +84,23 @@ report_begins : (c : Contents) → (rest : List ℕ) × (json_report c ≡ json_
 unfolding json_report
 report_begins c = (_, refl)
 
-behind_title : (s : State) (line rest : List ℕ) (c : Contents) → s.announced < 2 ^ 64 → (title_and s ++ line) ++ rest ≡ json_report c → length c.entries < 2 ^ 64
-behind_title s line rest c small e =
-    let b = report_begins c in
-    let rows : List ℕ = concat (flat_map entry_lines s.entries) in
-    let parts : (title_and s ++ line) ++ rest ≡ json_title s.announced ++ (rows ++ (line ++ rest)) = simp append_assoc in
-    title_small s.announced (length c.entries) (rows ++ (line ++ rest)) b.0 small (sym parts ∙ e ∙ b.1)
+-- what follows the title and the rows
+abbrev pub behind_rows : Next → State → List ℕ
+behind_rows (outcome_next label) s = json_announcement label
+behind_rows (nothing_next filtered_out nanos) s = json_summary (counts_of (outcomes s.entries) filtered_out) nanos
+behind_rows other s = []
+
+-- the text, if its title was read
+pub with_title : (next : Next) (s : State) (rest : List ℕ) (n : ℕ) → announced_from next s.announced ≡ Some n
+    → text_so_far next s ++ rest ≡ json_title s.announced ++ (concat (flat_map entry_lines s.entries) ++ (behind_rows next s ++ rest))
+with_title title_next s rest n h = absurd cc
+with_title next s rest n h = simp append_assoc
 
 few_from : (next : Next) (s : State) (rest : List ℕ) (c : Contents) → s.announced < 2 ^ 64 → length rest < 2 ^ 64 → text_so_far next s ++ rest ≡ json_report c → length c.entries < 2 ^ 64
 few_from title_next s rest c small short e = omega (arith, report_long c, ap length e, short)
-few_from row_next s rest c small short e = behind_title s [] rest c small (ap (λ (x : List ℕ). x ++ rest) (append-nil (title_and s)) ∙ e)
-few_from (outcome_next label) s rest c small short e = behind_title s (json_announcement label) rest c small e
-few_from (nothing_next filtered_out nanos) s rest c small short e = behind_title s (json_summary (counts_of (outcomes s.entries) filtered_out) nanos) rest c small e
+few_from next s rest c small short e =
+    let b = report_begins c in
+    title_small s.announced (length c.entries) _ b.0 small (sym (with_title next s rest s.announced refl) ∙ e ∙ b.1)
 
 pub few_rows : (s : State) (rest : List ℕ) (c : Contents) → Fits s → length rest < 2 ^ 64 → IsJsonReport (state_text s ++ rest) c → length c.entries < 2 ^ 64
 few_rows s rest c fits short h = few_from s.next s rest c fits.announced short h.text

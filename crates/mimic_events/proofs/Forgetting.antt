@@ -1,9 +1,10 @@
 -- Bytes that change nothing more, and may be forgotten.
 use Rattle.std.proofs.Common.{◌≡◌, ◌≢◌, ◌⊎◌, ℕ, ◌+◌, ◌<◌, ◌^◌, List, [], ◌∷◌, ◌++◌, Bool, true, false, length, Option, Some, None, MatchOption, is_some, eqb, refl, sym, ap, subst, ◌∙◌, append_assoc, append-nil, inl, inr, arith}
+use Rattle.std.specs.Bool.{then_some}
 use Rattle.std.proofs.lemmas.Bool.Decides.{eqb_tells}
 use Rattle.std.proofs.lemmas.List.{length-append}
 use Rattle.mimic_trial.specs.declared.outcome.Outcome.{Outcome}
-use Rattle.mimic_trial.specs.declared.outcome.Outcome.TheVariants.{Passed, Failed, Ignored, Measured}
+use Rattle.mimic_trial.specs.declared.outcome.Outcome.TheVariants.{Measured}
 use Rattle.mimic_printer.specs.Row.{Label}
 use Rattle.mimic_printer.specs.Json.{Contents, HasNoEnd, IsLine, json_announcement, json_outcome, json_summary, json_title}
 use Rattle.mimic_trial.specs.declared.outcome.conclusion.Conclusion.{Conclusion}
@@ -14,9 +15,9 @@ use Rattle.mimic_events.specs.Readers.{BeginsAstray, Known, NeverBegins, SumsUp,
 use Rattle.mimic_events.specs.Reading.{Decodes}
 use Rattle.mimic_events.specs.SoFar.{BeginsWithTitle, IsFirstWrong}
 use Rattle.mimic_events.specs.Tally.{IsAlike, SpellSame, SpellsFew, SpellsTotals}
-use Rattle.mimic_events.proofs.Begun.{finds_no_wrong, finds_wrong, lines_of}
+use Rattle.mimic_events.proofs.Begun.{finds_first, lines_of}
 use Rattle.mimic_events.proofs.FewRows.{few_rows, report_long}
-use Rattle.mimic_events.proofs.Readings.{few_were_read, line_with, more_left}
+use Rattle.mimic_events.proofs.Readings.{few_were_read, line_with, more_left, with_rest}
 use Rattle.mimic_events.proofs.SoFar.{finds_title}
 use Rattle.mimic_events.proofs.WholeLines.{line_some}
 
@@ -54,10 +55,8 @@ announcement_begins label = (_, refl)
 
 outcome_begins : (label : Label) (outcome : Outcome) → (rest : List ℕ) × (json_outcome label outcome ≡ line_front ++ rest)
 unfolding json_outcome
-outcome_begins label Passed = (_, refl)
-outcome_begins label (Failed message) = (_, refl)
-outcome_begins label Ignored = (_, refl)
 outcome_begins label (Measured measurement) = (_, refl)
+outcome_begins label other = (_, refl)
 
 summary_begins : (c : Conclusion) (nanos : ℕ) → (rest : List ℕ) × (json_summary c nanos ≡ line_front ++ rest)
 unfolding json_summary
@@ -95,22 +94,13 @@ ends (c ∷ text) = ends_first c text (eqb_tells c 10) (ends text)
 -- a rest without a line end that never begins a line
 lost : (s : State) (rest more : List ℕ) (b : Bool) → Known s rest false → NeverBegins line_front rest → Ends b more → Known s (rest ++ more) b
 lost s rest more false known never h = more_left s rest more false known (λ e. h)
-lost s rest more true known never (line, after, is, e) = record {
-  fits = known.fits;
-  led = known.led;
-  way = known.way;
-  unread = record {
-    line = rest ++ line;
-    more = after;
-    parts = ap (λ (x : List ℕ). rest ++ x) e ∙ sym (append_assoc rest line after);
-    whole = line_with rest line known.unread is;
-    nowhere = λ t step. no_step s rest line t never step;
-  };
-}
-
--- the same state with another rest of which is known what stands there
-other_rest : (s : State) (rest other : List ℕ) (stuck : Bool) → Known s rest stuck → HasNoEnd other → Known s other false
-other_rest s rest other stuck known none = record { fits = known.fits; led = known.led; way = known.way; unread = none }
+lost s rest more true known never (line, after, is, e) = with_rest s rest (rest ++ more) false true known (record {
+  line = rest ++ line;
+  more = after;
+  parts = ap (λ (x : List ℕ). rest ++ x) e ∙ sym (append_assoc rest line after);
+  whole = line_with rest line known.unread is;
+  nowhere = λ t step. no_step s rest line t never step;
+})
 
 hyphen_never : NeverBegins line_front (45 ∷ [])
 hyphen_never = λ more rest e. absurd cc
@@ -119,18 +109,13 @@ end_never : NeverBegins line_front (10 ∷ [])
 end_never = λ more rest e. absurd cc
 
 empty_line : (s : State) (rest : List ℕ) (stuck : Bool) → Known s rest stuck → Known s (10 ∷ []) true
-empty_line s rest stuck known = record {
-  fits = known.fits;
-  led = known.led;
-  way = known.way;
-  unread = record {
-    line = 10 ∷ [];
-    more = [];
-    parts = refl;
-    whole = record { front = []; parts = refl; whole = tt };
-    nowhere = λ t step. no_step s (10 ∷ []) [] t end_never step;
-  };
-}
+empty_line s rest stuck known = with_rest s rest (10 ∷ []) stuck true known (record {
+  line = 10 ∷ [];
+  more = [];
+  parts = refl;
+  whole = record { front = []; parts = refl; whole = tt };
+  nowhere = λ t step. no_step s (10 ∷ []) [] t end_never step;
+})
 
 -- ---- the same is found
 
@@ -141,15 +126,6 @@ found_same spells a b (Some x) d e v h = subst (λ u. spells u b) (sym (d.1 v h)
 both_same : {V : Type 0} (spells : V → List ℕ → Type 0) (a b : List ℕ) (o : Option V) → Decodes spells a o → Decodes spells b o → SpellSame spells a b
 both_same spells a b o d e = λ v. (found_same spells a b o d e v, found_same spells b a o e d v)
 
-wrong_in : Bool → State → Option ℕ
-wrong_in true s = Some (lines_of s + 1)
-wrong_in false s = None
-
-finds_in : (s : State) (rest : List ℕ) (stuck : Bool) → Known s rest stuck → Decodes IsFirstWrong (state_text s ++ rest) (wrong_in stuck s)
-unfolding wrong_in
-finds_in s rest true known = finds_wrong s rest (lines_of s + 1) known refl
-finds_in s rest false known = finds_no_wrong s rest known
-
 no_report : (s : State) (first : ℕ) (rest : List ℕ) (stuck : Bool) → Known s (first ∷ rest) stuck → Decodes SpellsFew (state_text s ++ first ∷ rest) None
 no_report s first rest stuck known = λ c h. absurd (let e = (few_were_read s (first ∷ rest) stuck c known h.0 h.1).1 in cc)
 
@@ -159,7 +135,8 @@ same_rests s c d p q known = record {
   titles = λ more. let k = known more in
       moved BeginsWithTitle more (both_same BeginsWithTitle _ _ (announced_from s.next s.announced) (finds_title s (c ∷ (p ++ more)) k.0 k.1) (finds_title s (d ∷ (q ++ more)) k.0 k.2));
   wrong = λ more. let k = known more in
-      moved IsFirstWrong more (both_same IsFirstWrong _ _ (wrong_in k.0 s) (finds_in s (c ∷ (p ++ more)) k.0 k.1) (finds_in s (d ∷ (q ++ more)) k.0 k.2));
+      moved IsFirstWrong more (both_same IsFirstWrong _ _ (then_some k.0 (lines_of s + 1)) (finds_first s (c ∷ (p ++ more)) k.0 _ k.1 refl)
+      (finds_first s (d ∷ (q ++ more)) k.0 _ k.2 refl));
   reports = λ more. let k = known more in
       moved SpellsFew more (both_same SpellsFew _ _ None (no_report s c (p ++ more) k.0 k.1) (no_report s d (q ++ more) k.0 k.2));
 }
@@ -168,9 +145,6 @@ same_rests s c d p q known = record {
     moved spells more same = rw (append_assoc (state_text s) (c ∷ p) more, append_assoc (state_text s) (d ∷ q) more) same
 
 -- ---- texts that are alike
-
-pub alike_refl : (a : List ℕ) → IsAlike a a
-alike_refl a = record { titles = λ more v. (λ h. h, λ h. h); wrong = λ more v. (λ h. h, λ h. h); reports = λ more v. (λ h. h, λ h. h) }
 
 same_trans : {V : Type 0} (spells : V → List ℕ → Type 0) (a b c : List ℕ) → SpellSame spells a b → SpellSame spells b c → SpellSame spells a c
 same_trans spells a b c f g = λ v. (λ h. (g v).0 ((f v).0 h), λ h. (f v).1 ((g v).1 h))
@@ -219,7 +193,7 @@ forgets_lines s (c ∷ p) known =
 pub forgets_front : (s : State) (rest : List ℕ) → Known s rest false → NeverBegins line_front rest → Known s (45 ∷ []) false × IsAlike (state_text s ++ rest) (state_text s ++ 45 ∷ [])
 forgets_front s [] known never = absurd (never line_front [] (sym (append-nil line_front)))
 forgets_front s (c ∷ p) known never =
-    let hyphen = other_rest s (c ∷ p) (45 ∷ []) false known ((λ e. absurd cc), tt) in
+    let hyphen = with_rest s (c ∷ p) (45 ∷ []) false false known ((λ e. absurd cc), tt) in
     (hyphen, same_rests s c 45 p [] (λ more. let e = ends more in (e.0, lost s (c ∷ p) more e.0 known never e.1, lost s (45 ∷ []) more e.0 hyphen hyphen_never e.1)))
 
 -- ---- the end

@@ -9,18 +9,18 @@ behind : (a b text rest more : List ℕ) → text ≡ a ++ rest → text ≡ (a 
 behind a b text rest more e f = append_cancel_left a rest (b ++ more) (sym e ∙ f ∙ append_assoc a b more)
 
 -- a front whose first part is there, by what follows that part
-pub Follows-then : (a b text rest : List ℕ) (o : Option (Bor (List ℕ))) → text ≡ a ++ rest → Follows b rest o → Follows (a ++ b) text o
-Follows-then a b text rest None e h = λ more f. h more (behind a b text rest more e f)
-Follows-then a b text rest (Some r) e h = e ∙ ap (λ (x : List ℕ). a ++ x) h ∙ sym (append_assoc a b r.now)
+pub follows_then : (a b text rest : List ℕ) (o : Option (Bor (List ℕ))) → text ≡ a ++ rest → Follows b rest o → Follows (a ++ b) text o
+follows_then a b text rest None e h = λ more f. h more (behind a b text rest more e f)
+follows_then a b text rest (Some r) e h = e ∙ ap (λ (x : List ℕ). a ++ x) h ∙ sym (append_assoc a b r.now)
 
 -- a front whose first part isn't there
-pub Follows-stop : (a b text : List ℕ) → ((rest : List ℕ) → text ≢ a ++ rest) → Follows (a ++ b) text None
-Follows-stop a b text h = λ more f. h (b ++ more) (f ∙ append_assoc a b more)
+pub follows_stop : (a b text : List ℕ) → ((rest : List ℕ) → text ≢ a ++ rest) → Follows (a ++ b) text None
+follows_stop a b text h = λ more f. h (b ++ more) (f ∙ append_assoc a b more)
 
 -- what a search for a front returns
-pub Follows-after : (front known text : List ℕ) (o : Option (Bor (List ℕ))) → front ≡ known → MatchOption o ((rest : List ℕ) → text ≢ front ++ rest) (λ rest. text ≡ front ++ rest.now) → Follows known text o
-Follows-after front known text None e h = λ rest f. h rest (f ∙ ap (λ (x : List ℕ). x ++ rest) (sym e))
-Follows-after front known text (Some r) e h = h ∙ ap (λ (x : List ℕ). x ++ r.now) e
+pub follows_after : (front known text : List ℕ) (o : Option (Bor (List ℕ))) → front ≡ known → MatchOption o ((rest : List ℕ) → text ≢ front ++ rest) (λ rest. text ≡ front ++ rest.now) → Follows known text o
+follows_after front known text None e h = λ rest f. h rest (f ∙ ap (λ (x : List ℕ). x ++ rest) (sym e))
+follows_after front known text (Some r) e h = h ∙ ap (λ (x : List ℕ). x ++ r.now) e
 
 -- ---- several fronts
 
@@ -28,14 +28,14 @@ abbrev pub all_of : List (Bor (List ℕ)) → List ℕ
 all_of fronts = concat (map (λ front. front.now) fronts)
 
 -- after one of them
-pub Follows-next : (fronts : List (Bor (List ℕ))) (i : ℕ) (d : Bor (List ℕ)) (text rest : List ℕ) (o : Option (Bor (List ℕ))) → i < length fronts → text ≡ (get_or fronts i d).now ++ rest
+pub follows_next : (fronts : List (Bor (List ℕ))) (i : ℕ) (d : Bor (List ℕ)) (text rest : List ℕ) (o : Option (Bor (List ℕ))) → i < length fronts → text ≡ (get_or fronts i d).now ++ rest
     → Follows (all_of (drop (i + 1) fronts)) rest o → Follows (all_of (drop i fronts)) text o
-Follows-next fronts i d text rest o lt e h =
+follows_next fronts i d text rest o lt e h =
     let one : suc i ≡ i + 1 = omega arith in
     let parts : all_of (drop i fronts) ≡ (get_or fronts i d).now ++ all_of (drop (i + 1) fronts) =
     ap all_of (drop-cons fronts i d lt) ∙ ap (λ (k : ℕ). (get_or fronts i d).now ++ all_of (drop k fronts)) one in
-    subst (λ (front : List ℕ). Follows front text o) (sym parts) (Follows-then (get_or fronts i d).now (all_of (drop (i + 1) fronts)) text rest o e h)
+    subst (λ (front : List ℕ). Follows front text o) (sym parts) (follows_then (get_or fronts i d).now (all_of (drop (i + 1) fronts)) text rest o e h)
 
 -- after the last of them
-pub Follows-last : (fronts : List (Bor (List ℕ))) (i : ℕ) (rest : Bor (List ℕ)) → length fronts ≤ i → Follows (all_of (drop i fronts)) rest.now (Some rest)
-Follows-last fronts i rest le = rw (drop_all i fronts le) refl
+pub follows_last : (fronts : List (Bor (List ℕ))) (i : ℕ) (rest : Bor (List ℕ)) → length fronts ≤ i → Follows (all_of (drop i fronts)) rest.now (Some rest)
+follows_last fronts i rest le = rw (drop_all i fronts le) refl

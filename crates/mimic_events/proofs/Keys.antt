@@ -1,12 +1,12 @@
 -- Keys of rows.
 use Rattle.std.proofs.Common.{◌≡◌, ◌||◌, ℕ, ◌+◌, ◌<◌, Bool, true, false, cond, List, [], ◌∷◌, ◌++◌, append_assoc, get_or, length, map, take, Option, None, Some, refl, sym, ap, ap₂, ◌∙◌}
-use Rattle.std.specs.Prelude.{◌&&◌}
 use Rattle.std.specs.Bool.{Decides}
 use Rattle.std.specs.Cmp.{decided}
 use Rattle.std.specs.HashSet.{HashSet, contains}
 use Rattle.std.specs.List.{list_any}
 use Rattle.std.specs.Option.{option_eq}
 use Rattle.std.specs.Str.{bytes_eq}
+use Rattle.std.proofs.lemmas.Bool.Decides.{Decides-and}
 use Rattle.std.proofs.lemmas.List.{map_more}
 use Rattle.std.proofs.lemmas.List.Folds.{list_any-append}
 use Rattle.std.proofs.lemmas.Slice.Eq.{bytes_eq-Decides}
@@ -19,24 +19,19 @@ use denote.Ref.{Bor}
 
 -- ---- that this is equality
 
-both-decide : {P Q : Type 0} (a b : Bool) → Decides a P → Decides b Q → Decides (a && b) (P × Q)
-both-decide true b p q = (λ h. (p.0 refl, q.0 h), λ h. q.1 h.1)
-both-decide false b p q = (λ h. absurd (cc), λ h. p.1 h.0)
-
 messages-decide : (f g : Option (List ℕ)) → Decides (option_eq bytes_eq f g) (f ≡ g)
 messages-decide None None = (λ h. refl, λ e. refl)
-messages-decide None (Some g) = (λ h. absurd (cc), λ e. absurd (cc))
-messages-decide (Some f) None = (λ h. absurd (cc), λ e. absurd (cc))
 messages-decide (Some f) (Some g) =
     let d = bytes_eq-Decides f g in
     (λ h. ap (λ x. Some x) (d.0 h), λ e. let p : f ≡ g = cc in d.1 p)
+messages-decide f g = (λ h. absurd (cc), λ e. absurd (cc))
 
 abbrev label : List ℕ → List ℕ → Label
 label kind name = record { kind = kind; name = name }
 
 pub same_label-decides : (a b : Label) → Decides (same_label a b) (a ≡ b)
 same_label-decides a b =
-    let d = both-decide _ _ (bytes_eq-Decides a.kind b.kind) (bytes_eq-Decides a.name b.name) in
+    let d = Decides-and _ _ (bytes_eq-Decides a.kind b.kind) (bytes_eq-Decides a.name b.name) in
     (λ h. let e = d.0 h in ap₂ label e.0 e.1, λ e. d.1 (ap (λ (x : Label). x.kind) e, ap (λ (x : Label). x.name) e))
 
 abbrev key : Option (List ℕ) → Label → Key
@@ -44,7 +39,7 @@ key message label = record { label = label; message = message }
 
 pub same_key-decides : (a b : Key) → Decides (same_key a b) (a ≡ b)
 same_key-decides a b =
-    let d = both-decide _ _ (messages-decide a.message b.message) (same_label-decides a.label b.label) in
+    let d = Decides-and _ _ (messages-decide a.message b.message) (same_label-decides a.label b.label) in
     (λ h. let e = d.0 h in ap₂ key e.0 e.1, λ e. d.1 (ap (λ (x : Key). x.message) e, ap (λ (x : Key). x.label) e))
 
 pub same_label-symm : (a b : Label) → same_label a b ≡ same_label b a

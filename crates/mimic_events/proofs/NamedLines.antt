@@ -9,9 +9,9 @@ use Rattle.mimic_trial.specs.declared.outcome.Outcome.TheVariants.{Failed}
 use Rattle.mimic_text.specs.Escape.{escape, escaped}
 use Rattle.mimic_printer.specs.Row.{Label}
 use Rattle.mimic_printer.specs.Json.{announcement_front, event_field, json_announcement, json_end, json_title, kind_field, kind_key, stdout_key, title_front}
-use Rattle.mimic_events.specs.LineParts.{Follows, ReadsQuoted, ReadsNamed, ReadsNumber, IsFailure, IsKind, tail}
+use Rattle.mimic_events.specs.LineParts.{Follows, ReadsQuoted, ReadsNamed, ReadsNumber, IsFailure, IsKind, IsQuoted, tail}
 use Rattle.mimic_events.specs.Reading.{Decodes, IsAnnouncement, IsTitle}
-use Rattle.mimic_events.proofs.Fronts.{Follows-then, Follows-stop}
+use Rattle.mimic_events.proofs.Fronts.{follows_then, follows_stop}
 
 pub named_some : (front line rest : List ℕ) (o : Option (List ℕ × List ℕ)) → line ≡ front ++ rest → ReadsQuoted rest o → ReadsNamed front line o
 named_some front line rest None e h = λ text after f. h text after (append_cancel_left front rest (escaped text ++ 34 ∷ after) (sym e ∙ f))
@@ -25,35 +25,34 @@ pub quoted_kind : (b : ℕ) (kind rest : List ℕ) → kind_field (b ∷ kind) +
 quoted_kind b kind rest = ap (λ (x : List ℕ). kind_key ++ x) (append_assoc (escaped (b ∷ kind)) (34 ∷ []) rest)
 
 -- if the line doesn't end after the name, the kind stands in quotes
-pub kind_spelled : (text v : List ℕ) → text ≢ json_end → IsKind v text → (v ≢ []) × (text ≡ kind_key ++ (escaped v ++ 34 ∷ json_end))
+pub kind_spelled : (text v : List ℕ) → text ≢ json_end → IsKind v text → (v ≢ []) × IsQuoted kind_key v text
 kind_spelled text [] more h = absurd (more h.1)
 kind_spelled text (b ∷ v) more h = ((λ e. cc), h.1 ∙ quoted_kind b v json_end)
 
 -- the text in quotes is the kind
-pub kind_some : (text kind : List ℕ) (o : Option (List ℕ)) → text ≢ json_end → kind ≢ [] → ReadsNamed kind_key text (Some (kind, json_end))
+pub kind_some : (text kind : List ℕ) (o : Option (List ℕ)) → text ≢ json_end → kind ≢ [] → Decodes (IsQuoted kind_key) text (Some kind)
     → MatchOption o (IsUtf8 kind → ⊥) (λ t. (t ≡ kind) × IsUtf8 kind) → Decodes IsKind text o
-kind_some text kind None more some h t = λ v f. t (subst IsUtf8 (h.1 v json_end (kind_spelled text v more f).1).0 f.0)
+kind_some text kind None more some h t = λ v f. t (subst IsUtf8 (h.1 v (kind_spelled text v more f).1) f.0)
 kind_some text [] (Some t) more some h u = absurd (some refl)
 kind_some text (b ∷ kind) (Some t) more some h u = (
   (subst IsUtf8 (sym u.0) u.1, h.0 ∙ sym (quoted_kind b kind json_end) ∙ ap (λ (k : List ℕ). kind_field k ++ json_end) (sym u.0)),
-  λ v f. (h.1 v json_end (kind_spelled text v more f).1).0 ∙ sym u.0,
+  λ v f. h.1 v (kind_spelled text v more f).1 ∙ sym u.0,
 )
 
 -- ---- the label
 
 label_front : (front name kind : List ℕ) → (front ++ (escaped name ++ 34 ∷ [])) ++ kind_field kind ≡ front ++ (escaped name ++ 34 ∷ kind_field kind)
-label_front front name kind =
-    append_assoc front (escaped name ++ 34 ∷ []) (kind_field kind) ∙ ap (λ (x : List ℕ). front ++ x) (append_assoc (escaped name) (34 ∷ []) (kind_field kind))
+label_front front name kind = simp append_assoc
 
 -- after the name
 pub label_then : (front name kind line rest : List ℕ) (o : Option (Bor (List ℕ))) → line ≡ (front ++ (escaped name ++ 34 ∷ [])) ++ rest → Follows (kind_field kind) rest o
     → Follows (front ++ (escaped name ++ 34 ∷ kind_field kind)) line o
 label_then front name kind line rest o e h =
-    subst (λ (x : List ℕ). Follows x line o) (label_front front name kind) (Follows-then (front ++ (escaped name ++ 34 ∷ [])) (kind_field kind) line rest o e h)
+    subst (λ (x : List ℕ). Follows x line o) (label_front front name kind) (follows_then (front ++ (escaped name ++ 34 ∷ [])) (kind_field kind) line rest o e h)
 
 pub label_stop : (front name kind line : List ℕ) → ((rest : List ℕ) → line ≢ (front ++ (escaped name ++ 34 ∷ [])) ++ rest) → Follows (front ++ (escaped name ++ 34 ∷ kind_field kind)) line None
 label_stop front name kind line h =
-    subst (λ (x : List ℕ). Follows x line None) (label_front front name kind) (Follows-stop (front ++ (escaped name ++ 34 ∷ [])) (kind_field kind) line h)
+    subst (λ (x : List ℕ). Follows x line None) (label_front front name kind) (follows_stop (front ++ (escaped name ++ 34 ∷ [])) (kind_field kind) line h)
 
 -- after the kind
 pub kind_then : (kind rest : List ℕ) (o : Option (Bor (List ℕ))) → kind ≢ [] → Follows (kind_key ++ (escaped kind ++ 34 ∷ [])) rest o → Follows (kind_field kind) rest o
@@ -128,17 +127,16 @@ unfolding escaped
 escaped_said message = flat_map-append escape message (codes "\"\n")
 
 pub failure_is : (message : List ℕ) → tail (Failed (Some message)) ≡ failure_front ++ (escaped (said message) ++ 34 ∷ json_end)
-failure_is message = ap (λ (x : List ℕ). failure_front ++ x)
-    (sym (append_assoc (escaped message) (codes "\\\"\\n") (34 ∷ json_end)) ∙ ap (λ (x : List ℕ). x ++ 34 ∷ json_end) (sym (escaped_said message)))
+failure_is message = rw (escaped_said message) (simp append_assoc)
 
 said_one : (a b : List ℕ) → said a ≡ said b → a ≡ b
 said_one a b e = append_cancel_right a b (codes "\"\n") e
 
-pub failure_some : (text said_text : List ℕ) (o : Option (List ℕ)) (message : List ℕ) → ReadsNamed failure_front text (Some (said_text, json_end)) → said_text ≡ said message
+pub failure_some : (text said_text : List ℕ) (o : Option (List ℕ)) (message : List ℕ) → Decodes (IsQuoted failure_front) text (Some said_text) → said_text ≡ said message
     → MatchOption o (IsUtf8 message → ⊥) (λ t. (t ≡ message) × IsUtf8 message) → Decodes IsFailure text o
 failure_some text st None message h e t = λ v f.
-    let same = (h.1 (said v) json_end (f.1 ∙ failure_is v)).0 ∙ e in t (subst IsUtf8 (said_one v message same) f.0)
+    let same = h.1 (said v) (f.1 ∙ failure_is v) ∙ e in t (subst IsUtf8 (said_one v message same) f.0)
 failure_some text st (Some m) message h e t = (
   (subst IsUtf8 (sym t.0) t.1, h.0 ∙ ap (λ (x : List ℕ). failure_front ++ (escaped x ++ 34 ∷ json_end)) (e ∙ ap said (sym t.0)) ∙ sym (failure_is m)),
-  λ v f. said_one v message ((h.1 (said v) json_end (f.1 ∙ failure_is v)).0 ∙ e) ∙ sym t.0,
+  λ v f. said_one v message (h.1 (said v) (f.1 ∙ failure_is v) ∙ e) ∙ sym t.0,
 )

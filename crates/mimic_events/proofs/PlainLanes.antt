@@ -25,13 +25,13 @@ plain_each : (text : List ℕ) → ((k : ℕ) → k < length text → escape (ge
 plain_each [] h = tt
 plain_each (b ∷ text) h = (h 0 (omega arith), plain_each text (λ k lt. h (suc k) (omega (arith, lt))))
 
-plain-append : (a b : List ℕ) → ArePlain a → ArePlain b → ArePlain (a ++ b)
-plain-append [] b p q = q
-plain-append (x ∷ a) b p q = (p.0, plain-append a b p.1 q)
+plain_append : (a b : List ℕ) → ArePlain a → ArePlain b → ArePlain (a ++ b)
+plain_append [] b p q = q
+plain_append (x ∷ a) b p q = (p.0, plain_append a b p.1 q)
 
 -- a front, and some more behind it
 pub plain_more : (text : List ℕ) (at more : ℕ) → ArePlain (take at text) → ArePlain (take more (drop at text)) → ArePlain (take (at + more) text)
-plain_more text at more p q = subst ArePlain (sym (take-add at more text)) (plain-append (take at text) (take more (drop at text)) p q)
+plain_more text at more p q = subst ArePlain (sym (take-add at more text)) (plain_append (take at text) (take more (drop at text)) p q)
 
 -- ---- from the mask of one load to the bytes
 

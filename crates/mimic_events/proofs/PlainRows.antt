@@ -1,28 +1,27 @@
 -- The two lines of a row, read at once.
-use Rattle.std.proofs.Common.{◌≡◌, ◌≢◌, ℕ, ◌-◌, ◌<◌, List, [], ◌∷◌, ◌++◌, true, false, length, take, take_all, get_or, Bool, Option, Some, None, IfSome, Bor, refl, sym, ap, ap₂, subst, ◌∙◌, append_assoc, append-nil, arith}
+use Rattle.std.proofs.Common.{◌≡◌, ◌≢◌, ℕ, ◌-◌, ◌<◌, List, [], ◌∷◌, ◌++◌, true, false, length, take, take_all, get_or, Bool, Option, Some, None, IfSome, Bor, refl, sym, ap, ap₂, subst, ◌∙◌, append_assoc, arith}
 use Rattle.std.proofs.lemmas.Bool.{eqb-false}
 use Rattle.std.proofs.lemmas.List.{append_cancel_left, length-append, take-append-le}
 use Rattle.std.proofs.lemmas.Str.{IsUtf8-nil}
 use Rattle.mimic_trial.specs.declared.outcome.Outcome.{Outcome}
-use Rattle.mimic_trial.specs.declared.outcome.Outcome.TheVariants.{Passed, Failed, Ignored, Measured}
 use Rattle.mimic_trial.specs.Count.{is_measured}
-use Rattle.mimic_trial.specs.Promise.{FitsTypes}
 use Rattle.mimic_text.specs.Escape.{escape, escaped}
 use Rattle.mimic_text.proofs.Escapes.{escaped-plain}
 use Rattle.mimic_printer.specs.Row.{Label}
-use Rattle.mimic_printer.specs.Json.{Entry, FitsLabel, IsLine, announcement_front, json_announcement, json_end, json_outcome, kind_field, kind_key, outcome_front}
+use Rattle.mimic_printer.specs.Json.{FitsLabel, IsLine, announcement_front, json_announcement, json_end, json_outcome, kind_field, kind_key, outcome_front}
 use Rattle.mimic_events.specs.LineParts.{BeginsRow, IsPlainText, IsWord, SpellsLabel, tail}
 use Rattle.mimic_printer.proofs.JsonLines.{announcement_line}
 use Rattle.mimic_events.specs.declared.progress.Progress.{Progress}
 use Rattle.mimic_events.specs.declared.row_reader.RowReader.{RowReader}
 use Rattle.mimic_events.specs.Progress.{CountsRow, State, Takes, state_text, state_with}
-use Rattle.mimic_events.specs.Readers.{IsSound, Known, PassesRows, bytes_of}
+use Rattle.mimic_events.specs.Readers.{Known, PassesRows, ReadsOn}
 use Rattle.mimic_events.specs.Reading.{Decodes, IsAnnouncement, IsOutcome}
-use Rattle.mimic_events.proofs.EndedLines.{ended_some, is_failed, is_ignored, is_passed, named, outcome_is}
+use Rattle.mimic_events.proofs.EndedLines.{ended_some, is_word, named, outcome_is, word_parts}
 use Rattle.mimic_events.proofs.Escapes.{one_split}
 use Rattle.mimic_events.proofs.NamedLines.{announcement_is, quoted_kind}
 use Rattle.mimic_events.proofs.QuotedTexts.{no_quote}
 use Rattle.mimic_events.proofs.Readings.{taken}
+use Rattle.mimic_events.proofs.RowReaders.{reads_then}
 use Rattle.mimic_events.proofs.SoFar.{an_outcome}
 
 -- ---- one spelling
@@ -58,14 +57,11 @@ front_at text front rest e =
     let long : length text - length rest ≡ length front = omega (arith, ap length e, length-append front rest) in
     ap (λ (n : ℕ). take n text) long ∙ ap (take (length front)) e ∙ take-append-le (length front) front rest (omega arith) ∙ take_all (length front) front (omega arith)
 
-behind_label : (label : Label) (rest : List ℕ) → (escaped label.name ++ 34 ∷ kind_field label.kind) ++ rest ≡ escaped label.name ++ 34 ∷ (kind_field label.kind ++ rest)
-behind_label label rest = append_assoc (escaped label.name) (34 ∷ kind_field label.kind) rest
-
 spells_front : (text rest : List ℕ) (label : Label) → FitsLabel label → text ≡ escaped label.name ++ 34 ∷ (kind_field label.kind ++ rest) → SpellsLabel (take (length text - length rest) text)
 spells_front text rest label fits e = record {
   label = label;
   fits = fits;
-  spelled = front_at text (escaped label.name ++ 34 ∷ kind_field label.kind) rest (e ∙ sym (behind_label label rest));
+  spelled = front_at text (escaped label.name ++ 34 ∷ kind_field label.kind) rest (e ∙ sym (append_assoc (escaped label.name) (34 ∷ kind_field label.kind) rest));
 }
 
 pub plain_label : (text name rest : List ℕ) → IsPlainText name → text ≡ name ++ 34 ∷ rest → SpellsLabel (take (length text - length rest) text)
@@ -80,42 +76,21 @@ plain_kind text name middle (b ∷ kind) rest plain also some e f =
     spells_front text rest (record { kind = b ∷ kind; name = name }) (record { name = plain.0; kind = also.0 })
     (e ∙ ap₂ (λ (x : List ℕ) (y : List ℕ). x ++ 34 ∷ y) (sym (escaped-plain name plain.1)) quoted)
 
--- a front, a label and what ends there, in parts
-regrouped : (front label end rest : List ℕ) → (front ++ (label ++ end)) ++ rest ≡ front ++ (label ++ (end ++ rest))
-regrouped front label end rest = append_assoc front (label ++ end) rest ∙ ap (λ (x : List ℕ). front ++ x) (append_assoc label end rest)
-
-not_measured : (outcome : Outcome) → IsWord outcome → is_measured outcome ≡ false
-not_measured Passed w = refl
-not_measured Ignored w = refl
-not_measured (Failed m) w = refl
-not_measured (Measured m) w = absurd w
-
-announced_by : (label : Label) (bytes rest : List ℕ) → bytes ≡ escaped label.name ++ 34 ∷ kind_field label.kind → announcement_front ++ (bytes ++ (json_end ++ rest)) ≡ json_announcement label ++ rest
-announced_by label bytes rest e =
-    sym (regrouped announcement_front bytes json_end rest)
-    ∙ ap (λ (x : List ℕ). (announcement_front ++ x) ++ rest) (ap (λ (x : List ℕ). x ++ json_end) e ∙ behind_label label json_end)
-    ∙ ap (λ (x : List ℕ). x ++ rest) (sym (announcement_is label))
-
-ended_by : (label : Label) (outcome : Outcome) (bytes rest : List ℕ) → IsWord outcome → bytes ≡ escaped label.name ++ 34 ∷ kind_field label.kind → outcome_front false ++ (bytes ++ (tail outcome ++ rest)) ≡ json_outcome label outcome ++ rest
-ended_by label outcome bytes rest word e =
-    sym (regrouped (outcome_front false) bytes (tail outcome) rest)
-    ∙ ap (λ (x : List ℕ). (outcome_front false ++ x) ++ rest) (ap (λ (x : List ℕ). x ++ tail outcome) e ∙ behind_label label (tail outcome))
-    ∙ ap (λ (b : Bool). (outcome_front b ++ (escaped label.name ++ 34 ∷ (kind_field label.kind ++ tail outcome))) ++ rest) (sym (not_measured outcome word))
-    ∙ ap (λ (x : List ℕ). x ++ rest) (sym (outcome_is label outcome))
-
-row_parts : (text label a b c d left : List ℕ) (outcome : Outcome) (rest : List ℕ) → text ≡ announcement_front ++ a → SpellsLabel label → a ≡ label ++ b → b ≡ json_end ++ c → c ≡ outcome_front false ++ d
-    → d ≡ label ++ left → IsWord outcome → left ≡ tail outcome ++ rest → BeginsRow text outcome rest
-row_parts text label a b c d left outcome rest e s f g h i word j =
-    let second : c ≡ json_outcome s.label outcome ++ rest =
-    h ∙ ap (λ (x : List ℕ). outcome_front false ++ x) (i ∙ ap (λ (x : List ℕ). label ++ x) j) ∙ ended_by s.label outcome label rest word s.spelled in
-    let first : text ≡ json_announcement s.label ++ c =
-    e ∙ ap (λ (x : List ℕ). announcement_front ++ x) (f ∙ ap (λ (x : List ℕ). label ++ x) g) ∙ announced_by s.label label c s.spelled in
-    record { label = s.label; fits = s.fits; word = word; parts = first ∙ ap (λ (x : List ℕ). json_announcement s.label ++ x) second }
+-- the two lines, one after another
+row_text : (text bytes a b c d left rest : List ℕ) (label : Label) (outcome : Outcome)
+    → bytes ≡ escaped label.name ++ 34 ∷ kind_field label.kind → IsWord outcome → text ≡ announcement_front ++ a
+    → a ≡ bytes ++ b → b ≡ json_end ++ c → c ≡ outcome_front false ++ d → d ≡ bytes ++ left → left ≡ tail outcome ++ rest
+    → text ≡ json_announcement label ++ (json_outcome label outcome ++ rest)
+row_text text bytes a b c d left rest label outcome spelled word e f g h i j =
+    let first : text ≡ json_announcement label ++ c = rw (e, f, g, spelled, announcement_is label) (simp append_assoc) in
+    let second : c ≡ json_outcome label outcome ++ rest = rw (h, i, j, spelled, outcome_is label outcome, (word_parts outcome word).0) (simp append_assoc) in
+    first ∙ ap (λ (x : List ℕ). json_announcement label ++ x) second
 
 pub row_some : (text label a b c d left : List ℕ) (o : Option (Outcome × Bor (List ℕ))) → text ≡ announcement_front ++ a → SpellsLabel label → a ≡ label ++ b → b ≡ json_end ++ c → c ≡ outcome_front false ++ d
     → d ≡ label ++ left → IfSome o (λ x. IsWord x.0 × (left ≡ tail x.0 ++ x.1.now)) → IfSome o (λ x. BeginsRow text x.0 x.1.now)
 row_some text label a b c d left None e s f g h i j = tt
-row_some text label a b c d left (Some x) e s f g h i j = row_parts text label a b c d left x.0 x.1.now e s f g h i j.0 j.1
+row_some text label a b c d left (Some x) e s f g h i (word, j) =
+    record { label = s.label; fits = s.fits; word = word; parts = row_text text label a b c d left x.1.now s.label x.0 s.spelled word e f g h i j }
 
 -- ---- each of the two lines is one thing only
 
@@ -123,34 +98,12 @@ pub announces_one : (label : Label) → FitsLabel label → Decodes IsAnnounceme
 announces_one label fits = ((fits, refl), λ v h. sym (one_announcement label v h.1))
 
 at_tail : (label : Label) (outcome : Outcome) → is_measured outcome ≡ false → json_outcome label outcome ≡ named false label ++ tail outcome
-at_tail label outcome e = outcome_is label outcome
-    ∙ ap (λ (b : Bool). outcome_front b ++ (escaped label.name ++ 34 ∷ (kind_field label.kind ++ tail outcome))) e
-    ∙ ap (λ (x : List ℕ). outcome_front false ++ x) (sym (behind_label label (tail outcome)))
-    ∙ sym (append_assoc (outcome_front false) (escaped label.name ++ 34 ∷ kind_field label.kind) (tail outcome))
+at_tail label outcome e = rw (outcome_is label outcome, e) (simp append_assoc)
 
-pub word_fits : (outcome : Outcome) → IsWord outcome → FitsTypes outcome
-word_fits Passed w = tt
-word_fits Ignored w = tt
-word_fits (Failed None) w = tt
-word_fits (Failed (Some m)) w = absurd w
-word_fits (Measured m) w = absurd w
-
-pub ends_one : (label : Label) (outcome : Outcome) → IsWord outcome → Decodes (IsOutcome label) (json_outcome label outcome) (Some outcome)
-ends_one label Passed w = ended_some false _ label (tail Passed) (Some Passed) (at_tail label Passed refl) (is_passed (tail Passed) refl)
-ends_one label Ignored w = ended_some false _ label (tail Ignored) (Some Ignored) (at_tail label Ignored refl) (is_ignored (tail Ignored) refl)
-ends_one label (Failed None) w = ended_some false _ label (tail (Failed None)) (Some (Failed None)) (at_tail label (Failed None) refl) (is_failed (tail (Failed None)) refl)
-ends_one label (Failed (Some m)) w = absurd w
-ends_one label (Measured m) w = absurd w
+pub ends_one : (label : Label) (w : Outcome) → IsWord w → Decodes (IsOutcome label) (json_outcome label w) (Some w)
+ends_one label w word = ended_some false _ label (tail w) (Some w) (at_tail label w (word_parts w word).0) (is_word (tail w) w word refl)
 
 -- ---- rows that were passed
-
-pub nothing_passed : (r : RowReader) (piece : List ℕ) → PassesRows r piece r piece
-nothing_passed r piece = record {
-  front = [];
-  parts = refl;
-  rows = [];
-  read = λ entries sound. (subst (IsSound r) (sym (append-nil entries)) sound, ap (bytes_of r) (append-nil entries) ∙ sym (append-nil (bytes_of r entries)));
-}
 
 -- both lines lead on
 both_lines : (s mid t : State) (a o : List ℕ) → Known s [] false → IsLine a → IsLine o → Takes true s a mid → Takes true mid o t → (state_text t ++ [] ≡ (state_text s ++ []) ++ (a ++ o)) × Known t [] false
@@ -159,9 +112,9 @@ both_lines s mid t a o known is also first second =
     let two = taken mid t [] o o [] one.1 also refl second.0 second.1 refl in
     (two.0 ∙ ap (λ (x : List ℕ). x ++ o) one.0 ∙ append_assoc (state_text s ++ []) a o, two.1)
 
-one_passed : (b c : RowReader) (left after : List ℕ) (entries : List Entry) → b.stuck ≡ false → b.rest.items ≡ [] → c.stuck ≡ false → c.rest.items ≡ [] → (r : CountsRow b.progress left c.progress after) → IsSound b entries
-    → IsSound c (entries ++ r.entry ∷ []) × (bytes_of c (entries ++ r.entry ∷ []) ≡ bytes_of b entries ++ (json_announcement r.entry.label ++ json_outcome r.entry.label r.entry.outcome))
-one_passed b c left after entries free none stays still r sound =
+one_passed : (b c : RowReader) (left after : List ℕ) → b.stuck ≡ false → b.rest.items ≡ [] → c.stuck ≡ false → c.rest.items ≡ [] → (r : CountsRow b.progress left c.progress after)
+    → ReadsOn b (json_announcement r.entry.label ++ json_outcome r.entry.label r.entry.outcome) c (r.entry ∷ [])
+one_passed b c left after free none stays still r entries sound =
     let s = state_with b.progress entries in
     let t = state_with c.progress (entries ++ r.entry ∷ []) in
     let known : Known s [] false = subst (λ (x : List ℕ). Known s x false) none (subst (λ (k : Bool). Known s b.rest.items k) free sound.known) in
@@ -177,16 +130,7 @@ pub row_passed : (a b c : RowReader) (piece left after : List ℕ) → PassesRow
 row_passed a b c piece left after p free none stays still r =
     let lines : List ℕ = json_announcement r.entry.label ++ json_outcome r.entry.label r.entry.outcome in
     let here : left ≡ lines ++ after = r.parts ∙ sym (append_assoc (json_announcement r.entry.label) (json_outcome r.entry.label r.entry.outcome) after) in
-    record {
-      front = p.front ++ lines;
-      parts = p.parts ∙ ap (λ (x : List ℕ). p.front ++ x) here ∙ sym (append_assoc p.front lines after);
-      rows = p.rows ++ r.entry ∷ [];
-      read = λ entries sound.
-          let before = p.read entries sound in
-          let one = one_passed b c left after (entries ++ p.rows) free none stays still r before.0 in
-          subst (λ (es : List Entry). IsSound c es × (bytes_of c es ≡ bytes_of a entries ++ (p.front ++ lines))) (append_assoc entries p.rows (r.entry ∷ []))
-          (one.0, one.1 ∙ ap (λ (x : List ℕ). x ++ lines) before.1 ∙ append_assoc (bytes_of a entries) p.front lines);
-    }
+    (p.0 ++ r.entry ∷ [], reads_then a b c piece left lines after p.0 (r.entry ∷ []) p.1 here (one_passed b c left after free none stays still r))
 
 pub row_shorter : (old new : Progress) (text rest : List ℕ) → CountsRow old text new rest → length rest < length text
 row_shorter old new text rest r =

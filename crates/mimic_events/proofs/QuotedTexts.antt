@@ -8,7 +8,7 @@ use Rattle.mimic_text.proofs.Escapes.{escaped-plain}
 use Rattle.mimic_events.specs.LineParts.{candidate_of, ReadsEscaped}
 use Rattle.mimic_events.specs.LineParts.{Follows}
 use Rattle.mimic_events.proofs.Escapes.{again, one_split}
-use Rattle.mimic_events.proofs.Fronts.{Follows-then, Follows-stop}
+use Rattle.mimic_events.proofs.Fronts.{follows_then, follows_stop}
 
 -- the text so far, and what each text that is spelled there goes on with
 pub record Reaches (bytes text rest : List ℕ) : Type 0 where
@@ -63,40 +63,40 @@ goes_on_plain bytes text (b ∷ plain) after h p =
 
 -- ---- a text that is known, in parts
 
-escaped-parts : (text plain left : List ℕ) → text ≡ plain ++ left → ArePlain plain → escaped text ≡ plain ++ escaped left
+escaped_parts : (text plain left : List ℕ) → text ≡ plain ++ left → ArePlain plain → escaped text ≡ plain ++ escaped left
 unfolding escaped
-escaped-parts text plain left e p = ap escaped e ∙ flat_map-append escape plain left ∙ ap (λ (x : List ℕ). x ++ escaped left) (escaped-plain plain p)
+escaped_parts text plain left e p = ap escaped e ∙ flat_map-append escape plain left ∙ ap (λ (x : List ℕ). x ++ escaped left) (escaped-plain plain p)
 
 -- a text that stands for itself
-pub plain-same : (text plain rest line : List ℕ) → line ≡ plain ++ rest → ArePlain plain → plain ≡ text → line ≡ escaped text ++ rest
-plain-same text plain rest line e p same = e ∙ ap (λ (x : List ℕ). x ++ rest) (sym (escaped-plain plain p) ∙ ap escaped same)
+pub plain_same : (text plain rest line : List ℕ) → line ≡ plain ++ rest → ArePlain plain → plain ≡ text → line ≡ escaped text ++ rest
+plain_same text plain rest line e p same = e ∙ ap (λ (x : List ℕ). x ++ rest) (sym (escaped-plain plain p) ∙ ap escaped same)
 
 -- after what stands for itself
-pub plain-then : (text plain left line rest : List ℕ) (o : Option (Bor (List ℕ))) → text ≡ plain ++ left → ArePlain plain → line ≡ plain ++ rest → Follows (escaped left) rest o → Follows (escaped text) line o
-plain-then text plain left line rest o e p f h =
-    subst (λ (front : List ℕ). Follows front line o) (sym (escaped-parts text plain left e p)) (Follows-then plain (escaped left) line rest o f h)
+pub plain_then : (text plain left line rest : List ℕ) (o : Option (Bor (List ℕ))) → text ≡ plain ++ left → ArePlain plain → line ≡ plain ++ rest → Follows (escaped left) rest o → Follows (escaped text) line o
+plain_then text plain left line rest o e p f h =
+    subst (λ (front : List ℕ). Follows front line o) (sym (escaped_parts text plain left e p)) (follows_then plain (escaped left) line rest o f h)
 
-pub plain-stop : (text plain left line : List ℕ) → text ≡ plain ++ left → ArePlain plain → ((rest : List ℕ) → line ≢ plain ++ rest) → Follows (escaped text) line None
-plain-stop text plain left line e p h =
-    subst (λ (front : List ℕ). Follows front line None) (sym (escaped-parts text plain left e p)) (Follows-stop plain (escaped left) line h)
+pub plain_stop : (text plain left line : List ℕ) → text ≡ plain ++ left → ArePlain plain → ((rest : List ℕ) → line ≢ plain ++ rest) → Follows (escaped text) line None
+plain_stop text plain left line e p h =
+    subst (λ (front : List ℕ). Follows front line None) (sym (escaped_parts text plain left e p)) (follows_stop plain (escaped left) line h)
 
 -- after the spelling of the first byte
-escaped-first : (text : List ℕ) → 1 ≤ length text → escaped text ≡ escape (get_or text 0 0) ++ escaped (drop 1 text)
+escaped_first : (text : List ℕ) → 1 ≤ length text → escaped text ≡ escape (get_or text 0 0) ++ escaped (drop 1 text)
 unfolding escaped
-escaped-first text h = ap (λ (x : List ℕ). flat_map escape x) (drop-cons text 0 0 h)
+escaped_first text h = ap (λ (x : List ℕ). flat_map escape x) (drop-cons text 0 0 h)
 
-pub first-then : (text line rest : List ℕ) (o : Option (Bor (List ℕ))) → 1 ≤ length text → line ≡ escape (get_or text 0 0) ++ rest → Follows (escaped (drop 1 text)) rest o → Follows (escaped text) line o
-first-then text line rest o h e f =
-    subst (λ (front : List ℕ). Follows front line o) (sym (escaped-first text h)) (Follows-then (escape (get_or text 0 0)) (escaped (drop 1 text)) line rest o e f)
+pub first_then : (text line rest : List ℕ) (o : Option (Bor (List ℕ))) → 1 ≤ length text → line ≡ escape (get_or text 0 0) ++ rest → Follows (escaped (drop 1 text)) rest o → Follows (escaped text) line o
+first_then text line rest o h e f =
+    subst (λ (front : List ℕ). Follows front line o) (sym (escaped_first text h)) (follows_then (escape (get_or text 0 0)) (escaped (drop 1 text)) line rest o e f)
 
-pub first-stop : (text line : List ℕ) → 1 ≤ length text → ((rest : List ℕ) → line ≢ escape (get_or text 0 0) ++ rest) → Follows (escaped text) line None
-first-stop text line h f =
-    subst (λ (front : List ℕ). Follows front line None) (sym (escaped-first text h)) (Follows-stop (escape (get_or text 0 0)) (escaped (drop 1 text)) line f)
+pub first_stop : (text line : List ℕ) → 1 ≤ length text → ((rest : List ℕ) → line ≢ escape (get_or text 0 0) ++ rest) → Follows (escaped text) line None
+first_stop text line h f =
+    subst (λ (front : List ℕ). Follows front line None) (sym (escaped_first text h)) (follows_stop (escape (get_or text 0 0)) (escaped (drop 1 text)) line f)
 
-pub nothing-left : (text : List ℕ) (rest : Bor (List ℕ)) → length text < 1 → Follows (escaped text) rest.now (Some rest)
+pub nothing_left : (text : List ℕ) (rest : Bor (List ℕ)) → length text < 1 → Follows (escaped text) rest.now (Some rest)
 unfolding escaped
-nothing-left text rest h = rw (nil_from_length text (omega arith)) refl
+nothing_left text rest h = rw (nil_from_length text (omega arith)) refl
 
 -- the bytes after the first
-pub behind-first : (text : List ℕ) → take (length text - 1) (drop 1 text) ≡ drop 1 text
-behind-first text = take_all (length text - 1) (drop 1 text) (omega (arith, length-drop 1 text))
+pub behind_first : (text : List ℕ) → take (length text - 1) (drop 1 text) ≡ drop 1 text
+behind_first text = take_all (length text - 1) (drop 1 text) (omega (arith, length-drop 1 text))

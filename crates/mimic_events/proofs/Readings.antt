@@ -3,9 +3,7 @@ use Rattle.std.proofs.Common.{◌≡◌, ◌≢◌, ◌⊎◌, ℕ, ◌+◌, ◌
 use Rattle.std.specs.List.{flat_map, concat, AllByRecursion}
 use Rattle.std.proofs.lemmas.List.{length-append}
 use Rattle.std.proofs.lemmas.List.Folds.{concat-append}
-use Rattle.mimic_trial.specs.declared.outcome.conclusion.Conclusion.{Conclusion}
-use Rattle.mimic_trial.specs.Count.{counts_of}
-use Rattle.mimic_printer.specs.Json.{Entry, Contents, FitsEntry, IsJsonReport, conclusion_of, entry_lines, report_lines, json_announcement, json_title, json_summary, json_report}
+use Rattle.mimic_printer.specs.Json.{Entry, Contents, FitsEntry, IsJsonReport, conclusion_of, entry_lines, report_lines, json_title, json_summary, json_report}
 use Rattle.mimic_printer.proofs.JsonLines.{each_append, lines_each, no_end-append, rows_each, title_line}
 use Rattle.mimic_events.specs.Contents.{Spells, totals_of}
 use Rattle.mimic_events.specs.Feed.{AreEnded, BeginsWith}
@@ -13,10 +11,9 @@ use Rattle.mimic_events.specs.Reading.{Decodes}
 use Rattle.mimic_events.specs.Progress.{Fits, FitsNext, HasNoEnd, IsLine, LeadsFrom, Next, Runs, State, Step, HasTotals, title_next, row_next, outcome_next, nothing_next, start, state_text, text_so_far}
 use Rattle.mimic_events.specs.declared.report.Totals.{Totals}
 use Rattle.mimic_events.specs.Readers.{IsOnlyWay, IsUnread, Known, Leads, SumsUp, report_with}
-use Rattle.mimic_events.proofs.FewRows.{few_rows}
+use Rattle.mimic_events.proofs.FewRows.{behind_rows, few_rows, with_title}
 use Rattle.mimic_events.proofs.WholeLines.{no_line, one_line}
 use Rattle.mimic_events.proofs.States.{step_keeps}
-use Rattle.mimic_events.proofs.Summaries.{outcomes}
 
 -- ---- runs over lines
 
@@ -57,15 +54,9 @@ longer s (l ∷ lines) t (next, step, run) =
     let rest = longer next lines t run in
     (one.0 ++ rest.0, rest.1 ∙ ap (λ (es : List Entry). es ++ rest.0) one.1 ∙ append_assoc s.entries one.0 rest.0)
 
--- ---- before the first line
-
-pub fresh : (s : State) (rest : List ℕ) → s ≡ start → rest ≡ [] → Known s rest false
-fresh s rest e none = subst (λ (u : State). Known u rest false) (sym e) (record {
-  fits = record { announced = omega arith; entries = tt; next = refl };
-  led = record { lines = []; each = tt; run = refl; parts = refl };
-  way = λ more t after lead. inl lead;
-  unread = subst HasNoEnd (sym none) tt;
-})
+-- the same state with another rest
+pub with_rest : (s : State) (rest other : List ℕ) (stuck now : Bool) → Known s rest stuck → IsUnread now s other → Known s other now
+with_rest s rest other stuck now known unread = record { fits = known.fits; led = known.led; way = known.way; unread = unread }
 
 -- ---- one more line
 
@@ -143,30 +134,20 @@ refused s t rest end line left known last parts same none stays =
     let is : IsLine line = subst IsLine (sym parts) (line_with rest end known.unread last) in
     subst (λ (u : State). (state_text u ++ left ≡ (state_text s ++ rest) ++ end) × Known u left true) (sym same) (
       ap (λ (x : List ℕ). state_text s ++ x) stays ∙ sym (append_assoc (state_text s) rest end),
-      record {
-        fits = known.fits;
-        led = known.led;
-        way = known.way;
-        unread = record { line = line; more = []; parts = stays ∙ sym parts ∙ sym (append-nil line); whole = is; nowhere = none };
-      },
+      with_rest s rest left false true known (record { line = line; more = []; parts = stays ∙ sym parts ∙ sym (append-nil line); whole = is; nowhere = none }),
     )
 
 -- ---- a piece with no whole line
 
 pub more_left : (s : State) (rest piece : List ℕ) (stuck : Bool) → Known s rest stuck → (stuck ≡ false → HasNoEnd piece) → Known s (rest ++ piece) stuck
-more_left s rest piece false known whole = record { fits = known.fits; led = known.led; way = known.way; unread = no_end-append rest piece known.unread (whole refl) }
-more_left s rest piece true known whole = record {
-  fits = known.fits;
-  led = known.led;
-  way = known.way;
-  unread = record {
-    line = known.unread.line;
-    more = known.unread.more ++ piece;
-    parts = ap (λ (x : List ℕ). x ++ piece) known.unread.parts ∙ append_assoc known.unread.line known.unread.more piece;
-    whole = known.unread.whole;
-    nowhere = known.unread.nowhere;
-  };
-}
+more_left s rest piece false known whole = with_rest s rest (rest ++ piece) false false known (no_end-append rest piece known.unread (whole refl))
+more_left s rest piece true known whole = with_rest s rest (rest ++ piece) true true known (record {
+  line = known.unread.line;
+  more = known.unread.more ++ piece;
+  parts = ap (λ (x : List ℕ). x ++ piece) known.unread.parts ∙ append_assoc known.unread.line known.unread.more piece;
+  whole = known.unread.whole;
+  nowhere = known.unread.nowhere;
+})
 
 -- ---- no more lines
 
@@ -222,11 +203,7 @@ report_was_read s rest stuck c known short h = few_were_read s rest stuck c know
 pub report_read : (c : Contents) → Fits (over c) → IsJsonReport (state_text (over c)) c
 unfolding json_report
 report_read c fits = record {
-  text =
-      let title : List ℕ = json_title (length c.entries) in
-      let rows : List (List ℕ) = flat_map entry_lines c.entries in
-      let last : List ℕ = json_summary (conclusion_of c) c.nanos in
-      append_assoc title (concat rows) last ∙ ap (λ (x : List ℕ). title ++ x) (ap (λ (x : List ℕ). concat rows ++ x) (sym (append-nil last)) ∙ sym (concat-append rows (last ∷ [])));
+  text = simp (append_assoc, append-nil, concat-append);
   entries = fits.entries;
   filtered_out = fits.next.1;
   nanos = fits.next.2;
@@ -252,18 +229,21 @@ the_one_report s rest stuck (Some t) known short none out =
     let n : v.nanos ≡ c.nanos = cc in
     let es : v.entries ≡ c.entries = ap (λ (u : State). u.entries) same in
     rw (← x, ← n, ← es) refl in
-    let rows : t ≡ record { rows = length s.entries; counts = t.counts; nanos = t.nanos } = ap (λ (k : ℕ). record { rows = k; counts = t.counts; nanos = t.nanos }) out.1 in
-    let counts : record { rows = length s.entries; counts = t.counts; nanos = t.nanos } ≡ totals_of c =
-    ap (λ (k : Conclusion). record { rows = length s.entries; counts = k; nanos = t.nanos }) out.2 in
-    ((subst (λ (b : List ℕ). IsJsonReport b c) (sym whole) (report_read c (subst Fits here known.fits)), only), rows ∙ counts)
+    let numbers : t ≡ totals_of c = rw (← out.1, ← out.2) refl in
+    ((subst (λ (b : List ℕ). IsJsonReport b c) (sym whole) (report_read c (subst Fits here known.fits)), only), numbers)
 
 -- ---- the rows that have ended
 
 begun : (next : Next) (s : State) (rest : List ℕ) → Fits s → FitsNext next s → (s.entries ≡ []) ⊎ BeginsWith (text_so_far next s ++ rest) s.entries
 begun title_next s rest fits at = inl at
-begun row_next s rest fits at = inr (record { announced = s.announced; rest = rest; number = fits.announced; within = at; fits = fits.entries; parts = simp append_assoc })
-begun (outcome_next label) s rest fits at = inr (record { announced = s.announced; rest = json_announcement label ++ rest; number = fits.announced; within = omega (arith, at.0); fits = fits.entries; parts = simp append_assoc })
-begun (nothing_next filtered_out nanos) s rest fits at = inr (record { announced = s.announced; rest = json_summary (counts_of (outcomes s.entries) filtered_out) nanos ++ rest; number = fits.announced; within = omega (arith, at.0); fits = fits.entries; parts = simp append_assoc })
+begun next s rest fits at = inr (record {
+  announced = s.announced;
+  rest = behind_rows next s ++ rest;
+  number = fits.announced;
+  within = omega arith;
+  fits = fits.entries;
+  parts = with_title next s rest s.announced refl;
+})
 
 pub rows_lead : (bytes : List ℕ) (es : List Entry) (h : BeginsWith bytes es) → Leads start bytes (behind h.announced es) h.rest
 rows_lead bytes es h = record {

@@ -3,16 +3,15 @@ use Rattle.std.proofs.Common.{◌≡◌, ◌≢◌, ℕ, ◌<◌, ◌^◌, List,
 use Rattle.std.specs.List.{concat, flat_map}
 use Rattle.mimic_trial.specs.declared.outcome.Outcome.{Outcome}
 use Rattle.mimic_trial.specs.Promise.{FitsTypes}
-use Rattle.mimic_trial.specs.Count.{counts_of}
 use Rattle.mimic_printer.specs.Row.{Label}
-use Rattle.mimic_printer.specs.Json.{Entry, FitsLabel, IsLine, entry_lines, json_announcement, json_outcome, json_summary}
+use Rattle.mimic_printer.specs.Json.{Entry, FitsLabel, IsLine, entry_lines, json_announcement, json_outcome}
 use Rattle.mimic_printer.proofs.JsonLines.{announcement_line, rows_each}
 use Rattle.mimic_events.specs.Reading.{Decodes}
 use Rattle.mimic_events.specs.Progress.{Fits, FitsNext, LeadsFrom, Next, Runs, State, announced_from, running_from, start, state_text, text_so_far, title_next, row_next, outcome_next, nothing_next}
 use Rattle.mimic_events.specs.Readers.{IsUnread, Known, Leads}
 use Rattle.mimic_events.specs.SoFar.{BeginsWithTitle, ShowsRunning}
+use Rattle.mimic_events.proofs.FewRows.{behind_rows, with_title}
 use Rattle.mimic_events.proofs.Readings.{behind, ended, led_on, rows_lead}
-use Rattle.mimic_events.proofs.Summaries.{outcomes}
 use Rattle.mimic_events.proofs.WholeLines.{no_line, one_line}
 
 -- ---- the number that was announced
@@ -44,16 +43,8 @@ title_at : (next : Next) (s : State) (rest : List ℕ) → s.announced < 2 ^ 64
     → ((n : ℕ) → BeginsWithTitle n (text_so_far next s ++ rest) → announced_from next s.announced ≡ Some n)
     → Decodes BeginsWithTitle (text_so_far next s ++ rest) (announced_from next s.announced)
 title_at title_next s rest small only = λ n h. let e = only n h in absurd cc
-title_at row_next s rest small only = (
-  record { rest = concat (flat_map entry_lines s.entries) ++ rest; number = small; parts = simp append_assoc },
-  λ n h. let e = only n h in cc,
-)
-title_at (outcome_next label) s rest small only = (
-  record { rest = concat (flat_map entry_lines s.entries) ++ (json_announcement label ++ rest); number = small; parts = simp append_assoc },
-  λ n h. let e = only n h in cc,
-)
-title_at (nothing_next filtered_out nanos) s rest small only = (
-  record { rest = concat (flat_map entry_lines s.entries) ++ (json_summary (counts_of (outcomes s.entries) filtered_out) nanos ++ rest); number = small; parts = simp append_assoc },
+title_at next s rest small only = (
+  record { rest = concat (flat_map entry_lines s.entries) ++ (behind_rows next s ++ rest); number = small; parts = with_title next s rest s.announced refl },
   λ n h. let e = only n h in cc,
 )
 
@@ -114,7 +105,7 @@ running_at (outcome_next label) s rest stuck e fits at unread only = (
       number = fits.announced;
       within = omega (arith, at.0);
       fits = fits.entries;
-      parts = simp append_assoc;
+      parts = with_title (outcome_next label) s rest s.announced refl;
     };
     fewer = at.0;
     rest = rest;

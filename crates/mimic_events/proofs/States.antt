@@ -72,13 +72,6 @@ takes_outcome s line label outcome at d = rw at ((outcome, d.0, refl), λ t h. h
 
 -- ---- after all rows
 
-no_summary : (s : State) (line : List ℕ) (t : State) → s.announced ≤ length s.entries → ((v : ℕ × ℕ) → IsSummary s.entries v line → ⊥) → Announces s line t ⊎ Ends s line t → ⊥
-no_summary s line t all none (inl (more, label, is, e)) = omega (arith, more, all)
-no_summary s line t all none (inr (done, numbers, is, e)) = none numbers is
-
-pub refuses_summary : (s : State) (line : List ℕ) → s.next ≡ row_next → s.announced ≤ length s.entries → ((v : ℕ × ℕ) → IsSummary s.entries v line → ⊥) → (t : State) → Step s line t → ⊥
-refuses_summary s line at all none t h = no_summary s line t all none (rw at at h)
-
 one_end : (s : State) (line : List ℕ) (v : ℕ × ℕ) (t : State) → s.announced ≤ length s.entries → ((u : ℕ × ℕ) → IsSummary s.entries u line → u ≡ v) → Announces s line t ⊎ Ends s line t → t ≡ record s { next = nothing_next v.0 v.1 }
 one_end s line v t all only (inl (more, label, is, e)) = absurd (omega (arith, more, all))
 one_end s line v t all only (inr (done, numbers, is, e)) = e ∙ ap (λ (u : ℕ × ℕ). record s { next = nothing_next u.0 u.1 }) (only numbers is)

@@ -1,5 +1,5 @@
 -- A report that is written: its text, part by part.
-use Rattle.std.proofs.Common.{◌≡◌, ℕ, List, [], ◌∷◌, ◌++◌, length, map, refl, sym, ap, ap₂, subst, ◌∙◌, append-nil}
+use Rattle.std.proofs.Common.{◌≡◌, ℕ, List, [], ◌∷◌, ◌++◌, length, map, refl, sym, ap, subst, ◌∙◌, append-nil}
 use Rattle.std.specs.Prelude.{Result, Ok, Err, OnOk, Option, None, Some, All, ◌<◌, ◌^◌}
 use Rattle.std.specs.List.{concat, flat_map}
 use Rattle.std.proofs.lemmas.List.{length-map}
@@ -19,12 +19,6 @@ use Rattle.mimic_events.specs.declared.report.Row.{Row}
 use Rattle.mimic_events.specs.Written.{FitsRow, row_lines}
 
 -- ---- a row
-
-abbrev pub label : List ℕ → List ℕ → Label
-label kind name = record { kind = kind; name = name }
-
-pub same_label : (k l n m : List ℕ) → k ≡ l → n ≡ m → label k n ≡ label l m
-same_label k l n m e f = ap₂ label e f
 
 pub row_put : {E T : Type 0} (a b : Shown) (l m : Label) (o : Outcome) (r : Result T E) → l ≡ m
     → Writes a b (json_announcement l ++ json_outcome l o) r → Writes a b (json_announcement m ++ (json_outcome m o ++ [])) r
@@ -47,15 +41,13 @@ outcomes_same (row ∷ rows) = ap (λ (l : List Outcome). row.outcome ∷ l) (ou
 pub report_parts : (r : Report) → json_report (contents_read r)
     ≡ json_title (length r.rows.items) ++ (flat_map row_lines r.rows.items ++ json_summary (conclusion_of (contents_read r)) r.nanos)
 unfolding json_report
-report_parts r =
-    let entries = map entry_read r.rows.items in
-    let last : List ℕ = json_summary (conclusion_of (contents_read r)) r.nanos in
-    ap₂ (λ (n : ℕ) (l : List ℕ). json_title n ++ l) (length-map r.rows.items entry_read) (concat-append (flat_map entry_lines entries) (last ∷ []) ∙ ap₂ (λ (x y : List ℕ). x ++ y) (entries_flat r.rows.items) (append-nil last))
+report_parts r = simp (length-map, concat-append, entries_flat, append-nil)
 
-pub spells : (r : Report) → All FitsRow r.rows.items → r.filtered_out < 2 ^ 64 → r.nanos < 2 ^ 64 → IsJsonReport (json_report (contents_read r)) (contents_read r)
-spells r fit h k = record {
+pub spells : (r : Report) (rows : List Row) → rows ≡ r.rows.items → All FitsRow rows → r.filtered_out < 2 ^ 64 → r.nanos < 2 ^ 64
+    → IsJsonReport (json_report (contents_read r)) (contents_read r)
+spells r rows e fit h k = record {
   text = refl;
-  entries = recursion_from_All FitsEntry (map entry_read r.rows.items) (All-map FitsEntry entry_read r.rows.items fit);
+  entries = recursion_from_All FitsEntry (map entry_read r.rows.items) (All-map FitsEntry entry_read r.rows.items (subst (All FitsRow) e fit));
   filtered_out = h;
   nanos = k;
 }
@@ -77,8 +69,9 @@ all_put a b c d r n rows counts x e f k o p q =
     (Puts_then a b d _ _ x (subst (λ (m : ℕ). Put a b (json_title m)) e o)
     (Puts_then b c d _ _ x (subst (λ (l : List Row). Put b c (flat_map row_lines l)) f p) (subst (λ (m : Conclusion). Writes c d (json_summary m r.nanos) x) k q)))
 
-pub same_counts : (r : Report) (counts : Conclusion) → counts ≡ counts_of (map (λ (row : Row). row.outcome) r.rows.items) r.filtered_out → counts ≡ conclusion_of (contents_read r)
-same_counts r counts e = e ∙ ap (λ (os : List Outcome). counts_of os r.filtered_out) (sym (outcomes_same r.rows.items))
+pub same_counts : (r : Report) (rows : List Row) (counts : Conclusion) → rows ≡ r.rows.items → counts ≡ counts_of (map (λ (row : Row). row.outcome) rows) r.filtered_out
+    → counts ≡ conclusion_of (contents_read r)
+same_counts r rows counts same e = rw same at e ∙ ap (λ (os : List Outcome). counts_of os r.filtered_out) (sym (outcomes_same r.rows.items))
 
 pub on_ok : {E T : Type 0} (r : Result T E) (P : Type 0) → P → OnOk r P
 on_ok (Ok x) P p = p

@@ -68,6 +68,10 @@ ReadsQuoted = Reads (λ text rest. escaped text ++ 34 ∷ rest)
 abbrev pub ReadsNamed : List ℕ → List ℕ → Option (List ℕ × List ℕ) → Type 0
 ReadsNamed front = Reads (λ text rest. front ++ (escaped text ++ 34 ∷ rest))
 
+-- the text is the front, this value in quotes, and the end of the line
+abbrev pub IsQuoted : List ℕ → List ℕ → List ℕ → Type 0
+IsQuoted front value text = text ≡ front ++ (escaped value ++ 34 ∷ json_end)
+
 -- the bytes begin with the spelling of the text, and the rest follows; no other text ends there at a quote
 pub record ReadsEscaped (bytes text rest : List ℕ) : Type 0 where
   pub front : bytes ≡ escaped text ++ rest

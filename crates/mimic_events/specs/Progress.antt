@@ -135,17 +135,17 @@ abbrev pub Takes : Bool → State → List ℕ → State → Type 0
 Takes true old line new = Step old line new × ((s : State) → Step old line s → s ≡ new)
 Takes false old line new = (new ≡ old) × ((s : State) → Step old line s → ⊥)
 
--- the rows with the one that ended, if one did
-abbrev pub with_row : List Entry → Option Row → List Entry
-with_row entries None = entries
-with_row entries (Some row) = entries ++ entry_read row ∷ []
+-- the row that ended, if one did
+abbrev pub row_list : Option Row → List Entry
+row_list None = []
+row_list (Some row) = entry_read row ∷ []
 
 -- the line belonged there, and the new state comes after it; or it didn't, and the state stays
 abbrev pub Moves : Progress → List Entry → List ℕ → Progress → Taken → Type 0
 Moves old entries line new Astray = IsCounted new entries
     × Takes false (state_with old entries) line (state_with new entries)
-Moves old entries line new (Read row) = IsCounted new (with_row entries row)
-    × Takes true (state_with old entries) line (state_with new (with_row entries row))
+Moves old entries line new (Read row) = IsCounted new (entries ++ row_list row)
+    × Takes true (state_with old entries) line (state_with new (entries ++ row_list row))
 
 -- the text begins with the two lines of a row, which both belonged there, and the row was counted; the rest follows
 pub record CountsRow (old : Progress) (text : List ℕ) (new : Progress) (rest : List ℕ) : Type 0 where

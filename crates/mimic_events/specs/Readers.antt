@@ -1,12 +1,12 @@
 -- Reading bytes that come in pieces: what is kept of them, and what is known of those that were read. Of public clauses only those of a tally and of a follower name these words.
-use Rattle.std.specs.Prelude.{◌≡◌, ◌≢◌, codes, ◌⊎◌, ◌<◌, ℕ, Bool, true, false, List, [], ◌++◌, length, Option, Some, None}
+use Rattle.std.specs.Prelude.{◌≡◌, ◌≢◌, codes, ◌⊎◌, ◌<◌, ℕ, Bool, true, false, List, [], ◌∷◌, ◌++◌, length, Option, Some, None}
 use Rattle.std.specs.List.{AllByRecursion, concat}
 use Rattle.mimic_printer.specs.Json.{Contents, Entry}
 use Rattle.mimic_events.specs.declared.report.Row.{Row}
 use Rattle.mimic_events.specs.declared.report.Totals.{Totals}
 use Rattle.mimic_events.specs.declared.row_reader.RowReader.{RowReader}
-use Rattle.mimic_events.specs.Contents.{Spells, totals_of}
-use Rattle.mimic_events.specs.Progress.{Fits, HasNoEnd, IsCounted, IsLine, Runs, State, Step, start, state_with, state_text, with_row}
+use Rattle.mimic_events.specs.Contents.{Spells, entry_read, totals_of}
+use Rattle.mimic_events.specs.Progress.{Fits, HasNoEnd, IsCounted, IsLine, Runs, State, Step, start, state_with, state_text}
 use Rattle.mimic_events.specs.Reading.{Decodes}
 
 -- all bytes that came, if these are the rows that have ended: the lines that were taken, and the rest
@@ -60,25 +60,25 @@ pub record IsSound (r : RowReader) (entries : List Entry) : Type 0 where
 
 -- ---- pieces
 
--- the bytes are read, and with them the row that ended, if one did
-abbrev pub ReadsOn : RowReader → List ℕ → RowReader → Option Row → Type 0
-ReadsOn old bytes new row = (entries : List Entry) → IsSound old entries
-    → IsSound new (with_row entries row) × (bytes_of new (with_row entries row) ≡ bytes_of old entries ++ bytes)
+-- the bytes are read, and end these rows
+abbrev pub ReadsOn : RowReader → List ℕ → RowReader → List Entry → Type 0
+ReadsOn old bytes new ended = (entries : List Entry) → IsSound old entries
+    → IsSound new (entries ++ ended) × (bytes_of new (entries ++ ended) ≡ bytes_of old entries ++ bytes)
 
--- the front of the piece ends a row, and what is left of it follows
+-- the front of the piece is read, and ends these rows; what is left of it follows
+pub record ReadsFront (old : RowReader) (piece : List ℕ) (new : RowReader) (ended : List Entry) (left : List ℕ) : Type 0 where
+  pub front : List ℕ
+  pub parts : piece ≡ front ++ left
+  pub read : ReadsOn old front new ended
+
+-- a front of the piece is read that ends this row, and less is left
 pub record ReadsRow (old : RowReader) (piece : List ℕ) (new : RowReader) (row : Row) (left : List ℕ) : Type 0 where
-  pub front : List ℕ
-  pub parts : piece ≡ front ++ left
+  pub read : ReadsFront old piece new (entry_read row ∷ []) left
   pub shorter : length left < length piece
-  pub read : ReadsOn old front new (Some row)
 
--- the front of the piece was read, and ended these rows; what is left of it follows
-pub record PassesRows (old : RowReader) (piece : List ℕ) (new : RowReader) (left : List ℕ) : Type 0 where
-  pub front : List ℕ
-  pub parts : piece ≡ front ++ left
-  pub rows : List Entry
-  pub read : (entries : List Entry) → IsSound old entries
-      → IsSound new (entries ++ rows) × (bytes_of new (entries ++ rows) ≡ bytes_of old entries ++ front)
+-- a front of the piece is read that ends some rows
+abbrev pub PassesRows : RowReader → List ℕ → RowReader → List ℕ → Type 0
+PassesRows old piece new left = (ended : List Entry) × ReadsFront old piece new ended left
 
 -- ---- the end
 

@@ -13,6 +13,7 @@ pub(crate) fn after<'a>(text: &'a [u8], front: &[u8]) -> Option<&'a [u8]>
 }
 
 // Returns what follows these fronts, if the text begins with them, one after another.
+#[tactic(auto, using(crate::proofs::Fronts::follows_next))]
 pub(crate) fn after_all<'a>(text: &'a [u8], fronts: &[&[u8]]) -> Option<&'a [u8]>
     ensures { Follows (concat (map (λ front. front.now) fronts.now)) text.now result }
 {

@@ -3,7 +3,7 @@ ghost use Rattle.std.specs.Prelude.{◌≡◌, ◌≢◌, ◌∷◌, ◌++◌, �
 ghost use Rattle.mimic_text.specs.Escape.{escaped};
 ghost use Rattle.mimic_events.specs.Contents.{entry_read, label_read};
 ghost use Rattle.mimic_printer.specs.Json.{kind_field};
-ghost use Rattle.mimic_events.specs.LineParts.{Follows, IsFailure, IsKind, IsTail, SaysFailed, SaysKind};
+ghost use Rattle.mimic_events.specs.LineParts.{Follows, IsFailure, IsKind, IsQuoted, IsTail, SaysFailed, SaysKind};
 ghost use Rattle.mimic_events.specs.Reading.{Decodes, IsTitle, IsAnnouncement, IsFailedLine, IsOutcome};
 
 use crate::ends::{after, before};
@@ -14,6 +14,7 @@ use mimic_trial::{Failed, Measurement, Outcome};
 use std::alloc::{AllocError, Global};
 
 // Returns the number of rows that a title line says.
+#[tactic(auto, using(crate::proofs::NamedLines::title_is, crate::proofs::NamedLines::title_rest, crate::proofs::NamedLines::title_some))]
 pub(crate) fn titled(line: &[u8]) -> Option<u64>
     ensures { Decodes IsTitle line.now result }
 {
@@ -51,13 +52,24 @@ fn kind_of(alloc: Global, rest: &[u8]) -> Result<Option<String>, AllocError>
     if rest == b" }\n".as_slice() {
         return Ok(Some(String::new(alloc)));
     }
-    let Some((kind, end)) = quoted_after(alloc, rest, br#", "kind": ""#)? else {
+    let Some(kind) = last_quoted(alloc, rest, br#", "kind": ""#)? else {
         return Ok(None);
     };
-    if kind.is_empty() || end != b" }\n".as_slice() {
+    if kind.is_empty() {
         return Ok(None);
     }
     Ok(text_of(kind))
+}
+
+// Returns the text in quotes after this front, if the line ends behind it.
+fn last_quoted(alloc: Global, text: &[u8], front: &[u8]) -> Result<Option<Vec<u8>>, AllocError>
+    ensures { IfOk result
+        (λ found. Decodes (IsQuoted front.now) text.now (option_map (λ v. v.items) found)) }
+{
+    match quoted_after(alloc, text, front)? {
+        Some((found, end)) if end == b" }\n".as_slice() => Ok(Some(found)),
+        _ => Ok(None),
+    }
 }
 
 // Returns the outcome that a line says of this trial.
@@ -153,6 +165,7 @@ fn measured(rest: &[u8]) -> Option<Outcome>
 }
 
 // Reads the outcome of a trial that was not measured from what follows the name and the kind.
+#[tactic(auto, using(crate::proofs::EndedLines::is_word, crate::proofs::EndedLines::tail_some))]
 fn tested(alloc: Global, rest: &[u8]) -> Result<Option<Outcome>, AllocError>
     ensures { IfOk result (λ outcome. Decodes (IsTail false) rest.now outcome) }
 {
@@ -177,12 +190,9 @@ fn failure(alloc: Global, rest: &[u8]) -> Result<Option<String>, AllocError>
         (λ message. Decodes IsFailure rest.now (option_map string_bytes message)) }
 {
     let front = br#", "event": "failed", "stdout": "Error: \""#;
-    let Some((text, end)) = quoted_after(alloc, rest, front)? else {
+    let Some(text) = last_quoted(alloc, rest, front)? else {
         return Ok(None);
     };
-    if end != b" }\n".as_slice() {
-        return Ok(None);
-    }
     match before_quote(text) {
         Some(message) => Ok(text_of(message)),
         None => Ok(None),

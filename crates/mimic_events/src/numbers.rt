@@ -19,6 +19,7 @@ pub(crate) fn number_at(bytes: &[u8]) -> Option<(u64, &[u8])>
 }
 
 // Returns the nanoseconds of a text that is seconds in exact decimal.
+#[tactic(auto, using(crate::proofs::Digits::seconds_none, crate::proofs::Digits::seconds_found))]
 pub(crate) fn seconds(text: &[u8]) -> Option<u64>
     ensures { Decodes IsSeconds text.now result }
 {
@@ -63,6 +64,7 @@ fn rest_of_second(text: &[u8]) -> Option<u64>
 }
 
 // Returns the nanoseconds of the digits after the point.
+#[tactic(auto, using(crate::proofs::Digits::fraction_fits))]
 fn fraction(digits: &[u8]) -> Option<u64>
     ensures { Decodes IsFraction digits.now result }
 {
@@ -77,6 +79,7 @@ fn fraction(digits: &[u8]) -> Option<u64>
 }
 
 // Returns the number that at most nine digits write, with leading zeros or without.
+#[tactic(auto, using(crate::proofs::Digits::numeral_ok, crate::proofs::Digits::numeral_utf8))]
 fn numeral(digits: &[u8]) -> Option<u64>
     requires { length digits.now ≤ 9 }
     ensures { SomeIff result (IsNumeral 10 digits.now) (digits_value 10 digits.now) }

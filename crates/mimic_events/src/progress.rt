@@ -171,6 +171,7 @@ impl Progress {
 }
 
 // Returns the first line, with its end, and what follows it.
+#[tactic(auto, using(crate::proofs::FirstLines::line_before))]
 pub(crate) fn first_line(bytes: &[u8]) -> Option<(&[u8], &[u8])>
     ensures { MatchOption result (HasNoEnd bytes.now)
         (λ x. (bytes.now ≡ x.0.now ++ x.1.now) × IsLine x.0.now) }

@@ -14,6 +14,7 @@ const LANES: usize = 16;
 
 // Returns the text in quotes after this front, which ends with the opening quote, and what follows the closing one.
 #[inline(always)]
+#[tactic(auto, using(crate::proofs::NamedLines::named_some))]
 pub(crate) fn quoted_after<'a>(
     alloc: Global,
     line: &'a [u8],
@@ -44,6 +45,7 @@ pub(crate) fn plain_text_at(bytes: &[u8]) -> Option<(&[u8], &[u8])>
 
 // Returns what follows this front, which ends with the opening quote, this text, and the closing quote.
 #[inline(always)]
+#[tactic(auto, using(crate::proofs::Fronts::follows_then, crate::proofs::Fronts::follows_after))]
 pub(crate) fn after_quoted<'a>(line: &'a [u8], front: &[u8], text: &str) -> Option<&'a [u8]>
     ensures { Follows (front.now ++ (escaped text.now ++ 34 ∷ [])) line.now result }
 {
@@ -53,6 +55,7 @@ pub(crate) fn after_quoted<'a>(line: &'a [u8], front: &[u8], text: &str) -> Opti
 }
 
 // Returns what follows the spelling of this text.
+#[tactic(auto, using(crate::proofs::QuotedTexts::plain_then, crate::proofs::QuotedTexts::first_then, crate::proofs::QuotedTexts::behind_first))]
 fn after_escaped<'a>(line: &'a [u8], text: &[u8]) -> Option<&'a [u8]>
     ensures { Follows (escaped text.now) line.now result }
 {
@@ -84,6 +87,7 @@ fn after_spelling<'a>(text: &'a [u8], byte: u8) -> Option<&'a [u8]>
 }
 
 // Splits the text after the bytes at its front that stand for themselves.
+#[tactic(auto, using(crate::proofs::PlainLanes::plain_more))]
 fn plain_at(text: &[u8]) -> (&[u8], &[u8])
     ensures parts { text.now ≡ result.0.now ++ result.1.now }
     ensures plain { ArePlain result.0.now }
@@ -143,6 +147,7 @@ fn escaped_at(alloc: Global, bytes: &[u8]) -> Result<(Vec<u8>, &[u8]), AllocErro
 }
 
 // Returns the byte whose spelling the text begins with, and what follows.
+#[tactic(auto, using(crate::proofs::Escapes::candidate_at, crate::proofs::Escapes::one_split))]
 fn unescape(text: &[u8]) -> Option<(u8, &[u8])>
     ensures { ReadsByte text.now (option_map (λ found. (found.0, found.1.now)) result) }
 {

@@ -22,6 +22,7 @@ pub(crate) fn row_at(text: &[u8]) -> Option<(Outcome, &[u8])>
 
 // Splits the text after the name and the kind at its front.
 #[inline(always)]
+#[tactic(auto, using(crate::proofs::PlainRows::plain_kind, crate::proofs::PlainRows::plain_label))]
 fn label_at(text: &[u8]) -> Option<(&[u8], &[u8])>
     ensures { IfSome result (λ found. SpellsLabel found.0.now
         × (text.now ≡ found.0.now ++ found.1.now)) }

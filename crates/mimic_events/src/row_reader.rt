@@ -22,7 +22,7 @@ impl RowReader {
     ghost use Rattle.std.specs.Prelude.{◌≡◌, [], false, List, IfOk, MatchOption, None, OnOk, option_map};
     ghost use Rattle.mimic_printer.specs.Json.{Entry};
     ghost use Rattle.mimic_events.specs.Contents.{label_read};
-    ghost use Rattle.mimic_events.specs.Progress.{IsLine};
+    ghost use Rattle.mimic_events.specs.Progress.{IsLine, row_list};
     ghost use Rattle.mimic_events.specs.Readers.{IsSound, PassesRows, ReadsOn, ReadsRow, SumsUp, bytes_of};
     ghost use Rattle.mimic_events.specs.Reading.{Decodes};
     ghost use Rattle.mimic_events.specs.SoFar.{BeginsWithTitle, IsFirstWrong, ShowsRunning};
@@ -48,7 +48,7 @@ impl RowReader {
         piece: &'a [u8],
     ) -> Result<Option<(Row, &'a [u8])>, AllocError>
         ensures { IfOk result (λ found. MatchOption found
-            (ReadsOn self.old piece.now self.new None)
+            (ReadsOn self.old piece.now self.new [])
             (λ x. ReadsRow self.old piece.now self.new x.0 x.1.now)) }
     {
         let mut left = piece;
@@ -66,6 +66,7 @@ impl RowReader {
     }
 
     // Reads the rows at the front of the piece that `count_row` counts, and returns what follows. It takes no memory.
+    #[tactic(auto, using(crate::proofs::RowReaders::nothing_read, crate::proofs::PlainRows::row_shorter))]
     pub(crate) fn pass_rows<'a>(&mut self, piece: &'a [u8]) -> &'a [u8]
         ensures { PassesRows self.old piece.now self.new result.now }
     {
@@ -83,7 +84,7 @@ impl RowReader {
     fn end_line(&mut self, alloc: Global, end: &[u8]) -> Result<Option<Row>, AllocError>
         requires open { self.old.stuck ≡ false }
         requires line { IsLine end.now }
-        ensures { IfOk result (λ row. ReadsOn self.old end.now self.new row) }
+        ensures { IfOk result (λ row. ReadsOn self.old end.now self.new (row_list row)) }
     {
         if self.rest.is_empty() {
             // A line that came whole is not copied.
@@ -126,6 +127,7 @@ impl RowReader {
     }
 
     // Returns how many rows the title announces, if it has ended.
+    #[tactic(auto, using(crate::proofs::SoFar::finds_title))]
     pub(crate) fn announced(&self) -> Option<u64>
         ensures { (entries : List Entry) → IsSound self.now entries
             → Decodes BeginsWithTitle (bytes_of self.now entries) result }
@@ -134,6 +136,7 @@ impl RowReader {
     }
 
     // Returns the trial whose announcement stands without its outcome.
+    #[tactic(auto, using(crate::proofs::SoFar::finds_running))]
     pub(crate) fn running(&self) -> Option<&Label>
         ensures { (entries : List Entry) → IsSound self.now entries → Decodes ShowsRunning
             (bytes_of self.now entries) (option_map (λ label. label_read label.now) result) }
@@ -142,18 +145,16 @@ impl RowReader {
     }
 
     // Returns the number, from 1, of the first ended line that no report has there.
+    #[tactic(auto, using(crate::proofs::Begun::finds_first))]
     pub(crate) fn first_wrong_line(&self) -> Option<u128>
         ensures { (entries : List Entry) → IsSound self.now entries
             → Decodes IsFirstWrong (bytes_of self.now entries) result }
     {
-        if self.stuck {
-            Some(self.progress.next_line())
-        } else {
-            None
-        }
+        self.stuck.then_some(self.progress.next_line())
     }
 
     // Returns what the summary said, if all bytes are a report.
+    #[tactic(auto, using(crate::proofs::Readings::no_report))]
     pub(crate) fn into_totals(self) -> Option<Totals>
         ensures { (entries : List Entry) → IsSound self entries
             → SumsUp (bytes_of self entries) entries result }

@@ -20,6 +20,7 @@ pub(crate) fn summed(counts: &Conclusion, line: &[u8]) -> Option<(u64, u64)>
 }
 
 // Reads the number of trials that were filtered out and the nanoseconds from what follows the counts of outcomes.
+#[tactic(auto, using(crate::proofs::Summaries::behind_key))]
 fn totals(rest: &[u8]) -> Option<(u64, u64)>
     ensures { Decodes IsTotals rest.now result }
 {

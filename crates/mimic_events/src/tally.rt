@@ -33,6 +33,7 @@ impl Tally {
     }
 
     /// Takes the next piece. If an allocation fails, nothing is left of the tally.
+    #[tactic(auto, using(crate::proofs::Tallies::rows_shorter))]
     pub fn feed(self, piece: &[u8]) -> Result<Tally, AllocError>
         ensures { IfOk result
             (λ tally. (bytes : List ℕ) → HasRead self bytes → HasRead tally (bytes ++ piece.now)) }
@@ -53,6 +54,7 @@ impl Tally {
     }
 
     /// Returns how many trials the title announces: `None` before its line has ended, and if it is no title.
+    #[tactic(auto, using(crate::proofs::Forgetting::title_found))]
     pub fn announced(&self) -> Option<u64>
         ensures { (bytes : List ℕ) → HasRead self.now bytes → Decodes BeginsWithTitle bytes result }
     {
@@ -60,6 +62,7 @@ impl Tally {
     }
 
     /// Returns the number, from 1, of the first ended line that no report has there, and `None` if there is none.
+    #[tactic(auto, using(crate::proofs::Forgetting::wrong_found))]
     pub fn first_wrong_line(&self) -> Option<u128>
         ensures { (bytes : List ℕ) → HasRead self.now bytes → Decodes IsFirstWrong bytes result }
     {
@@ -67,6 +70,7 @@ impl Tally {
     }
 
     /// Returns the numbers of the report that all bytes are together, and `None` if they are none.
+    #[tactic(auto, using(crate::proofs::Forgetting::totals_found))]
     pub fn finish(self) -> Option<Totals>
         ensures { (bytes : List ℕ) → HasRead self bytes → Decodes SpellsTotals bytes result }
     {

@@ -1,5 +1,5 @@
 //! Writes reports, as those that were read or built.
-ghost use Rattle.std.specs.Prelude.{◌≡◌, ◌<◌, ◌^◌, All, OnOk, true};
+ghost use Rattle.std.specs.Prelude.{◌≡◌, All, OnOk, true};
 ghost use Rattle.std.specs.List.{flat_map};
 ghost use Rattle.mimic_printer.specs.Json.{json_report};
 ghost use Rattle.mimic_printer.specs.Sink.{HasFaultLeft, Puts};
@@ -7,6 +7,7 @@ ghost use Rattle.mimic_events.specs.Contents.{Spells, contents_read};
 ghost use Rattle.mimic_events.specs.Reading.{IsReadAs};
 ghost use Rattle.mimic_events.specs.Written.{FitsRow, row_lines};
 
+use crate::counts::counts_of_rows;
 use crate::report::{Report, Row};
 use mimic_printer::json::{put_summary, put_title};
 use mimic_printer::{Sink, WriteFault, json};
@@ -16,6 +17,7 @@ use std::io::Write;
 /// Writes the report in JSON: the one text that `read_report` reads as this report. It takes no memory.
 ///
 /// With a fault a beginning of the text was written.
+#[tactic(auto, using(crate::proofs::Writing::stopped_title))]
 pub fn write_report<W: Write>(report: &Report, sink: &mut Sink<W>) -> Result<(), WriteFault>
     requires { HasFaultLeft sink.old }
     ensures written { Puts W.contents sink.old sink.new
@@ -25,21 +27,14 @@ pub fn write_report<W: Write>(report: &Report, sink: &mut Sink<W>) -> Result<(),
     ensures reads_back { OnOk result
         (IsReadAs Spells (json_report (contents_read report.now)) (contents_read report.now)) }
 {
-    prove!(numbers_fit(report));
-    put_title(sink, report.rows.len() as u64)?;
-    put_rows(sink, &report.rows)?;
-    put_summary(sink, &report.counts(), report.nanos)
-}
-
-// Shows that the numbers of a report fit.
-fn numbers_fit(report: &Report) -> bool
-    ensures filtered_out { report.now.filtered_out < 2 ^ 64 }
-    ensures nanos { report.now.nanos < 2 ^ 64 }
-    ensures always { result ≡ true }
-{
-    let _filtered_out = report.filtered_out;
-    let _nanos = report.nanos;
-    true
+    let Report {
+        rows,
+        filtered_out,
+        nanos,
+    } = report;
+    put_title(sink, rows.len() as u64)?;
+    put_rows(sink, rows)?;
+    put_summary(sink, &counts_of_rows(rows, *filtered_out), *nanos)
 }
 
 fn put_rows<W: Write>(sink: &mut Sink<W>, rows: &[Row]) -> Result<(), WriteFault>
@@ -56,6 +51,7 @@ fn put_rows<W: Write>(sink: &mut Sink<W>, rows: &[Row]) -> Result<(), WriteFault
 /// Writes the two lines of a row in JSON: its announcement and its outcome. It takes no memory.
 ///
 /// With a fault a beginning of the lines was written.
+#[tactic(auto, using(crate::proofs::Writing::row_put))]
 pub fn put_row<W: Write>(sink: &mut Sink<W>, row: &Row) -> Result<(), WriteFault>
     requires { HasFaultLeft sink.old }
     ensures written { Puts W.contents sink.old sink.new (row_lines row.now) result }

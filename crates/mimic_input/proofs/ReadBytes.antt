@@ -1,6 +1,6 @@
 -- What was read of an input, read by read.
 use Rattle.std.proofs.Common.{◌≡◌, ℕ, List, ◌++◌, Option, Some, None, IfSome, sym, ap, subst, ◌∙◌, append_assoc, append-nil}
-use Rattle.std.specs.Io.KnownBytes.{Consumes, Keeps}
+use Rattle.std.specs.Io.KnownBytes.{Consumes}
 use Rattle.std.specs.List.{concat}
 use Rattle.mimic_printer.specs.Json.{Entry}
 use Rattle.mimic_events.specs.Reading.{Decodes}
@@ -16,13 +16,6 @@ read_more None b c first second h k = tt
 read_more (Some xs) None c first second h k = absurd h
 read_more (Some xs) (Some ys) None first second h k = absurd k
 read_more (Some xs) (Some ys) (Some zs) first second h k = h ∙ ap (λ (t : List ℕ). first ++ t) k ∙ sym (append_assoc first second zs)
-
--- a read that failed took nothing
-pub read_on : (a b c : Option (List ℕ)) (bytes : List ℕ) → Consumes a b bytes → Keeps b c → Consumes a c bytes
-read_on None b c bytes h k = tt
-read_on (Some xs) None c bytes h k = absurd h
-read_on (Some xs) (Some ys) None bytes h k = absurd k
-read_on (Some xs) (Some ys) (Some zs) bytes h k = h ∙ ap (λ (t : List ℕ). bytes ++ t) (sym k)
 
 -- a line that is wrong stays so, whatever follows
 wrong_then : (number : ℕ) (bytes more : List ℕ) → IsFirstWrong number bytes → IsFirstWrong number (bytes ++ more)

@@ -1,16 +1,14 @@
 -- The rows of an input, one after another.
-use Rattle.std.proofs.Common.{◌≡◌, inl, inr, ℕ, ◌+◌, ◌-◌, ◌≤◌, true, List, [], ◌∷◌, ◌++◌, Option, Some, None, is_some, length, length-append, length-drop, take, drop, refl, sym, ap, ap₂, subst, ◌∙◌, append_assoc, append-nil, arith}
-use Rattle.std.specs.Io.KnownBytes.{Consumes, IsAtEnd}
+use Rattle.std.proofs.Common.{◌≡◌, inr, ℕ, ◌+◌, ◌-◌, ◌≤◌, true, List, [], ◌∷◌, ◌++◌, Option, Some, None, is_some, length, length-append, length-drop, take, drop, refl, sym, ap, ap₂, subst, ◌∙◌, append_assoc, append-nil, arith}
+use Rattle.std.specs.Io.KnownBytes.{Consumes}
 use Rattle.std.proofs.Math.Seq.{drop-append_seam}
 use Rattle.std.proofs.lemmas.List.{drop-drop, drop-take, length-take-le}
 use Rattle.mimic_printer.specs.Json.{Entry}
-use Rattle.mimic_events.specs.declared.follower.Follower.{Follower}
 use Rattle.mimic_events.specs.declared.report.Row.{Row}
 use Rattle.mimic_events.specs.Contents.{entry_read}
 use Rattle.mimic_events.specs.Reading.{Decodes}
 use Rattle.mimic_events.specs.SoFar.{IsFirstWrong}
 use Rattle.mimic_events.specs.Follower.{FollowsOn, FollowsRow, HasFollowed}
-use Rattle.mimic_input.proofs.ReadBytes.{read_more}
 use Rattle.mimic_input.specs.declared.rows.InputRows.{InputRows}
 use Rattle.mimic_input.specs.RowByRow.{HasCome, HasEnded, IsReady, pending}
 
@@ -55,8 +53,7 @@ module _ {I : Type 0} (remaining : I → Option (List ℕ)) where
       record {
         bytes = h.bytes ++ f.front;
         followed = f.followed h.bytes entries h.followed;
-        gone = subst (λ (x : I). Consumes start (remaining x) ((h.bytes ++ f.front) ++ pending remaining new)) (sym input)
-            (subst (Consumes start (remaining old.input)) (ap (λ (l : List ℕ). h.bytes ++ l) parts ∙ sym (append_assoc h.bytes f.front left) ∙ ap (λ (l : List ℕ). (h.bytes ++ f.front) ++ l) (sym behind)) h.gone);
+        gone = rw (input, behind, append_assoc h.bytes f.front left, ← parts) h.gone;
       }
 
   -- all that was read was followed
@@ -70,41 +67,11 @@ module _ {I : Type 0} (remaining : I → Option (List ℕ)) where
       let empty : pending remaining new ≡ [] = ap (λ (i : ℕ). take i (drop new.from new.piece.items)) none in (
         record {
           bytes = h.bytes ++ pending remaining old;
-          followed = subst (λ (b : List ℕ). HasFollowed new.follower (h.bytes ++ b) entries) all
-              (subst (HasFollowed new.follower (h.bytes ++ take (old.to - old.from) (drop old.from items))) (append-nil entries) (f h.bytes entries h.followed));
-          gone = subst (λ (x : I). Consumes start (remaining x) ((h.bytes ++ pending remaining old) ++ pending remaining new)) (sym input)
-              (subst (Consumes start (remaining old.input)) (sym (append-nil (h.bytes ++ pending remaining old)) ∙ ap (λ (l : List ℕ). (h.bytes ++ pending remaining old) ++ l) (sym empty)) h.gone);
+          followed = rw (append-nil entries, all) at (f h.bytes entries h.followed);
+          gone = rw (input, empty, append-nil (h.bytes ++ pending remaining old)) h.gone;
         },
         empty,
       )
-
-  -- a piece was read, of so many bytes
-  pub piece_read : (start : Option (List ℕ)) (old new : InputRows I) (middle : I) (buf : List ℕ) (count : ℕ) (entries : List Entry)
-      → new.follower ≡ old.follower → Consumes (remaining old.input) (remaining middle) [] → Consumes (remaining middle) (remaining new.input) (take count buf)
-      → new.piece.items ≡ buf → new.from ≡ 0 → new.to ≡ count
-      → HasCome remaining start old entries → pending remaining old ≡ [] → HasCome remaining start new entries
-  piece_read start old new middle buf count entries same kept taken is from to h none =
-      let none_less : count - 0 ≡ count = omega arith in
-      let shown : pending remaining new ≡ take count buf = ap₂ (λ (i j : ℕ). take (i - j) (drop j new.piece.items)) to from ∙ ap (λ (i : ℕ). take i new.piece.items) none_less ∙ ap (take count) is in
-      let before : Consumes start (remaining old.input) h.bytes = subst (Consumes start (remaining old.input)) (ap (λ (l : List ℕ). h.bytes ++ l) none ∙ append-nil h.bytes) h.gone in
-      record {
-        bytes = h.bytes;
-        followed = subst (λ (f : Follower). HasFollowed f h.bytes entries) (sym same) h.followed;
-        gone = subst (λ (l : List ℕ). Consumes start (remaining new.input) (h.bytes ++ l)) (sym shown)
-            (read_more start (remaining middle) (remaining new.input) h.bytes (take count buf)
-            (subst (Consumes start (remaining middle)) (append-nil h.bytes) (read_more start (remaining old.input) (remaining middle) h.bytes [] before kept)) taken);
-      }
-
-  -- nothing more comes
-  pub at_end : (start : Option (List ℕ)) (r : InputRows I) (entries : List Entry) → IsAtEnd (remaining r.input) → r.from ≡ r.to → HasCome remaining start r entries → HasEnded remaining start r entries
-  at_end start r entries end same h =
-      let none : r.to - r.from ≡ 0 = omega (arith, same) in
-      record {
-        bytes = h.bytes;
-        followed = h.followed;
-        gone = subst (Consumes start (remaining r.input)) (ap (λ (i : ℕ). h.bytes ++ take i (drop r.from r.piece.items)) none ∙ append-nil h.bytes) h.gone;
-        last = inl end;
-      }
 
   -- a line is wrong
   pub at_wrong : (start : Option (List ℕ)) (r : InputRows I) (entries : List Entry) (found : Option ℕ) → is_some found ≡ true

@@ -13,6 +13,7 @@ use std::io::Read;
 /// ended.
 ///
 /// A read that was interrupted is tried again. Behind a piece with a wrong line nothing more is read.
+#[tactic(auto, using(crate::proofs::ReadBytes::cut_in, crate::proofs::ReadBytes::wrong_in))]
 pub fn read_from<I: Read>(alloc: Global, input: &mut I) -> Result<Report, ReadFault>
     ensures { MatchResult result (IsReportIn (I.remaining input.old))
         (GivesNone (I.remaining input.old)) }

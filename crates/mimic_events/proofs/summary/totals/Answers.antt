@@ -1,20 +1,12 @@
-use Rattle.std.proofs.Common.{◌++◌, arith}
-use Rattle.mimic_printer.specs.Json.{json_end, time_key}
+use Rattle.std.proofs.Common.{◌++◌}
+use Rattle.mimic_printer.specs.Json.{json_end}
 use Rattle.mimic_text.specs.Seconds.{exact_seconds}
-use Rattle.mimic_events.proofs.Summaries.{behind_number, behind_key, is_time, totals_found}
+use Rattle.mimic_events.proofs.Summaries.{behind_number, is_time, totals_found}
 use Rattle.mimic_events.proofs.summary.totals.Goals as goal
-
-pub returns-in_err-filtered_out : goal.returns-in_err-filtered_out
-returns-in_err-filtered_out c = rw c.from_residual.ensures (λ v h. c.in_err-filtered_out.ensures v.0 (time_key ++ (exact_seconds v.1 ++ json_end)) h.0 (λ a b. omega arith) h.2)
 
 pub returns-in_err-rest : goal.returns-in_err-rest
 returns-in_err-rest c = rw c.from_residual-in_err-rest.ensures (λ v h.
     c.in_err-rest.ensures (exact_seconds v.1 ++ json_end) (behind_number c.args.rest.now c.in_ok-filtered_out.rest.now c.in_ok-filtered_out.filtered_out v c.in_ok-filtered_out.ensures h).1)
-
-pub returns-in_err-before : goal.returns-in_err-before
-returns-in_err-before c = rw c.from_residual-in_err-before.ensures (λ v h.
-    c.in_err-before.ensures (exact_seconds v.1)
-    (behind_key c.args.rest.now c.in_ok-filtered_out.rest.now c.in_ok-rest.rest.now c.in_ok-filtered_out.filtered_out v c.in_ok-filtered_out.ensures c.in_ok-rest.ensures h))
 
 pub returns-in_err-nanos : goal.returns-in_err-nanos
 returns-in_err-nanos c = rw c.from_residual-in_err-nanos.ensures (λ v h.

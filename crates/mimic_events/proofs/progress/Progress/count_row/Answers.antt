@@ -2,7 +2,8 @@ use Rattle.std.proofs.Common.{◌<◌, [], ◌∷◌, length, ap, refl, arith}
 use Rattle.std.proofs.lemmas.List.{length-append}
 use Rattle.mimic_printer.specs.Json.{Entry}
 use Rattle.mimic_events.specs.Progress.{next_of, outcome_next, state_with}
-use Rattle.mimic_events.proofs.PlainRows.{announces_one, ends_one, word_fits}
+use Rattle.mimic_events.proofs.EndedLines.{word_parts}
+use Rattle.mimic_events.proofs.PlainRows.{announces_one, ends_one}
 use Rattle.mimic_events.proofs.States.{takes_announcement, takes_outcome}
 use Rattle.mimic_events.proofs.Summaries.{counts_more}
 use Rattle.mimic_events.proofs.progress.Progress.count_row.Goals as goal
@@ -14,7 +15,7 @@ returns c =
     let one : Entry = record { label = row.label; outcome = c.in_ok-outcome.outcome } in
     record {
       entry = one;
-      fits = record { label = row.fits; outcome = word_fits c.in_ok-outcome.outcome row.word };
+      fits = record { label = row.fits; outcome = (word_parts c.in_ok-outcome.outcome row.word).1 };
       parts = row.parts;
       counted = λ entries h. rw c.count.ensures (omega (arith, h.0, length-append entries (one ∷ [])), counts_more entries old.counts one h.1);
       announced = λ entries h.

@@ -1,4 +1,4 @@
-use Rattle.std.proofs.Common.{◌<◌, ◌≤◌, [], ◌∷◌, length, ap, arith}
+use Rattle.std.proofs.Common.{◌<◌, ◌≤◌, [], ◌∷◌, append-nil, length, ap, arith}
 use Rattle.std.proofs.lemmas.List.{length-append}
 use Rattle.mimic_printer.specs.Json.{Entry}
 use Rattle.mimic_events.specs.Contents.{label_read}
@@ -11,14 +11,16 @@ use Rattle.mimic_events.proofs.progress.Progress.take_line.Goals.{in-Title+in-So
 pub returns : goal.returns
 returns c = λ entries h. elim c.match-self.branch [
   | in-Title+in-Some w ↦
-      rw (w.row-is, w.self-is) (h, takes_title (state_with c.args.self.now entries) c.args.line.now w.in-Some.count (ap next_of w.in-Title.is) w.in-Some.ensures)
+      rw (w.row-is, w.self-is, append-nil entries)
+      (h, takes_title (state_with c.args.self.now entries) c.args.line.now w.in-Some.count (ap next_of w.in-Title.is) w.in-Some.ensures)
   | in-Row+in_ok-label-in-Row+in-Some-2 w ↦
       let less : length entries < c.args.self.now.announced = omega (arith, h.0, w.if-self.true) in
       let label = rw w.in-Some-2.is at w.in_ok-label-in-Row.ensures in
-      rw (w.row-is, w.self-is) (h, takes_announcement (state_with c.args.self.now entries) c.args.line.now (label_read w.in-Some-2.label) (ap next_of w.in-Row.is) less label)
+      rw (w.row-is, w.self-is, append-nil entries)
+      (h, takes_announcement (state_with c.args.self.now entries) c.args.line.now (label_read w.in-Some-2.label) (ap next_of w.in-Row.is) less label)
   | in-Row-2+in-Some-summed w ↦
       let all : c.args.self.now.announced ≤ length entries = omega (arith, h.0, w.if-self.false) in
-      rw (w.row-is, w.self-is) (
+      rw (w.row-is, w.self-is, append-nil entries) (
         h,
         takes_summary (state_with c.args.self.now entries) c.args.line.now (w.in-Some-summed.filtered_out, w.in-Some-summed.nanos) (ap next_of w.in-Row-2.is) all
             (w.in-Some-summed.ensures entries h.1),

@@ -2,9 +2,6 @@ use Rattle.std.proofs.Common.{refl}
 use Rattle.mimic_input.proofs.RowSteps.{none_came, row_came}
 use Rattle.mimic_input.proofs.rows.InputRows.follow.Goals as goal
 
-pub slice_bounds-next_row-count : goal.slice_bounds-next_row-count
-slice_bounds-next_row-count g c = c.requires.order
-
 pub returns-in-Some-clause-rows : goal.returns-in-Some-clause-rows
 returns-in-Some-clause-rows g c = λ start entries h.
     row_came g.I.Read.remaining start c.args.self.now _ c.deref.result.now c.in-Some.left.now entries c.in-Some.row c.requires

@@ -1,7 +1,0 @@
-use Rattle.mimic_events.specs.Progress.{state_with}
-use Rattle.mimic_events.proofs.SoFar.{finds_running}
-use Rattle.mimic_events.proofs.row_reader.RowReader.running.Goals as goal
-
-pub returns : goal.returns
-returns c = λ entries sound.
-    rw c.running.ensures (finds_running (state_with c.args.self.now.progress entries) c.args.self.now.rest.items c.args.self.now.stuck sound.known)
