@@ -1,5 +1,5 @@
 -- Rows that are judged one after another.
-use Rattle.std.proofs.Common.{◌≡◌, ◌||◌, ℕ, suc, ◌+◌, ◌-◌, ◌<◌, ◌^◌, Bool, true, false, cond, not, List, [], ◌∷◌, ◌++◌, length, length-append, map, Option, None, Some, IfSome, Result, Ok, Err, refl, sym, ap, ap₂, subst, ◌∙◌, append_assoc, append-nil, arith, inl, inr}
+use Rattle.std.proofs.Common.{◌≡◌, ◌||◌, ℕ, ◌+◌, ◌-◌, ◌<◌, ◌^◌, Bool, true, false, not, List, [], ◌∷◌, ◌++◌, length, length-append, map, Option, None, Some, IfSome, Result, Ok, Err, refl, sym, ap, ap₂, subst, ◌∙◌, append_assoc, append-nil, arith, inl, inr}
 use Rattle.std.specs.Prelude.{MatchResult, filter}
 use Rattle.std.specs.List.{AllZip, flat_map, list_any}
 use Rattle.std.specs.Result.{IsErrAnd}
@@ -21,7 +21,7 @@ use Rattle.mimic_events.proofs.Keys.{same_label-symm}
 use Rattle.mimic_events.specs.Feed.{AreEnded}
 use Rattle.mimic_input.specs.RowByRow.{HasCome, pending}
 use Rattle.mimic_input.specs.declared.rows.InputRows.{InputRows}
-use Rattle.mimic_expect.specs.Expect.{FailedRow, is_known, known_rows, rows_with, unknown_failures}
+use Rattle.mimic_expect.specs.Expect.{FailedRow, is_known, rows_with, unknown_failures}
 use Rattle.mimic_expect.specs.FindingText.{finding_text}
 use Rattle.mimic_expect.specs.Judge.{Judged, Judges, labels_known}
 use Rattle.mimic_expect.specs.Known.{Expected, expected_read}
@@ -49,12 +49,9 @@ judges_then a b c xs ys m n s t u p q =
     let both = unknown-append a.known xs ys in
     record {
       known = q.known ∙ p.known;
-      kept = q.kept ∙ (ap₂ (λ (l : List Entry) (k : List Expected). l ++ known_rows k ys) p.kept p.known
-          ∙ (append_assoc a.rows (known_rows a.known xs) (known_rows a.known ys) ∙ ap (λ (l : List Entry). a.rows ++ l) (sym (filter-append (is_known a.known) xs ys))));
-      counted = ap₂ (λ (i j : ℕ). i + j) p.counted (q.counted ∙ ap (λ (k : List Expected). length (unknown_failures k ys)) p.known)
-          ∙ (sym (length-append (unknown_failures a.known xs) (unknown_failures a.known ys)) ∙ ap length (sym both));
-      put = subst (Put s u) (sym (ap lines both ∙ lines-append (unknown_failures a.known xs) (unknown_failures a.known ys)))
-          (Put-trans _ _ p.put (subst (λ (k : List Expected). Put t u (lines (unknown_failures k ys))) p.known q.put));
+      kept = rw (q.kept, p.kept, p.known, filter-append (is_known a.known) xs ys) (append_assoc a.rows _ _);
+      counted = rw (p.counted, q.counted, p.known, both, length-append) refl;
+      put = rw (both, lines-append) (Put-trans _ _ p.put (rw p.known at q.put));
     }
 
 -- ---- one row
@@ -67,57 +64,16 @@ module _ (known : List Expected) (rows : List Entry) (row : Entry) where
   abbrev now : Judged
   now = record { known = known; rows = rows }
 
-  abbrev kept_if : Bool → List Entry
-  kept_if b = cond b (row ∷ []) []
-
-  abbrev failed_if : Bool → Bool → List Entry
-  failed_if b f = cond b (cond f (row ∷ []) []) []
-
-  kept : is_known known row ≡ true → known_rows known (row ∷ []) ≡ row ∷ []
-  kept e = ap (λ (b : Bool). cond b (row ∷ []) []) e
-
-  dropped : is_known known row ≡ false → known_rows known (row ∷ []) ≡ []
-  dropped e = ap (λ (b : Bool). cond b (row ∷ []) []) e
-
-  none_lacks : is_known known row ≡ true → unknown_failures known (row ∷ []) ≡ []
-  none_lacks e = ap (λ (b : Bool). rows_with is_failed (cond (not b) (row ∷ []) [])) e
-
-  fails_if : (f : Bool) → is_known known row ≡ false → is_failed row.outcome ≡ f → unknown_failures known (row ∷ []) ≡ cond f (row ∷ []) []
-  fails_if f e is = ap (λ (b : Bool). rows_with is_failed (cond (not b) (row ∷ []) [])) e ∙ ap (λ (b : Bool). cond b (row ∷ []) []) is
-
   pub judges_known : (s : Shown) → is_known known row ≡ true → Judges now (record { known = known; rows = rows ++ row ∷ [] }) (row ∷ []) 0 s s
-  judges_known s e = record {
-    known = refl;
-    kept = ap (λ (l : List Entry). rows ++ l) (sym (kept e));
-    counted = ap length (sym (none_lacks e));
-    put = subst (λ (l : List Entry). Put s s (lines l)) (sym (none_lacks e)) (Put-refl s);
-  }
+  judges_known s e = record { known = refl; kept = rw e refl; counted = rw e refl; put = rw e (Put-refl s) }
 
   pub judges_other : (s : Shown) → is_known known row ≡ false → is_failed row.outcome ≡ false → Judges now now (row ∷ []) 0 s s
-  judges_other s e is = record {
-    known = refl;
-    kept = sym (append-nil rows) ∙ ap (λ (l : List Entry). rows ++ l) (sym (dropped e));
-    counted = ap length (sym (fails_if false e is));
-    put = subst (λ (l : List Entry). Put s s (lines l)) (sym (fails_if false e is)) (Put-refl s);
-  }
+  judges_other s e is = record { known = refl; kept = rw e (sym (append-nil rows)); counted = rw (e, is) refl; put = rw (e, is) (Put-refl s) }
 
   pub judges_failed : (s t : Shown) → is_known known row ≡ false → is_failed row.outcome ≡ true → Put s t (finding_text (FailedRow row)) → Judges now now (row ∷ []) 1 s t
-  judges_failed s t e is p = record {
-    known = refl;
-    kept = sym (append-nil rows) ∙ ap (λ (l : List Entry). rows ++ l) (sym (dropped e));
-    counted = ap length (sym (fails_if true e is));
-    put = subst (λ (l : List Entry). Put s t (lines l)) (sym (fails_if true e is)) (subst (Put s t) (sym (append-nil (finding_text (FailedRow row)))) p);
-  }
+  judges_failed s t e is p = record { known = refl; kept = rw e (sym (append-nil rows)); counted = rw (e, is) refl; put = rw (e, is) (rw append-nil p) }
 
 -- ---- how many
-
-pub counted_one : (old new : ℕ) (b : Bool) → b ≡ true → new ≡ old + 1 → new ≡ old + cond b 1 0
-counted_one old new b is e = e ∙ sym (ap (λ (c : Bool). old + cond c 1 0) is)
-
-pub counted_none : (old new : ℕ) (b : Bool) → b ≡ false → new ≡ old → new ≡ old + cond b 1 0
-counted_none old new b is e =
-    let none : cond b (suc 0) 0 ≡ 0 = ap (λ (c : Bool). cond c (suc 0) 0) is in
-    omega (arith, none, e)
 
 nil_not_push : {X : Type 0} (xs : List X) (x : X) → xs ++ x ∷ [] ≡ [] → ⊥
 nil_not_push [] x e = absurd (cc)
@@ -153,11 +109,7 @@ rows_before remaining (Some all) r entries h = at (remaining r.input) h.gone
 pub row_kept : (self : Judged) (known : List Expectation) (rows new : List Row) (row : Row) (s : Shown) → self ≡ record { known = map expected_read known; rows = map entry_read rows }
     → is_known (map expected_read known) (entry_read row) ≡ true → new ≡ rows ++ row ∷ [] → Judges self (record { known = map expected_read known; rows = map entry_read new }) (entry_read row ∷ []) 0 s s
 row_kept self known rows new row s e has news =
-    let all = map expected_read known in
-    let kept = judges_known all (map entry_read rows) (entry_read row) s has in
-    subst (λ (j : Judged). Judges j (record { known = all; rows = map entry_read new }) (entry_read row ∷ []) 0 s s) (sym e)
-    (subst (λ (l : List Entry). Judges (record { known = all; rows = map entry_read rows }) (record { known = all; rows = l }) (entry_read row ∷ []) 0 s s)
-    (sym (ap (map entry_read) news ∙ map-append entry_read rows (row ∷ []))) kept)
+    rw (e, news, map-append entry_read rows (row ∷ [])) (judges_known (map expected_read known) (map entry_read rows) (entry_read row) s has)
 
 not_failed : (o : Outcome) → ((m : Option (List ℕ)) → o ≡ Failed m → ⊥) → is_failed o ≡ false
 not_failed Passed h = refl
@@ -167,15 +119,11 @@ not_failed (Measured m) h = refl
 
 pub row_passed : (self : Judged) (known : List Expectation) (rows : List Row) (row : Row) (s : Shown) → self ≡ record { known = map expected_read known; rows = map entry_read rows }
     → is_known (map expected_read known) (entry_read row) ≡ false → ((m : Option (List ℕ)) → row.outcome ≡ Failed m → ⊥) → Judges self self (entry_read row ∷ []) 0 s s
-row_passed self known rows row s e has h =
-    subst (λ (j : Judged). Judges j j (entry_read row ∷ []) 0 s s) (sym e)
-    (judges_other (map expected_read known) (map entry_read rows) (entry_read row) s has (not_failed row.outcome h))
+row_passed self known rows row s e has h = rw e (judges_other (map expected_read known) (map entry_read rows) (entry_read row) s has (not_failed row.outcome h))
 
 pub row_failed : (self : Judged) (known : List Expectation) (rows : List Row) (row : Row) (m : Option (List ℕ)) (s t : Shown) → self ≡ record { known = map expected_read known; rows = map entry_read rows }
     → is_known (map expected_read known) (entry_read row) ≡ false → row.outcome ≡ Failed m → Put s t (finding_text (FailedRow (entry_read row))) → Judges self self (entry_read row ∷ []) 1 s t
-row_failed self known rows row m s t e has is p =
-    subst (λ (j : Judged). Judges j j (entry_read row ∷ []) 1 s t) (sym e)
-    (judges_failed (map expected_read known) (map entry_read rows) (entry_read row) s t has (ap is_failed is) p)
+row_failed self known rows row m s t e has is p = rw e (judges_failed (map expected_read known) (map entry_read rows) (entry_read row) s t has (ap is_failed is) p)
 
 -- ---- faults
 
@@ -198,6 +146,4 @@ each_more R (a ∷ xs) (b ∷ ys) x y h r = (h.0, each_more R xs ys x y h.1 r)
 pub input_judged : (a b c : Judged) (read : List InputRead) (next : InputRead) (m n k : ℕ) (s t u : Shown) → Judges a b (rows_of read) m s t → Judges b c next.entries n t u → k ≡ n
     → Judges a c (rows_of (read ++ next ∷ [])) (m + k) s u
 input_judged a b c read next m n k s t u p q e =
-    let rows : rows_of (read ++ next ∷ []) ≡ rows_of read ++ next.entries =
-    flat_map-append (λ (r : InputRead). r.entries) read (next ∷ []) ∙ ap (λ (l : List Entry). rows_of read ++ l) (append-nil next.entries) in
-    subst (λ (l : List Entry). Judges a c l (m + k) s u) (sym rows) (subst (λ (i : ℕ). Judges a c (rows_of read ++ next.entries) (m + i) s u) (sym e) (judges_then a b c (rows_of read) next.entries m n s t u p q))
+    rw (e, flat_map-append (λ (r : InputRead). r.entries) read (next ∷ []), append-nil next.entries) (judges_then a b c (rows_of read) next.entries m n s t u p q)

@@ -29,8 +29,10 @@ no_end : (bytes : List ℕ) → HasNoEnd bytes → AllByRecursion (λ b. (b == 1
 no_end [] h = tt
 no_end (b ∷ bytes) h = (let ne : b ≢ 10 = h.0 in grind (arith, nat_tests), no_end bytes h.1)
 
-first_off : (front after : List ℕ) → HasNoEnd front → lines_of (front ++ 10 ∷ after) ≡ front ∷ lines_of after
-first_off front after h = slice_split_at (λ b. b == 10) front 10 after (each (λ b. (b == 10) ≡ false) front (no_end front h)) refl
+pub line_off : (rest line after : List ℕ) → rest ≡ line ++ after → (l : IsLine line) → lines_of rest ≡ l.front ∷ lines_of after
+line_off rest line after e l =
+    rw (e, l.parts, append_assoc l.front (10 ∷ []) after)
+    (slice_split_at (λ b. b == 10) l.front 10 after (each (λ b. (b == 10) ≡ false) l.front (no_end l.front l.whole)) refl)
 
 pub one_line : (rest : List ℕ) → HasNoEnd rest → lines_of rest ≡ rest ∷ []
 one_line rest h = slice_split_none (λ b. b == 10) rest (each (λ b. (b == 10) ≡ false) rest (no_end rest h))
@@ -115,11 +117,9 @@ says_one number line old new h =
 pub read_more : (text rest line after : List ℕ) (number : ℕ) (old new : List Expected) → Reading text rest number old → rest ≡ line ++ after → (l : IsLine line) → AddsLine number l.front old new
     → Reading text after (number + 1) new
 read_more text rest line after number old new r e l adds =
-    let off : lines_of rest ≡ l.front ∷ lines_of after =
-    ap lines_of (e ∙ (ap (λ (x : List ℕ). x ++ after) l.parts ∙ append_assoc l.front (10 ∷ []) after)) ∙ first_off l.front after l.whole in
     record {
       before = r.before ++ l.front ∷ [];
-      parts = r.parts ∙ (ap (λ (x : List (List ℕ)). r.before ++ x) off ∙ sym (append_assoc r.before (l.front ∷ []) (lines_of after)));
+      parts = r.parts ∙ (ap (λ (x : List (List ℕ)). r.before ++ x) (line_off rest line after e l) ∙ sym (append_assoc r.before (l.front ∷ []) (lines_of after)));
       place = omega (arith, r.place, length-append {A = List ℕ});
       readable = all_more IsReadable r.before l.front r.readable (reads number l.front old new adds);
       one = all_more SaysOne r.before l.front r.one (says_one number l.front old new adds);
@@ -136,28 +136,16 @@ read_last text rest number old new r whole adds =
       λ other h. say_one 1 (r.before ++ rest ∷ []) one new other says (subst (λ (x : List (List ℕ)). SayFrom 1 x other) parts h),
     )
 
--- a line was not read
-pub unread_line : (text rest line after : List ℕ) (number : ℕ) (old : List Expected) → Reading text rest number old → rest ≡ line ++ after → (l : IsLine line) → (IsReadable l.front → ⊥)
-    → IsFirstUnreadable text number
-unread_line text rest line after number old r e l wrong =
-    let off : lines_of rest ≡ l.front ∷ lines_of after =
-    ap lines_of (e ∙ (ap (λ (x : List ℕ). x ++ after) l.parts ∙ append_assoc l.front (10 ∷ []) after)) ∙ first_off l.front after l.whole in
-    record { before = r.before; line = l.front; after = lines_of after; parts = r.parts ∙ ap (λ (x : List (List ℕ)). r.before ++ x) off; place = r.place; readable = r.readable; wrong = wrong }
-
-pub unread_last : (text rest : List ℕ) (number : ℕ) (old : List Expected) → Reading text rest number old → HasNoEnd rest → (IsReadable rest → ⊥) → IsFirstUnreadable text number
-unread_last text rest number old r whole wrong =
-    record { before = r.before; line = rest; after = []; parts = r.parts ∙ ap (λ (x : List (List ℕ)). r.before ++ x) (one_line rest whole); place = r.place; readable = r.readable; wrong = wrong }
-
 -- ---- faults
 
-pub wrong_line : (text rest line after : List ℕ) (number : ℕ) (old : List Expected) (fault : KnownFault) → Reading text rest number old → rest ≡ line ++ after → (l : IsLine line)
-    → CannotAdd number l.front fault → CannotSay text fault
-wrong_line text rest line after number old OutOfMemory r e l wrong = tt
-wrong_line text rest line after number old (Line n) r e l wrong = subst (IsFirstUnreadable text) (sym wrong.0) (unread_line text rest line after number old r e l wrong.1)
-
-pub wrong_last : (text rest : List ℕ) (number : ℕ) (old : List Expected) (fault : KnownFault) → Reading text rest number old → HasNoEnd rest → CannotAdd number rest fault → CannotSay text fault
-wrong_last text rest number old OutOfMemory r whole wrong = tt
-wrong_last text rest number old (Line n) r whole wrong = subst (IsFirstUnreadable text) (sym wrong.0) (unread_last text rest number old r whole wrong.1)
+-- a line was not read
+pub wrong : (text rest front : List ℕ) (more : List (List ℕ)) (number : ℕ) (old : List Expected) (fault : KnownFault) → Reading text rest number old
+    → lines_of rest ≡ front ∷ more → CannotAdd number front fault → CannotSay text fault
+wrong text rest front more number old OutOfMemory r off w = tt
+wrong text rest front more number old (Line n) r off w =
+    let parts = r.parts ∙ ap (λ (x : List (List ℕ)). r.before ++ x) off in
+    subst (IsFirstUnreadable text) (sym w.0)
+    (record { before = r.before; line = front; after = more; parts = parts; place = r.place; readable = r.readable; wrong = w.1 })
 
 pub on_error : {T E : Type 0} (r : Result T E) (error : E) (P : T → Type 0) (Q : E → Type 0) → IsErrAnd r (λ e. e ≡ error) → Q error → MatchResult r P Q
 on_error (Ok x) error P Q e q = absurd e

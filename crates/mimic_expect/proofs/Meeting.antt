@@ -1,106 +1,85 @@
--- What failures meet.
-use Rattle.std.proofs.Common.{◌≡◌, ℕ, ◌+◌, ◌<◌, Bool, true, false, cond, List, [], ◌∷◌, ◌++◌, length, map, get_or, refl, sym, ap, ap₂, ◌∙◌, append_assoc, append-nil, arith, drop, drop-cons, take, suc}
-use Rattle.std.proofs.lemmas.List.{get_or-map, map-append, take_more}
-use Rattle.mimic_events.specs.Contents.{entry_read}
-use Rattle.mimic_events.specs.declared.report.Row.{Row}
-use Rattle.mimic_expect.specs.Judging.{entries_read}
-use Rattle.mimic_expect.specs.Known.{Expected, expected_read}
-use Rattle.mimic_expect.specs.declared.known.Expectation.{Expectation}
-use denote.Ref.{Bor}
-use Rattle.std.specs.Prelude.{Option, None, Some}
+-- What failures meet, and the rows that answer lines.
+use Rattle.std.proofs.Common.{◌≡◌, ℕ, ◌+◌, ◌<◌, Bool, true, false, cond, List, [], ◌∷◌, ◌++◌, get_or, length, map, take, refl, sym, ap, ◌∙◌, arith}
+use Rattle.std.specs.Prelude.{Option, None, Some, option_map}
 use Rattle.std.specs.Map.{lookup, remove_entry}
-use Rattle.std.specs.Option.{is_some, option_or}
+use Rattle.std.specs.Option.{is_some}
+use Rattle.std.proofs.lemmas.List.{map_more}
+use Rattle.std.proofs.lemmas.Simd.{map-map}
+use Rattle.std.proofs.lemmas.Map.Made.{lookup-map_values}
 use Rattle.mimic_printer.specs.Json.{Entry}
 use Rattle.mimic_events.specs.Key.{Key, any_in, key_in, same_key}
-use Rattle.mimic_expect.specs.Expect.{meets, unmet_by, without}
+use Rattle.mimic_expect.specs.Expect.{answers, left_by, meets, unanswered, unmet_by, without}
+use Rattle.mimic_expect.specs.Known.{Expected}
 
 module _ {X : Type 0} where
   pub keeps : (test : Key → Bool) (left : List (Key × X)) → lookup test left ≡ None → remove_entry test left ≡ left
   keeps test [] e = refl
-  keeps test (x ∷ left) e = at (test x.0) (keeps test left) e
+  keeps test (x ∷ left) e = grind (arith, keeps test left, e)
+
+  -- ---- one more failure
+
+  pub left_by-more : (left : List (Key × X)) (rows : List Entry) (row : Entry) → left_by left (rows ++ row ∷ []) ≡ without (left_by left rows) row
+  left_by-more left [] row = refl
+  left_by-more left (r ∷ rows) row = left_by-more (without left r) rows row
+
+  pub unmet_by-more : (left : List (Key × X)) (rows : List Entry) (row : Entry)
+      → unmet_by left (rows ++ row ∷ []) ≡ unmet_by left rows ++ cond (is_some (meets (left_by left rows) row)) [] (row ∷ [])
+  unmet_by-more left [] row = refl
+  unmet_by-more left (r ∷ rows) row = grind (arith, unmet_by-more (without left r) rows row)
+
+  -- ---- one more line
+
+  pub unanswered-more : (rows : List (Key × X)) (lines : List Expected) (e : Expected)
+      → unanswered rows (lines ++ e ∷ []) ≡ remove_entry (same_key (any_in e.entry)) (unanswered rows lines)
+  unanswered-more rows [] e = refl
+  unanswered-more rows (l ∷ lines) e = unanswered-more (remove_entry (same_key (any_in l.entry)) rows) lines e
+
+  pub answers-more : (rows : List (Key × X)) (lines : List Expected) (e : Expected)
+      → answers rows (lines ++ e ∷ []) ≡ answers rows lines ++ (e, lookup (same_key (any_in e.entry)) (unanswered rows lines)) ∷ []
+  answers-more rows [] e = refl
+  answers-more rows (l ∷ lines) e = rw (answers-more (remove_entry (same_key (any_in l.entry)) rows) lines e) refl
+
+-- ---- items as they read
+
+module _ {X Y : Type 0} (read : X → Y) where
+  abbrev over : List (Key × X) → List (Key × Y)
+  over items = map (λ (x : Key × X). (x.0, read x.1)) items
+
+  pub removed-over : (test : Key → Bool) (items : List (Key × X)) → over (remove_entry test items) ≡ remove_entry test (over items)
+  removed-over test [] = refl
+  removed-over test (x ∷ items) = grind (arith, removed-over test items)
+
+  pub read_left : (items : List (Key × X)) → map read (map (λ (x : Key × X). x.1) items) ≡ map (λ (x : Key × Y). x.1) (over items)
+  read_left items = simp map-map
+
+  pub one_more : (xs : List X) (i : ℕ) (x : X) → i < length xs → x ≡ get_or xs i x → map read (take (i + 1) xs) ≡ map read (take i xs) ++ read x ∷ []
+  one_more xs i x lt is = map_more read xs i x lt ∙ ap (λ (y : X). map read (take i xs) ++ read y ∷ []) (sym is)
+
+  abbrev own : Entry → Key → Bool
+  own row = same_key (key_in row)
+
+  abbrev any : Entry → Key → Bool
+  any row = same_key (any_in row)
+
+  -- the first one of the message is there
+  pub meet_then : (left new : List (Key × X)) (row : Entry) (r : Option X) → r ≡ lookup (own row) left → new ≡ remove_entry (own row) left → is_some r ≡ true
+      → (true ≡ is_some (meets (over left) row)) × (over new ≡ without (over left) row)
+  meet_then left new row r found news some = at r (lookup-map_values read (own row) left ∙ ap (option_map read) (sym found)) some
     where
-      at : (b : Bool) → (lookup test left ≡ None → remove_entry test left ≡ left) → cond b (Some x.1) (lookup test left) ≡ None → cond b left (x ∷ remove_entry test left) ≡ x ∷ left
-      at true rest e = absurd (cc)
-      at false rest e = ap (λ (l : List (Key × X)). x ∷ l) (rest e)
+      at : (o : Option X) → lookup (own row) (over left) ≡ option_map read o → is_some o ≡ true
+          → (true ≡ is_some (meets (over left) row)) × (over new ≡ without (over left) row)
+      at None e some = absurd (cc)
+      at (Some x) e some = rw e (refl, ap over news ∙ removed-over (own row) left)
 
-  abbrev own : List (Key × X) → Entry → Option X
-  own left row = lookup (same_key (key_in row)) left
-
-  abbrev any : List (Key × X) → Entry → Option X
-  any left row = lookup (same_key (any_in row)) left
-
-  pub met_own : (left : List (Key × X)) (row : Entry) → is_some (own left row) ≡ true → (is_some (meets left row) ≡ true) × (without left row ≡ remove_entry (same_key (key_in row)) left)
-  met_own left row e = at (own left row) e
+  -- it is not there
+  pub meet_else : (left then new : List (Key × X)) (row : Entry) (r s : Option X) → r ≡ lookup (own row) left → then ≡ remove_entry (own row) left → is_some r ≡ false
+      → s ≡ lookup (any row) then → new ≡ remove_entry (any row) then → (is_some s ≡ is_some (meets (over left) row)) × (over new ≡ without (over left) row)
+  meet_else left then new row None s found thens none next news =
+      let same : then ≡ left = thens ∙ keeps (own row) left (sym found) in
+      let e : lookup (own row) (over left) ≡ None = lookup-map_values read (own row) left ∙ ap (option_map read) (sym found) in
+      rw (e, lookup-map_values read (any row) left, next, news, same) (is_read (lookup (any row) left), removed-over (any row) left)
     where
-      at : (o : Option X) → is_some o ≡ true → (is_some (option_or o (any left row)) ≡ true)
-          × (cond (is_some o) (remove_entry (same_key (key_in row)) left) (remove_entry (same_key (any_in row)) left) ≡ remove_entry (same_key (key_in row)) left)
-      at None e = absurd (cc)
-      at (Some x) e = (refl, refl)
-
-  pub met_any : (left : List (Key × X)) (row : Entry) → is_some (own left row) ≡ false → (is_some (meets left row) ≡ is_some (any left row)) × (without left row ≡ remove_entry (same_key (any_in row)) left)
-      × (remove_entry (same_key (key_in row)) left ≡ left)
-  met_any left row e = at (own left row) refl e
-    where
-      at : (o : Option X) → own left row ≡ o → is_some o ≡ false → (is_some (option_or o (any left row)) ≡ is_some (any left row))
-          × (cond (is_some o) (remove_entry (same_key (key_in row)) left) (remove_entry (same_key (any_in row)) left) ≡ remove_entry (same_key (any_in row)) left)
-          × (remove_entry (same_key (key_in row)) left ≡ left)
-      at None is e = (refl, refl, keeps (same_key (key_in row)) left is)
-      at (Some x) is e = absurd (cc)
-
-  -- one more failure was looked at
-  pub unmet_step : (left : List (Key × X)) (row : Entry) (rows unmet new : List Entry) (b : Bool) → b ≡ is_some (meets left row) → new ≡ unmet ++ cond b [] (row ∷ [])
-      → new ++ unmet_by (without left row) rows ≡ unmet ++ unmet_by left (row ∷ rows)
-  unmet_step left row rows unmet new b e n = at b e n
-    where
-      at : (b : Bool) → b ≡ is_some (meets left row) → new ≡ unmet ++ cond b [] (row ∷ [])
-          → new ++ unmet_by (without left row) rows ≡ unmet ++ unmet_by left (row ∷ rows)
-      at true e n =
-          ap (λ (l : List Entry). l ++ unmet_by (without left row) rows) n
-          ∙ (append_assoc unmet [] (unmet_by (without left row) rows)
-          ∙ ap (λ (c : Bool). unmet ++ cond c (unmet_by (without left row) rows) (row ∷ unmet_by (without left row) rows)) e)
-      at false e n =
-          ap (λ (l : List Entry). l ++ unmet_by (without left row) rows) n
-          ∙ (append_assoc unmet (row ∷ []) (unmet_by (without left row) rows)
-          ∙ ap (λ (c : Bool). unmet ++ cond c (unmet_by (without left row) rows) (row ∷ unmet_by (without left row) rows)) e)
-
-  pub meet_then : (left : List (Key × X)) (row : Entry) (r : Option X) → r ≡ own left row → is_some r ≡ true
-      → (true ≡ is_some (meets left row)) × (remove_entry (same_key (key_in row)) left ≡ without left row)
-  meet_then left row r found some =
-      let m = met_own left row (ap is_some (sym found) ∙ some) in
-      (sym m.0, sym m.1)
-
-  pub meet_else : (left : List (Key × X)) (row : Entry) (r s : Option X) → r ≡ own left row → is_some r ≡ false → s ≡ any (remove_entry (same_key (key_in row)) left) row
-      → (is_some s ≡ is_some (meets left row)) × (remove_entry (same_key (any_in row)) (remove_entry (same_key (key_in row)) left) ≡ without left row)
-  meet_else left row r s found none next =
-      let m = met_any left row (ap is_some (sym found) ∙ none) in
-      (ap is_some (next ∙ ap (λ (l : List (Key × X)). any l row) m.2) ∙ sym m.0, ap (remove_entry (same_key (any_in row))) m.2 ∙ sym m.1)
-
--- ---- references to rows
-
-pub dropped : (rows : List (Bor Row)) (i : ℕ) (row : Bor Row) → i < length rows → row ≡ get_or rows i row → entries_read (drop i rows) ≡ entry_read row.now ∷ entries_read (drop (i + 1) rows)
-dropped rows i row lt is =
-    let next : suc i ≡ i + 1 = omega arith in
-    ap entries_read (drop-cons rows i row lt) ∙ ap₂ (λ (r : Bor Row) (n : ℕ). entry_read r.now ∷ entries_read (drop n rows)) (sym is) next
-
-pub pushed : (rows : List (Bor Row)) (row : Bor Row) → entries_read (rows ++ row ∷ []) ≡ entries_read rows ++ entry_read row.now ∷ []
-pushed rows row = map-append (λ (r : Bor Row). entry_read r.now) rows (row ∷ [])
-
-pub unmet_pushed : (old new : List (Bor Row)) (row : Bor Row) (b : Bool) → b ≡ false → new ≡ old ++ row ∷ [] → entries_read new ≡ entries_read old ++ cond b [] (entry_read row.now ∷ [])
-unmet_pushed old new row b differs e = (ap entries_read e ∙ pushed old row) ∙ sym (ap (λ (c : Bool). entries_read old ++ cond c [] (entry_read row.now ∷ [])) differs)
-
-pub unmet_kept : (old new : List (Bor Row)) (row : Bor Row) (b : Bool) → b ≡ true → new ≡ old → entries_read new ≡ entries_read old ++ cond b [] (entry_read row.now ∷ [])
-unmet_kept old new row b alike e =
-    (ap entries_read e ∙ sym (append-nil (entries_read old))) ∙ sym (ap (λ (c : Bool). entries_read old ++ cond c [] (entry_read row.now ∷ [])) alike)
-
--- ---- expectations at places
-
-pub places_more : (known : List Expectation) (places : List ℕ) (i : ℕ) (old new : List (Bor Expectation)) (e : Bor Expectation) (d : Expected) → i < length places → get_or places i 0 < length known
-    → e.now ≡ get_or known (get_or places i 0) e.now → new ≡ old ++ e ∷ []
-    → map (λ (x : Bor Expectation). expected_read x.now) old ≡ map (λ place. get_or (map expected_read known) place d) (take i places)
-    → map (λ (x : Bor Expectation). expected_read x.now) new ≡ map (λ place. get_or (map expected_read known) place d) (take (i + 1) places)
-places_more known places i old new e d lt within is news before =
-    let read : Bor Expectation → Expected = λ x. expected_read x.now in
-    let at_place : ℕ → Expected = λ place. get_or (map expected_read known) place d in
-    let here : at_place (get_or places i 0) ≡ expected_read e.now = get_or-map expected_read known (get_or places i 0) e.now d within ∙ ap expected_read (sym is) in
-    (ap (map read) news ∙ (map-append read old (e ∷ []) ∙ ap (λ (l : List Expected). l ++ expected_read e.now ∷ []) before))
-    ∙ sym (ap (map at_place) (take_more places i 0 lt) ∙ (map-append at_place (take i places) (get_or places i 0 ∷ []) ∙ ap (λ (x : Expected). map at_place (take i places) ++ x ∷ []) here))
+      is_read : (o : Option X) → is_some o ≡ is_some (option_map read o)
+      is_read None = refl
+      is_read (Some x) = refl
+  meet_else left then new row (Some x) s found thens none next news = absurd (cc)

@@ -1,9 +1,9 @@
 -- The same findings, whether all rows are judged together or those alone whose kind and name some known failure has.
-use Rattle.std.proofs.Common.{◌≡◌, ◌||◌, Bool, true, false, cond, not, List, [], ◌∷◌, ◌++◌, map, refl, sym, ap, ap₂, subst, ◌∙◌, append_assoc, append-nil}
-use Rattle.std.specs.Prelude.{IsPermutation, Option, None, Some, filter}
+use Rattle.std.proofs.Common.{◌≡◌, ◌||◌, Bool, true, false, not, List, [], ◌∷◌, ◌++◌, map, refl, sym, ap, ap₂, subst, ◌∙◌, append_assoc, append-nil, arith}
+use Rattle.std.specs.Prelude.{IsPermutation, Option, None, filter}
 use Rattle.std.specs.List.{AllByRecursion, flat_map, list_any}
 use Rattle.std.specs.Map.{lookup, remove_entry}
-use Rattle.std.specs.Option.{is_some, option_or}
+use Rattle.std.specs.Option.{option_or}
 use Rattle.std.proofs.lemmas.List.{map-append}
 use Rattle.std.proofs.lemmas.List.Elements.{filter-append}
 use Rattle.std.proofs.lemmas.List.Folds.{list_any-append}
@@ -15,7 +15,7 @@ use Rattle.mimic_trial.specs.Count.{is_failed, is_ignored_outcome}
 use Rattle.mimic_printer.specs.Json.{Entry}
 use Rattle.mimic_events.specs.Key.{Key, any_in, key_in, same_key}
 use Rattle.mimic_events.proofs.Keys.{same_key-decides}
-use Rattle.mimic_expect.specs.Expect.{ExpectLaws, FailedRow, Finding, HasSame, answers, fate, findings, findings_in_turn, findings_with, has_passed, is_known, keyed, known_rows, labelled, left_by, left_in, meets, met_by, others_in, rows_with, unanswered, unknown_failures, unmet_by, with_row, without}
+use Rattle.mimic_expect.specs.Expect.{ExpectLaws, FailedRow, Finding, HasSame, answers, fate, findings, has_passed, is_known, keyed, known_rows, labelled, left_by, left_in, meets, met_by, others_in, rows_with, unanswered, unknown_failures, unmet_by, without}
 use Rattle.mimic_expect.specs.Known.{Expected}
 use Rattle.mimic_expect.proofs.Laws.{all_left, all_without, matching_law, stays}
 
@@ -24,47 +24,23 @@ use Rattle.mimic_expect.proofs.Laws.{all_left, all_without, matching_law, stays}
 module _ {X : Type 0} (p q : X → Bool) where
   filter_swap : (xs : List X) → filter p (filter q xs) ≡ filter q (filter p xs)
   filter_swap [] = refl
-  filter_swap (x ∷ xs) = at (p x) (q x) refl refl (filter_swap xs)
-    where
-      at : (a b : Bool) → p x ≡ a → q x ≡ b → filter p (filter q xs) ≡ filter q (filter p xs)
-          → filter p (cond b (x ∷ filter q xs) (filter q xs)) ≡ filter q (cond a (x ∷ filter p xs) (filter p xs))
-      at true true e f h = ap (λ c. cond c (x ∷ filter p (filter q xs)) (filter p (filter q xs))) e ∙ (ap (λ l. x ∷ l) h ∙ sym (ap (λ c. cond c (x ∷ filter q (filter p xs)) (filter q (filter p xs))) f))
-      at true false e f h = h ∙ sym (ap (λ c. cond c (x ∷ filter q (filter p xs)) (filter q (filter p xs))) f)
-      at false true e f h = ap (λ c. cond c (x ∷ filter p (filter q xs)) (filter p (filter q xs))) e ∙ h
-      at false false e f h = h
+  filter_swap (x ∷ xs) = grind (arith, filter_swap xs)
 
   filter_kept : ((x : X) → q x ≡ true → p x ≡ true) → (xs : List X) → filter p (filter q xs) ≡ filter q xs
   filter_kept agree [] = refl
-  filter_kept agree (x ∷ xs) = at (q x) refl (filter_kept agree xs)
-    where
-      at : (b : Bool) → q x ≡ b → filter p (filter q xs) ≡ filter q xs → filter p (cond b (x ∷ filter q xs) (filter q xs)) ≡ cond b (x ∷ filter q xs) (filter q xs)
-      at true e h = ap (λ c. cond c (x ∷ filter p (filter q xs)) (filter p (filter q xs))) (agree x e) ∙ ap (λ l. x ∷ l) h
-      at false e h = h
+  filter_kept agree (x ∷ xs) = grind (arith, filter_kept agree xs, agree x)
 
   filter_none : ((x : X) → q x ≡ true → p x ≡ false) → (xs : List X) → filter p (filter q xs) ≡ []
   filter_none apart [] = refl
-  filter_none apart (x ∷ xs) = at (q x) refl (filter_none apart xs)
-    where
-      at : (b : Bool) → q x ≡ b → filter p (filter q xs) ≡ [] → filter p (cond b (x ∷ filter q xs) (filter q xs)) ≡ []
-      at true e h = ap (λ c. cond c (x ∷ filter p (filter q xs)) (filter p (filter q xs))) (apart x e) ∙ h
-      at false e h = h
+  filter_none apart (x ∷ xs) = grind (arith, filter_none apart xs, apart x)
 
 filter_mapped : {X Y : Type 0} (p : Y → Bool) (f : X → Y) (xs : List X) → filter p (map f xs) ≡ map f (filter (λ x. p (f x)) xs)
 filter_mapped p f [] = refl
-filter_mapped p f (x ∷ xs) = at (p (f x)) (filter_mapped p f xs)
-  where
-    at : (b : Bool) → filter p (map f xs) ≡ map f (filter (λ y. p (f y)) xs)
-        → cond b (f x ∷ filter p (map f xs)) (filter p (map f xs)) ≡ map f (cond b (x ∷ filter (λ y. p (f y)) xs) (filter (λ y. p (f y)) xs))
-    at true h = ap (λ l. f x ∷ l) h
-    at false h = h
+filter_mapped p f (x ∷ xs) = grind (arith, filter_mapped p f xs)
 
-or_true : (a b : Bool) → b ≡ true → (a || b) ≡ true
-or_true true b e = refl
-or_true false b e = e
-
-true_or : (a b : Bool) → a ≡ true → (a || b) ≡ true
-true_or true b e = refl
-true_or false b e = absurd (cc)
+or_true : (a : Bool) → (a || true) ≡ true
+or_true true = refl
+or_true false = refl
 
 twice_not : (b : Bool) → b ≡ not (not b)
 twice_not true = refl
@@ -100,7 +76,7 @@ module _ (expected : List Expected) where
   covered_in done (e ∷ rest) =
       let test : Expected → Bool = λ (f : Expected). same_key (any_in f.entry) (any_in e.entry) in
       let own : test e ≡ true = (same_key-decides (any_in e.entry) (any_in e.entry)).1 refl in
-      let here : list_any test (done ++ e ∷ rest) ≡ true = list_any-append test done (e ∷ rest) ∙ or_true (list_any test done) (test e || list_any test rest) (true_or (test e) (list_any test rest) own) in
+      let here : list_any test (done ++ e ∷ rest) ≡ true = rw (list_any-append, own) (or_true (list_any test done)) in
       ((here, here), subst (λ (l : List Expected). AllByRecursion (Covers l) (keyed rest)) (append_assoc done (e ∷ []) rest) (covered_in (done ++ e ∷ []) rest))
 
   covered : AllByRecursion (Covers expected) (keyed expected)
@@ -108,30 +84,12 @@ module _ (expected : List Expected) where
 
   none : (k : Key) (left : Left) → knows k ≡ false → AllByRecursion (Covers expected) left → lookup (same_key k) left ≡ None
   none k [] n h = refl
-  none k (x ∷ left) n h = at (same_key k x.0) refl (none k left n h.1)
-    where
-      at : (b : Bool) → same_key k x.0 ≡ b → lookup (same_key k) left ≡ None → cond b (Some x.1) (lookup (same_key k) left) ≡ None
-      at true same rest =
-          let t : knows k ≡ true = ap knows ((same_key-decides k x.0).0 same) ∙ h.0.0 in
-          absurd (cc)
-      at false differs rest = rest
+  none k (x ∷ left) n h = grind (arith, none k left n h.1, same_key-decides k x.0, h.0.0, n)
 
   meets_none : (left : Left) (row : Entry) → has row ≡ false → AllByRecursion (Covers expected) left → meets left row ≡ None
   meets_none left row n h = ap₂ (λ (a b : Option Expected). option_or a b) (none (key_in row) left n h) (none (any_in row) left n h)
 
   -- ---- failures meet lines
-
-  with_has : (row : Entry) (rows : List Entry) → has row ≡ true → filter has (row ∷ rows) ≡ row ∷ filter has rows
-  with_has row rows e = ap (λ (b : Bool). cond b (row ∷ filter has rows) (filter has rows)) e
-
-  no_lacks : (row : Entry) (rows : List Entry) → has row ≡ true → filter lacks (row ∷ rows) ≡ filter lacks rows
-  no_lacks row rows e = ap (λ (b : Bool). cond (not b) (row ∷ filter lacks rows) (filter lacks rows)) e
-
-  no_has : (row : Entry) (rows : List Entry) → has row ≡ false → filter has (row ∷ rows) ≡ filter has rows
-  no_has row rows e = ap (λ (b : Bool). cond b (row ∷ filter has rows) (filter has rows)) e
-
-  with_lacks : (row : Entry) (rows : List Entry) → has row ≡ false → filter lacks (row ∷ rows) ≡ row ∷ filter lacks rows
-  with_lacks row rows e = ap (λ (b : Bool). cond (not b) (row ∷ filter lacks rows) (filter lacks rows)) e
 
   record Splits (left : Left) (rows : List Entry) : Type 0 where
     met : met_by left (filter has rows) ≡ met_by left rows
@@ -139,45 +97,26 @@ module _ (expected : List Expected) where
     unmet : unmet_by left (filter has rows) ≡ filter has (unmet_by left rows)
     others : filter lacks (unmet_by left rows) ≡ filter lacks rows
 
-  splits_known : (left : Left) (row : Entry) (rows : List Entry) → has row ≡ true → Splits (without left row) rows → Splits left (row ∷ rows)
-  splits_known left row rows e rest =
-      let more = with_has row rows e in
-      let after = without left row in
-      record {
-        met = ap (met_by left) more ∙ ap (λ (l : List (Expected × Entry)). with_row (meets left row) row l) rest.met;
-        stay = ap (left_by left) more ∙ rest.stay;
-        unmet = ap (unmet_by left) more ∙ unmet (is_some (meets left row));
-        others = others (is_some (meets left row)) ∙ (rest.others ∙ sym (no_lacks row rows e));
-      }
-    where
-      unmet : (b : Bool) → cond b (unmet_by (without left row) (filter has rows)) (row ∷ unmet_by (without left row) (filter has rows))
-          ≡ filter has (cond b (unmet_by (without left row) rows) (row ∷ unmet_by (without left row) rows))
-      unmet true = rest.unmet
-      unmet false = ap (λ (l : List Entry). row ∷ l) rest.unmet ∙ sym (with_has row (unmet_by (without left row) rows) e)
-
-      others : (b : Bool) → filter lacks (cond b (unmet_by (without left row) rows) (row ∷ unmet_by (without left row) rows)) ≡ filter lacks (unmet_by (without left row) rows)
-      others true = refl
-      others false = no_lacks row (unmet_by (without left row) rows) e
-
-  splits_other : (left : Left) (row : Entry) (rows : List Entry) → has row ≡ false → meets left row ≡ None → without left row ≡ left → Splits left rows → Splits left (row ∷ rows)
-  splits_other left row rows e m w rest =
-      let less = no_has row rows e in
-      let unmet : unmet_by left (row ∷ rows) ≡ row ∷ unmet_by left rows =
-      ap₂ (λ (o : Option Expected) (l : Left). cond (is_some o) (unmet_by l rows) (row ∷ unmet_by l rows)) m w in
-      record {
-        met = ap (met_by left) less ∙ (rest.met ∙ sym (ap₂ (λ (o : Option Expected) (l : Left). with_row o row (met_by l rows)) m w));
-        stay = ap (left_by left) less ∙ (rest.stay ∙ sym (ap (λ (l : Left). left_by l rows) w));
-        unmet = ap (unmet_by left) less ∙ (rest.unmet ∙ sym (ap (filter has) unmet ∙ no_has row (unmet_by left rows) e));
-        others = ap (filter lacks) unmet ∙ (with_lacks row (unmet_by left rows) e ∙ (ap (λ (l : List Entry). row ∷ l) rest.others ∙ sym (with_lacks row rows e)));
-      }
-
   splits : (left : Left) (rows : List Entry) → AllByRecursion (Covers expected) left → Splits left rows
   splits left [] h = record { met = refl; stay = refl; unmet = refl; others = refl }
   splits left (row ∷ rows) h = at (has row) refl (splits (without left row) rows (all_without (Covers expected) left row h)) (splits left rows h)
     where
       at : (b : Bool) → has row ≡ b → Splits (without left row) rows → Splits left rows → Splits left (row ∷ rows)
-      at true e known other = splits_known left row rows e known
-      at false e known other = let m = meets_none left row e h in splits_other left row rows e m (stays left row m) other
+      at true e rest other = record {
+        met = rw (e, rest.met) refl;
+        stay = rw (e, rest.stay) refl;
+        unmet = grind (arith, e, rest.unmet);
+        others = grind (arith, e, rest.others);
+      }
+      at false e known rest =
+          let m = meets_none left row e h in
+          let w = stays left row m in
+          record {
+            met = rw (e, m, w) rest.met;
+            stay = rw (e, w) rest.stay;
+            unmet = rw (e, m, w) (rw e rest.unmet);
+            others = rw (m, w, e) (rw rest.others refl);
+          }
 
   -- ---- rows answer lines
 
@@ -193,28 +132,11 @@ module _ (expected : List Expected) where
 
     removed : (items : List (Key × Entry)) → remove_entry (same_key k) (filter key_has items) ≡ filter key_has (remove_entry (same_key k) items)
     removed [] = refl
-    removed (x ∷ items) = at (same_key k x.0) (key_has x) refl refl (removed items)
-      where
-        has_items : List (Key × Entry)
-        has_items = filter key_has items
-
-        at : (a b : Bool) → same_key k x.0 ≡ a → key_has x ≡ b → remove_entry (same_key k) (filter key_has items) ≡ filter key_has (remove_entry (same_key k) items)
-            → remove_entry (same_key k) (cond b (x ∷ filter key_has items) (filter key_has items)) ≡ filter key_has (cond a items (x ∷ remove_entry (same_key k) items))
-        at true true same f h = ap (λ (c : Bool). cond c (filter key_has items) (x ∷ remove_entry (same_key k) (filter key_has items))) same
-        at true false same f h = let t = alike x.0 same in absurd (cc)
-        at false true same f h =
-            ap (λ (c : Bool). cond c (filter key_has items) (x ∷ remove_entry (same_key k) (filter key_has items))) same
-            ∙ (ap (λ (l : List (Key × Entry)). x ∷ l) h ∙ sym (ap (λ (c : Bool). cond c (x ∷ filter key_has (remove_entry (same_key k) items)) (filter key_has (remove_entry (same_key k) items))) f))
-        at false false same f h = h ∙ sym (ap (λ (c : Bool). cond c (x ∷ filter key_has (remove_entry (same_key k) items)) (filter key_has (remove_entry (same_key k) items))) f)
+    removed (x ∷ items) = grind (arith, removed items, alike x.0)
 
     untouched : (items : List (Key × Entry)) → filter key_lacks (remove_entry (same_key k) items) ≡ filter key_lacks items
     untouched [] = refl
-    untouched (x ∷ items) = at (same_key k x.0) refl (untouched items)
-      where
-        at : (a : Bool) → same_key k x.0 ≡ a → filter key_lacks (remove_entry (same_key k) items) ≡ filter key_lacks items
-            → filter key_lacks (cond a items (x ∷ remove_entry (same_key k) items)) ≡ filter key_lacks (x ∷ items)
-        at true same h = sym (ap (λ (c : Bool). cond (not c) (x ∷ filter key_lacks items) (filter key_lacks items)) (alike x.0 same))
-        at false same h = ap (λ (l : List (Key × Entry)). cond (key_lacks x) (x ∷ l) l) h
+    untouched (x ∷ items) = grind (arith, untouched items, alike x.0)
 
   record Answered (items : List (Key × Entry)) (left : List Expected) : Type 0 where
     same : answers (filter key_has items) left ≡ answers items left
@@ -228,9 +150,8 @@ module _ (expected : List Expected) where
       let next = answered (remove_entry (same_key k) items) left h.1 in
       let out = removed k h.0 items in
       record {
-        same = ap₂ (λ (o : Option Entry) (l : List (Expected × Option Entry)). (e, o) ∷ l) (lookup-filter-keys (same_key k) knows true (alike k h.0) items)
-            (ap (λ (i : List (Key × Entry)). answers i left) out ∙ next.same);
-        rest = ap (λ (i : List (Key × Entry)). unanswered i left) out ∙ next.rest;
+        same = rw (lookup-filter-keys (same_key k) knows true (alike k h.0) items, out, next.same) refl;
+        rest = rw (out, next.rest) refl;
         others = next.others ∙ untouched k h.0 items;
       }
 
@@ -287,13 +208,7 @@ module _ (expected : List Expected) (rows : List Entry) (are_all : Bool) where
   known_left = ap (λ (l : Left). map (λ (x : Key × Expected). x.1) l) (ap (left_by (keyed expected)) (known_with is_failed) ∙ split.stay)
 
   known_others : others_in expected (known_rows expected rows) ≡ filter (has expected) others
-  known_others =
-      let unmet = unmet_by (keyed expected) failures in
-      let passed = rows_with has_passed rows in
-      let ignored = rows_with is_ignored_outcome rows in
-      ap₂ (λ (x y : List Entry). x ++ y) (ap (unmet_by (keyed expected)) (known_with is_failed) ∙ split.unmet)
-      (ap₂ (λ (x y : List Entry). x ++ y) (known_with has_passed) (known_with is_ignored_outcome) ∙ sym (filter-append (has expected) passed ignored))
-      ∙ sym (filter-append (has expected) unmet (passed ++ ignored))
+  known_others = rw (known_with is_failed, split.unmet, known_with has_passed, known_with is_ignored_outcome) (simp filter-append)
 
   known_items : labelled (filter (has expected) others) ≡ filter (key_has expected) (labelled others)
   known_items = sym (filter_mapped (key_has expected) (λ (row : Entry). (any_in row, row)) others)
@@ -315,51 +230,38 @@ module _ (expected : List Expected) (rows : List Entry) (are_all : Bool) where
       filter_swap (λ (row : Entry). is_failed row.outcome) (lacks expected) (rows_with test rows)
       ∙ ap (filter (lacks expected)) (filter_none (λ (row : Entry). is_failed row.outcome) (λ (row : Entry). test row.outcome) (λ row. apart row.outcome) rows)
 
-  lacking : filter (lacks expected) others
-      ≡ filter (lacks expected) failures ++ (filter (lacks expected) (rows_with has_passed rows) ++ filter (lacks expected) (rows_with is_ignored_outcome rows))
-  lacking =
-      let unmet = unmet_by (keyed expected) failures in
-      let passed = rows_with has_passed rows in
-      let ignored = rows_with is_ignored_outcome rows in
-      filter-append (lacks expected) unmet (passed ++ ignored)
-      ∙ ap₂ (λ (x y : List Entry). x ++ y) split.others (filter-append (lacks expected) passed ignored)
-
   lacking_failed : rows_with is_failed (filter (lacks expected) others) ≡ unknown_failures expected rows
   lacking_failed =
       let fails : Entry → Bool = λ (row : Entry). is_failed row.outcome in
-      let first = filter (lacks expected) failures in
-      let passed = filter (lacks expected) (rows_with has_passed rows) in
-      let ignored = filter (lacks expected) (rows_with is_ignored_outcome rows) in
-      ap (filter fails) lacking
-      ∙ (filter-append fails first (passed ++ ignored)
-      ∙ (ap₂ (λ (x y : List Entry). x ++ y)
-      (filter_swap fails (lacks expected) failures ∙ (ap (filter (lacks expected)) (filter_kept fails fails (λ row e. e) rows) ∙ filter_swap (lacks expected) fails rows))
-      (filter-append fails passed ignored ∙ ap₂ (λ (x y : List Entry). x ++ y) (none_of has_passed no_passed) (none_of is_ignored_outcome no_ignored))
-      ∙ append-nil (unknown_failures expected rows)))
+      simp filter-append (rw (
+        split.others,
+        none_of has_passed no_passed,
+        none_of is_ignored_outcome no_ignored,
+        append-nil,
+        filter_swap fails (lacks expected) failures,
+        filter_kept fails fails (λ row e. e) rows,
+      ) (filter_swap (lacks expected) fails rows))
 
   other_failed : map pair_row (filter (key_lacks expected) failed) ≡ unknown_failures expected rows
   other_failed =
-      let fails : Entry → Bool = λ (row : Entry). is_failed row.outcome in
-      ap (map pair_row) (filter_swap (key_lacks expected) pair_failed items ∙ ap (filter pair_failed) answer.others)
-      ∙ (sym (filter_mapped fails pair_row (filter (key_lacks expected) (labelled others)))
-      ∙ (ap (λ (l : List (Key × Entry)). rows_with is_failed (map pair_row l)) (filter_mapped (key_lacks expected) (λ (row : Entry). (any_in row, row)) others)
-      ∙ (ap (rows_with is_failed) (rows_of_pairs (filter (lacks expected) others)) ∙ lacking_failed)))
+      rw (
+        filter_swap (key_lacks expected) pair_failed items,
+        answer.others,
+        ← filter_mapped (λ (row : Entry). is_failed row.outcome) pair_row (filter (key_lacks expected) (labelled others)),
+        filter_mapped (key_lacks expected) (λ (row : Entry). (any_in row, row)) others,
+        rows_of_pairs (filter (lacks expected) others),
+      ) lacking_failed
 
   all_failed : IsPermutation (map pair_row failed) (unknown_failures expected rows ++ map pair_row (filter (key_has expected) failed))
   all_failed =
-      subst (λ (l : List Entry). IsPermutation (map pair_row failed) (l ++ map pair_row (filter (key_has expected) failed))) other_failed
-      (subst (IsPermutation (map pair_row failed)) (map-append pair_row (filter (key_lacks expected) failed) (filter (key_has expected) failed))
-      (IsPermutation-map pair_row failed _ (IsPermutation-filter_both (key_lacks expected) (key_has expected) (λ x. twice_not (knows expected x.0)) failed)))
+      rw (← other_failed, ← map-append pair_row (filter (key_lacks expected) failed) (filter (key_has expected) failed))
+      (IsPermutation-map pair_row failed _ (IsPermutation-filter_both (key_lacks expected) (key_has expected) (λ x. twice_not (knows expected x.0)) failed))
 
   abbrev said : List Finding
   said = flat_map (fate are_all) (answers (labelled others) left)
 
   known_findings : findings expected (known_rows expected rows) are_all ≡ said ++ map FailedRow (map pair_row (filter (key_has expected) failed))
-  known_findings =
-      ap₂ (λ (l : List Expected) (r : List Entry). findings_with l r are_all) known_left known_others
-      ∙ (ap (λ (i : List (Key × Entry)). flat_map (fate are_all) (answers i left) ++ map FailedRow (rows_with is_failed (map pair_row (unanswered i left)))) known_items
-      ∙ ap₂ (λ (a : List (Expected × Option Entry)) (r : List Entry). flat_map (fate are_all) a ++ map FailedRow r) answer.same
-      (ap (λ (l : List (Key × Entry)). rows_with is_failed (map pair_row l)) answer.rest ∙ known_failed))
+  known_findings = rw (known_left, known_others, known_items, answer.same, answer.rest, known_failed) refl
 
   all_findings : findings expected rows are_all ≡ said ++ map FailedRow (map pair_row failed)
   all_findings = ap (λ (r : List Entry). said ++ map FailedRow r) (filter_mapped (λ (row : Entry). is_failed row.outcome) pair_row items)
@@ -368,17 +270,15 @@ module _ (expected : List Expected) (rows : List Entry) (are_all : Bool) where
   has_same =
       let first = map FailedRow (unknown_failures expected rows) in
       let last = map FailedRow (map pair_row (filter (key_has expected) failed)) in
-      let shuffled : IsPermutation (said ++ map FailedRow (map pair_row failed)) (said ++ (first ++ last)) =
-      IsPermutation-append_right said _ _ (subst (IsPermutation (map FailedRow (map pair_row failed))) (map-append FailedRow (unknown_failures expected rows) (map pair_row (filter (key_has expected) failed)))
-      (IsPermutation-map FailedRow (map pair_row failed) _ all_failed)) in
+      let shuffled : IsPermutation (map FailedRow (map pair_row failed)) (first ++ last) =
+      rw (← map-append FailedRow (unknown_failures expected rows) (map pair_row (filter (key_has expected) failed)))
+      (IsPermutation-map FailedRow (map pair_row failed) _ all_failed) in
       let turned : IsPermutation (said ++ (first ++ last)) (first ++ (said ++ last)) =
-      subst (λ (l : List Finding). IsPermutation l (first ++ (said ++ last))) (append_assoc said first last)
-      (subst (IsPermutation ((said ++ first) ++ last)) (append_assoc first said last) (IsPermutation-append_left last (said ++ first) (first ++ said) (IsPermutation-append_comm said first))) in
+      rw (← append_assoc said first last, ← append_assoc first said last)
+      (IsPermutation-append_left last (said ++ first) (first ++ said) (IsPermutation-append_comm said first)) in
       record {
-        findings = subst (λ (l : List Finding). IsPermutation l (findings_in_turn expected rows are_all)) (sym all_findings)
-            (subst (λ (l : List Finding). IsPermutation (said ++ map FailedRow (map pair_row failed)) (first ++ l)) (sym known_findings)
-            (IsPermutation-trans _ (said ++ (first ++ last)) _ shuffled turned));
-        met = ap (met_by (keyed expected)) (known_with is_failed) ∙ split.met;
+        findings = rw (all_findings, known_findings) (IsPermutation-trans _ (said ++ (first ++ last)) _ (IsPermutation-append_right said _ _ shuffled) turned);
+        met = rw (known_with is_failed) split.met;
       }
 
 pub expect_laws : ExpectLaws

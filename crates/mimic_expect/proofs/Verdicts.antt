@@ -1,12 +1,12 @@
 -- What is written at the end, and what it says.
-use Rattle.std.proofs.Common.{◌≡◌, ◌||◌, ℕ, ◌+◌, ◌<◌, ◌≤◌, suc, Bool, true, false, cond, List, [], ◌∷◌, ◌++◌, length, map, get_or, take, codes, decimal, Option, Result, Ok, Err, refl, sym, ap, ap₂, subst, ◌∙◌, append_assoc, arith}
+use Rattle.std.proofs.Common.{◌≡◌, ◌||◌, ℕ, ◌+◌, ◌<◌, ◌≤◌, suc, Bool, false, cond, List, [], ◌∷◌, ◌++◌, length, map, get_or, take, codes, decimal, Option, Result, Ok, Err, refl, sym, ap, ap₂, subst, ◌∙◌, append_assoc, arith}
 use Rattle.std.specs.Prelude.{count_by, nat_lt}
 use Rattle.std.specs.List.{flat_map, list_all, list_any}
 use Rattle.std.specs.Result.{IsErrAnd}
 use Rattle.std.proofs.lemmas.Bool.Decides.{nat_tests}
 use Rattle.std.proofs.lemmas.List.{take_all}
 use Rattle.std.proofs.lemmas.List.Concat.{flat_map-append}
-use Rattle.std.proofs.lemmas.List.Folds.{list_all-map, list_any-append}
+use Rattle.std.proofs.lemmas.List.Folds.{flat_map-map, list_all-map, list_any-append}
 use Rattle.std.proofs.lemmas.List.Sorted.{list_any-IsPermutation}
 use Rattle.std.proofs.lemmas.List.Sums.{sum_by-append, sum_by-cons}
 use Rattle.mimic_trial.specs.Count.{is_failed}
@@ -36,11 +36,9 @@ line_of found = finding_text (finding_read found)
 
 pub stopped_at : {a b c : Shown} (judgement : Judgement) (failed : ℕ) (items : List Unexpected) (i : ℕ) (found : Unexpected) → items ≡ judgement.unexpected.items → i < length items → found ≡ get_or items i found
     → Put a b (flat_map line_of (take i judgement.unexpected.items)) → Stopped b c (line_of found) → Stopped a c (judgement_text judgement failed)
-stopped_at {a} {b} {c} judgement failed items i found e lt is p q =
-    let P : List Unexpected → Type 0 = λ (l : List Unexpected). Put a b (flat_map line_of (take i l)) in
-    let Q : List Unexpected → Type 0 = λ (l : List Unexpected). Stopped a c (flat_map line_of l) in
+stopped_at judgement failed items i found e lt is p q =
     Stopped-more (flat_map line_of judgement.unexpected.items) (judgement_numbers judgement failed)
-    (subst Q e (Stopped-next line_of items i found lt (subst P (sym e) p) (subst (λ (u : Unexpected). Stopped b c (line_of u)) is q)))
+    (rw (← e) (Stopped-next line_of items i found lt (rw e p) (rw is at q)))
 
 numbers_are : (judgement : Judgement) (before failed passed other absent : ℕ) → failed ≡ count_in is_failed_row judgement → passed ≡ count_in is_passed_line judgement
     → other ≡ count_in is_other_message judgement → absent ≡ count_in is_absent_line judgement
@@ -56,8 +54,8 @@ pub judgement_put : {E T : Type 0} (a b c : Shown) (judgement : Judgement) (befo
     → Writes a c (judgement_text judgement before) result
 judgement_put a b c judgement before failed passed other absent items i result e le f p o n put numbers =
     let all : take i judgement.unexpected.items ≡ judgement.unexpected.items = take_all i judgement.unexpected.items (omega (arith, le, ap length e)) in
-    Puts_then a b c (flat_map line_of judgement.unexpected.items) (judgement_numbers judgement before) result (subst (λ (l : List Unexpected). Put a b (flat_map line_of l)) all put)
-    (subst (λ (t : List ℕ). Writes b c t result) (numbers_are judgement before failed passed other absent f p o n) numbers)
+    Puts_then a b c (flat_map line_of judgement.unexpected.items) (judgement_numbers judgement before) result (rw all at put)
+    (rw (numbers_are judgement before failed passed other absent f p o n) at numbers)
 
 -- ---- counts
 
@@ -83,13 +81,13 @@ none_counted test never (row ∷ rows) =
     let here : cond (test (FailedRow row)) (suc 0) 0 ≡ 0 = ap (λ (b : Bool). cond b (suc 0) 0) (never row) in
     omega (arith, count-cons test (FailedRow row) (map FailedRow rows), none_counted test never rows, here)
 
-lines_read : (items : List Unexpected) → flat_map line_of items ≡ flat_map finding_text (map finding_read items)
-lines_read [] = refl
-lines_read (x ∷ items) = ap (λ (l : List ℕ). line_of x ++ l) (lines_read items)
-
 any_read : (lax : Bool) (items : List Unexpected) → list_any (λ (u : Unexpected). counts lax (finding_read u)) items ≡ list_any (counts lax) (map finding_read items)
 any_read lax [] = refl
 any_read lax (x ∷ items) = ap (λ (b : Bool). counts lax (finding_read x) || b) (any_read lax items)
+
+any_failed : (lax : Bool) (rows : List Entry) → list_any (counts lax) (map FailedRow rows) ≡ nat_lt 0 (length rows)
+any_failed lax [] = refl
+any_failed lax (row ∷ rows) = grind (arith, nat_tests)
 
 -- ---- all that is written
 
@@ -140,7 +138,8 @@ module _ (known : List Expected) (start new : Judged) (rows : List Entry) (are_a
           → Put s v (rows_text known rows are_all)
       all_put {u} {v} met put flush =
           let shown : flat_map finding_text (findings_in_turn known rows are_all) ≡ lines failures ++ flat_map line_of judgement.unexpected.items =
-          flat_map-append finding_text (map FailedRow failures) rest ∙ ap (λ (l : List ℕ). lines failures ++ l) (sym (lines_read judgement.unexpected.items ∙ ap (flat_map finding_text) found)) in
+          flat_map-append finding_text (map FailedRow failures) rest
+          ∙ ap (λ (l : List ℕ). lines failures ++ l) (ap (flat_map finding_text) (sym found) ∙ flat_map-map finding_text finding_read judgement.unexpected.items) in
           let text : lines failures ++ judgement_text judgement count ≡ rows_text known rows are_all =
           sym (append_assoc (lines failures) (flat_map line_of judgement.unexpected.items) (judgement_numbers judgement count)) ∙ ap₂ (λ (a b : List ℕ). a ++ b) (sym shown) (numbers met) in
           subst (Put s v) text (Put_after _ (Put-trans _ _ lines_put put) flush)
@@ -152,18 +151,10 @@ module _ (known : List Expected) (start new : Judged) (rows : List Entry) (are_a
             ∙ list_any-append (counts lax) (map FailedRow failures) rest
 
         pub some_counts : 0 < count → nat_lt 0 count ≡ list_any (counts lax) (findings known rows are_all)
-        some_counts lt = at failures counted ∙ sym any_in_turn
-          where
-            at : (rows : List Entry) → count ≡ length rows → nat_lt 0 count ≡ (list_any (counts lax) (map FailedRow rows) || list_any (counts lax) rest)
-            at [] e = absurd (omega (arith, lt, e))
-            at (row ∷ rows) e = let t : nat_lt 0 count ≡ true = grind (arith, nat_tests) in t
+        some_counts lt = rw (any_in_turn, any_failed lax failures, ← counted) (grind (arith, nat_tests))
 
         pub rest_counts : (b : Bool) → count ≤ 0 → b ≡ list_any (λ (u : Unexpected). counts lax (finding_read u)) judgement.unexpected.items → b ≡ list_any (counts lax) (findings known rows are_all)
-        rest_counts b le e = e ∙ (any_read lax judgement.unexpected.items ∙ (ap (list_any (counts lax)) found ∙ (at failures counted ∙ sym any_in_turn)))
-          where
-            at : (rows : List Entry) → count ≡ length rows → list_any (counts lax) rest ≡ (list_any (counts lax) (map FailedRow rows) || list_any (counts lax) rest)
-            at [] e = refl
-            at (row ∷ rows) e = absurd (omega (arith, le, e))
+        rest_counts b le e = rw (any_in_turn, any_failed lax failures, ← counted, e, any_read lax judgement.unexpected.items, found) (grind (arith, nat_tests))
 
 -- ---- what is left
 

@@ -1,10 +1,11 @@
 -- What the private parts of judging promise. No public clause names these words.
-use Rattle.std.specs.Prelude.{ℕ, ◌+◌, Bool, List, [], ◌∷◌, ◌++◌, codes, count_by, decimal, map, Option, None, Some}
-use Rattle.std.specs.List.{concat, flat_map, slice_get}
+use Rattle.std.specs.Prelude.{ℕ, ◌+◌, Bool, List, [], ◌∷◌, ◌++◌, codes, count_by, decimal, map}
+use Rattle.std.specs.List.{concat, flat_map}
 use Rattle.mimic_printer.specs.Json.{Entry}
 use Rattle.mimic_events.specs.Contents.{entry_read}
+use Rattle.mimic_events.specs.Key.{Key}
 use Rattle.mimic_events.specs.declared.report.Row.{Row}
-use Rattle.mimic_expect.specs.Expect.{AbsentLine, FailedRow, Finding, OtherMessage, PassedLine, fate, is_absent_line, is_failed_row, is_other_message, is_passed_line}
+use Rattle.mimic_expect.specs.Expect.{AbsentLine, FailedRow, Finding, OtherMessage, PassedLine, is_absent_line, is_failed_row, is_other_message, is_passed_line}
 use Rattle.mimic_expect.specs.FindingText.{finding_text}
 use Rattle.mimic_expect.specs.Known.{Expected, expected_read}
 use Rattle.mimic_expect.specs.declared.known.Expectation.{Expectation}
@@ -22,17 +23,16 @@ finding_read (Absent expectation) = AbsentLine (expected_read expectation.now)
 abbrev pub entries_read : List (Bor Row) → List Entry
 entries_read rows = map (λ row. entry_read row.now) rows
 
--- the row at the place, if there is one
-abbrev pub row_at : List Entry → Option ℕ → Option Entry
-row_at rows None = None
-row_at rows (Some place) = slice_get rows place
-
--- what lines say that are answered by rows at places
-abbrev pub said : Bool → List Entry → List (Expected × Option ℕ) → List Finding
-said are_all rows answered = flat_map (λ answer. fate are_all (answer.0, row_at rows answer.1)) answered
-
 abbrev pub expected_at : List (Bor Expectation) → List Expected
 expected_at expectations = map (λ expectation. expected_read expectation.now) expectations
+
+-- what is left of lines, as it reads
+abbrev pub lines_left : List (Key × Bor Expectation) → List (Key × Expected)
+lines_left left = map (λ x. (x.0, expected_read x.1.now)) left
+
+-- what is left of rows, as it reads
+abbrev pub rows_left : List (Key × Bor Row) → List (Key × Entry)
+rows_left left = map (λ x. (x.0, entry_read x.1.now)) left
 
 -- ---- the lines of a judgement
 

@@ -1,42 +1,29 @@
--- Numbered keys, of which the first one left can be taken. No public clause names these words.
-use Rattle.std.specs.Prelude.{◌≡◌, ℕ, ◌+◌, ◌<◌, Bool, false, cond, nat_lt, not, List, [], ◌∷◌, drop, length, map, slice_index, slice_index_or, Option, None, Some, unwrap_or}
-use Rattle.std.specs.HashMap.{get}
+-- Items with keys, of which the first one left with a key can be taken. No public clause names these words.
+use Rattle.std.specs.Prelude.{◌≡◌, ℕ, suc, Bool, true, false, cond, filter, List, [], ◌∷◌, map, Option, None, Some}
+use Rattle.std.specs.HashMap.{HashMap, get}
+use Rattle.std.specs.declared.collections.VecDeque.{VecDeque}
 use Rattle.mimic_events.specs.Key.{Key, is_same, key_read, same_key}
 use Rattle.mimic_events.specs.declared.key.Key.{Key as Found}
-use Rattle.mimic_expect.specs.declared.pool.Pool.{Pool}
 
--- the keys with their numbers, from this one on
-abbrev pub numbered : ℕ → List Key → List (Key × ℕ)
-numbered from [] = []
-numbered from (key ∷ keys) = (key, from) ∷ numbered (from + 1) keys
+-- the items that are left, each by its key
+abbrev pub left_of : {T : Type 0} → List (Found × T × Bool) → List (Key × T)
+left_of items = map (λ i. (key_read i.0, i.1)) (filter (λ i. i.2) items)
 
--- the number of the first of the keys, which are numbered from this one on, that is the sought one
-abbrev pub first_from : ℕ → List Key → Key → Option ℕ
-first_from from [] sought = None
-first_from from (key ∷ keys) sought = cond (same_key key sought) (Some from) (first_from (from + 1) keys sought)
+-- the places of those with the key
+abbrev pub places_of : {T : Type 0} → Key → List (Found × T × Bool) → List ℕ
+places_of key [] = []
+places_of key ((own, item, false) ∷ items) = map suc (places_of key items)
+places_of key ((own, item, true) ∷ items) =
+    cond (same_key key (key_read own)) (0 ∷ map suc (places_of key items)) (map suc (places_of key items))
 
--- none that is left with the same key stands before
-abbrev pub is_left : ℕ → Option ℕ → Bool
-is_left number None = false
-is_left number (Some first) = not (nat_lt number first)
+-- the places that a table has for a key
+abbrev pub queued : {Z : Type 0} → Option (VecDeque ℕ Z) → List ℕ
+queued None = []
+queued (Some queue) = queue.items
 
--- those that are left of the keys, which are numbered from this one on, by the first one left with each key
-abbrev pub left_from : (Key → Option ℕ) → ℕ → List Key → List (Key × ℕ)
-left_from first from [] = []
-left_from first from (key ∷ keys) =
-    cond (is_left from (first key)) ((key, from) ∷ left_from first (from + 1) keys) (left_from first (from + 1) keys)
+abbrev pub places_at : {S Z : Type 0} → HashMap Found (VecDeque ℕ Z) S → Found → List ℕ
+places_at places key = queued (get is_same places key)
 
--- each key leads to the next one that is the same, or to the end
-pub record AreChained (first : Key → Option ℕ) (next : List ℕ) (keys : List Key) : Type 0 where
-  pub long : length next ≡ length keys
-  pub own : (key : Key) (number : ℕ) (d : Key) → first key ≡ Some number → number < length keys
-      → slice_index_or keys number d ≡ key
-  pub leads : (number : ℕ) (d : Key) → number < length keys → slice_index next number
-      ≡ unwrap_or (first_from (number + 1) (drop (number + 1) keys) (slice_index_or keys number d)) (length keys)
-
--- these are left in the pool
-pub record HasLeft (pool : Pool) (left : List (Key × ℕ)) : Type 0 where
-  pub first : Key → Option ℕ
-  pub found : (key : Found) → get is_same pool.first key ≡ first (key_read key)
-  pub chained : AreChained first pool.next.items (map key_read pool.keys.items)
-  pub all : left ≡ left_from first 0 (map key_read pool.keys.items)
+-- the table leads from each key to the places of the items that are left with it
+abbrev pub ArePlaces : {T S Z : Type 0} → HashMap Found (VecDeque ℕ Z) S → List (Found × T × Bool) → Type 0
+ArePlaces places items = (key : Found) → places_at places key ≡ places_of (key_read key) items

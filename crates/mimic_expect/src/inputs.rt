@@ -33,6 +33,7 @@ use std::io::{ErrorKind, Read, Write};
 /// and no others.
 ///
 /// If an input fails, the others are still judged: the verdict says how each ended. With a fault a beginning was written.
+#[tactic(auto, using(crate::proofs::Strangers::expect_laws))]
 pub fn write_unexpected<I: Read + Drop, W: Write>(
     alloc: Global,
     known: &[Expectation],

@@ -1,16 +1,12 @@
 //! Judges the rows of reports by known failures.
-ghost use Rattle.std.specs.Prelude.{◌≡◌, ◌<◌, ◌++◌, List, ℕ, All, IfOk, OnOk, count_by, filter, length, map, option_map, slice_index_or};
-ghost use Rattle.std.specs.List.{list_any};
-ghost use Rattle.std.specs.Map.{lookup, remove_entry};
+ghost use Rattle.std.specs.Prelude.{◌≡◌, ◌++◌, IfOk, OnOk, count_by, filter, length, map, option_map};
+ghost use Rattle.std.specs.List.{flat_map, list_any};
 ghost use Rattle.std.specs.Option.{is_some, option_to_list};
 ghost use Rattle.mimic_trial.specs.Count.{is_failed, is_ignored_outcome};
-ghost use Rattle.mimic_printer.specs.Json.{Entry};
 ghost use Rattle.mimic_events.specs.Contents.{entry_read};
-ghost use Rattle.mimic_events.specs.Key.{Key as KeyRead, any_in, key_in, key_read, same_key};
-ghost use Rattle.mimic_expect.specs.Expect.{FailedRow, answers, counts, fate, findings, findings_with, has_passed, is_absent_line, is_failed_row, is_other_message, is_passed_line, keyed, left_by, meets, met_by, rows_with, unanswered, unmet_by, without};
-ghost use Rattle.mimic_expect.specs.Judging.{entries_read, expected_at, finding_read, row_at, said};
-ghost use Rattle.mimic_expect.specs.Known.{Expected, expected_read};
-ghost use Rattle.mimic_expect.specs.Pool.{HasLeft};
+ghost use Rattle.mimic_expect.specs.Expect.{FailedRow, answers, counts, fate, findings, findings_with, has_passed, is_absent_line, is_failed_row, is_other_message, is_passed_line, keyed, labelled, left_by, meets, met_by, rows_with, unanswered, unmet_by, without};
+ghost use Rattle.mimic_expect.specs.Judging.{entries_read, expected_at, finding_read, lines_left, rows_left};
+ghost use Rattle.mimic_expect.specs.Known.{expected_read};
 
 use crate::known::Expectation;
 use crate::pool::Pool;
@@ -34,28 +30,26 @@ pub(crate) enum Unexpected<'a> {
     Absent(&'a Expectation),
 }
 
-// Returns the keys of the expectations.
-fn keys_of(alloc: Global, known: &[Expectation]) -> Result<Vec<Key<'_>>, AllocError>
-    ensures { IfOk result (λ keys. map key_read keys.items
-        ≡ map (λ expectation. key_in (entry_read expectation.row)) known.now) }
+// Returns the expectations, to be found by what they say of failures.
+fn pool_of(alloc: Global, known: &[Expectation]) -> Result<Pool<'_, &Expectation>, AllocError>
+    ensures { IfOk result (λ pool. lines_left pool ≡ keyed (map expected_read known.now)) }
 {
-    let mut keys = Vec::new(alloc);
+    let mut items = Vec::new(alloc);
     for expectation in known {
-        keys.push(Key::Failure(&expectation.row))?;
+        items.push((Key::Failure(&expectation.row), expectation))?;
     }
-    Ok(keys)
+    Pool::new(alloc, &items)
 }
 
-// Returns the kinds and names of the rows.
-fn labels_of<'a>(alloc: Global, rows: &[&'a Row]) -> Result<Vec<Key<'a>>, AllocError>
-    ensures { IfOk result (λ keys. map key_read keys.items
-        ≡ map any_in (entries_read rows.now)) }
+// Returns the rows, to be found by their kinds and names.
+fn pool_of_rows<'a>(alloc: Global, rows: &[&'a Row]) -> Result<Pool<'a, &'a Row>, AllocError>
+    ensures { IfOk result (λ pool. rows_left pool ≡ labelled (entries_read rows.now)) }
 {
-    let mut keys = Vec::new(alloc);
+    let mut items = Vec::new(alloc);
     for row in rows {
-        keys.push(Key::Trial(row))?;
+        items.push((Key::Trial(row), *row))?;
     }
-    Ok(keys)
+    Pool::new(alloc, &items)
 }
 
 fn failed_in(alloc: Global, rows: &[Row]) -> Result<Vec<&Row>, AllocError>
@@ -87,10 +81,9 @@ fn ignored_in(alloc: Global, rows: &[Row]) -> Result<Vec<&Row>, AllocError>
 }
 
 // Takes what the failure meets, if anything.
-fn meet<'a>(pool: &mut Pool<'a>, row: &'a Row) -> bool
-    ensures { (left : List (KeyRead × ℕ)) → HasLeft pool.old left
-        → (result ≡ is_some (meets left (entry_read row.now)))
-        × HasLeft pool.new (without left (entry_read row.now)) }
+fn meet<'a>(pool: &mut Pool<'a, &'a Expectation>, row: &'a Row) -> bool
+    ensures met { result ≡ is_some (meets (lines_left pool.old) (entry_read row.now)) }
+    ensures left { lines_left pool.new ≡ without (lines_left pool.old) (entry_read row.now) }
 {
     pool.take(&Key::Failure(row)).is_some() || pool.take(&Key::Trial(row)).is_some()
 }
@@ -98,12 +91,12 @@ fn meet<'a>(pool: &mut Pool<'a>, row: &'a Row) -> bool
 // Returns the failures that meet nothing, and takes from the pool what the others meet.
 fn unmet_in<'a>(
     alloc: Global,
-    pool: &mut Pool<'a>,
+    pool: &mut Pool<'a, &'a Expectation>,
     failed: &[&'a Row],
 ) -> Result<Vec<&'a Row>, AllocError>
-    ensures { (left : List (KeyRead × ℕ)) → HasLeft pool.old left → IfOk result
-        (λ unmet. (entries_read unmet.items ≡ unmet_by left (entries_read failed.now))
-        × HasLeft pool.new (left_by left (entries_read failed.now))) }
+    ensures { IfOk result
+        (λ unmet. (entries_read unmet.items ≡ unmet_by (lines_left pool.old) (entries_read failed.now))
+        × (lines_left pool.new ≡ left_by (lines_left pool.old) (entries_read failed.now))) }
 {
     let mut unmet = Vec::new(alloc);
     for row in failed {
@@ -112,25 +105,6 @@ fn unmet_in<'a>(
         }
     }
     Ok(unmet)
-}
-
-// Returns the expectations at these places.
-fn expectations_at<'a>(
-    alloc: Global,
-    known: &'a [Expectation],
-    places: &[usize],
-) -> Result<Vec<&'a Expectation>, AllocError>
-    ensures { IfOk result (λ found. All (λ place. place < length known.now) places.now → (d : Expected)
-        → map (λ e. expected_read e.now) found.items
-        ≡ map (λ place. slice_index_or (map expected_read known.now) place d) places.now) }
-{
-    let mut found = Vec::new(alloc);
-    for place in places {
-        if let Some(expectation) = known.get(*place) {
-            found.push(expectation)?;
-        }
-    }
-    Ok(found)
 }
 
 // Returns the rows that can answer an expectation, in the order in which they do.
@@ -147,24 +121,6 @@ fn others_in<'a>(
     others.extend_from_slice(&passed_in(alloc, rows)?)?;
     others.extend_from_slice(&ignored_in(alloc, rows)?)?;
     Ok(others)
-}
-
-// Takes the row that answers the expectation.
-fn answer<'a>(
-    others: &mut Pool<'a>,
-    rows: &[&'a Row],
-    expectation: &'a Expectation,
-) -> Option<&'a Row>
-    ensures { (left : List (KeyRead × ℕ)) → HasLeft others.old left
-        → (option_map (λ row. entry_read row.now) result ≡ row_at (entries_read rows.now)
-        (lookup (same_key (any_in (entry_read expectation.now.row))) left))
-        × HasLeft others.new (remove_entry (same_key (any_in (entry_read expectation.now.row))) left) }
-{
-    let place = others.take(&Key::Trial(&expectation.row))?;
-    match rows.get(place) {
-        Some(row) => Some(*row),
-        None => None,
-    }
 }
 
 // Returns what a line says with the row that answers it.
@@ -193,42 +149,21 @@ fn finding<'a>(
 // Adds what the lines say that are left, and takes the rows that answer them.
 fn add_findings<'a>(
     unexpected: &mut Vec<Unexpected<'a>>,
-    others: &mut Pool<'a>,
-    rows: &[&'a Row],
+    others: &mut Pool<'a, &'a Row>,
     left: &[&'a Expectation],
     are_all: bool,
 ) -> Result<(), AllocError>
-    ensures { (items : List (KeyRead × ℕ)) → HasLeft others.old items → OnOk result
-        ((map finding_read unexpected.new.items ≡ map finding_read unexpected.old.items
-        ++ said are_all (entries_read rows.now) (answers items (expected_at left.now)))
-        × HasLeft others.new (unanswered items (expected_at left.now))) }
+    ensures { OnOk result ((map finding_read unexpected.new.items ≡ map finding_read unexpected.old.items
+        ++ flat_map (fate are_all) (answers (rows_left others.old) (expected_at left.now)))
+        × (rows_left others.new ≡ unanswered (rows_left others.old) (expected_at left.now))) }
 {
     for expectation in left {
-        let row = answer(others, rows, expectation);
+        let row = others.take(&Key::Trial(&expectation.row));
         if let Some(found) = finding(expectation, row, are_all) {
             unexpected.push(found)?;
         }
     }
     Ok(())
-}
-
-// Returns the rows at these places.
-fn rows_at<'a>(
-    alloc: Global,
-    rows: &[&'a Row],
-    places: &[usize],
-) -> Result<Vec<&'a Row>, AllocError>
-    ensures { IfOk result (λ found. All (λ place. place < length rows.now) places.now → (d : Entry)
-        → entries_read found.items
-        ≡ map (λ place. slice_index_or (entries_read rows.now) place d) places.now) }
-{
-    let mut found = Vec::new(alloc);
-    for place in places {
-        if let Some(row) = rows.get(*place) {
-            found.push(*row)?;
-        }
-    }
-    Ok(found)
 }
 
 // Adds the failures among the rows.
@@ -288,11 +223,9 @@ fn meeting<'a>(
         × (entries_read found.1.items
         ≡ unmet_by (keyed (map expected_read known.now)) (entries_read failed.now))) }
 {
-    let mut pool = Pool::new(alloc, keys_of(alloc, known)?)?;
+    let mut pool = pool_of(alloc, known)?;
     let unmet = unmet_in(alloc, &mut pool, failed)?;
-    let places = pool.left(alloc)?;
-    let left = expectations_at(alloc, known, &places)?;
-    Ok((left, unmet))
+    Ok((pool.left(alloc)?, unmet))
 }
 
 // Returns what the expectations that are left say with the rows that can answer them, and then the failures that answer none.
@@ -305,11 +238,10 @@ fn findings_of<'a>(
     ensures { IfOk result (λ unexpected. map finding_read unexpected.items
         ≡ findings_with (expected_at left.now) (entries_read others.now) are_all) }
 {
-    let mut pool = Pool::new(alloc, labels_of(alloc, others)?)?;
+    let mut pool = pool_of_rows(alloc, others)?;
     let mut unexpected = Vec::new(alloc);
-    add_findings(&mut unexpected, &mut pool, others, left, are_all)?;
-    let places = pool.left(alloc)?;
-    add_failures(&mut unexpected, &rows_at(alloc, others, &places)?)?;
+    add_findings(&mut unexpected, &mut pool, left, are_all)?;
+    add_failures(&mut unexpected, &pool.left(alloc)?)?;
     Ok(unexpected)
 }
 

@@ -1,72 +1,100 @@
 //! Finds the first one left of many with the same key.
-ghost use Rattle.std.specs.Prelude.{◌≡◌, List, ℕ, IfOk, map};
-ghost use Rattle.std.specs.HashMap.{get};
+ghost use Rattle.std.specs.Prelude.{◌≡◌, ◌∷◌, [], ◌++◌, IfOk, MatchOption, OnOk, cond, map};
 ghost use Rattle.std.specs.Map.{lookup, remove_entry};
-ghost use Rattle.mimic_events.specs.Key.{Key as KeyRead, is_same, key_read, same_key};
-ghost use Rattle.mimic_expect.specs.Pool.{HasLeft, is_left, numbered};
+ghost use Rattle.mimic_events.specs.Key.{is_same, key_read, same_key};
+ghost use Rattle.mimic_events.specs.declared.key.Key.{Key as Found};
+ghost use Rattle.mimic_expect.specs.Pool.{places_at};
 
 use mimic_events::Key;
 use std::alloc::{AllocError, Global};
-use std::collections::HashMap;
+use std::collections::{HashMap, VecDeque};
+use std::marker::Model;
 
-// Keys, numbered from 0, of which the first one left with a key can be taken at once.
+// Items with keys, of which the first one left with a key can be taken at once.
+//
+// Contracts see those that are left, each with its key.
 #[derive(Drop)]
-pub(crate) struct Pool<'a> {
-    keys: Vec<Key<'a>>,
-    // The number of the first one left with the key, or how many there are.
-    first: HashMap<Key<'a>, usize>,
-    // The number of the next one with the same key, or how many there are.
-    next: Vec<usize>,
+pub(crate) struct Pool<'a, T: Copy> {
+    // The items, each with its key, and whether it is left.
+    items: Vec<(Key<'a>, T, bool)>,
+    // The places of those that are left with a key, in their order.
+    places: HashMap<Key<'a>, VecDeque<usize>>,
 }
 
-impl<'a> Pool<'a> {
-    pub(crate) fn new(alloc: Global, keys: Vec<Key<'a>>) -> Result<Pool<'a>, AllocError>
-        ensures { IfOk result (λ pool. HasLeft pool (numbered 0 (map key_read keys.entry.items))) }
+impl<'a, T: Copy> Model for Pool<'a, T> {
+    ghost use Rattle.std.specs.Prelude.{List};
+    ghost use Rattle.mimic_events.specs.Key.{Key as KeyRead};
+
+    ghost Value = { List (KeyRead × T) };
+
+    ghost use Rattle.mimic_expect.specs.Pool.{ArePlaces, left_of};
+
+    ghost view = { λ pool. left_of pool.items.items };
+
+    ghost invariant = { λ pool. ArePlaces pool.places pool.items.items };
+}
+
+impl<'a, T: Copy> Pool<'a, T> {
+    pub(crate) fn new(alloc: Global, items: &[(Key<'a>, T)]) -> Result<Pool<'a, T>, AllocError>
+        ensures { IfOk result (λ pool. pool ≡ map (λ x. (key_read x.0, x.1)) items.now) }
     {
-        let count = keys.len();
-        let mut first = HashMap::with_capacity(alloc, count)?;
-        let mut next = vec![in alloc; count; count]?;
-        let mut number = count;
-        while number > 0 {
-            number -= 1;
-            next[number] = first.insert(keys[number], number)?.unwrap_or(count);
+        let mut all = Vec::new(alloc);
+        let mut places = HashMap::new(alloc);
+        for (key, item) in items {
+            add_place(alloc, &mut places, *key, all.len())?;
+            all.push((*key, *item, true))?;
         }
-        Ok(Pool { keys, first, next })
+        Ok(Pool { items: all, places })
     }
 
-    // Takes the first one left with the key, and returns its number.
-    pub(crate) fn take(&mut self, key: &Key<'a>) -> Option<usize>
-        ensures { (left : List (KeyRead × ℕ)) → HasLeft self.old left
-            → (result ≡ lookup (same_key (key_read key.now)) left)
-            × HasLeft self.new (remove_entry (same_key (key_read key.now)) left) }
+    // Takes the first one left with the key.
+    pub(crate) fn take(&mut self, key: &Key<'a>) -> Option<T>
+        ensures found { result ≡ lookup (same_key (key_read key.now)) self.old }
+        ensures left { self.new ≡ remove_entry (same_key (key_read key.now)) self.old }
     {
-        let first = self.first.get_mut(key)?;
-        let number = *first;
-        *first = *self.next.get(number)?;
-        Some(number)
+        let place = first_place(&mut self.places, key)?;
+        let (_, item, is_left) = &mut self.items[place];
+        *is_left = false;
+        Some(*item)
     }
 
-    // Returns the numbers of those that are left, in their order.
-    pub(crate) fn left(&self, alloc: Global) -> Result<Vec<usize>, AllocError>
-        ensures { IfOk result (λ numbers. (left : List (KeyRead × ℕ)) → HasLeft self.now left
-            → numbers.items ≡ map (λ x. x.1) left) }
+    // Returns those that are left, in their order.
+    pub(crate) fn left(&self, alloc: Global) -> Result<Vec<T>, AllocError>
+        ensures { IfOk result (λ left. left.items ≡ map (λ x. x.1) self.now) }
     {
-        let mut left = Vec::new(alloc);
-        for (number, key) in self.keys.iter().enumerate() {
-            if self.is_left(number, key) {
-                left.push(number)?;
-            }
-        }
-        Ok(left)
+        self.items
+            .iter()
+            .filter(|item| item.2)
+            .map(|item| item.1)
+            .collect(alloc)
     }
+}
 
-    // Whether the one of this number, which has this key, is left.
-    fn is_left(&self, number: usize, key: &Key<'a>) -> bool
-        ensures { result ≡ is_left number (get is_same self.now.first key.now) }
-    {
-        match self.first.get(key) {
-            Some(first) => *first <= number,
-            None => false,
-        }
+// Adds a place behind those with the same key.
+fn add_place<'a>(
+    alloc: Global,
+    places: &mut HashMap<Key<'a>, VecDeque<usize>>,
+    key: Key<'a>,
+    place: usize,
+) -> Result<(), AllocError>
+    ensures { OnOk result ((x : Found) → places_at places.new x ≡ places_at places.old x ++ cond (is_same key.entry x) (place ∷ []) []) }
+{
+    if let Some(queue) = places.get_mut(&key) {
+        queue.push_back(place)?;
+        return Ok(());
     }
+    let mut queue = VecDeque::new(alloc);
+    queue.push_back(place)?;
+    places.insert(key, queue)?;
+    Ok(())
+}
+
+// Takes the first place with the key.
+fn first_place<'a>(places: &mut HashMap<Key<'a>, VecDeque<usize>>, key: &Key<'a>) -> Option<usize>
+    ensures { MatchOption result
+        ((places_at places.old key.now ≡ []) × ((x : Found) → places_at places.new x ≡ places_at places.old x))
+        (λ place. (x : Found) → places_at places.old x ≡ cond (is_same key.now x) (place ∷ []) [] ++ places_at places.new x) }
+{
+    let place = places.get_mut(key)?.pop_front()?;
+    Some(place)
 }

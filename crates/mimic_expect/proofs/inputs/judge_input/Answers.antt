@@ -1,8 +1,6 @@
-use Rattle.std.proofs.Common.{◌≡◌, ◌+◌, ◌++◌, ◌∷◌, [], arith, cond, suc, subst, sym}
-use Rattle.mimic_printer.specs.Sink.{shown}
+use Rattle.std.proofs.Common.{◌≡◌, ◌+◌, ◌++◌, ◌∷◌, [], arith, cond, refl, suc}
 use Rattle.mimic_events.specs.Contents.{entry_read}
-use Rattle.mimic_expect.specs.Judge.{Judges}
-use Rattle.mimic_expect.proofs.Judged.{counted_none, counted_one, err_left, judges_then, left_after, room, rows_before}
+use Rattle.mimic_expect.proofs.Judged.{err_left, judges_then, left_after, room, rows_before}
 use Rattle.mimic_expect.proofs.inputs.judge_input.Goals as goal
 use Rattle.mimic_expect.proofs.inputs.judge_input.Goals.{then-branch, else-branch}
 
@@ -38,16 +36,15 @@ loop-preserved g c =
     let e = entry_read c.in-Ok-Some.row in
     let unknown = c.in_ok-row-in-Ok-Some.field-0 in
     let counts : c.if-branch.failed ≡ c.loop.failed + cond unknown (suc 0) 0 = elim c.if-branch.branch [
-      | then-branch w ↦ counted_one c.loop.failed c.if-branch.failed unknown w.if-branch.true w.failed-is
-      | else-branch w ↦ counted_none c.loop.failed c.if-branch.failed unknown w.if-branch.false w.failed-is
+      | then-branch w ↦ rw (w.failed-is, w.if-branch.true) refl
+      | else-branch w ↦ rw (w.failed-is, w.if-branch.false) (omega arith)
     ] in
     record {
       ready = c.in-Ok-Some.ensures.ready;
       come = (
         come.0 ++ e ∷ [],
         rw c.in-Ok-Some.field-0-is at c.in-Ok-Some.ensures.rows start come.0 come.1,
-        subst (λ n. Judges c.args.judge.now c.row.new.self (come.0 ++ e ∷ []) n (shown g.W.Write.contents c.args.sink.now) (shown g.W.Write.contents c.row.new.sink)) (sym counts)
-            (judges_then _ _ _ come.0 (e ∷ []) _ _ _ _ _ come.2 c.in_ok-row-in-Ok-Some.ensures),
+        rw counts (judges_then _ _ _ come.0 (e ∷ []) _ _ _ _ _ come.2 c.in_ok-row-in-Ok-Some.ensures),
       );
     }
 

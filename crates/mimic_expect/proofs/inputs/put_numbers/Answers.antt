@@ -1,5 +1,4 @@
-use Rattle.std.proofs.Common.{◌∙◌, ◌++◌, [], ℕ, List, decimal, subst}
-use Rattle.mimic_printer.specs.Sink.{Put, Stopped, shown}
+use Rattle.std.proofs.Common.{◌++◌, [], ℕ, List, decimal}
 use Rattle.mimic_printer.proofs.Appending.{Put-Stopped, Puts-stopped, Stopped-more, Stopped-next}
 use Rattle.mimic_expect.proofs.inputs.put_numbers.Goals as goal
 use denote.Ref.{Bor}
@@ -12,16 +11,13 @@ none = (0, record { ref_ptr = (0, 0); now = [] })
 
 pub returns-in_err-put : goal.returns-in_err-put
 returns-in_err-put g c =
-    let P : List ℕ → Type 0 = λ t. Stopped (shown g.W.Write.contents c.loop-number.sink) (shown g.W.Write.contents c.put.new.self) t in
     Puts-stopped _ _ c.from_residual.ensures.0
     (Stopped-next text_of c.args.numbers.now c.loop-number.number-index none c.loop-number-test.true c.loop-number.invariant
-    (Stopped-more _ _ (subst P (c.as_bytes.ensures.value ∙ c.format.ensures.text) c.in_err-put.ensures.appends)))
+    (Stopped-more _ _ (rw (c.as_bytes.ensures.value, c.format.ensures.text) at c.in_err-put.ensures.appends)))
 
 pub returns-in_err-put-2 : goal.returns-in_err-put-2
 returns-in_err-put-2 g c =
-    let P : List ℕ → Type 0 = λ t. Put (shown g.W.Write.contents c.loop-number.sink) (shown g.W.Write.contents c.put.new.self) t in
-    let Q : List ℕ → Type 0 = λ t. Stopped (shown g.W.Write.contents c.put.new.self) (shown g.W.Write.contents c.put-in-loop-number.new.self) t in
     Puts-stopped _ _ c.from_residual-in_err-put-2.ensures.0
     (Stopped-next text_of c.args.numbers.now c.loop-number.number-index none c.loop-number-test.true c.loop-number.invariant
-    (Put-Stopped _ _ (subst P (c.as_bytes.ensures.value ∙ c.format.ensures.text) c.in_ok-put.ensures.appends)
-    (subst Q c.as_bytes-in-loop-number.ensures.value c.in_err-put-2.ensures.appends)))
+    (Put-Stopped _ _ (rw (c.as_bytes.ensures.value, c.format.ensures.text) at c.in_ok-put.ensures.appends)
+    (rw c.as_bytes-in-loop-number.ensures.value at c.in_err-put-2.ensures.appends)))

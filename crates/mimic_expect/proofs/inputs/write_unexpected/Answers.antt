@@ -4,35 +4,19 @@ use Rattle.mimic_printer.proofs.Appending.{Put-Stopped, Put-trans}
 use Rattle.mimic_expect.specs.Expect.{findings}
 use Rattle.mimic_expect.specs.Known.{expected_read}
 use Rattle.mimic_expect.specs.Verdict.{has_all, have_all, rows_of}
-use Rattle.mimic_expect.proofs.Strangers.{expect_laws}
 use Rattle.mimic_expect.proofs.Verdicts.{all_put, ends_have_all, rest_counts, some_counts, write_left}
 use Rattle.mimic_expect.proofs.inputs.write_unexpected.Goals as goal
 use Rattle.mimic_expect.proofs.inputs.write_unexpected.Goals.{then-failed-gt0, else-failed-gt0}
-
-pub returns-in_err-judge-clause-laws : goal.returns-in_err-judge-clause-laws
-returns-in_err-judge-clause-laws g c = expect_laws
-
-pub returns-in_err-failed-clause-laws : goal.returns-in_err-failed-clause-laws
-returns-in_err-failed-clause-laws g c = expect_laws
-
-pub returns-in_err-judgement-clause-laws : goal.returns-in_err-judgement-clause-laws
-returns-in_err-judgement-clause-laws g c = expect_laws
 
 pub returns-in_err-put_judgement-clause-verdict : goal.returns-in_err-put_judgement-clause-verdict
 returns-in_err-put_judgement-clause-verdict g c =
     write_left g.I.Read.remaining (map expected_read c.args.known.now) c.args.inputs.items c.args.lax _ _ c.from_residual-in_err-put_judgement.result c.in_err-put_judgement.field-0.0 _
     c.from_residual-in_err-put_judgement.ensures.1 (Put-Stopped _ _ c.in_ok-failed.ensures.3.put c.in_err-put_judgement.ensures)
 
-pub returns-in_err-put_judgement-clause-laws : goal.returns-in_err-put_judgement-clause-laws
-returns-in_err-put_judgement-clause-laws g c = expect_laws
-
 pub returns-in_err-flush-clause-verdict : goal.returns-in_err-flush-clause-verdict
 returns-in_err-flush-clause-verdict g c =
     write_left g.I.Read.remaining (map expected_read c.args.known.now) c.args.inputs.items c.args.lax _ _ c.from_residual-in_err-flush.result c.in_err-flush.field-0.0 _
     c.from_residual-in_err-flush.ensures.1 (Put-Stopped _ [] (Put-trans _ _ c.in_ok-failed.ensures.3.put c.in_ok-put_judgement.ensures) c.in_err-flush.ensures)
-
-pub returns-in_err-flush-clause-laws : goal.returns-in_err-flush-clause-laws
-returns-in_err-flush-clause-laws g c = expect_laws
 
 pub returns-clause-verdict : goal.returns-clause-verdict
 returns-clause-verdict g c =
@@ -54,6 +38,3 @@ returns-clause-verdict g c =
         | else-failed-gt0 w ↦ w.result-is ∙ rest_counts known c.in_ok-judge.judge new (rows_of came.0) (have_all came.0) failed judgement begun came.3 says c.args.lax w.is_unexpected.result w.if-failed-gt0.false w.is_unexpected.ensures
       ];
     }
-
-pub returns-clause-laws : goal.returns-clause-laws
-returns-clause-laws g c = expect_laws

@@ -1,32 +1,28 @@
-use Rattle.std.proofs.Common.{◌≡◌, ◌++◌, ◌∙◌, ap, ap₂, arith, length, map, rules}
+use Rattle.std.proofs.Common.{◌++◌, ◌∙◌, ap, ap₂, arith, map}
 use Rattle.mimic_trial.specs.Count.{is_ignored_outcome}
 use Rattle.mimic_events.specs.Contents.{entry_read}
 use Rattle.mimic_expect.specs.Expect.{findings_with, has_passed, keyed, left_by, rows_with, unmet_by}
 use Rattle.mimic_expect.specs.Judging.{entries_read, expected_at}
 use Rattle.mimic_expect.specs.Known.{expected_read}
-use Rattle.mimic_expect.proofs.Judgements.{counted, failures_read, others_found, second}
+use Rattle.mimic_expect.proofs.Judgements.{counted, failures_read, others_found}
 use Rattle.mimic_expect.proofs.judgement.judge.Goals as goal
 
 pub overflow_sub-met : goal.overflow_sub-met
 overflow_sub-met c =
     let n = counted c.args.known.now c.args.rows.now c.in_ok-failed.failed.items c.deref.result.now c.in_ok-left.unmet.items c.in_ok-failed.ensures c.deref.ensures.value c.in_ok-left.ensures.1 in
-    let a : c.len.result ≡ length c.in_ok-failed.failed.items = search rules in
-    let b : c.len-2.result ≡ length c.in_ok-left.unmet.items = search rules in
-    omega (arith, n, a, b)
+    omega (arith, n, c.len.ensures, c.len-2.ensures)
 
 pub returns-clause-met : goal.returns-clause-met
 returns-clause-met c =
     let n = counted c.args.known.now c.args.rows.now c.in_ok-failed.failed.items c.deref.result.now c.in_ok-left.unmet.items c.in_ok-failed.ensures c.deref.ensures.value c.in_ok-left.ensures.1 in
-    let a : c.len.result ≡ length c.in_ok-failed.failed.items = search rules in
-    let b : c.len-2.result ≡ length c.in_ok-left.unmet.items = search rules in
-    omega (arith, n, a, b)
+    omega (arith, n, c.len.ensures, c.len-2.ensures)
 
 pub returns-clause-unexpected : goal.returns-clause-unexpected
 returns-clause-unexpected c =
     let known = keyed (map expected_read c.args.known.now) in
     let rows = map entry_read c.args.rows.now in
     let same = failures_read c.args.known.now c.args.rows.now c.in_ok-failed.failed.items c.deref.result.now c.in_ok-left.unmet.items c.in_ok-failed.ensures c.deref.ensures.value in
-    let left = ap expected_at c.deref-2.ensures.value ∙ (c.in_ok-left.ensures.0 ∙ ap (λ l. map second (left_by known l)) same) in
+    let left = ap expected_at c.deref-2.ensures.value ∙ (c.in_ok-left.ensures.0 ∙ ap (λ l. map (λ x. x.1) (left_by known l)) same) in
     let unmet = c.in_ok-left.ensures.1 ∙ ap (unmet_by known) same in
     let others = ap entries_read c.deref-3.ensures.value
     ∙ (others_found c.args.rows.now c.in_ok-left.unmet.items c.in_ok-others.others.items c.in_ok-others.ensures ∙ ap (λ u. u ++ (rows_with has_passed rows ++ rows_with is_ignored_outcome rows)) unmet) in

@@ -1,19 +1,16 @@
-use Rattle.std.proofs.Common.{◌++◌, [], ◌∙◌, ap, append-nil, map, sym, cond, ◌∷◌, length, arith}
-use Rattle.std.proofs.lemmas.List.{take_all}
-use Rattle.mimic_events.specs.Key.{key_read}
-use Rattle.mimic_expect.specs.Pool.{left_from}
-use Rattle.mimic_expect.proofs.Pools.{left_step, snd}
+use Rattle.std.proofs.Common.{◌≡◌, ◌∙◌, filter, map, rules, sym, tests}
+use Rattle.std.proofs.lemmas.Iterator.{YieldsList-from_map, YieldsList-from_slice, items_from_collect}
+use Rattle.std.proofs.lemmas.Iterator.Consumers.{YieldsList-at, YieldsList-from_filter}
+use Rattle.std.proofs.lemmas.Result.{IfOk-weaker}
+use Rattle.std.proofs.lemmas.Simd.{map-map}
 use Rattle.mimic_expect.proofs.pool.Pool.left.Goals as goal
-use Rattle.mimic_expect.proofs.pool.Pool.left.Goals.{then-is_left+in_ok-push, else-is_left}
-
-pub loop-number-preserved : goal.loop-number-preserved
-loop-number-preserved c = λ left has.
-    left_step c.args.self.now left has c.deref-key-items.result.now c.loop-number.number c.key-item.result c.is_left.result c.loop-number.left.items c.if-is_left.left.items c.deref-key-items.ensures.value
-    c.loop-number-test.true c.key-item.is c.is_left.ensures (c.loop-number.invariant left has) (elim c.if-is_left.branch [
-      | then-is_left+in_ok-push w ↦ (ap (λ v. v.items) w.left-is ∙ w.in_ok-push.ensures.items) ∙ sym (ap (λ b. c.loop-number.left.items ++ cond b (c.loop-number.number ∷ []) []) w.if-is_left.true)
-      | else-is_left w ↦ (ap (λ v. v.items) w.left-is ∙ sym (append-nil c.loop-number.left.items)) ∙ sym (ap (λ b. c.loop-number.left.items ++ cond b (c.loop-number.number ∷ []) []) w.if-is_left.false)
-    ])
 
 pub returns : goal.returns
-returns c = λ left has.
-    c.loop-number.invariant left has ∙ ap (map snd) (ap (λ l. left_from has.first 0 (map key_read l)) (take_all c.loop-number.number c.args.self.now.keys.items (omega (arith, ap length c.deref-key-items.ensures.value, c.loop-number-test.false))) ∙ sym has.all)
+returns g c =
+    let items = c.self.inside.items.items in
+    rw (← c.self.view_is) (IfOk-weaker c.collect.result (λ left. left.items ≡ map (λ i. i.1) (filter (λ i. i.2) items)) _
+    (λ left e. e ∙ sym (map-map _ _ (filter (λ i. i.2) items)))
+    (items_from_collect _ c.collect.ensures.ran (YieldsList-from_map _ (λ i. i.1)
+    (YieldsList-at c.map.ensures.source (YieldsList-from_filter _ (λ i. i.2) (YieldsList-from_slice items cc)
+    c.filter.ensures.closure (λ x r q k. search (rules, tests))))
+    c.map.ensures.closure (λ x r q k. search (rules, tests)))))

@@ -1,33 +1,27 @@
-use Rattle.std.proofs.Common.{◌≡◌, ◌∙◌, arith, refl, sym, ap, get_or, length}
-use Rattle.std.specs.Option.{is_some}
-use Rattle.std.specs.HashMap.{get}
-use Rattle.mimic_events.specs.Key.{is_same}
-use Rattle.mimic_expect.specs.declared.pool.Pool.{Pool}
-use Rattle.mimic_expect.proofs.Pools.{take_none, take_some, written_back}
+use Rattle.std.proofs.Common.{◌≡◌, arith, get_or, sym}
+use Rattle.mimic_expect.proofs.Pools.{none_taken, one_taken, places_taken}
 use Rattle.mimic_expect.proofs.pool.Pool.take.Goals as goal
 
-pub returns-in_err-first : goal.returns-in_err-first
-returns-in_err-first c = λ left has.
-    let e = c.get_mut.follows.holds-at-none in
-    let t = take_none c.args.self.now (record { keys = c.args.self.now.keys; first = c.get_mut.follows.lender-at-none; next = c.args.self.now.next }) c.args.key.now left has 0 refl refl
-    (λ m is. absurd (cc (is, c.in_err-first.ensures.value))) (λ x. ap (λ m. get is_same m x) e) in
-    (c.from_residual.ensures ∙ t.0, t.1)
+pub returns-in_err-place : goal.returns-in_err-place
+returns-in_err-place g c =
+    let t = none_taken c.self.inside.places c.first_place.new.places c.self.inside.items.items c.args.key.now c.self.invariant c.in_err-place.ensures.0 in
+    record { found = rw (c.from_residual.ensures, ← c.self.view_is) t.0; left = rw (← c.self.view_is) t.1 }
 
-pub returns-in_err-first-2 : goal.returns-in_err-first-2
-returns-in_err-first-2 c = λ left has.
-    let q = c.in_ok-first.first.now in
-    let is = sym c.in_ok-first.ensures.value in
-    let w = (c.get_mut.follows.holds q).3 (ap is_some is) in
-    let new : Pool = record { keys = c.args.self.now.keys; first = c.get_mut.follows.lender q; next = c.args.self.now.next } in
-    let t = take_none c.args.self.now new c.args.key.now left has q refl refl
-    (λ m there. let p : q ≡ m = cc (there, is) in omega (arith, p, ap length c.deref.ensures.value, c.in_err-first-2.ensures.lookup.3)) (written_back c.args.self.now new c.args.key.now left has q refl refl is w.0) in
-    (c.from_residual-in_err-first-2.ensures ∙ t.0, t.1)
+pub index_mut-requires : goal.index_mut-requires
+index_mut-requires g c =
+    let h = (one_taken c.self.inside.places c.first_place.new.places c.self.inside.items.items c.args.key.now
+    c.self.invariant c.in_ok-place.place c.in_ok-place.ensures).within in
+    omega (arith, h)
+
+pub invariant_of-self-2 : goal.invariant_of-self-2
+invariant_of-self-2 g c =
+    places_taken c.self.inside.places c.first_place.new.places c.self.inside.items.items c.args.key.now
+    c.self.invariant c.in_ok-place.place c.in_ok-place.ensures c.index_mut.result.now
+    (sym c.index_mut.ensures.value)
 
 pub returns : goal.returns
-returns c = λ left has.
-    let q = c.in_ok-first.first.now in
-    let is = sym c.in_ok-first.ensures.value in
-    let w = (c.get_mut.follows.holds c.in_ok-first-2.field-0.now).3 (ap is_some is) in
-    let new : Pool = record { keys = c.args.self.now.keys; first = c.get_mut.follows.lender c.in_ok-first-2.field-0.now; next = c.args.self.now.next } in
-    take_some c.args.self.now new c.args.key.now left has q refl refl c.in_ok-first-2.field-0.now is w.0
-    (omega (arith, ap length c.deref.ensures.value, c.in_ok-first-2.ensures.lookup.3.0)) (c.in_ok-first-2.ensures.lookup.3.1 0 ∙ ap (λ l. get_or l q 0) c.deref.ensures.value)
+returns g c =
+    let t = one_taken c.self.inside.places c.first_place.new.places c.self.inside.items.items c.args.key.now c.self.invariant c.in_ok-place.place c.in_ok-place.ensures in
+    let i = c.index_mut.result.now in
+    let e : get_or c.self.inside.items.items c.in_ok-place.place i ≡ i = sym c.index_mut.ensures.value in
+    record { found = rw (← c.self.view_is) (sym (rw e at (t.found i))); left = rw (← c.self.view_is) (sym (rw e at (t.left i))) }
