@@ -1,16 +1,17 @@
 -- The parts of a page, one after another.
-use Rattle.std.proofs.Common.{◌≡◌, arith, codes, ℕ, suc, ◌+◌, ◌<◌, ◌≤◌, append_assoc, drop, drop-cons, get_or, List, [], ◌∷◌, ◌++◌, Result, length, map, refl, sym, ap, ap₂, subst, ◌∙◌, append-nil}
+use Rattle.std.proofs.Common.{◌≡◌, arith, codes, ℕ, suc, ◌+◌, ◌<◌, ◌≤◌, append_assoc, drop, drop-cons, get_or, List, [], ◌++◌, Result, length, map, sym, ap, subst, ◌∙◌, append-nil}
 use Rattle.std.proofs.lemmas.List.{drop_all, length-map}
+use Rattle.std.proofs.lemmas.Simd.{map-map}
+use Rattle.std.specs.Result.{IsErr}
 use Rattle.mimic_trial.specs.Count.{counts_of}
-use Rattle.mimic_trial.specs.declared.outcome.Outcome.{Outcome}
 use Rattle.mimic_trial.specs.declared.outcome.conclusion.Conclusion.{Conclusion}
 use Rattle.mimic_printer.specs.Sink.{Put, Shown, Stopped, Writes}
-use Rattle.mimic_printer.proofs.Appending.{Put-Stopped, Put-trans, Puts_then, Stopped-more}
+use Rattle.mimic_printer.proofs.Appending.{Put-Stopped, Put-trans, Puts-stopped, Puts_then, Stopped-more}
 use Rattle.mimic_events.specs.Contents.{entry_read}
 use Rattle.mimic_events.specs.declared.report.Row.{Row}
 use Rattle.mimic_input.specs.declared.ending.Ending.{Ending}
 use Rattle.mimic_page.specs.declared.page.Group.{Group}
-use Rattle.mimic_page.specs.Page.{counts_text, end_text, ending_text, greatest_time, group_text, heading, list_end, missing_in, outcomes, page_text, row_in, rows_after, rows_text, start_text}
+use Rattle.mimic_page.specs.Page.{counts_text, end_text, ending_text, greatest_time, group_text, heading, list_end, missing_in, page_text, row_in, rows_after, rows_text, start_text}
 
 -- ---- a group of rows
 
@@ -99,37 +100,21 @@ groups_put a b c d x y z result p q w =
 
 -- ---- the whole page
 
--- their outcomes
-outcomes_kept : (rows : List Row) → map (λ row. row.outcome) rows ≡ outcomes (map entry_read rows)
-outcomes_kept [] = refl
-outcomes_kept (row ∷ rows) = ap (λ (os : List Outcome). row.outcome ∷ os) (outcomes_kept rows)
-
-module _ (program : List ℕ) (rows : List Row) (ending : Ending) (counts : Conclusion) (missing : ℕ)
-    (counted : counts ≡ counts_of (map (λ row. row.outcome) rows) 0)
-    (left : missing ≡ missing_in (length rows) ending) where
+module _ (program : List ℕ) (items rows : List Row) (ending : Ending) (counts : Conclusion) (missing : ℕ) (same : rows ≡ items)
+    (counted : counts ≡ counts_of (map (λ row. row.outcome) rows) 0) (left : missing ≡ missing_in (length rows) ending) where
   abbrev page : List ℕ
-  page = page_text program (map entry_read rows) ending
-
-  -- the parts of a page, from the outcomes, the number of rows, their counts and how many are missing
-  abbrev parts_of : List Outcome → ℕ → Conclusion → ℕ → List ℕ
-  parts_of shown number counts missing =
-      start_text program counts ending ++ (ending_text number ending ++ (counts_text counts missing
-      ++ (rows_text (map entry_read rows) (greatest_time shown) ++ (end_text ++ []))))
+  page = page_text program (map entry_read items) ending
 
   abbrev parts : List ℕ
-  parts = parts_of (map (λ row. row.outcome) rows) (length rows) counts missing
+  parts = start_text program counts ending ++ (ending_text (length rows) ending ++ (counts_text counts missing
+      ++ (rows_text (map entry_read rows) (greatest_time (map (λ row. row.outcome) rows)) ++ (end_text ++ []))))
 
   whole : parts ≡ page
   unfolding page_text
-  whole =
-      let many : length rows ≡ length (map entry_read rows) = sym (length-map rows entry_read) in
-      ap₂ (parts_of (map (λ row. row.outcome) rows) (length rows)) counted left
-      ∙ ap₂ (λ (os : List Outcome) (n : ℕ). parts_of os n (counts_of os 0) (missing_in n ending))
-      (outcomes_kept rows) many
+  whole = simp (counted, left, same, length-map, map-map)
 
-  pub stopped_page : {a b : Shown} → Stopped a b parts → Stopped a b page
-  stopped_page {a} {b} s = subst (Stopped a b) whole s
+  pub stopped_page : {E T : Type 0} {a b : Shown} (result : Result T E) → IsErr result → Stopped a b parts → Writes a b page result
+  stopped_page {a} {b} result failed s = Puts-stopped page result failed (subst (Stopped a b) whole s)
 
-  pub page_put : {E T : Type 0} (a b : Shown) (result : Result T E) → Writes a b parts result
-      → Writes a b page result
+  pub page_put : {E T : Type 0} (a b : Shown) (result : Result T E) → Writes a b parts result → Writes a b page result
   page_put a b result w = subst (λ (l : List ℕ). Writes a b l result) whole w

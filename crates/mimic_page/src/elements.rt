@@ -1,6 +1,5 @@
 //! Writes the elements of a page.
 ghost use Rattle.std.specs.Prelude.{◌≡◌};
-ghost use Rattle.std.specs.Option.{option_copied};
 ghost use Rattle.mimic_printer.specs.Sink.{HasFaultLeft, Puts};
 ghost use Rattle.mimic_events.specs.Contents.{entry_read};
 ghost use Rattle.mimic_page.specs.Page.{counts_text, end_text, ending_text, kind_end, kind_start, missing_part, row_text, running_part, start_text, stop_text, verdict};
@@ -8,7 +7,7 @@ ghost use Rattle.mimic_page.specs.Page.{counts_text, end_text, ending_text, kind
 use crate::script::{FILTER, SCRIPT, SCRIPT_DIGEST};
 use crate::style::STYLE;
 use mimic_escapes::{Piece, Place, put_pieces};
-use mimic_events::{Label, Row};
+use mimic_events::Row;
 use mimic_input::{Ending, Stop};
 use mimic_printer::{Sink, WriteFault};
 use mimic_trial::{Conclusion, Outcome};
@@ -133,7 +132,7 @@ fn put_stop<W: Write>(sink: &mut Sink<W>, ended: u64, stop: &Stop) -> Result<(),
     sink.put(b"<p class=\"cut\">")?;
     stop.put_extent(sink, u128::from(ended))?;
     put_missing(sink, ended, stop.announced)?;
-    put_running(sink, stop.running.as_ref())?;
+    put_running(sink, stop)?;
     sink.put(b"</p>\n")
 }
 
@@ -155,12 +154,11 @@ fn put_missing<W: Write>(
     put_pieces(sink, &pieces)
 }
 
-fn put_running<W: Write>(sink: &mut Sink<W>, running: Option<&Label>) -> Result<(), WriteFault>
+fn put_running<W: Write>(sink: &mut Sink<W>, stop: &Stop) -> Result<(), WriteFault>
     requires { HasFaultLeft sink.old }
-    ensures { Puts W.contents sink.old sink.new
-        (running_part (option_copied running.entry)) result }
+    ensures { Puts W.contents sink.old sink.new (running_part stop.now.running) result }
 {
-    let Some(label) = running else {
+    let Some(label) = &stop.running else {
         return Ok(());
     };
     put_label!(sink, label, "; running: ", Piece::Text("</bdi>"))
@@ -260,7 +258,7 @@ pub(crate) fn put_row<'a, W: Write>(
     }
 }
 
-// Writes what follows the rows.
+// Writes what follows the rows, and flushes the page.
 pub(crate) fn put_end<W: Write>(sink: &mut Sink<W>) -> Result<(), WriteFault>
     requires { HasFaultLeft sink.old }
     ensures { Puts W.contents sink.old sink.new end_text result }
@@ -270,5 +268,6 @@ pub(crate) fn put_end<W: Write>(sink: &mut Sink<W>) -> Result<(), WriteFault>
         Piece::Text(SCRIPT),
         Piece::Text("</script>\n</body>\n</html>\n"),
     ];
-    put_pieces(sink, &pieces)
+    put_pieces(sink, &pieces)?;
+    sink.flush()
 }

@@ -49,8 +49,7 @@ pub fn write_page<'a, W: Write>(
     put_ending(sink, ended, ending)?;
     put_counts(sink, &counts, missing(ended, ending))?;
     put_groups(sink, rows)?;
-    put_end(sink)?;
-    sink.flush()
+    put_end(sink)
 }
 
 // Returns how many rows are missing after so many.

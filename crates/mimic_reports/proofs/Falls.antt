@@ -21,22 +21,18 @@ module _ {X : Type 0} where
 
   front_pairs : (init : List (List X)) (last : List X) → AllPairs Falls (init ++ last ∷ []) → AllPairs Falls init
   front_pairs init last h i j d lt within =
-      let a : get_or (init ++ last ∷ []) i d ≡ get_or init i d = get_or_append_left init (last ∷ []) d i (omega (arith, lt, within)) in
-      let b : get_or (init ++ last ∷ []) j d ≡ get_or init j d = get_or_append_left init (last ∷ []) d j within in
-      let n : length (init ++ last ∷ []) ≡ length init + 1 = length-append init (last ∷ []) in
-      subst (λ u. Falls u (get_or init j d)) a (subst (Falls (get_or (init ++ last ∷ []) i d)) b (h i j d lt (omega (arith, within, n))))
+      rw (get_or_append_left init (last ∷ []) d i (omega (arith, lt, within)), get_or_append_left init (last ∷ []) d j within) at
+      (h i j d lt (omega (arith, within, length-append init (last ∷ []))))
 
   over_last : (init : List (List X)) (last : List X) → AllPairs Falls (init ++ last ∷ []) → All (λ (l : List X). Falls l last) init
   over_last init last h k d within =
-      let a : get_or (init ++ last ∷ []) k d ≡ get_or init k d = get_or_append_left init (last ∷ []) d k within in
-      let b : get_or (init ++ last ∷ []) (length init) d ≡ last = get_or_push init last d (length init) refl in
-      let n : length (init ++ last ∷ []) ≡ length init + 1 = length-append init (last ∷ []) in
-      subst (λ u. Falls u last) a (subst (Falls (get_or (init ++ last ∷ []) k d)) b (h k (length init) d within (omega (arith, n))))
+      rw (get_or_append_left init (last ∷ []) d k within, get_or_push init last d (length init) refl) at
+      (h k (length init) d within (omega (arith, length-append init (last ∷ []))))
 
   turned_back : (x : X) (init : List (List X)) (last : List X) → AllPairs Falls (init ++ last ∷ []) → AllPairs Falls ((x ∷ last) ∷ init)
   turned_back x init last h =
       AllPairs-cons Falls (x ∷ last) init
-      (λ k d within. let f = over_last init last h k d within in let a = f.no_rise in let b = f.one in record { no_rise = omega (arith, a, b); one = omega (arith, a, b) })
+      (λ k d within. omega (arith, over_last init last h k d within))
       (front_pairs init last h)
 
   abbrev nothing : ℕ → ℕ → ℕ → List X
@@ -47,8 +43,7 @@ module _ {X : Type 0} where
       let n : length (map (nothing m place) (range_with_len 0 (suc m))) ≡ suc m = length-map-range_with_len (nothing m place) 0 (suc m) in
       let a : get_or (map (nothing m place) (range_with_len 0 (suc m))) i d ≡ [] = get_or-map-range_with_len (nothing m place) 0 (suc m) i i d (omega (arith, lt, within, n)) (omega arith) in
       let b : get_or (map (nothing m place) (range_with_len 0 (suc m))) j d ≡ [] = get_or-map-range_with_len (nothing m place) 0 (suc m) j j d (omega (arith, within, n)) (omega arith) in
-      let c = ap length a in let e = ap length b in
-      record { no_rise = omega (arith, c, e); one = omega (arith, c, e) }
+      omega (arith, ap length a, ap length b)
 
   pub shards_fall : (m place : ℕ) (xs : List X) → AllPairs Falls (shards_from (suc m) place xs)
   shards_fall m place [] = nothing_falls m place
@@ -73,11 +68,11 @@ module _ {X : Type 0} where
   behind_falls : (x : X) (l : List X) (rest : List (List X)) → AllPairs Falls ((x ∷ l) ∷ rest) → AllPairs Falls (rest ++ l ∷ [])
   behind_falls x l rest h =
       all_pairs_push Falls rest l (λ i j d lt within. h (suc i) (suc j) d (omega (arith, lt)) (omega (arith, within)))
-      (λ k d within. let f = h 0 (suc k) d (omega arith) (omega (arith, within)) in let a = f.no_rise in let b = f.one in record { no_rise = omega (arith, a, b); one = omega (arith, a, b) })
+      (λ k d within. omega (arith, h 0 (suc k) d (omega arith) (omega (arith, within))))
 
   all_none : (rest : List (List X)) → AllPairs Falls ([] ∷ rest) → All (λ (l : List X). length l ≡ 0) ([] ∷ rest)
   all_none rest h zero d lt = refl
-  all_none rest h (suc k) d lt = let f = (h 0 (suc k) d (omega arith) lt).no_rise in omega (arith, f)
+  all_none rest h (suc k) d lt = omega (arith, h 0 (suc k) d (omega arith) lt)
 
   pub falls_shard : (k m place : ℕ) (xss : List (List X)) → length xss ≡ suc m → AllPairs Falls xss → length (in_turn xss) ≡ k → shards_from (suc m) place (in_turn xss) ≡ xss
   falls_shard k m place [] n h e = absurd (omega (arith, n))
@@ -118,8 +113,7 @@ module _ {Y : Type 0} (size : Y → ℕ) where
       let p = h i j y lt (omega (arith, within, n)) in
       let a : length (get_or (map f (y ∷ ys)) i d) ≡ size (get_or (y ∷ ys) i y) = ap length (get_or-map f (y ∷ ys) i y d (omega (arith, lt, within, n))) ∙ length-range_with_len 0 (size (get_or (y ∷ ys) i y)) in
       let b : length (get_or (map f (y ∷ ys)) j d) ≡ size (get_or (y ∷ ys) j y) = ap length (get_or-map f (y ∷ ys) j y d (omega (arith, within, n))) ∙ length-range_with_len 0 (size (get_or (y ∷ ys) j y)) in
-      let q = p.no_rise in let r = p.one in
-      record { no_rise = omega (arith, a, b, q); one = omega (arith, a, b, r) }
+      omega (arith, a, b, p)
 
   pub are_shards : (m : ℕ) (ys : List Y) → length ys ≡ suc m → AllPairs SizesFall ys → map size ys ≡ shard_lengths (suc m) (in_turn (lists_of ys))
   are_shards m ys n h =
@@ -139,5 +133,4 @@ module _ {Y : Type 0} (size : Y → ℕ) where
       ∙ ap length (sym (get_or-map-range_with_len shard 0 (suc m) u u [] low (omega arith))))) in
       let a = at i (omega (arith, lt, within, n)) in
       let b = at j (omega (arith, within, n)) in
-      let q = p.no_rise in let r = p.one in
-      record { no_rise = omega (arith, a, b, q); one = omega (arith, a, b, r) }
+      omega (arith, a, b, p)

@@ -1,5 +1,5 @@
 -- One more report is joined.
-use Rattle.std.proofs.Common.{◌≡◌, ℕ, ◌+◌, ◌<◌, ◌≤◌, arith, drop, get_or, length, take, take-append-drop, List, [], ◌∷◌, ◌++◌, map, sum, refl, sym, ap, subst, ◌∙◌}
+use Rattle.std.proofs.Common.{◌≡◌, ℕ, ◌+◌, ◌<◌, ◌≤◌, arith, get_or, length, take, List, [], ◌∷◌, ◌++◌, map, sum, refl, ap, ◌∙◌}
 use Rattle.std.specs.Prelude.{IsPermutation}
 use Rattle.std.specs.List.{flat_map, range_with_len}
 use Rattle.std.proofs.lemmas.List.Sorted.{IsPermutation-map, IsPermutation-refl, IsPermutation-trans, IsPermutation-append_left, IsPermutation-append_right}
@@ -9,10 +9,11 @@ use Rattle.mimic_shard.specs.Shard.{shard_of}
 use Rattle.mimic_shard.proofs.AllShards.{parts_of_shards}
 use Rattle.mimic_reports.specs.Turns.{before, rounds_of, in_turn}
 use Rattle.mimic_reports.proofs.Turns.{joined_rounds, shards_in_turn, turns_are_all}
-use Rattle.std.proofs.lemmas.List.Sums.{sum_by-append}
+use Rattle.std.proofs.lemmas.List.Sums.{sum_by-append, sum_by_more_le}
+use Rattle.std.specs.List.{take-map}
 use Rattle.std.proofs.lemmas.List.Folds.{flat_map-map}
 use Rattle.std.proofs.lemmas.Simd.{map-map}
-use Rattle.std.proofs.lemmas.List.{map-append, take_more}
+use Rattle.std.proofs.lemmas.List.{get_or-map, length-map, map-append}
 use Rattle.mimic_events.specs.declared.report.Report.{Report}
 use Rattle.mimic_events.specs.declared.report.Row.{Row}
 use Rattle.mimic_reports.specs.Joined.{EachInSomeOrder, IsJoined, JoinsInOrder, JoinsShards, all_of, entries_in, filtered_out_of, rows_in}
@@ -26,22 +27,18 @@ filtered_out-append xs ys = ap sum (map-append _ xs ys) ∙ sum_by-append _ (map
 -- what the reports up to a place filtered out is a part of it all
 pub filtered_out-part : (xs : List Report) (i : ℕ) (r : Report) → i < length xs → r ≡ get_or xs i r → filtered_out_of (take i xs) + r.filtered_out ≤ filtered_out_of xs
 filtered_out-part xs i r lt is =
-    let front : filtered_out_of (take (i + 1) xs) ≡ filtered_out_of (take i xs) + filtered_out_of (r ∷ []) =
-    ap filtered_out_of (take_more xs i r lt ∙ ap (λ x. take i xs ++ x ∷ []) (sym is)) ∙ filtered_out-append (take i xs) (r ∷ []) in
-    let whole : filtered_out_of xs ≡ filtered_out_of (take (i + 1) xs) + filtered_out_of (drop (i + 1) xs) =
-    ap filtered_out_of (sym (take-append-drop (i + 1) xs)) ∙ filtered_out-append (take (i + 1) xs) (drop (i + 1) xs) in
-    let one : filtered_out_of (r ∷ []) ≡ r.filtered_out = omega arith in
-    omega (arith, front, whole, one)
+    let out : Report → ℕ = λ report. report.filtered_out in
+    let within : i < length (map out xs) = omega (arith, lt, length-map xs out) in
+    simp (take-map, get_or-map out xs i r 0 lt, ← is) at (sum_by_more_le (λ n. n) (map out xs) i 0 within)
 
 -- ---- reports of shards
 
 module _ {X : Type 0} where
   pub concat_orders : (xss yss : List (List X)) → EachInSomeOrder xss yss → IsPermutation (all_of xss) (all_of yss)
   concat_orders [] [] h = IsPermutation-refl []
-  concat_orders [] (ys ∷ yss) h = absurd h
-  concat_orders (xs ∷ xss) [] h = absurd h
   concat_orders (xs ∷ xss) (ys ∷ yss) h =
       IsPermutation-trans _ _ _ (IsPermutation-append_left (all_of xss) xs ys h.0) (IsPermutation-append_right ys (all_of xss) (all_of yss) (concat_orders xss yss h.1))
+  concat_orders xss yss h = absurd h
 
 entries_joined : (reports : List Report) → map entry_read (rows_of reports) ≡ all_of (map entries_in reports)
 entries_joined [] = refl
@@ -49,20 +46,18 @@ entries_joined (r ∷ reports) = map-append entry_read r.rows.items (rows_of rep
 
 -- rows in turn are all rows
 in_turn-rows : (reports : List Report) → IsPermutation (in_turn (map rows_in reports)) (rows_of reports)
-in_turn-rows reports = subst (IsPermutation (in_turn (map rows_in reports))) (flat_map-map (λ (xs : List Row). xs) rows_in reports) (turns_are_all (map rows_in reports))
+in_turn-rows reports = rw (flat_map-map (λ (xs : List Row). xs) rows_in reports) at (turns_are_all (map rows_in reports))
 
 pub entries_turned : (reports : List Report) (whole : Report) → IsJoined reports whole → IsPermutation (entries_in whole) (all_of (map entries_in reports))
 entries_turned reports whole joined =
-    let turned : IsPermutation (entries_in whole) (map entry_read (rows_of reports)) =
-    subst (λ (l : List Row). IsPermutation (map entry_read l) (map entry_read (rows_of reports))) (sym joined.rows) (IsPermutation-map entry_read _ _ (in_turn-rows reports)) in
-    subst (IsPermutation (entries_in whole)) (entries_joined reports) turned
+    rw (joined.rows, ← entries_joined reports) (IsPermutation-map entry_read _ _ (in_turn-rows reports))
 
 pub joins_shards : JoinsShards
 joins_shards count entries reports whole some each joined =
     let shards : ℕ → List Entry = λ index. all_of (shard_of count index entries) in
     IsPermutation-trans _ _ _ (entries_turned reports whole joined)
     (IsPermutation-trans _ _ _ (concat_orders (map entries_in reports) (map shards (range_with_len 0 count)) each)
-    (subst (λ (l : List Entry). IsPermutation l (all_of entries)) (sym (flat_map-map (λ (es : List Entry). es) shards (range_with_len 0 count))) (parts_of_shards (λ es. es) count entries some)))
+    (rw (flat_map-map (λ (es : List Entry). es) shards (range_with_len 0 count)) (parts_of_shards (λ es. es) count entries some)))
 
 -- ---- what is made of rows, in turn
 

@@ -1,7 +1,6 @@
 pub mod Documents
 pub mod Falls
 pub mod Fitting
-pub mod JoinInputs
 pub mod JoinedText
 pub mod Joining
 pub mod Laws

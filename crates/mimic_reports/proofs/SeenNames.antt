@@ -1,5 +1,5 @@
 -- Kinds and names that were seen.
-use Rattle.std.proofs.Common.{◌≡◌, ℕ, zero, suc, ◌+◌, ◌<◌, ◌≤◌, List, [], ◌∷◌, ◌++◌, length, map, take, get_or, append-nil, sym, ap, subst, ◌∙◌, inl, inr, arith}
+use Rattle.std.proofs.Common.{◌≡◌, ℕ, zero, suc, ◌+◌, ◌<◌, ◌≤◌, List, [], ◌∷◌, ◌++◌, length, map, take, get_or, append-nil, sym, ap, ◌∙◌, inl, inr, arith}
 use Rattle.std.specs.Prelude.{All, Contains}
 use Rattle.std.specs.List.{flat_map}
 use Rattle.std.proofs.lemmas.Bool.{cases_lt}
@@ -33,15 +33,13 @@ module _ (reports : List Report) (place : ℕ) (r : Report) (rows : List Row) (l
   pub twice : (row : ℕ) → (row < length rows) × ((d : Row) → Contains before_it (label_in (get_or rows row d))) → IsNamedTwice reports place row
   twice row h = record {
     within = lt;
-    row_within = λ d. subst (λ (l : List Row). row < length l) (same_rows d) h.0;
-    again = λ d e. subst (λ (l : List Row). Contains before_it (label_in (get_or l row e))) (same_rows d) (h.1 e);
+    row_within = λ d. rw (same_rows d) at h.0;
+    again = λ d e. rw (same_rows d) at (h.1 e);
   }
 
   pub seen_more : before_it ++ map label_in rows ≡ flat_map labels_in (take (place + 1) reports)
   seen_more =
-      ap (λ (l : List Row). before_it ++ map label_in l) (same_rows r)
-      ∙ (ap (λ (l : List Label). before_it ++ l) (sym (append-nil (labels_in (get_or reports place r))))
-      ∙ sym (ap (flat_map labels_in) (take_more reports place r lt) ∙ flat_map-append labels_in (take place reports) (get_or reports place r ∷ [])))
+      sym (simp (take_more reports place r lt, flat_map-append, append-nil, ← (same_rows r)))
 
   pub own_more : All (λ (row : Row). ¬ Contains before_it (label_in row)) rows
       → ((i j : ℕ) (d : Report) → i < j → j < place → HaveOwnNames (get_or reports i d) (get_or reports j d))
@@ -51,7 +49,6 @@ module _ (reports : List Report) (place : ℕ) (r : Report) (rows : List Row) (l
     | inr le ↦
         let here : j ≡ place = omega (arith, le, within) in
         let P : Label → Type 0 = λ x. ¬ Contains before_it x in
-        let stands : Contains (labels_in (get_or reports place d)) l = subst (λ (n : ℕ). Contains (labels_in (get_or reports n d)) l) here second in
-        let stands_in_rows : Contains (map label_in rows) l = subst (λ (x : List Row). Contains (map label_in x) l) (sym (same_rows d)) stands in
-        All-contains P (map label_in rows) l (All-map P label_in rows none) stands_in_rows (in_before reports place i d l (omega (arith, less, here)) (omega (arith, lt)) first)
+        All-contains P (map label_in rows) l (All-map P label_in rows none) (rw (same_rows d, ← here) second)
+        (in_before reports place i d l (omega (arith, less, here)) (omega (arith, lt)) first)
   ]

@@ -1,5 +1,5 @@
 -- Reports as they are printed: the parts of their text, and how printing stops.
-use Rattle.std.proofs.Common.{◌≡◌, ◌∙◌, ℕ, Bool, List, [], ◌∷◌, ◌++◌, ap, ap₂, length, map, sym}
+use Rattle.std.proofs.Common.{◌≡◌, ℕ, Bool, List, [], ◌∷◌, ◌++◌, length, map}
 use Rattle.std.proofs.lemmas.List.{length-map, map-append}
 use Rattle.std.proofs.lemmas.List.Folds.{flat_map-map}
 use Rattle.std.proofs.lemmas.Simd.{map-map}
@@ -26,16 +26,12 @@ labels-same rows =
 pub printer-same : (colours : Bool) (rows : List (TestInfo × Outcome)) (n k : ℕ) → n ≡ name_width_of (map (λ row. label_of row.0) rows) → k ≡ kind_width_of (map (λ row. label_of row.0) rows)
     → record { format = Pretty; colour = colours; name_width = n; kind_width = k } ≡ pretty_printer colours (rows_from rows)
 printer-same colours rows n k names kinds =
-    let made : ℕ → ℕ → Printer = λ a b. record { format = Pretty; colour = colours; name_width = a; kind_width = b } in
-    ap₂ made (names ∙ ap name_width_of (sym (labels-same rows))) (kinds ∙ ap kind_width_of (sym (labels-same rows)))
+    rw (names, kinds, labels-same rows)
 
 -- one more row, whatever its flags
 pub one-more : (before after : List (TestInfo × Outcome)) (info : TestInfo) (rows : List Row) (row : Row) → label_of info ≡ (printed_row row).label → rows_from before ≡ map printed_row rows
     → after ≡ before ++ (info, row.outcome) ∷ [] → rows_from after ≡ map printed_row (rows ++ row ∷ [])
-one-more before after info rows row label so_far e =
-    ap rows_from e ∙ map-append (λ (p : TestInfo × Outcome). row_of p.0 p.1) before ((info, row.outcome) ∷ [])
-    ∙ ap₂ (λ xs l. xs ++ (record { label = l; outcome = row.outcome }) ∷ []) so_far label
-    ∙ sym (map-append printed_row rows (row ∷ []))
+one-more before after info rows row label so_far e = simp (e, map-append, so_far, label)
 
 -- ---- text
 
@@ -44,8 +40,4 @@ pub text-parts : (p : Printer) (rows : List (TestInfo × Outcome)) (n : ℕ) (co
     → report_text p (rows_from rows) counts.num_filtered_out nanos
     ≡ title_text p n ++ (flat_map (λ row. row_text p (row_of row.0 row.1)) rows ++ (failures_text p (rows_from rows) ++ (summary_text p counts nanos ++ [])))
 unfolding report_text
-text-parts p rows n counts nanos count same =
-    let parts : ℕ → List ℕ → Conclusion → List ℕ = λ k t s. title_text p k ++ (t ++ (failures_text p (rows_from rows) ++ (summary_text p s nanos ++ []))) in
-    ap (λ k. parts k (flat_map (row_text p) (rows_from rows)) (counts_of (outcomes_of (rows_from rows)) counts.num_filtered_out)) (length-map rows (λ (row : TestInfo × Outcome). row_of row.0 row.1) ∙ sym count)
-    ∙ ap (λ t. parts n t (counts_of (outcomes_of (rows_from rows)) counts.num_filtered_out)) (flat_map-map (row_text p) (λ (row : TestInfo × Outcome). row_of row.0 row.1) rows)
-    ∙ ap (λ s. parts n (flat_map (λ row. row_text p (row_of row.0 row.1)) rows) s) (sym same)
+text-parts p rows n counts nanos count same = simp (length-map, flat_map-map, count, ← same)

@@ -1,5 +1,5 @@
 -- The element of a report, by its parts, and what is left of it with a fault.
-use Rattle.std.proofs.Common.{◌≡◌, ℕ, List, [], ◌∷◌, ◌++◌, Option, IfSome, Result, length, map, codes, refl, sym, ap, subst, ◌∙◌, append-nil}
+use Rattle.std.proofs.Common.{◌≡◌, ℕ, List, [], ◌∷◌, ◌++◌, Option, IfSome, Result, length, map, codes, refl, sym, subst, ◌∙◌, append-nil}
 use Rattle.std.specs.List.{flat_map}
 use Rattle.std.proofs.lemmas.List.Concat.{flat_map-append}
 use Rattle.std.proofs.lemmas.List.Folds.{flat_map-map}
@@ -12,11 +12,10 @@ use Rattle.mimic_reports.specs.declared.elements.Numbers.{Numbers}
 use Rattle.mimic_reports.specs.declared.junit.JunitFault.{JunitFault}
 use Rattle.mimic_reports.specs.declared.junit.JunitFault.TheVariants as junit
 use Rattle.mimic_reports.specs.Junit.{Suite, case_text, ending_text, numbers_of, suite_start, suite_text}
-use Rattle.mimic_reports.specs.declared.suite.Rows.{Rows}
 use Rattle.mimic_reports.specs.declared.suite.Rows.TheVariants.{Again, Kept}
 use Rattle.mimic_reports.specs.declared.suite.Suite.{Suite as SuiteRead}
 use Rattle.mimic_input.specs.Readings.{IsReading}
-use Rattle.mimic_reports.specs.Suites.{HasLeft, HasRows, IsShown, counts_in, numbers_counted, numbers_in}
+use Rattle.mimic_reports.specs.Suites.{HasLeft, IsShown, numbers_in}
 use Rattle.mimic_reports.proofs.RowCounts.{numbers_kept}
 use Rattle.mimic_trial.specs.declared.outcome.conclusion.Conclusion.{Conclusion}
 use Rattle.std.specs.Global.{Vec}
@@ -48,8 +47,7 @@ rows_kept program rows = sym (flat_map-map (case_text program) entry_read rows)
 
 -- one more row
 pub one_more_row : (program : List ℕ) (entries : List Entry) (e : Entry) → flat_map (case_text program) (entries ++ e ∷ []) ≡ flat_map (case_text program) entries ++ case_text program e
-one_more_row program entries e =
-    flat_map-append (case_text program) entries (e ∷ []) ∙ ap (λ (l : List ℕ). flat_map (case_text program) entries ++ l) (append-nil (case_text program e))
+one_more_row program entries e = rw (flat_map-append, append-nil)
 
 -- a fault after what was written
 pub left_after : (place : ℕ) (a b c : Shown) (text : List ℕ) (fault : JunitFault)
@@ -69,9 +67,8 @@ module _ {I : Type 0} (remaining : I → Option (List ℕ)) (report : SuiteRead 
       → IsShown remaining report (record { program = report.program.now; entries = map entry_read rows.items; ending = report.ending })
   kept_shown rows e = record {
     program = refl;
-    numbers = sym (ap (λ (r : Rows I). numbers_counted (counts_in r) report.ending) e
-        ∙ numbers_kept report.program.now rows.items report.ending _ _ refl refl);
-    rows = subst (λ (r : Rows I). HasRows remaining r report.ending (map entry_read rows.items) report.ending) (sym e) (refl, refl);
+    numbers = sym (rw e (numbers_kept report.program.now rows.items report.ending _ _ refl refl));
+    rows = rw e (refl, refl);
   }
 
   pub again_shown : (input : I) (counts : Conclusion) (numbers : Numbers) (written : Suite) → report.rows ≡ Again input counts → numbers ≡ numbers_in report
@@ -80,5 +77,5 @@ module _ {I : Type 0} (remaining : I → Option (List ℕ)) (report : SuiteRead 
   again_shown input counts numbers written e same program n reading = record {
     program = program;
     numbers = n ∙ same;
-    rows = subst (λ (r : Rows I). HasRows remaining r report.ending written.entries written.ending) (sym e) reading;
+    rows = rw e reading;
   }

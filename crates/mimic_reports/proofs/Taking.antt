@@ -1,5 +1,5 @@
 -- Items are taken of lists in turn.
-use Rattle.std.proofs.Common.{◌≡◌, ◌∙◌, ℕ, suc, ◌+◌, ◌<◌, List, [], ◌∷◌, ◌++◌, Option, Some, None, Result, Ok, Err, ap, append_assoc, append-nil, arith, map, refl, subst, sym}
+use Rattle.std.proofs.Common.{◌≡◌, ◌∙◌, ℕ, suc, ◌+◌, ◌<◌, List, [], ◌∷◌, ◌++◌, Option, Some, None, Result, Ok, Err, ap, append_assoc, append-nil, arith, map, refl, sym}
 use Rattle.std.proofs.lemmas.List.{map-append, map-id}
 use Rattle.std.proofs.lemmas.List.Elements.{All-head, All-rest, All-same}
 use Rattle.std.specs.Iterator.{AlwaysYields, Count, IsFinite}
@@ -55,21 +55,16 @@ module _ {I A X : Type 0} (steps : I → Option A → I → Type 0) (view : A �
   Leave lists taken all = (left : List (List X)) × Each (AlwaysYields steps view) lists left
       × (map view taken ++ in_turn left ≡ in_turn all)
 
-  pass : (list new : I) (others : List I) (taken : List A) (left all : List (List X))
+  -- a list that has no more is passed over
+  pub pass : (list new : I) (others : List I) (taken : List A) (left all : List (List X))
       → steps list None new → Each (AlwaysYields steps view) (list ∷ others) left
       → map view taken ++ in_turn left ≡ in_turn all → Leave others taken all
   pass list new others taken [] all none each e = absurd each
   pass list new others taken ([] ∷ left) all none each e = (left, each.1, e)
   pass list new others taken ((x ∷ xs) ∷ left) all none each e = absurd (each.0.0 new none)
 
-  -- a list that has no more is passed over
-  pub passed : (lists others : List I) (list new : I) (taken : List A) (all : List (List X))
-      → lists ≡ list ∷ others → steps list None new → Leave lists taken all → Leave others taken all
-  passed lists others list new taken all front none leave =
-      let l = subst (λ (ls : List I). Leave ls taken all) front leave in
-      pass list new others taken l.0 all none l.1 l.2
-
-  take : (list new : I) (item : A) (others : List I) (taken : List A) (left all : List (List X))
+  -- an item comes, and what is left of its list goes behind the others
+  pub take : (list new : I) (item : A) (others : List I) (taken : List A) (left all : List (List X))
       → steps list (Some item) new → Each (AlwaysYields steps view) (list ∷ others) left
       → map view taken ++ in_turn left ≡ in_turn all
       → Leave (others ++ new ∷ []) (taken ++ item ∷ []) all
@@ -87,29 +82,11 @@ module _ {I A X : Type 0} (steps : I → Option A → I → Type 0) (view : A �
             ∙ (ap (λ (l : List X). map view taken ++ l) same ∙ e)),
       )
 
-  -- an item comes, and what is left of its list goes behind the others
-  pub took : (lists others more : List I) (list new : I) (item : A) (taken items : List A)
-      (all : List (List X)) → lists ≡ list ∷ others → more ≡ others ++ new ∷ []
-      → items ≡ taken ++ item ∷ [] → steps list (Some item) new → Leave lists taken all
-      → Leave more items all
-  took lists others more list new item taken items all front back pushed some leave =
-      let l = subst (λ (ls : List I). Leave ls taken all) front leave in
-      let done = take list new item others taken l.0 all some l.1 l.2 in
-      subst (λ (ls : List I). Leave ls items all) (sym back)
-      (subst (λ (is : List A). Leave (others ++ new ∷ []) is all) (sym pushed) done)
-
   -- no list is left
-  pub all_taken : (lists : List I) (taken : List A) (all : List (List X)) → lists ≡ []
-      → Leave lists taken all → map view taken ≡ in_turn all
-  all_taken lists taken all none leave =
-      let l = subst (λ (ls : List I). Leave ls taken all) none leave in
-      no_more taken l.0 all l.1 l.2
-    where
-      no_more : (taken : List A) (left all : List (List X))
-          → Each (AlwaysYields steps view) [] left → map view taken ++ in_turn left ≡ in_turn all
-          → map view taken ≡ in_turn all
-      no_more taken [] all each e = sym (append-nil (map view taken)) ∙ e
-      no_more taken (xs ∷ left) all each e = absurd each
+  pub all_taken : (taken : List A) (left all : List (List X)) → Each (AlwaysYields steps view) [] left
+      → map view taken ++ in_turn left ≡ in_turn all → map view taken ≡ in_turn all
+  all_taken taken [] all each e = sym (append-nil (map view taken)) ∙ e
+  all_taken taken (xs ∷ left) all each e = absurd each
 
   -- ---- one more list
 
@@ -118,11 +95,7 @@ module _ {I A X : Type 0} (steps : I → Option A → I → Type 0) (view : A �
       → Each (AlwaysYields steps view) lists (map rows seen) → AlwaysYields steps view list (rows report)
       → Each (AlwaysYields steps view) more (map rows after)
   more_lists rows seen after report lists more list e back each gives =
-      let named : map rows after ≡ map rows seen ++ rows report ∷ [] =
-      ap (map rows) e ∙ map-append rows seen (report ∷ []) in
-      subst (λ (ls : List I). Each (AlwaysYields steps view) ls (map rows after)) (sym back)
-      (subst (λ (xss : List (List X)). Each (AlwaysYields steps view) (lists ++ list ∷ []) xss)
-      (sym named) (each_more (AlwaysYields steps view) lists (map rows seen) list (rows report) each gives))
+      rw (back, e, map-append) (each_more (AlwaysYields steps view) lists (map rows seen) list (rows report) each gives)
 
 module _ {I X : Type 0} (steps : I → Option X → I → Type 0) where
   -- the items themselves

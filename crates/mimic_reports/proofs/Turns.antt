@@ -1,11 +1,12 @@
 -- Lists in turn.
-use Rattle.std.proofs.Common.{◌≡◌, ◌≢◌, ℕ, zero, suc, ◌+◌, ◌-◌, ◌%◌, ◌<◌, ◌≤◌, List, [], ◌∷◌, ◌++◌, length, map, refl, sym, ap, ap₂, subst, ◌∙◌, arith, append_assoc, inl, inr}
+use Rattle.std.proofs.Common.{◌≡◌, ◌≢◌, ℕ, zero, suc, ◌+◌, ◌-◌, ◌%◌, ◌<◌, ◌≤◌, List, [], ◌∷◌, ◌++◌, length, map, refl, sym, ap, ap₂, ◌∙◌, arith, append_assoc, inl, inr}
 use Rattle.std.specs.List.{flat_map, range_with_len}
 use Rattle.std.specs.Prelude.{IsPermutation}
 use Rattle.std.proofs.lemmas.Bool.{cases_lt, eq-eqb, ne_eqb}
-use Rattle.std.proofs.lemmas.List.Sorted.{IsPermutation-refl, IsPermutation-trans, IsPermutation-cons, IsPermutation-append_right}
+use Rattle.std.proofs.lemmas.List.Sorted.{IsPermutation-refl, IsPermutation-trans, IsPermutation-append_right}
 use Rattle.std.proofs.lemmas.List.FromFn.{map-range_with_len_more}
-use Rattle.std.proofs.lemmas.List.Concat.{flat_map-append}
+use Rattle.std.proofs.lemmas.List.{map-id}
+use Rattle.std.proofs.lemmas.List.Concat.{flat_map-append, flat_map_single}
 use Rattle.std.proofs.lemmas.Nat.{mod_below}
 use Rattle.std.proofs.Math.Nat.{add-mod_left, add-mod_right, mod-add-mod, mod-eq_of_lt}
 use Rattle.mimic_shard.specs.Shard.{shard_from, shard_of}
@@ -15,18 +16,6 @@ use Rattle.mimic_shard.proofs.AllShards.{to_front}
 module _ {X : Type 0} where
   abbrev pub joined_rounds : List (List X) → List X
   joined_rounds rounds = flat_map (λ round. round) rounds
-
-  -- ---- each item once
-
-  before_all : (xs : List X) (rounds : List (List X)) → IsPermutation (joined_rounds (before xs rounds)) (xs ++ joined_rounds rounds)
-  before_all [] rounds = IsPermutation-refl (joined_rounds rounds)
-  before_all (x ∷ xs) [] = IsPermutation-cons x _ _ (before_all xs [])
-  before_all (x ∷ xs) (round ∷ rounds) =
-      IsPermutation-cons x _ _ (IsPermutation-trans _ _ _ (IsPermutation-append_right round _ _ (before_all xs rounds)) (to_front round xs (joined_rounds rounds)))
-
-  pub turns_are_all : TurnsAreAll X
-  turns_are_all [] = IsPermutation-refl []
-  turns_are_all (xs ∷ xss) = IsPermutation-trans _ _ _ (before_all xs (rounds_of xss)) (IsPermutation-append_right xs _ _ (turns_are_all xss))
 
   -- ---- a list that stands behind the others
 
@@ -141,59 +130,53 @@ module _ {X : Type 0} where
 -- ---- two lists of lists, in turn, item by item
 
 module _ {A B : Type 0} (R : A → B → Type 0) where
-  each-append : (xs ws : List A) (ys zs : List B) → Each R xs ys → Each R ws zs → Each R (xs ++ ws) (ys ++ zs)
+  pub each-append : (xs ws : List A) (ys zs : List B) → Each R xs ys → Each R ws zs → Each R (xs ++ ws) (ys ++ zs)
   each-append [] ws [] zs h k = k
-  each-append [] ws (y ∷ ys) zs h k = absurd h
-  each-append (x ∷ xs) ws [] zs h k = absurd h
   each-append (x ∷ xs) ws (y ∷ ys) zs h k = (h.0, each-append xs ws ys zs h.1 k)
+  each-append xs ws ys zs h k = absurd h
 
   each-before : (xs : List A) (ys : List B) (rs : List (List A)) (ss : List (List B)) → Each R xs ys → Each (Each R) rs ss → Each (Each R) (before xs rs) (before ys ss)
   each-before [] [] rs ss h k = k
-  each-before [] (y ∷ ys) rs ss h k = absurd h
-  each-before (x ∷ xs) [] rs ss h k = absurd h
   each-before (x ∷ xs) (y ∷ ys) [] [] h k = ((h.0, tt), each-before xs ys [] [] h.1 tt)
-  each-before (x ∷ xs) (y ∷ ys) [] (s ∷ ss) h k = absurd k
-  each-before (x ∷ xs) (y ∷ ys) (r ∷ rs) [] h k = absurd k
   each-before (x ∷ xs) (y ∷ ys) (r ∷ rs) (s ∷ ss) h k = ((h.0, k.0), each-before xs ys rs ss h.1 k.1)
+  each-before (x ∷ xs) (y ∷ ys) rs ss h k = absurd k
+  each-before xs ys rs ss h k = absurd h
 
   each-rounds : (xss : List (List A)) (yss : List (List B)) → Each (Each R) xss yss → Each (Each R) (rounds_of xss) (rounds_of yss)
   each-rounds [] [] h = tt
-  each-rounds [] (ys ∷ yss) h = absurd h
-  each-rounds (xs ∷ xss) [] h = absurd h
   each-rounds (xs ∷ xss) (ys ∷ yss) h = each-before xs ys (rounds_of xss) (rounds_of yss) h.0 (each-rounds xss yss h.1)
+  each-rounds xss yss h = absurd h
 
   each-joined : (rs : List (List A)) (ss : List (List B)) → Each (Each R) rs ss → Each R (joined_rounds rs) (joined_rounds ss)
   each-joined [] [] h = tt
-  each-joined [] (s ∷ ss) h = absurd h
-  each-joined (r ∷ rs) [] h = absurd h
   each-joined (r ∷ rs) (s ∷ ss) h = each-append r (joined_rounds rs) s (joined_rounds ss) h.0 (each-joined rs ss h.1)
+  each-joined rs ss h = absurd h
 
   pub each-in_turn : (xss : List (List A)) (yss : List (List B)) → Each (Each R) xss yss → Each R (in_turn xss) (in_turn yss)
   each-in_turn xss yss h = each-joined (rounds_of xss) (rounds_of yss) (each-rounds xss yss h)
 
   pub each-length : (xs : List A) (ys : List B) → Each R xs ys → length xs ≡ length ys
   each-length [] [] h = refl
-  each-length [] (y ∷ ys) h = absurd h
-  each-length (x ∷ xs) [] h = absurd h
   each-length (x ∷ xs) (y ∷ ys) h = ap (λ n. suc n) (each-length xs ys h.1)
+  each-length xs ys h = absurd h
 
 -- ---- parts of items, in turn
 
 module _ {X Y : Type 0} (parts : X → List Y) where
   parts-before : (xs : List X) (rounds : List (List X)) → IsPermutation (flat_map parts (joined_rounds (before xs rounds))) (flat_map parts xs ++ flat_map parts (joined_rounds rounds))
   parts-before [] rounds = IsPermutation-refl (flat_map parts (joined_rounds rounds))
-  parts-before (x ∷ xs) [] =
-      subst (IsPermutation _) (sym (append_assoc (parts x) (flat_map parts xs) [])) (IsPermutation-append_right (parts x) _ _ (parts-before xs []))
+  parts-before (x ∷ xs) [] = simp append_assoc (IsPermutation-append_right (parts x) _ _ (parts-before xs []))
   parts-before (x ∷ xs) (round ∷ rounds) =
-      let split : flat_map parts (round ++ joined_rounds (before xs rounds)) ≡ flat_map parts round ++ flat_map parts (joined_rounds (before xs rounds)) = flat_map-append parts round (joined_rounds (before xs rounds)) in
-      let back : flat_map parts (round ++ joined_rounds rounds) ≡ flat_map parts round ++ flat_map parts (joined_rounds rounds) = flat_map-append parts round (joined_rounds rounds) in
-      let rest = IsPermutation-trans _ _ _ (IsPermutation-append_right (flat_map parts round) _ _ (parts-before xs rounds)) (to_front (flat_map parts round) (flat_map parts xs) (flat_map parts (joined_rounds rounds))) in
-      subst (λ l. IsPermutation (parts x ++ l) ((parts x ++ flat_map parts xs) ++ flat_map parts (round ++ joined_rounds rounds))) (sym split)
-      (subst (λ l. IsPermutation (parts x ++ (flat_map parts round ++ flat_map parts (joined_rounds (before xs rounds)))) ((parts x ++ flat_map parts xs) ++ l)) (sym back)
-      (subst (IsPermutation _) (sym (append_assoc (parts x) (flat_map parts xs) _)) (IsPermutation-append_right (parts x) _ _ rest)))
+      let rest = IsPermutation-append_right (flat_map parts round) _ _ (parts-before xs rounds) in
+      let front = to_front (flat_map parts round) (flat_map parts xs) (flat_map parts (joined_rounds rounds)) in
+      simp (flat_map-append, append_assoc) (IsPermutation-append_right (parts x) _ _ (IsPermutation-trans _ _ _ rest front))
 
   pub parts-in_turn : (xss : List (List X)) → IsPermutation (flat_map parts (in_turn xss)) (flat_map parts (flat_map (λ (xs : List X). xs) xss))
   parts-in_turn [] = IsPermutation-refl []
   parts-in_turn (xs ∷ xss) =
-      subst (IsPermutation (flat_map parts (in_turn (xs ∷ xss)))) (sym (flat_map-append parts xs (flat_map (λ (l : List X). l) xss)))
+      rw (flat_map-append parts xs (flat_map (λ (l : List X). l) xss))
       (IsPermutation-trans _ _ _ (parts-before xs (rounds_of xss)) (IsPermutation-append_right (flat_map parts xs) _ _ (parts-in_turn xss)))
+
+-- each item once
+pub turns_are_all : {X : Type 0} → TurnsAreAll X
+turns_are_all xss = simp (flat_map_single, map-id) at (parts-in_turn (λ x. x ∷ []) xss)

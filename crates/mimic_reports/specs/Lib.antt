@@ -4,5 +4,4 @@ pub mod Joined
 pub mod Junit
 pub mod Show
 pub mod Suites
-pub mod Text
 pub mod Turns

@@ -1,12 +1,11 @@
 //! Writes the elements of JUnit's XML.
 ghost use Rattle.std.specs.Prelude.{◌≡◌};
-ghost use Rattle.std.specs.Option.{option_copied};
 ghost use Rattle.mimic_printer.specs.Sink.{HasFaultLeft, Puts};
 ghost use Rattle.mimic_events.specs.Contents.{entry_read};
 ghost use Rattle.mimic_reports.specs.Junit.{case_text, class_point, root_start, running_part, stop_text, suite_start};
 
 use mimic_escapes::{Piece, Place, put_pieces};
-use mimic_events::{Label, Row};
+use mimic_events::Row;
 use mimic_input::Stop;
 use mimic_printer::{Sink, WriteFault};
 use mimic_trial::Outcome;
@@ -169,16 +168,15 @@ pub(crate) fn put_stop<'a, W: Write>(
     ];
     put_pieces(sink, &front)?;
     stop.put_extent(sink, ended)?;
-    put_running(sink, stop.running.as_ref())?;
+    put_running(sink, stop)?;
     sink.put(b"\"/></testcase>\n")
 }
 
-fn put_running<W: Write>(sink: &mut Sink<W>, running: Option<&Label>) -> Result<(), WriteFault>
+fn put_running<W: Write>(sink: &mut Sink<W>, stop: &Stop) -> Result<(), WriteFault>
     requires { HasFaultLeft sink.old }
-    ensures { Puts W.contents sink.old sink.new
-        (running_part (option_copied running.entry)) result }
+    ensures { Puts W.contents sink.old sink.new (running_part stop.now.running) result }
 {
-    let Some(label) = running else {
+    let Some(label) = &stop.running else {
         return Ok(());
     };
     let label = Piece::Label {

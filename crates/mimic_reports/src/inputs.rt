@@ -1,19 +1,17 @@
 //! Joins reports from readers into a writer.
-ghost use Rattle.std.specs.Prelude.{◌≡◌, IfOk, MatchResult, map};
+ghost use Rattle.std.specs.Prelude.{MatchResult, map};
 ghost use Rattle.mimic_printer.specs.Sink.{HasFaultLeft, shown};
 ghost use Rattle.mimic_reports.specs.Inputs.{AreReportsIn, CannotRead, Leaves};
-ghost use Rattle.mimic_reports.specs.Joined.{CanBeShards, IsRefused, joined_contents};
-ghost use Rattle.mimic_reports.specs.Text.{contents_of};
 
 use crate::faults::JoinFault;
-use crate::join::{Refusal, totals_of};
+use crate::join::totals_of;
 use crate::order::refs_in_turn;
-use crate::text::Text;
+use crate::text::{counts_of_refs, put_joined};
 use mimic_events::Report;
 use mimic_input::read_from;
 use mimic_printer::Sink;
 use mimic_trial::Conclusion;
-use std::alloc::{AllocError, Global};
+use std::alloc::Global;
 use std::io::{Read, Write};
 
 /// Reads the reports of so many shards, one reader after another, joins them as `joined` does, and writes the joined report in
@@ -32,36 +30,16 @@ pub fn join_reports<I: Read + Drop, O: Write>(
         (shown O.contents sink.old) (shown O.contents sink.new) result }
 {
     let reports = read_all(alloc, inputs)?;
-    let text = match text_of(alloc, &reports, shards, equal_names)? {
-        Ok(text) => text,
-        Err(refusal) => return Err(JoinFault::Refused(refusal)),
-    };
-    text.put(sink)?;
-    Ok(text.counts())
-}
-
-// Returns what is to be written of the reports, or why they are refused.
-fn text_of(
-    alloc: Global,
-    reports: &[Report],
-    shards: usize,
-    equal_names: bool,
-) -> Result<Result<Text<'_>, Refusal>, AllocError>
-    ensures { IfOk result (λ answer. MatchResult answer
-        (λ text. CanBeShards shards equal_names reports.now
-        × (contents_of text ≡ joined_contents reports.now))
-        (IsRefused shards equal_names reports.now)) }
-{
+    let reports = reports.as_slice();
     let (filtered_out, nanos) = match totals_of(alloc, reports, shards, equal_names)? {
         Ok(totals) => totals,
-        Err(refusal) => return Ok(Err(refusal)),
+        Err(refusal) => return Err(JoinFault::Refused(refusal)),
     };
     let rows = refs_in_turn(alloc, reports)?;
-    Ok(Ok(Text {
-        rows,
-        filtered_out,
-        nanos,
-    }))
+    let rows = rows.as_slice();
+    let counts = counts_of_refs(rows, filtered_out);
+    put_joined(sink, rows, &counts, nanos)?;
+    Ok(counts)
 }
 
 // Reads the report of each reader.

@@ -1,7 +1,6 @@
 -- Rows that have ended, one after another.
-use Rattle.std.proofs.Common.{◌≡◌, inl, inr, ℕ, ◌-◌, ◌<◌, ◌^◌, List, [], ◌∷◌, ◌++◌, length, length-append, refl, sym, ap, ap₂, ◌∙◌, subst, arith, append_assoc, append-nil}
+use Rattle.std.proofs.Common.{◌≡◌, inl, inr, ℕ, ◌-◌, ◌<◌, ◌^◌, List, [], ◌∷◌, ◌++◌, length, length-append, refl, sym, ap, ◌∙◌, subst, arith, append_assoc, append-nil}
 use Rattle.std.proofs.lemmas.List.{length-map, map-append, flat_map_more}
-use Rattle.mimic_trial.specs.declared.outcome.Outcome.{Outcome}
 use Rattle.mimic_trial.specs.declared.outcome.conclusion.Conclusion.{Conclusion}
 use Rattle.mimic_trial.specs.Count.{HasRoom, counted, counts_of}
 use Rattle.mimic_trial.proofs.Counting.{HasRoom-counts, counts-push}
@@ -9,7 +8,6 @@ use Rattle.mimic_printer.specs.Json.{Entry}
 use Rattle.mimic_events.specs.Contents.{entry_read}
 use Rattle.mimic_events.specs.Feed.{AreEnded}
 use Rattle.mimic_events.specs.Follower.{FollowsOn, FollowsRow, HasFollowed}
-use Rattle.mimic_events.specs.declared.follower.Follower.{Follower}
 use Rattle.mimic_events.specs.declared.report.Row.{Row}
 use Rattle.mimic_watch.specs.declared.viewer.Viewer.{Viewer}
 use Rattle.mimic_watch.specs.Moments.{outcomes_in}
@@ -18,21 +16,16 @@ use Rattle.mimic_watch.specs.Watching.{HasSeen, SeesOn, SeesRow}
 
 -- ---- one row
 
-nil_not_push : (entries : List Entry) (e : Entry) → entries ++ e ∷ [] ≡ [] → ⊥
-nil_not_push entries e h = let n = ap length h in omega (arith, n, length-append entries (e ∷ []))
-
 -- there is room for one more
-few : (bytes : List ℕ) (entries : List Entry) (e : Entry) → AreEnded bytes (entries ++ e ∷ []) → length entries < 2 ^ 64 - 1
+pub few : (bytes : List ℕ) (entries : List Entry) (e : Entry) → AreEnded bytes (entries ++ e ∷ []) → length entries < 2 ^ 64 - 1
 few bytes entries e h = elim h.begun [
-  | inl none ↦ absurd (nil_not_push entries e none)
-  | inr b ↦ let within = b.within in let number = b.number in omega (arith, within, number, length-append entries (e ∷ []))
+  | inl none ↦ absurd (omega (arith, ap length none, length-append entries (e ∷ [])))
+  | inr b ↦ omega (arith, b.within, b.number, length-append entries (e ∷ []))
 ]
 
 -- one more outcome
-one_counted : (entries : List Entry) (e : Entry) → counted (counts_of (outcomes_in entries) 0) e.outcome ≡ counts_of (outcomes_in (entries ++ e ∷ [])) 0
-one_counted entries e =
-    sym (ap (λ (os : List Outcome). counts_of os 0) (map-append (λ (x : Entry). x.outcome) entries (e ∷ []))
-    ∙ counts-push (outcomes_in entries) e.outcome 0)
+pub one_counted : (entries : List Entry) (e : Entry) → counted (counts_of (outcomes_in entries) 0) e.outcome ≡ counts_of (outcomes_in (entries ++ e ∷ [])) 0
+one_counted entries e = sym (rw (map-append, counts-push))
 
 -- a row was followed, and then counted
 pub row_seen : (old mid new : Viewer) (bytes front : List ℕ) (put waiting : List Entry) (e : Entry) → FollowsOn old.follower front mid.follower (e ∷ [])
@@ -45,8 +38,7 @@ row_seen old mid new bytes front put waiting e on ended counts shown sees h =
     let room : length all < 2 ^ 64 - 1 = few (bytes ++ front) all e next.ended in
     let one_more : HasRoom (counts_of (outcomes_in all) 0) = HasRoom-counts (outcomes_in all) 0 (omega (arith, room, length-map all (λ (x : Entry). x.outcome))) in
     record {
-      followed = subst (λ (f : Follower). HasFollowed f (bytes ++ front) (put ++ (waiting ++ e ∷ []))) (sym sees.follower)
-          (subst (HasFollowed mid.follower (bytes ++ front)) more next);
+      followed = rw (sees.follower, ← more) next;
       ended = sees.ended (omega (arith, ended, h.ended, room)) ∙ omega (arith, ended, h.ended, ap length more, length-append all (e ∷ []));
       counts = sees.counts (subst HasRoom (sym (counts ∙ h.counts)) one_more)
           ∙ ap (λ (c : Conclusion). counted c e.outcome) (counts ∙ h.counts)
@@ -64,11 +56,7 @@ pub record TakenSoFar (old : Viewer) (piece : List ℕ) (new : Viewer) (rest : L
 
 -- nothing was read
 pub none_seen : (w : Viewer) → SeesOn w [] w
-none_seen w = λ before put waiting h. (
-  [],
-  subst (λ (x : List ℕ × List Entry). HasSeen w x.0 put x.1)
-      (ap₂ (λ (x : List ℕ) (y : List Entry). (x, y)) (sym (append-nil before)) (sym (append-nil waiting))) h,
-)
+none_seen w = λ before put waiting h. ([], rw (append-nil before, append-nil waiting) h)
 
 pub nothing_taken : (w : Viewer) (piece : List ℕ) → TakenSoFar w piece w piece
 nothing_taken w piece = record {
@@ -87,8 +75,7 @@ row_taken start old mid new piece rest row left so_far sees f ended counts shown
         s.0 ++ f.front,
         s.1 ++ e ∷ [],
         s.2 ∙ ap (λ (l : List ℕ). s.0 ++ l) f.parts ∙ sym (append_assoc s.0 f.front left),
-        subst (λ (x : List ℕ × List Entry). HasSeen new x.0 put x.1)
-            (ap₂ (λ (x : List ℕ) (y : List Entry). (x, y)) (append_assoc before s.0 f.front) (append_assoc waiting s.1 (e ∷ [])))
+        rw (← (append_assoc before s.0 f.front), ← (append_assoc waiting s.1 (e ∷ [])))
             (row_seen old mid new (before ++ s.0) f.front put (waiting ++ s.1) e f.followed ended counts shown sees s.3),
       );
 }
@@ -103,8 +90,7 @@ rest_taken start old new piece rest so_far on ended counts shown = λ before put
     let bytes : (before ++ s.0) ++ rest ≡ before ++ piece = append_assoc before s.0 rest ∙ ap (λ (l : List ℕ). before ++ l) (sym s.2) in (
       s.1,
       record {
-        followed = subst (λ (x : List ℕ). HasFollowed new.follower x all) bytes
-            (subst (HasFollowed new.follower ((before ++ s.0) ++ rest)) (append-nil all) (on (before ++ s.0) all seen.followed));
+        followed = rw (append-nil all, bytes) at (on (before ++ s.0) all seen.followed);
         ended = ended ∙ seen.ended;
         counts = counts ∙ seen.counts;
         shown = shown ∙ seen.shown;

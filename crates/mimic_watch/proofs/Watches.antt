@@ -1,5 +1,5 @@
 -- A watch, moment by moment.
-use Rattle.std.proofs.Common.{◌≡◌, inl, inr, ℕ, ◌-◌, ◌<◌, ◌^◌, Bool, true, List, [], ◌∷◌, ◌++◌, Option, Some, None, is_some, IfSome, refl, sym, ap, ◌∙◌, subst, append_assoc, append-nil}
+use Rattle.std.proofs.Common.{◌≡◌, inl, inr, ℕ, Bool, true, List, [], ◌∷◌, ◌++◌, Option, Some, None, is_some, IfSome, refl, sym, ap, ◌∙◌, subst, append_assoc, append-nil}
 use Rattle.std.specs.Io.KnownBytes.{Consumes, Keeps}
 use Rattle.std.proofs.lemmas.List.Concat.{flat_map-append}
 use Rattle.mimic_printer.specs.Json.{Entry}
@@ -18,29 +18,22 @@ use Rattle.mimic_watch.specs.declared.verdict.WatchFault.TheVariants.{Write}
 use Rattle.mimic_watch.specs.declared.viewer.Viewer.{Viewer}
 use Rattle.mimic_watch.specs.Moments.{AreMomentsAfter, IsDrawn, IsMoment, Moment, ended_in, moment_text, moments_text}
 use Rattle.mimic_watch.specs.Watched.{AreCounts, HasFailed, HasWatched, IsLast, IsLeft, last_text}
+use Rattle.mimic_watch.proofs.Seeing.{none_seen}
 use Rattle.mimic_watch.specs.Watching.{HasSeen, IsWatching, PutsSeen, SeesOn, StaysSeen, put_text}
 
 -- ---- one moment more
 
 more_ended : (moments : List Moment) (m : Moment) → ended_in (moments ++ m ∷ []) ≡ ended_in moments ++ m.ended
-more_ended moments m =
-    flat_map-append (λ (x : Moment). x.ended) moments (m ∷ []) ∙ ap (λ (l : List Entry). ended_in moments ++ l) (append-nil m.ended)
+more_ended moments m = simp (flat_map-append, append-nil)
 
 more_text : (moments : List Moment) (m : Moment) → moments_text (moments ++ m ∷ []) ≡ moments_text moments ++ moment_text m
-more_text moments m =
-    flat_map-append moment_text moments (m ∷ []) ∙ ap (λ (l : List ℕ). moments_text moments ++ l) (append-nil (moment_text m))
+more_text moments m = rw (flat_map-append, append-nil)
 
 each_more : (start : Option (List ℕ)) (live : Bool) (before : List Entry) (moments : List Moment) (m : Moment) → AreMomentsAfter start live before moments
     → IsMoment start live ((before ++ ended_in moments) ++ m.ended) m → AreMomentsAfter start live before (moments ++ m ∷ [])
-each_more start live before [] m h k = (subst (λ (l : List Entry). IsMoment start live (l ++ m.ended) m) (append-nil before) k, tt)
-each_more start live before (x ∷ moments) m h k = (
-  h.0,
-  each_more start live (before ++ x.ended) moments m h.1 (subst (λ (l : List Entry). IsMoment start live (l ++ m.ended) m) (sym (append_assoc before x.ended (ended_in moments))) k),
-)
-
--- there is still room for a fault
-pub room_left : (a b : Shown) (text : List ℕ) → Put a b text → a.faults < 2 ^ 64 - 1 → b.faults < 2 ^ 64 - 1
-room_left a b text p h = subst (λ (n : ℕ). n < 2 ^ 64 - 1) (sym p.faults) h
+each_more start live before [] m h k = (rw append-nil at k, tt)
+each_more start live before (x ∷ moments) m h k =
+    (h.0, each_more start live (before ++ x.ended) moments m h.1 (rw (append_assoc before x.ended (ended_in moments)) k))
 
 -- ---- what comes
 
@@ -89,16 +82,8 @@ none_more (Some xs) None k = k
 none_more (Some xs) (Some ys) k = sym k
 
 pub stay : (live : Bool) (start now : Option (List ℕ)) (a b : Shown) (w v : Viewer) → IsWatching live start now a b w → StaysSeen w v → v.live ≡ w.live → IsWatching live start now a b v
-stay live start now a b w v h same l = record {
-  bytes = h.bytes;
-  moments = h.moments;
-  waiting = h.waiting;
-  each = h.each;
-  seen = same h.bytes (ended_in h.moments) h.waiting h.seen;
-  live_is = l ∙ h.live_is;
-  gone = h.gone;
-  put = h.put;
-}
+stay live start now a b w v h same l =
+    take_on live start now now a b w h v [] (none_gone now) (λ before put waiting k. none_seen v before put waiting (same before put waiting k)) l
 
 -- ---- what is put
 
@@ -132,7 +117,7 @@ module _ (live : Bool) (start now : Option (List ℕ)) (a b c : Shown) (w : View
     moments = h.moments ++ moment ∷ [];
     waiting = [];
     each = each_now;
-    seen = subst (λ (es : List Entry). HasSeen v h.bytes es []) (sym (more_ended h.moments moment)) (puts h.bytes (ended_in h.moments) h.waiting h.seen);
+    seen = rw (more_ended h.moments moment) (puts h.bytes (ended_in h.moments) h.waiting h.seen);
     live_is = l ∙ h.live_is;
     gone = h.gone;
     put = subst (Put a c) (ap (λ (l : List ℕ). moments_text h.moments ++ l) its_text ∙ sym (more_text h.moments moment))

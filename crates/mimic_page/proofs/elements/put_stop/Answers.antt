@@ -25,16 +25,14 @@ pub returns-in_err-put_running : goal.returns-in_err-put_running
 unfolding stop_text
 returns-in_err-put_running g c =
     let extent = rw c.from.ensures at c.in_ok-put_extent.ensures in
-    let running = rw c.as_ref.ensures.value at c.in_err-put_running.ensures in
     Puts-stopped _ _ c.from_residual-in_err-put_running.ensures.0
-    (stop4 _ _ _ _ _ c.in_ok-put.ensures.appends extent c.in_ok-put_missing.ensures running)
+    (stop4 _ _ _ _ _ c.in_ok-put.ensures.appends extent c.in_ok-put_missing.ensures c.in_err-put_running.ensures)
 
 pub returns : goal.returns
 unfolding stop_text
 returns g c =
     let extent = rw c.from.ensures at c.in_ok-put_extent.ensures in
-    let running = rw c.as_ref.ensures.value at c.in_ok-put_running.ensures in
     Puts_then _ _ _ _ _ c.put-2.result c.in_ok-put.ensures.appends
     (Puts_then _ _ _ _ _ c.put-2.result extent
     (Puts_then _ _ _ _ _ c.put-2.result c.in_ok-put_missing.ensures
-    (Puts_then _ _ _ _ _ c.put-2.result running c.put-2.ensures.appends)))
+    (Puts_then _ _ _ _ _ c.put-2.result c.in_ok-put_running.ensures c.put-2.ensures.appends)))

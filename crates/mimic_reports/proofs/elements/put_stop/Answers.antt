@@ -16,14 +16,12 @@ returns-in_err-put_extent g c =
 pub returns-in_err-put_running : goal.returns-in_err-put_running
 unfolding stop_text
 returns-in_err-put_running g c =
-    let running = rw c.as_ref.ensures.value at c.in_err-put_running.ensures in
     Puts-stopped _ _ c.from_residual-in_err-put_running.ensures.0
-    (stop3 _ _ _ _ c.in_ok-put_pieces.ensures c.in_ok-put_extent.ensures running)
+    (stop3 _ _ _ _ c.in_ok-put_pieces.ensures c.in_ok-put_extent.ensures c.in_err-put_running.ensures)
 
 pub returns : goal.returns
 unfolding stop_text
 returns g c =
-    let running = rw c.as_ref.ensures.value at c.in_ok-put_running.ensures in
     Puts_then _ _ _ _ _ c.put.result c.in_ok-put_pieces.ensures
     (Puts_then _ _ _ _ _ c.put.result c.in_ok-put_extent.ensures
-    (Puts_then _ _ _ _ _ c.put.result running c.put.ensures.appends))
+    (Puts_then _ _ _ _ _ c.put.result c.in_ok-put_running.ensures c.put.ensures.appends))

@@ -4,18 +4,18 @@ use Rattle.mimic_printer.proofs.Appending.{Put-Stopped, Put-trans}
 use Rattle.mimic_reports.specs.declared.junit.JunitFault.TheVariants.{Write}
 use Rattle.mimic_reports.specs.Junit.{Suite, case_text, suite_start}
 use Rattle.mimic_reports.proofs.RowCounts.{numbers_are, rows_counted_are}
-use Rattle.mimic_reports.proofs.Results.{err_left}
+use Rattle.mimic_watch.proofs.Ending.{on_error}
 use Rattle.mimic_reports.proofs.SuiteText.{left_after, suite_put}
 use Rattle.mimic_reports.proofs.junit.put_counted.Goals as goal
 
 pub returns-in_err-put_suite_start : goal.returns-in_err-put_suite_start
 returns-in_err-put_suite_start g c =
-    err_left _ _ _ (Write c.in_err-put_suite_start.field-0.0) c.from_residual.ensures.1
+    on_error _ (Write c.in_err-put_suite_start.field-0.0) _ _ c.from_residual.ensures.1
     (suite_start c.args.program.now c.args.numbers.now, c.in_err-put_suite_start.ensures)
 
 pub returns-in_err-counts : goal.returns-in_err-counts
 returns-in_err-counts g c =
-    err_left _ _ _ c.in_err-counts.field-0.0 c.from_residual-in_err-counts.ensures.1
+    on_error _ c.in_err-counts.field-0.0 _ _ c.from_residual-in_err-counts.ensures.1
     (left_after c.args.place _ _ _ (suite_start c.args.program.now c.args.numbers.now)
     c.in_err-counts.field-0.0 c.in_ok-put_suite_start.ensures c.in_err-counts.ensures)
 
@@ -31,7 +31,7 @@ returns-then-ne g c =
 pub returns-in_err-put_suite_end : goal.returns-in_err-put_suite_end
 returns-in_err-put_suite_end g c =
     let came = c.in_ok-counts.ensures in
-    err_left _ _ _ (Write c.in_err-put_suite_end.field-0.0) c.from_residual-in_err-put_suite_end.ensures.1 (
+    on_error _ (Write c.in_err-put_suite_end.field-0.0) _ _ c.from_residual-in_err-put_suite_end.ensures.1 (
       _,
       Put-Stopped (suite_start c.args.program.now c.args.numbers.now ++ flat_map (case_text c.args.program.now) came.0) _
           (Put-trans _ _ c.in_ok-put_suite_start.ensures came.3) c.in_err-put_suite_end.ensures,

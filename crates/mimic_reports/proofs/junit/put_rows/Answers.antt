@@ -1,5 +1,3 @@
-use Rattle.std.proofs.Common.{subst}
-use Rattle.mimic_printer.specs.Sink.{Stopped, shown}
 use Rattle.mimic_printer.proofs.Appending.{Puts-stopped, Stopped-next}
 use Rattle.mimic_events.specs.Contents.{entry_read}
 use Rattle.mimic_events.specs.declared.report.Row.{Row}
@@ -8,7 +6,6 @@ use Rattle.mimic_reports.proofs.junit.put_rows.Goals as goal
 
 pub returns-in_err-put_case : goal.returns-in_err-put_case
 returns-in_err-put_case g c =
-    let P : Row → Type 0 = λ r. Stopped (shown g.W.Write.contents c.loop-row.sink) (shown g.W.Write.contents c.put_case.new.sink) (case_text c.args.program.now (entry_read r)) in
     Puts-stopped _ _ c.from_residual.ensures.0
     (Stopped-next (λ (row : Row). case_text c.args.program.now (entry_read row)) c.args.rows.now c.loop-row.row-index c.row-item.result c.loop-row-test.true c.loop-row.invariant
-    (subst P c.row-item.is c.in_err-put_case.ensures))
+    (rw c.row-item.is at c.in_err-put_case.ensures))

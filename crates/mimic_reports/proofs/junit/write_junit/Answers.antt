@@ -1,11 +1,9 @@
-use Rattle.std.proofs.Common.{◌∙◌, ◌<◌, ◌∷◌, ◌++◌, List, [], ap, append_assoc, append-nil, arith, length, length-append, map, refl, subst, sym}
+use Rattle.std.proofs.Common.{◌∙◌, ◌<◌, ◌∷◌, ◌++◌, [], ap, append_assoc, append-nil, arith, length, length-append, map, refl, sym}
 use Rattle.std.proofs.lemmas.List.{nil_from_length}
-use Rattle.std.specs.List.{flat_map}
 use Rattle.std.specs.Vec.Iter.{into_iter_items}
-use Rattle.mimic_printer.specs.Sink.{Put, shown}
 use Rattle.mimic_printer.proofs.Appending.{Put-Stopped, Put-trans}
 use Rattle.mimic_reports.specs.declared.junit.JunitFault.TheVariants.{Write}
-use Rattle.mimic_reports.specs.Junit.{root_start, suite_text, total}
+use Rattle.mimic_reports.specs.Junit.{root_start, total}
 use Rattle.mimic_reports.specs.Suites.{IsShown, LeavesDocument, numbers_in}
 use Rattle.mimic_reports.proofs.Documents.{close_part, leaves, left_by, one_more_suite}
 use Rattle.mimic_reports.proofs.ReadInputs.{each_more}
@@ -23,8 +21,7 @@ loop-suite-init g c =
       done = (
         [],
         tt,
-        subst (Put (shown g.W.Write.contents c.args.sink.now) (shown g.W.Write.contents c.put_root_start.new.sink))
-            (ap root_start numbers ∙ sym (append-nil (root_start (total (map numbers_in c.args.suites.items))))) c.in_ok-put_root_start.ensures,
+        rw (append-nil (root_start (total (map numbers_in c.args.suites.items))), ← numbers) c.in_ok-put_root_start.ensures,
       );
     }
 
@@ -55,33 +52,22 @@ returns-in_err-put_suite-clause-document g c =
     let suites = c.args.suites.items in
     let place = c.loop-suite.place in
     let fault = c.in_err-put_suite.field-0.0 in
-    let text : List _ = root_start (total (map numbers_in suites)) ++ flat_map suite_text done.0 in
     let within : place < length suites = omega (arith, before.place, seen, split, next) in
     at_fault (LeavesDocument g.I.Read.remaining suites _ _) _ fault
     c.from_residual-in_err-put_suite.ensures.1
     (left_by suites place _ _ fault within
-    (left_after place _ _ _ text fault done.2 c.in_err-put_suite.ensures))
+    (left_after place _ _ _ _ fault done.2 c.in_err-put_suite.ensures))
 
 pub returns-in_err-put-clause-document : goal.returns-in_err-put-clause-document
 returns-in_err-put-clause-document g c =
-    let suites = c.args.suites.items in
-    let done = c.loop-suite.invariant.done in
-    let text : List _ = root_start (total (map numbers_in suites)) ++ flat_map suite_text done.0 in
-    at_fault (LeavesDocument g.I.Read.remaining suites _ _) _ (Write c.in_err-put.field-0.0)
-    c.from_residual-in_err-put.ensures.1
-    (_, Put-Stopped text close_part done.2 c.in_err-put.ensures.appends)
+    at_fault (LeavesDocument g.I.Read.remaining c.args.suites.items _ _) _ (Write c.in_err-put.field-0.0)
+    c.from_residual-in_err-put.ensures.1 (_, Put-Stopped _ close_part c.loop-suite.invariant.done.2 c.in_err-put.ensures.appends)
 
 pub returns-in_err-flush-clause-document : goal.returns-in_err-flush-clause-document
 returns-in_err-flush-clause-document g c =
-    let suites = c.args.suites.items in
-    let done = c.loop-suite.invariant.done in
-    let text : List _ = root_start (total (map numbers_in suites)) ++ flat_map suite_text done.0 in
-    at_fault (LeavesDocument g.I.Read.remaining suites _ _) _ (Write c.in_err-flush.field-0.0)
-    c.from_residual-in_err-flush.ensures.1 (
-      _,
-      Put-Stopped (text ++ close_part) []
-          (Put-trans text close_part done.2 c.in_ok-put.ensures.appends) c.in_err-flush.ensures,
-    )
+    at_fault (LeavesDocument g.I.Read.remaining c.args.suites.items _ _) _ (Write c.in_err-flush.field-0.0)
+    c.from_residual-in_err-flush.ensures.1
+    (_, Put-Stopped _ [] (Put-trans _ close_part c.loop-suite.invariant.done.2 c.in_ok-put.ensures.appends) c.in_err-flush.ensures)
 
 pub returns-clause-document : goal.returns-clause-document
 returns-clause-document g c =

@@ -1,11 +1,8 @@
-use Rattle.std.proofs.Common.{◌≡◌, ◌∙◌, ◌∷◌, ◌++◌, List, [], ap, append_assoc, append-nil, arith, map, refl, subst, sym}
+use Rattle.std.proofs.Common.{◌≡◌, ◌∙◌, ◌∷◌, ◌++◌, [], ap, append_assoc, append-nil, arith, refl, sym}
 use Rattle.std.proofs.lemmas.List.{nil_from_length}
-use Rattle.std.specs.Iterator.{AlwaysYields}
-use Rattle.mimic_events.specs.declared.report.Report.{Report}
 use Rattle.std.proofs.lemmas.Iterator.Adapters.{YieldsList-from_vec}
 use Rattle.std.specs.Vec.Iter.{into_iter_items, into_iter_steps}
 use Rattle.mimic_reports.specs.Joined.{rows_in}
-use Rattle.mimic_reports.specs.Turns.{Each}
 use Rattle.mimic_reports.proofs.Taking.{items_taken, more_lists}
 use Rattle.mimic_reports.proofs.order.rows_in_turn.Goals as goal
 
@@ -29,9 +26,6 @@ returns c =
     let rest = into_iter_items c.loop-report.report-iterator in
     let none = nil_from_length rest
     (omega (arith, c.in-None.ensures.steps.0, c.loop-report.report-iterator.rest.ok.0)) in
-    let all : seen ≡ c.args.reports.items =
-    sym (append-nil seen) ∙ (ap (λ l. seen ++ l) (sym none) ∙ c.loop-report.invariant.seen) in
-    let Give : List Report → Type 0 = λ reports.
-    Each (AlwaysYields into_iter_steps (λ row. row)) c.loop-report.lists.items (map rows_in reports) in
+    let all : seen ≡ c.args.reports.items = simp append-nil at (rw none at c.loop-report.invariant.seen) in
     items_taken into_iter_steps c.taken_in_turn.result c.loop-report.lists.items _
-    c.taken_in_turn.ensures (subst Give all c.loop-report.invariant.lists)
+    c.taken_in_turn.ensures (rw all at c.loop-report.invariant.lists)

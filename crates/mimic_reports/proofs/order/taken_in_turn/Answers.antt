@@ -3,7 +3,7 @@ use Rattle.std.proofs.lemmas.List.{nil_from_length}
 use Rattle.std.proofs.lemmas.List.Elements.{All-push, All-same}
 use Rattle.std.specs.Iterator.{size}
 use Rattle.mimic_reports.specs.Turns.{in_turn}
-use Rattle.mimic_reports.proofs.Taking.{Ends, all_taken, fewer-items, fewer-lists, first_ends, others_end, passed, took}
+use Rattle.mimic_reports.proofs.Taking.{Ends, all_taken, fewer-items, fewer-lists, first_ends, others_end, pass, take}
 use Rattle.mimic_reports.proofs.order.taken_in_turn.Goals as goal
 
 pub loop-list-init : goal.loop-list-init
@@ -44,10 +44,10 @@ loop-list-preserved-in-Continue-branch-2 g c =
       ends = All-same (Ends can left) c.push_back.new.self.items (others ++ c.next.new.self ∷ []) back
           (All-push (Ends can left) others c.next.new.self
           (others_end can left lists others c.in-Some.list front before.ends) (after.0, after.1));
-      leave = λ row_in all gives. took g.I.Iterator.next_gives row_in lists others
-          c.push_back.new.self.items c.in-Some.list c.next.new.self c.in-Some-next.row
-          c.loop-list.rows.items c.push.new.self.items all front back c.in_ok-push.ensures.items
-          c.in-Some-next.ensures.steps (before.leave row_in all gives);
+      leave = λ row_in all gives.
+          let l = rw front at (before.leave row_in all gives) in
+          rw (back, c.in_ok-push.ensures.items) (take g.I.Iterator.next_gives row_in c.in-Some.list c.next.new.self c.in-Some-next.row
+          others c.loop-list.rows.items l.0 all c.in-Some-next.ensures.steps l.1 l.2);
     }
 
 pub loop-list-smaller : goal.loop-list-smaller
@@ -64,14 +64,15 @@ loop-list-preserved g c =
     record {
       ends = others_end g.I.Iterator.can_next g.I.Iterator.remaining lists others c.in-Some.list
           front before.ends;
-      leave = λ row_in all gives. passed g.I.Iterator.next_gives row_in lists others c.in-Some.list
-          c.next.new.self c.loop-list.rows.items all front c.in_default-next.ensures.steps
-          (before.leave row_in all gives);
+      leave = λ row_in all gives.
+          let l = rw front at (before.leave row_in all gives) in
+          pass g.I.Iterator.next_gives row_in c.in-Some.list c.next.new.self others c.loop-list.rows.items l.0 all
+          c.in_default-next.ensures.steps l.1 l.2;
     }
 
 pub returns : goal.returns
 returns g c = λ row_in all gives.
     let none = nil_from_length c.loop-list.lists.items
     (omega (arith, c.in_default.ensures.cases.0, c.loop-list.lists.ok)) in
-    all_taken g.I.Iterator.next_gives row_in c.loop-list.lists.items c.loop-list.rows.items all none
-    (c.loop-list.invariant.leave row_in all gives)
+    let l = rw none at (c.loop-list.invariant.leave row_in all gives) in
+    all_taken g.I.Iterator.next_gives row_in c.loop-list.rows.items l.0 all l.1 l.2

@@ -1,15 +1,12 @@
-use Rattle.std.proofs.Common.{subst}
 use Rattle.mimic_trial.specs.declared.outcome.Outcome.{Outcome}
 use Rattle.mimic_trial.specs.declared.trial.TestInfo.{TestInfo}
 use Rattle.mimic_printer.specs.Report.{row_text}
 use Rattle.mimic_printer.specs.Row.{row_of}
-use Rattle.mimic_printer.specs.Sink.{Stopped, shown}
 use Rattle.mimic_printer.proofs.Appending.{Puts-stopped, Stopped-next}
 use Rattle.mimic_reports.proofs.show.put_rows.Goals as goal
 
 pub returns-in_err-print_row : goal.returns-in_err-print_row
 returns-in_err-print_row g c =
-    let P : TestInfo × Outcome → Type 0 = λ r. Stopped (shown g.W.Write.contents c.loop-row.sink) (shown g.W.Write.contents c.print_row.new.sink) (row_text c.args.printer.now (row_of r.0 r.1)) in
     Puts-stopped _ _ c.from_residual.ensures.0
     (Stopped-next (λ (row : TestInfo × Outcome). row_text c.args.printer.now (row_of row.0 row.1)) c.args.rows.now c.loop-row.row-index c.row-item.result c.loop-row-test.true c.loop-row.invariant
-    (subst P c.row-item.is c.in_err-print_row.ensures))
+    (rw c.row-item.is at c.in_err-print_row.ensures))

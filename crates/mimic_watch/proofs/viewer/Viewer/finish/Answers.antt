@@ -1,10 +1,8 @@
-use Rattle.std.proofs.Common.{ℕ, List, [], ◌++◌, inl, refl, sym, subst}
-use Rattle.mimic_printer.specs.Sink.{LeftBy, Put, shown}
+use Rattle.std.proofs.Common.{[], ◌++◌, inl, refl, sym, subst}
 use Rattle.mimic_printer.proofs.Appending.{Put-Stopped, Put-trans}
 use Rattle.mimic_printer.specs.declared.sink.OutputFault.TheVariants.{OutOfMemory, Write}
 use Rattle.mimic_watch.specs.Watched.{last_text}
 use Rattle.mimic_input.specs.Readings.{EndsAs}
-use Rattle.mimic_watch.specs.Watching.{put_text}
 use Rattle.mimic_watch.proofs.Ending.{last_is, left_alone, on_error}
 use Rattle.mimic_watch.proofs.viewer.Viewer.finish.Goals as goal
 
@@ -14,15 +12,14 @@ returns-in_err-ending-clause-put g c = on_error _ OutOfMemory _ _ c.from_residua
 pub returns-in_err-put_moment-clause-put : goal.returns-in_err-put_moment-clause-put
 returns-in_err-put_moment-clause-put g c =
     let fault = c.in_err-put_moment.field-0.0 in
-    let P : List ℕ → Type 0 = λ w. LeftBy fault (shown g.W.Write.contents c.args.sink.now) (shown g.W.Write.contents c.put_moment.new.sink) (put_text c.args.self.live w []) in
-    on_error _ fault _ _ c.from_residual-in_err-put_moment.ensures.1 ([], inl refl, left_alone fault _ _ _ (subst P c.deref.ensures.value c.in_err-put_moment.ensures))
+    on_error _ fault _ _ c.from_residual-in_err-put_moment.ensures.1 ([], inl refl, left_alone fault _ _ _ (rw c.deref.ensures.value at c.in_err-put_moment.ensures))
 
 pub returns-in_err-put_last-clause-put : goal.returns-in_err-put_last-clause-put
 returns-in_err-put_last-clause-put g c =
     let verdict = c.new-verdict.result in
-    let P : List ℕ → Type 0 = λ w. Put (shown g.W.Write.contents c.args.sink.now) (shown g.W.Write.contents c.put_moment.new.sink) (put_text c.args.self.live w []) in
     on_error _ (Write c.in_err-put_last.field-0.0) _ _ c.from_residual-in_err-put_last.ensures.1
-    (last_text verdict.counts verdict.ending, last_is verdict.counts verdict.ending, Put-Stopped _ _ (subst P c.deref.ensures.value c.in_ok-put_moment.ensures) c.in_err-put_last.ensures)
+    (last_text verdict.counts verdict.ending, last_is verdict.counts verdict.ending,
+    Put-Stopped _ _ (rw c.deref.ensures.value at c.in_ok-put_moment.ensures) c.in_err-put_last.ensures)
 
 pub returns-clause-verdict : goal.returns-clause-verdict
 returns-clause-verdict g c = λ bytes put waiting h. (
@@ -32,5 +29,4 @@ returns-clause-verdict g c = λ bytes put waiting h. (
 
 pub returns-clause-put : goal.returns-clause-put
 returns-clause-put g c =
-    let P : List ℕ → Type 0 = λ w. Put (shown g.W.Write.contents c.args.sink.now) (shown g.W.Write.contents c.put_moment.new.sink) (put_text c.args.self.live w []) in
-    Put-trans _ _ (subst P c.deref.ensures.value c.in_ok-put_moment.ensures) c.in_ok-put_last.ensures
+    Put-trans _ _ (rw c.deref.ensures.value at c.in_ok-put_moment.ensures) c.in_ok-put_last.ensures
