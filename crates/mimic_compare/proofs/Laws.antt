@@ -16,7 +16,7 @@ use Rattle.mimic_printer.specs.Row.{Label}
 use Rattle.mimic_events.specs.Key.{same_label}
 use Rattle.mimic_events.proofs.Keys.{same_label-decides, same_label-symm}
 use Rattle.mimic_input.specs.declared.rows_read.RowsRead.{RowsRead}
-use Rattle.mimic_escapes.proofs.Laws.{lines_have_no_control}
+use Rattle.mimic_printer.proofs.EscapeLaws.{lines_have_no_control}
 use Rattle.mimic_compare.specs.Classes.{Compared, compared, comparisons, distinct, labels_in}
 use Rattle.mimic_compare.specs.Text.{place_of, same_class}
 use Rattle.mimic_compare.specs.Written.{ArePartitioned, ComparisonLaws, SaysWorse, found_in, is_worse, labels_of, stands_in, verdict_of}

@@ -4,8 +4,9 @@ use Rattle.std.specs.List.{concat, flat_map}
 use Rattle.mimic_text.specs.Text.{grouped}
 use Rattle.mimic_printer.specs.Row.{Label}
 use Rattle.mimic_compare.specs.Classes.{Compared}
-use Rattle.mimic_escapes.specs.Pieces.{label_text}
-use Rattle.mimic_escapes.specs.declared.place.Place.TheVariants.{Line}
+use Rattle.mimic_printer.specs.Escapes.{escaped}
+use Rattle.mimic_printer.specs.Piece.{bracketed}
+use Rattle.mimic_printer.specs.declared.place.Place.TheVariants.{Line}
 use Rattle.mimic_compare.specs.declared.class.Class.{Class}
 use Rattle.mimic_compare.specs.declared.class.Class.TheVariants.{Regressed, Missing, NotRun, New, NotRunBefore, NewlyIgnored, NewlyPassing, AnotherMessage, Unchanged}
 
@@ -48,7 +49,7 @@ count_of class found = count_by (λ c. same_class c.class class) found
 
 -- the line of a kind and a name
 unfoldable pub line_text : Class → Label → List ℕ
-line_text class label = concat (word class ∷ codes ": " ∷ label_text Line label.kind label.name ∷ codes "\n" ∷ [])
+line_text class label = concat (word class ∷ codes ": " ∷ bracketed Line label.kind ∷ escaped Line label.name ∷ codes "\n" ∷ [])
 
 -- the new number by the old one, in hundredths, to the nearest; a tie is rounded up
 abbrev pub ratio_of : ℕ → ℕ → Option ℕ
@@ -61,7 +62,7 @@ ratio_part (Some n) = decimal (n / 100) ∷ codes "." ∷ decimal (n / 10 % 10) 
 
 -- the line of a benchmark: both averages and their ratio
 unfoldable pub benchmark_text : Label → ℕ × ℕ → List ℕ
-benchmark_text label averages = concat (codes "bench: " ∷ label_text Line label.kind label.name ∷ codes ": "
+benchmark_text label averages = concat (codes "bench: " ∷ bracketed Line label.kind ∷ escaped Line label.name ∷ codes ": "
     ∷ grouped (decimal averages.0) ∷ codes " -> " ∷ grouped (decimal averages.1) ∷ codes " ns/iter ("
     ∷ ratio_part (ratio_of averages.0 averages.1))
 

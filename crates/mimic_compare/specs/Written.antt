@@ -12,8 +12,8 @@ use Rattle.mimic_input.specs.declared.ending.Ending.TheVariants.{Whole, Cut}
 use Rattle.mimic_input.specs.declared.rows_read.RowsRead.{RowsRead}
 use Rattle.mimic_compare.specs.Classes.{Compared, comparisons, labels_in}
 use Rattle.mimic_compare.specs.Text.{changes, comparison_text, count_of, same_class}
-use Rattle.mimic_escapes.specs.Laws.{HasNoControl}
-use Rattle.mimic_escapes.specs.declared.place.Place.TheVariants.{Line}
+use Rattle.mimic_printer.specs.EscapeLaws.{HasNoControl}
+use Rattle.mimic_printer.specs.declared.place.Place.TheVariants.{Line}
 use Rattle.mimic_compare.specs.declared.class.Class.{Class}
 use Rattle.mimic_compare.specs.declared.class.Class.TheVariants.{Regressed, Missing, Unchanged}
 use Rattle.mimic_compare.specs.declared.verdict.Verdict.{Verdict}

@@ -7,8 +7,7 @@ ghost use Rattle.mimic_compare.specs.Text.{benchmark_in, changes, comparison_tex
 
 use crate::class::Class;
 use crate::comparison::Comparison;
-use mimic_escapes::{Piece, Place, put_pieces};
-use mimic_printer::{Sink, WriteFault};
+use mimic_printer::{Piece, Place, Sink, WriteFault, put_pieces};
 use std::io::Write;
 
 // The classes of which each kind and name is printed, in their order.
@@ -55,11 +54,8 @@ fn put_line<'a, W: Write>(
     let pieces = [
         Piece::Text(word(class)),
         Piece::Text(": "),
-        Piece::Label {
-            kind: comparison.row.kind.as_str(),
-            name: comparison.row.name.as_str(),
-            place: Place::Line,
-        },
+        Piece::Bracketed(comparison.row.kind.as_str(), Place::Line),
+        Piece::Escaped(comparison.row.name.as_str(), Place::Line),
         Piece::Text("\n"),
     ];
     put_pieces(sink, &pieces)
@@ -108,11 +104,8 @@ macro_rules! put_averages {
     ($sink:expr, $row:expr, $old:expr, $new:expr, $($end:expr),+) => {{
         let pieces = [
             Piece::Text("bench: "),
-            Piece::Label {
-                kind: $row.kind.as_str(),
-                name: $row.name.as_str(),
-                place: Place::Line,
-            },
+            Piece::Bracketed($row.kind.as_str(), Place::Line),
+            Piece::Escaped($row.name.as_str(), Place::Line),
             Piece::Text(": "),
             Piece::Grouped($old),
             Piece::Text(" -> "),

@@ -1,12 +1,11 @@
 //! How reports end.
 ghost use Rattle.std.specs.Prelude.{◌≡◌, IfOk, option_map};
-ghost use Rattle.mimic_escapes.specs.Pieces.{pieces_text};
+ghost use Rattle.mimic_printer.specs.Piece.{pieces_text};
 ghost use Rattle.mimic_events.specs.Contents.{label_read};
 ghost use Rattle.mimic_input.specs.Stops.{ended_part, wrong_part};
 
-use mimic_escapes::{Piece, put_pieces};
 use mimic_events::{Follower, Label};
-use mimic_printer::{Sink, WriteFault};
+use mimic_printer::{Piece, Sink, WriteFault, put_pieces};
 use std::alloc::{AllocError, Global};
 use std::fmt;
 use std::io::Write;

@@ -1,7 +1,7 @@
 -- What holds of every page.
 use Rattle.std.proofs.Common.{refl}
 use Rattle.mimic_trial.specs.declared.outcome.Outcome.TheVariants.{Passed, Failed, Ignored, Measured}
-use Rattle.mimic_escapes.proofs.Laws.{escape_laws}
+use Rattle.mimic_printer.proofs.EscapeLaws.{escape_laws}
 use Rattle.mimic_page.specs.Page.{PageLaws, StandsOnce}
 
 stands_once : StandsOnce

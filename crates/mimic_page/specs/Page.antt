@@ -15,9 +15,9 @@ use Rattle.mimic_input.specs.Stops.{extent_text}
 use Rattle.mimic_input.specs.declared.ending.Ending.{Ending}
 use Rattle.mimic_input.specs.declared.ending.Ending.TheVariants.{Whole, Cut}
 use Rattle.mimic_input.specs.declared.ending.Stop.{Stop}
-use Rattle.mimic_escapes.specs.Escapes.{escaped}
-use Rattle.mimic_escapes.specs.Laws.{EscapeLaws}
-use Rattle.mimic_escapes.specs.declared.place.Place.TheVariants.{Html}
+use Rattle.mimic_printer.specs.Escapes.{escaped}
+use Rattle.mimic_printer.specs.EscapeLaws.{EscapeLaws}
+use Rattle.mimic_printer.specs.declared.place.Place.TheVariants.{Html}
 use Rattle.mimic_page.specs.declared.page.Group.{Group}
 use Rattle.mimic_page.specs.declared.page.Group.TheVariants.{Failed, Measured, Others}
 use Rattle.mimic_page.specs.declared.script.TheConstants.{FILTER, SCRIPT, SCRIPT_DIGEST}

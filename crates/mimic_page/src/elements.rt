@@ -6,10 +6,9 @@ ghost use Rattle.mimic_page.specs.Page.{counts_text, end_text, ending_text, kind
 
 use crate::script::{FILTER, SCRIPT, SCRIPT_DIGEST};
 use crate::style::STYLE;
-use mimic_escapes::{Piece, Place, put_pieces};
 use mimic_events::Row;
 use mimic_input::{Ending, Stop};
-use mimic_printer::{Sink, WriteFault};
+use mimic_printer::{Piece, Place, Sink, WriteFault, put_pieces};
 use mimic_trial::{Conclusion, Outcome};
 use std::io::Write;
 

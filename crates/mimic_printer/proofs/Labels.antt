@@ -2,7 +2,9 @@
 use Rattle.std.proofs.Common.{◌≡◌, ◌≢◌, ℕ, List, [], ◌∷◌, ◌++◌, codes, take, drop, refl, sym, ap, ◌∙◌, append_assoc}
 use Rattle.mimic_text.specs.Escape.{escaped}
 use Rattle.mimic_printer.specs.Json.{announcement_front, json_announcement, json_end, kind_field, kind_key}
-use Rattle.mimic_printer.specs.Piece.{kind_text}
+use Rattle.mimic_printer.specs.declared.place.Place.{Place}
+use Rattle.mimic_printer.specs.Escapes.{escaped as spelled}
+use Rattle.mimic_printer.specs.Piece.{bracketed, kind_text}
 
 -- what stands between a name and a kind
 abbrev pub key_bytes : List ℕ
@@ -11,6 +13,10 @@ key_bytes = codes "\", \"kind\": \""
 pub kind_text-some : (kind : List ℕ) → kind ≢ [] → kind_text kind ≡ key_bytes ++ escaped kind
 kind_text-some [] some = absurd (some refl)
 kind_text-some (b ∷ kind) some = refl
+
+pub bracketed-some : (place : Place) (kind : List ℕ) → kind ≢ [] → bracketed place kind ≡ codes "[" ++ (spelled place kind ++ codes "] ")
+bracketed-some place [] some = absurd (some refl)
+bracketed-some place (b ∷ kind) some = refl
 
 -- the key and a kind, one after another
 pub kind_joined : (front keyed kind key : List ℕ) → keyed ≡ front ++ key → key ≡ key_bytes → kind ≢ [] → keyed ++ escaped kind ≡ front ++ kind_text kind

@@ -1,9 +1,13 @@
 pub mod Appending
 pub mod Characters
+pub mod EscapeLaws
 pub mod Escaping
 pub mod FailedRows
+pub mod FirstLines
+pub mod Fronts
 pub mod JsonLines
 pub mod JsonReports
 pub mod Labels
 pub mod Listing
 pub mod Measured
+pub mod Spellings

@@ -1,18 +1,14 @@
 -- The line of a measurement, as the pieces that are written.
-use Rattle.std.proofs.Common.{◌≡◌, ℕ, ◌-◌, List, [], ◌++◌, append_assoc, ap, arith, length}
+use Rattle.std.proofs.Common.{◌≡◌, [], ◌++◌, append_assoc}
 use Rattle.std.specs.Prelude.{codes, decimal}
 use Rattle.mimic_trial.specs.declared.outcome.Outcome.TheVariants.{Measured}
 use Rattle.mimic_trial.specs.declared.outcome.measurement.Measurement.{Measurement}
 use Rattle.mimic_printer.specs.declared.Printer.{Printer}
 use Rattle.mimic_printer.specs.Report.{colour_start, colour_end, outcome_line}
-use Rattle.mimic_text.specs.Text.{grouped, right_aligned, spaces}
-
--- no place is as no padding
-right_aligned-none : (ds : List ℕ) → right_aligned 0 ds ≡ ds
-right_aligned-none ds = let none : 0 - length ds ≡ 0 = omega arith in ap (λ n. spaces n ++ ds) none
+use Rattle.mimic_text.specs.Text.{grouped, right_aligned}
 
 pub outcome_line-measured : (p : Printer) (m : Measurement) → outcome_line p (Measured m) ≡
     colour_start p (Measured m) ++ (codes "bench" ++ (colour_end p ++ (codes ": " ++ (right_aligned 11 (grouped (decimal m.avg))
-    ++ (codes " ns/iter (+/- " ++ (right_aligned 0 (grouped (decimal m.variance)) ++ (codes ")\n" ++ [])))))))
+    ++ (codes " ns/iter (+/- " ++ (grouped (decimal m.variance) ++ (codes ")\n" ++ [])))))))
 unfolding outcome_line
-outcome_line-measured p m = simp (append_assoc, right_aligned-none)
+outcome_line-measured p m = simp append_assoc

@@ -1,8 +1,11 @@
+pub mod EscapeLaws
+pub mod Escapes
 pub mod Failures
 pub mod Json
 pub mod Lines
 pub mod List
 pub mod Piece
+pub mod Places
 pub mod Report
 pub mod Row
 pub mod Sink

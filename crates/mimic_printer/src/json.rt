@@ -61,7 +61,7 @@ pub fn put_announcement<'a, W: Write>(
 {
     let pieces = [
         Piece::Text("{ \"type\": \"test\", \"event\": \"started\", \"name\": \""),
-        Piece::Escaped(name),
+        Piece::Json(name),
         Piece::Kind(kind),
         Piece::Text("\" }\n"),
     ];
@@ -160,7 +160,7 @@ fn put_failure<'a, W: Write>(
         name,
         kind,
         Piece::Text("\", \"event\": \"failed\", \"stdout\": \"Error: \\\""),
-        Piece::Escaped(message),
+        Piece::Json(message),
         Piece::Text("\\\"\\n\" }\n")
     )
 }

@@ -2,10 +2,13 @@
 ghost use Rattle.std.specs.Prelude.{◌≡◌, ◌≤◌, ◌++◌, IfSome, decimal, length, slice_index, take};
 ghost use Rattle.std.specs.Option.{MatchOption};
 ghost use Rattle.mimic_printer.specs.Sink.{HasFaultLeft, Puts};
-ghost use Rattle.mimic_text.specs.Escape.{escaped};
+ghost use Rattle.mimic_text.specs.Escape.{escaped as json_escaped};
 ghost use Rattle.mimic_text.specs.Text.{spaces, right_aligned, grouped};
-ghost use Rattle.mimic_printer.specs.Piece.{kind_text, piece_text, pieces_text};
+ghost use Rattle.mimic_printer.specs.Escapes.{escaped};
+ghost use Rattle.mimic_printer.specs.Piece.{bracketed, first_line, kind_text, piece_text, pieces_text};
 
+use crate::escape::{first_escape, put_escaped};
+use crate::place::Place;
 use crate::sink::{Sink, WriteFault};
 use itoa::Buffer;
 use mimic_text::{escape_byte, exact_seconds, next_escape, thousands};
@@ -13,33 +16,48 @@ use std::io::Write;
 
 /// A part of a text.
 #[derive(Clone, Copy)]
-pub(crate) enum Piece<'a> {
+pub enum Piece<'a> {
     /// The text itself.
     Text(&'a str),
     /// The number in decimal.
     Number(u64),
+    /// The number in decimal.
+    Long(u128),
     /// A number below 100 in two digits.
     TwoDigits(u8),
     /// This number of spaces.
     Spaces(usize),
-    /// The number with commas between groups of three digits, and spaces before it up to the width.
-    Grouped { number: u64, width: usize },
-    /// The text as it stands between the quotes of a JSON string.
-    Escaped(&'a str),
-    /// What follows a trial's name so: the key of a kind and the kind, up to its last quote, and nothing for an empty kind.
-    Kind(&'a str),
+    /// The number with commas between groups of three digits.
+    Grouped(u64),
+    /// The same, and spaces before it up to the width in characters.
+    Aligned {
+        /// The number.
+        number: u64,
+        /// The width.
+        width: usize,
+    },
     /// Nanoseconds, as seconds in exact decimal.
     Seconds(u64),
+    /// The text as it is between the quotes of a JSON string.
+    Json(&'a str),
+    /// What follows a trial's name in JSON: the key of a kind and the kind, up to its last quote, and nothing for an empty kind.
+    Kind(&'a str),
+    /// The text as it is in the place.
+    Escaped(&'a str, Place),
+    /// The first line of the text as it is in the place.
+    FirstLine(&'a str, Place),
+    /// The kind as it is in the place, in brackets and with a space after them, and nothing for an empty kind.
+    Bracketed(&'a str, Place),
 }
 
 /// A trial's name in JSON. Most need no escape, and a row that has its name twice looks for escapes once.
 #[tactic(auto, using(crate::proofs::Escaping::spelled_as_is))]
 #[inline(always)]
 pub(crate) fn name_piece<'a>(name: &'a str) -> Piece<'a>
-    ensures { piece_text result ≡ escaped name.now }
+    ensures { piece_text result ≡ json_escaped name.now }
 {
     if next_escape(name.as_bytes()).is_some() {
-        Piece::Escaped(name)
+        Piece::Json(name)
     } else {
         Piece::Text(name)
     }
@@ -49,10 +67,7 @@ pub(crate) fn name_piece<'a>(name: &'a str) -> Piece<'a>
 const ROW: usize = 256;
 
 /// Writes the pieces one after another.
-pub(crate) fn put_pieces<W: Write>(
-    sink: &mut Sink<W>,
-    pieces: &[Piece<'_>],
-) -> Result<(), WriteFault>
+pub fn put_pieces<W: Write>(sink: &mut Sink<W>, pieces: &[Piece<'_>]) -> Result<(), WriteFault>
     requires { HasFaultLeft sink.old }
     ensures { Puts W.contents sink.old sink.new (pieces_text pieces.now) result }
 {
@@ -109,15 +124,27 @@ fn append(row: &mut [u8; ROW], len: usize, text: &[u8]) -> Option<usize>
 
 // The same of a text in JSON. `None` also if it has escapes.
 #[tactic(auto, using(crate::proofs::Escaping::spelled_as_is))]
-fn append_escaped(row: &mut [u8; ROW], len: usize, text: &str) -> Option<usize>
+fn append_json(row: &mut [u8; ROW], len: usize, text: &str) -> Option<usize>
     requires { len ≤ 256 }
     ensures { IfSome result
-        (λ end. (end ≤ 256) × (take end row.new ≡ take len row.old ++ escaped text.now)) }
+        (λ end. (end ≤ 256) × (take end row.new ≡ take len row.old ++ json_escaped text.now)) }
 {
     if next_escape(text.as_bytes()).is_some() {
         return None;
     }
     append(row, len, text.as_bytes())
+}
+
+// The same of a text in a place.
+fn append_escaped(row: &mut [u8; ROW], len: usize, text: &[u8], place: Place) -> Option<usize>
+    requires { len ≤ 256 }
+    ensures { IfSome result
+        (λ end. (end ≤ 256) × (take end row.new ≡ take len row.old ++ escaped place text.now)) }
+{
+    match first_escape(text, place) {
+        Some(_) => None,
+        None => append(row, len, text),
+    }
 }
 
 fn append_kind(row: &mut [u8; ROW], len: usize, kind: &str) -> Option<usize>
@@ -129,7 +156,7 @@ fn append_kind(row: &mut [u8; ROW], len: usize, kind: &str) -> Option<usize>
         return Some(len);
     }
     let end = append(row, len, KIND_KEY.as_bytes())?;
-    append_escaped(row, end, kind)
+    append_json(row, end, kind)
 }
 
 // What stands between a name and a kind.
@@ -141,7 +168,7 @@ impl Piece<'_> {
     ghost use Rattle.mimic_printer.specs.Piece.{piece_text};
 
     // Writes the piece after the first `len` bytes of the row, and returns where it ends. `None` if it doesn't fit,
-    // or is a long run of spaces, a grouped number or a text with escapes.
+    // or is a long run of spaces, an aligned number, a text with escapes or a kind in brackets.
     fn write(self, row: &mut [u8; ROW], len: usize) -> Option<usize>
         requires { len ≤ 256 }
         ensures { IfSome result
@@ -150,15 +177,24 @@ impl Piece<'_> {
         match self {
             Piece::Text(text) => append(row, len, text.as_bytes()),
             Piece::Number(number) => append(row, len, Buffer::new().format(number).as_bytes()),
+            Piece::Long(number) => append(row, len, Buffer::new().format(number).as_bytes()),
             Piece::TwoDigits(number) => {
                 append(row, len, &[b'0' + number / 10, b'0' + number % 10])
             }
             Piece::Seconds(nanos) => {
                 append(row, len, exact_seconds(nanos, &mut [0; 32]).as_bytes())
             }
+            Piece::Grouped(number) => {
+                append(row, len, thousands(number, &mut [0; 26]).as_bytes())
+            }
             Piece::Spaces(count) if count <= SPACES.len() => append(row, len, &SPACES[..count]),
-            Piece::Escaped(text) => append_escaped(row, len, text),
+            Piece::Json(text) => append_json(row, len, text),
             Piece::Kind(kind) => append_kind(row, len, kind),
+            Piece::Escaped(text, place) => append_escaped(row, len, text.as_bytes(), place),
+            Piece::FirstLine(text, place) => {
+                append_escaped(row, len, first_line(text.as_bytes()), place)
+            }
+            Piece::Bracketed(kind, _) if kind.is_empty() => Some(len),
             _ => None,
         }
     }
@@ -170,12 +206,19 @@ impl Piece<'_> {
         match self {
             Piece::Text(text) => sink.put(text.as_bytes()),
             Piece::Number(number) => sink.put(Buffer::new().format(number).as_bytes()),
+            Piece::Long(number) => sink.put(Buffer::new().format(number).as_bytes()),
             Piece::TwoDigits(number) => sink.put(&[b'0' + number / 10, b'0' + number % 10]),
             Piece::Spaces(count) => put_spaces(sink, count),
-            Piece::Grouped { number, width } => put_grouped(sink, number, width),
-            Piece::Escaped(text) => put_escaped(sink, text.as_bytes()),
-            Piece::Kind(kind) => put_kind(sink, kind),
+            Piece::Grouped(number) => sink.put(thousands(number, &mut [0; 26]).as_bytes()),
+            Piece::Aligned { number, width } => put_aligned(sink, number, width),
             Piece::Seconds(nanos) => sink.put(exact_seconds(nanos, &mut [0; 32]).as_bytes()),
+            Piece::Json(text) => put_json(sink, text.as_bytes()),
+            Piece::Kind(kind) => put_kind(sink, kind),
+            Piece::Escaped(text, place) => put_escaped(sink, text.as_bytes(), place),
+            Piece::FirstLine(text, place) => {
+                put_escaped(sink, first_line(text.as_bytes()), place)
+            }
+            Piece::Bracketed(kind, place) => put_bracketed(sink, kind, place),
         }
     }
 }
@@ -196,7 +239,7 @@ fn put_spaces<W: Write>(sink: &mut Sink<W>, count: usize) -> Result<(), WriteFau
     Ok(())
 }
 
-fn put_grouped<W: Write>(sink: &mut Sink<W>, number: u64, width: usize) -> Result<(), WriteFault>
+fn put_aligned<W: Write>(sink: &mut Sink<W>, number: u64, width: usize) -> Result<(), WriteFault>
     requires { HasFaultLeft sink.old }
     ensures { Puts W.contents sink.old sink.new
         (right_aligned width (grouped (decimal number))) result }
@@ -207,10 +250,10 @@ fn put_grouped<W: Write>(sink: &mut Sink<W>, number: u64, width: usize) -> Resul
     sink.put(text.as_bytes())
 }
 
-// Writes the text with its escapes, and what lies between them at once.
-fn put_escaped<W: Write>(sink: &mut Sink<W>, text: &[u8]) -> Result<(), WriteFault>
+// Writes the text with its escapes in JSON, and what lies between them at once.
+fn put_json<W: Write>(sink: &mut Sink<W>, text: &[u8]) -> Result<(), WriteFault>
     requires { HasFaultLeft sink.old }
-    ensures { Puts W.contents sink.old sink.new (escaped text.now) result }
+    ensures { Puts W.contents sink.old sink.new (json_escaped text.now) result }
 {
     let mut rest = text;
     while let Some(at) = next_escape(rest) {
@@ -229,5 +272,29 @@ fn put_kind<W: Write>(sink: &mut Sink<W>, kind: &str) -> Result<(), WriteFault>
         return Ok(());
     }
     sink.put(KIND_KEY.as_bytes())?;
-    put_escaped(sink, kind.as_bytes())
+    put_json(sink, kind.as_bytes())
+}
+
+fn put_bracketed<W: Write>(sink: &mut Sink<W>, kind: &str, place: Place) -> Result<(), WriteFault>
+    requires { HasFaultLeft sink.old }
+    ensures { Puts W.contents sink.old sink.new (bracketed place kind.now) result }
+{
+    if kind.is_empty() {
+        return Ok(());
+    }
+    sink.put(b"[")?;
+    put_escaped(sink, kind.as_bytes(), place)?;
+    sink.put(b"] ")
+}
+
+// Returns the text up to its first line end.
+fn first_line(text: &[u8]) -> &[u8]
+    ensures { result.now ≡ first_line text.now }
+{
+    for (at, byte) in text.iter().enumerate() {
+        if *byte == b'\n' {
+            return &text[..at];
+        }
+    }
+    text
 }

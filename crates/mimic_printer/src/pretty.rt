@@ -81,15 +81,12 @@ pub(super) fn put_outcome<W: Write>(
                 word,
                 end,
                 Piece::Text(": "),
-                Piece::Grouped {
+                Piece::Aligned {
                     number: measurement.avg,
                     width: 11,
                 },
                 Piece::Text(" ns/iter (+/- "),
-                Piece::Grouped {
-                    number: measurement.variance,
-                    width: 0,
-                },
+                Piece::Grouped(measurement.variance),
                 Piece::Text(")\n"),
             ];
             put_pieces(sink, &pieces)?;

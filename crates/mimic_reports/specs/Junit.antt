@@ -13,9 +13,9 @@ use Rattle.mimic_input.specs.declared.ending.Ending.TheVariants.{Whole, Cut}
 use Rattle.mimic_input.specs.declared.ending.Stop.{Stop}
 use Rattle.mimic_input.specs.Stops.{extent_text}
 use Rattle.mimic_reports.specs.declared.elements.Numbers.{Numbers}
-use Rattle.mimic_escapes.specs.Escapes.{escaped}
-use Rattle.mimic_escapes.specs.Pieces.{first_line, label_text}
-use Rattle.mimic_escapes.specs.declared.place.Place.TheVariants.{Content, Value}
+use Rattle.mimic_printer.specs.Escapes.{escaped}
+use Rattle.mimic_printer.specs.Piece.{bracketed, first_line}
+use Rattle.mimic_printer.specs.declared.place.Place.TheVariants.{Content, Value}
 
 -- what is written of one report: the name of its program, its rows that have ended, and how it ended
 pub record Suite : Type 0 where
@@ -103,7 +103,7 @@ case_text program entry = concat (codes "    <testcase classname=\"" ∷ escaped
 abbrev pub running_part : Option LabelRead → List ℕ
 running_part None = []
 running_part (Some label) = concat (codes "; running: "
-    ∷ label_text Value (string_bytes label.kind) (string_bytes label.name) ∷ [])
+    ∷ bracketed Value (string_bytes label.kind) ∷ escaped Value (string_bytes label.name) ∷ [])
 
 -- the line that says so, after so many rows
 unfoldable pub stop_text : List ℕ → ℕ → Stop → List ℕ

@@ -4,10 +4,9 @@ ghost use Rattle.mimic_printer.specs.Sink.{HasFaultLeft, Puts};
 ghost use Rattle.mimic_events.specs.Contents.{entry_read};
 ghost use Rattle.mimic_reports.specs.Junit.{case_text, class_point, root_start, running_part, stop_text, suite_start};
 
-use mimic_escapes::{Piece, Place, put_pieces};
 use mimic_events::Row;
 use mimic_input::Stop;
-use mimic_printer::{Sink, WriteFault};
+use mimic_printer::{Piece, Place, Sink, WriteFault, put_pieces};
 use mimic_trial::Outcome;
 use std::io::Write;
 
@@ -179,12 +178,12 @@ fn put_running<W: Write>(sink: &mut Sink<W>, stop: &Stop) -> Result<(), WriteFau
     let Some(label) = &stop.running else {
         return Ok(());
     };
-    let label = Piece::Label {
-        kind: label.kind.as_str(),
-        name: label.name.as_str(),
-        place: Place::Value,
-    };
-    put_pieces(sink, &[Piece::Text("; running: "), label])
+    let pieces = [
+        Piece::Text("; running: "),
+        Piece::Bracketed(label.kind.as_str(), Place::Value),
+        Piece::Escaped(label.name.as_str(), Place::Value),
+    ];
+    put_pieces(sink, &pieces)
 }
 
 impl Numbers {

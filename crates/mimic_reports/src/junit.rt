@@ -8,7 +8,7 @@ ghost use Rattle.mimic_events.specs.Contents.{entry_read};
 ghost use Rattle.mimic_reports.specs.Junit.{Suite as ShownSuite, case_text, ending_text, numbers_of, suite_text, total};
 ghost use Rattle.mimic_input.specs.Readings.{IsReading};
 ghost use Rattle.mimic_reports.specs.Suites.{HasLeft, IsShown, IsTooGreat, LeavesDocument, numbers_in};
-ghost use Rattle.mimic_escapes.specs.Laws.{EscapeLaws};
+ghost use Rattle.mimic_printer.specs.EscapeLaws.{EscapeLaws};
 ghost use Rattle.mimic_reports.specs.declared.junit.JunitFault.TheVariants.{Write as WriteStopped};
 
 use crate::elements::{Numbers, put_case, put_root_start, put_stop, put_suite_start};
@@ -74,7 +74,7 @@ fn total_of<I: Read>(suites: &[Suite<'_, I>]) -> Option<Numbers>
 /// Writes the reports, in their order, as one document of JUnit's XML, and flushes it.
 ///
 /// Rows that are not kept are read again, each once. With a fault a beginning was written that is no document.
-#[tactic(auto, using(mimic_escapes::proofs::Laws::escape_laws))]
+#[tactic(auto, using(mimic_printer::proofs::EscapeLaws::escape_laws))]
 pub fn write_junit<I: Read + Drop, W: Write>(
     alloc: Global,
     suites: Vec<Suite<'_, I>>,

@@ -114,7 +114,8 @@ pub fn next_escape(text: &[u8]) -> Option<usize>
     None
 }
 
-fn hex_digit(value: u8) -> u8
+/// Returns a number below 16 as a hexadecimal digit in small letters.
+pub fn hex_digit(value: u8) -> u8
     requires { value < 16 }
     ensures { result ≡ digit_char value }
 {

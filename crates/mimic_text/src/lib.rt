@@ -20,7 +20,7 @@ mod escape;
 mod formats;
 mod seconds;
 
-pub use escape::{Escaped, escape_byte, escape_char, next_escape};
+pub use escape::{Escaped, escape_byte, escape_char, hex_digit, next_escape};
 pub use formats::{FormatSetting, UnknownFormat};
 use itoa::Buffer;
 pub use seconds::{NANOS_PER_SECOND, exact_seconds, hundredths};

@@ -8,8 +8,8 @@ use Rattle.mimic_trial.specs.declared.outcome.measurement.Measurement.{Measureme
 use Rattle.mimic_text.specs.Text.{grouped}
 use Rattle.mimic_printer.specs.Json.{Entry}
 use Rattle.mimic_printer.specs.Row.{Label}
-use Rattle.mimic_escapes.specs.Escapes.{escaped}
-use Rattle.mimic_escapes.specs.declared.place.Place.TheVariants.{Terminal}
+use Rattle.mimic_printer.specs.Escapes.{escaped}
+use Rattle.mimic_printer.specs.declared.place.Place.TheVariants.{Terminal}
 
 -- a kind in brackets, and nothing for an empty one
 abbrev pub kind_text : List ℕ → List ℕ

@@ -16,6 +16,6 @@ pub returns : goal.returns
 returns g c =
     let some : c.args.kind.now ≢ [] = λ e. absurd (search rules) in
     let Q : List ℕ → Type 0 = λ l. Put (shown g.W.Write.contents c.args.sink.now) (shown g.W.Write.contents c.put.new.self) l in
-    let R : List ℕ → Type 0 = λ l. Puts g.W.Write.contents c.put.new.self c.put_escaped.new.sink (escaped l) c.put_escaped.result in
+    let R : List ℕ → Type 0 = λ l. Puts g.W.Write.contents c.put.new.self c.put_json.new.sink (escaped l) c.put_json.result in
     rw (kind_text-some c.args.kind.now some)
-    (Puts_then _ _ _ key_bytes _ _ (subst Q c.as_bytes.ensures.value c.in_ok-put.ensures.appends) (subst R c.as_bytes-2.ensures.value c.put_escaped.ensures))
+    (Puts_then _ _ _ key_bytes _ _ (subst Q c.as_bytes.ensures.value c.in_ok-put.ensures.appends) (subst R c.as_bytes-2.ensures.value c.put_json.ensures))

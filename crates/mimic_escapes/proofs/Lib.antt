@@ -1,5 +1,0 @@
-pub mod FirstLines
-pub mod Fronts
-pub mod Laws
-pub mod Spellings
-pub mod Writing

@@ -1,4 +1,0 @@
-pub mod Escapes
-pub mod Laws
-pub mod Pieces
-pub mod Places
