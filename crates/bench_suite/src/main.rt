@@ -3,14 +3,14 @@
 //!
 //! The tests are `test_000000` and so on; every K-th fails. Each is a boxed closure: with `captures 1` one that holds
 //! its test's number, as a closure over a path would, and with `work K` it goes through K thousand rounds from it. With
-//! `wait MS` each is a value that waits so many milliseconds, and may not fail. With `uneven HOW` they don't all wait the same
+//! `wait MS` each is a value that waits MS milliseconds, and may not fail. With `uneven HOW` they don't all wait the same
 //! time: with `lognormal` each waits one of sixteen times of a lognormal distribution, by its number (the median is 6 ms, sigma
 //! 1); with `fourth` every fourth waits 30 ms and the others 3 ms; with `one` the one in the middle waits a second and the others
 //! 3 ms.
 //!
 //! A worker takes the next test when it is free. With `dealt 1` tests are dealt out to workers beforehand.
 //!
-//! The report goes to standard output or the logfile. Its own time is that of a clock that stands still, so that the
+//! The report goes to standard output or the logfile. Its own time is that of a clock that never moves, so that the
 //! same words always give the same report. What was measured goes to standard error: how long making the tests and
 //! running them took, and the peak of memory. A failing test that finds no memory for its message fails without one.
 #![tactic(auto)]
@@ -74,7 +74,7 @@ macro_rules! boxed_tests {
     }};
 }
 
-// Goes through so many thousand rounds of xorshift64 from the test's number, none of which ends in 0.
+// Goes through `work` thousand rounds of xorshift64 from the test's number, none of which ends in 0.
 fn works(number: usize, work: u64) -> Result<(), Failed> {
     let state = (number as u64).wrapping_add(1);
     if rounds(state, work.saturating_mul(1000)) == 0 {
@@ -153,7 +153,7 @@ fn measure<M: Machine + Files + Eprint + Copy + Drop + Send + 'static>(
     }
 }
 
-// Runs the tests, which it took so long to make, and prints what that took.
+// Runs the tests, and prints what that took, and what it took to make them.
 fn run_tests<M: Machine + Files + Eprint, R: Task + Send + 'static>(
     rt: &M,
     asked: &Asked,

@@ -5,7 +5,7 @@ use std::time::Duration;
 /// How long each test waits.
 #[derive(Clone, Copy, PartialEq, Eq)]
 pub(crate) enum Waits {
-    // All so many milliseconds.
+    // All wait this number of milliseconds.
     Alike(u64),
     // Each one of sixteen times of a lognormal distribution, by its number.
     Lognormal,
@@ -33,7 +33,7 @@ impl Waits {
         }
     }
 
-    /// How long the test of this number waits, of so many tests.
+    /// How long the test of this number waits, of `count` tests.
     pub(crate) fn time(self, number: usize, count: usize) -> Duration {
         match self {
             Waits::Alike(millis) => Duration::from_millis(millis),
@@ -45,7 +45,7 @@ impl Waits {
     }
 }
 
-// The time that the four highest bits choose of what three rounds make of the test's number.
+// The time of the test of this number: three rounds mix the number, and the four highest bits of that choose the time.
 fn lognormal_time(number: usize) -> Duration {
     let mixed = rounds((number as u64).wrapping_add(1), 3);
     Duration::from_micros(LOGNORMAL[(mixed >> 60) as usize])

@@ -103,7 +103,7 @@ impl fmt::Display for Difference<'_> {
 }
 
 impl fmt::Display for Side<'_> {
-    // With escapes, so that what can't be seen is told apart: line ends, blanks at the end, tabs.
+    // With escapes, so that what can't be seen can be distinguished: line ends, blanks at the end, tabs.
     fn fmt<W: fmt::Write>(&self, f: &mut fmt::Formatter<W>) -> fmt::Result {
         match self.0 {
             Some(line) => write!(f, "{line:?}"),

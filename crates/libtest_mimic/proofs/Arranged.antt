@@ -74,7 +74,7 @@ module _ {R : Type 0} where
     flags_push (u ∷ ts) (x ∷ bs) t b f says = (f.0, flags_push ts bs t b f.1 says)
 
 module _ {R : Type 0} (gives : Gives R) (args : Arguments) where
-  -- the outcome at a place is own where it is one of what was dealt there
+  -- the outcome at a place is own if it is one of what was dealt there
   own_item : (k : ℕ) (ts : List (Trial R)) (bs : List Bool) (p : ℕ) (d : Assigned R) (o : Outcome) → AreFlags args ts bs → p < length ts
       → IsOutcomeOf gives (slice_index_or (assigned_from k (map runner_of ts) bs) p d).ignored (slice_index_or (assigned_from k (map runner_of ts) bs) p d).runner (not args.bench) o
       → IsSomeAnd (slice_get ts p) (λ t. IsOwn gives args t o)

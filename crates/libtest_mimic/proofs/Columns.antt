@@ -1,4 +1,4 @@
--- Printers that differ in columns alone print the same where their format has none.
+-- Printers that differ in columns alone print the same if their format has none.
 use Rattle.std.proofs.Common.{◌≡◌, ◌∙◌, ℕ, Bool, List, [], ◌∷◌, ◌++◌, Option, None, Some, Result, Ok, Err, length, refl, ap, ap₂, subst}
 use Rattle.std.specs.List.{concat}
 use Rattle.std.specs.Prelude.{MatchOption}
@@ -146,7 +146,7 @@ module _ {R : Type 0} (gives : Gives R) (suite : Suite R) (q : Printer) (same : 
             )) s.begun;
       }
 
-  -- a report, or what stands after it was refused
+  -- a report, or what a refused one leaves
   pub reports_same : (threads : ℕ) (old new : Shown) (watch : Watched) (result : Result Conclusion RunError) → Reports gives threads suite old new watch result
       → Reports gives threads (record suite { printer = q }) old new watch result
   reports_same threads old new watch (Ok c) h = reported_same threads old new watch c h

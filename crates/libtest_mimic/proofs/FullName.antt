@@ -1,4 +1,4 @@
--- Lemmas on where a pattern stands in a full name: in two texts, one after the other.
+-- Lemmas on the places at which a pattern occurs in a full name: in two texts, one after the other.
 use Rattle.std.proofs.Common.{◌≡◌, ◌∙◌, ℕ, ◌+◌, ◌-◌, ◌≤◌, ◌⊎◌, inl, inr, List, [], ◌∷◌, ◌++◌, length, drop, take, refl, sym, ap, ap₂, arith, append_assoc, append-nil, length-append, length-drop, take-append-drop}
 use Rattle.std.proofs.lemmas.List.{drop_at, drop-append-le, drop-drop, get_or_append_left}
 use Rattle.std.proofs.lemmas.List.Prefix.{at_from_reads, at_reads}
@@ -6,11 +6,11 @@ use Rattle.std.proofs.lemmas.Bool.{cases_lt}
 use Rattle.libtest_mimic.specs.Selection.{Occurs}
 use Rattle.libtest_mimic.specs.Steps.{OccursBefore, StandsAt}
 
--- what stands somewhere occurs
+-- a pattern that is at some place occurs
 pub occurs_at : (p s : List ℕ) (at : ℕ) → StandsAt p s at → Occurs p s
 occurs_at p s at h = (take at s, h.0, sym (take-append-drop at s) ∙ ap (λ x. take at s ++ x) h.1)
 
--- and what occurs stands somewhere
+-- and a pattern that occurs is at some place
 stands_somewhere : (p s : List ℕ) → Occurs p s → (at : ℕ) × (at ≤ length s) × StandsAt p s at
 stands_somewhere p s h = (
   length h.0,
@@ -38,7 +38,7 @@ occurs_split p a b h = go (stands_somewhere p (a ++ b) h)
       | inr ge ↦ inr (past s.0 (s.0 - length a) (omega arith) s.2)
     ]
 
--- a pattern that ends in the first text stands there exactly where it stands in both
+-- a pattern that ends in the first text is at a place there exactly if it is there in both
 pub stands_short : (p a b : List ℕ) (at : ℕ) → at + length p ≤ length a
     → (StandsAt p a at → StandsAt p (a ++ b) at) × (StandsAt p (a ++ b) at → StandsAt p a at)
 stands_short p a b at room = (
@@ -58,7 +58,7 @@ none_left : (h r : List ℕ) (n : ℕ) → n ≡ length h → n ≡ length (h ++
 none_left h [] n e f = refl
 none_left h (x ∷ r) n e f = absurd (omega (arith, length-append h (x ∷ r)))
 
--- a pattern that is cut where the first text ends stands in both where its parts stand there and begin the second
+-- a pattern that is cut at the end of the first text is in both if its front is in the first text there and the second begins with the rest
 stands_past : (p h t a b : List ℕ) (at : ℕ) → p ≡ h ++ t → at ≤ length a → at + length h ≡ length a
     → StandsAt h a at → (rest : List ℕ) → b ≡ t ++ rest → StandsAt p (a ++ b) at
 stands_past p h t a b at cut le room s rest e =
@@ -78,7 +78,7 @@ past_stands p h t a b at cut le room s =
     ∙ (ap (drop (length h)) e ∙ drop_at h (t ++ s.0) (length h) refl)) in
     (first, (s.0, second))
 
--- both, of a pattern that was cut where the first text ends
+-- both directions, for a pattern that was cut at the end of the first text
 pub stands_cut : (p h t a b : List ℕ) (at n : ℕ) → h ≡ take n p → t ≡ drop n p → length h ≡ n → at + n ≡ length a
     → (StandsAt h a at → (rest : List ℕ) → b ≡ t ++ rest → StandsAt p (a ++ b) at) × (StandsAt p (a ++ b) at → StandsAt h a at × ((rest : List ℕ) × (b ≡ t ++ rest)))
 stands_cut p h t a b at n front back all room =
@@ -87,7 +87,7 @@ stands_cut p h t a b at n front back all room =
     let ends : at + length h ≡ length a = omega (arith, room, all) in
     (stands_past p h t a b at cut le ends, past_stands p h t a b at cut le ends)
 
--- a text that stands in one of its length is that text
+-- a pattern that a text of the same length begins with is that text
 pub whole_stands : (p s : List ℕ) → length p ≡ length s → StandsAt p s 0 → p ≡ s
 whole_stands p s same h = sym (h.1 ∙ (ap (λ x. p ++ x) (none_left p h.0 (length s) (sym same) (ap length h.1)) ∙ append-nil p))
 

@@ -1,4 +1,4 @@
--- What workers told and answered: the title, the rows that were told, and then those that were missing.
+-- What workers reported and answered: the title, the rows that were reported, and then those that were missing.
 use Rattle.std.proofs.Common.{◌≡◌, ◌∙◌, ℕ, ◌<◌, ◌||◌, Bool, true, false, inr, List, [], ◌∷◌, ◌++◌, Option, None, Some, Result, Ok, Err, length, map, drop, refl, sym, ap, subst, arith}
 use Rattle.std.specs.List.{range_with_len}
 use Rattle.std.specs.List.Sorted.{IsPermutation}
@@ -45,7 +45,7 @@ pub match_more : {T E : Type 0} (r : Result T E) (P P' : T → Type 0) (Q Q' : E
 match_more (Ok x) P P' Q Q' m f h = f x m
 match_more (Err e) P P' Q Q' m f h = h e m
 
--- whatever was written, it follows what stood there
+-- whatever was written comes after what was there before
 pub follows : {E T : Type 0} (a b c : Shown) (s t : List ℕ) (r : Result T E) → Put a b s → Writes b c t r → Follows a c
 follows a b c s t (Ok x) p q =
     let both = Put-trans s t p q in record { text = s ++ t; appended = both.appended; kept = omega (arith, both.faults); one = omega (arith, both.faults) }
@@ -59,7 +59,7 @@ module _ {R : Type 0} (gives : Gives R) (mode : Bool) (rs : List R) (bs : List B
   pub outcomes_count : (whole : Bool) (joined : List (List Placed)) (old new : Arrived) (done : IsCompleted whole old joined new) → old.places ≡ length rs → length done.outcomes ≡ length (assigned_from 0 rs bs)
   outcomes_count whole joined old new done places = done.count ∙ places ∙ sym (length_assigned 0 rs bs same)
 
-  -- if each place has an own outcome: what the desk has that was completed with what the workers returned
+  -- if each place has an own outcome: what a desk has once it was completed with what the workers returned
   pub completed_gathered : (whole : Bool) (joined : List (List Placed)) (old new : Arrived) (done : IsCompleted whole old joined new) → AreOutcomes gives mode (assigned_from 0 rs bs) (put_each joined done.outcomes) → old.places ≡ length rs
       → Gathered gives mode (assigned_from 0 rs bs) (places_of new.rows) (put_each joined done.outcomes)
   completed_gathered whole joined old new done own places =
@@ -115,12 +115,12 @@ module _ (p : Printer) (infos : List TestInfo) (whole : Bool) (old new : Arrived
   abbrev missing_text : List ℕ
   missing_text = rows_text p (rows_at (map label_of infos) done.missing)
 
-  -- the rows that were told, and then those that were missing
+  -- the rows that were reported, and then those that were missing
   split : told_text p infos new ≡ told_text p infos old ++ missing_text
   split = ap (λ l. rows_text p (rows_at (map label_of infos) l)) done.rows ∙ rows_joined p (map label_of infos) old.rows done.missing
 
   module _ (a b : Shown) where
-    -- a fault in a row that was told
+    -- a fault in a row that was reported
     pub stopped_told : Stopped a b (told_text p infos old) → Stopped a b (told_text p infos new)
     stopped_told s = subst (λ t. Stopped a b t) (sym split) (Stopped-more _ missing_text s)
 
@@ -138,7 +138,7 @@ module _ (p : Printer) (infos : List TestInfo) (whole : Bool) (old new : Arrived
       pub put_all : Put b c text_from → Put a c (told_text p infos new)
       put_all s = subst (λ t. Put a c t) (sym split) (Put-trans _ _ told (subst (λ t. Put b c t) is_missing s))
 
--- a write fault in rows that were told. If the workers ran all trials, all rows are theirs, else those that were told are
+-- a write fault in rows that were reported. If the workers ran all trials, all rows are theirs, else those that were reported are
 pub told_refused : {R : Type 0} (gives : Gives R) (mode : Bool) (rs : List R) (bs : List Bool) (same : length rs ≡ length bs) (p : Printer) (infos : List TestInfo) (runs whole : Bool) (old new : Arrived) (joined : List (List Placed))
     (done : IsCompleted whole old joined new) → whole ≡ false → AreJoined gives mode (assigned_from 0 rs bs) (runs || whole) joined → old.places ≡ length rs → (a b : Shown) → Stopped a b (told_text p infos old)
     → (placed : List Placed) × (left : List ℕ) × GatheredSome gives mode (assigned_from 0 rs bs) placed left × (runs ≡ true → left ≡ []) × Stopped a b (rows_text p (rows_at (map label_of infos) placed))
@@ -164,7 +164,7 @@ module _ {R : Type 0} (gives : Gives R) (mode : Bool) (items : List (Assigned R)
   titled : Put a b (title_text p (length infos))
   titled = subst (λ (k : ℕ). Put a b (title_text p k)) count title
 
-  -- what stands after rows were refused that came after the title
+  -- what was written if rows were refused that came after the title
   pub after_title : (all : Bool) (e : RunError) → GatheringRefused gives mode items all p infos b c e → RowsRefused gives mode items p infos a c e
   after_title all OutOfMemory h = absurd h
   after_title all (Write fault) (placed, left, rows, none, s) = inr (placed, left, rows, Put-Stopped _ _ titled s)
@@ -173,7 +173,7 @@ module _ {R : Type 0} (gives : Gives R) (mode : Bool) (items : List (Assigned R)
   after_title all (Arrival place) (low, h) =
       (low, record { text = title_text p (length infos) ++ h.text; appended = Appends-trans a.bytes b.bytes c.bytes (title_text p (length infos)) h.text titled.appended h.appended; kept = omega (arith, titled.faults, h.kept); one = omega (arith, titled.faults, h.one) })
 
-  -- and what stands after they were written
+  -- and what was written if they were not
   pub titled_all : (desk : Arrived) → IsGathered gives mode items desk × Put b c (told_text p infos desk) → IsGathered gives mode items desk × Put a c (titled_told p infos desk)
   titled_all desk rows = (rows.0, Put-trans _ _ titled rows.1)
 

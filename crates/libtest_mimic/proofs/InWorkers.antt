@@ -1,4 +1,4 @@
--- A report of what workers answered, or what stands after it was refused.
+-- A report of what workers answered, or what a refused one leaves.
 use Rattle.std.proofs.Common.{◌≡◌, ◌≢◌, ◌∙◌, ◌≤◌, ◌<◌, ◌^◌, ◌++◌, inl, inr, ℕ, Bool, not, List, [], Some, length, map, refl, sym, ap, ap₂, subst, arith}
 use Rattle.std.specs.List.{range_with_len}
 use Rattle.std.specs.List.Sorted.{IsPermutation}
@@ -58,7 +58,7 @@ module _ {R : Type 0} (gives : Gives R) (suite : Suite R) (infos : List TestInfo
   flags_of_infos : length bs ≡ length infos
   flags_of_infos = sym (flags_length suite.args suite.trials bs parts.each_flag) ∙ sym count
 
-  -- what is said of all runners and flags that were put is said of those of the trials
+  -- what holds of all runners and flags that were put holds of those of the trials
   pub of_held : {P : List R → List Bool → Type 0} (can_run : R → Type 0) (supply : Supply R) → Holds can_run supply (assigned_from 0 rs bs)
       → ((rs' : List R) (bs' : List Bool) → length rs' ≡ length infos → length bs' ≡ length infos → Holds can_run supply (assigned_from 0 rs' bs') → P rs' bs') → P rs bs
   of_held can_run supply held said = said rs bs runners_of_infos flags_of_infos held
@@ -111,7 +111,7 @@ module _ {R : Type 0} (gives : Gives R) (suite : Suite R) (infos : List TestInfo
     some_thread : {P : Type 0} → threads ≡ 0 → P
     some_thread none = absurd (omega (arith, none, several))
 
-    -- what stands after title and rows were refused
+    -- what is left if title and rows were refused
     pub rows_refused : (a b : Shown) (w : Watched) (e : RunError) → IsRunning w
         → RowsRefused gives (not suite.args.bench) (assigned_from 0 rs bs) suite.printer infos a b e → ReportRefused gives threads suite a b w e
     rows_refused a b w OutOfMemory r h = (some, h, r)

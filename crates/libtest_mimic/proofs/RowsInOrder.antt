@@ -151,7 +151,7 @@ HasRoomFor-tally t filtered_out rows n h room within = omega (arith, length-kept
 -- ---- the rows so far
 
 module _ {R : Type 0} (gives : Gives R) where
-  -- the rows of so many trials were appended, and the tally has counted them
+  -- the rows of `count` trials were appended, and the tally has counted them
   pub record RowsSoFar (suite : Suite R) (count : ℕ) (old new : Shown) (t : Tally) : Type 0 where
     pub placed : List Placed
     pub ordered : InOrder placed
@@ -191,7 +191,7 @@ module _ {R : Type 0} (gives : Gives R) where
           tally = subst Q push (counted suite.filtered_out rows so_far.tally);
         }
 
-    -- a fault in its outcome, where so many trials are left behind it
+    -- a fault in its outcome, with `m` trials left behind it
     pub stopped_outcome : (m : ℕ) → length suite.trials ≡ count + suc m → Put b c (announcement_text suite.printer (label_of info)) → Stopped c d (outcome_text suite.printer (label_of info) o)
         → RowsStopped gives suite a d
     stopped_outcome m more announced ended =

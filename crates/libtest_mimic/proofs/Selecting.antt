@@ -19,11 +19,11 @@ module _ {A P : Type 0} (R : P → A → Bool → P → Type 0) (Out : A → Typ
       let said = says x false told.0 here in
       inl (said.1 refl, kept bs xs q told.0 said.2 (omega arith) told.2)
 
-  -- what `retain` keeps, where the closure says `false` of what is left out, and stays as it is
+  -- what `retain` keeps, if the closure answers `false` for what is left out, and stays as it is
   pub LeavesOut-from_retain : (xs ys : List A) → IsFiltered R p xs ys → LeavesOut Out xs ys
   LeavesOut-from_retain xs ys h = let Q : List A → Type 0 = λ l. LeavesOut Out xs l in subst Q (sym h.4) (kept h.0 xs h.1 p refl h.2 h.3)
 
--- where nothing is to be left out, all are kept
+-- if nothing is to be left out, all are kept
 pub LeavesOut-none : {A : Type 0} (Out : A → Type 0) → ((x : A) → ¬ Out x) → (xs : List A) → LeavesOut Out xs xs
 LeavesOut-none Out none [] = refl
 LeavesOut-none Out none (x ∷ xs) = inr (none x, (xs, refl, LeavesOut-none Out none xs))

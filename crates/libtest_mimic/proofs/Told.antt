@@ -1,4 +1,4 @@
--- Rows that workers told, in the order in which they came, and rows by place.
+-- Rows that workers reported, in the order in which they came, and rows by place.
 use Rattle.std.proofs.Common.{◌≡◌, ◌∙◌, ℕ, suc, zero, ◌-◌, ◌<◌, ◌≤◌, drop, nat_lt, not, ◌&&◌, Bool, true, false, cond, List, [], ◌∷◌, ◌++◌, Some, length, map, refl, sym, ap, append-nil, arith, slice_index_or}
 use Rattle.std.specs.Prelude.{All, slice_get}
 use Rattle.std.proofs.lemmas.Bool.Decides.{nat_tests}
@@ -22,7 +22,7 @@ first_cases true true e = absurd (cc)
 first_cases true false e = (refl, refl)
 first_cases false has e = absurd (cc)
 
--- a first arrival is at a place where nothing came, and is the last row then
+-- a first arrival is at a place at which nothing came, and is the last row then
 pub first_row : (d : Arrived) (p : ℕ) (o : Outcome) → First ≡ arrival_of d p
     → (p < d.places) × (has_come p d.rows ≡ false) × (rows_after d.places d.rows (p, o) ≡ d.rows ++ (p, o) ∷ [])
 first_row d p o e =
@@ -55,7 +55,7 @@ row_alone : (p : Printer) (infos : List TestInfo) (place : ℕ) (o : Outcome) (i
 row_alone p infos place o info label =
     append-nil (row_text p (record { label = label_at (map label_of infos) place; outcome = o })) ∙ ap (λ (l : Label). row_text p (record { label = l; outcome = o })) label
 
--- one more row that was told
+-- one more row that was reported
 pub told_more : (p : Printer) (infos : List TestInfo) (old new : Arrived) (place : ℕ) (o : Outcome) (info : TestInfo)
     → new.rows ≡ old.rows ++ (place, o) ∷ [] → label_at (map label_of infos) place ≡ label_of info → told_text p infos new ≡ told_text p infos old ++ row_text p (row_of info o)
 told_more p infos old new place o info rows label =

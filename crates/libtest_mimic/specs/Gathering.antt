@@ -24,7 +24,7 @@ pub record IsReadyFor {R : Type 0} (started : Started R) (count : ℕ) : Type 0 
   pub empty : vec_len started.room ≡ 0
   pub fits : count ≤ vec_capacity started.room
 
--- the error names the least place at which another outcome arrived first than stands there
+-- the error names the least place at which the outcome that arrived first isn't the one in `outcomes`
 pub record NamesDifference (desk : Arrived) (outcomes : List Outcome) (error : RunError) : Type 0 where
   pub place : ℕ
   pub named : error ≡ Arrival place
@@ -37,7 +37,7 @@ pub record IsReturned (desk : Arrived) (before outcomes : List Outcome) : Type 0
   pub others : (place : ℕ) (o : Outcome) → arrived_at place desk.rows ≡ Some o → slice_get before place ≢ Some o
   pub agrees : (place : ℕ) → AgreesAt desk.rows outcomes place
 
--- each place has its row: those that had arrived stand first, and each has the outcome that the workers returned, if these were put
+-- each place has its row: those that had arrived come first, and each has the outcome that the workers returned, if these were put
 -- over some outcomes, one for each place; unless the workers ran all trials, what had arrived was returned, too
 pub record IsCompleted (whole : Bool) (old : Arrived) (joined : List (List Placed)) (new : Arrived) : Type 0 where
   pub outcomes : List Outcome

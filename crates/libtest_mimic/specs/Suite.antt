@@ -74,6 +74,6 @@ OfAsked asked P = OfSuite asked.args asked.auto_colours asked.trials P
 abbrev pub in_order : {R : Type 0} → Suite R → List ℕ
 in_order suite = range_with_len 0 (length suite.trials)
 
--- the rows of outcomes that stand at places of the suite
+-- the rows of outcomes at places of the suite
 abbrev pub rows_of : {R : Type 0} → Suite R → List Placed → List PrintedRow
 rows_of suite placed = rows_at (labels_of suite.trials) placed

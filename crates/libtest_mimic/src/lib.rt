@@ -1,6 +1,6 @@
 //! A test harness of one's own that looks and behaves as that of `rustc --test`.
 //!
-//! Its layers are crates of their own, and what a harness names of them stands here: texts, trials, arguments,
+//! Its layers are crates of their own. What a harness names of them is exported here: texts, trials, arguments,
 //! reports, and the parts of a run over worker threads.
 //!
 //! With an allocator and any [`Clock`] at hand:

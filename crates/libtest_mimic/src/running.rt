@@ -61,7 +61,7 @@ pub enum RunError {
 /// the calling thread, as `run_here` runs them. With more, that many workers run them, but never more than there are trials:
 /// each worker has a share, which is dealt out beforehand. The trial at place p of the selected ones, counted from 0, goes to the
 /// worker whose number is p modulo the number of workers. Rows are written as they arrive, each when its trial has ended, and a row
-/// that could not be reported after the others. With none, a run of a selected trial is refused.
+/// that could not be reported comes after the others. With no thread, a run of a selected trial is refused.
 ///
 /// The counts that it returns, the watch, `auto_colours` and ignored trials are as with `run_here`. After a write fault the
 /// workers end their shares, and are joined.
@@ -109,10 +109,10 @@ pub fn run<R: Task + Send + 'static, W: Write, C: Clock, T: Spawner + 'static>(
 /// one when it is free. So no trial waits behind a slow one while another worker is free. In a run of at least 128 trials for each
 /// worker they take several at once, at most 32, and a slow trial holds up those that were taken with it.
 ///
-/// If a worker can't be started, no more are, and those that were run all trials. It is refused with `Spawn` only if there are none.
-/// If a worker has no memory for more rows, it takes no more trials. Those that all workers leave are run in the calling thread,
-/// after the workers have ended, and their rows come last. After a write fault the calling thread takes the trials that are left, and
-/// drops their runners.
+/// If a worker can't be started, no more are started, and the others run all trials. The run is refused with `Spawn` only if
+/// there are none. If a worker has no memory for more rows, it takes no more trials. Those that all workers leave are run in
+/// the calling thread, after the workers have ended, and their rows come last. After a write fault the workers take no more
+/// trials, and those that are left in the queue are dropped once the workers have been joined.
 pub fn run_from_queue<R: Task + Send + 'static, W: Write, C: Clock, T: Spawner + 'static>(
     rt: &T,
     alloc: Global,
@@ -153,7 +153,7 @@ pub fn run_from_queue<R: Task + Send + 'static, W: Write, C: Clock, T: Spawner +
     run_as(rt, alloc, request, tests, sink, watch)
 }
 
-// What is asked of a run, and which worker runs which trial.
+// What is asked of a run, and how its trials come to workers.
 #[derive(Clone, Copy)]
 struct Request<'a> {
     args: &'a Arguments,
@@ -196,7 +196,7 @@ fn run_as<R: Task + Send + 'static, W: Write, C: Clock, T: Spawner + 'static>(
     run_with_threads(rt, alloc, selected, workers, sink, watch)
 }
 
-// Runs the trials on so many threads and writes their report.
+// Runs the trials on `workers.threads` threads and writes their report.
 fn run_with_threads<R: Task + Send + 'static, W: Write, C: Clock, T: Spawner + 'static>(
     rt: &T,
     alloc: Global,
@@ -243,7 +243,7 @@ pub fn run_here<R: Task, W: Write, C: Clock>(
     requires fresh { IsFresh watch.old }
     requires runnable { AllCanRun R.can_run tests.items }
 
-    // What every run does, as of `run`.
+    // What every run does, as with `run`.
     ensures runs { Runs (asking R.gives 1 auto_colours tests.items args.now)
         (done W.contents sink.old sink.new watch.new result) }
 

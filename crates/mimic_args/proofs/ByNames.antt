@@ -1,4 +1,4 @@
--- What a parse reads of the words doesn't depend on where the names of a reader are kept.
+-- What a parse reads from the words doesn't depend on where the names of a reader are kept.
 use Rattle.std.proofs.Common.{◌≡◌, ◌∙◌, ◌==◌, ◌&&◌, ap, ap₂, Bool, cond, drop, false, fold, is_some, length, List, map, None, not, Option, refl, Some, suc, sym, zero, ℕ, [], ◌∷◌}
 use Rattle.std.specs.Borrow.{Bor}
 use Rattle.std.specs.Option.{option_map, option_map_or}
@@ -15,7 +15,7 @@ use Rattle.clap.specs.declared.builder.value_parser.ValueParser.{ValueParser}
 use Rattle.clap.specs.declared.builder.value_parser.ValueParser.TheVariants as vp
 use Rattle.mimic_args.specs.CommandLine.{behind, reader_of}
 
--- the reader of the same names that stands in the definitions
+-- the definitions' reader of the same names
 abbrev pub named_reader : ValueParser → ValueParser
 named_reader (vp.Names listed) = reader_of (texts listed.now)
 named_reader p = p

@@ -36,7 +36,7 @@ options-plus old a new h local =
     let all = ap (flat_map pairs_in) h.args ∙ flat_map-append pairs_in (args_of old) (h.arg ∷ []) ∙ ap (λ z. flat_map pairs_in (args_of old) ++ z) same in
     ap₂ (λ x y. (x, y)) (h.shape local) all
 
--- each of them is for this command alone, and not for its subcommands
+-- each argument is for this command alone, and not for its subcommands
 abbrev pub AreLocal : List Arg → Type 0
 AreLocal [] = Unit {0}
 AreLocal (a ∷ rest) = (a.global ≡ false) × AreLocal rest

@@ -24,7 +24,7 @@ use Rattle.clap.specs.declared.parser.matches.ArgMatches.{ArgMatches}
 abbrev pub rules_of_id : Text → List Rule → List Rule
 rules_of_id id = filter (λ r. bytes_eq r.id id)
 
--- what holds of the rules of an id holds of an argument that has it
+-- what holds of the rules of an id holds of an argument that has the id
 rule_fits : (P : Rule → Type 0) (id : Text) (xs : List Arg) (k : ℕ) (d : Arg) → AllByRecursion P (rules_of_id id (map rule_of xs)) → k < length xs
     → bytes_eq (slice_index_or xs k d).id.now id ≡ true → P (rule_of (slice_index_or xs k d))
 rule_fits P id [] k d all lt hit = absurd (omega arith)
@@ -71,7 +71,7 @@ pub record IsReadBy (id : Text) (q : ValueParser) (rules : List Rule) : Type 0 w
   pub no_help : codes "help" ≡ id → ⊥
   pub no_version : codes "version" ≡ id → ⊥
 
--- an argument of this id that a parse built takes what is declared
+-- a text that passes the built argument of this id passes the declared reader
 argument_takes : (old : Command) (m : ArgMatches) (p : IsParsedFrom old m) (id t : Text) (q : ValueParser) → IsReadBy id q (map rule_of (args_of old))
     → PassesArg p.built id t → Accepts false q t
 argument_takes old m p id t q is pass =

@@ -1,4 +1,4 @@
--- What the error of a parse says of the line.
+-- The error of a parse is a reason why its line gives no arguments.
 use Rattle.std.proofs.Common.{◌≡◌, ◌∙◌, inl, inr, subst, sym, List}
 use Rattle.clap.specs.Values.{kind_of}
 use Rattle.clap.specs.Words.{HasKind, IsAmong, Text, app_of, fault_of}

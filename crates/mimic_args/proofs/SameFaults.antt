@@ -1,4 +1,4 @@
--- Which fault a line has doesn't depend on where the names of a reader are kept, and it is one at most if the command has no subcommand.
+-- Which fault a line has doesn't depend on where the names of a reader are kept. A line of a command without subcommands has at most one.
 use Rattle.std.proofs.Common.{◌≡◌, ◌==◌, ◌&&◌, ◌||◌, ap₂, Bool, cond, false, is_some, length, List, map, nat_lt, None, not, Option, refl, Some, subst, suc, sym, true, zero, ℕ, [], ◌∷◌}
 use Rattle.std.specs.Option.{option_map, option_map_or}
 use Rattle.std.specs.Prelude.{slice_get}

@@ -1,4 +1,4 @@
--- A parse with readers of the right names finds the fault and the values that the definitions say.
+-- A parse with readers of the right names finds the fault and the values that the definitions give.
 use Rattle.std.proofs.Common.{◌≡◌, ◌∙◌, ap, inl, inr, List, map, refl, subst, sym, [], ◌∷◌}
 use Rattle.clap.proofs.FaultLemmas.{leaf_fault}
 use Rattle.clap.specs.Faults.{fault_of}
@@ -16,7 +16,7 @@ use Rattle.mimic_args.proofs.SimpleLine.{ParsesLines, parsed_options}
 named : (names : List Text) (p : ValueParser) → TakesOnly names p → named_reader p ≡ reader_of names
 named names p only = ap named_reader only.1 ∙ ap reader_of only.2
 
--- the options that a line is parsed by have the readers of the definitions
+-- the options that a line is parsed with have the readers of the definitions
 line_of : (u c f : ValueParser) → AreReaders u c f → parsed_options (named_reader u) (named_reader c) (named_reader f) ≡ line_options
 line_of u c f readers = λ i. parsed_options (named _ u readers.unstable i) (named _ c readers.color i) (named _ f readers.format i)
 
@@ -39,7 +39,7 @@ module _ (command : Command) (parses : ParsesLines command) (words : List Text) 
       subst (λ (a : App). AreSame (fault_of line_options words) (fault_of a words)) (sym parses.app)
       (subst (λ (a : App). AreSame (fault_of a words) (fault_of app words)) (line_of parses.u parses.c parses.f parses.readers) here)
 
-  -- a kind that may come is the only one
+  -- if a line has a fault of this kind, it has no other
   pub only_fault : (k : ErrorKind) → IsAmong k (fault_of (app_of command) words) → fault_of line_options words ≡ k ∷ []
   only_fault k among = only k (fault_of line_options words) same_fault.one (subst (IsAmong k) (sym same_fault.same) among)
 

@@ -1,11 +1,11 @@
--- The options that a line is parsed by are of the kind of which `clap` says what each line means, and which lines it refuses.
+-- The options that a line is parsed with are of the kind for which `clap` defines what each line means, and which lines it refuses.
 use Rattle.std.proofs.Common.{◌≡◌, ◌∙◌, ap, ap₂, true}
 use Rattle.clap.specs.Words.{App, app_of, is_simple, is_simple_and_free}
 use Rattle.clap.specs.declared.builder.command.Command.{Command}
 use Rattle.clap.specs.declared.builder.value_parser.ValueParser.{ValueParser}
 use Rattle.mimic_args.specs.CommandLine.{AreReaders, Declared, Options, alone, options_of, options_with, plus, quiet_rule, test_rule}
 
--- the options that a line is parsed by, with these readers
+-- the options that a line is parsed with, for these readers
 abbrev pub parsed_options : ValueParser → ValueParser → ValueParser → App
 parsed_options unstable color format = (options_with (alone test_rule) (alone quiet_rule) unstable color format).0
 

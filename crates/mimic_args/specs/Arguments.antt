@@ -10,18 +10,18 @@ use Rattle.mimic_text.specs.declared.formats.FormatSetting.TheVariants.{Pretty, 
 abbrev pub format_of : Arguments → FormatSetting
 format_of args = if args.quiet then Terse else unwrap_or args.format Pretty
 
--- whether a setting colours; the caller says what holds without one
+-- whether a setting asks for colours; `Auto` leaves it to `unset`
 abbrev pub setting_colours : ColorSetting → Bool → Bool
 setting_colours Auto unset = unset
 setting_colours Always unset = true
 setting_colours Never unset = false
 
--- whether a report has colours: `Always` yes, `Never` no, else exactly if the caller says so and no logfile is set
--- (the Rust crate's, with the test for a terminal handed in)
+-- whether a report has colours: `Always` yes, `Never` no, else exactly if `auto` is true and no logfile is set
+-- (the Rust crate's, but the caller tests for a terminal)
 abbrev pub colours_of : Arguments → Bool → Bool
 colours_of args auto = setting_colours (unwrap_or args.color Auto) (auto && is_none args.logfile)
 
--- how many threads run the trials: as many as the arguments say, else as many as the caller says (our own)
+-- how many threads run the trials: `test_threads`, else `default_threads` (our own)
 abbrev pub threads_of : Arguments → ℕ → ℕ
 threads_of args default_threads = unwrap_or args.test_threads default_threads
 

@@ -1,4 +1,4 @@
--- The command line of a harness, as `clap` reads it: the options with their spellings, and what a line means.
+-- The command line of a harness, as `clap` reads it: the options and how they are written, and what a line means.
 use Rattle.std.specs.Prelude.{◌≡◌, ◌⊎◌, ◌++◌, ◌∷◌, [], false, true, flat_map, List, map, Some, codes}
 use Rattle.std.specs.Borrow.{Bor}
 use Rattle.clap.specs.Words.{args_of, Kinds, fault_of}
@@ -17,15 +17,15 @@ use Rattle.mimic_args.specs.declared.Arguments.{Arguments}
 use Rattle.mimic_args.specs.declared.error.ArgumentsError.{ArgumentsError}
 use Rattle.mimic_args.specs.declared.error.ArgumentsError.TheVariants.{OutOfMemory, Help, Refused}
 
--- what is declared of an argument: how a parse reads it, and the ids of those that no line may use together with it (our own)
+-- what is declared of an argument: how a parse reads it, and the ids of the arguments that no line may use with it (our own)
 abbrev pub Declared : Type 0
 Declared = Rule × List Text
 
--- that of an argument (`clap`'s)
+-- what an argument declares (`clap`'s)
 abbrev pub declared_of : Arg → Declared
 declared_of a = (rule_of a, texts a.conflicts.items)
 
--- what is declared of a command: how a parse reads it, and each two of its arguments that exclude one another, by their ids
+-- what is declared of a command: how a parse reads it, and the pairs of its arguments that exclude one another, by their ids
 -- (our own)
 abbrev pub Options : Type 0
 Options = App × List (Text × Text)
@@ -34,7 +34,7 @@ Options = App × List (Text × Text)
 abbrev pub pairs : Text → List Text → List (Text × Text)
 pairs id others = map (λ other. (id, other)) others
 
--- that of a command (`clap`'s)
+-- what a command declares (`clap`'s)
 abbrev pub options_of : Command → Options
 options_of c = (app_of c, flat_map (λ a. pairs a.id.now (texts a.conflicts.items)) (args_of c))
 
@@ -42,11 +42,11 @@ options_of c = (app_of c, flat_map (λ a. pairs a.id.now (texts a.conflicts.item
 abbrev pub alone : Rule → Declared
 alone r = (r, [])
 
--- the same argument, which now excludes one more: a line that uses both is refused (`clap`'s)
+-- the argument with one more that it excludes: a line that uses both is refused (`clap`'s)
 abbrev pub excluding : Declared → Text → Declared
 excluding d other = (record d.0 { is_free = false }, d.1 ++ other ∷ [])
 
--- the same argument, whose values this reader now reads (`clap`'s)
+-- the argument with this reader for its values (`clap`'s)
 abbrev pub read_by : ValueParser → Declared → Declared
 read_by p d = (record d.0 { parser = Some p }, d.1)
 
@@ -74,7 +74,7 @@ threads_rule = record (option_rule (codes "test-threads")) { parser = Some (vp.U
 abbrev pub skip_rule : Rule
 skip_rule = record (option_rule (codes "skip")) { action = Some Append }
 
--- the words that are no option, as many as there are (our own: the Rust crate takes one)
+-- the words that are no option, any number of them (our own: the Rust crate takes one)
 abbrev pub filter_rule : Rule
 filter_rule = record (new_rule (codes "filter")) { value_names = 1; action = Some Append }
 
@@ -94,7 +94,7 @@ colour_rule = option_rule (codes "color")
 abbrev pub format_rule : Rule
 format_rule = option_rule (codes "format")
 
--- all flags, by what is declared of `--test` and of `--quiet`
+-- all flags, with these declarations of `--test` and `--quiet`
 abbrev pub flag_options : Declared → Declared → Options
 flag_options test quiet = plus (plus (plus (plus (plus (plus (plus (plus (plus (new_app (codes "harness"), [])
     (alone (flag_rule (codes "include-ignored"))))
@@ -107,7 +107,7 @@ flag_options test quiet = plus (plus (plus (plus (plus (plus (plus (plus (plus (
     (alone (flag_rule (codes "exact"))))
     quiet
 
--- all options, by these two flags and the readers of the values of `-Z`, `--color` and `--format` (the Rust crate's, but for
+-- all options, with these two flags and readers of the values of `-Z`, `--color` and `--format` (the Rust crate's, but for
 -- several filters)
 abbrev pub options_with : Declared → Declared → ValueParser → ValueParser → ValueParser → Options
 options_with test quiet unstable color format = plus (plus (plus (plus (plus (plus (plus (flag_options test quiet)
@@ -135,7 +135,7 @@ behind x = record { ref_ptr = (0, 0); now = x }
 abbrev pub reader_of : List Text → ValueParser
 reader_of names = vp.Names (behind (map behind names))
 
--- it is declared as the argument, and its reader takes these texts and no other (our own)
+-- the declaration is the argument's, with a reader that takes these texts and no other (our own)
 abbrev pub ReadsOnly : List Text → Declared → Declared → Type 0
 ReadsOnly names argument d = (p : ValueParser) × TakesOnly names p × (d ≡ read_by p argument)
 
@@ -145,36 +145,36 @@ pub record AreReaders (u c f : ValueParser) : Type 0 where
   pub color : TakesOnly (map colour_name colours) c
   pub format : TakesOnly (map format_name formats) f
 
--- what a line is parsed by: the same options, of which none excludes another (our own)
+-- the options that a line is parsed with: those of a harness, but none excludes another (our own)
 abbrev pub line_options : App
 line_options = (options_with (alone test_rule) (alone quiet_rule) (reader_of (map unstable_name unstables))
     (reader_of (map colour_name colours)) (reader_of (map format_name formats))).0
 
--- the arguments are what the line means: `clap` finds no fault in it; each field is what the words hold for its id, both by
--- `clap`'s own definitions; every value was accepted; and no two options are asked that exclude one another
+-- the arguments are what the line means: by `clap`'s own definitions the line has no fault, and each field is what the words
+-- hold for its id; every value was accepted; and the line doesn't ask for two options that exclude one another
 pub record IsMeaningOf (words : List Text) (a : Arguments) : Type 0 where
   pub no_fault : fault_of line_options words ≡ []
   pub fields : IsReadFrom (matches_of line_options words) a
   pub accepted : AreAccepted (matches_of line_options words) a
   pub no_excluded : asks_for_excluded (matches_of line_options words) ≡ false
 
--- the first fault that `clap` finds in a line is no call for help (`clap`'s)
+-- `clap` finds a fault in the line, and the first one is no call for help (`clap`'s)
 abbrev pub HasFault : Kinds → Type 0
 HasFault kinds = (k : ErrorKind) × (kinds ≡ k ∷ []) × (k ≡ DisplayHelp → ⊥)
 
--- a line has no fault of its own, and asks for two options that exclude one another (the Rust crate's)
+-- a line has no other fault, but asks for two options that exclude one another (the Rust crate's)
 abbrev pub IsExcluded : List Text → Type 0
 IsExcluded words = (fault_of line_options words ≡ []) × (asks_for_excluded (matches_of line_options words) ≡ true)
 
--- why a line gives no arguments: an allocation failed; its first fault is a call for help; or it has another, or none and
--- asks for two options that exclude one another
+-- why a line gives no arguments: an allocation failed; its first fault is a call for help; its first fault is another
+-- one; or it has no fault, but asks for two options that exclude one another
 abbrev pub IsRefusalOf : List Text → ArgumentsError → Type 0
 IsRefusalOf words OutOfMemory = Unit {0}
 IsRefusalOf words (Help text) = fault_of line_options words ≡ DisplayHelp ∷ []
 IsRefusalOf words (Refused text) = HasFault (fault_of line_options words) ⊎ IsExcluded words
 
--- the error of a line that gave no arguments: it says that memory ran out if an allocation failed, gives help if help was
--- asked for, and else refuses the line (our own)
+-- the error of a line that gave no arguments: `OutOfMemory` only if an allocation failed, `Help` only if help was asked for,
+-- and `Refused` only if neither holds (our own)
 abbrev pub IsErrorFor : Type 0 → Type 0 → ArgumentsError → Type 0
 IsErrorFor memory help OutOfMemory = memory
 IsErrorFor memory help (Help text) = help

@@ -11,7 +11,7 @@ use Rattle.mimic_args.specs.declared.line.Line.{Line}
 abbrev pub separator : Text
 separator = codes "--"
 
--- this many words stand before the first `--`, or there is none and these are all words (our own)
+-- `own` words come before the first `--`, or there is no `--` and `own` is the number of all words (our own)
 pub record IsOwnLength (words : List Text) (own : ℕ) : Type 0 where
   pub within : own ≤ length words
   pub others : (k : ℕ) → k < own → get_or words k separator ≢ separator
@@ -22,14 +22,14 @@ abbrev pub asked : List Text → ℕ → List Text
 asked words own = take 1 words ++ drop (own + 1) (drop 1 words)
 
 -- a line has the program's name, its own words, and after the first `--` what is asked of the harness. If the options are
--- arguments, they are the meaning of that (our own)
+-- arguments, they are the meaning of the line that the harness gets (our own)
 pub record IsLine (words : List Text) (line : Line) : Type 0 where
   pub own_length : ℕ
   pub is_own : IsOwnLength (drop 1 words) own_length
   pub own : map string_bytes line.own.items ≡ take own_length (drop 1 words)
   pub options : IfOk line.options (IsMeaningOf (asked words own_length))
 
--- the same line, whose options are an error only for what is asked of the harness (our own)
+-- such a line; if its options are an error, the error is one for the line that the harness gets (our own)
 abbrev pub IsLineOf : List Text → Line → Type 0
 IsLineOf words line = (is : IsLine words line) × IfErr line.options (IsRefusalOf (asked words is.own_length))
 
@@ -45,14 +45,14 @@ is_option word = nat_eq (get_or word 0 0) 45
 abbrev pub AsksForHelp : List Text → Type 0
 AsksForHelp words = (find is_option words ≡ Some (codes "--help")) ⊎ (find is_option words ≡ Some (codes "-h"))
 
--- the words are operands, from the least to the most that are taken, and no option is among them (our own)
+-- there are at least `least` words and at most `most`, and none of them is an option (our own)
 pub record AreOperands (least most : ℕ) (words : List Text) : Type 0 where
   pub no_option : find is_option words ≡ None
   pub enough : least ≤ length words
   pub no_more : length words ≤ most
 
--- why words are not taken for operands: an allocation failed, or the usage is shown, since help was asked for or since
--- they are none (our own)
+-- why words are not taken as operands: an allocation failed, or the usage is shown, because help was asked for or because
+-- the words are no operands (our own)
 abbrev pub RefusesOperands : Text → ℕ → ℕ → List Text → ArgumentsError → Type 0
 RefusesOperands usage least most words OutOfMemory = Unit {0}
 RefusesOperands usage least most words (Help text) = (string_bytes text ≡ usage) × AsksForHelp words

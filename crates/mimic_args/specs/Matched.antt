@@ -22,7 +22,7 @@ entries_of m = rows_of (found_of m)
 abbrev pub first_text : List Row → List ℕ → Option (List ℕ)
 first_text f id = first_of id f
 
--- the texts under an id, of all its uses
+-- the texts of all uses of an id
 abbrev pub texts_of : List Row → List ℕ → List (List ℕ)
 texts_of f id = unwrap_or (all_of id f) []
 
@@ -37,7 +37,7 @@ colours = Auto ∷ Always ∷ Never ∷ []
 abbrev pub unstables : List UnstableFlags
 unstables = UnstableOptions ∷ []
 
--- their names (the Rust crate's)
+-- the names of these values (the Rust crate's)
 abbrev pub colour_name : ColorSetting → List ℕ
 colour_name Auto = codes "auto"
 colour_name Always = codes "always"
@@ -46,11 +46,11 @@ colour_name Never = codes "never"
 abbrev pub unstable_name : UnstableFlags → List ℕ
 unstable_name UnstableOptions = codes "unstable-options"
 
--- the text is a whole number below 2^64 in decimal; a plus may stand first (Rust's `usize::from_str`)
+-- the text is a whole number below 2^64 in decimal; it may begin with a plus (Rust's `usize::from_str`)
 abbrev pub IsNumber : List ℕ → Type 0
 IsNumber t = IsNumeral 10 (without_leading_plus t) × (digits_value 10 (without_leading_plus t) < 2 ^ 64)
 
--- r is the number that the text spells, and `None` if it spells none
+-- r is the number in the text, and `None` if there is no text or it is no number
 abbrev pub IsNumberOf : Option (List ℕ) → Option ℕ → Type 0
 IsNumberOf None r = r ≡ None
 IsNumberOf (Some t) (Some n) = IsNumber t × (n ≡ digits_value 10 (without_leading_plus t))

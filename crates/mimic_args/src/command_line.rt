@@ -66,8 +66,8 @@ impl Arguments {
 
     /// Reads arguments from words, of which the first is the program's name.
     ///
-    /// It returns `Help` if the first fault of the line is a call for help. It returns `Refused` if that is another
-    /// fault, or if there is none and two options are asked that exclude one another.
+    /// It returns `Help` if the first fault of the line is a call for help. It returns `Refused` if the first fault is
+    /// another one, or if the line has no fault but asks for two options that exclude one another.
     pub fn from_iter<S: AsStr>(alloc: Global, words: &[S]) -> Result<Arguments, ArgumentsError>
         requires { 0 < length words.now }
         ensures taken { IfOk result (λ a. IsMeaningOf (map S.text words.now) a) }
@@ -87,8 +87,8 @@ impl Arguments {
 
     /// Reads the program's arguments from the words that the runtime hands in.
     ///
-    /// It returns `Refused` with the text `cannot read the arguments` also if a word is not UTF-8, or there is
-    /// none.
+    /// It returns `Refused` with the text `cannot read the arguments` also if a word is not UTF-8, or if there are
+    /// no words.
     pub fn from_args<R: Env + AllocGlobal>(
         rt: &R,
         alloc: Global,
@@ -128,7 +128,7 @@ pub(crate) fn words_of(alloc: Global, read: io::Result<Args>) -> Result<Vec<Stri
     Ok(words)
 }
 
-// Declares the options of a harness, of which two flags are handed in.
+// Declares the options of a harness. The caller passes the flags `--test` and `--quiet`.
 fn command_of<'a>(alloc: Global, test: Arg<'a>, quiet: Arg<'a>) -> Result<Command<'a>, AllocError>
     requires { (test.global ≡ false) × (quiet.global ≡ false) }
     ensures { IfOk result (λ r. (u : ValueParser) × (c : ValueParser) × (f : ValueParser)
@@ -147,7 +147,7 @@ fn command_of<'a>(alloc: Global, test: Arg<'a>, quiet: Arg<'a>) -> Result<Comman
     with_flags(alloc, test, quiet)?.args(options)
 }
 
-// Returns whether two options are asked that exclude one another.
+// Returns whether the matches ask for two options that exclude one another.
 fn asks_for_excluded(matches: &ArgMatches<'_>) -> bool
     ensures { result ≡ asks_for_excluded (entries_of matches.now) }
 {
@@ -157,7 +157,7 @@ fn asks_for_excluded(matches: &ArgMatches<'_>) -> bool
     is_set(matches, "quiet") && text_under(matches, "format").is_some()
 }
 
-// Returns the text by which `clap` refuses a line that asks for two options that exclude one another.
+// Returns the text with which `clap` refuses a line that asks for two options that exclude one another.
 fn text_of_excluded<S: AsStr>(alloc: Global, words: &[S]) -> Result<String, ArgumentsError>
     ensures { IfErr result (λ e. e ≡ OutOfMemory) }
 {
@@ -173,7 +173,7 @@ fn text_of_excluded<S: AsStr>(alloc: Global, words: &[S]) -> Result<String, Argu
     }
 }
 
-// Says why the program's words were not read.
+// Returns the error for words that could not be read.
 fn unread(alloc: Global, error: &io::Error) -> Result<ArgumentsError, AllocError>
     ensures { IfOk result (λ e. IsErrorFor (error_kind error.now ≡ IoKind.OutOfMemory) ⊥ e) }
 {
@@ -189,7 +189,7 @@ fn refused_with(alloc: Global, text: &str) -> Result<ArgumentsError, AllocError>
     Ok(ArgumentsError::Refused(String::from_str(alloc, text)?))
 }
 
-// Says why `clap` refused the line.
+// Returns the error for a line that `clap` refused.
 fn error_of(alloc: Global, error: &clap::Error) -> Result<ArgumentsError, AllocError>
     ensures { IfOk result (λ e. IsErrorFor (kind_of error.now ≡ Kind.OutOfMemory)
         (kind_of error.now ≡ Kind.DisplayHelp) e) }

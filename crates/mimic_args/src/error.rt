@@ -5,13 +5,13 @@ ghost use Rattle.mimic_args.specs.declared.error.ArgumentsError.TheVariants.{Out
 use std::alloc::AllocError;
 use thiserror::Error;
 
-/// Why a command line gives no arguments. Its text is what a user is to see.
+/// Why a command line gives no arguments. Its text is meant for the user.
 #[derive(Debug, Drop, Error)]
 pub enum ArgumentsError {
     /// An allocation failed.
     #[error("out of memory")]
     OutOfMemory,
-    /// Help was asked for: its text.
+    /// Help was asked for: the text of the help.
     #[error("{0}")]
     Help(String),
     /// The line was refused: what is wrong with it, and how the program is used.

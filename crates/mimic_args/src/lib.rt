@@ -35,7 +35,7 @@ pub enum ColorSetting {
     /// If the caller of a run says so and no logfile is set.
     #[default]
     Auto,
-    /// Always, but in formats that have no colour.
+    /// Always, except in formats that have no colour.
     Always,
     /// Never.
     Never,
@@ -67,7 +67,7 @@ pub struct Arguments {
     pub show_output: bool,
     /// Has no effect.
     pub unstable_flags: Option<UnstableFlags>,
-    /// Filters and skip patterns match if they are the name or the full name, and not its parts.
+    /// Filters and skip patterns match only if they are the name or the full name, not if they are a part of it.
     pub exact: bool,
     /// Ask for the terse format, whatever `format` says.
     pub quiet: bool,
@@ -147,8 +147,8 @@ impl Arguments {
         }
     }
 
-    /// Returns whether the report has colours. `auto` is what the caller says if the setting is `Auto` or
-    /// isn't there: whether the report goes to a terminal that shows colours.
+    /// Returns whether the report has colours. `auto` is whether the report goes to a terminal that shows colours. It
+    /// counts if the setting is `Auto` or isn't there, and no logfile is set.
     pub fn colours(&self, auto: bool) -> bool
         ensures { result ≡ colours_of self.now auto }
     {
@@ -159,7 +159,7 @@ impl Arguments {
         }
     }
 
-    /// Returns how many threads run the trials: `test_threads`, else the number that the caller hands in.
+    /// Returns how many threads run the trials: `test_threads`, else `default_threads`.
     pub fn threads(&self, default_threads: usize) -> usize
         ensures { result ≡ threads_of self.now default_threads }
     {

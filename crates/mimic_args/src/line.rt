@@ -20,7 +20,7 @@ use std::{env, io};
 pub struct Line {
     /// The program's own words: those before the first `--`, in their order.
     pub own: Vec<String>,
-    /// What the words after it ask of the harness. If there are none, nothing is asked.
+    /// What the words after the first `--` ask of the harness. Without such words nothing is asked.
     pub options: Result<Arguments, ArgumentsError>,
 }
 
@@ -43,7 +43,7 @@ impl Line {
 
     /// Reads the program's line from the words that the runtime hands in.
     ///
-    /// If these can't be read there are no own words, and the options are refused as by [`Arguments::from_args`].
+    /// If they can't be read, there are no own words, and `options` has the error of [`Arguments::from_args`].
     pub fn from_args<R: Env + AllocGlobal>(rt: &R, alloc: Global) -> Line
         ensures { (words : List Text) × IsLine words result }
     {
@@ -58,9 +58,10 @@ impl Line {
 
     /// Returns what the options ask for, and the program's own words if they are as many operands as it takes.
     ///
-    /// The first of them that begins with `-` asks for help, as `--help` or `-h`, or refuses the line: both errors have
-    /// the text `usage`, and so has the refusal of too few or too many operands. If the options gave an error, that is
-    /// returned before any of these.
+    /// It takes the numbers of operands in `count`, and no operand begins with `-`. If the first own word that begins
+    /// with `-` is `--help` or `-h`, this returns `Help`. If it is another word, or if there are too few or too many
+    /// words, this returns `Refused`. Both errors have the text `usage`. If the options gave an error, that is returned
+    /// instead.
     pub fn into_operands(
         self,
         alloc: Global,

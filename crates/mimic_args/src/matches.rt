@@ -16,7 +16,7 @@ pub(super) fn text_under<'a>(matches: &ArgMatches<'a>, id: &str) -> Option<&'a s
     matches.get_str(id)
 }
 
-// Returns the texts under an id, of all its uses.
+// Returns the texts of all uses of an id.
 fn texts_under<'m, 'a>(matches: &'m ArgMatches<'a>, id: &str) -> Option<&'m [&'a str]>
     ensures { option_map (λ s. map (λ v. v.now) s.now) result
         ≡ all_of id.now (entries_of matches.now) }

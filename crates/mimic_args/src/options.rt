@@ -14,7 +14,7 @@ static FORMATS: [&str; 3] = ["pretty", "terse", "json"];
 
 static UNSTABLE: [&str; 1] = ["unstable-options"];
 
-// Makes a command with all flags, of which two are handed in.
+// Makes a command with all flags. The caller passes `--test` and `--quiet`.
 pub(super) fn with_flags<'a>(
     alloc: Global,
     test: Arg<'a>,

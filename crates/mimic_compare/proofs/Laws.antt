@@ -68,7 +68,7 @@ place c = place_of c.class
 abbrev at_place : ℕ → List Compared → List Compared
 at_place k found = filter (λ c. place c == k) found
 
--- those of so many places from one on
+-- the comparisons at the `n` places from `k` on
 abbrev places : ℕ → ℕ → List Compared → List Compared
 places k zero found = []
 places k (suc n) found = at_place k found ++ places (k + 1) n found

@@ -99,7 +99,7 @@ few_outcomes label rows i lt small =
     let own : Entry → Bool = λ e. same_label label e.label in
     omega (arith, length-map (filter own es) (λ e. e.outcome), length-filter own es, count_by-le-length own es, length-map (take i rows) entry_read, length-take i rows)
 
--- the tallies of one more row
+-- the tallies with one more row
 pub tallied : {S : Type 0} (rows : List Row) (i : ℕ) (row : Row) (old new : HashMap Found Tally S) (t : Tally) → i < length rows → row ≡ get_or rows i row
     → HasTallies old (map entry_read (take i rows)) → ((key : Found) → get is_same new key ≡ cond (is_same (Trial (at_row row)) key) (Some t) (get is_same old key))
     → t ≡ tally_of (outcomes_with (label_in row) (map entry_read (take i rows)) ++ row.outcome ∷ []) → HasTallies new (map entry_read (take (i + 1) rows))
@@ -119,7 +119,7 @@ tallied rows i row old new t lt is has updates e q =
 
 -- ---- failures
 
--- what the key of a failure says of another entry: it is this failure
+-- an entry is the failure of this key exactly if it is a failure with the same key
 same_failure : (key : Key) (e : Entry) → (same_label key.label e.label && same_outcome (outcome.Failed key.message) e.outcome) ≡ (is_failed e.outcome && same_key key (key_in e))
 same_failure key e = at e.outcome (same_label key.label e.label)
   where
@@ -133,7 +133,7 @@ same_failure key e = at e.outcome (same_label key.label e.label)
     at (outcome.Failed g) b = texts key.message g b
     at other b = and_comm b false
 
--- how many times a failure stands there with one more entry
+-- how often a failure is counted with one more entry
 times-push : (es : List Entry) (e : Entry) (key : Key) → times_of key (es ++ e ∷ []) ≡ times_of key es + cond (is_failed e.outcome && same_key key (key_in e)) 1 0
 times-push es e key =
     rw (← same_failure key e, outcomes-push key.label es e) (at (same_label key.label e.label))
@@ -178,7 +178,7 @@ module _ {S : Type 0} (rows : List Row) (i : ℕ) (row : Row) (lt : i < length r
 
 -- ---- other messages
 
--- one more row, which is found or not
+-- the set after one more row; `b` is whether the row is added
 pub others_more : {S : Type 0} (rows : List Row) (i : ℕ) (row : Row) (before after : List Entry) (start old new : HashSet Found S) (b : Bool) → i < length rows → row ≡ get_or rows i row
     → is_other before after (entry_read row) ≡ b → AddsOthers start old before after (map entry_read (take i rows))
     → ((key : Found) → contains is_same new key ≡ cond (b && is_same (Trial (at_row row)) key) true (contains is_same old key))
@@ -209,7 +209,7 @@ any_with label p r fits (e ∷ es) = at (same_label label e.label) refl (any_wit
     at true h rest = ap₂ (λ x y. x || y) (fits e h) rest
     at false h rest = rest
 
--- a failure stands as often as the key of its entry says
+-- counting a failure is counting the failures with its message
 as_failure : (o : Outcome) (old new : List Outcome)
     → (is_failed o && not (times (outcome.Failed (message_of o)) old == times (outcome.Failed (message_of o)) new)) ≡ (is_failed o && not (times o old == times o new))
 as_failure (outcome.Failed f) old new = refl

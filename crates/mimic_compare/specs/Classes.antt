@@ -13,7 +13,7 @@ use Rattle.mimic_compare.specs.declared.class.Class.TheVariants.{Regressed, Miss
 
 -- ---- kinds and names
 
--- each of the labels once, where it stands first
+-- each of the labels once, in the order in which they first come
 abbrev pub distinct : List Label → List Label
 distinct [] = []
 distinct (label ∷ labels) = label ∷ filter (λ other. not (same_label label other)) (distinct labels)
@@ -33,15 +33,15 @@ failures outcomes = count_by is_failed outcomes
 abbrev pub ignored : List Outcome → ℕ
 ignored outcomes = count_by is_ignored_outcome outcomes
 
--- how many times the outcome stands there
+-- how often the outcome is in the list
 abbrev pub times : Outcome → List Outcome → ℕ
 times outcome outcomes = count_by (same_outcome outcome) outcomes
 
--- some failure stands more often in the one than in the other
+-- one list has some failure more often than the other
 abbrev pub have_other_messages : List Outcome → List Outcome → Bool
 have_other_messages old new = list_any (λ outcome. is_failed outcome && not (times outcome old == times outcome new)) (old ++ new)
 
--- what became of a kind and a name with these outcomes: the first that fits; `judged` says that all trials are in both reports
+-- what became of a kind and a name with these outcomes: the first that fits; `judged` means that all trials are in both reports
 abbrev pub class_of : Bool → List Outcome → List Outcome → Class
 class_of judged old new =
     if nat_lt (failures old) (failures new) then Regressed
@@ -62,14 +62,14 @@ average_of other = []
 abbrev pub averages : List Outcome → List ℕ
 averages outcomes = flat_map average_of outcomes
 
--- both numbers, if there is one of each
+-- both numbers, if each list has exactly one
 abbrev pub pair_of : List ℕ → List ℕ → Option (ℕ × ℕ)
 pair_of (m ∷ []) (n ∷ []) = Some (m, n)
 pair_of old new = None
 
 -- ---- reports
 
--- what is said of a kind and a name
+-- what is reported for a kind and a name
 pub record Compared : Type 0 where
   pub label : Label
   pub class : Class

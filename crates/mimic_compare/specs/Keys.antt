@@ -18,7 +18,7 @@ use Rattle.mimic_compare.specs.declared.comparison.Tallies.{Tallies}
 use Rattle.mimic_compare.specs.declared.tally.Tally.{Tally}
 use denote.Ref.{Bor}
 
--- the tally that the map has of the row's kind and name
+-- the tally that the map has for the row's kind and name
 abbrev pub tally_in : {S : Type 0} → HashMap Found Tally S → Bor Row → Tally
 tally_in tallies row = unwrap_or (get is_same tallies (Trial row)) (tally_of [])
 
@@ -26,20 +26,20 @@ tally_in tallies row = unwrap_or (get is_same tallies (Trial row)) (tally_of [])
 abbrev pub HasTallies : {S : Type 0} → HashMap Found Tally S → List Entry → Type 0
 HasTallies tallies entries = (row : Bor Row) → tally_in tallies row ≡ tally_of (outcomes_with (label_in row.now) entries)
 
--- how many times the failure of this key stands there
+-- how often the failure of this key is among the entries
 abbrev pub times_of : Key → List Entry → ℕ
 times_of key entries = times (outcome.Failed key.message) (outcomes_with key.label entries)
 
--- the map has how many times each failure stands there
+-- the map counts how often each failure is among the entries
 abbrev pub HasTimes : {S : Type 0} → HashMap Found ℕ S → List Entry → Type 0
 HasTimes failures entries = (row : Bor Row) → unwrap_or (get is_same failures (Failure row)) 0
     ≡ times_of (key_in (entry_read row.now)) entries
 
--- the entry is a failure that stands more often in the one than in the other
+-- the entry is a failure that one list has more often than the other
 abbrev pub is_other : List Entry → List Entry → Entry → Bool
 is_other old new entry = is_failed entry.outcome && not (times_of (key_in entry) old == times_of (key_in entry) new)
 
--- the set has, beside those of the old set, the kinds and names of such failures among the rows
+-- the new set has the kinds and names of the old set, and those of such failures among the rows
 abbrev pub AddsOthers : {S : Type 0} → HashSet Found S → HashSet Found S → List Entry → List Entry → List Entry → Type 0
 AddsOthers others with_more old new rows = (row : Bor Row) → contains is_same with_more (Trial row) ≡ (contains is_same others (Trial row)
     || list_any (λ entry. same_label (label_in row.now) entry.label && is_other old new entry) rows)

@@ -4,7 +4,7 @@ use Rattle.mimic_trial.specs.declared.outcome.Outcome.{Outcome}
 use Rattle.mimic_compare.specs.Classes.{averages, failures, ignored}
 use Rattle.mimic_compare.specs.declared.tally.Tally.{Tally}
 
--- the last of the numbers, or this one
+-- the last of the numbers, or `n` if there are none
 abbrev pub last_or : ℕ → List ℕ → ℕ
 last_or n [] = n
 last_or n (m ∷ ms) = last_or m ms

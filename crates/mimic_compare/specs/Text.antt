@@ -12,7 +12,7 @@ use Rattle.mimic_compare.specs.declared.class.Class.TheVariants.{Regressed, Miss
 
 -- ---- classes
 
--- the classes of which each kind and name is printed, in their order
+-- the classes whose kinds and names are printed, in the order in which they are printed
 abbrev pub changes : List Class
 changes = Regressed ∷ Missing ∷ NotRun ∷ New ∷ NotRunBefore ∷ NewlyIgnored ∷ NewlyPassing ∷ AnotherMessage ∷ []
 
@@ -41,7 +41,7 @@ place_of Unchanged = 8
 abbrev pub same_class : Class → Class → Bool
 same_class a b = place_of a == place_of b
 
--- how many are of this class
+-- how many kinds and names are of this class
 abbrev pub count_of : Class → List Compared → ℕ
 count_of class found = count_by (λ c. same_class c.class class) found
 
@@ -51,11 +51,11 @@ count_of class found = count_by (λ c. same_class c.class class) found
 unfoldable pub line_text : Class → Label → List ℕ
 line_text class label = concat (word class ∷ codes ": " ∷ bracketed Line label.kind ∷ escaped Line label.name ∷ codes "\n" ∷ [])
 
--- the new number by the old one, in hundredths, to the nearest; a tie is rounded up
+-- the new number divided by the old one, in hundredths, rounded to the nearest; a tie is rounded up
 abbrev pub ratio_of : ℕ → ℕ → Option ℕ
 ratio_of old new = if old == 0 then None else Some ((200 * new + old) / (2 * old))
 
--- with two decimals, or `-` if there is none, and the end of the line
+-- the ratio with two decimals, or `-` if there is none, and the end of the line
 abbrev pub ratio_part : Option ℕ → List (List ℕ)
 ratio_part None = codes "-)\n" ∷ []
 ratio_part (Some n) = decimal (n / 100) ∷ codes "." ∷ decimal (n / 10 % 10) ∷ decimal (n % 10) ∷ codes ")\n" ∷ []
@@ -68,7 +68,7 @@ benchmark_text label averages = concat (codes "bench: " ∷ bracketed Line label
 
 -- ---- the whole
 
--- its line, if it is of this class
+-- the line of a kind and a name, if they are of this class
 abbrev pub line_in : Class → Compared → List ℕ
 line_in class c = if same_class c.class class then line_text class c.label else []
 
@@ -76,7 +76,7 @@ line_in class c = if same_class c.class class then line_text class c.label else 
 abbrev pub lines_of : List Compared → Class → List ℕ
 lines_of found class = flat_map (line_in class) found
 
--- its line, if it was measured once in both
+-- the line of a benchmark, if it was measured once in both reports
 abbrev pub benchmark_of : Label → Option (ℕ × ℕ) → List ℕ
 benchmark_of label None = []
 benchmark_of label (Some averages) = benchmark_text label averages
@@ -84,14 +84,14 @@ benchmark_of label (Some averages) = benchmark_text label averages
 abbrev pub benchmark_in : Compared → List ℕ
 benchmark_in c = benchmark_of c.label c.averages
 
--- how many are of a class, with what follows that
+-- how many kinds and names are of a class, and the text that follows
 unfoldable pub number_text : List Compared → Class → List ℕ → List ℕ
 number_text found class end = concat (decimal (count_of class found) ∷ codes " " ∷ word class ∷ end ∷ [])
 
--- those of all classes, in one line
+-- the numbers of all classes, in one line
 abbrev pub numbers_text : List Compared → List ℕ
 numbers_text found = flat_map (λ class. number_text found class (codes "; ")) changes ++ number_text found Unchanged (codes "\n")
 
--- first the lines of each class but the unchanged, then the benchmarks, and last the numbers
+-- first the lines of each class except `Unchanged`, then the benchmarks, and last the numbers
 abbrev pub comparison_text : List Compared → List ℕ
 comparison_text found = flat_map (lines_of found) changes ++ (flat_map benchmark_in found ++ numbers_text found)

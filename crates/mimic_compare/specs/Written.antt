@@ -23,12 +23,12 @@ abbrev pub is_whole : Ending → Bool
 is_whole (Whole filtered_out nanos) = true
 is_whole (Cut stop) = false
 
--- it has its end, and nothing was filtered out
+-- the report has its end, and nothing was filtered out
 abbrev pub is_full : Ending → Bool
 is_full (Whole filtered_out nanos) = filtered_out == 0
 is_full (Cut stop) = false
 
--- what is said of the kinds and names of both reports
+-- what is reported for the kinds and names of both reports
 abbrev pub found_in : RowsRead → RowsRead → List Compared
 found_in old new =
     comparisons (is_full old.ending && is_full new.ending) (map entry_read old.rows.items) (map entry_read new.rows.items)
@@ -40,7 +40,7 @@ verdict_of old new = record {
   are_whole = is_whole old.ending && is_whole new.ending;
 }
 
--- with Ok all of it was written, with a fault of the writer a beginning, and without memory nothing
+-- with `Ok` the whole text was written, after a write fault a beginning of it, and if memory ran out nothing
 abbrev pub LeavesComparison : RowsRead → RowsRead → Shown → Shown → Result Verdict OutputFault → Type 0
 LeavesComparison before after old new (Ok verdict) = Put old new (comparison_text (found_in before after)) × (verdict ≡ verdict_of before after)
 LeavesComparison before after old new (Err fault) = LeftBy fault old new (comparison_text (found_in before after))
@@ -57,19 +57,19 @@ all_classes = changes ++ Unchanged ∷ []
 abbrev pub labels_of : List Compared → List Label
 labels_of found = map (λ c. c.label) found
 
--- the kind and the name stand there
+-- the kind and the name are among the labels
 abbrev pub stands_in : Label → List Label → Bool
 stands_in label labels = list_any (same_label label) labels
 
--- each kind and name of the old rows and of the new ones stands once among those that are compared, no other stands there, and the
--- classes together have all of them, each once
+-- the comparison has each kind and name of the old rows and of the new ones exactly once, and no other, and the classes
+-- together have all of them, each once
 pub record ArePartitioned (judged : Bool) (old new : List Entry) : Type 0 where
   pub once : IsDistinct same_label (labels_of (comparisons judged old new))
   pub all : (label : Label) → stands_in label (labels_of (comparisons judged old new)) ≡ (stands_in label (labels_in old) || stands_in label (labels_in new))
   pub classes : IsPermutation (comparisons judged old new)
       (flat_map (λ class. filter (λ c. same_class c.class class) (comparisons judged old new)) all_classes)
 
--- it regressed or is missing
+-- the kind and the name regressed or are missing
 abbrev pub is_worse : Compared → Bool
 is_worse c = same_class c.class Regressed || same_class c.class Missing
 

@@ -30,7 +30,7 @@ pub enum Class {
 }
 
 impl Class {
-    // Returns the class of what has these tallies.
+    // Returns the class of a kind and a name with these tallies.
     pub(crate) fn of(old: &Tally, new: &Tally, has_other_messages: bool, is_judged: bool) -> Class
         ensures { (before after : List Outcome) → old.now ≡ tally_of before → new.now ≡ tally_of after
             → has_other_messages ≡ have_other_messages before after

@@ -43,7 +43,7 @@ fn add_firsts<'a>(
     Ok(())
 }
 
-// Returns a row of each kind and name, those of the first rows first.
+// Returns one row for each kind and name: first those in `first`, then those only in `second`.
 fn first_rows<'a>(
     alloc: Global,
     first: &'a [Row],
@@ -64,7 +64,7 @@ fn first_rows<'a>(
 struct Tallies<'a> {
     old: HashMap<Key<'a>, Tally>,
     new: HashMap<Key<'a>, Tally>,
-    // Those whose failures have other messages.
+    // The kinds and names whose failures have other messages.
     others: HashSet<Key<'a>>,
 }
 
@@ -89,7 +89,7 @@ impl<'a> Tallies<'a> {
     }
 }
 
-// Compares the rows by kind and name, in the order in which these come: first the new ones.
+// Compares the rows by kind and name, in the order in which these come in the new rows and then in the old ones.
 pub(crate) fn compare_rows<'a>(
     alloc: Global,
     old: &'a [Row],

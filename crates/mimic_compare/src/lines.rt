@@ -10,7 +10,7 @@ use crate::comparison::Comparison;
 use mimic_printer::{Piece, Place, Sink, WriteFault, put_pieces};
 use std::io::Write;
 
-// The classes of which each kind and name is printed, in their order.
+// The classes whose kinds and names are printed, in the order in which they are printed.
 const CHANGES: [Class; 8] = [
     Class::Regressed,
     Class::Missing,
@@ -38,7 +38,7 @@ fn word(class: Class) -> &'static str
     }
 }
 
-// Writes the line of a kind and a name if it is of the class.
+// Writes the line of a kind and a name if they are of the class.
 #[tactic(auto, unfolding(crate::specs::Text::line_text))]
 fn put_line<'a, W: Write>(
     sink: &mut Sink<W>,
@@ -76,7 +76,7 @@ fn put_lines<W: Write>(
     Ok(())
 }
 
-// Writes the lines of all classes but the unchanged.
+// Writes the lines of all classes except `Unchanged`.
 fn put_changes<W: Write>(sink: &mut Sink<W>, found: &[Comparison<'_>]) -> Result<(), WriteFault>
     requires { HasFaultLeft sink.old }
     ensures { Puts W.contents sink.old sink.new
@@ -88,7 +88,7 @@ fn put_changes<W: Write>(sink: &mut Sink<W>, found: &[Comparison<'_>]) -> Result
     Ok(())
 }
 
-// Returns the new number by the old one, in hundredths.
+// Returns the new number divided by the old one, in hundredths.
 fn ratio_of(old: u64, new: u64) -> Option<u128>
     ensures { result ≡ ratio_of old new }
 {
@@ -158,14 +158,14 @@ fn put_benchmarks<W: Write>(sink: &mut Sink<W>, found: &[Comparison<'_>]) -> Res
     Ok(())
 }
 
-// Returns how many are of the class.
+// Returns how many kinds and names are of the class.
 pub(crate) fn count_of(found: &[Comparison<'_>], class: Class) -> usize
     ensures { result ≡ count_by (λ c. same_class c.class class) found.now }
 {
     found.iter().filter(|c| c.class == class).count()
 }
 
-// Writes how many are of the class.
+// Writes how many kinds and names are of the class.
 #[tactic(auto, unfolding(crate::specs::Text::number_text))]
 fn put_number<'a, W: Write>(
     sink: &mut Sink<W>,
@@ -186,7 +186,7 @@ fn put_number<'a, W: Write>(
     put_pieces(sink, &pieces)
 }
 
-// Writes how many are of each class.
+// Writes how many kinds and names are of each class.
 fn put_numbers<W: Write>(sink: &mut Sink<W>, found: &[Comparison<'_>]) -> Result<(), WriteFault>
     requires { HasFaultLeft sink.old }
     ensures { Puts W.contents sink.old sink.new
@@ -198,7 +198,7 @@ fn put_numbers<W: Write>(sink: &mut Sink<W>, found: &[Comparison<'_>]) -> Result
     put_number(sink, found, Class::Unchanged, "\n")
 }
 
-// Writes all of it, and flushes it.
+// Writes the whole comparison, and flushes it.
 pub(crate) fn put_comparisons<W: Write>(
     sink: &mut Sink<W>,
     found: &[Comparison<'_>],

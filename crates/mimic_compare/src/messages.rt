@@ -10,7 +10,7 @@ use mimic_trial::Outcome;
 use std::alloc::{AllocError, Global};
 use std::collections::{HashMap, HashSet};
 
-// Returns how many times the failure of the row stands there.
+// Returns how often the failure of the row was counted.
 fn times_of<'a>(failures: &HashMap<Key<'a>, u64>, row: &'a Row) -> u64
     ensures { (entries : List Entry) → HasTimes failures.now entries
         → result ≡ times_of (key_in (entry_read row.now)) entries }
@@ -18,7 +18,7 @@ fn times_of<'a>(failures: &HashMap<Key<'a>, u64>, row: &'a Row) -> u64
     failures.get(&Key::Failure(row)).copied().unwrap_or(0)
 }
 
-// Returns how many times each failure stands in the rows.
+// Counts how often each failure comes in the rows.
 fn failures_in(alloc: Global, rows: &[Row]) -> Result<HashMap<Key<'_>, u64>, AllocError>
     ensures { IfOk result (λ failures. HasTimes failures (map entry_read rows.now)) }
 {
@@ -32,7 +32,7 @@ fn failures_in(alloc: Global, rows: &[Row]) -> Result<HashMap<Key<'_>, u64>, All
     Ok(failures)
 }
 
-// Returns whether the row is a failure that stands in one report more often than in the other.
+// Returns whether the row is a failure that comes more often in one report than in the other.
 fn is_other<'a>(row: &'a Row, old: &HashMap<Key<'a>, u64>, new: &HashMap<Key<'a>, u64>) -> bool
     ensures { (before after : List Entry) → HasTimes old.now before → HasTimes new.now after
         → result ≡ is_other before after (entry_read row.now) }
@@ -40,7 +40,7 @@ fn is_other<'a>(row: &'a Row, old: &HashMap<Key<'a>, u64>, new: &HashMap<Key<'a>
     matches!(row.outcome, Outcome::Failed(_)) && times_of(old, row) != times_of(new, row)
 }
 
-// Adds the rows whose failure stands in one report more often than in the other.
+// Adds the rows whose failure comes more often in one report than in the other.
 fn add_others<'a>(
     others: &mut HashSet<Key<'a>>,
     rows: &'a [Row],
@@ -58,7 +58,7 @@ fn add_others<'a>(
     Ok(())
 }
 
-// Returns the kinds and names whose failures have other messages in the one than in the other.
+// Returns the kinds and names whose failures have other messages in one report than in the other.
 pub(crate) fn others_in<'a>(
     alloc: Global,
     old: &'a [Row],

@@ -21,7 +21,7 @@ pub(crate) struct Tally {
 }
 
 impl Tally {
-    // That of no rows.
+    // The tally of no rows.
     pub(crate) const EMPTY: Tally = Tally {
         rows: 0,
         failed: 0,

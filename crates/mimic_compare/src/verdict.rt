@@ -42,15 +42,15 @@ impl Verdict {
 
 /// Compares two reports by kind and name, prints what became of each, and flushes it.
 ///
-/// A kind and a name are of the first [`Class`] that fits. There is a line for each that is not unchanged, class by class, and in a
-/// class in the order in which they come: those of the new report first. Then come the averages of what was measured once in both
-/// reports, in nanoseconds, with the new one by the old one, and last a line of numbers. Control characters of names are shown by
-/// their numbers, so that no name ends a line.
+/// Each kind and name is of the first [`Class`] that fits, and has a line unless that is `Unchanged`. The lines come class by
+/// class, and within a class in the order of the new report and then of the old one. After them come the averages of what was
+/// measured once in both reports, in nanoseconds, with the new one divided by the old one, and last a line of numbers. Control
+/// characters of names are shown by their numbers, so that no name ends a line.
 ///
-/// Whether a kind and a name are missing or new can be judged if both reports are whole and nothing was filtered out of them.
+/// A kind and a name can be missing or new only if both reports are whole and nothing was filtered out of them.
 ///
-/// It takes time and memory in proportion to the rows. Their texts stay where they are. Without memory nothing was written, and
-/// with a write fault a beginning of it all.
+/// Time and memory are in proportion to the rows. Their texts aren't copied. If memory ran out, nothing was written. After a
+/// write fault, a beginning of the whole was written.
 #[tactic(auto, using(crate::proofs::Laws::comparison_laws))]
 pub fn write_comparison<W: Write>(
     alloc: Global,

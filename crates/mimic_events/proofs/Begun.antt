@@ -45,7 +45,7 @@ blank label = record { label = label; outcome = Passed }
 abbrev nameless : Label
 nameless = record { kind = []; name = [] }
 
--- the title and some rows, if so many more may come
+-- the title and some rows, if `k` more may come
 rows_begin : (k n : ℕ) (es : List Entry) → length es + k ≡ n → n < 2 ^ 64 → AllByRecursion FitsEntry es → BeginsReport (json_title n ++ concat (flat_map entry_lines es))
 rows_begin zero n es all small fits =
     let c : Contents = record { entries = es; filtered_out = 0; nanos = 0 } in
@@ -175,7 +175,7 @@ is_wrong s rest known =
       wrong = λ h. none_there s rest known.unread.line true known known.unread.whole known.unread.nowhere (subst (λ (x : List ℕ). BeginsReport (x ++ known.unread.line)) (sym text) h);
     }
 
--- where the first wrong line stands
+-- where the first wrong line is
 record StandsHere (s : State) (rest : List ℕ) (number : ℕ) : Type 0 where
   pub line : List ℕ
   pub more : List ℕ

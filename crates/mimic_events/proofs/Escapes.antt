@@ -1,4 +1,4 @@
--- No spelling of a byte begins the spelling of another.
+-- No byte's escaped form begins that of another byte.
 use Rattle.std.proofs.Common.{◌≡◌, ℕ, ◌≤◌, true, false, eqb, List, ◌∷◌, ◌++◌, refl, sym, ap, subst, ◌∙◌, arith, inl, inr}
 use Rattle.std.proofs.lemmas.Bool.{cases_lt, eqb-true}
 use Rattle.std.proofs.lemmas.Bool.Decides.{nat_tests}
@@ -32,6 +32,6 @@ one_split text b rest e v others f =
     let same : v ≡ b = sym (again v others) ∙ ap candidate_of (sym f ∙ e) ∙ again b rest in
     (same, append_cancel_left (escape b) others rest (subst (λ (x : ℕ). escape x ++ others ≡ escape b ++ rest) same (sym f ∙ e)))
 
--- a text that begins with a spelling has that of its candidate
+-- if a text begins with the escaped form of a byte, this byte is its candidate
 pub candidate_at : (text : List ℕ) (v : ℕ) (rest : List ℕ) → text ≡ escape v ++ rest → candidate_of text ≡ v
 candidate_at text v rest e = ap candidate_of e ∙ again v rest

@@ -46,7 +46,7 @@ glyph d lt =
     let is : digit_glyph false d ≡ 48 + d = grind (arith, nat_tests, lt) in
     omega (arith, is, digit_value_digit (digit_glyph false d) (omega (arith, is), omega (arith, is, lt)))
 
--- a number with more digits than a spelling has places fills all of these
+-- a number with more than `k` digits fills all `k` places
 all_places : (k n : ℕ) (behind : List ℕ) → 10 ^ k ≤ n → AllDigits 10 behind → AllDigits 10 (digits_onto k 10 false n behind) × (length (digits_onto k 10 false n behind) ≡ k + length behind)
 all_places zero n behind le h = (h, omega arith)
 all_places (suc k) n behind le h =

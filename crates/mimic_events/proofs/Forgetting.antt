@@ -62,7 +62,7 @@ summary_begins : (c : Conclusion) (nanos : ℕ) → (rest : List ℕ) × (json_s
 unfolding json_summary
 summary_begins c nanos = (_, refl)
 
--- each line that leads somewhere begins so
+-- each line that leads somewhere begins with `line_front`
 step_begins : (next : Next) (s : State) (line : List ℕ) (t : State) → LeadsFrom next s line t → (rest : List ℕ) × (line ≡ line_front ++ rest)
 step_begins title_next s line t (count, is, e) = let b = title_begins count in (b.0, is.1 ∙ b.1)
 step_begins row_next s line t (inl (more, label, is, e)) = let b = announcement_begins label in (b.0, is.1 ∙ b.1)
@@ -70,7 +70,7 @@ step_begins row_next s line t (inr (all, numbers, is, e)) = let b = summary_begi
 step_begins (outcome_next label) s line t (outcome, is, e) = let b = outcome_begins label outcome in (b.0, is.1 ∙ b.1)
 step_begins (nothing_next filtered_out nanos) s line t h = absurd h
 
--- a text that never begins so leads nowhere, whatever follows
+-- a text that never begins with `line_front` leads nowhere, whatever follows
 no_step : (s : State) (text more : List ℕ) (t : State) → NeverBegins line_front text → Step s (text ++ more) t → ⊥
 no_step s text more t never step = let b = step_begins s.next s (text ++ more) t step in never more b.0 b.1
 

@@ -1,4 +1,4 @@
--- What stands at the front of a text, part by part.
+-- What is at the front of a text, part by part.
 use Rattle.std.proofs.Common.{◌≡◌, ◌≢◌, ℕ, suc, ◌+◌, ◌<◌, ◌≤◌, List, ◌++◌, Option, Some, None, MatchOption, Bor, drop, drop-cons, get_or, length, map, refl, sym, ap, subst, ◌∙◌, append_assoc, arith}
 use Rattle.std.specs.List.{concat}
 use Rattle.std.proofs.lemmas.List.{append_cancel_left, drop_all}

@@ -50,7 +50,7 @@ same_key-symm = (decided same_key same_key-decides).symm
 
 -- ---- sets
 
--- a row, wherever it lies
+-- a row, wherever it is
 abbrev pub at_row : Row → Bor Row
 at_row row = record { ref_ptr = (0, 0); now = row }
 

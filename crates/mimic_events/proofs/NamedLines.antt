@@ -20,11 +20,11 @@ named_some front line rest (Some x) e h =
 
 -- ---- the kind
 
--- a kind that isn't empty stands in quotes
+-- a kind that isn't empty is in quotes
 pub quoted_kind : (b : ℕ) (kind rest : List ℕ) → kind_field (b ∷ kind) ++ rest ≡ kind_key ++ (escaped (b ∷ kind) ++ 34 ∷ rest)
 quoted_kind b kind rest = ap (λ (x : List ℕ). kind_key ++ x) (append_assoc (escaped (b ∷ kind)) (34 ∷ []) rest)
 
--- if the line doesn't end after the name, the kind stands in quotes
+-- if the line doesn't end after the name, the kind is in quotes
 pub kind_spelled : (text v : List ℕ) → text ≢ json_end → IsKind v text → (v ≢ []) × IsQuoted kind_key v text
 kind_spelled text [] more h = absurd (more h.1)
 kind_spelled text (b ∷ v) more h = ((λ e. cc), h.1 ∙ quoted_kind b v json_end)

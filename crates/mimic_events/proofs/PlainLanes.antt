@@ -1,4 +1,4 @@
--- Bytes that stand for themselves, many looked at at once.
+-- Bytes that need no escape, many looked at at once.
 use Rattle.std.proofs.Common.{◌≡◌, ℕ, suc, ◌+◌, ◌%◌, ◌^◌, ◌<◌, ◌≤◌, eqb, ltb, Bool, true, false, not, ◌&&◌, ◌||◌, List, [], ◌∷◌, ◌++◌, Option, Some, None, MatchOption, map, length, get_or, min, take, drop, Fits, w8, sym, ap, ◌∙◌, subst, arith, inl, inr, take-add, take_all, length-take, get_or-take, get_or-drop}
 use Rattle.std.specs.List.{prefix_len}
 use Rattle.std.proofs.lemmas.Bool.{agree_below, agree_below_at, not-true, cases_eq}

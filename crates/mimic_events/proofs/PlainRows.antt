@@ -24,7 +24,7 @@ use Rattle.mimic_events.proofs.Readings.{taken}
 use Rattle.mimic_events.proofs.RowReaders.{reads_then}
 use Rattle.mimic_events.proofs.SoFar.{an_outcome}
 
--- ---- one spelling
+-- ---- one text for each escaped form
 
 pub one_text : (a b x y : List ℕ) → escaped a ++ 34 ∷ x ≡ escaped b ++ 34 ∷ y → (a ≡ b) × (x ≡ y)
 unfolding escaped

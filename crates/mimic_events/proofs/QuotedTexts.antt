@@ -19,7 +19,7 @@ pub starts : (bytes : List ℕ) → Reaches bytes [] bytes
 unfolding escaped
 starts bytes = record { front = refl; only = λ other after e. (other, refl, e) }
 
--- no spelling begins with a quote
+-- no byte's escaped form begins with a quote
 pub no_quote : (b : ℕ) (x y : List ℕ) → 34 ∷ y ≢ escape b ++ x
 unfolding candidate_of
 no_quote b x y e =
@@ -53,7 +53,7 @@ is_done bytes text rest h none = record {
   only = λ other stop f. let t = h.only other stop f in last bytes text rest other stop none t.0 t.1 t.2;
 }
 
--- bytes that stand for themselves were read
+-- bytes that need no escape were read
 pub goes_on_plain : (bytes text : List ℕ) (plain after : List ℕ) → Reaches bytes text (plain ++ after) → ArePlain plain → Reaches bytes (text ++ plain) after
 goes_on_plain bytes text [] after h p = rw (append-nil text) h
 goes_on_plain bytes text (b ∷ plain) after h p =
@@ -67,11 +67,11 @@ escaped_parts : (text plain left : List ℕ) → text ≡ plain ++ left → AreP
 unfolding escaped
 escaped_parts text plain left e p = ap escaped e ∙ flat_map-append escape plain left ∙ ap (λ (x : List ℕ). x ++ escaped left) (escaped-plain plain p)
 
--- a text that stands for itself
+-- a text that needs no escape
 pub plain_same : (text plain rest line : List ℕ) → line ≡ plain ++ rest → ArePlain plain → plain ≡ text → line ≡ escaped text ++ rest
 plain_same text plain rest line e p same = e ∙ ap (λ (x : List ℕ). x ++ rest) (sym (escaped-plain plain p) ∙ ap escaped same)
 
--- after what stands for itself
+-- after bytes that need no escape
 pub plain_then : (text plain left line rest : List ℕ) (o : Option (Bor (List ℕ))) → text ≡ plain ++ left → ArePlain plain → line ≡ plain ++ rest → Follows (escaped left) rest o → Follows (escaped text) line o
 plain_then text plain left line rest o e p f h =
     subst (λ (front : List ℕ). Follows front line o) (sym (escaped_parts text plain left e p)) (follows_then plain (escaped left) line rest o f h)
@@ -80,7 +80,7 @@ pub plain_stop : (text plain left line : List ℕ) → text ≡ plain ++ left �
 plain_stop text plain left line e p h =
     subst (λ (front : List ℕ). Follows front line None) (sym (escaped_parts text plain left e p)) (follows_stop plain (escaped left) line h)
 
--- after the spelling of the first byte
+-- after the escaped form of the first byte
 escaped_first : (text : List ℕ) → 1 ≤ length text → escaped text ≡ escape (get_or text 0 0) ++ escaped (drop 1 text)
 unfolding escaped
 escaped_first text h = ap (λ (x : List ℕ). flat_map escape x) (drop-cons text 0 0 h)

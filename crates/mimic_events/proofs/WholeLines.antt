@@ -12,7 +12,7 @@ one_front (c ∷ a) (d ∷ b) x y ha hb e =
     let h = one_front a b x y ha.1 hb.1 cc in
     (rw (head, h.0) refl, h.1)
 
--- a line at the front of a text, by what stands before its end
+-- a line at the front of a text, by what comes before its end
 opened : (a x : List ℕ) (h : IsLine a) → a ++ x ≡ h.front ++ 10 ∷ x
 opened a x h = ap (λ (t : List ℕ). t ++ x) h.parts ∙ append_assoc h.front (10 ∷ []) x
 

@@ -1,4 +1,4 @@
--- What a follower has read of a report, and the rows that it has handed out (our own).
+-- What a follower has read of a report, and the rows that it has returned (our own).
 use Rattle.std.specs.Prelude.{◌≡◌, ◌<◌, ℕ, Bool, false, List, [], ◌∷◌, ◌++◌, length, map}
 use Rattle.mimic_printer.specs.Json.{Entry}
 use Rattle.mimic_events.specs.declared.follower.Follower.{Follower}
@@ -11,7 +11,7 @@ use Rattle.mimic_events.specs.Readers.{IsSound, bytes_of}
 abbrev pub was_refused : Follower → Bool
 was_refused follower = follower.failed
 
--- the follower was fed these bytes, and no piece was refused; it has handed out these rows, which are those that have ended
+-- the follower was fed these bytes, and no piece was refused; it has returned these rows, which are those that have ended
 pub record HasFollowed (follower : Follower) (bytes : List ℕ) (rows : List Entry) : Type 0 where
   pub taken : was_refused follower ≡ false
   pub sound : IsSound follower.reader rows
@@ -30,11 +30,11 @@ pub record FollowsRow (old : Follower) (piece : List ℕ) (new : Follower) (row 
   pub shorter : length left < length piece
   pub followed : FollowsOn old front new (entry_read row ∷ [])
 
--- all bytes that it was fed, if these are the rows that it has handed out
+-- all bytes that it was fed, if these are the rows that it has returned
 abbrev pub bytes_with : Follower → List Row → List ℕ
 bytes_with follower rows = bytes_of follower.reader (map entry_read rows)
 
--- unless a piece was refused, these are the rows that it has handed out
+-- unless a piece was refused, these are the rows that it has returned
 abbrev pub HasHandedOut : Follower → List Row → Type 0
 HasHandedOut follower rows = was_refused follower ≡ false
     → HasFollowed follower (bytes_with follower rows) (map entry_read rows)

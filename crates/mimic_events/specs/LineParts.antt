@@ -45,7 +45,7 @@ unfoldable pub after_backslash : List ℕ → ℕ
 after_backslash [] = 92
 after_backslash (letter ∷ rest) = if letter == 117 then after_u rest else named_of letter
 
--- the byte that the spelling at the front would be of, whether or not it is the right spelling
+-- the only byte whose escaped form the text can begin with, whether or not it does
 unfoldable pub candidate_of : List ℕ → ℕ
 candidate_of [] = 0
 candidate_of (b ∷ rest) = if b == 92 then after_backslash rest else b
@@ -56,7 +56,7 @@ Reads {V} spelled text None = (v : V) (rest : List ℕ) → text ≡ spelled v r
 Reads {V} spelled text (Some found) = (text ≡ spelled found.0 found.1)
     × ((v : V) (rest : List ℕ) → text ≡ spelled v rest → (v ≡ found.0) × (rest ≡ found.1))
 
--- a byte as it is spelled, and what follows
+-- a byte in its escaped form, and what follows
 abbrev pub ReadsByte : List ℕ → Option (ℕ × List ℕ) → Type 0
 ReadsByte = Reads (λ byte rest. escape byte ++ rest)
 
@@ -72,18 +72,18 @@ ReadsNamed front = Reads (λ text rest. front ++ (escaped text ++ 34 ∷ rest))
 abbrev pub IsQuoted : List ℕ → List ℕ → List ℕ → Type 0
 IsQuoted front value text = text ≡ front ++ (escaped value ++ 34 ∷ json_end)
 
--- the bytes begin with the spelling of the text, and the rest follows; no other text ends there at a quote
+-- the bytes begin with the escaped form of the text, and the rest follows; no other text ends there at a quote
 pub record ReadsEscaped (bytes text rest : List ℕ) : Type 0 where
   pub front : bytes ≡ escaped text ++ rest
   pub only : (other after : List ℕ) → bytes ≡ escaped other ++ 34 ∷ after → (other ≡ text) × (34 ∷ after ≡ rest)
 
--- the bytes are a text, and each of them stands for itself
+-- the bytes are a text, and none of them needs an escape
 abbrev pub IsPlainText : List ℕ → Type 0
 IsPlainText text = IsUtf8 text × ArePlain text
 
 -- ---- numbers
 
--- no digit stands first
+-- the bytes don't begin with a digit
 abbrev pub EndsNumber : List ℕ → Type 0
 EndsNumber [] = Unit {0}
 EndsNumber (b ∷ bytes) = 48 ≤ b → b ≤ 57 → ⊥
@@ -124,7 +124,7 @@ abbrev pub SaysFailed : List ℕ → Option Label → Type 0
 SaysFailed line None = (entry : Entry) → IsFailedLine entry line → ⊥
 SaysFailed line (Some label) = FitsLabel label × ((entry : Entry) → IsFailedLine entry line → entry.label ≡ label)
 
--- no other kind stands in the text before the tail of a failure
+-- the text has no other kind before the tail of a failure
 abbrev pub SaysKind : List ℕ → List ℕ → Type 0
 SaysKind text kind = (other : List ℕ) (message : Option (List ℕ)) → text ≡ kind_field other ++ tail (Failed message) → other ≡ kind
 

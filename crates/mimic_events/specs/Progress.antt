@@ -60,7 +60,7 @@ running_from row_next = None
 running_from (outcome_next label) = Some label
 running_from (nothing_next filtered_out nanos) = None
 
--- how many lines were read with so many rows: the title, two for each row, and an announcement or the summary
+-- how many lines were read with `rows` rows: the title, two for each row, and an announcement or the summary
 abbrev pub lines_from : Next → ℕ → ℕ
 lines_from title_next rows = 0
 lines_from row_next rows = 2 * rows + 1

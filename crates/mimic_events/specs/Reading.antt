@@ -25,7 +25,7 @@ IsNumber n text = (n < 2 ^ 64) × (text ≡ decimal n)
 abbrev pub IsSeconds : ℕ → List ℕ → Type 0
 IsSeconds nanos text = (nanos < 2 ^ 64) × (text ≡ exact_seconds nanos)
 
--- the line begins a report of so many rows
+-- the line begins a report of `count` rows
 abbrev pub IsTitle : ℕ → List ℕ → Type 0
 IsTitle count line = (count < 2 ^ 64) × (line ≡ json_title count)
 
@@ -41,11 +41,11 @@ IsOutcome label outcome line = FitsTypes outcome × (line ≡ json_outcome label
 abbrev pub IsFailedLine : Entry → List ℕ → Type 0
 IsFailedLine entry line = (is_failed entry.outcome ≡ true) × FitsEntry entry × (line ≡ json_outcome entry.label entry.outcome)
 
--- the line ends a report of these rows, with so many trials filtered out and so many nanoseconds
+-- the line ends a report of these rows; `numbers` are how many trials were filtered out, and the nanoseconds
 abbrev pub IsSummary : List Entry → ℕ × ℕ → List ℕ → Type 0
 IsSummary entries numbers line = (numbers.0 < 2 ^ 64) × (numbers.1 < 2 ^ 64)
     × (line ≡ json_summary (counts_of (map (λ entry. entry.outcome) entries) numbers.0) numbers.1)
 
--- so many rows have each outcome
+-- `counts` says how many rows have each outcome
 abbrev pub HasCounts : Conclusion → List Entry → Type 0
 HasCounts counts entries = counts ≡ counts_of (map (λ entry. entry.outcome) entries) 0

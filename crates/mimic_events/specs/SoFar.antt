@@ -1,4 +1,4 @@
--- What the bytes so far say of a report, besides the rows that have ended (our own).
+-- What the bytes so far say about a report, besides the rows that have ended (our own).
 use Rattle.std.specs.Prelude.{◌≡◌, ◌≢◌, ℕ, ◌+◌, ◌<◌, ◌^◌, List, ◌++◌, length}
 use Rattle.std.specs.List.{AllByRecursion, concat}
 use Rattle.mimic_trial.specs.declared.outcome.Outcome.{Outcome}
@@ -8,7 +8,7 @@ use Rattle.mimic_printer.specs.Json.{Contents, Entry, FitsLabel, IsLine, json_an
 use Rattle.mimic_events.specs.Contents.{Spells}
 use Rattle.mimic_events.specs.Feed.{BeginsWith}
 
--- the text begins with a title that announces so many trials; whatever follows
+-- the text begins with a title that announces `count` trials, whatever follows
 pub record BeginsWithTitle (count : ℕ) (text : List ℕ) : Type 0 where
   pub rest : List ℕ
   pub number : count < 2 ^ 64

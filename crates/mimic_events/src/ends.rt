@@ -24,7 +24,7 @@ pub(crate) fn after_all<'a>(text: &'a [u8], fronts: &[&[u8]]) -> Option<&'a [u8]
     Some(rest)
 }
 
-// Returns what stands before the back, if the text ends with it.
+// Returns what comes before the back, if the text ends with it.
 pub(crate) fn before<'a>(text: &'a [u8], back: &[u8]) -> Option<&'a [u8]>
     ensures { MatchOption result ((front : List ℕ) → text.now ≢ front ++ back.now)
         (λ front. text.now ≡ front.now ++ back.now) }

@@ -75,7 +75,7 @@ impl Feed {
         self.follower.announced()
     }
 
-    /// Returns the trial whose announcement stands without its outcome: `None` if there is none, and after a refused
+    /// Returns the trial that is announced but has no outcome so far: `None` if there is none, and after a refused
     /// piece. With workers there is none between rows.
     pub fn running(&self) -> Option<&Label>
         ensures { FindsSoFar ShowsRunning self.now
@@ -85,7 +85,7 @@ impl Feed {
     }
 
     /// Returns the number, from 1, of the first ended line that no report has there: `None` if there is none, and after a
-    /// refused piece. Behind the summary no report has a line.
+    /// refused piece. No report has a line after its summary.
     pub fn first_wrong_line(&self) -> Option<u128>
         ensures { FindsSoFar IsFirstWrong self.now result }
     {
@@ -112,7 +112,7 @@ impl Feed {
 
 /// Reads a whole report: `None` if the bytes are no report in JSON.
 ///
-/// A report has one text only. So a byte more or less, other spaces, other spellings of a text or a number,
+/// A report has one text only. So a byte more or less, other spaces, other ways to write a text or a number,
 /// and totals that are not those of the rows are all no report.
 pub fn read_report(alloc: Global, bytes: &[u8]) -> Result<Option<Report>, AllocError>
     // The bytes are the report of what was found and of nothing else; if nothing was found, they are no report.

@@ -1,4 +1,4 @@
-//! Follows a report, and hands out its rows one by one.
+//! Follows a report, and returns its rows one by one.
 ghost use Rattle.std.specs.Prelude.{◌≡◌, ◌++◌, [], false, true, IfOk, IsErr, List, MatchOption, None, OnErr, OnOk, option_map, ℕ};
 ghost use Rattle.mimic_printer.specs.Json.{Entry};
 ghost use Rattle.mimic_events.specs.Contents.{label_read};
@@ -11,7 +11,7 @@ use crate::report::{Label, Row, Totals};
 use crate::row_reader::RowReader;
 use std::alloc::{AllocError, Global};
 
-/// Reads a report whose bytes come in pieces, cut anywhere, as a `Feed` does, but hands out each row when it has ended,
+/// Reads a report whose bytes come in pieces, cut anywhere, as a `Feed` does, but returns each row when it has ended,
 /// and keeps none.
 ///
 /// It keeps the line that has not ended, and all that follows a line that no report has there.
@@ -47,7 +47,7 @@ impl Follower {
         if self.failed {
             return Err(AllocError);
         }
-        // It stays so if the piece isn't read to its end.
+        // This stays true if the piece isn't read to its end.
         self.failed = true;
         let found = self.reader.next_row(self.alloc, piece)?;
         self.failed = false;
@@ -74,7 +74,7 @@ impl Follower {
         if self.failed {
             return Err(AllocError);
         }
-        // It stays so if the piece isn't read to its end.
+        // This stays true if the piece isn't read to its end.
         self.failed = true;
         let mut left = piece;
         while let Some((row, after)) = self.reader.next_row(self.alloc, left)? {
@@ -98,7 +98,7 @@ impl Follower {
         self.reader.announced()
     }
 
-    /// Returns the trial whose announcement stands without its outcome: `None` if there is none, and after a refused
+    /// Returns the trial that is announced but has no outcome so far: `None` if there is none, and after a refused
     /// piece. With workers there is none between rows.
     pub fn running(&self) -> Option<&Label>
         ensures found { (bytes : List ℕ) (rows : List Entry) → HasFollowed self.now bytes rows
@@ -112,7 +112,7 @@ impl Follower {
     }
 
     /// Returns the number, from 1, of the first ended line that no report has there: `None` if there is none, and after a
-    /// refused piece. Behind the summary no report has a line.
+    /// refused piece. No report has a line after its summary.
     pub fn first_wrong_line(&self) -> Option<u128>
         ensures found { (bytes : List ℕ) (rows : List Entry) → HasFollowed self.now bytes rows
             → Decodes IsFirstWrong bytes result }

@@ -13,7 +13,7 @@ use crate::report::{Label, Row};
 use mimic_trial::{Failed, Measurement, Outcome};
 use std::alloc::{AllocError, Global};
 
-// Returns the number of rows that a title line says.
+// Returns the number of rows that a title line announces.
 #[tactic(auto, using(crate::proofs::NamedLines::title_is, crate::proofs::NamedLines::title_rest, crate::proofs::NamedLines::title_some))]
 pub(crate) fn titled(line: &[u8]) -> Option<u64>
     ensures { Decodes IsTitle line.now result }
@@ -61,7 +61,7 @@ fn kind_of(alloc: Global, rest: &[u8]) -> Result<Option<String>, AllocError>
     Ok(text_of(kind))
 }
 
-// Returns the text in quotes after this front, if the line ends behind it.
+// Returns the text in quotes after this front, if the line ends after it.
 fn last_quoted(alloc: Global, text: &[u8], front: &[u8]) -> Result<Option<Vec<u8>>, AllocError>
     ensures { IfOk result
         (λ found. Decodes (IsQuoted front.now) text.now (option_map (λ v. v.items) found)) }
@@ -72,7 +72,7 @@ fn last_quoted(alloc: Global, text: &[u8], front: &[u8]) -> Result<Option<Vec<u8
     }
 }
 
-// Returns the outcome that a line says of this trial.
+// Returns the outcome that a line reports for this trial.
 pub(crate) fn ended(
     alloc: Global,
     label: &Label,
@@ -112,7 +112,7 @@ pub fn read_failed_line(alloc: Global, line: &[u8]) -> Result<Option<Row>, Alloc
     }
 }
 
-// Returns the trial of which the line says that it failed, if it is such a line.
+// Returns the trial that the line reports as failed, if it is such a line.
 fn label_of(alloc: Global, line: &[u8]) -> Result<Option<Label>, AllocError>
     ensures { IfOk result (λ label. SaysFailed line.now (option_map label_read label)) }
 {
@@ -129,7 +129,7 @@ fn label_of(alloc: Global, line: &[u8]) -> Result<Option<Label>, AllocError>
     }
 }
 
-// Returns the kind that stands before the tail of a failure, if such a tail ends the text.
+// Returns the kind that comes before the tail of a failure, if such a tail ends the text.
 fn kind_at(alloc: Global, rest: &[u8]) -> Result<Vec<u8>, AllocError>
     ensures { IfOk result (λ kind. SaysKind rest.now kind.items) }
 {
@@ -199,7 +199,7 @@ fn failure(alloc: Global, rest: &[u8]) -> Result<Option<String>, AllocError>
     }
 }
 
-// Returns what stands before the quote and the line end that end the text.
+// Returns what comes before the quote and the line end that end the text.
 fn before_quote(text: Vec<u8>) -> Option<Vec<u8>>
     ensures { MatchOption result ((m : List ℕ) → text.items ≢ m ++ codes "\"\n")
         (λ m. text.items ≡ m.items ++ codes "\"\n") }

@@ -30,7 +30,7 @@ pub(crate) fn quoted_after<'a>(
     Ok(found)
 }
 
-// Returns the text up to the closing quote, and what follows that, if each of its bytes stands for itself.
+// Returns the text up to the closing quote, and what follows the quote, if no byte of the text needs an escape.
 #[inline(always)]
 pub(crate) fn plain_text_at(bytes: &[u8]) -> Option<(&[u8], &[u8])>
     ensures { IfSome result (λ found. IsPlainText found.0.now
@@ -54,14 +54,14 @@ pub(crate) fn after_quoted<'a>(line: &'a [u8], front: &[u8], text: &str) -> Opti
     after(rest, b"\"")
 }
 
-// Returns what follows the spelling of this text.
+// Returns what follows the escaped form of this text, if the line begins with it.
 #[tactic(auto, using(crate::proofs::QuotedTexts::plain_then, crate::proofs::QuotedTexts::first_then, crate::proofs::QuotedTexts::behind_first))]
 fn after_escaped<'a>(line: &'a [u8], text: &[u8]) -> Option<&'a [u8]>
     ensures { Follows (escaped text.now) line.now result }
 {
     let (same, others) = plain_at(line);
     if same == text {
-        // Most texts stand for themselves.
+        // Most texts need no escape.
         return Some(others);
     }
     let (plain, mut left) = plain_at(text);
@@ -75,7 +75,7 @@ fn after_escaped<'a>(line: &'a [u8], text: &[u8]) -> Option<&'a [u8]>
     Some(rest)
 }
 
-// Returns what follows the spelling of this byte.
+// Returns what follows the escaped form of this byte, if the text begins with it.
 fn after_spelling<'a>(text: &'a [u8], byte: u8) -> Option<&'a [u8]>
     ensures { Follows (escape byte) text.now result }
 {
@@ -86,7 +86,7 @@ fn after_spelling<'a>(text: &'a [u8], byte: u8) -> Option<&'a [u8]>
     }
 }
 
-// Splits the text after the bytes at its front that stand for themselves.
+// Splits the text after the bytes at its front that need no escape.
 #[tactic(auto, using(crate::proofs::PlainLanes::plain_more))]
 fn plain_at(text: &[u8]) -> (&[u8], &[u8])
     ensures parts { text.now ≡ result.0.now ++ result.1.now }
@@ -104,7 +104,7 @@ fn plain_at(text: &[u8]) -> (&[u8], &[u8])
     text.split_at(len + next_escape(rest).unwrap_or(rest.len()))
 }
 
-// Returns how many of the bytes from there on, looked at at once, come before the first that doesn't stand for itself.
+// Looks at `LANES` bytes from `at` on at once, and returns how many come before the first that needs an escape.
 #[inline(always)]
 fn plain_lanes(text: &[u8], at: usize) -> usize
     requires { at + LANES ≤ length text.now }
@@ -130,7 +130,7 @@ fn quoted_at(alloc: Global, bytes: &[u8]) -> Result<Option<(Vec<u8>, &[u8])>, Al
     }
 }
 
-// Returns the text whose spelling the bytes begin with, as far as spellings go, and what follows.
+// Returns the text whose escaped form the bytes begin with, as far as they can be unescaped, and what follows.
 fn escaped_at(alloc: Global, bytes: &[u8]) -> Result<(Vec<u8>, &[u8]), AllocError>
     ensures { IfOk result (λ found. ReadsEscaped bytes.now found.0.items found.1.now) }
 {
@@ -146,13 +146,13 @@ fn escaped_at(alloc: Global, bytes: &[u8]) -> Result<(Vec<u8>, &[u8]), AllocErro
     Ok((text, rest))
 }
 
-// Returns the byte whose spelling the text begins with, and what follows.
+// Returns the byte whose escaped form the text begins with, and what follows.
 #[tactic(auto, using(crate::proofs::Escapes::candidate_at, crate::proofs::Escapes::one_split))]
 fn unescape(text: &[u8]) -> Option<(u8, &[u8])>
     ensures { ReadsByte text.now (option_map (λ found. (found.0, found.1.now)) result) }
 {
     if let [b'"', ..] = text {
-        // No spelling begins with a quote.
+        // No byte's escaped form begins with a quote.
         return None;
     }
     let byte = candidate(text);
@@ -160,7 +160,7 @@ fn unescape(text: &[u8]) -> Option<(u8, &[u8])>
     Some((byte, rest))
 }
 
-// Returns the byte that the spelling at the front would be of, whether or not it is spelled so.
+// Returns the only byte whose escaped form the text can begin with, whether or not it does.
 #[tactic(auto, unfolding(crate::specs::LineParts::candidate_of, crate::specs::LineParts::after_backslash, crate::specs::LineParts::after_u))]
 fn candidate(text: &[u8]) -> u8
     ensures { result ≡ candidate_of text.now }

@@ -14,7 +14,7 @@ pub struct Label {
     pub kind: String,
 }
 
-/// What a report says of one trial.
+/// What a report says about one trial.
 #[derive(Debug, PartialEq, Eq, Drop)]
 pub struct Row {
     /// The trial's name, without its kind.

@@ -15,7 +15,7 @@ pub(crate) fn row_at(text: &[u8]) -> Option<(Outcome, &[u8])>
     let (label, rest) = label_at(rest)?;
     let rest = after(rest, b" }\n")?;
     let rest = after(rest, br#"{ "type": "test", "name": ""#)?;
-    // A name and a kind have one spelling.
+    // A name and a kind can be escaped in one way only.
     let rest = after(rest, label)?;
     word_at(rest)
 }

@@ -7,7 +7,7 @@ use crate::progress::{Progress, Taken, first_line};
 use crate::report::{Label, Row, Totals};
 use std::alloc::{AllocError, Global};
 
-// What was read, and what was not. The rows are handed out as they end, and none is kept.
+// What was read, and what was not. The rows are returned as they end, and none is kept.
 #[derive(Debug, Drop)]
 pub(crate) struct RowReader {
     // What the lines that were taken said.
@@ -135,7 +135,7 @@ impl RowReader {
         self.progress.announced()
     }
 
-    // Returns the trial whose announcement stands without its outcome.
+    // Returns the trial that is announced but has no outcome so far.
     #[tactic(auto, using(crate::proofs::SoFar::finds_running))]
     pub(crate) fn running(&self) -> Option<&Label>
         ensures { (entries : List Entry) → IsSound self.now entries → Decodes ShowsRunning

@@ -1,4 +1,4 @@
--- What it means that failures meet expectations: each of either stands once, those that meet fit, and no others would.
+-- What it means that failures meet expectations: each of either is there once, those that meet fit, and no others would.
 use Rattle.std.proofs.Common.{◌≡◌, Bool, true, false, cond, List, [], ◌∷◌, ◌++◌, map, refl, sym, ap, subst, ◌∙◌, inl, inr, arith}
 use Rattle.std.specs.Prelude.{IsPermutation, Option, None, Some}
 use Rattle.std.specs.List.{AllByRecursion}
@@ -18,7 +18,7 @@ Left = List (Key × Expected)
 abbrev values : Left → List Expected
 values left = map (λ (x : Key × Expected). x.1) left
 
--- each expectation stands with its own key
+-- each expectation has its own key
 abbrev AreKeyed : Left → Type 0
 AreKeyed left = AllByRecursion (λ (x : Key × Expected). x.0 ≡ key_in x.1.entry) left
 

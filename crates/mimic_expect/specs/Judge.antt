@@ -19,8 +19,8 @@ pub record Judged : Type 0 where
 abbrev pub labels_known : List Expectation → List Label
 labels_known known = map (λ expectation. label_in expectation.row) known
 
--- the rows were judged: those whose kind and name some known failure has are kept, and the failures among the others have lines,
--- which are so many
+-- the rows were judged: those whose kind and name some known failure has are kept, and the `count` failures among the others
+-- have lines
 pub record Judges (old new : Judged) (rows : List Entry) (count : ℕ) (before after : Shown) : Type 0 where
   pub known : new.known ≡ old.known
   pub kept : new.rows ≡ old.rows ++ known_rows old.known rows

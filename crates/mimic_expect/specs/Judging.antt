@@ -39,7 +39,7 @@ rows_left left = map (λ x. (x.0, entry_read x.1.now)) left
 abbrev pub count_in : (Finding → Bool) → Judgement → ℕ
 count_in test judgement = count_by (λ found. test (finding_read found)) judgement.unexpected.items
 
--- the line of its numbers, to which so many failures count that were printed before
+-- the line of its numbers, which also counts the `failed` failures that were printed before
 abbrev pub judgement_numbers : Judgement → ℕ → List ℕ
 judgement_numbers judgement failed = concat (decimal judgement.met ∷ codes " known failures; "
     ∷ decimal (failed + count_in is_failed_row judgement) ∷ codes " failed; "

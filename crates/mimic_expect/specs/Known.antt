@@ -9,7 +9,7 @@ use Rattle.mimic_expect.specs.declared.known.Expectation.{Expectation}
 use Rattle.mimic_expect.specs.declared.known.KnownFault.{KnownFault}
 use Rattle.mimic_expect.specs.declared.known.KnownFault.TheVariants.{Line, OutOfMemory}
 
--- a known failure: what its line says of a trial, and the number of that line
+-- a known failure: what its line says about a trial, and the number of that line
 pub record Expected : Type 0 where
   pub entry : Entry
   pub line : ℕ

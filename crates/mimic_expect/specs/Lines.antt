@@ -6,7 +6,7 @@ use Rattle.mimic_expect.specs.Known.{Expected, IsReadable, SaysFailure, says_not
 use Rattle.mimic_expect.specs.declared.known.KnownFault.{KnownFault}
 use Rattle.mimic_expect.specs.declared.known.KnownFault.TheVariants.{Line, OutOfMemory}
 
--- what the line of this number says stands behind what stood before
+-- what the line of this number says is appended to what was there before
 abbrev pub AddsLine : ℕ → List ℕ → List Expected → List Expected → Type 0
 AddsLine number line old new = MatchBool (says_nothing line) (new ≡ old)
     ((entry : Entry) × SaysFailure entry line × ((other : Entry) → SaysFailure other line → other ≡ entry)

@@ -24,10 +24,10 @@ use std::io::{ErrorKind, Read, Write};
 /// flushes it. Of a report that is not whole the rows are judged that have ended.
 ///
 /// A failure meets one known failure of its kind and name: the first one of its message that is left, or else the first one of
-/// any message. What is left then is answered by a row of its kind and name that has met nothing: by a failure, which has
-/// another message, or else by one that passed or was measured, or else by an ignored one, of which nothing is said. Known
-/// failures that no row answers are absent. That is said only if each input is a whole report and no trial was filtered out.
-/// With `lax` a known failure that passed is written, but doesn't count.
+/// any message. Each known failure that is left then takes a row of its kind and name that has met nothing: a failure, which
+/// has another message, or else one that passed or was measured, or else an ignored one, about which nothing is written. A
+/// known failure that finds no row is absent. This is written only if each input is a whole report and no trial was filtered
+/// out. With `lax` a known failure that passed is written, but doesn't count.
 ///
 /// A failure whose kind and name no known failure has is written as soon as it is read. Rows of known kinds and names are kept,
 /// and no others.

@@ -30,7 +30,7 @@ pub(crate) enum Unexpected<'a> {
     Absent(&'a Expectation),
 }
 
-// Returns the expectations, to be found by what they say of failures.
+// Returns the expectations, to be found by what they say about failures.
 fn pool_of(alloc: Global, known: &[Expectation]) -> Result<Pool<'_, &Expectation>, AllocError>
     ensures { IfOk result (λ pool. lines_left pool ≡ keyed (map expected_read known.now)) }
 {
@@ -107,7 +107,7 @@ fn unmet_in<'a>(
     Ok(unmet)
 }
 
-// Returns the rows that can answer an expectation, in the order in which they do.
+// Returns the rows that expectations can take, in the order in which they are taken.
 fn others_in<'a>(
     alloc: Global,
     unmet: Vec<&'a Row>,
@@ -123,7 +123,7 @@ fn others_in<'a>(
     Ok(others)
 }
 
-// Returns what a line says with the row that answers it.
+// Returns what is unexpected about a line and the row that it took, if anything is.
 fn finding<'a>(
     expectation: &'a Expectation,
     row: Option<&'a Row>,
@@ -146,7 +146,7 @@ fn finding<'a>(
     }
 }
 
-// Adds what the lines say that are left, and takes the rows that answer them.
+// Adds what is unexpected about the lines that are left, and takes their rows from `others`.
 fn add_findings<'a>(
     unexpected: &mut Vec<Unexpected<'a>>,
     others: &mut Pool<'a, &'a Row>,
@@ -228,7 +228,7 @@ fn meeting<'a>(
     Ok((pool.left(alloc)?, unmet))
 }
 
-// Returns what the expectations that are left say with the rows that can answer them, and then the failures that answer none.
+// Returns what is unexpected about the expectations that are left, and then the failures among the rows that none of them took.
 fn findings_of<'a>(
     alloc: Global,
     left: &[&'a Expectation],

@@ -26,8 +26,8 @@ pub enum KnownFault {
     /// An allocation failed.
     #[error("out of memory")]
     OutOfMemory,
-    /// The line of this number, counted from 1, is the first that is neither empty nor a comment, and says of no trial that it
-    /// failed.
+    /// The line of this number, counted from 1, is the first that is not empty, not a comment, and not the line of a failed
+    /// trial.
     #[error("not the line of a failed trial")]
     Line(usize),
 }

@@ -1,4 +1,4 @@
-//! What is said of reports by known failures.
+//! What is found when reports are judged by known failures.
 ghost use Rattle.std.specs.Prelude.{◌≡◌};
 ghost use Rattle.std.specs.List.{list_all};
 ghost use Rattle.mimic_expect.specs.Verdict.{has_all, is_whole, status_of};

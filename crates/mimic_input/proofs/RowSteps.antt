@@ -27,7 +27,7 @@ left_at xs front left from to order within e =
     ∙ ap (λ (i : ℕ). drop n (take i (drop from xs))) (sym long)
     ∙ ap (drop n) e ∙ drop-append_seam front left
 
--- nothing is gone yet
+-- nothing was consumed yet
 pub none_gone : (o : Option (List ℕ)) → Consumes o o []
 none_gone None = tt
 none_gone (Some xs) = refl

@@ -26,7 +26,7 @@ GivesNone input read.Cut = IfSome input IsCut
 
 -- ---- pieces
 
--- so many bytes were read to the front of the room, and none only at the end of the input
+-- `count` bytes were read to the front of the room; `count` is 0 only at the end of the input
 pub record IsPiece (before after : Option (List ℕ)) (room : List ℕ) (count : ℕ) : Type 0 where
   pub within : count ≤ length room
   pub gone : Consumes before after (take count room)
@@ -39,6 +39,6 @@ IsOfInput (read.Input error) = ⊤
 IsOfInput (read.WrongLine number) = ⊥
 IsOfInput read.Cut = ⊥
 
--- it is so, and nothing was read
+-- the fault is of the input or the memory, and nothing was read
 abbrev pub HasFailed : Option (List ℕ) → Option (List ℕ) → ReadFault → Type 0
 HasFailed before after fault = IsOfInput fault × Keeps before after

@@ -10,7 +10,7 @@ use Rattle.mimic_input.specs.declared.ending.Ending.{Ending}
 use Rattle.mimic_input.specs.declared.ending.Ending.TheVariants.{Whole, Cut}
 use Rattle.mimic_input.specs.declared.ending.Stop.{Stop}
 
--- the bytes are the report of these rows, in which so many trials were filtered out, with this time
+-- the bytes are the report of these rows, of whose run `filtered_out` trials were filtered out, with this time
 abbrev pub IsWhole : List ℕ → List Entry → ℕ → ℕ → Type 0
 IsWhole bytes entries filtered_out nanos = Spells (record { entries = entries; filtered_out = filtered_out; nanos = nanos }) bytes
 

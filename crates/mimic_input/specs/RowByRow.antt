@@ -6,7 +6,7 @@ use Rattle.mimic_events.specs.Follower.{HasFollowed}
 use Rattle.mimic_input.specs.declared.rows.InputRows.{InputRows}
 use Rattle.mimic_input.specs.Readings.{IsOver}
 
--- the places lie in the piece, which has room
+-- the places are in the piece, which has room
 pub record IsReady {I : Type 0} (r : InputRows I) : Type 0 where
   pub order : r.from ≤ r.to
   pub within : r.to ≤ length r.piece.items

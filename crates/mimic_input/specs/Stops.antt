@@ -1,4 +1,4 @@
--- What is said of a report that has no end (our own).
+-- What is written about a report that has no end (our own).
 use Rattle.std.specs.Prelude.{ℕ, List, [], ◌∷◌, ◌++◌, codes, decimal, Option, Some, None}
 use Rattle.std.specs.List.{concat}
 use Rattle.mimic_input.specs.declared.ending.Stop.{Stop}
@@ -9,7 +9,7 @@ wrong_part None = []
 wrong_part (Some number) =
     concat (codes "line " ∷ decimal number ∷ codes " is no line of a report; " ∷ [])
 
--- how far the report goes, which has rows of so many trials
+-- how far the report goes, which has rows of `ended` trials
 abbrev pub ended_part : ℕ → Option ℕ → List ℕ
 ended_part ended None = codes "no report"
 ended_part ended (Some announced) = concat (codes "the report ends after " ∷ decimal ended

@@ -13,7 +13,7 @@ use std::io::Write;
 /// How a report ended.
 #[derive(Debug, Drop)]
 pub enum Ending {
-    /// With its summary, by which so many trials were filtered out, and the run took so many nanoseconds.
+    /// With its summary, which says how many trials were filtered out, and how many nanoseconds the run took.
     Whole { filtered_out: u64, nanos: u64 },
     /// Before its summary.
     Cut(Stop),
@@ -100,7 +100,7 @@ impl Stop {
     }
 }
 
-// Returns what is said of the line that is wrong, and nothing if none is.
+// Returns the part of the message about the wrong line, which is empty if no line is wrong.
 fn wrong_pieces(number: Option<u128>) -> [Piece<'static>; 3]
     ensures { pieces_text result ≡ wrong_part number }
 {
@@ -114,7 +114,7 @@ fn wrong_pieces(number: Option<u128>) -> [Piece<'static>; 3]
     }
 }
 
-// Returns what is said of how far the report goes.
+// Returns the part of the message about how far the report goes.
 fn extent_pieces(ended: u128, announced: Option<u64>) -> [Piece<'static>; 5]
     ensures { pieces_text result ≡ ended_part ended announced }
 {

@@ -22,7 +22,7 @@ pub struct InputRows<I: Read> {
     alloc: Global,
     input: I,
     follower: Follower,
-    // What the last read gave stands at the front up to `to`, and was followed up to `from`.
+    // The bytes up to `to` are what the last read gave, and those up to `from` were followed.
     piece: Vec<u8>,
     from: usize,
     to: usize,
@@ -44,7 +44,7 @@ impl<I: Read + Drop> InputRows<I> {
         })
     }
 
-    /// Returns the next row, and `None` behind the last one. A read that was interrupted is tried again.
+    /// Returns the next row, and `None` after the last one. A read that was interrupted is tried again.
     pub fn next_row(&mut self) -> Result<Option<Row>, ReadFault>
         requires { IsReady self.old }
         ensures ready { OnOk result (IsReady self.new) }
@@ -104,7 +104,7 @@ impl<I: Read + Drop> InputRows<I> {
         Ok(self.to > 0)
     }
 
-    /// Returns how the report ended, behind the last row.
+    /// Returns how the report ended, after the last row.
     pub fn finish(self) -> Result<Ending, AllocError>
         ensures { IfOk result (λ ending. (start : Option (List ℕ)) (entries : List Entry)
             → HasEnded I.remaining start self entries → IfSome start (IsReading entries ending)) }

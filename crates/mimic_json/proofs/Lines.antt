@@ -207,7 +207,7 @@ lines_are_objects = record { time = to_float-seconds_number; announcement = anno
 
 -- ---- what a reader answers
 
--- what a line says is what stands before its line end
+-- what a line says is what comes before its line end
 pub text_says : (bytes : List ℕ) (fields : List Field) → IsReadAs (bytes ++ 10 ∷ []) fields → read bytes ≡ Some (object_of fields)
 text_says bytes fields h = ap read (append_cancel_right bytes h.front (10 ∷ []) h.parts) ∙ h.value
 

@@ -9,7 +9,7 @@ use Rattle.serde_json.specs.Find.{get_member}
 use Rattle.serde_json.proofs.Views.{get_member-put, get_member-put_other}
 use Rattle.mimic_json.specs.Fields.{Field, data_of, with_fields, object_of, IsOtherKey, HaveOwnKeys, HasExactly}
 
--- ---- keys are told apart by computing
+-- ---- keys are distinguished by computing
 
 abbrev pub is_other_key : List ℕ → List Field → Bool
 is_other_key key [] = true

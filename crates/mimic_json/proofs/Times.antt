@@ -119,7 +119,7 @@ greatest : round binary64 false (2 ^ 64) 1 ≡ fin false 1 (lib.IntN.pos 64)
 unfolding round
 greatest = refl
 
--- the float nearest to seconds that a `u64` of nanoseconds tells is finite
+-- the float nearest to the seconds of a `u64` of nanoseconds is finite
 finite_seconds : (n : ℕ) → n < 2 ^ 64 → float_is_finite (round binary64 false n (10 ^ 9)) ≡ true
 finite_seconds n h =
     let x = round binary64 false n (10 ^ 9) in

@@ -8,13 +8,13 @@ use Rattle.mimic_text.specs.Seconds.{exact_seconds}
 use Rattle.serde_json.specs.Find.{get}
 use Rattle.serde_json.specs.Data.{Num, unsigned, float, Data, number, string, object, Members, no_members, put}
 
--- what stands under a key: a text, a number, or nanoseconds, which are shown in seconds (our own)
+-- what is under a key: a text, a number, or nanoseconds, which are shown in seconds (our own)
 pub data Scalar : Type 0 where
   text : List ℕ → Scalar
   count : ℕ → Scalar
   seconds : ℕ → Scalar
 
--- a key and what stands under it
+-- a key and what is under it
 abbrev pub Field : Type 0
 Field = List ℕ × Scalar
 

@@ -57,7 +57,7 @@ outcome_fields label outcome =
     (codes "type", text (type_of (is_measured outcome))) ∷ (codes "name", text label.name)
     ∷ (kind_fields label.kind ++ event_fields outcome)
 
--- the line that begins a report of so many trials
+-- the line that begins a report of this number of trials
 abbrev pub title_fields : ℕ → List Field
 title_fields n = (codes "type", text (codes "suite")) ∷ (codes "event", text (codes "started"))
     ∷ (codes "test_count", count n) ∷ []

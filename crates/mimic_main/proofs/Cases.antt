@@ -1,4 +1,4 @@
--- The tests of cases may be run where each case may be checked.
+-- The tests of cases may be run if each case may be checked.
 use Rattle.std.proofs.Common.{ℕ, List, arith, map, subst, sym}
 use Rattle.std.proofs.lemmas.List.{get_or-map, length-map}
 use Rattle.std.proofs.lemmas.List.Elements.{All-map}

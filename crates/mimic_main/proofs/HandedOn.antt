@@ -1,4 +1,4 @@
--- What a run left in its sink, said of the bytes that were handed on.
+-- What a run left in its sink, in terms of the bytes that were written out.
 use Rattle.std.proofs.Common.{◌≡◌, ℕ, List, Option, Result, Ok, Err, refl, ap, ap₂, is_ok, subst, sym, IfErr, IfOk, OnOk, IsOk}
 use Rattle.std.proofs.lemmas.Bool.{false≢true}
 use Rattle.std.proofs.KnownBytes.{Appends-kept}
@@ -34,7 +34,7 @@ IsFaultOf-settled (Err e) fault finished same kept cause = same_fault fault e sa
 IsFaultOf-settled (Ok c) fault (Ok x) same kept cause = absurd (false≢true (ap is_ok (kept refl)))
 IsFaultOf-settled (Ok c) fault (Err error) same kept cause = (error, same_fault fault (Write (WriteFault.Error error)) (cause refl))
 
--- ---- a run that answered, where all that its sink got was handed on
+-- ---- a run that answered, if all that its sink got was written out
 
 Put-got : (old : Option (List ℕ)) (new : Shown) (got : Option (List ℕ)) (text : List ℕ) → Keeps new.bytes got → Put (faultless old) new text → Put (faultless old) (faultless got) text
 Put-got old new got text k p = record { appended = Appends-kept old new.bytes got text p.appended k; faults = refl }
@@ -73,7 +73,7 @@ module _ {R : Type 0} (asked : Asked R) where
   left_behind : (old : Option (List ℕ)) (first new : Shown) (ran : Result Conclusion RunError) → first ≡ faultless old → Left asked first new ran → Left asked (faultless old) new ran
   left_behind old first new ran e left = subst (λ (s : Shown). Left asked s new ran) e left
 
-  -- the answer `r`, which is Ok only where the run answered that and its last bytes were handed on
+  -- the answer `r`, which is Ok only if the run answered that and its last bytes were written out
   pub Ran-settled : {T E : Type 0} (old : Option (List ℕ)) (first new : Shown) (got : Option (List ℕ)) (ran r : Result Conclusion RunError) (finished : Result T E)
       → first ≡ faultless old → OnOk finished (Keeps new.bytes got) → IfOk r (λ c. ran ≡ Ok c) → (IsOk r → IsOk finished) → Left asked first new ran
       → IfOk r (λ c. Ran asked old got c)
@@ -81,7 +81,7 @@ module _ {R : Type 0} (asked : Asked R) where
       Ran-got old new got c (OnOk-here finished _ (f refl) k) (subst (λ x. Left asked (faultless old) new x) a (left_behind old first new ran e left))
   Ran-settled old first new got ran (Err x) finished e k a f left = tt
 
-  -- a run of which a beginning was handed on, where the answer `r` is a fault
+  -- a run of which a beginning was written out, if the answer `r` is a fault
   pub GotBeginning-from : {T : Type 0} (old : Option (List ℕ)) (first new : Shown) (got : Option (List ℕ)) (ran r : Result Conclusion RunError) (finished : Result T Error)
       → first ≡ faultless old → HandsOn new.bytes got
       → IfErr ran (λ fault. r ≡ refused fault) → (IsOk finished → r ≡ ran) → (IsOk ran → IfErr finished (λ error. r ≡ refused (Write (WriteFault.Error error))))

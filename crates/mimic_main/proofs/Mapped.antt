@@ -1,4 +1,4 @@
--- What still holds where an error is mapped.
+-- What still holds if an error is mapped.
 use Rattle.std.proofs.Common.{◌≡◌, Result, Ok, Err, IfErr, IfOk, IsErrAnd, is_ok, MatchResult, subst, sym}
 use Rattle.std.proofs.lemmas.Bool.{false≢true}
 use Rattle.libtest_mimic.specs.declared.running.RunError.{RunError}

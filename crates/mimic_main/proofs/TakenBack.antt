@@ -1,4 +1,4 @@
--- A text that was put behind what waits, and of which only a front was handed on.
+-- A text that was put behind what waits, and of which only a front was written out.
 use Rattle.std.proofs.Common.{◌≡◌, ◌+◌, ◌-◌, ◌≤◌, ◌<◌, ◌⊎◌, inl, inr, ℕ, List, [], ◌++◌, Option, Some, None, length, take, drop, sym, ap, subst, ◌∙◌, arith, append_assoc, append-nil}
 use Rattle.std.proofs.lemmas.Bool.{cases_lt}
 use Rattle.std.proofs.lemmas.List.{take-append-le, drop-append-le, length-append, length-drop, take-append-drop}
@@ -11,19 +11,19 @@ Keeps-appended None b bs e p = tt
 Keeps-appended (Some x) None bs e p = absurd p
 Keeps-appended (Some x) (Some y) bs e p = p ∙ ap (λ l. x ++ l) e ∙ append-nil x
 
--- all that waited was handed on, and then s
+-- all that waited was written out, and then s
 all-gone : (a b : Option (List ℕ)) (w s : List ℕ) → Appends a b (w ++ s) → Appends (append_known a w) (append_known b []) s
 all-gone None b w s p = tt
 all-gone (Some x) None w s p = absurd p
 all-gone (Some x) (Some y) w s p = append-nil y ∙ p ∙ sym (append_assoc x w s)
 
--- a front of what waited was handed on
+-- a front of what waited was written out
 front-gone : (a b : Option (List ℕ)) (front rest w : List ℕ) → w ≡ front ++ rest → Appends a b front → Appends (append_known a w) (append_known b rest) []
 front-gone None b front rest w e p = tt
 front-gone (Some x) None front rest w e p = absurd p
 front-gone (Some x) (Some y) front rest w e p = ap (λ l. l ++ rest) p ∙ append_assoc x front rest ∙ ap (λ l. x ++ l) (sym e) ∙ sym (append-nil (x ++ w))
 
--- what is left after n bytes, where s of them are of the text t
+-- what is left after `length w + k` bytes, of which `k` are of the text t
 over : (a b : Option (List ℕ)) (w t left : List ℕ) (k : ℕ) → k ≤ length t → left ≡ drop (length w + k) (w ++ t) → Appends a b (take (length w + k) (w ++ t))
     → Appends (append_known a w) (append_known b (take (length left - length t) left)) (take (length t - length left) t)
 over a b w t left k fits e p =
@@ -59,7 +59,7 @@ by-place a b w t left n (inl more) fits e p =
     over a b w t left k short (subst E same e) (subst P same p)
 by-place a b w t left n (inr less) fits e p = within a b w t left n less e p
 
--- of what waited and the text t the first n bytes were handed on, and what is left of t is taken back
+-- the first n bytes of what waited and the text t were written out, and what is left of t is taken back
 pub taken-back : (a b : Option (List ℕ)) (w t left : List ℕ) (n : ℕ) → n ≤ length (w ++ t) → left ≡ drop n (w ++ t) → Appends a b (take n (w ++ t))
     → Appends (append_known a w) (append_known b (take (length left - length t) left)) (take (length t - length left) t)
 taken-back a b w t left n fits e p = by-place a b w t left n (cases_lt (length w) n) fits e p

@@ -17,7 +17,7 @@ use Rattle.mimic_main.specs.declared.status.Status.{Status}
 use Rattle.mimic_main.specs.Run.{GotBeginning, IsLawful, Ran}
 use Rattle.mimic_main.specs.Sharding.{HasFilterOf, IsPartFault, IsReadSharding, trials_of}
 
--- the number that a process ends with whose `main` returns this
+-- the number that a process ends with if its `main` returns this
 abbrev pub number_of : Status → ℕ
 number_of status = status.number
 
@@ -32,7 +32,7 @@ status_without OutOfMemory = 1
 status_without (Help text) = 0
 status_without (Refused text) = 2
 
--- if the line gave no arguments, the output got nothing, unless help was asked for, of which nothing is said
+-- if the line gave no arguments, the output got nothing, unless help was asked for, about which nothing is claimed
 abbrev pub GotWithout : ArgumentsError → Option (List ℕ) → Option (List ℕ) → Type 0
 GotWithout OutOfMemory old got = got ≡ old
 GotWithout (Help text) old got = ⊤
@@ -88,7 +88,7 @@ EndsAsAsked ask trials (Err error) sharding status = status ≡ status_without e
 EndsAsAsked ask trials (Ok args) (Err error) status = status ≡ status_without_part error
 EndsAsAsked ask trials (Ok args) (Ok sharding) status = EndsInPart ask trials args sharding status
 
--- the status is that of a program for this line and these variables, whatever the machine says of threads and colours
+-- the status is that of a program for this line and these variables, whatever the machine reports about threads and colours
 abbrev pub EndsForLine : {R : Type 0} → Gives R → List (Trial R) → Result Arguments ArgumentsError → Result Sharding ShardError
     → ℕ → Type 0
 EndsForLine gives trials line sharding status = (threads : ℕ) × (auto : Bool)
@@ -102,6 +102,6 @@ IsOfReadLine Ends status = (line : Result Arguments ArgumentsError) × IsReadLin
 abbrev pub IsOfReadVariables : (Result Sharding ShardError → ℕ → Type 0) → ℕ → Type 0
 IsOfReadVariables Ends status = (sharding : Result Sharding ShardError) × IsReadSharding sharding × Ends sharding status
 
--- the status is that of a program as it reads some command line and some variables, whatever the machine says of threads and colours
+-- the status is that of a program as it reads some command line and some variables, whatever the machine reports about threads and colours
 abbrev pub EndsByLine : {R : Type 0} → Gives R → List (Trial R) → ℕ → Type 0
 EndsByLine gives trials = IsOfReadLine (λ line. IsOfReadVariables (EndsForLine gives trials line))

@@ -7,15 +7,15 @@ use Rattle.mimic_main.specs.declared.policy.FlushPolicy.{FlushPolicy}
 use Rattle.mimic_main.specs.declared.output.TheConstants.{BLOCK}
 use Rattle.mimic_main.specs.Policy.{goes_out_by}
 
--- the writer that it hands its bytes on to
+-- the writer that its bytes go to
 abbrev pub writer_of : {W : Type 0} → Output W → W
 writer_of output = output.writer
 
--- the bytes that wait to be handed on
+-- the bytes that wait to be written out
 abbrev pub waiting_of : {W : Type 0} → Output W → List ℕ
 waiting_of output = output.waiting.items
 
--- when an output hands its bytes on
+-- when an output writes its bytes out
 abbrev pub flushes_by : {W : Type 0} → Output W → FlushPolicy
 flushes_by output = output.policy
 
@@ -58,10 +58,10 @@ pub record SamePolicy {W : Type 0} (old new : Output W) : Type 0 where
   pub policy : flushes_by new ≡ flushes_by old
   pub lines : has_odd_lines new ≡ has_odd_lines old
 
--- by its policy the output hands on this text, and what waits
+-- by its policy the output writes out this text, and what waits
 abbrev pub goes_out : {W : Type 0} → Output W → List ℕ → Bool
 goes_out output text = goes_out_by (flushes_by output) (ends_line text) (has_odd_lines output)
 
--- so many bytes can wait, too
+-- `count` bytes more can wait, too
 abbrev pub CanWait : {W : Type 0} → Output W → ℕ → Type 0
 CanWait output count = (count < BLOCK) × (length (waiting_of output) + count ≤ BLOCK)

@@ -16,7 +16,7 @@ use Rattle.libtest_mimic.specs.Promise.{Gives}
 use Rattle.mimic_main.specs.declared.job.Job.{Job}
 use Rattle.mimic_main.specs.Output.{HandsOn}
 
--- what a sink over such bytes shows that has counted no fault
+-- what a sink over these bytes shows if it has counted no fault
 abbrev pub faultless : Option (List ℕ) → Shown
 faultless bytes = record { bytes = bytes; faults = 0 }
 
@@ -33,7 +33,7 @@ asked_by gives job = asking gives job.default_threads job.auto_colours job.tests
 abbrev pub OfAsked : {R : Type 0} → Asked R → (Suite R → Type 0) → Type 0
 OfAsked asked P = OfSuite asked.args asked.auto_colours asked.trials P
 
--- what a run left: the list of the selected trials if one is asked, else their report, or what stands after either was refused
+-- what a run left: the list of the selected trials if one is asked, else their report, or what is left if either was refused
 pub record Left {R : Type 0} (asked : Asked R) (old new : Shown) (result : Result Conclusion RunError) : Type 0 where
   pub watch : Watched
   pub listed : asked.args.list ≡ true → OfAsked asked (λ suite. Lists suite old new result)
@@ -41,7 +41,7 @@ pub record Left {R : Type 0} (asked : Asked R) (old new : Shown) (result : Resul
       → OfAsked asked (λ suite. Reports asked.gives
       (threads_of asked.args asked.default_threads) suite old new watch result)
 
--- from old bytes to new ones a run answered so
+-- a run gave this answer, and brought the writer from the old bytes to the new ones
 abbrev pub Ran : {R : Type 0} → Asked R → Option (List ℕ) → Option (List ℕ) → Conclusion → Type 0
 Ran asked old new c = Left asked (faultless old) (faultless new) (Ok c)
 
@@ -52,7 +52,7 @@ GotBeginning asked old got fault =
     (left : Shown) × (answer : Result Conclusion RunError) × Left asked (faultless old) left answer
     × HandsOn left.bytes got × IsFaultOf answer fault
 
--- such counts a run may answer that is asked so: five zeros after a list; else, if each selected trial has just one own outcome, the
+-- the counts that a run may answer if it is asked for this: five zeros after a list; else, if each selected trial has just one own outcome, the
 -- counts of those; and in all as many as there are trials
 pub record IsLawful {R : Type 0} (asked : Asked R) (c : Conclusion) : Type 0 where
   pub listed : asked.args.list ≡ true → c ≡ counts_of [] 0

@@ -27,7 +27,7 @@ impl<R: Clock> libtest_mimic::Clock for MonotonicClock<'_, R> {
     }
 }
 
-/// A clock that stands still, so that a report is always the same.
+/// A clock that never moves, so that a report is always the same.
 #[derive(Clone, Copy, Debug)]
 pub struct StillClock;
 

@@ -108,8 +108,8 @@ fn count_or_one(given: io::Result<NonZeroUsize>) -> usize
 
 impl<'a> Program<'a> {
     /// A program of this name that leaves to the machine what a line leaves open: as many threads as that can run at once, and
-    /// colours if [`shows_colours`](crate::shows_colours) says so of its standard output. It prints faults with their causes, and
-    /// its workers take trials from one queue.
+    /// colours if [`shows_colours`](crate::shows_colours) is true of its standard output. It prints faults with their causes,
+    /// and its workers take trials from one queue.
     pub fn on<M: Machine>(machine: &M, name: &'a str) -> Program<'a>
         ensures name { result.name.now ≡ name.now }
         ensures threads { 1 ≤ result.threads }

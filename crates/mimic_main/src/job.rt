@@ -35,7 +35,7 @@ pub struct Job<'a, R, C> {
 }
 
 impl<R, C> Job<'_, R, C> {
-    // How its output is handed on, to a terminal or not.
+    // When its output is written out, to a terminal or not.
     pub(crate) fn policy(&self, is_terminal: bool) -> FlushPolicy {
         FlushPolicy::of_run(self.args, self.default_threads, is_terminal)
     }
@@ -73,9 +73,9 @@ impl<R: Task + Send + 'static, C: Clock + Drop> Job<'_, R, C> {
     }
 }
 
-/// Runs or lists the trials of the job, hands on what the buffer holds at the end, and gives the writer back.
+/// Runs or lists the trials of the job, writes out what the buffer holds at the end, and gives the writer back.
 ///
-/// A fault in handing on the last bytes is a fault of the run.
+/// A fault in writing the last bytes out is a fault of the run.
 pub fn run_into<R: Task + Send + 'static, W: Write, C: Clock + Drop, T: Spawner + 'static>(
     rt: &T,
     alloc: Global,
@@ -96,7 +96,7 @@ pub fn run_into<R: Task + Send + 'static, W: Write, C: Clock + Drop, T: Spawner 
     (writer, settled(ran, finished))
 }
 
-// What a run returned, if what was left could be handed on.
+// What a run returned, if what was left could be written out.
 fn settled(
     ran: Result<Conclusion, RunError>,
     finished: io::Result<()>,

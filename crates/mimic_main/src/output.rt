@@ -49,7 +49,7 @@ impl<W: Write> Output<W> {
         }
     }
 
-    /// Hands on what is left, flushes the writer and gives it back. With a fault it has got a beginning of all bytes.
+    /// Writes out what is left, flushes the writer and gives it back. With a fault it has got a beginning of all bytes.
     pub fn finish(mut self) -> (W, io::Result<()>)
         ensures whole { OnOk result.1 (Keeps (given_to W.contents self) (W.contents result.0)) }
         ensures beginning { HandsOn (given_to W.contents self) (W.contents result.0) }
@@ -68,7 +68,7 @@ impl<W: Write> Output<W> {
         (writer, finished)
     }
 
-    // Hands on what waits, up to a fault.
+    // Writes out what waits, up to a fault.
     fn hand_on(&mut self) -> io::Result<()>
         ensures bytes { Keeps (given_to W.contents self.old) (given_to W.contents self.new) }
         ensures empty { OnOk result (waiting_of self.new ≡ []) }
@@ -148,7 +148,7 @@ impl<W: Write> Output<W> {
         Ok(text.len())
     }
 
-    // Hands on what waits and then the text, in one write if both fit into a block and the writer takes them at once.
+    // Writes out what waits and then the text, in one write if both fit into a block and the writer takes them at once.
     fn write_through(&mut self, text: &[u8]) -> io::Result<usize>
         ensures bound { WritesAtMost result text.now }
         ensures bytes { WriteAppends (given_to W.contents self.old)
@@ -172,7 +172,7 @@ impl<W: Write> Output<W> {
         written
     }
 
-    // Hands on what waits and the text at once.
+    // Writes out what waits and the text at once.
     fn write_together(&mut self, text: &[u8]) -> io::Result<usize>
         requires { length (waiting_of self.old) + length text.now ≤ BLOCK }
         ensures bound { WritesAtMost result text.now }
@@ -203,7 +203,7 @@ impl<W: Write> Output<W> {
         ensures same { SamePolicy self.old self.new }
         ensures runs { has_stopped self.new ≡ has_stopped self.old }
     {
-        // Of a mark in terse, to copy a slice takes longer than all else.
+        // For a mark in terse, copying a slice takes longer than all else.
         if let [byte] = text {
             self.waiting.push(*byte);
             return;
@@ -213,7 +213,7 @@ impl<W: Write> Output<W> {
         };
     }
 
-    // Whether a text goes out at once, which ends a line or not.
+    // Whether a text goes out at once, by whether it ends a line.
     fn goes_out(&self, ends_line: bool) -> bool
         ensures { result ≡ goes_out_by (flushes_by self.now) ends_line (has_odd_lines self.now) }
     {
@@ -235,7 +235,7 @@ impl<W: Write> Output<W> {
         matches!(self.policy, FlushPolicy::OnFlush)
     }
 
-    // Whether so many bytes more can wait. A whole block does not.
+    // Whether `count` bytes more can wait. A whole block does not.
     fn can_wait(&self, count: usize) -> bool
         ensures { IsTrue result ↔ CanWait self.now count }
     {
@@ -243,7 +243,7 @@ impl<W: Write> Output<W> {
     }
 }
 
-// Takes so many bytes back from the end of what waits, and returns how many of them wait no longer.
+// Takes `count` bytes back from the end of what waits, and returns how many of them wait no longer.
 fn take_back(waiting: &mut ArrayVec<u8, BLOCK>, count: usize) -> usize
     ensures waiting { waiting.new.items ≡ take
         (length waiting.old.items - count) waiting.old.items }
@@ -302,7 +302,7 @@ impl<W: Write> Write for Output<W> {
     }
 }
 
-// Hands the bytes to the writer, in as many writes as it wants, up to a fault. Answers how many it took.
+// Writes the bytes to the writer, in as many writes as it wants, up to a fault. Returns how many it took.
 fn put_all<W: Write>(writer: &mut W, bytes: &[u8]) -> (usize, io::Result<()>)
     ensures bound { result.0 ≤ length bytes.now }
     ensures all { OnOk result.1 (result.0 ≡ length bytes.now) }

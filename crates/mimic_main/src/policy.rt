@@ -5,7 +5,7 @@ ghost use Rattle.mimic_main.specs.Policy.{policy_for};
 
 use libtest_mimic::{Arguments, FormatSetting};
 
-/// When a buffer hands its bytes on to its writer, besides when it has no room and when it is finished.
+/// When a buffer writes its bytes to its writer, besides when it has no room and when it is finished.
 #[derive(Clone, Copy, Debug, PartialEq, Eq)]
 pub enum FlushPolicy {
     /// After each text.
@@ -14,16 +14,16 @@ pub enum FlushPolicy {
     OnFlush,
     /// After each text that ends a line.
     OnLineEnd,
-    /// After the second such text, and each second one from there: before each trial runs whose row is two lines, of which
-    /// the first announces it.
+    /// After the second such text, and each second one from there: so before each trial runs, if its row is two lines, the
+    /// first of which announces it.
     OnEvenLineEnd,
     /// At no other time.
     WhenFull,
 }
 
 impl FlushPolicy {
-    /// How the output of a run with these arguments is handed on, by so many threads if they name no number, to a terminal
-    /// or not. So a run that is killed has left the title and the row of each trial that has ended, in pretty and JSON.
+    /// When the output of a run with these arguments is written out, by `default_threads` threads if these name no number, to a
+    /// terminal or not. A run that is killed has left the title and the row of each trial that has ended, in pretty and JSON.
     ///
     /// With one thread an announcement goes out before its trial runs, in one write with the row before it: a pretty report is
     /// flushed there, and in JSON it is each second line, since the title comes first. With more threads the title goes out

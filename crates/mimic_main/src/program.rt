@@ -31,7 +31,7 @@ pub(crate) enum Fault {
 /// and what it prints of faults.
 #[derive(Clone, Copy, Debug, PartialEq, Eq)]
 pub struct Program<'a> {
-    /// Its name, which stands before what it prints of a fault.
+    /// Its name, which comes before what it prints of a fault.
     pub name: &'a str,
     /// How many threads run the trials if the line leaves it open, at least 1.
     pub threads: usize,
@@ -149,7 +149,7 @@ impl Program<'_> {
         }
     }
 
-    // Prints which shard runs, of which so many trials are, of so many in all.
+    // Prints which shard runs, and that it has `count` of the `total` trials.
     pub(crate) fn print_shard<E: Write>(
         &self,
         shard: Shard,

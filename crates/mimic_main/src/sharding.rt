@@ -70,7 +70,7 @@ impl Sharding {
     }
 
     /// Reads the variables of this environment: the pair first, with it the status file, and last the filter, of which an empty
-    /// one is none. The first that is odd is the error.
+    /// one is none. The first that is invalid is the error.
     pub fn from_env<R: Env + AllocGlobal>(rt: &R) -> Result<Sharding, ShardError>
         ensures { IsReadSharding result }
     {
@@ -89,7 +89,7 @@ impl Sharding {
         })
     }
 
-    // What runs of the trials, and with which arguments, once the status file is touched.
+    // The arguments and the trials of a run by these variables, once the status file is touched.
     pub(crate) fn part<F: Files, C: Clock, R: Drop>(
         self,
         files: &F,
@@ -151,7 +151,7 @@ fn with_filter(mut args: Arguments, filter: Option<String>) -> Result<Arguments,
     Ok(args)
 }
 
-// Makes the file, or gives it the present time as that of its last change. What stands in it stays.
+// Makes the file, or gives it the present time as that of its last change. Its content stays.
 fn touch<F: Files, C: Clock>(files: &F, clock: &C, path: &str) -> io::Result<()> {
     let mut options = OpenOptions::new();
     options.append(true).create(true);

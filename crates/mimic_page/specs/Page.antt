@@ -25,7 +25,7 @@ use Rattle.mimic_page.specs.declared.style.TheConstants.{STYLE}
 
 -- ---- numbers
 
--- how many rows are missing after so many: those that were announced and have not ended
+-- how many rows are missing after `ended` rows: those that were announced and have not ended
 abbrev pub missing_after : ℕ → Option ℕ → ℕ
 missing_after ended None = 0
 missing_after ended (Some announced) = announced - ended
@@ -50,7 +50,7 @@ abbrev pub stop_verdict : Option ℕ → List ℕ
 stop_verdict None = codes "no report"
 stop_verdict (Some announced) = codes "cut"
 
--- the report in a word, if so many failed
+-- the report in a word, if `failed` rows failed
 abbrev pub verdict : ℕ → Ending → List ℕ
 verdict failed (Whole filtered_out nanos) = if failed == 0 then codes "ok" else codes "FAILED"
 verdict failed (Cut stop) = stop_verdict stop.announced
@@ -69,7 +69,7 @@ start_text program counts ending = concat (
 
 -- ---- rows
 
--- what stands before and after a kind, and before the name; an empty kind has no element
+-- what comes before and after a kind, and before the name; an empty kind has no element
 abbrev pub kind_start : List ℕ → List ℕ
 kind_start [] = []
 kind_start (b ∷ kind) = codes "<bdi class=\"kind\">"
@@ -106,13 +106,13 @@ row_text longest entry = concat (row_start entry.outcome ∷ label_part entry.la
 
 -- ---- groups of rows
 
--- the row stands in this group
+-- the row is in this group
 abbrev pub is_in : Group → Outcome → Bool
 is_in Failed o = is_failed o
 is_in Measured o = is_measured o
 is_in Others o = not (is_failed o || is_measured o)
 
--- the law of groups: each row stands in one, and in no other
+-- the law of groups: each row is in one, and in no other
 abbrev pub StandsOnce : Type 0
 StandsOnce = (o : Outcome) → count_by (λ group. is_in group o) (Failed ∷ Measured ∷ Others ∷ []) ≡ 1
 
@@ -124,11 +124,11 @@ heading Failed = codes "<section>\n<h2>Failed</h2>\n<ol>\n"
 heading Measured = codes "<section>\n<h2>Measured</h2>\n<ol>\n"
 heading Others = codes "<section>\n<h2>Passed or ignored</h2>\n<ol>\n"
 
--- what follows so many rows of the report: after each 500 a new list begins, so that lists that are not in sight are not laid out
+-- what follows `count` rows of the report: after each 500 a new list begins, so that lists that are not in sight are not laid out
 abbrev pub list_end : ℕ → List ℕ
 list_end count = if count % 500 == 0 then codes "</ol>\n<ol>\n" else []
 
--- the rows of a group, in their order, if so many rows stand before them in the report
+-- the rows of a group, in their order, if `count` rows come before them in the report
 unfoldable pub rows_after : ℕ → Group → ℕ → List Entry → List ℕ
 rows_after count group longest [] = []
 rows_after count group longest (entry ∷ entries) = row_in group longest entry
@@ -154,12 +154,12 @@ abbrev pub running_part : Option LabelRead → List ℕ
 running_part None = []
 running_part (Some label) = concat (codes "; running: " ∷ label_part (label_read label) (codes "</bdi>" ∷ []))
 
--- what is said of a report without its end, after so many rows
+-- what is written about a report without its end, after `ended` rows
 unfoldable pub stop_text : ℕ → Stop → List ℕ
 stop_text ended stop = concat (codes "<p class=\"cut\">" ∷ extent_text ended stop ∷ missing_part ended stop.announced
     ∷ running_part stop.running ∷ codes "</p>\n" ∷ [])
 
--- what is said of how a report ended
+-- what is written about how a report ended
 unfoldable pub ending_text : ℕ → Ending → List ℕ
 ending_text ended (Whole filtered_out nanos) = concat (codes "<p>" ∷ decimal filtered_out
     ∷ codes " filtered out; finished in " ∷ exact_seconds nanos ∷ codes "s</p>\n" ∷ [])
@@ -201,7 +201,7 @@ page_text program entries ending = concat (start_text program (counts_of (outcom
 
 -- ---- laws
 
--- each row stands in one group, and texts are no markup
+-- each row is in one group, and texts are no markup
 pub record PageLaws : Type 0 where
   pub once : StandsOnce
   pub escapes : EscapeLaws

@@ -12,7 +12,7 @@ use mimic_printer::{Piece, Place, Sink, WriteFault, put_pieces};
 use mimic_trial::{Conclusion, Outcome};
 use std::io::Write;
 
-// Writes a kind and a name between what stands before and after them.
+// Writes a kind and a name between what comes before and after them.
 macro_rules! put_label {
     ($sink:expr, $label:expr, $start:expr, $($end:expr),+) => {{
         let kind = $label.kind.as_str();
@@ -29,7 +29,7 @@ macro_rules! put_label {
     }};
 }
 
-// Returns what stands before and after a kind.
+// Returns what comes before and after a kind.
 fn kind_tags(kind: &str) -> (&'static str, &'static str)
     ensures start { result.0.now ≡ kind_start kind.now }
     ensures end { result.1.now ≡ kind_end kind.now }
@@ -96,7 +96,7 @@ fn verdict(failed: u64, ending: &Ending) -> &'static str
     }
 }
 
-// Writes how the report ended, after so many rows.
+// Writes how the report ended, after `ended` rows.
 #[tactic(auto, unfolding(crate::specs::Page::ending_text))]
 pub(crate) fn put_ending<W: Write>(
     sink: &mut Sink<W>,

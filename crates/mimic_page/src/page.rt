@@ -11,10 +11,10 @@ use mimic_printer::{Sink, WriteFault};
 use mimic_trial::Outcome;
 use std::io::Write;
 
-// How many rows of a report stand in one list at most.
+// How many rows of a report are in one list at most.
 const LIST: usize = 500;
 
-// The rows that stand under one heading.
+// The rows that are under one heading.
 #[derive(Clone, Copy, Debug)]
 pub(crate) enum Group {
     Failed,
@@ -38,7 +38,7 @@ pub fn write_page<'a, W: Write>(
     ensures page { Puts W.contents sink.old sink.new
         (page_text program.now (map entry_read read.now.rows.items) read.now.ending) result }
 
-    // No row is left out, and none stands there twice. What stands in the page has one reading, and is no markup.
+    // No row is left out, and none is there twice. Each text can be unescaped, and escaped text has no markup.
     ensures laws { PageLaws }
 {
     let RowsRead { rows, ending } = read;
@@ -52,7 +52,7 @@ pub fn write_page<'a, W: Write>(
     put_end(sink)
 }
 
-// Returns how many rows are missing after so many.
+// Returns how many rows are missing after `ended` rows.
 fn missing(ended: u64, ending: &Ending) -> u64
     ensures { result ≡ missing_in ended ending.now }
 {
@@ -112,7 +112,7 @@ fn time_of(outcome: &Outcome) -> u64
     }
 }
 
-// Writes the row if it stands in the group.
+// Writes the row if it is in the group.
 fn put_row_of<W: Write>(
     sink: &mut Sink<W>,
     group: Group,
@@ -129,7 +129,7 @@ fn put_row_of<W: Write>(
     Ok(())
 }
 
-// Returns what follows so many rows.
+// Returns what follows `count` rows.
 fn list_end(count: usize) -> &'static [u8]
     ensures { result.now ≡ list_end count }
 {

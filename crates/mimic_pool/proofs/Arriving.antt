@@ -1,4 +1,4 @@
--- What arrives of outcomes by place at the places that are missing.
+-- Outcomes that arrive at the places that are missing.
 use Rattle.std.proofs.Common.{◌≡◌, ◌∙◌, ℕ, suc, zero, ◌+◌, ◌<◌, ◌≤◌, eqb, Bool, true, false, not, ◌||◌, cond, List, [], ◌∷◌, ◌++◌, Some, filter, drop, is_some, length, refl, sym, ap, subst, append_assoc, inl, inr, arith}
 use Rattle.std.specs.Prelude.{slice_get}
 use Rattle.std.specs.List.{range_with_len}
@@ -12,7 +12,7 @@ use Rattle.mimic_pool.specs.Arrivals.{Arrived, has_come, missing_of, rows_after}
 use Rattle.mimic_pool.proofs.FirstArrivals.{again_kept, first_kept}
 use Rattle.mimic_pool.proofs.Seating.{or_false, place_if}
 
--- of so many places from this one on, those at which nothing came
+-- of `count` places from this one on, those at which nothing came
 abbrev pub missing_from : ℕ → ℕ → List Placed → List ℕ
 missing_from place count rows = filter (λ p. not (has_come p rows)) (range_with_len place count)
 

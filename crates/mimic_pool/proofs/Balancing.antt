@@ -61,7 +61,7 @@ module _ {V : Type 0} where
   set_twice (u ∷ us) zero s w = refl
   set_twice (u ∷ us) (suc a) s w = ap (λ l. u ∷ l) (set_twice us a s w)
 
-  -- to write at two places, in either order, where what was written before is written over
+  -- what is written at a place and then written over makes no difference, though another place was written between
   set_two : (views : List V) (a b : ℕ) (s w : V) → b ≢ a → set (set (set views a s) b s) a w ≡ set (set views a w) b s
   set_two [] a b s w apart = refl
   set_two (u ∷ us) zero zero s w apart = absurd (apart refl)
@@ -81,7 +81,7 @@ module _ {V : Type 0} where
   sum_one f (u ∷ us) zero v at = let e : f u ≡ f v = ap f (some-injective u v at) in omega (arith, sum_by-cons f u us)
   sum_one f (u ∷ us) (suc port) v at = let e = sum_one f us port v at in omega (arith, sum_by-cons f u us)
 
-  -- where the sum is nothing, and who has nothing of it gives nothing, nothing is given
+  -- if the sum is 0, and an element whose number is 0 gives nothing, then nothing is given
   flat_none : {Y : Type 0} (n : V → ℕ) (f : V → List Y) (views : List V) → ((port : ℕ) (v : V) → get_elem? views port ≡ some v → n v ≡ 0 → f v ≡ []) → sum_by n views ≡ 0 → flat_map f views ≡ []
   flat_none n f [] idle none = refl
   flat_none n f (u ∷ us) idle none =

@@ -24,7 +24,7 @@ module _ {X : Type 0} where
   assigned_more k p (r' ∷ rs) (b' ∷ bs) r b at same =
       ap (λ l. record { place = k; runner = r'; ignored = b' } ∷ l) (assigned_more (k + 1) p rs bs r b (omega (arith, at)) (omega (arith, same)))
 
-  -- what the worker w has of all items, where t says whether it gets the last one
+  -- what the worker w has of all items; t says whether it gets the last one
   dealt_by : (workers p w : ℕ) (S : List (Share X)) (d new : Share X) (items : List (Assigned X)) (item : Assigned X)
       → item.place ≡ p → p % workers < length S
       → new.items.items ≡ (slice_index_or S (p % workers) d).items.items ++ item ∷ []

@@ -1,4 +1,4 @@
--- A trial is put into the share that is being filled.
+-- A trial is put into the batch that is being filled.
 use Rattle.std.proofs.Common.{◌≡◌, ◌∙◌, ◌∷◌, ◌++◌, [], All, List, ap, append_assoc, subst, sym}
 use Rattle.std.specs.Prelude.{Err, Ok, OnOk, Result}
 use Rattle.std.proofs.lemmas.List.Elements.{All-push}

@@ -1,4 +1,4 @@
--- First arrivals: one more arrival, by case, and the places where nothing came.
+-- First arrivals: one more arrival, by case, and the places at which nothing came.
 use Rattle.std.proofs.Common.{◌≡◌, ◌∙◌, ℕ, suc, zero, ◌+◌, ◌<◌, ◌≤◌, nat_lt, eqb, Bool, true, false, not, ◌&&◌, ◌||◌, cond, List, [], ◌∷◌, ◌++◌, filter, refl, sym, ap, append_assoc, append-nil, inl, inr, arith}
 use Rattle.std.specs.List.{range_with_len}
 use Rattle.std.proofs.lemmas.List.Folds.{list_any-append}
@@ -47,7 +47,7 @@ came_before n p a earlier low out here =
     let has : has_come a.0 earlier ≡ true = not_true (has_come a.0 earlier) (ap (λ t. t && not (has_come a.0 earlier)) (sym low') ∙ out) in
     ap (λ q. has_come q earlier) e ∙ has
 
--- a place below n is among the first arrivals exactly where it is among the arrivals
+-- a place below n is among the first arrivals exactly if it is among the arrivals
 after_has : (n p : ℕ) (earlier arrivals : List Placed) → nat_lt p n ≡ true
     → (has_come p earlier || has_come p (first_after n earlier arrivals)) ≡ (has_come p earlier || has_come p arrivals)
 after_has n p earlier [] low = refl
@@ -105,7 +105,7 @@ said d p h low e =
     let yes : nat_lt p d.places ≡ true = grind (arith, nat_tests) in
     ap (λ b. cond b Again First) (sym e) ∙ ap (λ t. cond t (cond (has_come p d.rows) Again First) Stranger) (sym yes)
 
--- ---- the places where nothing came
+-- ---- the places at which nothing came
 
 missing_same : (n : ℕ) (arrivals : List Placed) (from len : ℕ) → from + len ≤ n
     → filter (λ p. not (has_come p (first_arrivals n arrivals))) (range_with_len from len) ≡ filter (λ p. not (has_come p arrivals)) (range_with_len from len)
@@ -116,7 +116,7 @@ missing_same n arrivals from (suc len) low =
     ap (λ b. cond (not b) (from ∷ rest) rest) (after_has n from [] arrivals here)
     ∙ ap (λ l. cond (not (has_come from arrivals)) (from ∷ l) l) (missing_same n arrivals (from + 1) len (omega arith))
 
--- the places of the first arrivals, and then those where nothing came, are the order of the arrivals
+-- the places of the first arrivals, and then those at which nothing came, are the order of the arrivals
 pub order_same : (n : ℕ) (rows : List Placed) (missing : List ℕ) → missing ≡ filter (λ p. not (has_come p rows)) (range_with_len 0 n)
     → (arrivals : List Placed) → rows ≡ first_arrivals n arrivals → places_of rows ++ missing ≡ order_of n arrivals
 order_same n rows missing is arrivals was =

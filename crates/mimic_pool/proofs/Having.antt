@@ -19,7 +19,7 @@ use Rattle.mimic_pool.specs.declared.desk.Desk.TheInside.{Inside}
 use Rattle.mimic_pool.proofs.Seating.{lies_below, order_shown, row_shown, shown_whole}
 use Rattle.mimic_pool.proofs.Settling.{all_settled}
 
--- ---- rows that are put where they stand already
+-- ---- rows that are put at places that have them already
 
 put_same : (rows : List Placed) (outcomes : List Outcome) → AllByRecursion (λ row. slice_get outcomes row.0 ≡ Some row.1) rows → put_all rows outcomes ≡ outcomes
 put_same [] outcomes all = refl

@@ -148,7 +148,7 @@ module _ {X : Type 0} (gives : Gives X) (mode : Bool) (rs : List X) (bs : List B
   joined_whole whole joined are all outcomes len =
       joined_own joined outcomes (subst (λ l. AnswersPart gives mode (assigned_from 0 rs bs) l (flat_map (λ rows. rows) joined)) (are.all all) are.answered) len
 
-  -- what stands at the place is own, or it is what stood there before
+  -- what is at the place is own, or it is what was there before
   abbrev pub IsOwnOr : List Outcome → List Outcome → ℕ → Type 0
   IsOwnOr old new p = IsOutcomeAt gives mode (assigned_from 0 rs bs) new p ⊎ ((o : Outcome) → slice_index_or new p o ≡ slice_index_or old p o)
 

@@ -23,13 +23,13 @@ head_lacks : (x : ℕ) (ys : List ℕ) → IsDistinct eqb (x ∷ ys) → Lacks x
 unfolding IsDistinct
 head_lacks x ys d = d.0
 
--- what lacks x is not changed where x is left out
+-- a list that lacks x is not changed if x is left out
 left_out : (x : ℕ) (ys : List ℕ) → Lacks x ys → filter (λ p. not (eqb p x)) ys ≡ ys
 left_out x [] h = refl
 left_out x (y ∷ ys) h =
     ap (λ b. cond (not b) (y ∷ filter (λ p. not (eqb p x)) ys) (filter (λ p. not (eqb p x)) ys)) (flip x y h.0) ∙ ap (λ l. y ∷ l) (left_out x ys h.1)
 
--- a place that stands in a list without doubles, pulled to the front
+-- a place that is in a list without doubles, pulled to the front
 pub pulled : (x : ℕ) (ys : List ℕ) → IsDistinct eqb ys → list_any (eqb x) ys ≡ true → IsPermutation ys (x ∷ filter (λ p. not (eqb p x)) ys)
 pulled x [] d h = absurd (cc)
 pulled x (y ∷ ys) d h =
@@ -90,7 +90,7 @@ filter_twice xs x (y ∷ ys) =
       | false ↦ ap (λ l. cond (not (list_any (eqb y) xs)) (y ∷ l) l) rest
     ]
 
--- a place that stands in ys and isn't x stands there without x
+-- a place that is in ys and isn't x is in ys without x, too
 still_in : (q x : ℕ) (ys : List ℕ) → eqb q x ≡ false → list_any (eqb q) ys ≡ true → list_any (eqb q) (filter (λ p. not (eqb p x)) ys) ≡ true
 still_in q x [] other h = absurd (cc)
 still_in q x (y ∷ ys) other h =
@@ -112,7 +112,7 @@ all_kept : (ys : List ℕ) → filter (λ p. not (list_any (eqb p) [])) ys ≡ y
 all_kept [] = refl
 all_kept (y ∷ ys) = ap (λ l. y ∷ l) (all_kept ys)
 
--- places that all stand in ys, and then the others of ys
+-- places that are all in ys, and then the others of ys
 pub split_whole : (xs ys : List ℕ) → IsDistinct eqb xs → IsDistinct eqb ys → ((q : ℕ) → list_any (eqb q) xs ≡ true → list_any (eqb q) ys ≡ true)
     → IsPermutation ys (xs ++ filter (λ p. not (list_any (eqb p) xs)) ys)
 split_whole [] ys dx dy within = let P : List ℕ → Type 0 = λ l. IsPermutation ys l in subst P (sym (all_kept ys)) (IsPermutation-refl ys)
@@ -130,7 +130,7 @@ split_whole (x ∷ xs) ys dx dy within =
     let P : List ℕ → Type 0 = λ l. IsPermutation ys (x ∷ (xs ++ l)) in
     subst P (filter_twice xs x ys) all
 
--- the rows have the place where it is among their places
+-- the rows have the place exactly if it is among their places
 pub has_place : (p : ℕ) (rows : List Placed) → list_any (eqb p) (places_of rows) ≡ has_come p rows
 has_place p [] = refl
 has_place p (r ∷ rs) = ap (λ t. eqb p r.0 || t) (has_place p rs)
@@ -141,7 +141,7 @@ missing_is rows (y ∷ ys) =
     ap (λ b. cond (not b) (y ∷ filter (λ p. not (list_any (eqb p) (places_of rows))) ys) (filter (λ p. not (list_any (eqb p) (places_of rows))) ys)) (has_place y rows)
     ∙ ap (λ l. cond (not (has_come y rows)) (y ∷ l) l) (missing_is rows ys)
 
--- the places of rows, where each stands once and below n, and then the missing ones are all places, each once
+-- the places of rows, if each comes once and is below n, and then the missing ones are all places, each once
 pub order_whole : (n : ℕ) (rows : List Placed) (missing : List ℕ) → IsDistinct eqb (places_of rows) → ((p : ℕ) → list_any (eqb p) (places_of rows) ≡ true → p < n)
     → missing ≡ filter (λ p. not (has_come p rows)) (range_with_len 0 n) → IsPermutation (places_of rows ++ missing) (range_with_len 0 n)
 order_whole n rows missing distinct below is =

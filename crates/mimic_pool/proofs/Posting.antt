@@ -24,7 +24,7 @@ flag_low (flag ∷ flags) (suc p) is = let rest = flag_low flags p is in omega a
 pub order_low : (board : Inside) → IsBoard board → (p : ℕ) → list_any (eqb p) board.rows.order ≡ true → p < length board.reported.items
 order_low board is p h = flag_low board.reported.items p (sym (is.known p) ∙ h)
 
--- what a look at the flag of a place says of the order
+-- what the flag of a place shows about the order
 pub flag_known : (board : Inside) → IsBoard board → (p : ℕ) (now b : Bool) → p < length board.reported.items → now ≡ slice_index_or board.reported.items p now → now ≡ b → list_any (eqb p) board.rows.order ≡ b
 flag_known board is p now b low at said = is.known p ∙ (get_or_default board.reported.items p false now low ∙ (sym at ∙ said))
 

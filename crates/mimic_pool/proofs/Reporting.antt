@@ -79,7 +79,7 @@ stands_in : (p : ℕ) (rows : List Placed) → list_any (eqb p) (places_of rows)
 stands_in p [] = refl
 stands_in p (row ∷ rows) = ap (λ t. eqb p row.0 || t) (stands_in p rows)
 
--- the board accepts a report exactly where it is a first one
+-- the board accepts a report exactly if it is a first one
 module _ (board : Posted) (row : Placed) (reports : List Placed) (order : board.order ≡ places_of (first_arrivals board.places reports)) where
   grown : first_arrivals board.places (reports ++ row ∷ [])
       ≡ cond (accepts board row.0) (first_arrivals board.places reports ++ row ∷ []) (first_arrivals board.places reports)

@@ -130,7 +130,7 @@ kept_found [] i low = absurd (omega arith)
 kept_found (o ∷ kept) zero low = refl
 kept_found (o ∷ kept) (suc i) low = kept_found kept i (omega arith)
 
--- what lies there compares as the outcome exactly if it is the outcome
+-- what was found compares as the outcome exactly if it is the outcome
 same_found : (seat got : Option (Bor Outcome)) (o : Outcome) → option_copied got ≡ Some o → (option_eq (λ x y. same_outcome x.now y.now) seat got ≡ true) ↔ (option_copied seat ≡ Some o)
 same_found seat None o is = absurd (cc)
 same_found None (Some got) o is = (λ e. absurd (cc), λ e. absurd (cc))

@@ -1,4 +1,4 @@
--- What the seats and the order of a desk show. `lying` says what lies at each place.
+-- What the seats and the order of a desk show. `lying` gives the outcome at each place.
 use Rattle.std.proofs.Common.{◌≡◌, ◌≢◌, ℕ, suc, zero, ◌+◌, ◌-◌, ◌<◌, ◌≤◌, ◌==◌, eqb, Bool, true, false, not, ◌||◌, cond, List, [], ◌∷◌, ◌++◌, Option, Some, None, is_some, filter, length, length-append, map, slice_index_or, refl, sym, ◌∙◌, ap, ap₂, subst, vec_capacity, inl, inr, arith}
 use Rattle.std.specs.Prelude.{slice_get}
 use Rattle.std.specs.List.{list_any, IsDistinct, range_with_len}
@@ -22,7 +22,7 @@ use Rattle.mimic_pool.specs.declared.desk.Desk.TheInside.{Inside}
 use Rattle.mimic_pool.proofs.Ordering.{order_whole}
 use Rattle.std.specs.List.Sorted.{IsPermutation}
 
--- something lies at each place in the order
+-- something is at each place in the order
 AllTaken : (ℕ → Option Outcome) → List ℕ → Type 0
 AllTaken lying order = (q : ℕ) → list_any (eqb q) order ≡ true → is_some (lying q) ≡ true
 
@@ -123,7 +123,7 @@ module _ (lying : ℕ → Option Outcome) (p : ℕ) (o : Outcome) (lies : lying 
       later_row x number (seated_at xs lying) (lying x) (taken_first lying x xs all)
       ∙ row_got xs number (taken_rest lying x xs all) at
 
-  -- the row of this number is the outcome that lies at the place of this number
+  -- the row of this number has the outcome at the place of this number
   pub row_numbered : (order : List ℕ) (number : ℕ)
       → ((q : ℕ) → list_any (eqb q) order ≡ is_some (lying q))
       → slice_get order number ≡ Some p → slice_get (seated_at order lying) number ≡ Some (p, o)
@@ -155,7 +155,7 @@ module _ (order : List ℕ) (p : ℕ) where
   in_more : (q : ℕ) (b : Bool) → eqb q p ≡ b → list_any (eqb q) (order ++ p ∷ []) ≡ (list_any (eqb q) order || (b || false))
   in_more q b is = list_any-append (eqb q) order (p ∷ []) ∙ ap (λ t. list_any (eqb q) order || (t || false)) is
 
-  -- if a flag of each place says whether it is in the order, and that of the place behind it is set, the flags say it of the longer order
+  -- if the flags say which places are in the order, the flags with that of p set say which are in the order with p
   pub flags_more : (flag now : ℕ → Bool) → ((q : ℕ) → list_any (eqb q) order ≡ flag q) → now p ≡ true → ((q : ℕ) → q ≢ p → now q ≡ flag q)
       → (q : ℕ) → list_any (eqb q) (order ++ p ∷ []) ≡ now q
   flags_more flag now known here others q =
@@ -179,7 +179,7 @@ module _ (order : List ℕ) (p : ℕ) where
         let len = length-append order (p ∷ []) in
         omega arith
 
--- what lies at places, and what lies there once something lies at one more
+-- what is at places, and what is there once something is at one more
 module _ (lying now : ℕ → Option Outcome) (p : ℕ) (others : (q : ℕ) → q ≢ p → now q ≡ lying q) where
   -- the rows of an order without that place stay
   shown_others : (order : List ℕ) → list_any (eqb p) order ≡ false
@@ -224,7 +224,7 @@ some_there [] i low = absurd (omega arith)
 some_there (o ∷ outcomes) zero low = refl
 some_there (o ∷ outcomes) (suc i) low = some_there outcomes i (omega arith)
 
--- what a seat says by itself
+-- what a seat shows by itself
 free_seat : (outcomes : List Outcome) (seat : ℕ) → seat ≤ length outcomes → (seat == 0) ≡ not (is_some (outcome_in outcomes seat))
 free_seat outcomes zero low = refl
 free_seat outcomes (suc index) low = elim (eqb_tells (suc index) 0) [
@@ -239,7 +239,7 @@ some_below outcomes (seat ∷ seats) zero some = omega arith
 some_below outcomes (seat ∷ seats) (suc p) some = let rest = some_below outcomes seats p some in
     omega arith
 
--- where the seats are free nothing came, so that the same places are missing
+-- at places whose seats are free nothing came, so that the same places are missing
 filter_same : (f g : ℕ → Bool) → ((p : ℕ) → f p ≡ g p) → (places : List ℕ)
     → filter f places ≡ filter g places
 filter_same f g same [] = refl
@@ -247,7 +247,7 @@ filter_same f g same (p ∷ places) =
     ap₂ (λ t rest. cond t (p ∷ rest) rest) (same p) (filter_same f g same places)
 
 module _ (desk : Inside) (is : IsSeated desk) where
-  -- whether something lies at the place is said by its seat
+  -- the seat of a place shows whether something is there
   pub free_at : (p : ℕ)
       → (slice_index_or desk.seats.items p 0 == 0) ≡ not (is_some (lying_at desk p))
   free_at p = free_seat desk.outcomes.items (slice_index_or desk.seats.items p 0) (is.found p)
@@ -258,7 +258,7 @@ module _ (desk : Inside) (is : IsSeated desk) where
       ∙ ap not (sym (has_shown (lying_at desk) desk.order.items is.taken p))))
       (range_with_len 0 desk.places)
 
-  -- something lies only at places that the desk has
+  -- something is only at places that the desk has
   pub lies_below : (p : ℕ) → is_some (lying_at desk p) ≡ true → p < desk.places
   lies_below p some = omega
       (arith, is.within, some_below desk.outcomes.items desk.seats.items p some)
@@ -321,7 +321,7 @@ not_same false false e = refl
 
 module _ (desk : Inside) (is : IsSeated desk) where
   module _ (p seat : ℕ) (at : seat ≡ slice_index_or desk.seats.items p 0) where
-    -- what a look at the seat of a place says of the order
+    -- what the seat of a place shows about the order
     seat_known : (b : Bool) → (seat == 0) ≡ not b → list_any (eqb p) desk.order.items ≡ b
     seat_known b said =
         is.taken p ∙ not_same (is_some (lying_at desk p)) b
@@ -397,7 +397,7 @@ module _ (desk : Inside) (is : IsSeated desk) where
             order_room = omega (arith, is.order_room, places, order_room);
           }
 
--- ---- what lies at a place of a desk
+-- ---- what is at a place of a desk
 
 in_order : (order : List ℕ) (number p : ℕ) → number < length order → p ≡ slice_index_or order number p → list_any (eqb p) order ≡ true
 in_order [] number p low at = absurd (omega arith)
@@ -419,7 +419,7 @@ module _ (desk : Inside) (is : IsSeated desk) where
       let count = ap length (order_shown (lying_at desk) desk.order.items is.taken) in
       omega (arith, low, count, length-map (arrived_of desk).rows (λ r. r.0), ap (λ d. length d.rows) view)
 
-  -- the place of a number in the order, its seat, and what lies there
+  -- the place of a number in the order, its seat, and what is there
   module _ (number p seat : ℕ) (low : number < length desk.order.items)
       (at : p ≡ slice_index_or desk.order.items number p)
       (seated : seat ≡ slice_index_or desk.seats.items p 0) where

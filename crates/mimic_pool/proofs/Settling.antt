@@ -43,6 +43,6 @@ module _ (desk : Inside) (seated : IsSeated desk) (joined : List Outcome) where
 pub settled : (desk : Inside) (shown : Arrived) (joined : List Outcome) → IsSeated desk → arrived_of desk ≡ shown → ((p : ℕ) → p < shown.places → AgreesAt shown.rows joined p) → IsSettled shown joined
 settled desk shown joined seated is = subst (λ (d : Arrived). ((p : ℕ) → p < d.places → AgreesAt d.rows joined p) → IsSettled d joined) is (inside_settled desk seated joined)
 
--- two outcomes that are told alike are the same
+-- two outcomes are the same if they are so in `Some`
 pub some_same : (a b : Outcome) → Some a ≡ Some b → a ≡ b
 some_same a b e = cc

@@ -1,4 +1,4 @@
--- What is left of a share, as a source.
+-- What is left of a share or of a batch, as a source.
 use Rattle.std.proofs.Common.{◌≡◌, ◌∙◌, ◌∷◌, ◌++◌, ◌+◌, ◌≤◌, ℕ, [], All, Bool, List, ap, append-nil, arith, length, subst, sym}
 use Rattle.std.specs.Prelude.{IfSome, MatchOption, None, Option, Some}
 use Rattle.std.proofs.lemmas.List.Elements.{All-head, All-tail}

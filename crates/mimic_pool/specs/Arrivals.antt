@@ -41,7 +41,7 @@ pub record Arrived : Type 0 where
   pub places : ℕ
   pub rows : List Placed
 
--- what a desk says of an arrival at the place
+-- what a desk answers to an arrival at the place
 abbrev pub arrival_of : Arrived → ℕ → Arrival
 arrival_of desk place = if nat_lt place desk.places then
     (if has_come place desk.rows then Again else First) else Stranger

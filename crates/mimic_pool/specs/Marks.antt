@@ -30,7 +30,7 @@ kept_of (outcome.Failed failed) = outcome.Failed failed ∷ []
 kept_of outcome.Ignored = []
 kept_of (outcome.Measured measured) = outcome.Measured measured ∷ []
 
--- the outcome of a mark, where its own and all later kept ones are given
+-- the outcome of a mark, given the kept outcomes of its own row and of all later ones
 abbrev pub outcome_by : Mark → List Outcome → Outcome
 outcome_by Passed kept = outcome.Passed
 outcome_by Ignored kept = outcome.Ignored

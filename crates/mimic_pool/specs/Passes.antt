@@ -1,4 +1,4 @@
--- What a clause says of a pass of the queue.
+-- What clauses say about a pass of the queue.
 use Rattle.atomic_blocks.specs.declared.web.Seat.{Seat}
 use Rattle.crossbeam_queue.specs.declared.seg_queue.Going.{Going}
 

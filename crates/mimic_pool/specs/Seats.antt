@@ -1,4 +1,4 @@
--- What a desk keeps inside: the seats of its places, the outcomes that lie there, and the places in order of arrival. No public clause names these words.
+-- What a desk keeps inside: the seats of its places, the outcomes in them, and the places in order of arrival. No public clause names these words.
 use Rattle.std.specs.Prelude.{ℕ, zero, suc, ◌≡◌, ◌+◌, ◌≤◌, List, Option, Some, None, is_some, length, slice_get, slice_index_or, vec_capacity, eqb}
 use Rattle.std.specs.List.{flat_map, list_any, IsDistinct}
 use Rattle.mimic_trial.specs.declared.outcome.Outcome.{Outcome}
@@ -7,7 +7,7 @@ use Rattle.mimic_trial.specs.Places.{Placed, placed_if}
 use Rattle.mimic_pool.specs.Arrivals.{Arrived}
 use Rattle.mimic_pool.specs.declared.desk.Desk.TheInside.{Inside}
 
--- what lies in the seat: nothing in 0, and else the outcome of this number, counted from 1
+-- the outcome in the seat: none in 0, and else the one of this number, counted from 1
 abbrev pub outcome_in : List Outcome → ℕ → Option Outcome
 outcome_in outcomes zero = None
 outcome_in outcomes (suc index) = slice_get outcomes index
@@ -17,11 +17,11 @@ pub record Begins (outcomes : List Outcome) : Type 0 where
   pub passed : slice_get outcomes 0 ≡ Some Passed
   pub ignored : slice_get outcomes 1 ≡ Some Ignored
 
--- what lies at the place of a desk with this inside: nothing if the seats don't go so far
+-- the outcome at the place of a desk with this inside: none if the seats don't go so far
 abbrev pub lying_at : Inside → ℕ → Option Outcome
 lying_at desk place = outcome_in desk.outcomes.items (slice_index_or desk.seats.items place 0)
 
--- the places in this order, each with what lies there; a place where nothing lies is left out
+-- the places in this order, each with its outcome; a place that has none is left out
 abbrev pub seated_at : List ℕ → (ℕ → Option Outcome) → List Placed
 seated_at order lying = flat_map (λ place. placed_if place (lying place)) order
 
@@ -29,7 +29,7 @@ seated_at order lying = flat_map (λ place. placed_if place (lying place)) order
 abbrev pub arrived_of : Inside → Arrived
 arrived_of desk = record { places = desk.places; rows = seated_at desk.order.items (lying_at desk) }
 
--- a place is in the order exactly if something lies there; none is there twice, each seat's outcome is there, no seat is of a place that the desk doesn't have, and there is room for all
+-- a place is in the order exactly if something is there; none is there twice, each seat's outcome is there, no seat is of a place that the desk doesn't have, and there is room for all
 pub record IsSeated (desk : Inside) : Type 0 where
   pub taken : (place : ℕ) → list_any (eqb place) desk.order.items ≡ is_some (lying_at desk place)
   pub distinct : IsDistinct eqb desk.order.items

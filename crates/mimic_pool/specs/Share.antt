@@ -1,4 +1,4 @@
--- Shares: which worker runs which of the trials.
+-- Shares and batches of trials, and which trials are in a worker's share.
 use Rattle.std.specs.Prelude.{ℕ, ◌≡◌, ◌+◌, ◌%◌, ◌<◌, ◌≤◌, ◌==◌, All, Bool, List, [], ◌∷◌, filter, map, slice_index_or, vec_capacity}
 use Rattle.mimic_pool.specs.declared.share.Assigned.{Assigned}
 use Rattle.mimic_pool.specs.declared.share.Share.{Share}

@@ -118,7 +118,7 @@ impl Board {
         self.rows.order()
     }
 
-    /// How many of them were taken.
+    /// How many of the rows that were reported were taken.
     pub fn taken(&self) -> usize
         ensures taken { result ≡ self.now.taken }
         ensures history { HasHistory self.now }

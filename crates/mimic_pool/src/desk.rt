@@ -18,7 +18,7 @@ use mimic_trial::Outcome;
 use std::alloc::{AllocError, Global};
 use std::marker::Model;
 
-/// What a desk says of an arrival.
+/// What a desk answers to an arrival.
 #[derive(Clone, Copy, Debug, PartialEq, Eq)]
 pub enum Arrival {
     /// It is the first one at its place, and the desk keeps it.
@@ -124,8 +124,8 @@ impl Desk {
         free_seats(self.seats.as_slice(), self.places)
     }
 
-    /// Compares the first arrivals with the outcomes that workers returned, which stand by place. An `Err` names the
-    /// least place that differs. Places at which nothing arrived are passed over.
+    /// Compares the first arrivals with the outcomes that workers returned: `joined` has that of each place at its index. An
+    /// `Err` names the least place that differs. Places at which nothing arrived are passed over.
     pub fn settle(&self, joined: &[Outcome]) -> Result<(), usize>
         requires { length joined.now ≡ self.now.places }
         ensures settled { MatchResult result
@@ -161,7 +161,7 @@ impl Desk {
         true
     }
 
-    /// At each place at which nothing arrived, rising, the outcome of that place arrives. The `outcomes` stand by place.
+    /// Lets an outcome arrive at each place at which nothing has, in rising order: the one that `outcomes` has at that index.
     pub fn arrive_missing(&mut self, outcomes: Vec<Outcome>)
         requires { vec_len outcomes ≡ self.old.places }
         ensures places { self.new.places ≡ self.old.places }
@@ -218,7 +218,7 @@ impl<'a> Iterator for Missing<'a> {
     }
 }
 
-// Of this many places those whose seats are free, rising.
+// Of this number of places those whose seats are free, rising.
 fn free_seats(seats: &[usize], places: usize) -> Missing<'_>
     ensures { missing_items result ≡ free_from 0 places seats.now }
 {
@@ -269,7 +269,7 @@ fn seated(outcome: Outcome, outcomes: &mut Vec<Outcome>) -> usize
     }
 }
 
-// What lies in the seat.
+// The outcome in the seat.
 fn lying(outcomes: &[Outcome], seat: usize) -> Option<&Outcome>
     ensures { option_copied result ≡ outcome_in outcomes.now seat }
 {
@@ -277,7 +277,7 @@ fn lying(outcomes: &[Outcome], seat: usize) -> Option<&Outcome>
     outcomes.get(index)
 }
 
-// Whether nothing lies there, or this outcome.
+// Whether the seat is empty, or has this outcome.
 fn agrees(seat: Option<&Outcome>, joined: &Outcome) -> bool
     ensures { IsTrue result ↔ ((o : AnOutcome) → option_copied seat.entry ≡ Some o
         → joined.now ≡ o) }

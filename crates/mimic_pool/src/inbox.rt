@@ -21,7 +21,7 @@ const BATCH: usize = 256;
 const MOST_TURNS: usize = 32;
 
 /// The rows that workers report to one board, in the order of their reports. Contracts see what the board is for, and not
-/// what lies behind its lock.
+/// what is behind its lock.
 ///
 /// Only one thread takes them, since an inbox has no copy and `next` may change it. No call keeps the lock.
 #[derive(Drop)]
@@ -29,7 +29,7 @@ pub struct Inbox {
     board: Arc<SharedBoard>,
     // Rows that were taken from the board, and not yet from the inbox.
     batch: VecDeque<(usize, Outcome)>,
-    // How often workers run first before the next batch is taken.
+    // How often the taking thread lets workers run before it takes the next batch.
     turns: usize,
     // The board before anything was reported.
     empty: Snapshot<Board>,

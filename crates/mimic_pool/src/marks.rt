@@ -13,7 +13,7 @@ pub(crate) enum Mark {
     Passed,
     // The outcome is `Ignored`.
     Ignored,
-    // The outcome lies with the kept ones.
+    // The outcome is among the kept ones.
     Kept,
 }
 
@@ -34,7 +34,7 @@ pub(crate) fn marked(outcome: Outcome, kept: &mut VecDeque<Outcome>) -> Mark
     }
 }
 
-// The outcome of the mark, which is taken out of the kept ones if it lies there.
+// The outcome of the mark, which is taken out of the kept ones if it is among them.
 pub(crate) fn unmarked(mark: Mark, kept: &mut VecDeque<Outcome>) -> Outcome
     requires { weight_of mark ≤ deque_len kept.old }
     ensures outcome { result ≡ outcome_by mark (deque_items kept.old) }

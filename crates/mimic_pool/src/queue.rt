@@ -59,7 +59,7 @@ pub struct QueueStarts<T: Task> {
     pub(crate) spare: Rows,
 }
 
-/// Workers that were started, and what those returned that could not be.
+/// Workers that were started, and what the others returned, which could not be started.
 pub struct QueueCrew<T: Task> {
     pub(crate) queue: Arc<SharedQueue<T>>,
     pub(crate) pass: QueuePass<T>,
@@ -218,7 +218,7 @@ fn starts_at<T: Task>(
     Ok(starts)
 }
 
-// Starts the workers. If one can't be started, no more are, and those that were take all trials. `None` if none could be started.
+// Starts the workers. If one can't be started, no more are started, and the others take all trials. `None` if there are none.
 pub(crate) fn start_takers<T: Task + Send + 'static, R: Spawner + 'static>(
     rt: &R,
     alloc: Global,
@@ -260,7 +260,7 @@ pub(crate) fn start_takers<T: Task + Send + 'static, R: Spawner + 'static>(
     })
 }
 
-// Starts a worker. If no thread can be made, or none could be made for one before it, the worker may take no trial, and ends here.
+// Starts a worker. If no thread can be made for it, or none could be made for an earlier one, it takes no trial, and ends here.
 fn start_taker<T: Task + Send + 'static, R: Spawner + 'static>(
     rt: &R,
     alloc: Global,
@@ -297,8 +297,8 @@ fn start_taker<T: Task + Send + 'static, R: Spawner + 'static>(
     }
 }
 
-// Joins the workers, and returns the rows of each, and last those of trials that no worker took. If not the whole is to be run,
-// workers end what they have taken and take no more, and the trials that are left are dropped.
+// Joins the workers, and returns the rows of each, and last those of trials that no worker took. Unless `whole` is set, workers
+// end what they have taken and take no more, and the trials that are left are dropped.
 pub(crate) fn join_takers<T: Task + Send + 'static, R: Spawner>(
     rt: &R,
     crew: QueueCrew<T>,

@@ -125,7 +125,7 @@ impl Rows {
         self.places.as_slice()
     }
 
-    /// How many of them were taken.
+    /// How many of the rows that were added were taken.
     pub fn taken(&self) -> usize
         ensures { result ≡ self.now.taken }
     {
@@ -148,7 +148,7 @@ impl Rows {
     }
 }
 
-// Whether this is the outcome of the mark, which is the kept one of this index if it doesn't fit in the mark.
+// Whether `found` is the outcome of the mark: the kept one at `index`, if it doesn't fit in the mark.
 fn is_marked_so(found: Option<&Outcome>, mark: Mark, kept: &VecDeque<Outcome>, index: usize) -> bool
     requires { index + weight_of mark ≤ deque_len kept.now }
     ensures { IsTrue result ↔ (option_copied found.entry ≡ Some (outcome_by mark (drop index (deque_items kept.now)))) }

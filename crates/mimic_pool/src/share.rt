@@ -1,4 +1,4 @@
-//! Shares of the trials, one for each worker.
+//! Shares of the trials, one for each worker, and batches of a queue.
 ghost use Rattle.std.specs.Prelude.{◌≡◌, ◌≤◌, ◌∷◌, ◌++◌, All, Bool, IfOk, List, OnErr, OnOk, [], length, map, slice_get, vec_len};
 ghost use Rattle.std.specs.Int.{div_ceil};
 ghost use Rattle.mimic_pool.specs.Share.{AreShares, HasRoom, IsDealt, items_of, places_in};
@@ -16,14 +16,14 @@ pub(crate) struct Assigned<T> {
     pub(crate) ignored: bool,
 }
 
-/// Runners with their places, in rising order of these: what one worker runs, or what it takes from a queue at once.
+/// Runners with their places, in rising order of these: the share of one worker, or one batch of a queue.
 #[derive(Drop)]
 pub struct Share<T = Runner> {
     pub(crate) items: Vec<Assigned<T>>,
 }
 
 impl<T> Share<T> {
-    // What it holds, to be handed out one by one.
+    // Its items, to be handed out one by one.
     pub(crate) fn into_remaining(self) -> Remaining<Assigned<T>>
         ensures { result ≡ items_of self }
     {
@@ -51,7 +51,7 @@ impl<T> Share<T> {
 /// Deals the runners at the places 0, 1, .. out to `workers`. The runner at a place goes, with its flag, to the
 /// worker whose number is the place's remainder by the number of workers.
 ///
-/// `ignored` says of each place whether its runner is not to be called.
+/// `ignored` has a flag for each place: whether the runner there is not to be called.
 pub fn deal<T: Drop>(
     alloc: Global,
     runners: Vec<T>,

@@ -41,7 +41,7 @@ impl<T: Task> Protocol<Share<T>, Account<T>> for Balanced<T> {
     ghost first = { account all_parts [] [] };
 }
 
-// One part is given to a new pass, whose owner has put and taken nothing; or what another has put and taken is taken in.
+// One part goes to a new pass, whose owner has put and taken nothing; or the account of another pass is added to this one.
 struct Parts;
 
 impl<T> Split<Account<T>> for Parts {
@@ -90,7 +90,7 @@ impl<T: Task> Lesson<Share<T>, Account<T>> for Takes<T> {
     ghost fact = { Balances };
 }
 
-// Batches, each a share of consecutive trials, of which workers take the next one when they are free.
+// Batches of consecutive trials. Each worker takes the next batch when it is free.
 pub(crate) struct SharedQueue<T: Task> {
     pub(crate) queue: RuledSegQueue<Share<T>, Account<T>, Balanced<T>>,
     // The workers with a number below it may take.

@@ -60,7 +60,7 @@ pub(crate) fn prepare_shares<T: Task>(
     Ok((inbox, starts))
 }
 
-// Starts a worker for each share. `None` if one can't be started; then those that were are joined.
+// Starts a worker for each share. `None` if one can't be started; the workers that were started are joined then.
 pub(crate) fn start_shares<T: Task + Send + 'static, R: Spawner + 'static>(
     rt: &R,
     alloc: Global,
@@ -117,7 +117,7 @@ fn starts_on<T: Task>(
 }
 
 // Starts a worker for each share, and keeps their handles in `handles`, which takes no memory. If a worker can't be started, no
-// more are, and the handles of those that were, of the first shares, are returned. The others never close.
+// more are, and the handles of those that were started, for the first shares, are returned. The others never close.
 fn start_workers<T: Task + Send + 'static, R: Spawner + 'static>(
     rt: &R,
     alloc: Global,

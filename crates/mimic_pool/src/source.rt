@@ -35,12 +35,12 @@ pub(crate) trait Source<T: Task> {
     // Nothing was handed out yet.
     ghost stays: { (source : Self) → goes_on source [] source };
 
-    // What was handed out first and then.
+    // To hand out `items` and then `more` is to hand out both, one after the other.
     ghost joins: { (first mid last : Self) (items more : List (Assigned T)) → goes_on first items mid
         → goes_on mid more last → goes_on first (items ++ more) last };
 }
 
-// What is left of a share. There must be room for all of it.
+// What is left of a share or of a batch. There must be room for the rows of all of it.
 impl<T: Task> Source<T> for Remaining<Assigned<T>> {
     ghost use Rattle.std.proofs.Common.{◌∙◌, ap, append_assoc, refl, sym};
 

@@ -125,8 +125,9 @@ impl<T: Task> Supply<T> {
     }
 }
 
-/// Starts the workers. `None` if one that has a share can't be started, or none that takes from a queue; then those that were are
-/// joined. After `None` no more is to be taken from the inbox: it waits for all workers, and some were never started.
+/// Starts the workers. `None` if one that has a share can't be started, or if none that takes from a queue can be; then the
+/// workers that were started are joined. After `None` nothing more may be taken from the inbox: it waits for all workers, and
+/// some were never started.
 pub fn start_all<T: Task + Send + 'static, R: Spawner + 'static>(
     rt: &R,
     alloc: Global,
@@ -149,9 +150,9 @@ pub fn start_all<T: Task + Send + 'static, R: Spawner + 'static>(
     }
 }
 
-/// Joins the workers, and returns the rows of each: a place and the outcome there, for each trial that it ran. If not the `whole`
-/// of the trials is to be run, workers end what they have taken from a queue and take no more, and the trials that are left there are
-/// dropped. A worker runs all of its share.
+/// Joins the workers, and returns the rows of each: a place and the outcome there, for each trial that it ran. Unless `whole`
+/// is set, workers that take from a queue end what they have taken and take no more, and the trials that are left there are
+/// dropped. A worker that has a share runs all of it.
 pub fn join_all<T: Task + Send + 'static, R: Spawner>(
     rt: &R,
     crew: Crew<T>,

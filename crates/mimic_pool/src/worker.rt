@@ -61,7 +61,7 @@ pub(crate) fn work_from<T: Task, S: Source<T>, R: Reports, O: Room>(
             ignored,
         } = item;
         let outcome = run_unless(ignored, runner, test_mode);
-        // Told or not, the row is returned: whoever joins the worker gets it then.
+        // Reported or not, the row is returned: whoever joins the worker gets it then.
         let _ = reports.tell(place, &outcome);
         room.put(place, outcome);
     }

@@ -44,7 +44,7 @@ Stopped-more {a} {b} s t p = record {
   faults = p.faults;
 }
 
--- the part of a piece that is still to be written: what is gone from it was appended
+-- the part of a piece that is still to be written: what came before it was appended
 abbrev pub Gone : (a b : Option (List ℕ)) (piece rest : List ℕ) → Type 0
 Gone a b piece rest = (done : List ℕ) × (piece ≡ done ++ rest) × Appends a b done
 
@@ -58,7 +58,7 @@ Gone-write a b c piece rest n h p q =
       Appends-trans a b c p.0 (take n rest) p.2 q,
     )
 
--- a write that took none or failed, after what is gone
+-- a write that took none or failed, after a part that was appended
 pub Stopped-from_Gone : (old mid new : Shown) (piece rest : List ℕ) → Gone old.bytes mid.bytes piece rest → mid.faults ≡ old.faults
     → Keeps mid.bytes new.bytes → new.faults ≡ mid.faults + 1 → Stopped old new piece
 Stopped-from_Gone old mid new piece rest p e k f = record {
@@ -106,7 +106,7 @@ module _ {X : Type 0} (f : X → List ℕ) where
 pub Puts-stopped : {E T : Type 0} {a b : Shown} (t : List ℕ) (r : Result T E) → IsErr r → Stopped a b t → Writes a b t r
 Puts-stopped {a} {b} t r e s = MatchResult-from_err r (λ _. Put a b t) (λ _. Stopped a b t) e (λ _. s)
 
--- so many of the spaces that are written at once
+-- `n` of the spaces that are written at once
 pub take-blanks : (n : ℕ) → n ≤ 32 → take n (replicate 32 32) ≡ spaces n
 take-blanks n h = take-replicate n 32 32 h
 
@@ -134,7 +134,7 @@ Puts_then a b c s t (Err e) p q = Put-Stopped s t p q
 pub Puts_after : {E T : Type 0} (a b c : Shown) (s : List ℕ) (r : Result T E) → Put a b s → Writes b c [] r → Writes a c s r
 Puts_after a b c s r p q = let P : List ℕ → Type 0 = λ l. Writes a c l r in subst P (append-nil s) (Puts_then a b c s [] r p q)
 
--- calls one after another, of which the last but so many stopped
+-- calls one after another, of which one stopped, and those behind it were not made
 pub stop2 : {a b c : Shown} (s t u : List ℕ) → Put a b s → Stopped b c t → Stopped a c (s ++ (t ++ u))
 stop2 s t u p q = Put-Stopped s _ p (Stopped-more t u q)
 

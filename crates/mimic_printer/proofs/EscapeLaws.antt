@@ -13,7 +13,7 @@ use Rattle.mimic_printer.specs.Escapes.{begins_number, escaped, escaped_after, f
 use Rattle.mimic_printer.specs.EscapeLaws.{EscapeLaws, HasNoControl, IsHarmless, begins_mark, ends_mark, entities, is_harmless, unescaped, unescaped_after}
 use Rattle.mimic_printer.proofs.Fronts.{and_both, begun_by, decoded, ends_once, fine, front_fine, not_true}
 
--- ---- a spelling comes back
+-- ---- a spelling can be unescaped
 
 module _ (place : Place) where
   through : (mark t rest : List ℕ) → ends_once t ≡ true → unescaped_after place (Some mark) (t ++ rest) ≡ decoded mark t ++ unescaped_after place None rest
@@ -32,7 +32,7 @@ module _ (place : Place) where
   unfolding unescaped_after
   marked m t rest h e = rw h (through (m ∷ []) t rest e)
 
-  -- a byte that can stand there begins no entity
+  -- a byte that is allowed there begins no entity
   allowed : (m : ℕ) → is_forbidden place m ≡ false → (eqb m 38 && has_markup place) ≡ false
   allowed m h = decide (eqb m 38) refl
     where
@@ -40,7 +40,7 @@ module _ (place : Place) where
       decide false e = refl
       decide true e = sym (ap (is_forbidden place) (eqb-true m 38 e)) ∙ h
 
-  -- it comes back, unless it is a byte that what follows makes the beginning of a number
+  -- it can be unescaped, unless it is a byte that begins a number together with what follows
   fine_back : (s o rest : List ℕ) (b : ℕ) (more : List ℕ) → o ≡ b ∷ more → fine place s o ≡ true
       → (more ≡ [] → begins_number (b ∷ rest) ≡ false) ⊎ (s ≡ codes "\\u{5c}")
       → unescaped place (s ++ rest) ≡ o ++ unescaped place rest
@@ -164,7 +164,7 @@ or_right false q h = h
 false_true : false ≡ true → ⊥
 false_true h = cc
 
--- where there are no entities
+-- for places that have no entities
 module _ (place : Place) (none : entities place ≡ []) (lines : (b : ℕ) → is_control b ≡ true → is_forbidden place b ≡ true) where
   nothing_forbidden : (part : List ℕ) → is_harmless place part ≡ true → list_any (is_forbidden place) part ≡ false
   nothing_forbidden part h = decide (list_any (is_forbidden place) part) (ap (λ (l : List (List ℕ)). not (list_any (is_forbidden place) part) || list_any (bytes_eq part) l) (sym none) ∙ h)

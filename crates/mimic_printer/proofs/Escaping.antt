@@ -1,4 +1,4 @@
--- Texts that are written with their escapes, and what lies between these at once.
+-- Texts that are written with their escapes, and what is between these at once.
 use Rattle.std.proofs.Common.{false, None, Some, is_some, MatchOption, ◌≡◌, ℕ, suc, ◌+◌, ◌-◌, ◌<◌, ◌≤◌, List, [], ◌∷◌, ◌++◌, Option, Result, length, get_or, take, drop, drop-cons, take-append-drop, length-drop, length-take-le, refl, sym, ap, ◌∙◌, subst, arith, append_assoc, append-nil}
 use Rattle.std.proofs.lemmas.List.{take_all}
 use Rattle.std.proofs.lemmas.List.Concat.{flat_map-append}
@@ -24,7 +24,7 @@ pub rest_written : {E T : Type 0} (a b c : Shown) (whole left rest : List ℕ) (
 rest_written a b c whole left rest r h e p =
     subst (λ (t : List ℕ). Writes a c t r) (ap (λ (l : List ℕ). h.done ++ l) (sym e) ∙ sym h.parts) (Puts_then a b c h.done rest r h.put p)
 
--- a fault in what lies before the next escape
+-- a fault in what comes before the next escape
 pub stopped_before : (a b c : Shown) (whole left front after : List ℕ) → left ≡ front ++ after → WrittenSoFar a b whole left → Stopped b c front → Stopped a c whole
 stopped_before a b c whole left front after split h s =
     subst (Stopped a c) (ap (λ (l : List ℕ). h.done ++ l) (sym split) ∙ sym h.parts) (Put-Stopped h.done _ h.put (Stopped-more front after s))

@@ -1,4 +1,4 @@
--- What stands first in a text comes back from its spelling, which is harmless.
+-- The spelling of what comes first in a text can be unescaped, and is harmless.
 use Rattle.std.proofs.Common.{◌≡◌, ◌&&◌, not, eqb, ltb, codes, ℕ, suc, ◌+◌, ◌-◌, ◌<◌, ◌≤◌, Bool, true, false, cond, List, [], ◌∷◌, ◌++◌, length, take, refl, ap, ap₂, ◌∙◌, subst, arith, inl, inr}
 use Rattle.std.specs.Prelude.{slice_index}
 use Rattle.std.specs.Str.{bytes_eq}
@@ -35,7 +35,7 @@ decoded mark [] = []
 decoded mark (e ∷ []) = character_of mark
 decoded mark (x ∷ y ∷ t) = decoded (mark ++ x ∷ []) (y ∷ t)
 
--- the spelling is the one byte that it stands for, which can stand there, or it has more bytes, comes back, and is harmless
+-- the spelling is the one byte that it stands for, which is allowed there, or it has more bytes, can be unescaped, and is harmless
 unfoldable pub fine : Place → List ℕ → List ℕ → Bool
 fine place [] o = false
 fine place (m ∷ []) o = bytes_eq (m ∷ []) o && not (is_forbidden place m)
@@ -113,7 +113,7 @@ control_begun (b ∷ c ∷ rest) h =
 
 -- ---- the front
 
--- the spelling of so many bytes of the text comes back, and is harmless
+-- the spelling of the first `f.1` + 1 bytes of the text can be unescaped, and is harmless
 pub record FrontIsFine (place : Place) (text : List ℕ) (f : List ℕ × ℕ) : Type 0 where
   pub is_fine : fine place f.0 (take (suc f.1) text) ≡ true
   pub within : suc f.1 ≤ length text

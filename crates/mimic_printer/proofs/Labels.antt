@@ -6,7 +6,7 @@ use Rattle.mimic_printer.specs.declared.place.Place.{Place}
 use Rattle.mimic_printer.specs.Escapes.{escaped as spelled}
 use Rattle.mimic_printer.specs.Piece.{bracketed, kind_text}
 
--- what stands between a name and a kind
+-- what comes between a name and a kind
 abbrev pub key_bytes : List ℕ
 key_bytes = codes "\", \"kind\": \""
 

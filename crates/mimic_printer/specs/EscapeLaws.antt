@@ -30,7 +30,7 @@ character_of mark =
     else (if bytes_eq mark (codes "\\u{2029") then 226 ∷ 128 ∷ 169 ∷ []
     else character_at (digits_value 16 (drop 3 mark))))))))))))
 
--- the byte begins such a spelling, if this follows it: `&`, where there is markup, or `\u{`
+-- the byte begins such a spelling, if this follows it: `&`, in a place that has markup, or `\u{`
 abbrev pub begins_mark : Place → ℕ → List ℕ → Bool
 begins_mark place b rest = b == 38 && has_markup place || begins_number (b ∷ rest)
 
@@ -38,7 +38,7 @@ begins_mark place b rest = b == 38 && has_markup place || begins_number (b ∷ r
 abbrev pub ends_mark : ℕ → Bool
 ends_mark b = b == 59 || b == 125
 
--- the text that is spelled so; `begun` is what came of a spelling that hasn't ended
+-- the text that has this spelling; `begun` is what came of a spelling that hasn't ended
 unfoldable pub unescaped_after : Place → Option (List ℕ) → List ℕ → List ℕ
 unescaped_after place begun [] = []
 unescaped_after place None (b ∷ rest) = if begins_mark place b rest then unescaped_after place (Some (b ∷ [])) rest
@@ -51,14 +51,14 @@ unescaped place text = unescaped_after place None text
 
 -- ---- what is left
 
--- the entities that can stand in a place
+-- the entities that can be in a place
 abbrev pub entities : Place → List (List ℕ)
 entities Content = codes "&amp;" ∷ codes "&lt;" ∷ codes "&gt;" ∷ codes "&#13;" ∷ []
 entities Value = codes "&amp;" ∷ codes "&lt;" ∷ codes "&gt;" ∷ codes "&quot;" ∷ codes "&#9;" ∷ codes "&#10;" ∷ codes "&#13;" ∷ []
 entities Html = codes "&amp;" ∷ codes "&lt;" ∷ codes "&gt;" ∷ codes "&quot;" ∷ []
 entities place = []
 
--- the part has nothing that can't stand there, or is an entity
+-- the part has nothing that is forbidden there, or is an entity
 abbrev pub is_harmless : Place → List ℕ → Bool
 is_harmless place part = not (list_any (is_forbidden place) part) || list_any (bytes_eq part) (entities place)
 
@@ -72,7 +72,7 @@ IsHarmless place text = (parts : List (List ℕ)) × (text ≡ concat parts) × 
 abbrev pub HasNoControl : Place → Type 0
 HasNoControl place = (text : List ℕ) → list_any is_control (escaped place text) ≡ false
 
--- what holds of the spelling of every text: the text comes back from it, so that two texts never have the same; it is harmless, so
+-- what holds of the spelling of every text: it can be unescaped, so that two texts never have the same; it is harmless, so
 -- that it begins, ends or hides no element
 pub record EscapeLaws : Type 0 where
   pub comes_back : (place : Place) (text : List ℕ) → unescaped place (escaped place text) ≡ text

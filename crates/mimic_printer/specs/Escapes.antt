@@ -1,4 +1,4 @@
--- How texts are spelled where some characters can't stand as they are. A text is its bytes in UTF-8.
+-- How texts are spelled in places that forbid some characters. A text is its bytes in UTF-8.
 use Rattle.std.specs.Prelude.{◌≡◌, ℕ, zero, suc, ◌/◌, ◌%◌, ◌<◌, ◌≤◌, ◌==◌, ◌&&◌, not, nat_lt, length, take, drop, if◌then◌else◌, Bool, true, false, List, [], ◌∷◌, ◌++◌, codes, slice_index}
 use Rattle.std.specs.Char.{digit_char}
 use Rattle.std.specs.List.{concat}
@@ -18,7 +18,7 @@ numbered digits = concat (codes "\\u{" ∷ digits ∷ codes "}" ∷ [])
 abbrev pub hexadecimal : ℕ → List ℕ
 hexadecimal n = if nat_lt n 16 then digit_char n ∷ [] else digit_char (n / 16) ∷ digit_char (n % 16) ∷ []
 
--- how a byte is spelled that can't stand as it is: by an entity, if it is markup; white space by its number in XML; else as above
+-- how a byte is spelled that can't be written as it is: by an entity, if it is markup; white space by its number in XML; else as above
 abbrev pub spelled : Place → ℕ → List ℕ
 spelled place b =
     if b == 38 then codes "&amp;"
@@ -30,7 +30,7 @@ spelled place b =
     else (if b == 13 && is_xml place then codes "&#13;"
     else numbered (hexadecimal b)))))))
 
--- how each byte is
+-- the spelling of each byte
 abbrev pub spelled_byte : Place → ℕ → List ℕ
 spelled_byte place b = if is_forbidden place b then spelled place b else b ∷ []
 
@@ -54,9 +54,9 @@ abbrev pub is_line : Place → Bool
 is_line Line = true
 is_line place = false
 
--- how what stands first is spelled, and how many bytes behind the first that is: by their numbers a backslash that would be taken
--- for the beginning of a number, in XML the two characters of three bytes that no text of it has, in a line those that end it, and
--- control characters of two bytes, whose number is the second
+-- how the front of a text is spelled, and how many bytes it has behind the first. By their numbers are spelled: a backslash that would be taken
+-- for the beginning of a number, in XML the two characters of three bytes that no text of it has, in a line those that end one, and
+-- control characters of two bytes, whose number is the second byte
 abbrev pub front : Place → List ℕ → List ℕ × ℕ
 front place text =
     if begins_number text then (numbered (codes "5c"), 0)
@@ -69,7 +69,7 @@ front place text =
 
 -- ---- the whole text
 
--- the spelling of a text of which so many bytes were spelled before
+-- the spelling of a text of which the first `done` bytes were spelled before
 unfoldable pub escaped_after : ℕ → Place → List ℕ → List ℕ
 escaped_after done place [] = []
 escaped_after zero place (b ∷ rest) = (front place (b ∷ rest)).0 ++ escaped_after (front place (b ∷ rest)).1 place rest

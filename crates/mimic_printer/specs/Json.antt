@@ -13,11 +13,11 @@ use Rattle.mimic_text.specs.Seconds.{exact_seconds}
 
 -- ---- lines of a text (our own words)
 
--- no line end stands in the bytes
+-- the bytes have no line end
 abbrev pub HasNoEnd : List ℕ → Type 0
 HasNoEnd bytes = AllByRecursion (λ b. b ≢ 10) bytes
 
--- one line: a line end stands last, and nowhere else
+-- one line: it ends with a line end, and has no other
 pub record IsLine (bytes : List ℕ) : Type 0 where
   pub front : List ℕ
   pub parts : bytes ≡ front ++ 10 ∷ []
@@ -41,7 +41,7 @@ json_line parts = concat (parts ++ json_end ∷ [])
 abbrev pub number_field : List ℕ → ℕ → List ℕ
 number_field key number = key ++ decimal number
 
--- what stands before a kind
+-- what comes before a kind
 abbrev pub kind_key : List ℕ
 kind_key = codes ", \"kind\": \""
 
@@ -54,15 +54,15 @@ kind_field (b ∷ bs) = concat (kind_key ∷ escaped (b ∷ bs) ∷ codes "\"" �
 abbrev pub event_field : List ℕ → List ℕ
 event_field word = concat (codes ", \"event\": \"" ∷ word ∷ codes "\"" ∷ [])
 
--- what stands before a failure's message
+-- what comes before a failure's message
 abbrev pub stdout_key : List ℕ
 stdout_key = codes ", \"stdout\": \"Error: \\\""
 
--- what stands before the average of a measurement
+-- what comes before the average of a measurement
 abbrev pub median_key : List ℕ
 median_key = codes ", \"median\": "
 
--- what stands before its variance
+-- what comes before its variance
 abbrev pub deviation_key : List ℕ
 deviation_key = codes ", \"deviation\": "
 
@@ -72,11 +72,11 @@ deviation_key = codes ", \"deviation\": "
 abbrev pub json_trial : List ℕ → Label → List (List ℕ) → List ℕ
 json_trial front label fields = json_line (front ∷ escaped label.name ∷ codes "\"" ∷ kind_field label.kind ∷ fields)
 
--- what stands before the name in an announcement
+-- what comes before the name in an announcement
 abbrev pub announcement_front : List ℕ
 announcement_front = codes "{ \"type\": \"test\", \"event\": \"started\", \"name\": \""
 
--- what stands before the name in the line of an outcome: measurements have a type of their own
+-- what comes before the name in the line of an outcome: measurements have a type of their own
 abbrev pub outcome_front : Bool → List ℕ
 outcome_front false = codes "{ \"type\": \"test\", \"name\": \""
 outcome_front true = codes "{ \"type\": \"bench\", \"name\": \""
@@ -100,7 +100,7 @@ json_outcome label outcome = json_trial (outcome_front (is_measured outcome)) la
 
 -- ---- the lines around them
 
--- what stands before the number of trials
+-- what comes before the number of trials
 abbrev pub title_front : List ℕ
 title_front = codes "{ \"type\": \"suite\", \"event\": \"started\", \"test_count\": "
 
@@ -119,7 +119,7 @@ summary_front c = codes "{ \"type\": \"suite\", \"event\": \"" ∷ json_verdict 
     ∷ number_field (codes ", \"ignored\": ") c.num_ignored ∷ number_field (codes ", \"measured\": ") c.num_measured
     ∷ codes ", \"filtered_out\": " ∷ []
 
--- what stands before the time
+-- what comes before the time
 abbrev pub time_key : List ℕ
 time_key = codes ", \"exec_time\": "
 
@@ -129,7 +129,7 @@ json_summary c nanos = json_line (summary_front c ++ decimal c.num_filtered_out 
 
 -- ---- the whole
 
--- what a report in JSON says of a trial: its name, its kind and its outcome, all that a row has
+-- what a report in JSON shows of a trial: its name, its kind and its outcome, all that a row has
 abbrev pub Entry : Type 0
 Entry = PrintedRow
 

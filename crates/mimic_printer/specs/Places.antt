@@ -1,4 +1,4 @@
--- Which bytes can't stand as they are in which places. A text is its bytes in UTF-8.
+-- Which bytes are forbidden in which places. A text is its bytes in UTF-8.
 use Rattle.std.specs.Prelude.{ℕ, ◌==◌, ◌&&◌, ◌||◌, not, nat_lt, if◌then◌else◌, Bool, true, false}
 use Rattle.mimic_printer.specs.declared.place.Place.{Place}
 use Rattle.mimic_printer.specs.declared.place.Place.TheVariants.{Content, Value, Html, Line, Terminal}
@@ -14,13 +14,13 @@ has_markup Line = false
 has_markup Terminal = false
 has_markup place = true
 
--- a quote can end what stands there
+-- a quote can end the text there
 abbrev pub has_quotes : Place → Bool
 has_quotes Value = true
 has_quotes Html = true
 has_quotes place = false
 
--- a tab and a line feed come back from there as they are (in a value they don't: XML 1.0, section 3.3.3)
+-- readers get a tab and a line feed from there as they are (from a value they don't: XML 1.0, section 3.3.3)
 abbrev pub has_breaks : Place → Bool
 has_breaks Content = true
 has_breaks Html = true
@@ -30,7 +30,7 @@ has_breaks place = false
 abbrev pub is_control : ℕ → Bool
 is_control b = nat_lt b 32 || b == 127
 
--- the byte can't stand there as it is: it would be markup, or is a control character. XML has that with number 127 (section 2.2),
+-- the byte can't be written there as it is: it would be markup, or is a control character. XML has that with number 127 (section 2.2),
 -- and takes a carriage return for a line end (section 2.11)
 abbrev pub is_forbidden : Place → ℕ → Bool
 is_forbidden place b =
@@ -40,6 +40,6 @@ is_forbidden place b =
     else (if b == 127 then not (is_xml place)
     else nat_lt b 32)))
 
--- the byte is spelled by itself, wherever it stands and whatever follows it
+-- the byte is spelled by itself, wherever it is and whatever follows it
 abbrev pub plain_byte : ℕ → Bool
 plain_byte b = nat_lt 31 b && not (b == 38 || b == 60 || b == 62 || b == 34 || b == 92 || b == 127 || b == 194 || b == 226 || b == 239)

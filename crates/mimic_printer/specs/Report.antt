@@ -21,11 +21,11 @@ colour_sequence (Failed f) = 27 ∷ codes "[31m"
 colour_sequence Ignored = 27 ∷ codes "[33m"
 colour_sequence (Measured m) = 27 ∷ codes "[36m"
 
--- what stands directly before an outcome's word: the sequence of its colour, if the printer colours
+-- what comes directly before an outcome's word: the sequence of its colour, if the printer colours
 abbrev pub colour_start : Printer → Outcome → List ℕ
 colour_start p o = if p.colour then colour_sequence o else []
 
--- what stands directly after it: the sequence that ends every colour
+-- what comes directly after it: the sequence that ends every colour
 abbrev pub colour_end : Printer → List ℕ
 colour_end p = if p.colour then 27 ∷ codes "[0m" else []
 

@@ -6,7 +6,7 @@ use Rattle.mimic_trial.specs.declared.trial.Trial.{Trial}
 use Rattle.mimic_trial.specs.Places.{Placed}
 use Rattle.mimic_trial.specs.Trial.{info_of}
 
--- ---- what stands before an outcome
+-- ---- what comes before an outcome
 
 -- what a report shows of a trial
 pub record Label : Type 0 where
@@ -42,6 +42,6 @@ outcomes_of rows = map (λ row. row.outcome) rows
 abbrev pub rows_from : List (TestInfo × Outcome) → List PrintedRow
 rows_from pairs = map (λ p. row_of p.0 p.1) pairs
 
--- the rows of outcomes that stand at places, in the order of the places
+-- the rows of outcomes at places, in the order of the places
 abbrev pub rows_at : List Label → List Placed → List PrintedRow
 rows_at labels placed = map (λ p. record { label = label_at labels p.0; outcome = p.1 }) placed

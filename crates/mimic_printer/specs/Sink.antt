@@ -48,7 +48,7 @@ Writes old new text result = MatchResult result (λ _. Put old new text) (λ _. 
 abbrev pub Puts : {W E T : Type 0} → (W → Option (List ℕ)) → Sink W → Sink W → List ℕ → Result T E → Type 0
 Puts contents old new text result = Writes (shown contents old) (shown contents new) text result
 
--- what a call leaves that could not write a text to its end: a beginning of it, and without memory nothing
+-- what is left by a call that could not write a text to its end: a beginning of it, and without memory nothing
 abbrev pub LeftBy : OutputFault → Shown → Shown → List ℕ → Type 0
 LeftBy OutOfMemory old new text = new ≡ old
 LeftBy (Write error) old new text = Stopped old new text

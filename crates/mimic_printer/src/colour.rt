@@ -5,7 +5,7 @@ ghost use Rattle.mimic_printer.specs.Report.{colour_end, colour_start};
 use crate::Printer;
 use mimic_trial::Outcome;
 
-// Returns what stands directly before an outcome's word or mark: the sequence of its colour.
+// Returns what comes directly before an outcome's word or mark: the sequence of its colour.
 pub(super) fn colour_start(printer: &Printer, outcome: &Outcome) -> &'static str
     ensures { result.now ≡ colour_start printer.now outcome.now }
 {
@@ -20,7 +20,7 @@ pub(super) fn colour_start(printer: &Printer, outcome: &Outcome) -> &'static str
     }
 }
 
-// Returns what stands directly after it.
+// Returns what comes directly after it.
 pub(super) fn colour_end(printer: &Printer) -> &'static str
     ensures { result.now ≡ colour_end printer.now }
 {

@@ -36,7 +36,7 @@ pub(crate) fn first_escape(text: &[u8], place: Place) -> Option<Escape>
     None
 }
 
-/// Writes the text as it is in the place: what lies between its escapes at once.
+/// Writes the text as it is spelled in the place: what is between its escapes at once.
 #[tactic(auto, using(crate::proofs::EscapeLaws::escape_laws))]
 pub fn put_escaped<W: Write>(
     sink: &mut Sink<W>,
@@ -58,7 +58,7 @@ pub fn put_escaped<W: Write>(
     sink.put(rest)
 }
 
-/// Appends the text as it is in the place.
+/// Appends the text as it is spelled in the place.
 pub fn push_escaped(to: &mut Vec<u8>, text: &[u8], place: Place) -> Result<(), AllocError>
     ensures { OnOk result (to.new.items ≡ to.old.items ++ escaped place text.now) }
 {

@@ -82,7 +82,8 @@ pub fn put_outcome<'a, W: Write>(
     put_lines(sink, false, name, kind, outcome)
 }
 
-/// Writes both lines of a trial that has ended: the one that announces it, and the one of its outcome. No piece ends a line but the last.
+/// Writes both lines of a trial that has ended: the one that announces it, and the one of its outcome. No piece ends a line but
+/// the last.
 #[inline(never)]
 pub fn put_row<'a, W: Write>(
     sink: &mut Sink<W>,

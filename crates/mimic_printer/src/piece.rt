@@ -75,7 +75,7 @@ pub fn put_pieces<W: Write>(sink: &mut Sink<W>, pieces: &[Piece<'_>]) -> Result<
     let Some(len) = gather(pieces, &mut row) else {
         return put_each(sink, pieces);
     };
-    // A fault is large: to hand on the whole result costs more than to ask whether it is one.
+    // A fault is large: to return the whole result costs more than to ask whether it is one.
     sink.put(&row[..len])?;
     Ok(())
 }
@@ -159,7 +159,7 @@ fn append_kind(row: &mut [u8; ROW], len: usize, kind: &str) -> Option<usize>
     append_json(row, end, kind)
 }
 
-// What stands between a name and a kind.
+// What comes between a name and a kind.
 const KIND_KEY: &str = "\", \"kind\": \"";
 
 impl Piece<'_> {
@@ -250,7 +250,7 @@ fn put_aligned<W: Write>(sink: &mut Sink<W>, number: u64, width: usize) -> Resul
     sink.put(text.as_bytes())
 }
 
-// Writes the text with its escapes in JSON, and what lies between them at once.
+// Writes the text with its escapes in JSON, and what is between them at once.
 fn put_json<W: Write>(sink: &mut Sink<W>, text: &[u8]) -> Result<(), WriteFault>
     requires { HasFaultLeft sink.old }
     ensures { Puts W.contents sink.old sink.new (json_escaped text.now) result }

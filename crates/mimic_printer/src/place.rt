@@ -1,8 +1,8 @@
-//! Where texts stand, and what can't stand there.
+//! The places that texts are written to, and what these forbid.
 ghost use Rattle.std.specs.Prelude.{◌≡◌};
 ghost use Rattle.mimic_printer.specs.Places.{plain_byte};
 
-/// Where a text stands.
+/// Where a text is written.
 #[derive(Clone, Copy, Debug, PartialEq, Eq)]
 pub enum Place {
     /// Between tags of XML.
@@ -27,7 +27,7 @@ impl Place {
         matches!(self, Place::Content | Place::Value)
     }
 
-    // Whether the byte can't stand there as it is.
+    // Whether the byte can't be written there as it is.
     pub(crate) fn forbids(self, byte: u8) -> bool
         ensures { result ≡ is_forbidden self byte }
     {
@@ -41,7 +41,7 @@ impl Place {
     }
 }
 
-// Whether the byte is written as it is, wherever it stands and whatever follows it.
+// Whether the byte is written as it is, wherever it is and whatever follows it.
 pub(crate) fn is_plain(byte: u8) -> bool
     ensures { result ≡ plain_byte byte }
 {

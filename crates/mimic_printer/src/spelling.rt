@@ -1,11 +1,11 @@
-//! How the characters are spelled that can't stand as they are.
+//! The spellings of characters that can't be written as they are.
 ghost use Rattle.std.specs.Prelude.{◌≡◌, ◌<◌, ◌≤◌, ◌+◌, length, slice_index};
 ghost use Rattle.mimic_printer.specs.Escapes.{IsSpelling, begins_control, begins_with, front, spelled_byte};
 
 use crate::place::Place;
 use mimic_text::hex_digit;
 
-// What stands for a character.
+// What is written for a character.
 #[derive(Clone, Copy)]
 pub(crate) struct Spelling {
     bytes: [u8; 8],
@@ -53,7 +53,7 @@ impl Spelling {
     }
 }
 
-// Returns how what stands first in the text is spelled, and how many bytes that is.
+// Returns the spelling of what comes first in the text, and how many bytes of the text that is.
 pub(crate) fn front(text: &[u8], place: Place) -> (Spelling, usize)
     requires { 0 < length text.now }
     ensures spelling { IsSpelling result.0 (front place text.now).0 }
@@ -97,7 +97,7 @@ fn begins_control(text: &[u8]) -> bool
     }
 }
 
-// Returns how a byte is spelled that no others are spelled with.
+// Returns the spelling of a byte that is spelled by itself, without those behind it.
 fn spelled_byte(byte: u8, place: Place) -> Spelling
     ensures { IsSpelling result (spelled_byte place byte) }
 {

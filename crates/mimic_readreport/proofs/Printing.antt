@@ -1,4 +1,4 @@
--- What a text leaves that was put, whole or not.
+-- What is left by a text that was put, whole or not.
 use Rattle.std.proofs.Common.{◌≡◌, ℕ, List, [], Option, Some, None, Result, Ok, Err, IfSome, refl, sym, subst, ◌∙◌, append-nil}
 use Rattle.std.specs.Io.KnownBytes.{Appends}
 use Rattle.mimic_printer.specs.Json.{Contents, IsJsonReport}

@@ -81,7 +81,7 @@ abbrev pub EndsBy : {T : Type 0} → Option (List ℕ) → Option (List ℕ) →
 EndsBy err got printed status = MatchResult printed (λ _. (status ≡ 0) × Keeps err got)
     (λ fault. (status ≡ 1) × GetsBeginning err got (fault_line fault))
 
--- the number that a process ends with whose `main` returns this
+-- the number that a process ends with if its `main` returns this
 abbrev pub number_of : Status → ℕ
 number_of status = status.number
 

@@ -12,7 +12,7 @@ use Rattle.mimic_reports.specs.Joined.{HaveOwnNames, IsNamedTwice, labels_in}
 use Rattle.std.proofs.lemmas.List.{get_or_default, take_more}
 use Rattle.std.proofs.lemmas.List.Concat.{flat_map-append}
 
--- what stands in a report stands among those before a later place
+-- a kind and name in a report is among those before a later place
 pub in_before : (reports : List Report) (place i : ℕ) (d : Report) (l : Label) → i < place → place ≤ length reports → Contains (labels_in (get_or reports i d)) l
     → Contains (flat_map labels_in (take place reports)) l
 in_before [] place i d l lt le h = absurd (omega (arith, lt, le))

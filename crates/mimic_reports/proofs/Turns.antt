@@ -17,7 +17,7 @@ module _ {X : Type 0} where
   abbrev pub joined_rounds : List (List X) → List X
   joined_rounds rounds = flat_map (λ round. round) rounds
 
-  -- ---- a list that stands behind the others
+  -- ---- a list that comes after the others
 
   abbrev pub behind : List X → List (List X) → List (List X)
   behind [] rounds = rounds
@@ -38,7 +38,7 @@ module _ {X : Type 0} where
   rounds_behind [] xs = alone xs
   rounds_behind (ys ∷ xss) xs = ap (before ys) (rounds_behind xss xs) ∙ swap_sides ys xs (rounds_of xss)
 
-  -- the first item of the first list comes, and what is left of that list stands behind the others
+  -- the first item of the first list comes, and what is left of that list goes after the others
   comes_first : (xs : List X) (rounds : List (List X)) → (x : X) → joined_rounds (before (x ∷ xs) rounds) ≡ x ∷ joined_rounds (behind xs rounds)
   comes_first xs [] x = ap (λ (l : List (List X)). x ∷ joined_rounds l) (alone xs)
   comes_first [] (round ∷ rounds) x = refl

@@ -44,7 +44,7 @@ joined_contents reports = record {
 
 -- ---- what is refused
 
--- how many trials were handed to the run: its rows, and those that it filtered out
+-- how many trials were given to the run: its rows, and those that it filtered out
 abbrev pub trials_in : Report → ℕ
 trials_in report = length report.rows.items + report.filtered_out
 
@@ -57,11 +57,11 @@ pub record FallsByOne (earlier later : Report) : Type 0 where
 abbrev pub labels_in : Report → List Label
 labels_in report = map label_in report.rows.items
 
--- no kind and name stands in both reports
+-- no kind and name is in both reports
 abbrev pub HaveOwnNames : Report → Report → Type 0
 HaveOwnNames earlier later = (label : Label) → Contains (labels_in earlier) label → ¬ Contains (labels_in later) label
 
--- the reports can be those of so many shards of one list, in the order of their indices
+-- the reports can be those of `shards` shards of one list, in the order of their indices
 pub record CanBeShards (shards : ℕ) (equal_names : Bool) (reports : List Report) : Type 0 where
   pub number : length reports ≡ shards
   pub even : AllPairs FallsByOne reports
@@ -74,7 +74,7 @@ pub record IsUneven (reports : List Report) (place : ℕ) : Type 0 where
   pub within : place < length reports
   pub odd : (d : Report) → ¬ FallsByOne (slice_index_or reports earlier d) (slice_index_or reports place d)
 
--- this row of the report at the place has a kind and a name that stand in a report before it
+-- this row of the report at the place has a kind and a name that are in a report before it
 pub record IsNamedTwice (reports : List Report) (place row : ℕ) : Type 0 where
   pub within : place < length reports
   pub row_within : (d : Report) → row < length (slice_index_or reports place d).rows.items

@@ -1,5 +1,5 @@
 -- Reports in the XML that readers of JUnit's reports take. No standard fixes it: the elements and attributes are those that
--- Jenkins, GitLab, Surefire and junitparser read; what stands in messages is our own.
+-- Jenkins, GitLab, Surefire and junitparser read; the texts of messages are our own.
 use Rattle.std.specs.Prelude.{ℕ, ◌+◌, List, [], ◌∷◌, length, map, count_by, codes, decimal, Option, Some, None, string_bytes}
 use Rattle.std.specs.List.{concat, flat_map}
 use Rattle.mimic_trial.specs.declared.outcome.Outcome.{Outcome}
@@ -67,17 +67,17 @@ abbrev pub numbers_part : Numbers → List (List ℕ)
 numbers_part n = codes " tests=\"" ∷ decimal n.tests ∷ codes "\" failures=\"" ∷ decimal n.failures ∷ codes "\" errors=\"" ∷ decimal n.errors
     ∷ codes "\" skipped=\"" ∷ decimal n.skipped ∷ codes "\" time=\"" ∷ exact_seconds n.nanos ∷ codes "\">\n" ∷ []
 
--- what stands before the first report
+-- what comes before the first report
 unfoldable pub root_start : Numbers → List ℕ
 root_start n = concat (codes "<?xml version=\"1.0\" encoding=\"UTF-8\"?>\n<testsuites" ∷ numbers_part n)
 
--- what stands before the rows of a report
+-- what comes before the rows of a report
 unfoldable pub suite_start : List ℕ → Numbers → List ℕ
 suite_start program n = concat (codes "  <testsuite name=\"" ∷ escaped Value program ∷ codes "\"" ∷ numbers_part n)
 
 -- ---- rows
 
--- what stands between the program and a kind, and nothing before an empty one
+-- what comes between the program and a kind, and nothing before an empty one
 abbrev pub class_point : List ℕ → List ℕ
 class_point [] = []
 class_point (b ∷ kind) = codes "."
@@ -105,7 +105,7 @@ running_part None = []
 running_part (Some label) = concat (codes "; running: "
     ∷ bracketed Value (string_bytes label.kind) ∷ escaped Value (string_bytes label.name) ∷ [])
 
--- the line that says so, after so many rows
+-- the line that says that it has no end, after `ended` rows
 unfoldable pub stop_text : List ℕ → ℕ → Stop → List ℕ
 stop_text program ended stop = concat (concat (codes "    <testcase classname=\"" ∷ escaped Value program
     ∷ codes "\" name=\"(whole report)\"><error type=\"incomplete\" message=\"" ∷ [])

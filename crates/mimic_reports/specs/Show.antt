@@ -19,7 +19,7 @@ printed_row row = record {
 abbrev pub printed_rows : Report → List PrintedRow
 printed_rows report = map printed_row report.rows.items
 
--- what stands before the outcomes of rows
+-- what comes before the outcomes of rows
 abbrev pub labels_in : List PrintedRow → List Label
 labels_in rows = map (λ row. row.label) rows
 

@@ -3,7 +3,7 @@ use Rattle.std.specs.Prelude.{◌≡◌, ℕ, ◌<◌, List, [], ◌∷◌, map,
 use Rattle.std.specs.List.{flat_map, range_with_len}
 use Rattle.mimic_shard.specs.Shard.{shard_of}
 
--- the rounds with one more list, which stands before the others: each of its items is the first of its round
+-- the rounds with one more list, which comes before the others: each of its items is the first of its round
 abbrev pub before : {X : Type 0} → List X → List (List X) → List (List X)
 before [] rounds = rounds
 before (x ∷ xs) [] = (x ∷ []) ∷ before xs []
@@ -18,7 +18,7 @@ rounds_of (xs ∷ xss) = before xs (rounds_of xss)
 abbrev pub in_turn : {X : Type 0} → List (List X) → List X
 in_turn xss = flat_map (λ round. round) (rounds_of xss)
 
--- each item of the one list stands so to the item of the other list at its place, and there are as many
+-- each item of the one list is related by `R` to the item of the other list at its place, and there are as many
 abbrev pub Each : {A B : Type 0} → (A → B → Type 0) → List A → List B → Type 0
 Each R [] [] = ⊤
 Each R [] (y ∷ ys) = ⊥

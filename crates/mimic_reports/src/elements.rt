@@ -58,7 +58,7 @@ macro_rules! put_row {
     }};
 }
 
-// Writes what stands before the first report.
+// Writes what comes before the first report.
 #[tactic(auto, unfolding(crate::specs::Junit::root_start))]
 pub(crate) fn put_root_start<W: Write>(
     sink: &mut Sink<W>,
@@ -74,7 +74,7 @@ pub(crate) fn put_root_start<W: Write>(
     )
 }
 
-// Writes what stands before the rows of a report.
+// Writes what comes before the rows of a report.
 #[tactic(auto, unfolding(crate::specs::Junit::suite_start))]
 pub(crate) fn put_suite_start<'a, W: Write>(
     sink: &mut Sink<W>,
@@ -150,7 +150,7 @@ pub(crate) fn put_case<'a, W: Write>(
     }
 }
 
-// Writes that the report stopped after so many rows.
+// Writes that the report stopped after `ended` rows.
 pub(crate) fn put_stop<'a, W: Write>(
     sink: &mut Sink<W>,
     program: &'a str,

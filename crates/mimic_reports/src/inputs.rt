@@ -14,7 +14,7 @@ use mimic_trial::Conclusion;
 use std::alloc::Global;
 use std::io::{Read, Write};
 
-/// Reads the reports of so many shards, one reader after another, joins them as `joined` does, and writes the joined report in
+/// Reads the reports of `shards` shards, one reader after another, joins them as `joined` does, and writes the joined report in
 /// JSON. It returns the counts of that report.
 ///
 /// A reader is dropped when it has been read. All rows are kept, and none of the texts.

@@ -18,7 +18,7 @@ pub enum Refusal {
     /// The report at this place has more trials than one before it, or at least two less. No list has such shards.
     #[error("its number of trials doesn't fit those of the reports before it")]
     Uneven { place: usize },
-    /// In the report at this place, the kind and the name of this row stand in a report before it.
+    /// In the report at this place, this row has a kind and a name that are in a report before it too.
     #[error("its trial is in a report before it too")]
     NamedTwice { place: usize, row: usize },
     /// The number of all trials that were filtered out doesn't fit in a `u64`.
@@ -26,7 +26,7 @@ pub enum Refusal {
     TooMany,
 }
 
-/// Joins the reports of so many shards, which stand in the order of their indices, into one: it has the rows of all in turn,
+/// Joins the reports of `shards` shards, which are in the order of their indices, into one: it has the rows of all in turn,
 /// the number of all trials that were filtered out, and the time of the longest run, since they ran side by side.
 ///
 /// In turn comes the first row of each report, then the second of each, and so on; a report without more rows is passed over.
@@ -79,7 +79,7 @@ pub(crate) fn totals_of(
     }
 }
 
-// Returns why the reports can't be those of so many shards of one list, and `None` if they can.
+// Returns why the reports can't be those of `shards` shards of one list, and `None` if they can.
 fn refusal_of(
     alloc: Global,
     reports: &[Report],

@@ -84,7 +84,7 @@ pub fn write_junit<I: Read + Drop, W: Write>(
     ensures document { LeavesDocument I.remaining suites.entry.items (shown W.contents sink.old)
         (shown W.contents sink.new) result }
 
-    // Each text comes back from its spelling, and no spelling has markup.
+    // Each text can be unescaped, and escaped text has no markup.
     ensures laws { EscapeLaws }
 {
     let Some(numbers) = total_of(&suites) else {
@@ -164,7 +164,7 @@ fn put_rows<'a, W: Write>(
     Ok(())
 }
 
-// Writes what follows so many rows.
+// Writes what follows `ended` rows.
 fn put_suite_end<'a, W: Write>(
     sink: &mut Sink<W>,
     program: &'a str,

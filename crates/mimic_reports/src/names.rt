@@ -1,4 +1,4 @@
-//! Whether a kind and a name stands in two reports.
+//! Whether a kind and a name are in two reports.
 ghost use Rattle.std.specs.Prelude.{◌<◌, ◌++◌, List, length, map, All, AllPairs, Contains, IfOk, OnOk, MatchOption, slice_index_or};
 ghost use Rattle.mimic_printer.specs.Row.{Label};
 ghost use Rattle.mimic_events.specs.Key.{HasTrials, label_in};
@@ -9,7 +9,7 @@ use mimic_events::{Key, Report, Row};
 use std::alloc::{AllocError, Global};
 use std::collections::HashSet;
 
-// Returns the place of the first report with a row whose kind and name stand in a report before it, and that of its first such
+// Returns the place of the first report with a row whose kind and name are in a report before it, and that of its first such
 // row.
 pub(crate) fn named_twice(
     alloc: Global,

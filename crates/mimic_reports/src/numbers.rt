@@ -22,7 +22,7 @@ pub(crate) fn uneven(reports: &[Report]) -> Option<usize>
     None
 }
 
-// Returns how many trials were handed to the run of the report. The sum may pass a `u64`.
+// Returns how many trials were given to the run of the report. The sum may pass a `u64`.
 fn trials_of(report: &Report) -> u128
     ensures trials { result ≡ trials_in report.now }
     ensures fits { result < 2 ^ 65 }

@@ -23,7 +23,7 @@ pub(crate) fn counts_of_refs(rows: &[&Row], filtered_out: u64) -> Conclusion
     counts
 }
 
-// Writes the report of the rows, which lie elsewhere, and flushes it.
+// Writes the report of the rows, which are elsewhere, and flushes it.
 pub(crate) fn put_joined<W: Write>(
     sink: &mut Sink<W>,
     rows: &[&Row],

@@ -1,4 +1,4 @@
--- What the joined report of the runs of all shards tells.
+-- What the joined report of the runs of all shards shows.
 use Rattle.std.proofs.Common.{◌≡◌, ◌+◌, ◌-◌, ◌≤◌, List, [], ◌∷◌, ◌++◌, map, length, length-append, refl, sym, ap, subst, ◌∙◌, arith, inl, inr}
 use Rattle.std.specs.Prelude.{◌⊎◌, IsPermutation}
 use Rattle.std.proofs.lemmas.List.Concat.{flat_map-append}
@@ -17,7 +17,7 @@ use Rattle.mimic_reports.proofs.Joining.{concat_orders, entries_turned, filtered
 use Rattle.mimic_reports.proofs.Turns.{each-in_turn, each-length, shards_in_turn, parts-in_turn, turns_are_all}
 use Rattle.mimic_roundtrip.specs.Joined.{IsEntryOf, JoinsRuns, TellsTrials, shards_of}
 
--- ---- what each item tells: nothing where it is left out, else one entry
+-- ---- what each item gives: nothing if it is left out, else one entry
 
 module _ {X E : Type 0} (Out : X → Type 0) (Own : X → E → Type 0) where
   abbrev pub Tells : X → List E → Type 0

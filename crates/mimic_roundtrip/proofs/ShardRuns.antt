@@ -25,7 +25,7 @@ use Rattle.mimic_events.specs.declared.report.Report.{Report}
 use Rattle.mimic_roundtrip.specs.Run.{TellsRun}
 use Rattle.mimic_roundtrip.specs.Joined.{IsEntryOf, RunsTell, TellsTrials}
 
--- ---- what stands in a shard
+-- ---- what is in a shard
 
 module _ {A : Type 0} (P : A → Type 0) where
   all_if : (b : Bool) (x : A) (xs : List A) → P x → All P xs → All P (cond b (x ∷ xs) xs)
@@ -40,7 +40,7 @@ module _ {A : Type 0} (P : A → Type 0) where
   pub all_of_shard : (count index : ℕ) (xs : List A) → All P xs → All P (shard_of count index xs)
   all_of_shard count index xs all = all_from count 0 index xs all
 
--- ---- a permutation of places is one of what stands at them
+-- ---- a permutation of places is one of what is at them
 
 module _ {A B : Type 0} (f : A → B) where
   swap-map : (xs : List A) (i j : ℕ) → map f (swap xs i j) ≡ swap (map f xs) i j

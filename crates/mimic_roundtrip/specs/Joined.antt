@@ -1,4 +1,4 @@
--- What the runs of all shards say of the whole list of trials, and their joined report.
+-- What the runs of all shards report of the whole list of trials, and their joined report.
 use Rattle.std.specs.Prelude.{◌≡◌, ℕ, ◌<◌, List, map, IsPermutation}
 use Rattle.std.specs.List.{range_with_len}
 use Rattle.libtest_mimic.specs.Suite.{filtered_out_of}

@@ -2,7 +2,7 @@
 use Rattle.std.specs.Prelude.{ℕ, ◌+◌, ◌%◌, ◌<◌, ◌==◌, List, [], ◌∷◌, if◌then◌else◌, IsPermutation}
 use Rattle.std.specs.List.{flat_map, range_with_len}
 
--- the items whose place, divided by the count, leaves the index, in their order; the first of all stands at `place`
+-- the items whose place, divided by the count, leaves the index, in their order; the first of all is at `place`
 abbrev pub shard_from : {X : Type 0} → ℕ → ℕ → ℕ → List X → List X
 shard_from count place index [] = []
 shard_from count place index (x ∷ xs) =

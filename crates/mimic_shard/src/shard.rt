@@ -15,7 +15,7 @@ pub struct Shard {
 }
 
 impl Shard {
-    /// The shard of this index, of so many. `None` says that there is none, since the index is not below the count.
+    /// The shard `index` of `count`. `None` says that there is none, since the index is not below the count.
     pub fn new(index: usize, count: usize) -> Option<Shard>
         ensures shard { IfSome result (λ shard. (shard.index ≡ index) × (shard.count ≡ count)) }
         ensures none { IfNone result (count ≤ index) }

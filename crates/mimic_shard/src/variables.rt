@@ -45,7 +45,7 @@ impl Shard {
     }
 }
 
-// The shard of this index of so many, both as texts.
+// The shard of this index out of this total, both as texts.
 fn named(total: &str, index: &str) -> Result<Shard, ShardFault>
     ensures { IsNamedBy total.now index.now result }
 {

@@ -19,7 +19,7 @@ pub struct TwoReadings {
 }
 
 impl TwoReadings {
-    /// A clock that stands still at 0.
+    /// A clock that always reads 0.
     pub fn still() -> TwoReadings
         ensures first { result.first ≡ 0 }
         ensures second { result.second ≡ 0 }

@@ -40,7 +40,7 @@ pub enum Place {
 
 /// A writer that keeps what it takes.
 ///
-/// It counts what is asked of it, and apart what is asked after it has failed, so that a test can see that nothing is. The
+/// It counts what is asked of it, and separately what is asked after it has failed, so that a test can see that nothing is. The
 /// first call that finds no memory fails too, wherever that is.
 #[derive(Debug, Drop)]
 pub struct FaultyWriter {
@@ -87,7 +87,7 @@ impl FaultyWriter {
         }
     }
 
-    /// The same writer, which takes at most so many bytes a write.
+    /// The same writer, which takes at most `most` bytes a write.
     pub fn taking(mut self, most: usize) -> FaultyWriter
         ensures { result ≡ record self { most = most } }
     {
@@ -95,7 +95,7 @@ impl FaultyWriter {
         self
     }
 
-    /// The same writer, whose call at the place fails so, and no other call does.
+    /// The same writer, whose call at the place fails in this way, and no other call does.
     pub fn failing(mut self, place: Place, fault: Fault) -> FaultyWriter
         ensures { result ≡ record self { place = place; fault = fault } }
     {
@@ -120,7 +120,7 @@ impl FaultyWriter {
         self
     }
 
-    /// Each place where a run can fail that asks for what this writer was asked for: each byte, write and flush.
+    /// Each place at which a run can fail that makes the same calls as this writer got: each byte, write and flush.
     pub fn places(&self, alloc: Global) -> Result<Vec<Place>, AllocError>
         ensures { IfOk result
             (λ places. length places.items ≡ length self.now.bytes.items +
@@ -132,7 +132,7 @@ impl FaultyWriter {
         bytes.chain(writes).chain(flushes).collect(alloc)
     }
 
-    // Whether the call fails that is asked for now, which is the one at the place or not.
+    // Whether the call that is asked for now fails; `is_at_place` says whether it is the one at the place.
     fn fails(&mut self, is_at_place: bool) -> bool
         ensures bytes { self.new.bytes ≡ self.old.bytes }
         ensures tells { result ≡ true → self.new.has_failed ≡ true }

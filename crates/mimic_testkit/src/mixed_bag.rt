@@ -144,7 +144,8 @@ pub fn known_trials(alloc: Global, entries: &[Entry]) -> Result<Vec<Trial<Known>
     Ok(trials)
 }
 
-/// The trials of a table of entries, over boxed closures. This is a macro since boxed closures are to be made by the function that hands them in.
+/// The trials of a table of entries, over boxed closures. This is a macro since boxed closures are to be made by the function
+/// that hands them in.
 #[macro_export]
 macro_rules! trials_of {
     ($alloc:expr, $table:expr) => {{

@@ -64,7 +64,7 @@ unfolding fraction_digits
 none_left zero = refl
 none_left (suc k) = refl
 
--- the point follows what stands at the front
+-- the point follows what is at the front
 pub point_behind : (front rest : List ℕ) → length (front ++ rest) ≡ 32 → length front ≤ 20 → take (length front + 1) (slice_set (front ++ rest) (length front) 46) ≡ front ++ 46 ∷ []
 point_behind front rest long short =
     take_more_set (front ++ rest) (length front) 46 (omega (arith, long, short)) ∙ ap (λ l. l ++ 46 ∷ []) (take-append_seam front rest)

@@ -1,4 +1,4 @@
--- How texts stand between the quotes of a JSON string, in one spelling. A text is its bytes in UTF-8.
+-- How texts are written between the quotes of a JSON string, in one spelling. A text is its bytes in UTF-8.
 use Rattle.std.specs.Prelude.{◌≡◌, ◌≢◌, ◌<◌, ℕ, ◌/◌, ◌%◌, ◌==◌, nat_lt, if◌then◌else◌, List, [], ◌∷◌, encode_utf8, encode_utf8_all}
 use Rattle.std.specs.Char.{digit_char}
 use Rattle.std.specs.List.{AllByRecursion, flat_map}

@@ -14,12 +14,12 @@ padded width text = text ++ spaces (width - length (chars text))
 abbrev pub right_aligned : ℕ → List ℕ → List ℕ
 right_aligned width digits = spaces (width - length digits) ++ digits
 
--- a kind stands in brackets and a space follows; an empty kind is left out (the Rust crate's)
+-- a kind is in brackets and a space follows; an empty kind is left out (the Rust crate's)
 abbrev pub kind_part : List ℕ → List ℕ
 kind_part [] = []
 kind_part (b ∷ bs) = codes "[" ++ ((b ∷ bs) ++ codes "] ")
 
--- the digits with a comma between two of them exactly where a multiple of three digits follows (the Rust crate's)
+-- the digits with a comma between two of them exactly if a multiple of three digits follows (the Rust crate's)
 abbrev pub grouped : List ℕ → List ℕ
 grouped [] = []
 grouped (d ∷ ds) = if nat_lt 0 (length ds) && (length ds % 3 == 0) then d ∷ 44 ∷ grouped ds else d ∷ grouped ds

@@ -1,4 +1,4 @@
-//! How texts stand between the quotes of a JSON string.
+//! How texts are written between the quotes of a JSON string.
 ghost use Rattle.std.specs.Prelude.{◌≡◌, ◌<◌, ◌≤◌, ◌/◌, ◌%◌, ◌∷◌, [], length, take, slice_index, MatchOption};
 ghost use Rattle.std.specs.Char.{digit_char};
 ghost use Rattle.mimic_text.specs.Escape.{ArePlain, EscapesCharacters, NeedsEscape, escape, escape_char};
@@ -66,7 +66,7 @@ impl Escaped {
 
 /// Returns a character as it is written between the quotes of a JSON string (RFC 8259, section 7). It has one spelling.
 ///
-/// `\"`, `\\`, `\b`, `\t`, `\n`, `\f` and `\r` stand for the characters that they have always stood for,
+/// `\"`, `\\`, `\b`, `\t`, `\n`, `\f` and `\r` stand for the characters that they usually stand for,
 /// `\u00` and two hexadecimal digits in small letters for every other character below U+0020, and every
 /// other character for itself, also `/` and U+007F.
 pub fn escape_char(c: char) -> Escaped

@@ -27,7 +27,7 @@ pub use seconds::{NANOS_PER_SECOND, exact_seconds, hundredths};
 use std::alloc::{AllocError, Global};
 use std::str;
 
-/// Returns what stands before and after a kind that is shown before a name: brackets, the closing one with a
+/// Returns what comes before and after a kind that is shown before a name: brackets, the closing one with a
 /// space after it, and nothing around an empty kind.
 pub fn brackets(kind: &str) -> (&'static str, &'static str)
     ensures shown { result.0.now ++ (kind.now ++ result.1.now) ≡ kind_part kind.now }

@@ -29,7 +29,7 @@ impl Task for Runner {
 
     ghost gives = { λ runner mode o. PromisesOutcome runner mode o };
 
-    // An outcome is large: to hand it on through a call takes a tenth of a trial's time.
+    // An outcome is large: to pass it on through a call takes a tenth of a trial's time.
     #[inline(always)]
     fn run(self, test_mode: bool) -> Outcome {
         run_single(self, test_mode)

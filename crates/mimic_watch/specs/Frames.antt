@@ -3,7 +3,7 @@ use Rattle.std.specs.Prelude.{ℕ, ◌+◌, ◌≤◌, ◌==◌, min, nat_lt, if
 use Rattle.std.specs.List.{AllByRecursion}
 use Rattle.mimic_watch.specs.declared.frame.View.{View}
 
--- a bar of six cells, of which so many are filled
+-- a bar of six cells, of which `cells` are filled
 abbrev pub bar : ℕ → List ℕ
 bar cells = codes "[" ++ (take (min cells 6) (codes "======") ++ (drop (min cells 6) (codes "      ") ++ codes "] "))
 
@@ -26,8 +26,8 @@ abbrev pub left_part : Option ℕ → List ℕ
 left_part None = []
 left_part (Some left) = codes " " ++ (decimal left ++ codes "s left")
 
--- the first line: a bar, how many rows have ended of how many, how many failed, and the seconds that are gone and left; what doesn't
--- fit is left out
+-- the first line: a bar, how many rows have ended of how many, how many failed, and the seconds that have passed and
+-- those that are left; what doesn't fit is left out
 unfoldable pub first_line : View → List ℕ
 first_line v = with_parts (bar v.cells) ((decimal v.ended ++ []) ∷ announced_part v.announced ∷ failed_part v.failed
     ∷ (codes " " ++ (decimal v.elapsed ++ codes "s")) ∷ left_part v.left ∷ [])
@@ -37,7 +37,7 @@ pub record FitsLine (line : List ℕ) : Type 0 where
   pub short : length line ≤ 39
   pub plain : AllByRecursion (λ b. (32 ≤ b) × (b ≤ 126)) line
 
--- two lines with the cursor at the start of the first: line wrap is off while they are written, and what stood behind the first and
+-- two lines with the cursor at the start of the first: line wrap is off while they are written, and what was after the first and
 -- below is erased, but never from the first column on
 unfoldable pub frame : List ℕ → List ℕ → List ℕ
 frame first second = codes "\u{1b}[?7l\r" ++ (first ++ (codes "\u{1b}[J\n" ++ (second ++ codes "\u{1b}[1A\r\u{1b}[?7h")))

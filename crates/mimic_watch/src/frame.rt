@@ -12,9 +12,9 @@ const COLUMNS: usize = 39;
 // How many columns the bar has between its brackets.
 const CELLS: usize = 6;
 
-/// Erases the two lines at whose start the cursor stands, and leaves it there.
+/// Erases two lines, with the cursor at the start of the first, and leaves it there.
 ///
-/// What a narrower window wraps of them stands below, so all of that goes. The space keeps `ESC[J` off the first column: in the
+/// What a narrower window wraps of them is below, so all below is erased. The space keeps `ESC[J` off the first column: in the
 /// window's first line some terminals would put all that they show into their history.
 pub const ERASE: &str = "\r \u{1b}[J\r\u{1b}[K";
 
@@ -89,7 +89,7 @@ fn push_left(line: &mut Vec<u8>, left: Option<u64>) -> Result<(), AllocError>
     }
 }
 
-// Returns a bar with so many cells filled.
+// Returns a bar with `cells` cells filled.
 fn bar(alloc: Global, cells: usize) -> Result<Vec<u8>, AllocError>
     ensures { IfOk result (λ line. line.items ≡ bar cells) }
 {
@@ -102,7 +102,7 @@ fn bar(alloc: Global, cells: usize) -> Result<Vec<u8>, AllocError>
     Ok(line)
 }
 
-// Appends a number and what stands around it, if the line has room for all of it.
+// Appends a number and the texts around it, if the line has room for all of it.
 fn push_part(line: &mut Vec<u8>, before: &[u8], number: u64, after: &[u8]) -> Result<(), AllocError>
     ensures { OnOk result (line.new.items ≡ with_part line.old.items (before.now ++ (decimal number ++ after.now))) }
 {

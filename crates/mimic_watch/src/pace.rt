@@ -4,12 +4,12 @@ use std::rt::Clock;
 // Times are in nanoseconds.
 const SECOND: u64 = 1_000_000_000;
 
-// Between two drawings on a terminal pass so many at least, and between two lines without one.
+// The shortest time between two drawings on a terminal, and between two lines without one.
 const TENTH: u64 = SECOND / 10;
 
 const LINES_APART: u64 = 10 * SECOND;
 
-// Before this time nothing is said of the time left.
+// Before this time the time left is not shown.
 const SURE: u64 = SECOND / 2;
 
 // How far back the rate of a run is looked at, in seconds.

@@ -17,7 +17,7 @@ use std::alloc::{AllocError, Global};
 use std::io::{ErrorKind, Read, Write};
 use std::rt::Clock;
 
-// On a terminal, what rows show waits for the next drawing unless it is so many bytes.
+// On a terminal, what rows show waits for the next drawing unless it has this number of bytes or more.
 const BLOCK: usize = 65_536;
 
 // What has come of a report.
@@ -41,8 +41,8 @@ struct Viewer {
 /// measurement once, and at last the harness's summary.
 ///
 /// On a terminal (`live`) two lines below say how far the run is, at most ten times a second; each time it is one write, which leaves
-/// the terminal as it was. Else a line says so every ten seconds, with no escape sequence. A reader that returns `TimedOut` or
-/// `WouldBlock` says that nothing has come for a while. Rows that have passed are not kept.
+/// the terminal as it was. Else a line reports this every ten seconds, with no escape sequence. A reader that returns
+/// `TimedOut` or `WouldBlock` says that nothing has come for a while. Rows that have passed are not kept.
 pub fn watch<I: Read, W: Write, C: Clock>(
     alloc: Global,
     input: &mut I,
@@ -267,7 +267,7 @@ impl Viewer {
     }
 }
 
-// How many cells of a bar so many rows of all fill.
+// How many cells of a bar are filled by `ended` of `rows` rows.
 fn cells(ended: u64, rows: u64) -> usize {
     if rows == 0 {
         return 0;

@@ -1,4 +1,4 @@
-//! Prints what is not in a report as in an older one.
+//! Prints how a report differs from an older one.
 use crate::faults::{refuse, refuse_all};
 use crate::input::Input;
 use crate::line::Compare;
@@ -9,7 +9,7 @@ use mimic_printer::{OutputFault, Sink};
 use std::alloc::Global;
 use std::io::BufWriter;
 
-// Prints what became of each kind and name, and says of a report why it isn't whole.
+// Prints what became of each kind and name, and why a report isn't whole.
 pub(crate) fn run(rt: &HostRuntime, alloc: Global, compare: &Compare) -> u8 {
     let old = read(rt, alloc, compare.old.as_str());
     let new = read(rt, alloc, compare.new.as_str());
@@ -19,7 +19,7 @@ pub(crate) fn run(rt: &HostRuntime, alloc: Global, compare: &Compare) -> u8 {
     }
 }
 
-// Reads the rows of a file, or says why it gives none.
+// Reads the rows of a file. It prints why they are cut, or why there are none.
 fn read(rt: &HostRuntime, alloc: Global, file: &str) -> Option<RowsRead> {
     match read_rows(alloc, Input::new(rt, file)) {
         Ok(read) => {

@@ -1,4 +1,4 @@
-//! Prints what of reports is not as known failures say.
+//! Prints what differs in reports from the known failures.
 use crate::faults::{refuse, refuse_all};
 use crate::input::Input;
 use crate::line::Expect;
@@ -9,7 +9,7 @@ use mimic_printer::{OutputFault, Sink};
 use std::alloc::Global;
 use std::io::{BufWriter, Read};
 
-// Prints what is unexpected, or why that can't be said.
+// Prints what is unexpected, or why that can't be judged.
 pub(crate) fn run(rt: &HostRuntime, alloc: Global, expect: &Expect) -> u8 {
     let file = expect.known.as_str();
     let mut bytes = Vec::new(alloc);
@@ -42,7 +42,7 @@ fn print(
     write_unexpected(alloc, known, inputs, expect.lax, &mut Sink::new(out))
 }
 
-// Says of each file that has no whole report why.
+// Prints for each file without a whole report why it has none.
 fn print_ends(rt: &HostRuntime, expect: &Expect, verdict: &Verdict) {
     for (file, end) in expect.files.iter().zip(&verdict.ends) {
         let file = file.as_str();
@@ -58,7 +58,7 @@ fn print_ends(rt: &HostRuntime, expect: &Expect, verdict: &Verdict) {
     }
 }
 
-// Says why the file has no known failures.
+// Prints why no known failures can be read from the file, and returns the status.
 fn refuse_known(rt: &HostRuntime, file: &str, fault: &KnownFault) -> u8 {
     if let KnownFault::Line(line) = fault {
         let _ = eprintln!(rt; "reports: {file}: line {line}: {fault}");

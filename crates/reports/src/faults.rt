@@ -1,15 +1,15 @@
-//! Says on standard error why there is no report, or no more of one.
+//! Prints on standard error why there is no report, or no more of one.
 use crate::REFUSED;
 use std::fmt;
 use std::io::Eprint;
 
-// Says what is wrong with a file, and returns the status.
+// Prints what is wrong with a file, and returns the status.
 pub(crate) fn refuse<F: fmt::Display>(rt: &HostRuntime, file: &str, fault: &F) -> u8 {
     let _ = eprintln!(rt; "reports: {file}: {fault}");
     REFUSED
 }
 
-// Says what is wrong with no single file, and returns the status.
+// Prints a fault that belongs to no single file, and returns the status.
 pub(crate) fn refuse_all<H: Eprint, F: fmt::Display>(host: &H, fault: &F) -> u8 {
     let _ = eprintln!(host; "reports: {fault}");
     REFUSED

@@ -8,7 +8,7 @@ use std::{fs, io};
 // The name that stands for standard input.
 pub(crate) const STANDARD: &str = "-";
 
-// The name of the program whose report is read from there.
+// The name of the program whose report is read from standard input.
 const NAMELESS: &str = "report";
 
 /// A file, which is opened at the first read, or standard input.
@@ -43,7 +43,7 @@ impl<'a> Input<'a> {
     }
 }
 
-/// The name of the program whose report the file has: the file's, without its folder and its ending.
+/// The name of the program whose report the file has: the file's name without its folder and its ending.
 pub(crate) fn name_of(file: &str) -> &str {
     if file == STANDARD {
         return NAMELESS;
@@ -60,7 +60,7 @@ impl Read for Input<'_> {
         match self {
             Input::Open(file) => file.read(buf),
             Input::Standard(stdin) => stdin.read(buf),
-            // It was opened above.
+            // The file was opened above.
             Input::Named { .. } => Ok(0),
         }
     }

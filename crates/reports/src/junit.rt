@@ -9,7 +9,7 @@ use std::alloc::Global;
 use std::fs;
 use std::io::BufWriter;
 
-// Prints the document of all reports that could be read, and says of each other file why it is none.
+// Prints the document of all reports that could be read. It also prints why a report is cut or could not be read.
 pub(crate) fn run(rt: &HostRuntime, alloc: Global, junit: &Junit) -> u8 {
     let mut sources = Sources {
         files: Vec::new(alloc),
@@ -66,7 +66,7 @@ impl<'a> Sources<'a> {
     }
 }
 
-// Says why the document has no end.
+// Prints why the document has no end, and returns the status.
 fn refuse_at(rt: &HostRuntime, files: &[&str], fault: &JunitFault) -> u8 {
     match fault.place() {
         Some(place) => refuse(rt, files.get(place).unwrap_or(&STANDARD), fault),
@@ -74,7 +74,7 @@ fn refuse_at(rt: &HostRuntime, files: &[&str], fault: &JunitFault) -> u8 {
     }
 }
 
-// Reads a report. A regular file is read again when it is written, so that its rows are not kept.
+// Reads a report. A regular file is read again when its report is written, so that its rows are not kept.
 fn read<'a>(
     rt: &'a HostRuntime,
     alloc: Global,

@@ -9,7 +9,7 @@ use thiserror::Error;
 // What `--color` takes.
 static COLOURS: [&str; 3] = ["auto", "always", "never"];
 
-/// The reports in these files are to be joined, as those of so many shards.
+/// The reports in these files are to be joined, as those of `shards` shards.
 #[derive(Debug, Drop)]
 pub(crate) struct Join {
     pub(crate) shards: usize,
@@ -20,7 +20,7 @@ pub(crate) struct Join {
 /// The reports in these files are to be printed as JUnit's XML.
 #[derive(Debug, Drop)]
 pub(crate) struct Junit {
-    /// The name of their program. `None` stands for that of each file.
+    /// The name of their program. With `None`, each report gets the name of its file.
     pub(crate) name: Option<String>,
     pub(crate) files: Vec<String>,
 }
@@ -28,13 +28,13 @@ pub(crate) struct Junit {
 /// When a report has colours.
 #[derive(Clone, Copy, Debug)]
 pub(crate) enum Colours {
-    /// If standard output shows some, as for a report of the harness.
+    /// If standard output shows colours, as for a report of the harness.
     Auto,
     Always,
     Never,
 }
 
-/// The report in this file is to be printed as the harness prints it, or its failures alone.
+/// The report in this file, or only its failures, is to be printed as the harness prints it.
 #[derive(Debug, Drop)]
 pub(crate) struct Show {
     pub(crate) only_failed: bool,
@@ -119,7 +119,7 @@ impl Line {
 impl Join {
     fn from_matches(alloc: Global, matches: &ArgMatches<'_>) -> Result<Join, LineError> {
         Ok(Join {
-            // It is required.
+            // `--shards` is required.
             shards: matches.get_one::<usize>("shards").unwrap_or(0),
             equal_names: matches.get_flag("equal-names"),
             files: files_of(alloc, matches)?,
@@ -149,7 +149,7 @@ impl Show {
                 Some("never") => Colours::Never,
                 _ => Colours::Auto,
             },
-            // It is required.
+            // `FILE` is required.
             file: String::from_str(alloc, matches.get_str("FILE").unwrap_or(STANDARD))?,
         })
     }
@@ -164,7 +164,7 @@ impl Expect {
         }
         Ok(Expect {
             lax: matches.get_flag("lax"),
-            // It is required.
+            // `KNOWN` is required.
             known: String::from_str(alloc, known)?,
             files,
         })
@@ -189,13 +189,13 @@ impl Compare {
 impl Page {
     fn from_matches(alloc: Global, matches: &ArgMatches<'_>) -> Result<Page, LineError> {
         Ok(Page {
-            // It is required.
+            // `FILE` is required.
             file: String::from_str(alloc, matches.get_str("FILE").unwrap_or(STANDARD))?,
         })
     }
 }
 
-// Returns the names of the files, of which one at most is standard input.
+// Returns the names of the files. At most one of them is standard input.
 fn files_of(alloc: Global, matches: &ArgMatches<'_>) -> Result<Vec<String>, LineError> {
     let mut files = Vec::new(alloc);
     let mut inputs = 0_u64;
@@ -343,7 +343,7 @@ fn file<'a>(alloc: Global, id: &'a str, help: &'a str) -> Arg<'a> {
     Arg::new(alloc, id).required(true).help(help)
 }
 
-// Words that name files, of which there is at least one.
+// Words that name files. There is at least one.
 fn files<'a>(alloc: Global, help: &'a str) -> Arg<'a> {
     file(alloc, "FILE", help).action(ArgAction::Append)
 }

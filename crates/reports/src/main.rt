@@ -17,7 +17,7 @@ use faults::refuse_all;
 use line::{Line, LineError};
 use std::process::ExitCode;
 
-// How many bytes of a report wait at most before they go out.
+// How many bytes of a report are buffered at most before they are written.
 const BLOCK: usize = 65_536;
 
 // The exit statuses.

@@ -9,7 +9,7 @@ use mimic_printer::Sink;
 use std::alloc::Global;
 use std::io::BufWriter;
 
-// Prints the page of the file's report, and says why it is cut, or why the file can't be read.
+// Prints the page of the file's report, and why it is cut, or why the file can't be read.
 pub(crate) fn run(rt: &HostRuntime, alloc: Global, page: &Page) -> u8 {
     let file = page.file.as_str();
     let read = match read_rows(alloc, Input::new(rt, file)) {

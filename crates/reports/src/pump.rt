@@ -15,7 +15,7 @@ const FULL: usize = 1 << 20;
 // How long the showing thread waits for bytes.
 const TICK_MILLIS: u64 = 100;
 
-// What was read and not taken yet, and whether that is all.
+// What was read and not taken yet, whether the input is over, and the fault if there was one.
 #[derive(Drop)]
 struct Held {
     bytes: Vec<u8>,
@@ -32,7 +32,7 @@ pub(crate) struct Pipe {
 }
 
 impl Pipe {
-    /// An empty one.
+    /// Makes an empty pipe.
     pub(crate) fn new(alloc: Global) -> Result<Pipe, AllocError> {
         Ok(Pipe {
             held: Mutex::new(Held {
@@ -45,14 +45,14 @@ impl Pipe {
         })
     }
 
-    // Puts the piece behind those that were not taken yet, once there are few.
+    // Appends the piece to the bytes that were not taken yet, once there are fewer than `FULL`.
     fn put<R: Wait>(&self, rt: &R, piece: &[u8]) {
         let held = self.held.lock(rt);
         let mut held = self
             .taken
             .wait_while(rt, held, |held| held.bytes.len() >= FULL);
         let was_empty = held.bytes.is_empty();
-        // Behind a piece that was lost nothing more comes.
+        // After a piece that was lost, nothing more is appended.
         if held.fault.is_none() && held.bytes.extend_from_slice(piece).is_err() {
             held.fault = Some(ErrorKind::OutOfMemory);
         }
@@ -73,7 +73,7 @@ impl Pipe {
     }
 }
 
-/// Reads the input to its end, for the other thread.
+/// Reads the input to its end, and puts it into the pipe for the other thread.
 pub(crate) fn pump<R: Wait, I: Read>(rt: &R, input: &mut I, pipe: &Pipe) {
     let mut piece = [0; PIECE];
     let mut fault = None;
@@ -123,7 +123,7 @@ impl<'a, R: Wait + Clock> Incoming<'a, R> {
         }
     }
 
-    // Takes all that came, and waits for it a while. It returns false at the end.
+    // Waits a while for bytes, and takes all that came. It returns false at the end.
     fn refill(&mut self) -> io::Result<bool> {
         self.bytes.clear();
         self.at = 0;

@@ -1,4 +1,4 @@
-//! Prints a report as the harness prints it in pretty.
+//! Prints a report as the harness prints it in the pretty format.
 use crate::faults::{refuse, refuse_all};
 use crate::input::Input;
 use crate::line::{Colours, Show};
@@ -50,7 +50,7 @@ fn print(rt: &HostRuntime, alloc: Global, show: &Show, report: Report) -> Result
     }
 }
 
-// Says why the file has no report.
+// Prints why the file has no report, and returns the status.
 fn refuse_read(rt: &HostRuntime, file: &str, fault: &ReadFault) -> u8 {
     if let ReadFault::WrongLine(line) = fault {
         let _ = eprintln!(rt; "reports: {file}: line {line}: {fault}");

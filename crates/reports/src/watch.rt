@@ -11,7 +11,7 @@ use std::sync::{Arc, Wait};
 use std::thread::Threads;
 use std::{env, thread};
 
-/// What a watch runs on, as the handle that `main` gets: threads that wait for each other, a clock, an environment, and standard
+/// What a watch needs of the handle that `main` gets: threads that wait for each other, a clock, an environment, and standard
 /// error.
 pub(crate) trait Host: Threads
     + Wait
@@ -27,7 +27,8 @@ pub(crate) trait Host: Threads
 impl<H: Threads + Wait + Clock + Env + AllocGlobal + Eprint + Copy + Drop + Send + 'static> Host
     for H {}
 
-/// Shows the report while another thread reads it, and returns the status: that of the run, or 1 after the reason why there is none.
+/// Shows the report while another thread reads it, and returns the status of the run. If there is none, it prints why and
+/// returns 1.
 ///
 /// Unless the input itself fails, it is read to its end, so that no pipe is closed on the harness.
 pub(crate) fn run<H: Host>(host: &H, alloc: Global, stdin: Stdin, stdout: Stdout) -> u8 {

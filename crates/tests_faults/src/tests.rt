@@ -1,6 +1,6 @@
-//! What no clause says of faults, refused memory, hostile texts and worker threads: which answer comes, how much stands then,
-//! and what was still asked of writers and runners. Lengths, places and texts are worked by hand from the format's rules; a
-//! report that was cut short is compared with the whole one, whose text the tests of whole runs know.
+//! What no clause covers of faults, refused memory, hostile texts and worker threads: which answer comes, how much is written
+//! then, and what was still asked of writers and runners. Lengths, places and texts are worked by hand from the format's rules;
+//! a report that was cut short is compared with the whole one, whose text the tests of whole runs know.
 mod arrivals;
 mod dropped;
 mod faulty_writer;
@@ -25,7 +25,7 @@ macro_rules! in_both_orders {
 
 use in_both_orders;
 
-// A text of five parts, in which the three in the middle stand in each order.
+// A text of five parts, with the three in the middle in each order.
 macro_rules! in_all_orders {
     ($title:literal, $first:literal, $second:literal, $third:literal, $end:literal) => {
         [

@@ -1,4 +1,4 @@
-//! What no clause says of programs: when bytes go out, what is printed on standard error, and that nothing is done after a fault.
+//! What no clause covers: when bytes go out, what is printed on standard error, and that nothing is done after a fault.
 mod clocks;
 mod faults;
 mod known_machine;

@@ -1,4 +1,4 @@
-//! What no clause says of reading: that reports are read if memory is ample, and what the definition of a report takes and refuses.
+//! What no clause covers: that reports are read if memory is ample, and what the definition of a report takes and refuses.
 //! Expected values are worked by hand from the format's rules.
 mod feeding;
 mod questions;

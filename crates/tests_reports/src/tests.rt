@@ -1,5 +1,5 @@
-//! What no clause says of shards, of reports that are joined, judged, compared and shown, and of a watch. Expected values are worked
-//! by hand.
+//! What no clause states about shards, about reports that are joined, judged, compared and shown, and about a watch. Expected
+//! values are worked out by hand.
 mod compare;
 mod expect;
 mod joining;

@@ -34,7 +34,7 @@ pub struct Started<R: Task> {
 /// after the workers have been joined those that did not. Returns the desk, at which an outcome of each trial has arrived then.
 ///
 /// `infos` are by place, counted from 0. It is refused for a write fault, or with `Arrival` for the least place at which
-/// something else arrived first than its worker returned, also after a write fault. After a write fault, workers take no more
+/// the first arrival differs from what its worker returned, also after a write fault. After a write fault, workers take no more
 /// trials from a queue, and those that are left there are dropped.
 pub fn gather_rows<R: Task + Send + 'static, W: Write, T: Spawner + 'static>(
     rt: &T,
@@ -73,8 +73,8 @@ pub fn gather_rows<R: Task + Send + 'static, W: Write, T: Spawner + 'static>(
     Ok(desk)
 }
 
-// Compares what arrived with what the workers returned. Where nothing arrived, what they returned arrives now. If they ran the
-// whole, mostly all has arrived and is the same: then no row is copied.
+// Compares what arrived with what the workers returned. At places at which nothing arrived, what they returned arrives now. If
+// they ran the whole, mostly all has arrived and is the same: then no row is copied.
 fn complete(
     desk: &mut Desk,
     joined: Vec<Rows>,
@@ -99,7 +99,7 @@ fn complete(
     Ok(())
 }
 
-// For each place an outcome that isn't what arrived there. It is compared where no worker returned one.
+// For each place an outcome other than the one that arrived there. It is what is compared if no worker returned one.
 fn others_than(desk: &Desk, mut room: Vec<Outcome>, count: usize) -> Vec<Outcome>
     requires empty { vec_len room ≡ 0 }
     requires fits { count ≤ vec_capacity room }

@@ -24,14 +24,14 @@ use std::alloc::{AllocError, Global};
 use std::io::Write;
 use std::sync::Wait;
 
-// How many threads run the trials, and which of them runs which.
+// How many threads run the trials, and how these come to them.
 #[derive(Clone, Copy)]
 pub(super) struct Workers {
     pub(super) threads: usize,
     pub(super) schedule: Schedule,
 }
 
-// Runs the trials on so many threads, but on no more than there are trials, and writes their report.
+// Runs the trials on `workers.threads` threads, but on no more than there are trials, and writes their report.
 pub(super) fn run_in_workers<R: Task + Send + 'static, W: Write, C: Clock, T: Spawner + 'static>(
     rt: &T,
     alloc: Global,

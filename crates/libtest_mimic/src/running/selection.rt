@@ -72,7 +72,7 @@ fn printer_for<R>(args: &Arguments, trials: &[Trial<R>], auto_colours: bool) -> 
     Printer::new(format, args.colours(auto_colours), name_width, kind_width)
 }
 
-// How wide its columns are: only pretty has some, so in other formats the trials are not gone over.
+// The widths of its columns. Only pretty has columns, so for other formats the trials aren't looked at.
 fn columns_for<R>(format: FormatSetting, trials: &[Trial<R>]) -> (usize, usize)
     ensures names { format ≡ FormatSetting.Pretty
         → result.0 ≡ name_width_of (labels_of trials.now) }

@@ -21,7 +21,7 @@ impl Tally {
     ghost use Rattle.mimic_printer.specs.Row.{PrintedRow, row_of};
     ghost use Rattle.libtest_mimic.specs.Steps.{HasCounted, HasRoomFor};
 
-    // Nothing is counted yet, and there is room for so many failures.
+    // Nothing is counted yet, and there is room for `trials` failures.
     pub(crate) fn with_capacity(
         alloc: Global,
         trials: usize,

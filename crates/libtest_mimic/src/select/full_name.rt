@@ -18,7 +18,7 @@ pub(super) fn is_full_name(pattern: &[u8], kind: &str, name: &[u8]) -> bool
     pattern.len() - front == name.len() && stands_at(pattern, kind, name, 0)
 }
 
-// Whether the pattern stands in the full name from some place before the name on.
+// Whether the pattern occurs in the full name from a place before the name on.
 pub(super) fn begins_in_kind_part(pattern: &[u8], kind: &str, name: &[u8]) -> bool
     ensures { IsTrue result ↔ OccursBefore pattern.now (kind_part kind.now) name.now }
 {
@@ -30,7 +30,7 @@ pub(super) fn begins_in_kind_part(pattern: &[u8], kind: &str, name: &[u8]) -> bo
     false
 }
 
-// Whether the pattern stands in the full name from this place on.
+// Whether the pattern is in the full name at this place.
 fn stands_at(pattern: &[u8], kind: &str, name: &[u8], start: usize) -> bool
     requires { start ≤ length (kind_part kind.now) }
     ensures { IsTrue result ↔ StandsAt pattern.now (full_name kind.now name.now) start }
@@ -44,7 +44,7 @@ fn stands_at(pattern: &[u8], kind: &str, name: &[u8], start: usize) -> bool
     }
 }
 
-// Whether the piece stands in the kind part from this place on.
+// Whether the piece is in the kind part at this place.
 fn stands_in_kind_part(piece: &[u8], kind: &str, start: usize) -> bool
     requires { start + length piece.now ≤ length (kind_part kind.now) }
     ensures { IsTrue result ↔ StandsAt piece.now (kind_part kind.now) start }

@@ -126,7 +126,7 @@ impl Failed {
         }
     }
 
-    // Makes the outcome of a trial that failed so. That the message is text is known only here, where the fields can be seen.
+    // Makes the outcome of a trial that failed with this. Only here, where fields can be seen, is the message known to be text.
     pub(crate) fn into_outcome(self) -> Outcome
         ensures outcome { result ≡ Outcome.Failed self }
         ensures text { IfSome self IsUtf8 }

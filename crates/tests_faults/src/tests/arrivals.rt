@@ -31,7 +31,7 @@ fn infos_of_all(alloc: Global) -> Result<Vec<TestInfo>, AllocError> {
     Ok(infos)
 }
 
-// A supply of so many tasks for two workers, none of which is ignored.
+// A supply of `trials` tasks for two workers, none of which is ignored.
 fn supply_of<T: Task, R: Wait, F: Fn(usize) -> T>(
     rt: &R,
     alloc: Global,

@@ -29,8 +29,8 @@ fn answers(writer: &mut FaultyWriter, want: &[Answer; 5]) -> bool {
         && answer(writer.flush().map(|()| 0)) == want[4]
 }
 
-// How many bytes a writer takes at most, where and how it fails, and whether for ever; what those calls return, the bytes that
-// it holds then, and how many calls came after its fault.
+// How many bytes a writer takes at most, the place at which it fails, how, and whether for ever; what those calls return, the
+// bytes that it holds then, and how many calls came after its fault.
 struct Row {
     most: usize,
     place: Place,

@@ -50,7 +50,7 @@ fn told_at(place: Place, fault: Fault) -> Fault {
     }
 }
 
-// Whether so many bytes of the list may stand if a call at the place failed.
+// Whether `len` bytes of the list may be written if a call at the place failed.
 fn may_stand(place: Place, len: usize) -> bool {
     match place {
         Place::Byte(count) => len == count,
@@ -59,8 +59,8 @@ fn may_stand(place: Place, len: usize) -> bool {
     }
 }
 
-// Whether the list is stopped by the fault of this writer, after a beginning of its text that may stand then, and the watch
-// runs on.
+// Whether the list is stopped by the fault of this writer, after a beginning of its text that may be written then, and the
+// watch runs on.
 fn stops<T: Spawner + 'static>(
     rt: &T,
     alloc: Global,
@@ -78,7 +78,7 @@ fn stops<T: Spawner + 'static>(
     )
 }
 
-// The places where a list that is written whole, so many bytes a write at most, can fail.
+// The places at which a list that is written whole, at most `most` bytes a write, can fail.
 fn places_of_list<T: Spawner + 'static>(
     rt: &T,
     alloc: Global,

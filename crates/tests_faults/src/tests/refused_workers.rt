@@ -63,9 +63,9 @@ fn is_whole(bytes: &[u8]) -> bool {
     is_whole
 }
 
-// Whether a run may leave these bytes by its answer, and have called so many of the three runners: all if it is whole; if a worker
-// couldn't be started those of the workers before it, which had their shares, and none from a queue; and none if there was no memory
-// before the title.
+// Whether a run with this answer may leave these bytes and call this number of the three runners: all if it is whole; if a
+// worker couldn't be started those of the workers before it, which had their shares, and none from a queue; and none if there
+// was no memory before the title.
 fn may_stand(left: &Left<FaultyWriter>, schedule: Schedule, called: u64) -> bool {
     let bytes = left.writer.bytes.as_slice();
     match (&left.answer, schedule) {
@@ -97,9 +97,9 @@ fn run_slow<T: Spawner + Clock + Abort + 'static>(
     Ok((left, taken / 2))
 }
 
-// If a worker that has a share can't be started, the title alone is written. If one can't that takes from a queue, those that were
-// started run all trials, and the title alone is written if there are none. A worker that was started is joined: its trial doesn't
-// run on when the run has returned.
+// If a worker that has a share can't be started, the title alone is written. If one that takes from a queue can't be started,
+// the others run all trials, and the title alone is written if there are none. A worker that was started is joined: its trial
+// doesn't run on when the run has returned.
 #[test]
 fn joins_started_workers(rt: HostRuntime) -> Result<(), Fail> {
     for schedule in SCHEDULES {

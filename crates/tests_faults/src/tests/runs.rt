@@ -41,7 +41,7 @@ pub(super) fn becoming(
     Ok(Trial::new(String::from_str(alloc, name)?, Becomes(outcome)))
 }
 
-// What asks for this format, and for so many threads.
+// What asks for this format and this number of threads.
 pub(super) fn asking(alloc: Global, format: FormatSetting, threads: Option<usize>) -> Arguments {
     let mut args = Arguments::new(alloc);
     args.format = Some(format);

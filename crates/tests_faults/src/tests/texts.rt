@@ -6,8 +6,8 @@ use mimic_testkit::FaultyWriter;
 use std::alloc::{AllocError, Global};
 use std::test::Fail;
 
-// A name, a kind, the message of a failure, and how they stand in the lines of the trial: the name, the part of the kind, and
-// what follows `"event": `.
+// A name, a kind, the message of a failure, and how they are written in the lines of the trial: the name, the part of the kind,
+// and what follows `"event": `.
 #[derive(Clone, Copy)]
 struct Vector {
     name: &'static str,
@@ -123,7 +123,7 @@ const SHOWN_PASSED: &str =
 const SHOWN_FAILED: &str =
     "\n\ntest result: FAILED. 0 passed; 1 failed; 0 ignored; 0 measured; 0 filtered out; finished in 0.00s\n\n";
 
-// The report of a run of this one trial in pretty, where all texts stand as they are.
+// The report of a run of this one trial in pretty, which has all texts as they are.
 fn shown(alloc: Global, vector: Vector) -> Result<String, AllocError> {
     let [opening, closing] = if vector.kind.is_empty() {
         ["", ""]
@@ -359,7 +359,7 @@ fn pads_to_a_long_name(rt: HostRuntime) -> Result<(), Fail> {
 static TWO_LINES: &[u8] =
     b"\nrunning 1 test\ntest a\nb ... ok\n\ntest result: ok. 1 passed; 0 failed; 0 ignored; 0 measured; 0 filtered out; finished in 0.00s\n\n";
 
-// In pretty a name stands as it is, and no line that it forges is counted.
+// In pretty a name is written as it is, and no line that it forges is counted.
 #[test]
 fn shows_a_name_of_two_lines(rt: HostRuntime) -> Result<(), Fail> {
     for threads in &[None, Some(2)] {

@@ -19,7 +19,7 @@ use std::{io, thread};
 // How often a trial looks for the others, a millisecond apart, before it gives up.
 const TURNS: u64 = 30_000;
 
-// How often a trial looks that is to give up.
+// How often a trial that is to give up looks.
 const FEW_TURNS: u64 = 100;
 
 // Whether the count reaches the number in time.
@@ -57,7 +57,7 @@ fn new_count(alloc: Global) -> Result<Arc<AtomicU64>, AllocError> {
     Ok(Arc::new(alloc, AtomicU64::new(0))?)
 }
 
-// A trial of this name that awaits the number for so many turns.
+// A trial of this name that awaits the number for `turns` turns.
 fn meeting<M: Clock + Drop>(
     machine: M,
     alloc: Global,
@@ -100,7 +100,7 @@ const TWO: &[Meeting] = &[("a", 2, TURNS), ("b", 2, TURNS)];
 
 const THREE: &[Meeting] = &[("a", 3, TURNS), ("b", 3, TURNS), ("c", 3, TURNS)];
 
-// What a run by so many threads leaves of trials that count themselves.
+// What a run by `threads` threads leaves of trials that count themselves.
 fn run_meeting<T: Spawner + Clock + 'static>(
     rt: &T,
     alloc: Global,
@@ -137,7 +137,7 @@ fn runs_as_many_as_asked(rt: HostRuntime) -> Result<(), Fail> {
 
 const FIRST_GIVES_UP: &[Meeting] = &[("a", 3, FEW_TURNS), ("b", 3, TURNS), ("c", 3, TURNS)];
 
-// Eight trials, the first of which awaits the others for so many turns.
+// Eight trials, the first of which awaits the others for `$turns` turns.
 macro_rules! first_awaits {
     ($turns:expr) => {
         &[
@@ -203,7 +203,7 @@ impl Write for Raising {
     }
 }
 
-// The one trial awaits that the row of the other is written: itself and the writer.
+// One trial waits until the row of the other is written: it awaits the count of 2, to which the writer raises it.
 #[test]
 fn writes_a_row_when_its_trial_has_ended(rt: HostRuntime) -> Result<(), Fail> {
     let alloc = rt.alloc();
@@ -223,7 +223,7 @@ fn writes_a_row_when_its_trial_has_ended(rt: HostRuntime) -> Result<(), Fail> {
     Ok(())
 }
 
-// Sleeps for so many milliseconds.
+// Sleeps for `millis` milliseconds.
 #[derive(Drop)]
 struct Sleeps<M> {
     machine: M,
@@ -299,8 +299,8 @@ fn are_pairs(bytes: &[u8]) -> bool {
     bytes == TWO_PASSING[0].as_bytes() || bytes == TWO_PASSING[1].as_bytes()
 }
 
-// Two trials that meet, by two workers and where there may be as many as can be counted: the whole
-// report, in which the lines of each trial stand together, and the counts.
+// Two trials that meet, by two workers and with as many threads as can be counted: the whole
+// report, in which the lines of each trial are together, and the counts.
 #[test]
 fn keeps_pairs_of_lines_together(rt: HostRuntime) -> Result<(), Fail> {
     let (alloc, format) = (rt.alloc(), FormatSetting::Json);
@@ -315,7 +315,7 @@ fn keeps_pairs_of_lines_together(rt: HostRuntime) -> Result<(), Fail> {
     Ok(())
 }
 
-// So many trials by so many workers, to which they come so, and how many of them pass, fail, are ignored and are measured.
+// How trials come to workers, the numbers of both, and how many trials pass, fail, are ignored and are measured.
 type Many = (Schedule, u64, usize, [u64; 4]);
 
 const QUARTERS: [u64; 4] = [2_500, 2_500, 2_500, 2_500];
@@ -437,7 +437,7 @@ fn runs_each_of_many_once(rt: HostRuntime) -> Result<(), Fail> {
     Ok(())
 }
 
-// The trials for so many threads, a filter, and whether a list is asked; what is counted unless there are no
+// The trials, the number of threads, a filter, and whether a list is asked; what is counted unless there are no
 // threads for a trial, and what is written.
 struct Row {
     meetings: &'static [Meeting],

@@ -21,9 +21,9 @@ pub(super) const TWO_PASSING: [&str; 2] = in_both_orders!(
     "{ \"type\": \"suite\", \"event\": \"ok\", \"passed\": 2, \"failed\": 0, \"ignored\": 0, \"measured\": 0, \"filtered_out\": 0, \"exec_time\": 0 }\n"
 );
 
-// A report of some tests, the last of which passes or fails with a message: its text, and those in which its rows stand in
-// another order; where its rows begin; after how many bytes each test runs with one thread, which is where its announcement
-// has ended; where its summary begins, and where it ends.
+// A report of some tests, the last of which passes or fails with a message: its text, and those that have its rows in
+// another order; how many bytes come before its rows; how many bytes are written, with one thread, before each test runs: all
+// up to the end of its announcement; and how many bytes come before its summary, and up to the end of that.
 #[derive(Clone, Copy)]
 struct Report {
     format: FormatSetting,
@@ -207,7 +207,7 @@ impl Run {
         self.threads.unwrap_or(1) > 1
     }
 
-    // Whether the bytes are a beginning of the report. By workers its rows may stand in any order.
+    // Whether the bytes are a beginning of the report. By workers its rows may come in any order.
     fn begins_with(&self, bytes: &[u8]) -> bool {
         let texts = self.report.texts;
         let orders = if self.has_workers() { texts.len() } else { 1 };
@@ -218,7 +218,7 @@ impl Run {
         begins
     }
 
-    // How many tests have begun with one thread if so many bytes were written.
+    // How many tests have begun with one thread if `len` bytes were written.
     fn begun_at(&self, len: usize) -> usize {
         let mut count: usize = 0;
         for runs_at in self.report.runs_at {
@@ -227,8 +227,8 @@ impl Run {
         count
     }
 
-    // Whether those tests ran that are to if so many bytes were written. By workers all run once the title is written; but those
-    // that no worker has taken from a queue are not run if the writer fails before all rows are written.
+    // Whether the tests ran that should have once `len` bytes were written. By workers all run once the title is written; but
+    // those that no worker has taken from a queue are not run if the writer fails before all rows are written.
     fn may_have_run(&self, len: usize, sum: Option<u64>) -> bool {
         let report = &self.report;
         let all = sum_of(report.names.len());
@@ -243,7 +243,7 @@ impl Run {
     }
 }
 
-// Whether the run is stopped when the writer's room is full: what came before stands, nothing more is asked of the writer, and
+// Whether the run is stopped when the writer's room is full: what came before is kept, nothing more is asked of the writer, and
 // the watch runs on if the summary had not begun.
 fn stops_at<T: Spawner + 'static>(
     rt: &T,
@@ -325,7 +325,7 @@ static BY_ONE_THREAD: [Run; 7] = [
     run!(JSON, usize::MAX, Some(1)),
 ];
 
-// After a fault what came before it stands and nothing more is asked of the writer, be that well again or not; the
+// After a fault what came before it is kept and nothing more is asked of the writer, be that well again or not; the
 // watch runs on if the summary had not begun.
 #[test]
 fn stops_at_each_byte(rt: HostRuntime) -> Result<(), Fail> {
@@ -351,7 +351,7 @@ static BY_WORKERS: [Run; 13] = [
     run!(THREE, usize::MAX, Some(3), Schedule::Queue),
 ];
 
-// With two or three workers the rows stand in any order; all else is as with one thread, but all tests run once the title is
+// With two or three workers the rows come in any order; all else is as with one thread, but all tests run once the title is
 // written, or from a queue those that workers have taken.
 #[test]
 fn stops_workers_at_each_byte(rt: HostRuntime) -> Result<(), Fail> {
@@ -368,7 +368,7 @@ static FLUSH_FAULTS: [Fault; 3] = [
     Fault::Error(ErrorKind::Interrupted),
 ];
 
-// A report, the flush that fails, how many bytes stand then, and the weights of the tests that ran.
+// A report, the flush that fails, how many bytes are written then, and the weights of the tests that ran.
 struct Flush {
     report: Report,
     number: u64,
@@ -396,7 +396,7 @@ static FLUSHES: [Flush; 5] = [
     flush!(JSON, 1, 470, BOTH),
 ];
 
-// Whether a run by so many threads is stopped by the flush.
+// Whether a run by this number of threads is stopped by the flush.
 fn stops_at_flush<T: Spawner + 'static>(
     rt: &T,
     alloc: Global,
@@ -428,7 +428,7 @@ fn stops_at_each_flush(rt: HostRuntime) -> Result<(), Fail> {
     Ok(())
 }
 
-// Whether a run by two workers is stopped by the flush of this number, if there are so many. Behind a flush that fails
+// Whether a run by two workers is stopped by the flush of this number, if there are that many. Behind a flush that fails
 // nothing is written.
 fn stops_workers<T: Spawner + 'static>(
     rt: &T,
@@ -451,7 +451,7 @@ fn stops_workers<T: Spawner + 'static>(
     )
 }
 
-// With two workers there are as many flushes as with one thread: so many, of which each fails in each way, and one more
+// With two workers there are as many flushes as with one thread: `flushes`, of which each fails in each way, and one more
 // doesn't.
 fn check_flushes<T: Spawner + Abort + 'static>(
     rt: &T,

@@ -312,7 +312,7 @@ const USAGE: &str = "usage: program FILE..\n";
 // What a program of one or two operands makes of a line.
 #[derive(Clone, Copy, Debug, PartialEq, Eq)]
 enum Took {
-    // So many, and whether a list is asked.
+    // The number of operands, and whether a list is asked.
     Operands(usize, bool),
     Help,
     Refused,

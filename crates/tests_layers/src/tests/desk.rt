@@ -231,7 +231,7 @@ fn settles(
     Ok(())
 }
 
-// The list of this number among those of so many arrivals.
+// The list of this number among those of `len` arrivals.
 fn arrivals_of(alloc: Global, list: usize, len: usize) -> Result<Vec<usize>, AllocError> {
     let mut arrivals = Vec::new(alloc);
     let mut left = list;

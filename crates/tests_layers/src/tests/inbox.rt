@@ -98,7 +98,7 @@ fn refuses_what_it_cannot_copy(rt: HostRuntime) -> Result<(), Fail> {
     Ok(())
 }
 
-// Returns the number of its place once so many rows were taken. If that doesn't happen in time, it fails, and lets no other
+// Returns the number of its place once `rows` rows were taken. If that doesn't happen in time, it fails, and lets no other
 // task wait.
 #[derive(Drop)]
 struct Awaits {
@@ -120,7 +120,7 @@ impl Task for Awaits {
     }
 }
 
-// A supply of so many tasks for two workers, none of which is ignored.
+// A supply of `trials` tasks for two workers, none of which is ignored.
 fn supply_of<T: Task, R: Wait, F: Fn(usize) -> Result<T, AllocError>>(
     rt: &R,
     alloc: Global,
@@ -139,8 +139,8 @@ fn supply_of<T: Task, R: Wait, F: Fn(usize) -> Result<T, AllocError>>(
     Ok(supply)
 }
 
-// Runs so many tasks by two workers, and returns the rows in the order in which they were taken, and what the workers returned.
-// `taken` counts the rows.
+// Runs `trials` tasks by two workers, and returns the rows in the order in which they were taken, and what the workers
+// returned. `taken` counts the rows.
 fn rows_taken<
     T: Task + Send + 'static,
     R: Threads + Wait + Copy + Drop + Send + 'static,
@@ -199,7 +199,7 @@ impl Asked {
     }
 }
 
-// Whether these are the rows of so many places, each once and with its number.
+// Whether these are the rows of `trials` places, each once and with its number.
 fn are_whole(alloc: Global, rows: &[(usize, Outcome)], trials: usize) -> Result<bool, AllocError> {
     let mut came = vec![in alloc; false; trials]?;
     let mut same = rows.len() == trials;
@@ -239,7 +239,7 @@ fn has_all(
     Ok(desk.has_all(joined))
 }
 
-// Whether the workers returned for each of so many places its number.
+// Whether the workers returned its number for each of `trials` places.
 fn are_numbered(alloc: Global, joined: Vec<Rows>, trials: usize) -> Result<bool, AllocError> {
     let mut outcomes = Vec::with_capacity(alloc, trials)?;
     for _place in 0..trials {

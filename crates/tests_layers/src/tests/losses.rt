@@ -53,7 +53,7 @@ impl Reports for Losing {
     }
 }
 
-// Lets the next row come to the desk, if there is one. The list stands backwards, so the next is its last.
+// Lets the next row come to the desk, if there is one. The list is in reverse order, so the next is its last.
 fn next_arrives(desk: &mut Desk, list: &mut Vec<(usize, Outcome)>) -> Option<Arrival>
     ensures { desk.new.places ≡ desk.old.places }
 {
@@ -63,7 +63,7 @@ fn next_arrives(desk: &mut Desk, list: &mut Vec<(usize, Outcome)>) -> Option<Arr
     }
 }
 
-// Whether a desk takes the three rows that stand in the list for one that was reported as the first at its place, as one that
+// Whether a desk takes the three rows that the list has for one that was reported: as the first at its place, as one that
 // came before, and as a stranger.
 fn three_arrive(desk: &mut Desk, list: &mut Vec<(usize, Outcome)>) -> bool
     ensures { desk.new.places ≡ desk.old.places }
@@ -88,7 +88,7 @@ const ORDER: [usize; 5] = [0, 4, 1, 2, 3];
 // How many arrived.
 const ARRIVED: usize = 3;
 
-// What arrives of the rows of two workers: the worker's that is dealt first comes last, and the list stands backwards.
+// What arrives of the rows of two workers: the worker's that is dealt first comes last, and the list is in reverse order.
 fn lossy_list(alloc: Global) -> Result<Vec<(usize, Outcome)>, Fail> {
     let mut list = Vec::new(alloc);
     for share in shares_of_five(alloc, OUTCOMES)? {

@@ -40,7 +40,7 @@ fn gives(rows: &mut Rows, from: usize, to: usize) -> bool {
     same
 }
 
-// Rows are kept when room is made, those that were taken are not given again, and so it is if there is no memory for so many.
+// Rows are kept when room is made, and those that were taken are not given again; so too if there is no memory for the room.
 #[test]
 fn makes_room_for_more_rows(rt: HostRuntime) -> Result<(), Fail> {
     let alloc = rt.alloc();

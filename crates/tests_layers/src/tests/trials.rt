@@ -88,7 +88,7 @@ fn fails_because_of_what_it_says(rt: HostRuntime) {
     assert!(rt; Failed::because(rt.alloc(), &Mute).message() == None);
 }
 
-// So it is of a check.
+// What a check that failed says likewise. One that holds is `Ok`.
 #[test]
 fn fails_unless_it_holds(rt: HostRuntime) {
     let alloc = rt.alloc();

@@ -30,7 +30,7 @@ fn has_places<T>(share: &Share<T>, places: &[usize]) -> bool {
     same
 }
 
-// Whether dealing so many runners to so many workers gives them these places.
+// Whether dealing `len` runners to as many workers as there are lists gives them these places.
 fn are_dealt(alloc: Global, len: usize, dealt: &[&[usize]]) -> Result<bool, AllocError>
     requires { 1 ≤ length dealt.now }
 {
@@ -109,7 +109,7 @@ fn rows_from(first: Option<usize>) -> &'static [(usize, Plain)] {
     if first == Some(0) { &EVEN } else { &ODD }
 }
 
-// A worker returns these rows, and counts each as told or refused. If there was no memory for a copy, the row is returned
+// A worker returns these rows, and counts each as reported or refused. If there was no memory for a copy, the row is returned
 // all the same.
 fn check_work<T: Task>(
     rt: &impl Abort,

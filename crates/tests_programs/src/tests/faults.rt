@@ -1,4 +1,4 @@
-//! Writers that fail once and then are well: a report is whole, or a beginning of it stands and nothing is done any more.
+//! Writers that fail once and then are well: a report is whole, or a beginning of it is written and nothing is done any more.
 use libtest_mimic::{
     Arguments, Conclusion, Failed, FormatSetting, Outcome, RunError, Sink, Task, Trial, WriteFault,
 };
@@ -19,7 +19,7 @@ struct Seen {
     runs_after: AtomicU64,
 }
 
-// Tells its tests, too, whether it has failed.
+// Lets its tests know, too, whether it has failed.
 #[derive(Drop)]
 struct Telling {
     writer: FaultyWriter,
@@ -66,8 +66,8 @@ struct Left {
     runs_after: u64,
 }
 
-// A test that passes, one that fails with a message of two lines, and one of a long name: a part of the name, how often it
-// stands there, and the message.
+// A test that passes, one that fails with a message of two lines, and one of a long name: a part of the name, how often the
+// name has it, and the message.
 static THREE_TESTS: [(&str, usize, Option<&str>); 3] = [
     ("passes", 1, None),
     ("fails\t", 1, Some("first line\nsecond \"line\"")),
@@ -134,7 +134,7 @@ fn assert_memory(ran: &Result<Conclusion, RunError>) -> Result<(), Fail> {
 }
 
 impl Left {
-    // Whether the run was refused, a beginning stands, nothing more was asked of the writer, though it was well again, and
+    // Whether the run was refused, a beginning was written, nothing more was asked of the writer, though it was well again, and
     // no runner was called.
     fn is_right(&self, whole: &[u8]) -> bool {
         let is_quiet = self.writer.calls_after == 0 && self.runs_after == 0;
@@ -182,7 +182,7 @@ fn first_wrong_in<T: Threads + Wait + Copy + Drop + Send + 'static>(
     first_wrong_place(rt, alloc, &args, FlushPolicy::WhenFull)
 }
 
-// As a report by one thread and by two is handed on.
+// As a report by one thread and by two is written out.
 #[test]
 fn stops_pretty_at_each_place(rt: HostRuntime) -> Result<(), Fail> {
     let policies = [FlushPolicy::OnFlush, FlushPolicy::OnLineEnd];
@@ -191,7 +191,7 @@ fn stops_pretty_at_each_place(rt: HostRuntime) -> Result<(), Fail> {
     Ok(())
 }
 
-// As a report is handed on to a file and to a terminal.
+// As a report is written out to a file and to a terminal.
 #[test]
 fn stops_terse_at_each_place(rt: HostRuntime) -> Result<(), Fail> {
     let policies = [FlushPolicy::OnLineEnd, FlushPolicy::Always];
@@ -200,7 +200,7 @@ fn stops_terse_at_each_place(rt: HostRuntime) -> Result<(), Fail> {
     Ok(())
 }
 
-// As a report by one thread and by two is handed on.
+// As a report by one thread and by two is written out.
 #[test]
 fn stops_json_at_each_place(rt: HostRuntime) -> Result<(), Fail> {
     let policies = [FlushPolicy::OnEvenLineEnd, FlushPolicy::OnLineEnd];
@@ -217,7 +217,7 @@ static POLICIES: [FlushPolicy; 5] = [
     FlushPolicy::WhenFull,
 ];
 
-// A piece that fills a block, by each policy, where the writer fails once: no call is well after that, flushes neither.
+// A piece that fills a block, by each policy, with a writer that fails once: no call is well after that, flushes neither.
 #[test]
 fn fails_after_a_fault(rt: HostRuntime) -> Result<(), Fail> {
     for policy in &POLICIES {
@@ -233,7 +233,7 @@ fn fails_after_a_fault(rt: HostRuntime) -> Result<(), Fail> {
     Ok(())
 }
 
-// Where a writer fails and how, and the kind of error that the call tells.
+// The place at which a writer fails, how, and the kind of error that the call reports.
 static TOLD: [(Place, Fault, ErrorKind); 4] = [
     (
         Place::Write(1),
@@ -253,7 +253,7 @@ static TOLD: [(Place, Fault, ErrorKind); 4] = [
     ),
 ];
 
-// The kind of the error that a write tells, if it tells one.
+// The kind of the error that a write reports, if it reports one.
 fn kind_of(put: Result<(), WriteFault>) -> Option<ErrorKind> {
     match put {
         Err(WriteFault::Error(error)) => Some(error.kind()),
@@ -261,7 +261,7 @@ fn kind_of(put: Result<(), WriteFault>) -> Option<ErrorKind> {
     }
 }
 
-// A piece through a sink and a buffer, where the writer fails once: the call that had the fault tells what it was, and each
+// A piece through a sink and a buffer, with a writer that fails once: the call that had the fault reports what it was, and each
 // later one fails without asking the writer.
 #[test]
 fn tells_a_fault_at_its_call(rt: HostRuntime) -> Result<(), Fail> {

@@ -107,8 +107,8 @@ impl Display for Unmade {
     }
 }
 
-// So it is by a program for a line that was read already, if a table of cases could not be made, and by one that ends before it
-// has a line, with a reason of its own.
+// The same holds for a program whose line was read already, if a table of cases could not be made, and for one that ends before
+// it has a line, with a reason of its own.
 #[test]
 fn prints_under_its_name(rt: HostRuntime) {
     let alloc = rt.alloc();
@@ -165,7 +165,7 @@ fn refuses_words_that_are_no_text(rt: HostRuntime) -> Result<(), Fail> {
     Ok(())
 }
 
-// A test that passes once so many of them run.
+// A test that passes once `awaited` of them run.
 #[derive(Drop)]
 struct Meets {
     running: Arc<AtomicUsize>,

@@ -1,4 +1,4 @@
-//! When an output hands its bytes on.
+//! When an output writes its bytes out.
 use libtest_mimic::{Arguments, FormatSetting};
 use mimic_main::{FlushPolicy, Output};
 use std::alloc::Global;
@@ -6,7 +6,7 @@ use std::io;
 use std::io::{IsTerminal, Write};
 use std::test::Fail;
 
-// Takes so many bytes at most in a write, keeps how many it has got after each one, and counts flushes.
+// Takes `most` bytes at most in a write, keeps how many it has got after each one, and counts flushes.
 #[derive(Drop)]
 pub(super) struct Marked {
     pub(super) is_terminal: bool,
@@ -62,8 +62,8 @@ static HANDED_ON: [(FlushPolicy, &[usize], usize); 5] = [
     (FlushPolicy::WhenFull, &[5], 1),
 ];
 
-// Two bytes and a flush, a line of two bytes, and one byte more. One policy heeds the flush and flushes the writer, and the end
-// flushes it, too.
+// Two bytes and a flush, a line of two bytes, and one byte more. One policy acts on the flush and flushes the writer, and the
+// end flushes it, too.
 #[test]
 fn hands_on_as_asked(rt: HostRuntime) -> Result<(), Fail> {
     for (policy, marks, flushes) in &HANDED_ON {
@@ -89,8 +89,8 @@ static FLUSHED: [(FlushPolicy, usize); 5] = [
     (FlushPolicy::WhenFull, 1),
 ];
 
-// A line and two flushes. The writer may buffer, too, so a flush that is handed on reaches it though nothing waits, and so does the
-// end.
+// A line and two flushes. The writer may buffer, too, so a flush that is passed on reaches it though nothing waits, and so does
+// the end.
 #[test]
 fn flushes_its_writer_if_nothing_waits(rt: HostRuntime) -> Result<(), Fail> {
     for (policy, flushes) in &FLUSHED {
@@ -168,7 +168,7 @@ fn hands_on_second_lines(rt: HostRuntime) -> Result<(), Fail> {
     Ok(())
 }
 
-// A format, whether the output is a terminal, a number of threads, and the policy of a report by so many.
+// A format, whether the output is a terminal, a number of threads, and the policy of such a report.
 static CHOSEN: [(FormatSetting, bool, usize, FlushPolicy); 12] = [
     (FormatSetting::Pretty, false, 1, FlushPolicy::OnFlush),
     (FormatSetting::Pretty, false, 2, FlushPolicy::OnLineEnd),

@@ -1,4 +1,4 @@
-//! What a program tells, and the status that it ends with.
+//! What a program reports, and the status that it ends with.
 ghost use Rattle.std.specs.Prelude.{◌≤◌};
 ghost use Rattle.libtest_mimic.specs.Trial.{AllCanRun};
 
@@ -51,7 +51,7 @@ fn narrow(alloc: Global) -> FaultyWriter {
         .for_ever()
 }
 
-// What asks for this format, and for so many threads and a logfile if there are some.
+// What asks for this format, and for this number of threads and a logfile if there are some.
 fn asking(
     alloc: Global,
     format: FormatSetting,
@@ -300,7 +300,7 @@ fn runs_nothing_without_a_title(rt: HostRuntime) -> Result<(), Fail> {
     Ok(())
 }
 
-// A test that counts itself, and passes if so many have done so before it has looked that often.
+// A test that counts itself, and passes if `awaited` tests have done so before it has looked `looks` times.
 #[derive(Drop)]
 struct Awaits {
     count: Arc<AtomicU64>,
@@ -423,7 +423,7 @@ fn writes_at_once_what_comes_at_once(rt: HostRuntime) -> Result<(), Fail> {
     Ok(())
 }
 
-// A report of two tests that passed, and that in which their rows stand the other way round.
+// A report of two tests that passed, and one that has their rows the other way round.
 static REPORTS: [&str; 2] = [
     r#"{ "type": "suite", "event": "started", "test_count": 2 }
 { "type": "test", "event": "started", "name": "a" }
@@ -441,14 +441,14 @@ static REPORTS: [&str; 2] = [
 "#,
 ];
 
-// Runs two tests that pass, by so many threads.
+// Runs two tests that pass, by this number of threads.
 fn run_two<H: Host>(rt: &H, threads: usize, out: FaultyWriter) -> Result<Left<FaultyWriter>, Fail> {
     let alloc = rt.alloc();
     let args = asking(alloc, FormatSetting::Json, Some(threads), None)?;
     run_program(rt, &TELLING, args, passing(alloc, &["a", "b"])?, out)
 }
 
-// Whether the line tells of this fault. A write of nothing is told by the sink, or as an error by the buffer.
+// Whether the line reports this fault. A write of nothing is reported by the sink, or as an error by the buffer.
 fn tells_cause(alloc: Global, line: &str, fault: Fault) -> Result<bool, Fail> {
     let cause = line
         .strip_prefix("telling: cannot write the report to standard output: ")
@@ -544,7 +544,7 @@ fn shows_values(rt: HostRuntime) -> Result<(), Fail> {
     check_debug(&rt, alloc, &arrival, "Arrival { place: 7 }")
 }
 
-// So it is of those of a program.
+// The same for those of a program.
 #[test]
 fn shows_values_of_programs(rt: HostRuntime) -> Result<(), Fail> {
     let alloc = rt.alloc();

@@ -98,7 +98,7 @@ const ODD_TOTAL: &str = "program: TEST_TOTAL_SHARDS is not a number of shards\n"
 const ODD_INDEX: &str = "program: TEST_SHARD_INDEX is not a number below TEST_TOTAL_SHARDS\n";
 
 // The words of a line, variables, the status, which tests run, and what is printed on standard error. A line without a filter
-// takes that of the variables, and selects of its shard. Where more is wrong, the first fault is printed. If a status file can't
+// takes that of the variables, and selects of its shard. If more is wrong, the first fault is printed. If a status file can't
 // be touched, no test has run yet.
 type End = (Words, Variables, u8, usize, &'static str);
 
@@ -317,7 +317,7 @@ fn is_touched<H: Host>(host: H) -> Result<bool, Fail> {
     Ok(Some(changed) == present)
 }
 
-// A file that is touched keeps what stands in it and was changed at the present time, or is made.
+// A file that is touched keeps its content and was changed at the present time, or is made.
 #[test]
 fn touches_its_status_file(rt: HostRuntime) -> Result<(), Fail> {
     for (words, variables, status, touches) in &TOUCHES {

@@ -7,7 +7,7 @@ pub(super) const NO_ROWS: &str = r#"{ "type": "suite", "event": "started", "test
 { "type": "suite", "event": "ok", "passed": 0, "failed": 0, "ignored": 0, "measured": 0, "filtered_out": 0, "exec_time": 0 }
 "#;
 
-// The report with one part in place of another, which stands in it.
+// The report with the part `new` in place of its part `old`.
 pub(super) fn altered(alloc: Global, report: &str, old: &str, new: &str) -> Result<String, Fail> {
     let (front, back) = report.split_once(old).ok_or("not in the report")?;
     Ok(format!(in alloc; "{front}{new}{back}")?)

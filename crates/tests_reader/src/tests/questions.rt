@@ -1,4 +1,4 @@
-//! What three readers say of a report after each of its bytes, and after lines that no report has there.
+//! What three readers report after each byte of a report, and after lines that no report has there.
 use super::reports::TWO_TESTS;
 use mimic_events::{Feed, Follower, Label, Tally};
 use std::alloc::{AllocError, Global};
@@ -104,7 +104,7 @@ impl Readers {
     }
 }
 
-// The line comes byte by byte, and up to its end no more is said than before it.
+// The line comes byte by byte, and up to its end no more is reported than before it.
 fn line_of_bytes(
     rt: &impl Abort,
     mut readers: Readers,
@@ -131,7 +131,7 @@ fn check_bytes(rt: &impl Abort, alloc: Global, text: &str, known: &[Known]) -> R
     Ok(())
 }
 
-// What stands in place of a line: a piece without a line end, and what follows that.
+// What comes in place of a line: a piece without a line end, and what follows that.
 #[derive(Clone, Copy, Debug)]
 enum Mistake {
     // A sign before the line.

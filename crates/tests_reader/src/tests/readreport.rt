@@ -1,4 +1,4 @@
-//! The program over memory: its line, its statuses, and what it says of faults.
+//! The program over memory: its line, its statuses, and what it reports of faults.
 use super::feeding::NO_ROWS;
 use mimic_readreport::{readreport_run, run_program};
 use mimic_testkit::{Fault, FaultyWriter, Place};
@@ -109,7 +109,7 @@ fn tells(alloc: Global, bytes: &[u8], out: &str, err: &str) -> bool {
     leaves(alloc, bytes, None, FaultyWriter::new(alloc), (out, err))
 }
 
-// Reports of no rows, one, and one with a kind, and what is told of them.
+// Reports of no rows, one, and one with a kind, and what is printed of them.
 static REPORTS: [(&str, &str); 3] = [
     (
         NO_ROWS,
@@ -128,7 +128,7 @@ const ONE_ROW_TOLD: &str =
 const MIXED_TOLD: &str =
     "10 trials: 2 passed; 1 failed; 4 ignored; 3 measured; 16 filtered out; 5 ns\n";
 
-// So many trials that passed. Their report takes more than 65,536 reads.
+// The number of trials that passed in a report that takes more than 65,536 reads.
 const MANY: usize = 2_500;
 
 // The two lines of a trial that passed.
@@ -199,7 +199,7 @@ fn refuses_other_input(rt: HostRuntime) {
     }
 }
 
-// Whether this is told of a fault behind so many bytes of a report of one row.
+// Whether this is printed of a fault behind the first `count` bytes of a report of one row.
 fn tells_of_fault(alloc: Global, count: usize, kind: ErrorKind, told: &str) -> bool {
     match ONE_ROW.as_bytes().get(..count) {
         Some(bytes) => leaves(
@@ -223,7 +223,7 @@ fn tells_of_faulty_input(rt: HostRuntime) {
     assert!(rt; tells_of_fault(alloc, len, ErrorKind::OutOfMemory, "out of memory\n"));
 }
 
-// Whether a write or a flush that fails at the place is told of, whatever its fault, and leaves this output.
+// Whether a write or a flush that fails at the place is reported, whatever its fault, and leaves this output.
 fn tells_of_full(alloc: Global, place: Place, out: &str) -> bool {
     let mut is_told = true;
     for fault in Fault::ALL {

@@ -267,8 +267,8 @@ fn check_rows_before(
     check_rows(rt, alloc, wrong.as_str(), want, false)
 }
 
-// Whether the bytes of a line are taken one by one and then its end, with so many of the rows shown before the end, and so
-// many behind it.
+// Whether the bytes of a line are taken one by one and then its end, with `before` of the rows shown before the end, and
+// `behind` of them behind it.
 fn is_line_taken(
     feed: &mut Feed,
     line: &str,
@@ -405,7 +405,7 @@ fn reads_numbers(rt: HostRuntime) -> Result<(), Fail> {
 
 // Parts of the report of every outcome, and what is no report in their place.
 static OTHER_TEXTS: [(&str, &str); 46] = [
-    // Whole lines, and what stands before, between and behind them.
+    // Whole lines, and what comes before, between and behind them.
     (ALL_SORTS, ""),
     (ALL_SORTS, "\n"),
     ("\"exec_time\": 1.5 }\n", "\"exec_time\": 1.5 }"),
@@ -487,7 +487,7 @@ pub(super) fn ignored_trial(alloc: Global, first: &str, second: &str) -> Result<
     )?)
 }
 
-// Fields that both lines of a trial have, and the name and the kind that they stand for.
+// Fields that both lines of a trial have, and the name and the kind that they mean.
 pub(super) static KINDS: [(&str, &str, &str); 5] = [
     (r#""name": "fly", "kind": "banana""#, "fly", "banana"),
     (r#""name": "fly""#, "fly", ""),
@@ -603,7 +603,7 @@ fn with_bytes(alloc: Global, text: &str, mark: &str, bytes: &[u8]) -> Result<Vec
     Ok(changed)
 }
 
-// With bytes that are no UTF-8 it is no report, wherever they stand. They aren't taken for a want of memory.
+// With bytes that are no UTF-8 it is no report, wherever they are. They aren't taken for a want of memory.
 #[test]
 fn refuses_what_is_no_text(rt: HostRuntime) -> Result<(), Fail> {
     let alloc = rt.alloc();

@@ -65,7 +65,7 @@ fn is_refused_by(written: Result<(), WriteFault>, fault: Fault) -> bool {
     }
 }
 
-// The writer fails so after this number of bytes: it has got these, and is asked for nothing more.
+// The writer fails in this way after this number of bytes: it has got these, and is asked for nothing more.
 fn check_fault(
     rt: &impl Abort,
     alloc: Global,

@@ -1,4 +1,5 @@
-//! What no clause says of two reports: the status of each case, and what is printed. Expected texts are worked by hand.
+//! What no clause states about two reports: the status of each case, and what is printed. Expected texts are worked out by
+//! hand.
 use super::lines::{
     A_FAILED, A_IGNORED, A_MEASURED, A_PASSED, A_SILENT, FILTERED, NONE, Y_AND_X, announced,
     failed, measured, passed, read, summary, title,
@@ -49,13 +50,13 @@ fn printed(alloc: Global, lines: &str, unchanged: u64) -> Result<String, AllocEr
     Ok(printed)
 }
 
-// Whether the line says of a kind and a name that it has changed like this.
+// Whether the line reports this change of a kind and a name.
 fn says(line: &str, change: &str) -> bool {
     matches!(line.split_once(": "), Some((word, _)) if word == change)
 }
 
-// The lines of the old report and of the new one, the status, the lines that are printed before the numbers, and how many kinds and
-// names are unchanged.
+// The lines of the old report and of the new one, the status, the lines that are printed before the numbers, and how many kinds
+// and names are unchanged.
 type Case = (
     &'static [&'static str],
     &'static [&'static str],
@@ -102,7 +103,7 @@ const A_AND_K_A: &[&str] = &[
     summary!("failed", 1, 1, 0, 0, 0, "0"),
 ];
 
-// Two reports, and what is printed of them before the numbers. Of what changed alike the new report's rows come first.
+// Two reports, and what is printed of them before the numbers. Among equal changes the new report's rows come first.
 const BEFORE: &[&str] = &[
     title!(5),
     announced!("gone"),
@@ -149,7 +150,7 @@ static WHOLE: [Case; 13] = [
     (A_FAILED, A_IGNORED, 0, "newly ignored: a\n", 0),
     (A_PASSED, NONE, 101, "missing: a\n", 0),
     (NONE, A_FAILED, 101, "regressed: a\n", 0),
-    // A trial of another kind is another.
+    // A trial of another kind is another trial.
     (A_FAILED, A_AND_K_A, 0, "new: [k] a\n", 1),
     // What was filtered out is not missing, and what was filtered out before is not new.
     (A_PASSED, FILTERED, 0, "not run: a\n", 0),
@@ -205,13 +206,13 @@ fn compares_whole_reports(rt: HostRuntime) -> Result<(), Fail> {
 
 const CUT: &[&str] = &[title!(1), announced!("a"), failed!("a", "x")];
 
-// Reports of which one is cut or spoilt. Nothing is missing or new.
+// Pairs of reports with one that is cut or spoilt. Nothing is missing or new.
 static NOT_WHOLE: [Case; 5] = [
     (CUT, A_FAILED, 1, "", 1),
     (A_PASSED, CUT, 101, "regressed: a\n", 0),
     (A_PASSED, &[], 1, "not run: a\n", 0),
     (&["what\n"], A_PASSED, 1, "not run before: a\n", 0),
-    // Behind the wrong line nothing counts.
+    // Nothing counts after the wrong line.
     (
         A_FAILED,
         &[
@@ -236,7 +237,7 @@ fn compares_what_has_ended(rt: HostRuntime) -> Result<(), Fail> {
     Ok(())
 }
 
-// Whether a writer that fails at the place got what comes before it, and no call after it.
+// Whether a writer that fails at the place got what comes before it, and wasn't called again.
 fn stops_so(alloc: Global, place: Place, fault: Fault) -> Result<bool, Fail> {
     let (old, new) = (read(alloc, BEFORE)?, read(alloc, AFTER)?);
     let writer = FaultyWriter::new(alloc).failing(place, fault);

@@ -1,5 +1,5 @@
-//! What no clause says of known failures: the status of each case, what is printed, and what is no file of known failures. Expected
-//! texts are worked by hand.
+//! What no clause states about known failures: the status of each case, what is printed, and what is no file of known failures.
+//! Expected texts are worked out by hand.
 use super::lines::{
     A_FAILED, A_IGNORED, A_MEASURED, A_PASSED, A_SILENT, FILTERED, NONE, Y_AND_X, announced,
     failed, passed, summary, text_of, title,
@@ -14,8 +14,8 @@ use std::alloc::{AllocError, Global};
 use std::io::{ErrorKind, Read, Write};
 use std::test::Fail;
 
-// The line of the numbers: of the known failures that were met, and of those that failed, passed, failed with another message, and
-// are absent.
+// The line of numbers: how many known failures were met, and how many failed, passed, failed with another message, and are
+// absent.
 macro_rules! numbers {
     ($met:literal, $failed:literal, $passed:literal, $other:literal, $absent:literal) => {
         concat!(
@@ -33,8 +33,8 @@ macro_rules! numbers {
     };
 }
 
-// Judges what the readers give, and returns the writer, and the verdict. This is the one place that calls `write_unexpected`, and it
-// promises nothing, so that no test carries that contract.
+// Judges what the readers give, and returns the writer, and the verdict. This is the one place that calls `write_unexpected`,
+// and it promises nothing, so that no test carries that contract.
 fn judge<I: Read + Drop, W: Write>(
     alloc: Global,
     known: &[Expectation],
@@ -53,7 +53,7 @@ fn known_in(alloc: Global, lines: &[&str]) -> Result<Result<Vec<Expectation>, Kn
     Ok(read_known(alloc, text.as_bytes()))
 }
 
-// An input: its lines, and the error behind them, if it fails.
+// An input: its lines, and the error after them, if it fails.
 type Input = (&'static [&'static str], Option<ErrorKind>);
 
 fn readers_of<'a>(
@@ -92,8 +92,8 @@ fn judged(
     Ok((verdict?, String::from_utf8(bytes)?))
 }
 
-// Known failures, a report, and what is printed: first the failure that has no known name, and then what the known failures say, in
-// the order of their lines.
+// Known failures, a report, and what is printed: first the failure that isn't known, and then what became of the known
+// failures, in the order of their lines.
 const KNOWN: &[&str] = &[failed!("c"), "# why\n", failed!("a", "z")];
 
 const FINDINGS: &[&str] = &[
@@ -115,7 +115,7 @@ const FOUND: &[&str] = &[
     numbers!(0, 1, 0, 1, 1),
 ];
 
-// The lines of known failures, those of a report, the status, and what is printed.
+// The lines of known failures, the lines of a report, the status, and what is printed.
 static RULES: [(&[&str], &[&str], u8, &[&str]); 11] = [
     // A line without a message expects any, and the last line needs no end.
     (
@@ -130,7 +130,7 @@ static RULES: [(&[&str], &[&str], u8, &[&str]); 11] = [
         101,
         &["failed: ", failed!("a", "x"), numbers!(0, 1, 0, 0, 0)],
     ),
-    // An empty message is one.
+    // An empty message is a message too.
     (
         &[failed!("a", "")],
         A_SILENT,
@@ -141,7 +141,7 @@ static RULES: [(&[&str], &[&str], u8, &[&str]); 11] = [
             numbers!(0, 0, 0, 1, 0),
         ],
     ),
-    // A trial of another kind is another.
+    // A trial of another kind is another trial.
     (
         &[failed!(["k"] "a", "x")],
         A_FAILED,
@@ -226,7 +226,7 @@ fn judges_a_report(rt: HostRuntime) -> Result<(), Fail> {
     Ok(())
 }
 
-// The lines of known failures, those of a report, the status, and the one with `lax`.
+// The lines of known failures, the lines of a report, the status, and the status with `lax`.
 static LAX: [(&[&str], &[&str], u8, u8); 4] = [
     (&[failed!("a", "x")], A_PASSED, 101, 0),
     (&[failed!("a")], NONE, 101, 101),
@@ -293,7 +293,7 @@ static INPUTS: [(&[Input], u8, &str, &[&str]); 7] = [
         "whole\nthe report is cut\n",
         &[numbers!(0, 0, 0, 0, 0)],
     ),
-    // Behind the wrong line nothing counts.
+    // Nothing counts after the wrong line.
     (
         &[(
             &[
@@ -310,7 +310,7 @@ static INPUTS: [(&[Input], u8, &str, &[&str]); 7] = [
         "line 4: not what a report has there\n",
         &[numbers!(1, 0, 0, 0, 0)],
     ),
-    // What is unexpected is printed even if an input is none.
+    // What is unexpected is printed even if an input has no report.
     (
         &[(&[], None), (FINDINGS, None)],
         1,
@@ -364,7 +364,7 @@ fn judges_what_inputs_give(rt: HostRuntime) -> Result<(), Fail> {
     Ok(())
 }
 
-// Lines of which one is not that of a failed trial, and its number.
+// Lines with one that isn't the line of a failed trial, and the number of that line.
 static UNREAD: [(&[&str], usize); 5] = [
     (A_FAILED, 1),
     (&[failed!("a"), "\n", passed!("a")], 3),
@@ -391,7 +391,7 @@ fn refuses_other_lines(rt: HostRuntime) -> Result<(), Fail> {
     Ok(())
 }
 
-// Whether a writer that fails at the place got what comes before it, and no call after it.
+// Whether a writer that fails at the place got what comes before it, and wasn't called again.
 fn stops_so(alloc: Global, place: Place, fault: Fault) -> Result<bool, Fail> {
     let known = known_in(alloc, KNOWN)??;
     let report = text_of(alloc, FINDINGS)?;

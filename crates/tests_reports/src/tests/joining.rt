@@ -1,4 +1,4 @@
-//! What joins reports, and what is shown of a fault.
+//! Joins reports, and shows a fault of joining.
 use mimic_events::Report;
 use mimic_reports::{JoinFault, Refusal, joined};
 use std::alloc::{AllocError, Global};
@@ -14,7 +14,7 @@ pub(super) fn join(
     joined(alloc, reports, shards, equal_names)
 }
 
-// What is shown of a fault of the reports A, B and C.
+// What is shown for a fault of the reports A, B and C.
 pub(super) fn shown(alloc: Global, fault: &JoinFault) -> Result<String, Fail> {
     let mut names = Vec::new(alloc);
     for name in ["A", "B", "C"] {

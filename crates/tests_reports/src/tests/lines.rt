@@ -1,4 +1,4 @@
-//! The lines of reports in JSON, and small reports. Names, kinds and messages are given as they are escaped there.
+//! The lines of reports in JSON, and small reports. Names, kinds and messages are given as reports escape them.
 use super::reading::Slow;
 use mimic_input::{RowsRead, read_rows};
 use std::alloc::{AllocError, Global};
@@ -121,7 +121,7 @@ pub(super) fn text_of(alloc: Global, lines: &[&str]) -> Result<String, AllocErro
     Ok(text)
 }
 
-// Returns what is read of the lines.
+// Returns what is read from the lines.
 pub(super) fn read(alloc: Global, lines: &[&str]) -> Result<RowsRead, Fail> {
     let text = text_of(alloc, lines)?;
     Ok(read_rows(alloc, Slow::of(text.as_str()))?)

@@ -1,4 +1,4 @@
-//! What no clause says of a page: its heading, its numbers and its rows. Expected texts are worked by hand.
+//! What no clause states about a page: its heading, its numbers and its rows. Expected texts are worked out by hand.
 use super::lines::{
     A_FAILED, NONE, announced, failed, ignored, measured, passed, read, summary, title,
 };
@@ -12,8 +12,8 @@ use std::io::Write;
 use std::process::Abort;
 use std::test::Fail;
 
-// Writes the page of a program whose name would be markup, and returns the writer, and how that ended. This is the one place that
-// calls `write_page`, and it promises nothing, so that no test carries that contract.
+// Writes the page of a program whose name would be markup, and returns the writer, and how that ended. This is the one place
+// that calls `write_page`, and it promises nothing, so that no test carries that contract.
 fn write_into<W: Write>(read: &RowsRead, writer: W) -> (W, Result<(), WriteFault>) {
     let mut sink = Sink::new(writer);
     let written = write_page("a<b", read, &mut sink);
@@ -177,7 +177,7 @@ no</pre></details></li>
             rows: ["", "", "<li class=\"passed\"><b>ok</b> <bdi>a</bdi></li>\n"],
         },
     ),
-    // Behind the wrong line nothing counts.
+    // Nothing counts after the wrong line.
     (
         &[
             title!(2),
@@ -218,7 +218,7 @@ fn shows_reports(rt: HostRuntime) -> Result<(), Fail> {
     Ok(())
 }
 
-// Whether a writer that fails at the place got what of the page comes before it, and no call after it.
+// Whether a writer that fails at the place got the part of the page before it, and wasn't called again.
 fn stops_so(alloc: Global, page: &str, place: Place, fault: Fault) -> Result<bool, Fail> {
     let writer = FaultyWriter::new(alloc).failing(place, fault);
     let (writer, written) = write_into(&read(alloc, A_FAILED)?, writer);

@@ -1,4 +1,4 @@
-//! Reports that are read from readers, and what readers give that is no report.
+//! Reports that are read from readers, and texts of readers that are no reports.
 use super::joining::shown;
 use mimic_printer::Sink;
 use mimic_reports::{JoinFault, join_reports};
@@ -30,8 +30,8 @@ const BOTH: &str = r#"{ "type": "suite", "event": "started", "test_count": 2 }
 { "type": "suite", "event": "failed", "passed": 1, "failed": 1, "ignored": 0, "measured": 0, "filtered_out": 3, "exec_time": 1.5 }
 "#;
 
-// A reader over a text, which gives at most so many bytes a read. Each second read is interrupted, and behind the text it
-// fails if it is to.
+// A reader over a text, which gives at most `most` bytes a read. Every second read is interrupted, and after the text it
+// fails if `fails` has an error.
 #[derive(Drop)]
 pub(super) struct Slow<'a> {
     bytes: &'a [u8],
@@ -71,7 +71,7 @@ impl<'a> Slow<'a> {
     }
 }
 
-// Joins what the readers of so many shards give, and returns the writer, and how that ended. This is the one place that calls
+// Joins what the readers of `shards` shards give, and returns the writer, and how that ended. This is the one place that calls
 // `join_reports`, and it promises nothing, so that no test carries that contract.
 pub(super) fn join_into<I: Read + Drop, W: Write>(
     alloc: Global,
@@ -108,7 +108,7 @@ fn joins_what_is_read(rt: HostRuntime) -> Result<(), Fail> {
     Ok(())
 }
 
-// What stands in the second report and is replaced, what comes in its place, and what is shown then.
+// A part of the second report, what replaces it, and what is shown then.
 static ODD: [(&str, &str, &str); 9] = [
     (SECOND, "", "B: the report is cut"),
     (SECOND, "no line", "B: the report is cut"),
@@ -145,13 +145,13 @@ static ODD: [(&str, &str, &str); 9] = [
     ),
 ];
 
-// The text with the first such part exchanged.
+// The text with `new` in place of the first `old`.
 fn altered(alloc: Global, text: &str, old: &str, new: &str) -> Result<String, Fail> {
     let (front, back) = text.split_once(old).ok_or("not in the text")?;
     Ok(format!(in alloc; "{front}{new}{back}")?)
 }
 
-// Checks that what the readers give is refused so, and nothing is written.
+// Checks that what the readers give is refused with the text `shown`, and nothing is written.
 fn check_refused(
     rt: &impl Abort,
     alloc: Global,
@@ -181,7 +181,7 @@ fn refuses_what_is_no_report(rt: HostRuntime) -> Result<(), Fail> {
     Ok(())
 }
 
-// The first reader fails behind its text, or its text is cut; what the second gives doesn't count.
+// The first reader fails after its text, or its text is cut; what the second gives doesn't count.
 #[test]
 fn refuses_the_first_reader(rt: HostRuntime) -> Result<(), Fail> {
     let mut first = Slow::of(FIRST);
@@ -202,7 +202,7 @@ fn refuses_the_first_reader(rt: HostRuntime) -> Result<(), Fail> {
     )
 }
 
-// Whether a writer that fails after so many bytes has got these bytes of the joined report, and nothing more is written.
+// Whether a writer that fails after `count` bytes got these bytes of the joined report, and wasn't called again.
 fn stops_so(alloc: Global, count: usize, fault: Fault) -> Result<bool, Fail> {
     let inputs = vec![in alloc; Slow::of(FIRST), Slow::of(SECOND)]?;
     let writer = FaultyWriter::new(alloc).failing(Place::Byte(count), fault);

@@ -1,4 +1,4 @@
-//! The 17 trials of `harness`, run in shards by one thread and a clock that stands still.
+//! The 17 trials of `harness`, run in shards by one thread and a clock that never moves.
 use super::joining::join;
 use super::reading::join_into;
 use libtest_mimic::{Arguments, FormatSetting, Stopwatch, Trial, run_here};
@@ -11,7 +11,7 @@ use std::alloc::Global;
 use std::process::Abort;
 use std::test::Fail;
 
-// What the words of a line ask.
+// What the words of a line ask for.
 fn asked(alloc: Global, words: &[&str]) -> Result<Arguments, Fail> {
     if words.is_empty() {
         return Err(Fail::new("no line"));
@@ -25,7 +25,7 @@ fn trials_of(alloc: Global, index: usize, count: usize) -> Result<Vec<Trial<Know
     Ok(shard_of(alloc, shard, known_trials(alloc, &MIXED_BAG)?)?)
 }
 
-// What a run of a shard writes. The first one of one is a run of all trials.
+// What a run of a shard writes. Shard 0 of 1 has all trials.
 fn written(alloc: Global, words: &[&str], index: usize, count: usize) -> Result<Vec<u8>, Fail> {
     let args = asked(alloc, words)?;
     let trials = trials_of(alloc, index, count)?;
@@ -35,7 +35,7 @@ fn written(alloc: Global, words: &[&str], index: usize, count: usize) -> Result<
     Ok(sink.into_inner())
 }
 
-// What each of so many shards writes.
+// What each of `count` shards writes.
 fn parts(alloc: Global, words: &[&str], count: usize) -> Result<Vec<Vec<u8>>, Fail> {
     let mut parts = Vec::new(alloc);
     for index in 0..count {
@@ -44,7 +44,7 @@ fn parts(alloc: Global, words: &[&str], count: usize) -> Result<Vec<Vec<u8>>, Fa
     Ok(parts)
 }
 
-// Their reports, joined.
+// The joined report of `count` shards.
 fn joined_of(alloc: Global, words: &[&str], count: usize) -> Result<Vec<u8>, Fail> {
     let parts = parts(alloc, words, count)?;
     let mut inputs = Vec::new(alloc);
@@ -56,7 +56,7 @@ fn joined_of(alloc: Global, words: &[&str], count: usize) -> Result<Vec<u8>, Fai
     Ok(bytes)
 }
 
-// Whether the line stands in the text, and once.
+// Whether the line is in the text exactly once.
 fn stands_once(line: &str, text: &str) -> bool {
     let mut stands = false;
     for other in text.lines() {
@@ -70,7 +70,7 @@ fn stands_once(line: &str, text: &str) -> bool {
     stands
 }
 
-// Whether the texts have the same lines, each once, in whatever order.
+// Whether the texts have the same lines, each once, in any order.
 fn have_same_lines(a: &str, b: &str) -> bool {
     for line in a.lines() {
         if !stands_once(line, b) {
@@ -80,7 +80,7 @@ fn have_same_lines(a: &str, b: &str) -> bool {
     a.lines().count() == b.lines().count()
 }
 
-// Lines that drop no trial, and lines that do, so that the rows of the joined report are in another order.
+// Whether a line drops trials, and its words. If it does, the rows of the joined report may be in another order.
 static LINES: [(bool, &[&str]); 9] = [
     (false, &["suite", "--format=json"]),
     (false, &["suite", "--format=json", "--include-ignored"]),
@@ -103,7 +103,7 @@ static LINES: [(bool, &[&str]); 9] = [
     (true, &["suite", "--format=json", "--exact", "nothing"]),
 ];
 
-// Checks that the joined report of so many shards is that of a whole run, but perhaps for its order.
+// Checks that the joined report of `count` shards is that of a whole run. Its order may differ if trials are dropped.
 fn check_joined(
     rt: &impl Abort,
     alloc: Global,
@@ -129,7 +129,7 @@ fn joins_suites(rt: HostRuntime) -> Result<(), Fail> {
     Ok(())
 }
 
-// The lists of so many shards, one after another.
+// The lists of `count` shards, one after another.
 fn lists(alloc: Global, count: usize) -> Result<String, Fail> {
     let mut lists = String::new(alloc);
     for part in &parts(alloc, &["suite", "--list"], count)? {

@@ -77,7 +77,7 @@ static REFUSED: [(Option<&str>, Option<&str>, &str); 9] = [
     ),
 ];
 
-// What is shown of a pair that names no shard.
+// What is shown for a pair that names no shard.
 fn shown(alloc: Global, total: Option<&str>, index: Option<&str>) -> Result<String, Fail> {
     match Shard::from_variables(total, index) {
         Err(fault) => Ok(format!(in alloc; "{fault}")?),

@@ -1,5 +1,5 @@
-//! What no clause says of a watch: when it draws, what the lines say of the time, and whole runs byte for byte. Expected texts are
-//! worked by hand.
+//! What no clause states about a watch: when it draws, which times the lines show, and whole runs byte for byte. Expected texts
+//! are worked out by hand.
 use mimic_input::ReadFault;
 use mimic_printer::Sink;
 use mimic_watch::{WatchFault, watch};
@@ -10,7 +10,7 @@ use std::io::{ErrorKind, Read};
 use std::test::Fail;
 use std::time::Duration;
 
-// Gives these pieces, one a read. An empty one says that nothing came, and at `BROKEN` it fails.
+// Gives these pieces, one a read. At an empty piece it times out, and at `BROKEN` it fails.
 #[derive(Drop)]
 struct Pieces<'a> {
     pieces: &'a [&'a str],
@@ -35,7 +35,7 @@ impl Read for Pieces<'_> {
     }
 }
 
-// A clock that goes on by so many milliseconds at each reading.
+// A clock that moves on by `step` milliseconds at each reading.
 #[derive(Drop)]
 struct Steps {
     now: Cell<u64>,
@@ -54,7 +54,7 @@ impl std::rt::Clock for Steps {
     }
 }
 
-// Watches the input, and returns the status, 99 for a fault of the input, and what was put.
+// Watches the input, and returns the status, or 99 for a fault of the input, and what was written.
 fn watched<I: Read>(
     alloc: Global,
     input: &mut I,
@@ -110,7 +110,7 @@ fn plain(rt: HostRuntime) -> Result<(), Fail> {
     let alloc = rt.alloc();
     let pieces = [TITLE, ANNOUNCED, "", FAILED, REST];
     let (status, text) = watched_pieces(alloc, &pieces, 4_000, false)?;
-    // The third reading behind the start is 12 seconds after it.
+    // The third reading after the one at the start is 12 seconds later.
     let line = "[      ] 0/2 12s\n";
     let expected = format!(in alloc; "{line}{FAILURE}{BENCH}{SUMMARY}")?;
     assert!(rt; status == 101, "{status}");
@@ -153,7 +153,7 @@ static NO_REPORTS: [(&[&str], u8, &str); 6] = [
     ),
 ];
 
-// Reports that are cut or spoilt, or whose input fails, show the rows before, and nothing behind.
+// If a report is cut or spoilt, or its input fails, the rows before that are shown, and nothing after them.
 #[test]
 fn no_reports(rt: HostRuntime) -> Result<(), Fail> {
     for (pieces, ended, expected) in &NO_REPORTS {
@@ -181,7 +181,7 @@ fn long_failure(alloc: Global) -> Result<String, Fail> {
     Ok(line)
 }
 
-// Returns what is shown of it.
+// Returns what is shown of this failure.
 fn long_failure_shown(alloc: Global) -> Result<String, Fail> {
     let mut text = String::from_str(alloc, "FAILED \\u{9b}\n")?;
     for _ in 0..20_u32 {
@@ -206,7 +206,7 @@ fn long_message(rt: HostRuntime) -> Result<(), Fail> {
     Ok(())
 }
 
-// Gives the lines of so many rows, of which none fails, one row a read.
+// Gives the lines of `rows` rows, one row a read. None of them fails.
 #[derive(Drop)]
 struct Many {
     rows: u32,

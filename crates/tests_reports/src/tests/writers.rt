@@ -3,7 +3,7 @@ use mimic_testkit::{Fault, FaultyWriter, Place};
 use std::process::Abort;
 use std::test::Fail;
 
-// Whether the writer failed, had got all of the text up to there, or at a flush the whole, and was asked for nothing more.
+// Whether the writer failed, got all of the text before its place, or the whole if that is a flush, and wasn't called again.
 pub(super) fn has_stopped(writer: &FaultyWriter, text: &[u8]) -> bool {
     let before = match writer.place {
         Place::Byte(count) => text.get(..count),
@@ -12,7 +12,7 @@ pub(super) fn has_stopped(writer: &FaultyWriter, text: &[u8]) -> bool {
     writer.has_failed && writer.calls_after == 0 && before == Some(writer.bytes.as_slice())
 }
 
-// Checks what a writer leaves that fails at one of the places: `stops_so` says whether that is as it should be.
+// Checks what a writer that fails at one of the places leaves: `stops_so` returns whether that is as it should be.
 pub(super) fn check_stops<F: Fn(Place, Fault) -> Result<bool, Fail>>(
     rt: &impl Abort,
     places: &[Place],

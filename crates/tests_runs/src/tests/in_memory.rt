@@ -52,7 +52,7 @@ fn of_one(alloc: Global, text: Option<&str>) -> Result<Vec<String>, AllocError> 
     Ok(texts)
 }
 
-// The arguments that ask so.
+// The arguments that ask for this.
 pub(super) fn asking(alloc: Global, asked: &Asked) -> Result<Arguments, AllocError> {
     let mut args = Arguments::new(alloc);
     args.include_ignored = asked.include_ignored;
@@ -123,7 +123,7 @@ pub(super) fn run_by_clock<R: Task, C: Clock + Drop>(
     Ok(Left::of(conclusion, sink, &watch))
 }
 
-// By as many workers as are asked for, or else by one, to which trials come so, with this clock.
+// By as many workers as are asked for, or else by one, with this schedule and this clock.
 pub(super) fn run_in_workers<R: Task + Send + 'static, C: Clock + Drop, T: Spawner + 'static>(
     rt: &T,
     alloc: Global,
@@ -146,7 +146,7 @@ pub(super) fn run_in_workers<R: Task + Send + 'static, C: Clock + Drop, T: Spawn
     Ok(Left::of(conclusion, sink, &watch))
 }
 
-// By the calling thread, with a clock that stands still.
+// By the calling thread, with a clock that never moves.
 pub(super) fn run_ample<R: Task>(
     alloc: Global,
     asked: &Asked,

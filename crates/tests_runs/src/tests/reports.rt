@@ -187,7 +187,7 @@ fn run_later<T: Spawner + 'static>(
     run_in_workers(rt, alloc, &asked, tests, clock, schedule)
 }
 
-// With workers it is told from the first two readings too.
+// With workers it is reported from the first two readings too.
 #[test]
 fn tells_the_time_of_workers(rt: HostRuntime) -> Result<(), Fail> {
     for schedule in [Schedule::Shares, Schedule::Queue] {
@@ -215,7 +215,7 @@ impl Task for Raises {
     }
 }
 
-// What a run of one trial that raises the clock leaves, by workers to which trials come so, or by the calling thread.
+// What a run of one trial that raises the clock leaves, by workers with this schedule, or by the calling thread.
 fn run_raising<T: Spawner + 'static>(
     rt: &T,
     alloc: Global,

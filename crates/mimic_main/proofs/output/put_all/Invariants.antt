@@ -1,4 +1,4 @@
--- Each turn takes some bytes, and those that were taken are in the writer.
+-- Each round takes some bytes, and those that were taken are in the writer.
 use Rattle.std.proofs.Common.{◌-◌, ◌≤◌, length, take}
 use Rattle.std.specs.Io.KnownBytes.{Appends}
 use Rattle.mimic_main.proofs.output.put_all.Given as goal

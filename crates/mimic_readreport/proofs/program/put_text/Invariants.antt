@@ -1,4 +1,4 @@
--- What is gone from `rest` was appended.
+-- What was taken off the front of `rest` was appended.
 use Rattle.std.proofs.Common.{length}
 use Rattle.mimic_printer.proofs.Appending.{Gone}
 use Rattle.mimic_readreport.proofs.program.put_text.Given as goal

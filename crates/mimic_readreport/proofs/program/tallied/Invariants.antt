@@ -1,4 +1,4 @@
--- What is gone from the input was fed.
+-- What was taken from the input was fed.
 use Rattle.std.proofs.Common.{ℕ, List}
 use Rattle.std.specs.Io.KnownBytes.{Consumes}
 use Rattle.mimic_events.specs.Tally.{HasRead}

@@ -6,7 +6,7 @@ use Rattle.mimic_pool.proofs.Having.{missing_none}
 use Rattle.mimic_pool.proofs.Seating.{shown_whole}
 use Rattle.mimic_pool.proofs.desk.Desk.arrive_missing.Goals as goal
 
--- where the order is as long as there are places, none is missing
+-- if the order is as long as there are places, none is missing
 pub returns-then-len-self-clause-rows : goal.returns-then-len-self-clause-rows
 returns-then-len-self-clause-rows c =
     let none = missing_none c.self.inside c.args.self.now c.self.invariant c.self.view_is

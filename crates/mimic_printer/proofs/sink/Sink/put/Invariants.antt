@@ -1,4 +1,4 @@
--- What is gone from `rest` was appended, and no fault was counted.
+-- What was taken off the front of `rest` was appended, and no fault was counted.
 use Rattle.std.proofs.Common.{◌≡◌, length}
 use Rattle.mimic_printer.proofs.Appending.{Gone}
 use Rattle.mimic_printer.proofs.sink.Sink.put.Given as goal
