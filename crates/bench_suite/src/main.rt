@@ -23,9 +23,9 @@ mod xorshift;
 ghost use Rattle.libtest_mimic.specs.Trial.{AllCanRun};
 
 use asked::{Asked, Runners};
-use libtest_mimic::{ArgumentsError, Clock, Failed, Outcome, RunError, Task, Trial};
+use libtest_mimic::{ArgumentsError, Clock, Failed, Outcome, RunError, Schedule, Task, Trial};
 use measured::Measured;
-use mimic_main::{Machine, MonotonicClock, Program, Schedule, Sharding, Status, StillClock};
+use mimic_main::{Machine, MonotonicClock, Program, Sharding, Status, StillClock};
 use std::alloc::Global;
 use std::fs::Files;
 use std::io::Eprint;

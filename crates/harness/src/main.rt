@@ -1,8 +1,8 @@
 //! A harness of 17 trials, which reads a command line.
 #![tactic(auto)]
 
-use libtest_mimic::{Failed, Measurement, RunError, Trial};
-use mimic_main::{Machine, Program, Schedule, Status};
+use libtest_mimic::{Failed, Measurement, RunError, Schedule, Trial};
+use mimic_main::{Machine, Program, Status};
 use mimic_testkit::{MIXED_BAG, trials_of};
 
 const HARNESS: Program<'static> = Program {

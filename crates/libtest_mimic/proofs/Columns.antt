@@ -2,8 +2,8 @@
 use Rattle.std.proofs.Common.{◌≡◌, ◌∙◌, ℕ, Bool, List, [], ◌∷◌, ◌++◌, Option, None, Some, Result, Ok, Err, length, refl, ap, ap₂, subst}
 use Rattle.std.specs.List.{concat}
 use Rattle.std.specs.Prelude.{MatchOption}
-use Rattle.mimic_text.specs.declared.formats.FormatSetting.{FormatSetting}
-use Rattle.mimic_text.specs.declared.formats.FormatSetting.TheVariants.{Pretty, Terse, Json}
+use Rattle.mimic_trial.specs.declared.formats.FormatSetting.{FormatSetting}
+use Rattle.mimic_trial.specs.declared.formats.FormatSetting.TheVariants.{Pretty, Terse, Json}
 use Rattle.mimic_trial.specs.declared.outcome.Outcome.{Outcome}
 use Rattle.mimic_trial.specs.declared.outcome.Outcome.TheVariants.{Passed, Failed, Ignored, Measured}
 use Rattle.mimic_trial.specs.declared.outcome.conclusion.Conclusion.{Conclusion}

@@ -6,10 +6,10 @@ pub mod Run
 pub mod Gathering
 pub mod Steps
 -- the words of the crates below, so that clauses above need not name those
-pub use Rattle.mimic_text.specs.Text
-pub use Rattle.mimic_text.specs.Escape
-pub use Rattle.mimic_text.specs.Seconds
-pub use Rattle.mimic_text.specs.Formats
+pub use Rattle.mimic_trial.specs.Text
+pub use Rattle.mimic_trial.specs.Escape
+pub use Rattle.mimic_trial.specs.Seconds
+pub use Rattle.mimic_trial.specs.Formats
 pub use Rattle.mimic_trial.specs.Failed
 pub use Rattle.mimic_trial.specs.Same
 pub use Rattle.mimic_trial.specs.Case

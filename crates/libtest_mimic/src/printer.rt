@@ -1,2 +1,2 @@
 //! Writes the parts of a report.
-pub use mimic_printer::{Printer, Rows, widths};
+pub use mimic_printer::{Printer, ShownRows, widths};

@@ -15,7 +15,7 @@ use Rattle.clap.specs.declared.builder.value_parser.ValueParser.TheVariants as v
 use Rattle.clap.specs.declared.parser.matches.ArgMatches.{ArgMatches}
 use Rattle.mimic_args.specs.CommandLine.{TakesOnly, alone, option_rule, plus, read_by, threads_rule, unstable_rule}
 use Rattle.mimic_args.specs.Matched.{AreAccepted, IsNumber, IsNumberOf, IsReadFrom, colour_name, colours, entries_of, first_text, unstable_name, unstables}
-use Rattle.mimic_text.specs.Formats.{format_name, formats, named}
+use Rattle.mimic_trial.specs.Formats.{format_name, formats, named}
 use Rattle.mimic_args.specs.declared.Arguments.{Arguments}
 use Rattle.mimic_args.proofs.Passed.{IsReadBy, first_passed}
 use Rattle.mimic_args.proofs.SimpleLine.{ParsesLines, line_is_simple, parsed_options}

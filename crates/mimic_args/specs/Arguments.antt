@@ -3,8 +3,8 @@ use Rattle.std.specs.Prelude.{◌≡◌, ℕ, Bool, true, false, if◌then◌els
 use Rattle.mimic_args.specs.declared.Arguments.{Arguments}
 use Rattle.mimic_args.specs.declared.ColorSetting.{ColorSetting}
 use Rattle.mimic_args.specs.declared.ColorSetting.TheVariants.{Auto, Always, Never}
-use Rattle.mimic_text.specs.declared.formats.FormatSetting.{FormatSetting}
-use Rattle.mimic_text.specs.declared.formats.FormatSetting.TheVariants.{Pretty, Terse}
+use Rattle.mimic_trial.specs.declared.formats.FormatSetting.{FormatSetting}
+use Rattle.mimic_trial.specs.declared.formats.FormatSetting.TheVariants.{Pretty, Terse}
 
 -- the format of a report: terse with `quiet`, else what is set, else pretty (the Rust crate's)
 abbrev pub format_of : Arguments → FormatSetting

@@ -12,7 +12,7 @@ use Rattle.clap.specs.declared.builder.value_parser.ValueParser.TheVariants as v
 use Rattle.clap.specs.declared.error.kind.ErrorKind.{ErrorKind}
 use Rattle.clap.specs.declared.error.kind.ErrorKind.TheVariants.{DisplayHelp}
 use Rattle.mimic_args.specs.Matched.{IsReadFrom, AreAccepted, asks_for_excluded, colour_name, colours, unstable_name, unstables}
-use Rattle.mimic_text.specs.Formats.{format_name, formats}
+use Rattle.mimic_trial.specs.Formats.{format_name, formats}
 use Rattle.mimic_args.specs.declared.Arguments.{Arguments}
 use Rattle.mimic_args.specs.declared.error.ArgumentsError.{ArgumentsError}
 use Rattle.mimic_args.specs.declared.error.ArgumentsError.TheVariants.{OutOfMemory, Help, Refused}

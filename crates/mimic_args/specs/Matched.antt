@@ -2,7 +2,7 @@
 -- texts of its uses, as `clap` returns them.
 use Rattle.std.specs.Prelude.{◌≡◌, ◌&&◌, ◌||◌, is_some, ◌<◌, ◌^◌, ℕ, Bool, false, List, [], ◌∷◌, Option, Some, None, codes, map, option_map, option_and_then, unwrap_or}
 use Rattle.std.specs.Str.{bytes_eq}
-use Rattle.mimic_text.specs.Formats.{format_name, formats, named}
+use Rattle.mimic_trial.specs.Formats.{format_name, formats, named}
 use Rattle.std.specs.Str.Parse.{IsNumeral, digits_value, without_leading_plus}
 use Rattle.std.specs.String.{string_bytes}
 use Rattle.std.specs.Option.{option_map_or}

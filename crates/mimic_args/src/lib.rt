@@ -26,7 +26,7 @@ mod options;
 use copies::{all_copied, copied};
 pub use error::ArgumentsError;
 pub use line::Line;
-pub use mimic_text::{FormatSetting, UnknownFormat};
+pub use mimic_trial::{FormatSetting, UnknownFormat};
 use std::alloc::{AllocError, Global};
 
 /// When a report has colours.

@@ -2,7 +2,7 @@
 ghost use Rattle.std.specs.Prelude.{◌≡◌, IfOk, codes, map, option_and_then, option_map, string_bytes};
 ghost use Rattle.clap.specs.Words.{all_of, first_of};
 ghost use Rattle.mimic_args.specs.Matched.{IsNumberOf, colour_name, colours, entries_of, first_text, is_set, texts_of, unstable_name, unstables};
-ghost use Rattle.mimic_text.specs.Formats.{format_name, formats, named};
+ghost use Rattle.mimic_trial.specs.Formats.{format_name, formats, named};
 
 use crate::copies::{all_copied, copied};
 use crate::{ColorSetting, FormatSetting, UnstableFlags};

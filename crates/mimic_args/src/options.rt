@@ -3,7 +3,7 @@ ghost use Rattle.std.specs.Prelude.{◌≡◌, false, IfOk, Some, codes, map};
 ghost use Rattle.clap.specs.Walk.{texts};
 ghost use Rattle.mimic_args.specs.CommandLine.{ReadsOnly, alone, colour_rule, declared_of, excluding, filter_rule, format_rule, quiet_rule, flag_options, flag_rule, option_rule, options_of, read_by, skip_rule, test_rule, threads_rule, unstable_rule};
 ghost use Rattle.mimic_args.specs.Matched.{colour_name, colours, unstable_name, unstables};
-ghost use Rattle.mimic_text.specs.Formats.{format_name, formats};
+ghost use Rattle.mimic_trial.specs.Formats.{format_name, formats};
 
 use clap::{Arg, ArgAction, Command, value_parser};
 use std::alloc::{AllocError, Global};

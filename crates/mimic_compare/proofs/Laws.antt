@@ -15,7 +15,7 @@ use Rattle.mimic_printer.specs.Json.{Entry}
 use Rattle.mimic_printer.specs.Row.{Label}
 use Rattle.mimic_events.specs.Key.{same_label}
 use Rattle.mimic_events.proofs.Keys.{same_label-decides, same_label-symm}
-use Rattle.mimic_input.specs.declared.rows_read.RowsRead.{RowsRead}
+use Rattle.mimic_events.specs.declared.rows_read.RowsRead.{RowsRead}
 use Rattle.mimic_printer.proofs.EscapeLaws.{lines_have_no_control}
 use Rattle.mimic_compare.specs.Classes.{Compared, compared, comparisons, distinct, labels_in}
 use Rattle.mimic_compare.specs.Text.{place_of, same_class}

@@ -1,7 +1,7 @@
 -- What is printed of two reports (our own).
 use Rattle.std.specs.Prelude.{ℕ, ◌+◌, ◌*◌, ◌/◌, ◌%◌, ◌==◌, Bool, if◌then◌else◌, List, [], ◌∷◌, ◌++◌, codes, count_by, decimal, Option, None, Some}
 use Rattle.std.specs.List.{concat, flat_map}
-use Rattle.mimic_text.specs.Text.{grouped}
+use Rattle.mimic_trial.specs.Text.{grouped}
 use Rattle.mimic_printer.specs.Row.{Label}
 use Rattle.mimic_compare.specs.Classes.{Compared}
 use Rattle.mimic_printer.specs.Escapes.{escaped}

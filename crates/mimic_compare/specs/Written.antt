@@ -7,9 +7,9 @@ use Rattle.mimic_printer.specs.Sink.{LeftBy, Put, Shown}
 use Rattle.mimic_printer.specs.declared.sink.OutputFault.{OutputFault}
 use Rattle.mimic_events.specs.Contents.{entry_read}
 use Rattle.mimic_events.specs.Key.{same_label}
-use Rattle.mimic_input.specs.declared.ending.Ending.{Ending}
-use Rattle.mimic_input.specs.declared.ending.Ending.TheVariants.{Whole, Cut}
-use Rattle.mimic_input.specs.declared.rows_read.RowsRead.{RowsRead}
+use Rattle.mimic_events.specs.declared.ending.Ending.{Ending}
+use Rattle.mimic_events.specs.declared.ending.Ending.TheVariants.{Whole, Cut}
+use Rattle.mimic_events.specs.declared.rows_read.RowsRead.{RowsRead}
 use Rattle.mimic_compare.specs.Classes.{Compared, comparisons, labels_in}
 use Rattle.mimic_compare.specs.Text.{changes, comparison_text, count_of, same_class}
 use Rattle.mimic_printer.specs.EscapeLaws.{HasNoControl}

@@ -2,7 +2,7 @@
 //!
 //! ```rust
 //! use mimic_compare::write_comparison;
-//! use mimic_input::read_rows;
+//! use mimic_events::read_rows;
 //!
 //! let old = read_rows(alloc, old_file)?;
 //! let new = read_rows(alloc, new_file)?;

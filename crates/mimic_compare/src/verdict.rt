@@ -6,7 +6,7 @@ ghost use Rattle.mimic_compare.specs.Written.{ComparisonLaws, LeavesComparison, 
 use crate::class::Class;
 use crate::comparison::compare_rows;
 use crate::lines::{count_of, put_comparisons};
-use mimic_input::{Ending, RowsRead};
+use mimic_events::{Ending, RowsRead};
 use mimic_printer::{OutputFault, Sink};
 use std::alloc::Global;
 use std::io::Write;

@@ -10,8 +10,8 @@ use Rattle.std.specs.Str.Parse.{AllDigits, IsNumeral, digits_value, ParsesUnsign
 use Rattle.std.proofs.lemmas.Str.Parse.{digit_from_value, numerals_by_value, tells_by_index, tells_digits, parse_plain, digits_value_short}
 use Rattle.std.proofs.lemmas.Fmt.{digits_decimal, decimal_injective, IsAscii-from_digits}
 use Rattle.std.proofs.lemmas.List.{get_or-take, length-take}
-use Rattle.mimic_text.specs.Seconds.{IsRest, IsExactSeconds}
-use Rattle.mimic_text.proofs.ExactSeconds.{seconds_exact, seconds_only}
+use Rattle.mimic_trial.specs.Seconds.{IsRest, IsExactSeconds}
+use Rattle.mimic_trial.proofs.ExactSeconds.{seconds_exact, seconds_only}
 use Rattle.mimic_events.specs.LineParts.{EndsNumber, SplitsDigits, ReadsNumber}
 use Rattle.mimic_events.specs.Reading.{Decodes, IsNumber, IsSeconds}
 

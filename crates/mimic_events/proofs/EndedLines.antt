@@ -6,7 +6,7 @@ use Rattle.mimic_trial.specs.declared.outcome.Outcome.{Outcome}
 use Rattle.mimic_trial.specs.declared.outcome.Outcome.TheVariants.{Passed, Failed, Ignored, Measured}
 use Rattle.mimic_trial.specs.Count.{is_measured}
 use Rattle.mimic_trial.specs.Promise.{FitsTypes}
-use Rattle.mimic_text.specs.Escape.{escaped}
+use Rattle.mimic_trial.specs.Escape.{escaped}
 use Rattle.mimic_printer.specs.Row.{Label}
 use Rattle.mimic_printer.specs.Json.{deviation_key, json_end, json_outcome, kind_field, median_key, outcome_front}
 use Rattle.mimic_events.specs.LineParts.{ReadsNumber, IsFailure, IsTail, IsWord, tail}

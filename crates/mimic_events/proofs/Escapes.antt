@@ -3,9 +3,9 @@ use Rattle.std.proofs.Common.{◌≡◌, ℕ, ◌≤◌, true, false, eqb, List,
 use Rattle.std.proofs.lemmas.Bool.{cases_lt, eqb-true}
 use Rattle.std.proofs.lemmas.Bool.Decides.{nat_tests}
 use Rattle.std.proofs.lemmas.List.{append_cancel_left}
-use Rattle.mimic_text.specs.Escape.{escape}
-use Rattle.mimic_text.proofs.Bounded.{all_below, one_below}
-use Rattle.mimic_text.proofs.Escapes.{escape-high}
+use Rattle.mimic_trial.specs.Escape.{escape}
+use Rattle.mimic_trial.proofs.Bounded.{all_below, one_below}
+use Rattle.mimic_trial.proofs.Escapes.{escape-high}
 use Rattle.mimic_events.specs.LineParts.{candidate_of, after_backslash, after_u}
 
 not_backslash : (b : ℕ) → 93 ≤ b → eqb b 92 ≡ false

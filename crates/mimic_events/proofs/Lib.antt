@@ -1,6 +1,7 @@
 pub mod Begun
 pub mod Digits
 pub mod EndedLines
+pub mod Endings
 pub mod Escapes
 pub mod FailedLines
 pub mod FewRows
@@ -10,11 +11,15 @@ pub mod Forgetting
 pub mod Fronts
 pub mod Keys
 pub mod NamedLines
+pub mod Pairs
 pub mod PlainLanes
 pub mod PlainRows
 pub mod QuotedTexts
+pub mod ReadBytes
 pub mod Readings
+pub mod Results
 pub mod RowReaders
+pub mod RowSteps
 pub mod SoFar
 pub mod States
 pub mod Summaries

@@ -6,7 +6,7 @@ use Rattle.std.proofs.lemmas.Str.{IsUtf8-string_bytes}
 use Rattle.std.proofs.lemmas.List.Concat.{flat_map-append}
 use Rattle.std.proofs.lemmas.List.{append_cancel_left, append_cancel_right}
 use Rattle.mimic_trial.specs.declared.outcome.Outcome.TheVariants.{Failed}
-use Rattle.mimic_text.specs.Escape.{escape, escaped}
+use Rattle.mimic_trial.specs.Escape.{escape, escaped}
 use Rattle.mimic_printer.specs.Row.{Label}
 use Rattle.mimic_printer.specs.Json.{announcement_front, event_field, json_announcement, json_end, json_title, kind_field, kind_key, stdout_key, title_front}
 use Rattle.mimic_events.specs.LineParts.{Follows, ReadsQuoted, ReadsNamed, ReadsNumber, IsFailure, IsKind, IsQuoted, tail}

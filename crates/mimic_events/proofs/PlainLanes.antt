@@ -9,7 +9,7 @@ use Rattle.std.proofs.lemmas.Simd.{map-map, mask_l-mod, length-chunk, get_or-chu
 use lib.Count.{count_trailing_zeros}
 use lib.Lanes.{chunk, mask_l, top}
 use Rattle.std.specs.Option.{unwrap_or}
-use Rattle.mimic_text.specs.Escape.{ArePlain, NeedsEscape, escape}
+use Rattle.mimic_trial.specs.Escape.{ArePlain, NeedsEscape, escape}
 
 -- ---- one byte
 

@@ -5,8 +5,8 @@ use Rattle.std.proofs.lemmas.List.{append_cancel_left, length-append, take-appen
 use Rattle.std.proofs.lemmas.Str.{IsUtf8-nil}
 use Rattle.mimic_trial.specs.declared.outcome.Outcome.{Outcome}
 use Rattle.mimic_trial.specs.Count.{is_measured}
-use Rattle.mimic_text.specs.Escape.{escape, escaped}
-use Rattle.mimic_text.proofs.Escapes.{escaped-plain}
+use Rattle.mimic_trial.specs.Escape.{escape, escaped}
+use Rattle.mimic_trial.proofs.Escapes.{escaped-plain}
 use Rattle.mimic_printer.specs.Row.{Label}
 use Rattle.mimic_printer.specs.Json.{FitsLabel, IsLine, announcement_front, json_announcement, json_end, json_outcome, kind_field, kind_key, outcome_front}
 use Rattle.mimic_events.specs.LineParts.{BeginsRow, IsPlainText, IsWord, SpellsLabel, tail}

@@ -3,8 +3,8 @@ use Rattle.std.proofs.Common.{◌≡◌, ◌≢◌, ℕ, ◌<◌, ◌≤◌, Lis
 use Rattle.std.specs.List.{flat_map}
 use Rattle.std.proofs.lemmas.List.{append-nil, nil_from_length, take_all}
 use Rattle.std.proofs.lemmas.List.Concat.{flat_map-append}
-use Rattle.mimic_text.specs.Escape.{ArePlain, escape, escaped}
-use Rattle.mimic_text.proofs.Escapes.{escaped-plain}
+use Rattle.mimic_trial.specs.Escape.{ArePlain, escape, escaped}
+use Rattle.mimic_trial.proofs.Escapes.{escaped-plain}
 use Rattle.mimic_events.specs.LineParts.{candidate_of, ReadsEscaped}
 use Rattle.mimic_events.specs.LineParts.{Follows}
 use Rattle.mimic_events.proofs.Escapes.{again, one_split}

@@ -8,7 +8,7 @@ use Rattle.mimic_trial.specs.declared.outcome.conclusion.Conclusion.{Conclusion}
 use Rattle.mimic_trial.specs.Count.{counted, counts_of}
 use Rattle.mimic_trial.proofs.Counting.{counts-push}
 use Rattle.mimic_printer.specs.Json.{Entry, json_end, json_summary, summary_front, time_key}
-use Rattle.mimic_text.specs.Seconds.{exact_seconds}
+use Rattle.mimic_trial.specs.Seconds.{exact_seconds}
 use Rattle.mimic_events.specs.LineParts.{IsTotals, ReadsNumber}
 use Rattle.mimic_events.specs.Reading.{Decodes, HasCounts, IsSeconds, IsSummary}
 

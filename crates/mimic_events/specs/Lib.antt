@@ -1,12 +1,16 @@
 pub mod Contents
 pub mod Feed
 pub mod Follower
+pub mod Inputs
 pub mod Key
 pub mod LineParts
 pub mod Progress
 pub mod Readers
 pub mod Reading
+pub mod Readings
+pub mod RowByRow
 pub mod SoFar
 pub mod Stage
+pub mod Stops
 pub mod Tally
 pub mod Written

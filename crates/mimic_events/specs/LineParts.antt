@@ -5,10 +5,10 @@ use Rattle.std.specs.Str.Parse.{AllDigits}
 use Rattle.mimic_trial.specs.declared.outcome.Outcome.{Outcome}
 use Rattle.mimic_trial.specs.declared.outcome.Outcome.TheVariants.{Passed, Failed, Ignored, Measured}
 use Rattle.mimic_trial.specs.Count.{is_measured}
-use Rattle.mimic_text.specs.Escape.{ArePlain, escape, escaped}
+use Rattle.mimic_trial.specs.Escape.{ArePlain, escape, escaped}
 use Rattle.mimic_printer.specs.Row.{Label}
 use Rattle.mimic_printer.specs.Json.{Entry, FitsLabel, json_announcement, json_end, json_line, json_outcome, kind_field, outcome_fields, time_key}
-use Rattle.mimic_text.specs.Seconds.{exact_seconds}
+use Rattle.mimic_trial.specs.Seconds.{exact_seconds}
 use Rattle.mimic_trial.specs.Promise.{FitsTypes}
 use Rattle.mimic_events.specs.Reading.{IsFailedLine}
 

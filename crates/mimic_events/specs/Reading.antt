@@ -6,7 +6,7 @@ use Rattle.mimic_trial.specs.Count.{counts_of, is_failed}
 use Rattle.mimic_printer.specs.Json.{Entry, FitsEntry, FitsLabel, json_title, json_announcement, json_outcome, json_summary}
 use Rattle.mimic_printer.specs.Row.{Label}
 use Rattle.mimic_trial.specs.Promise.{FitsTypes}
-use Rattle.mimic_text.specs.Seconds.{exact_seconds}
+use Rattle.mimic_trial.specs.Seconds.{exact_seconds}
 
 -- what was found is the one value that the text spells; if nothing was found, the text spells none
 abbrev pub Decodes : {V : Type 0} → (V → List ℕ → Type 0) → List ℕ → Option V → Type 0

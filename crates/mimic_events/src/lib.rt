@@ -23,30 +23,55 @@
 //! assert_eq!(rt; report.counts().num_passed, 1);
 //! assert_eq!(rt; (report.filtered_out, report.nanos), (16, 500_000_000));
 //! ```
+//!
+//! Any reader is read by [`read_from`], to a whole report, and by [`read_rows`] or [`InputRows`], to the rows of what may have no end:
+//!
+//! ```rust
+//! use mimic_events::{Ending, read_from, read_rows};
+//!
+//! let report = read_from(alloc, &mut whole_file)?;
+//! let read = read_rows(alloc, any_file)?;
+//! match read.ending {
+//!     Ending::Whole { filtered_out, nanos } => {}
+//!     Ending::Cut(stop) => {}
+//! }
+//! ```
 #![tactic(auto)]
 
 mod counts;
+mod ending;
 mod ends;
+mod fault;
 mod feed;
 mod follower;
 mod key;
 mod lines;
 mod numbers;
+mod piece;
 mod progress;
 mod quoted_text;
+mod reading;
 mod report;
 mod row_lines;
 mod row_reader;
+mod rows;
+mod rows_read;
 mod stage;
 mod summary;
 mod tally;
 mod write;
 
 pub use counts::counts_of_rows;
+pub use ending::{Ending, Stop};
+pub use fault::ReadFault;
 pub use feed::{Feed, read_report};
 pub use follower::Follower;
 pub use key::Key;
 pub use lines::read_failed_line;
+pub use piece::{PIECE, read_piece};
+pub use reading::read_from;
 pub use report::{Label, Report, Row, Totals};
+pub use rows::InputRows;
+pub use rows_read::{RowsRead, read_rows};
 pub use tally::Tally;
 pub use write::{put_row, write_report};

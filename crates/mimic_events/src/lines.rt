@@ -1,6 +1,6 @@
 //! Reads the lines of a report, each with its line end.
 ghost use Rattle.std.specs.Prelude.{◌≡◌, ◌≢◌, ◌∷◌, ◌++◌, ℕ, List, IfOk, MatchOption, IsUtf8, codes, option_map, string_bytes, true, false};
-ghost use Rattle.mimic_text.specs.Escape.{escaped};
+ghost use Rattle.mimic_trial.specs.Escape.{escaped};
 ghost use Rattle.mimic_events.specs.Contents.{entry_read, label_read};
 ghost use Rattle.mimic_printer.specs.Json.{kind_field};
 ghost use Rattle.mimic_events.specs.LineParts.{Follows, IsFailure, IsKind, IsQuoted, IsTail, SaysFailed, SaysKind};

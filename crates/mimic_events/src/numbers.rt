@@ -1,12 +1,12 @@
 //! Reads numbers and seconds, as a report spells them.
 ghost use Rattle.std.specs.Prelude.{◌≡◌, ◌<◌, ◌≤◌, ◌+◌, ◌*◌, ◌^◌, length, option_map, SomeIff};
 ghost use Rattle.std.specs.Str.Parse.{IsNumeral, digits_value};
-ghost use Rattle.mimic_text.specs.Seconds.{IsFraction, IsRest};
+ghost use Rattle.mimic_trial.specs.Seconds.{IsFraction, IsRest};
 ghost use Rattle.mimic_events.specs.Reading.{Decodes, IsNumber, IsSeconds};
 ghost use Rattle.mimic_events.specs.LineParts.{SplitsDigits, ReadsNumber};
 
 use itoa::Buffer;
-use mimic_text::NANOS_PER_SECOND;
+use mimic_trial::NANOS_PER_SECOND;
 use std::str;
 
 // Returns the number at the front, and what follows its digits.

@@ -1,10 +1,10 @@
 //! Reads texts between the quotes of a JSON string.
 ghost use Rattle.std.specs.Prelude.{◌≡◌, ◌++◌, ◌∷◌, ◌+◌, ◌<◌, ◌≤◌, [], IfOk, IfSome, length, option_map, slice_range};
-ghost use Rattle.mimic_text.specs.Escape.{ArePlain, escape, escaped};
+ghost use Rattle.mimic_trial.specs.Escape.{ArePlain, escape, escaped};
 ghost use Rattle.mimic_events.specs.LineParts.{Follows, IsPlainText, named_of, control_of, candidate_of, ReadsByte, ReadsEscaped, ReadsQuoted, ReadsNamed};
 
 use crate::ends::after;
-use mimic_text::{escape_byte, next_escape};
+use mimic_trial::{escape_byte, next_escape};
 use std::alloc::{AllocError, Global};
 use std::simd::prelude::*;
 use std::str;

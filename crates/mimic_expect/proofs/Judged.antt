@@ -19,8 +19,8 @@ use Rattle.mimic_events.specs.Key.{label_in, same_label}
 use Rattle.mimic_events.specs.declared.report.Row.{Row}
 use Rattle.mimic_events.proofs.Keys.{same_label-symm}
 use Rattle.mimic_events.specs.Feed.{AreEnded}
-use Rattle.mimic_input.specs.RowByRow.{HasCome, pending}
-use Rattle.mimic_input.specs.declared.rows.InputRows.{InputRows}
+use Rattle.mimic_events.specs.RowByRow.{HasCome, pending}
+use Rattle.mimic_events.specs.declared.rows.InputRows.{InputRows}
 use Rattle.mimic_expect.specs.Expect.{FailedRow, is_known, rows_with, unknown_failures}
 use Rattle.mimic_expect.specs.FindingText.{finding_text}
 use Rattle.mimic_expect.specs.Judge.{Judged, Judges, labels_known}

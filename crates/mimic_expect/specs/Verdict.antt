@@ -4,8 +4,8 @@ use Rattle.std.specs.List.{AllZip, flat_map, list_all, list_any}
 use Rattle.mimic_printer.specs.Json.{Entry}
 use Rattle.mimic_printer.specs.Sink.{Put, Shown, Stopped}
 use Rattle.mimic_events.specs.Feed.{AreEnded}
-use Rattle.mimic_input.specs.Readings.{IsReading}
-use Rattle.mimic_input.specs.declared.ending.Ending.TheVariants.{Whole}
+use Rattle.mimic_events.specs.Readings.{IsReading}
+use Rattle.mimic_events.specs.declared.ending.Ending.TheVariants.{Whole}
 use Rattle.mimic_expect.specs.Expect.{counts, findings}
 use Rattle.mimic_expect.specs.FindingText.{rows_text}
 use Rattle.mimic_expect.specs.Known.{Expected}

@@ -15,7 +15,7 @@ use crate::judgement::Judgement;
 use crate::known::Expectation;
 use crate::verdict::{InputEnd, Verdict, have_all};
 use itoa::Buffer;
-use mimic_input::{InputRows, ReadFault};
+use mimic_events::{InputRows, ReadFault};
 use mimic_printer::{OutputFault, Sink, WriteFault};
 use std::alloc::Global;
 use std::io::{ErrorKind, Read, Write};

@@ -3,7 +3,7 @@ ghost use Rattle.std.specs.Prelude.{◌≡◌};
 ghost use Rattle.std.specs.List.{list_all};
 ghost use Rattle.mimic_expect.specs.Verdict.{has_all, is_whole, status_of};
 
-use mimic_input::Ending;
+use mimic_events::Ending;
 use std::io;
 
 /// How an input ended.

@@ -5,9 +5,9 @@ use Rattle.std.proofs.lemmas.Slice.Eq.{bytes_eq-Decides}
 use Rattle.std.specs.Str.{bytes_eq}
 use Rattle.json.specs.Print as print
 use Rattle.json.proofs.Printed.Strings.{escape_byte_plain}
-use Rattle.mimic_text.specs.Escape.{escape, escaped}
-use Rattle.mimic_text.proofs.Bounded.{all_below, one_below}
-use Rattle.mimic_text.proofs.Escapes.{escape-high}
+use Rattle.mimic_trial.specs.Escape.{escape, escaped}
+use Rattle.mimic_trial.proofs.Bounded.{all_below, one_below}
+use Rattle.mimic_trial.proofs.Escapes.{escape-high}
 
 low_same : all_below (λ b. bytes_eq (escape b) (print.escape_byte b)) 93 ≡ true
 unfolding print.escape_byte

@@ -14,8 +14,8 @@ use Rattle.json.proofs.Printed.Decimals.{IsNumber-decimal}
 use Rattle.serde_json.specs.Data.{Data, Members, no_members, put}
 use Rattle.serde_json.specs.Read.{read, max_depth, of_json, of_members}
 use Rattle.serde_json.proofs.Numbers.{number_of-decimal}
-use Rattle.mimic_text.specs.Escape.{escaped}
-use Rattle.mimic_text.specs.Seconds.{exact_seconds}
+use Rattle.mimic_trial.specs.Escape.{escaped}
+use Rattle.mimic_trial.specs.Seconds.{exact_seconds}
 use Rattle.mimic_json.specs.Fields.{Scalar, text, count, seconds, Field, data_of, json_members, json_of, object_of, with_fields}
 use Rattle.mimic_json.proofs.Escapes.{escaped_same}
 use Rattle.mimic_json.proofs.Times.{IsNumber-exact_seconds, number_of-exact_seconds}

@@ -22,8 +22,8 @@ use Rattle.json.proofs.Printed.Floats.{IsNumber-plain}
 use Rattle.serde_json.specs.Find.{to_float}
 use Rattle.serde_json.specs.Read.{number_of, number_from, float_of}
 use Rattle.serde_json.proofs.Numbers.{number_of-decimal}
-use Rattle.mimic_text.specs.Seconds.{IsFraction, IsRest, fraction_digits, exact_seconds}
-use Rattle.mimic_text.proofs.ExactSeconds.{seconds_exact}
+use Rattle.mimic_trial.specs.Seconds.{IsFraction, IsRest, fraction_digits, exact_seconds}
+use Rattle.mimic_trial.proofs.ExactSeconds.{seconds_exact}
 use Rattle.mimic_json.specs.Fields.{seconds_number}
 
 -- ---- the two forms of the text

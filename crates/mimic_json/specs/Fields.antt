@@ -4,7 +4,7 @@ use Rattle.std.specs.List.{AllByRecursion}
 use Rattle.std.specs.Float.{binary64}
 use Rattle.std.specs.Float.Ieee.{round}
 use Rattle.json.specs.Json as json
-use Rattle.mimic_text.specs.Seconds.{exact_seconds}
+use Rattle.mimic_trial.specs.Seconds.{exact_seconds}
 use Rattle.serde_json.specs.Find.{get}
 use Rattle.serde_json.specs.Data.{Num, unsigned, float, Data, number, string, object, Members, no_members, put}
 

@@ -8,8 +8,8 @@ use Rattle.mimic_args.specs.declared.error.ArgumentsError.{ArgumentsError}
 use Rattle.mimic_args.specs.declared.error.ArgumentsError.TheVariants.{OutOfMemory, Help, Refused}
 use Rattle.mimic_trial.specs.declared.trial.Trial.{Trial}
 use Rattle.libtest_mimic.specs.Suite.{Asked}
-use Rattle.mimic_shard.specs.Shard.{shard_from}
-use Rattle.mimic_shard.specs.declared.shard.Shard.{Shard}
+use Rattle.mimic_trial.specs.Shard.{shard_from}
+use Rattle.mimic_trial.specs.declared.shard.Shard.{Shard}
 use Rattle.mimic_main.specs.Ended.{EndsAsAsked, EndsInPart, EndsSomehow}
 use Rattle.mimic_main.specs.Sharding.{HasFilterOf, IsPartFault, items_for, no_sharding, trials_of}
 use Rattle.mimic_main.specs.declared.sharding.Sharding.{Sharding}

@@ -1,5 +1,6 @@
-pub mod Policy
+pub mod Ended
 pub mod Output
+pub mod Policy
 pub mod Run
 pub mod Sharding
-pub mod Ended
+pub mod Variables

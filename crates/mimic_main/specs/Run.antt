@@ -9,7 +9,7 @@ use Rattle.libtest_mimic.specs.declared.running.RunError.TheVariants.{Write}
 use Rattle.libtest_mimic.specs.Run.{HasAnswer, Lists, Reports}
 use Rattle.mimic_args.specs.Arguments.{threads_of}
 use Rattle.libtest_mimic.specs.Sink.{Shown}
-use Rattle.libtest_mimic.specs.Suite.{Asked, OfSuite, Suite, asking}
+use Rattle.libtest_mimic.specs.Suite.{Asked, OfAsked, Suite, asking}
 use Rattle.mimic_trial.specs.Count.{counts_of}
 use Rattle.libtest_mimic.specs.Count.{total_of}
 use Rattle.libtest_mimic.specs.Promise.{Gives}
@@ -28,10 +28,6 @@ IsFaultOf (Err e) fault = fault ≡ e
 -- what a job asks
 abbrev pub asked_by : {R C : Type 0} → Gives R → Job R C → Asked R
 asked_by gives job = asking gives job.default_threads job.auto_colours job.tests.items job.args.now
-
--- P holds of the suite that a run is asked for
-abbrev pub OfAsked : {R : Type 0} → Asked R → (Suite R → Type 0) → Type 0
-OfAsked asked P = OfSuite asked.args asked.auto_colours asked.trials P
 
 -- what a run left: the list of the selected trials if one is asked, else their report, or what is left if either was refused
 pub record Left {R : Type 0} (asked : Asked R) (old new : Shown) (result : Result Conclusion RunError) : Type 0 where

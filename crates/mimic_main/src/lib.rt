@@ -30,16 +30,16 @@ mod policy;
 mod program;
 mod sharding;
 mod status;
+mod variables;
 
 pub use clock::{MonotonicClock, StillClock};
 pub use colours::shows_colours;
 pub use entry::{run_line, run_program, trials_of_cases};
 pub use job::{Job, run_into};
-pub use libtest_mimic::Schedule;
 pub use machine::{Machine, Streams};
-pub use mimic_shard::{Shard, ShardFault};
 pub use output::Output;
 pub use policy::FlushPolicy;
 pub use program::Program;
 pub use sharding::{ShardError, Sharding};
 pub use status::Status;
+pub use variables::{ShardFault, shard_from_variables};

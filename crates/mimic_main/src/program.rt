@@ -13,7 +13,7 @@ use arrayvec::ArrayVec;
 use libtest_mimic::{
     Arguments, ArgumentsError, Clock, Conclusion, RunError, Schedule, Spawner, Task, Trial,
 };
-use mimic_shard::Shard;
+use mimic_trial::Shard;
 use std::alloc::Global;
 use std::fmt::Display;
 use std::fs::Files;

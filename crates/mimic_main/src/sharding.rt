@@ -4,7 +4,8 @@ ghost use Rattle.mimic_main.specs.Sharding.{HasFilterOf, IsPartFault, IsReadShar
 ghost use Rattle.mimic_main.specs.declared.sharding.ShardError.TheVariants.{NoShard, OutOfMemory};
 
 use libtest_mimic::{Arguments, Trial};
-use mimic_shard::{Shard, ShardFault, shard_of};
+use crate::variables::{ShardFault, shard_from_variables};
+use mimic_trial::{Shard, shard_of};
 use std::alloc::{AllocError, Global};
 use std::env::VarError;
 use std::fs::{FileTimes, Files, OpenFile, OpenOptions};
@@ -76,7 +77,7 @@ impl Sharding {
     {
         let total = text_of(rt, "TEST_TOTAL_SHARDS")?;
         let index = text_of(rt, "TEST_SHARD_INDEX")?;
-        let shard = Shard::from_variables(total.as_deref(), index.as_deref())?;
+        let shard = shard_from_variables(total.as_deref(), index.as_deref())?;
         let status_file = match shard {
             Some(_) => text_of(rt, "TEST_SHARD_STATUS_FILE")?,
             None => None,

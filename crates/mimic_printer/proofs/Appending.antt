@@ -5,7 +5,7 @@ use Rattle.std.specs.Result.{IsErr}
 use Rattle.std.proofs.lemmas.Result.{MatchResult-from_err}
 use Rattle.std.proofs.lemmas.List.{replicate-append-replicate, take-replicate}
 use Rattle.std.specs.Prelude.{replicate}
-use Rattle.mimic_text.specs.Text.{spaces}
+use Rattle.mimic_trial.specs.Text.{spaces}
 use Rattle.std.proofs.lemmas.List.{take_more}
 use Rattle.std.proofs.lemmas.List.Concat.{flat_map-append}
 use Rattle.std.proofs.lemmas.List.{take_all}

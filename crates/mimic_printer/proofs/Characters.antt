@@ -6,7 +6,7 @@ use Rattle.std.specs.declared.string.String.{String}
 use Rattle.std.proofs.lemmas.List.{map-append}
 use Rattle.std.proofs.lemmas.Str.{chars-append, chars-nil, chars_from_encodes, IsUtf8-from_is_utf8, length-le-encodes}
 use lib.Utf8.{encodes}
-use Rattle.mimic_text.specs.Text.{kind_part}
+use Rattle.mimic_trial.specs.Text.{kind_part}
 use Rattle.mimic_printer.specs.Widths.{widest}
 use Rattle.mimic_printer.specs.Row.{Label}
 

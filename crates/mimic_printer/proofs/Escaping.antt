@@ -3,8 +3,8 @@ use Rattle.std.proofs.Common.{false, None, Some, is_some, MatchOption, ◌≡◌
 use Rattle.std.proofs.lemmas.List.{take_all}
 use Rattle.std.proofs.lemmas.List.Concat.{flat_map-append}
 use Rattle.mimic_printer.specs.Sink.{Shown, Put, Stopped, Writes}
-use Rattle.mimic_text.specs.Escape.{ArePlain, escape, escaped}
-use Rattle.mimic_text.proofs.Escapes.{escaped-plain}
+use Rattle.mimic_trial.specs.Escape.{ArePlain, escape, escaped}
+use Rattle.mimic_trial.proofs.Escapes.{escaped-plain}
 use Rattle.mimic_printer.proofs.Appending.{Put-refl, Put-trans, Put-Stopped, Puts_then, Stopped-more}
 
 -- ---- what is left of a text

@@ -4,8 +4,8 @@ use Rattle.std.proofs.lemmas.List.{get_or-map, get_or_default}
 use Rattle.std.proofs.lemmas.List.Elements.{All-head, All-tail, filter-append}
 use Rattle.std.proofs.lemmas.Option.{slice_get_read}
 use Rattle.std.specs.List.{flat_map, list_any, range_with_len}
-use Rattle.mimic_text.specs.declared.formats.FormatSetting.{FormatSetting}
-use Rattle.mimic_text.specs.declared.formats.FormatSetting.TheVariants.{Pretty, Terse, Json}
+use Rattle.mimic_trial.specs.declared.formats.FormatSetting.{FormatSetting}
+use Rattle.mimic_trial.specs.declared.formats.FormatSetting.TheVariants.{Pretty, Terse, Json}
 use Rattle.mimic_trial.specs.declared.outcome.Outcome.{Outcome}
 use Rattle.mimic_trial.specs.declared.outcome.Outcome.TheVariants.{Passed, Failed, Ignored, Measured}
 use Rattle.mimic_printer.specs.declared.Printer.{Printer}

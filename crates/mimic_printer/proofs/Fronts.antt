@@ -5,7 +5,7 @@ use Rattle.std.specs.Str.{bytes_eq}
 use Rattle.std.proofs.lemmas.Bool.{cases_lt, eqb-true}
 use Rattle.std.proofs.lemmas.Bool.Decides.{nat_tests}
 use Rattle.std.proofs.lemmas.Slice.Eq.{bytes_eq-Decides}
-use Rattle.mimic_text.proofs.Bounded.{all_below, one_below}
+use Rattle.mimic_trial.proofs.Bounded.{all_below, one_below}
 use Rattle.mimic_printer.specs.declared.place.Place.{Place}
 use Rattle.mimic_printer.specs.declared.place.Place.TheVariants.{Content, Value, Html, Line, Terminal}
 use Rattle.mimic_printer.specs.Places.{is_forbidden, is_xml}

@@ -13,11 +13,11 @@ use Rattle.mimic_trial.specs.declared.outcome.Outcome.TheVariants.{Passed, Faile
 use Rattle.mimic_trial.specs.declared.outcome.conclusion.Conclusion.{Conclusion}
 use Rattle.mimic_trial.specs.Count.{counts_of, is_passed, is_failed, is_ignored_outcome, is_measured}
 use Rattle.mimic_trial.specs.Promise.{FitsTypes}
-use Rattle.mimic_text.specs.Escape.{escape, escaped}
-use Rattle.mimic_text.specs.Seconds.{IsRest, exact_seconds}
-use Rattle.mimic_text.proofs.Bounded.{all_below, one_below}
-use Rattle.mimic_text.proofs.Escapes.{escape-high}
-use Rattle.mimic_text.proofs.ExactSeconds.{seconds_exact}
+use Rattle.mimic_trial.specs.Escape.{escape, escaped}
+use Rattle.mimic_trial.specs.Seconds.{IsRest, exact_seconds}
+use Rattle.mimic_trial.proofs.Bounded.{all_below, one_below}
+use Rattle.mimic_trial.proofs.Escapes.{escape-high}
+use Rattle.mimic_trial.proofs.ExactSeconds.{seconds_exact}
 use Rattle.mimic_printer.specs.Row.{Label}
 use Rattle.mimic_printer.specs.Json.{Contents, Entry, FitsEntry, HasNoEnd, IsJsonReport, IsLine, announcement_front, conclusion_of, deviation_key, entry_lines, event_field, json_announcement, json_line, json_outcome, json_report, json_summary, json_title, json_trial, json_verdict, kind_field, kind_key, line_ends, report_lines, median_key, number_field, outcome_fields, outcome_front, stdout_key, summary_front, time_key, title_front}
 

@@ -6,10 +6,10 @@ use Rattle.mimic_trial.specs.declared.outcome.Outcome.{Outcome}
 use Rattle.mimic_trial.specs.declared.outcome.Outcome.TheVariants.{Passed, Failed, Ignored, Measured}
 use Rattle.mimic_trial.specs.declared.outcome.conclusion.Conclusion.{Conclusion}
 use Rattle.mimic_trial.specs.Count.{counts_of, is_measured}
-use Rattle.mimic_text.specs.Escape.{escaped}
+use Rattle.mimic_trial.specs.Escape.{escaped}
 use Rattle.mimic_trial.specs.Promise.{FitsTypes}
 use Rattle.mimic_printer.specs.Row.{Label, PrintedRow}
-use Rattle.mimic_text.specs.Seconds.{exact_seconds}
+use Rattle.mimic_trial.specs.Seconds.{exact_seconds}
 
 -- ---- lines of a text (our own words)
 

@@ -5,9 +5,9 @@ use Rattle.mimic_printer.specs.declared.piece.Piece.{Piece}
 use Rattle.mimic_printer.specs.declared.piece.Piece.TheVariants.{Text, Number, Long, TwoDigits, Spaces, Grouped, Aligned, Seconds, Json, Kind, Escaped, FirstLine, Bracketed}
 use Rattle.mimic_printer.specs.declared.place.Place.{Place}
 use Rattle.mimic_printer.specs.Escapes.{escaped}
-use Rattle.mimic_text.specs.Escape.{escaped as json_escaped}
-use Rattle.mimic_text.specs.Seconds.{exact_seconds}
-use Rattle.mimic_text.specs.Text.{spaces, two_digits, right_aligned, grouped}
+use Rattle.mimic_trial.specs.Escape.{escaped as json_escaped}
+use Rattle.mimic_trial.specs.Seconds.{exact_seconds}
+use Rattle.mimic_trial.specs.Text.{spaces, two_digits, right_aligned, grouped}
 
 -- what is between a name and the quote behind the kind in JSON, and nothing for an empty kind
 abbrev pub kind_text : List ℕ → List ℕ

@@ -1,13 +1,13 @@
 -- The texts of a report, part by part. If no other source is named, a text is the Rust crate's.
 use Rattle.std.specs.Prelude.{ℕ, ◌/◌, ◌%◌, ◌==◌, nat_lt, if◌then◌else◌, List, [], ◌∷◌, ◌++◌, length, codes, decimal, Option, None, Some}
 use Rattle.std.specs.List.{concat, flat_map, list_any}
-use Rattle.mimic_text.specs.declared.formats.FormatSetting.{FormatSetting}
-use Rattle.mimic_text.specs.declared.formats.FormatSetting.TheVariants.{Pretty, Terse, Json}
+use Rattle.mimic_trial.specs.declared.formats.FormatSetting.{FormatSetting}
+use Rattle.mimic_trial.specs.declared.formats.FormatSetting.TheVariants.{Pretty, Terse, Json}
 use Rattle.mimic_printer.specs.declared.Printer.{Printer}
 use Rattle.mimic_trial.specs.declared.outcome.Outcome.{Outcome}
 use Rattle.mimic_trial.specs.declared.outcome.Outcome.TheVariants.{Passed, Failed, Ignored, Measured}
 use Rattle.mimic_trial.specs.declared.outcome.conclusion.Conclusion.{Conclusion}
-use Rattle.mimic_text.specs.Text.{padded, right_aligned, kind_part, grouped, nearest_hundredths, two_digits}
+use Rattle.mimic_trial.specs.Text.{padded, right_aligned, kind_part, grouped, nearest_hundredths, two_digits}
 use Rattle.mimic_printer.specs.Json.{json_announcement, json_outcome, json_summary, json_title}
 use Rattle.mimic_printer.specs.Row.{Label, PrintedRow, outcomes_of}
 use Rattle.mimic_trial.specs.Count.{is_failed, counts_of}

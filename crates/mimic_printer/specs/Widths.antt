@@ -1,7 +1,7 @@
 -- How wide the columns of a pretty report are, in characters (the Rust crate's `Printer::new`).
 use Rattle.std.specs.Prelude.{ℕ, max, List, [], ◌∷◌, map, length}
 use Rattle.std.specs.Str.{chars}
-use Rattle.mimic_text.specs.Text.{kind_part}
+use Rattle.mimic_trial.specs.Text.{kind_part}
 use Rattle.mimic_printer.specs.Row.{Label}
 
 -- the greatest of the numbers, and 0 for none

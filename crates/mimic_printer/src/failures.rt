@@ -14,7 +14,7 @@ use std::io::Write;
 
 /// Rows of which the failures are shown, in whatever form they are held: each is a trial's info with its outcome. They are
 /// numbered from 0, and a printer asks for each up to three times.
-pub trait Rows {
+pub trait ShownRows {
     /// Whether they may be shown. If an `impl` says nothing, they always may.
     ghost can_show: { Self → Type 0 } = { λ _. Unit {0} };
 
@@ -40,7 +40,7 @@ pub(crate) struct Kept<'a> {
     pub(crate) rows: &'a [(TestInfo, Outcome)],
 }
 
-impl<'a> Rows for Kept<'a> {
+impl<'a> ShownRows for Kept<'a> {
     ghost use Rattle.mimic_printer.specs.Row.{rows_from};
 
     ghost rows_of = { λ kept. rows_from kept.rows.now };
@@ -63,7 +63,7 @@ pub(crate) struct Placed<'a> {
     pub(crate) outcomes: &'a [Outcome],
 }
 
-impl<'a> Rows for Placed<'a> {
+impl<'a> ShownRows for Placed<'a> {
     ghost use Rattle.std.specs.Prelude.{◌≡◌, ◌<◌, All, length, map};
     ghost use Rattle.mimic_trial.specs.Places.{placed_at};
     ghost use Rattle.mimic_printer.specs.Row.{label_of, rows_at};
@@ -93,7 +93,7 @@ enum Part {
 }
 
 // Writes the failures of the rows, and nothing if none failed.
-pub(crate) fn put_if_any<W: Write, R: Rows>(sink: &mut Sink<W>, rows: &R) -> Result<(), WriteFault>
+pub(crate) fn put_if_any<W: Write, R: ShownRows>(sink: &mut Sink<W>, rows: &R) -> Result<(), WriteFault>
     requires room { HasFaultLeft sink.old }
     requires can_show { R.can_show rows.now }
     ensures { Puts W.contents sink.old sink.new (failures_if_any (R.rows_of rows.now)) result }
@@ -106,7 +106,7 @@ pub(crate) fn put_if_any<W: Write, R: Rows>(sink: &mut Sink<W>, rows: &R) -> Res
 }
 
 // Returns whether one of the rows failed.
-fn any_failed<R: Rows>(rows: &R) -> bool
+fn any_failed<R: ShownRows>(rows: &R) -> bool
     requires { R.can_show rows.now }
     ensures { result ≡ list_any is_failed (outcomes_of (R.rows_of rows.now)) }
 {
@@ -119,7 +119,7 @@ fn any_failed<R: Rows>(rows: &R) -> bool
 }
 
 // Writes the failures of the rows, of which one at least failed.
-fn put_failures<W: Write, R: Rows>(sink: &mut Sink<W>, rows: &R) -> Result<(), WriteFault>
+fn put_failures<W: Write, R: ShownRows>(sink: &mut Sink<W>, rows: &R) -> Result<(), WriteFault>
     requires room { HasFaultLeft sink.old }
     requires can_show { R.can_show rows.now }
     ensures { Puts W.contents sink.old sink.new (failures_of (R.rows_of rows.now)) result }
@@ -131,7 +131,7 @@ fn put_failures<W: Write, R: Rows>(sink: &mut Sink<W>, rows: &R) -> Result<(), W
 }
 
 // Writes this part of each row that failed.
-fn put_each<W: Write, R: Rows>(sink: &mut Sink<W>, rows: &R, part: Part) -> Result<(), WriteFault>
+fn put_each<W: Write, R: ShownRows>(sink: &mut Sink<W>, rows: &R, part: Part) -> Result<(), WriteFault>
     requires room { HasFaultLeft sink.old }
     requires can_show { R.can_show rows.now }
     ensures { Puts W.contents sink.old sink.new

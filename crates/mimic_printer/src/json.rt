@@ -4,7 +4,7 @@ ghost use Rattle.std.specs.List.{concat};
 ghost use Rattle.mimic_printer.specs.Json.{json_announcement, json_outcome, json_summary, json_title, json_verdict, kind_field, outcome_front};
 ghost use Rattle.mimic_printer.specs.Lines.{announced_before, json_lines};
 ghost use Rattle.mimic_printer.specs.Sink.{HasFaultLeft, Puts};
-ghost use Rattle.mimic_text.specs.Escape.{escaped};
+ghost use Rattle.mimic_trial.specs.Escape.{escaped};
 ghost use Rattle.mimic_trial.specs.declared.outcome.Outcome.TheVariants.{Failed, Measured};
 
 use crate::piece::{Piece, name_piece, put_pieces};

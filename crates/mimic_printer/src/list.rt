@@ -5,8 +5,7 @@ ghost use Rattle.mimic_printer.specs.Sink.{HasFaultLeft, Puts};
 
 use crate::piece::{Piece, put_pieces};
 use crate::sink::{Sink, WriteFault};
-use mimic_text::brackets;
-use mimic_trial::TestInfo;
+use mimic_trial::{TestInfo, brackets};
 use std::io::Write;
 
 // Writes the line of a trial.

@@ -2,8 +2,8 @@
 ghost use Rattle.std.specs.Prelude.{◌≡◌, ◌≤◌, ◌++◌, IfSome, decimal, length, slice_index, take};
 ghost use Rattle.std.specs.Option.{MatchOption};
 ghost use Rattle.mimic_printer.specs.Sink.{HasFaultLeft, Puts};
-ghost use Rattle.mimic_text.specs.Escape.{escaped as json_escaped};
-ghost use Rattle.mimic_text.specs.Text.{spaces, right_aligned, grouped};
+ghost use Rattle.mimic_trial.specs.Escape.{escaped as json_escaped};
+ghost use Rattle.mimic_trial.specs.Text.{spaces, right_aligned, grouped};
 ghost use Rattle.mimic_printer.specs.Escapes.{escaped};
 ghost use Rattle.mimic_printer.specs.Piece.{bracketed, first_line, kind_text, piece_text, pieces_text};
 
@@ -11,7 +11,7 @@ use crate::escape::{first_escape, put_escaped};
 use crate::place::Place;
 use crate::sink::{Sink, WriteFault};
 use itoa::Buffer;
-use mimic_text::{escape_byte, exact_seconds, next_escape, thousands};
+use mimic_trial::{escape_byte, exact_seconds, next_escape, thousands};
 use std::io::Write;
 
 /// A part of a text.

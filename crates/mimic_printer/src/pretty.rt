@@ -9,8 +9,7 @@ use crate::colour::{colour_end, colour_start};
 use crate::columns::{kind_len, name_len};
 use crate::piece::{Piece, put_pieces};
 use crate::sink::{Sink, WriteFault};
-use mimic_text::{brackets, hundredths};
-use mimic_trial::{Conclusion, Failed, Outcome, TestInfo};
+use mimic_trial::{Conclusion, Failed, Outcome, TestInfo, brackets, hundredths};
 use std::io::Write;
 
 // Writes how many trials are run.

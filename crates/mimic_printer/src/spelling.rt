@@ -3,7 +3,7 @@ ghost use Rattle.std.specs.Prelude.{◌≡◌, ◌<◌, ◌≤◌, ◌+◌, leng
 ghost use Rattle.mimic_printer.specs.Escapes.{IsSpelling, begins_control, begins_with, front, spelled_byte};
 
 use crate::place::Place;
-use mimic_text::hex_digit;
+use mimic_trial::hex_digit;
 
 // What is written for a character.
 #[derive(Clone, Copy)]

@@ -5,8 +5,7 @@ ghost use Rattle.mimic_readreport.specs.declared.program.Fault.TheVariants.{OutO
 ghost use Rattle.mimic_readreport.specs.Outputs.{Ended, IsOfInput, Leaves, PutsText, fault_line};
 
 use crate::line::line_of;
-use mimic_events::Tally;
-use mimic_input::{ReadFault, read_piece};
+use mimic_events::{ReadFault, Tally, read_piece};
 use std::alloc::{AllocError, Global};
 use std::io::{Read, Write};
 

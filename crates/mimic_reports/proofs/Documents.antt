@@ -1,39 +1,38 @@
 -- The document of reports, one after another.
 use Rattle.std.proofs.Common.{◌≡◌, ℕ, ◌<◌, List, [], ◌∷◌, ◌++◌, Option, length, map, codes, refl, sym, ap₂, subst, append_assoc, append-nil}
-use Rattle.std.specs.List.{flat_map}
+use Rattle.std.specs.List.{AllZip, flat_map}
 use Rattle.std.proofs.lemmas.List.Concat.{flat_map-append}
 use Rattle.mimic_printer.specs.Sink.{Put, Shown}
 use Rattle.mimic_printer.proofs.Appending.{Put-trans, Put_after}
-use Rattle.mimic_reports.specs.declared.elements.Numbers.{Numbers}
+use Rattle.mimic_reports.specs.declared.junit_elements.Numbers.{Numbers}
 use Rattle.mimic_reports.specs.declared.junit.JunitFault.{JunitFault}
 use Rattle.mimic_reports.specs.declared.junit.JunitFault.TheVariants as junit
 use Rattle.mimic_reports.specs.declared.suite.Suite.{Suite as SuiteRead}
 use Rattle.mimic_reports.specs.Junit.{Suite, junit_text, numbers_of, root_start, suite_text, total}
 use Rattle.mimic_reports.specs.Suites.{HasLeft, IsShown, LeftBy, numbers_in}
-use Rattle.mimic_reports.specs.Turns.{Each}
 
 abbrev pub close_part : List ℕ
 close_part = codes "</testsuites>\n"
 
 module _ {I : Type 0} (remaining : I → Option (List ℕ)) where
-  numbers_shown : (reports : List (SuiteRead I)) (written : List Suite) → Each (IsShown remaining) reports written → map numbers_in reports ≡ map numbers_of written
+  numbers_shown : (reports : List (SuiteRead I)) (written : List Suite) → AllZip (IsShown remaining) reports written → map numbers_in reports ≡ map numbers_of written
   numbers_shown [] [] h = refl
   numbers_shown (r ∷ reports) (s ∷ written) h = ap₂ (λ (n : Numbers) (ns : List Numbers). n ∷ ns) (sym h.0.numbers) (numbers_shown reports written h.1)
   numbers_shown reports written h = absurd h
 
-  pub document : (reports : List (SuiteRead I)) (written : List Suite) → Each (IsShown remaining) reports written
+  pub document : (reports : List (SuiteRead I)) (written : List Suite) → AllZip (IsShown remaining) reports written
       → (root_start (total (map numbers_in reports)) ++ flat_map suite_text written) ++ close_part ≡ junit_text written
   unfolding junit_text
   document reports written h =
       simp (append_assoc, numbers_shown reports written h)
 
   -- all reports were written, then the end, and it was flushed
-  pub leaves : (reports yielded rest : List (SuiteRead I)) (written : List Suite) (a b c d : Shown) → yielded ++ rest ≡ reports → rest ≡ [] → Each (IsShown remaining) yielded written
+  pub leaves : (reports yielded rest : List (SuiteRead I)) (written : List Suite) (a b c d : Shown) → yielded ++ rest ≡ reports → rest ≡ [] → AllZip (IsShown remaining) yielded written
       → Put a b (root_start (total (map numbers_in reports)) ++ flat_map suite_text written) → Put b c close_part → Put c d []
-      → (shown : List Suite) × Each (IsShown remaining) reports shown × Put a d (junit_text shown)
+      → (shown : List Suite) × AllZip (IsShown remaining) reports shown × Put a d (junit_text shown)
   leaves reports yielded rest written a b c d seen none each p q flush =
       let all : yielded ≡ reports = simp append-nil at (rw none at seen) in
-      let shown : Each (IsShown remaining) reports written = rw all at each in
+      let shown : AllZip (IsShown remaining) reports written = rw all at each in
       (written, shown, subst (Put a d) (document reports written shown) (Put_after _ (Put-trans _ close_part p q) flush))
 
 -- one more report

@@ -1,15 +1,7 @@
 pub mod Documents
-pub mod Falls
-pub mod Fitting
-pub mod JoinedText
-pub mod Joining
-pub mod Laws
-pub mod ReadInputs
-pub mod Results
+pub mod PageLaws
+pub mod Pages
 pub mod RowCounts
-pub mod SeenNames
 pub mod Showing
 pub mod SuiteText
-pub mod Taking
 pub mod Totals
-pub mod Turns

@@ -14,10 +14,10 @@ use Rattle.mimic_printer.specs.Json.{Entry}
 use Rattle.mimic_events.specs.Contents.{entry_read}
 use Rattle.mimic_events.specs.Feed.{AreEnded}
 use Rattle.mimic_events.specs.declared.report.Row.{Row}
-use Rattle.mimic_input.specs.RowByRow.{HasCome}
-use Rattle.mimic_input.specs.declared.ending.Ending.{Ending}
-use Rattle.mimic_input.specs.declared.rows.InputRows.{InputRows}
-use Rattle.mimic_reports.specs.declared.elements.Numbers.{Numbers}
+use Rattle.mimic_events.specs.RowByRow.{HasCome}
+use Rattle.mimic_events.specs.declared.ending.Ending.{Ending}
+use Rattle.mimic_events.specs.declared.rows.InputRows.{InputRows}
+use Rattle.mimic_reports.specs.declared.junit_elements.Numbers.{Numbers}
 use Rattle.mimic_reports.specs.Junit.{numbers_of}
 use Rattle.mimic_reports.specs.Suites.{numbers_counted, rows_counted}
 

@@ -8,13 +8,13 @@ use Rattle.mimic_printer.specs.Sink.{Put, Shown, Stopped, Writes}
 use Rattle.mimic_printer.proofs.Appending.{Put-Stopped, Put-trans, Puts_then, Stopped-more, stop2}
 use Rattle.mimic_events.specs.Contents.{entry_read}
 use Rattle.mimic_events.specs.declared.report.Row.{Row}
-use Rattle.mimic_reports.specs.declared.elements.Numbers.{Numbers}
+use Rattle.mimic_reports.specs.declared.junit_elements.Numbers.{Numbers}
 use Rattle.mimic_reports.specs.declared.junit.JunitFault.{JunitFault}
 use Rattle.mimic_reports.specs.declared.junit.JunitFault.TheVariants as junit
 use Rattle.mimic_reports.specs.Junit.{Suite, case_text, ending_text, numbers_of, suite_start, suite_text}
-use Rattle.mimic_reports.specs.declared.suite.Rows.TheVariants.{Again, Kept}
+use Rattle.mimic_reports.specs.declared.suite.SuiteRows.TheVariants.{Again, Kept}
 use Rattle.mimic_reports.specs.declared.suite.Suite.{Suite as SuiteRead}
-use Rattle.mimic_input.specs.Readings.{IsReading}
+use Rattle.mimic_events.specs.Readings.{IsReading}
 use Rattle.mimic_reports.specs.Suites.{HasLeft, IsShown, numbers_in}
 use Rattle.mimic_reports.proofs.RowCounts.{numbers_kept}
 use Rattle.mimic_trial.specs.declared.outcome.conclusion.Conclusion.{Conclusion}

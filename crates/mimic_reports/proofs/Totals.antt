@@ -1,7 +1,7 @@
 -- The numbers of reports together.
 use Rattle.std.proofs.Common.{◌≡◌, ℕ, ◌+◌, ◌<◌, List, [], ◌∷◌, ◌++◌, length, get_or, take, drop, map, sym, ap, subst, ◌∙◌, arith, take-append-drop, add_assoc, zero-add, add-zero}
 use Rattle.std.proofs.lemmas.List.{map-append, take_more}
-use Rattle.mimic_reports.specs.declared.elements.Numbers.{Numbers}
+use Rattle.mimic_reports.specs.declared.junit_elements.Numbers.{Numbers}
 use Rattle.mimic_reports.specs.Junit.{added, total}
 use Rattle.mimic_reports.specs.Suites.{IsTooGreat}
 

@@ -5,14 +5,14 @@ use Rattle.std.specs.List.{concat, flat_map}
 use Rattle.mimic_trial.specs.declared.outcome.Outcome.{Outcome}
 use Rattle.mimic_trial.specs.declared.outcome.Outcome.TheVariants.{Passed, Failed, Ignored, Measured}
 use Rattle.mimic_trial.specs.Count.{is_failed, is_ignored_outcome}
-use Rattle.mimic_text.specs.Seconds.{exact_seconds}
+use Rattle.mimic_trial.specs.Seconds.{exact_seconds}
 use Rattle.mimic_printer.specs.Json.{Entry}
 use Rattle.mimic_events.specs.declared.report.Label.{Label as LabelRead}
-use Rattle.mimic_input.specs.declared.ending.Ending.{Ending}
-use Rattle.mimic_input.specs.declared.ending.Ending.TheVariants.{Whole, Cut}
-use Rattle.mimic_input.specs.declared.ending.Stop.{Stop}
-use Rattle.mimic_input.specs.Stops.{extent_text}
-use Rattle.mimic_reports.specs.declared.elements.Numbers.{Numbers}
+use Rattle.mimic_events.specs.declared.ending.Ending.{Ending}
+use Rattle.mimic_events.specs.declared.ending.Ending.TheVariants.{Whole, Cut}
+use Rattle.mimic_events.specs.declared.ending.Stop.{Stop}
+use Rattle.mimic_events.specs.Stops.{extent_text}
+use Rattle.mimic_reports.specs.declared.junit_elements.Numbers.{Numbers}
 use Rattle.mimic_printer.specs.Escapes.{escaped}
 use Rattle.mimic_printer.specs.Piece.{bracketed, first_line}
 use Rattle.mimic_printer.specs.declared.place.Place.TheVariants.{Content, Value}

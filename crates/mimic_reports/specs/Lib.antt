@@ -1,7 +1,4 @@
-pub mod Faults
-pub mod Inputs
-pub mod Joined
 pub mod Junit
+pub mod Page
 pub mod Show
 pub mod Suites
-pub mod Turns

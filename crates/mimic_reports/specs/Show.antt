@@ -1,6 +1,6 @@
 -- Reports as the harness prints them in pretty.
 use Rattle.std.specs.Prelude.{ℕ, Bool, List, map, string_bytes}
-use Rattle.mimic_text.specs.declared.formats.FormatSetting.TheVariants.{Pretty}
+use Rattle.mimic_trial.specs.declared.formats.FormatSetting.TheVariants.{Pretty}
 use Rattle.mimic_printer.specs.declared.Printer.{Printer}
 use Rattle.mimic_printer.specs.Report.{failures_if_any, report_text}
 use Rattle.mimic_printer.specs.Row.{Label, PrintedRow}

@@ -1,20 +1,20 @@
 -- Reports that were read to be written in XML, and what a call that writes them leaves.
 use Rattle.std.specs.Prelude.{◌≡◌, ℕ, ◌+◌, ◌<◌, ◌≤◌, ◌⊎◌, ◌^◌, List, length, map, Option, None, Some, IfSome, Result, Ok, Err}
+use Rattle.std.specs.List.{AllZip}
 use Rattle.mimic_trial.specs.declared.outcome.conclusion.Conclusion.{Conclusion}
 use Rattle.mimic_trial.specs.Count.{counts_of}
 use Rattle.mimic_printer.specs.Json.{Entry}
 use Rattle.mimic_printer.specs.Sink.{Put, Shown, Stopped}
 use Rattle.mimic_events.specs.Contents.{entry_read}
-use Rattle.mimic_reports.specs.declared.elements.Numbers.{Numbers}
-use Rattle.mimic_input.specs.declared.ending.Ending.{Ending}
+use Rattle.mimic_reports.specs.declared.junit_elements.Numbers.{Numbers}
+use Rattle.mimic_events.specs.declared.ending.Ending.{Ending}
 use Rattle.mimic_reports.specs.declared.junit.JunitFault.{JunitFault}
 use Rattle.mimic_reports.specs.declared.junit.JunitFault.TheVariants as junit
-use Rattle.mimic_reports.specs.declared.suite.Rows.{Rows}
-use Rattle.mimic_reports.specs.declared.suite.Rows.TheVariants.{Kept, Again}
+use Rattle.mimic_reports.specs.declared.suite.SuiteRows.{SuiteRows}
+use Rattle.mimic_reports.specs.declared.suite.SuiteRows.TheVariants.{Kept, Again}
 use Rattle.mimic_reports.specs.declared.suite.Suite.{Suite as SuiteRead}
 use Rattle.mimic_reports.specs.Junit.{Suite, errors_of, junit_text, nanos_of, numbers_of, total}
-use Rattle.mimic_input.specs.Readings.{IsReading}
-use Rattle.mimic_reports.specs.Turns.{Each}
+use Rattle.mimic_events.specs.Readings.{IsReading}
 
 -- ---- numbers
 
@@ -33,7 +33,7 @@ numbers_counted c ending = record {
 }
 
 -- the outcomes of the rows that are kept, or that were counted
-abbrev pub counts_in : {I : Type 0} → Rows I → Conclusion
+abbrev pub counts_in : {I : Type 0} → SuiteRows I → Conclusion
 counts_in (Kept rows) = counts_of (map (λ row. row.outcome) rows.items) 0
 counts_in (Again input counts) = counts
 
@@ -48,7 +48,7 @@ IsTooGreat n = (2 ^ 128 ≤ n.tests) ⊎ (2 ^ 128 ≤ n.failures) ⊎ (2 ^ 128 �
 -- ---- what is written of what was read
 
 -- the rows that are kept, and the end that was read with them; or what is read again from the input
-abbrev pub HasRows : {I : Type 0} → (I → Option (List ℕ)) → Rows I → Ending → List Entry → Ending → Type 0
+abbrev pub HasRows : {I : Type 0} → (I → Option (List ℕ)) → SuiteRows I → Ending → List Entry → Ending → Type 0
 HasRows remaining (Kept rows) ending entries shown = (entries ≡ map entry_read rows.items) × (shown ≡ ending)
 HasRows remaining (Again input counts) ending entries shown = IfSome (remaining input) (IsReading entries shown)
 
@@ -64,12 +64,12 @@ pub record IsReadFrom {I : Type 0} (input : Option (List ℕ)) (suite : SuiteRea
   pub counts : counts_in suite.rows ≡ counts_of (map (λ entry. entry.outcome) entries) 0
 
 -- the report's rows are kept
-abbrev pub KeepsRows : {I : Type 0} → Rows I → List Entry → Type 0
+abbrev pub KeepsRows : {I : Type 0} → SuiteRows I → List Entry → Type 0
 KeepsRows (Kept rows) entries = map entry_read rows.items ≡ entries
 KeepsRows (Again input counts) entries = ⊥
 
 -- its rows come from this input
-abbrev pub ReadsAgain : {I : Type 0} → Rows I → I → Type 0
+abbrev pub ReadsAgain : {I : Type 0} → SuiteRows I → I → Type 0
 ReadsAgain (Kept rows) input = ⊥
 ReadsAgain (Again other counts) input = other ≡ input
 
@@ -92,7 +92,7 @@ place_of (junit.Write fault) = None
 
 -- what a call that writes these reports leaves: the document of all of them, in their order
 abbrev pub LeavesDocument : {I : Type 0} → (I → Option (List ℕ)) → List (SuiteRead I) → Shown → Shown → Result (Unit {0}) JunitFault → Type 0
-LeavesDocument remaining suites old new (Ok done) = (shown : List Suite) × Each (IsShown remaining) suites shown × Put old new (junit_text shown)
+LeavesDocument remaining suites old new (Ok done) = (shown : List Suite) × AllZip (IsShown remaining) suites shown × Put old new (junit_text shown)
 LeavesDocument remaining suites old new (Err fault) = LeftBy suites old new fault
 
 -- ---- one report. No public clause names this word

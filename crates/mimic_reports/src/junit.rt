@@ -6,15 +6,14 @@ ghost use Rattle.mimic_printer.specs.Json.{Entry};
 ghost use Rattle.mimic_printer.specs.Sink.{HasFaultLeft, Put, Puts, shown};
 ghost use Rattle.mimic_events.specs.Contents.{entry_read};
 ghost use Rattle.mimic_reports.specs.Junit.{Suite as ShownSuite, case_text, ending_text, numbers_of, suite_text, total};
-ghost use Rattle.mimic_input.specs.Readings.{IsReading};
+ghost use Rattle.mimic_events.specs.Readings.{IsReading};
 ghost use Rattle.mimic_reports.specs.Suites.{HasLeft, IsShown, IsTooGreat, LeavesDocument, numbers_in};
 ghost use Rattle.mimic_printer.specs.EscapeLaws.{EscapeLaws};
 ghost use Rattle.mimic_reports.specs.declared.junit.JunitFault.TheVariants.{Write as WriteStopped};
 
-use crate::elements::{Numbers, put_case, put_root_start, put_stop, put_suite_start};
-use crate::suite::{Rows, Suite, numbers_counted, rows_counted};
-use mimic_events::{Row, counts_of_rows};
-use mimic_input::{Ending, InputRows, ReadFault};
+use crate::junit_elements::{Numbers, put_case, put_root_start, put_stop, put_suite_start};
+use crate::suite::{SuiteRows, Suite, numbers_counted, rows_counted};
+use mimic_events::{Ending, InputRows, ReadFault, Row, counts_of_rows};
 use mimic_printer::{Sink, WriteFault};
 use mimic_trial::Conclusion;
 use std::alloc::{AllocError, Global};
@@ -121,11 +120,11 @@ fn put_suite<I: Read + Drop, W: Write>(
         rows,
     } = suite;
     match rows {
-        Rows::Kept(rows) => {
+        SuiteRows::Kept(rows) => {
             put_kept(sink, program, &rows, &ending)?;
             Ok(())
         }
-        Rows::Again { input, counts: _ } => {
+        SuiteRows::Again { input, counts: _ } => {
             put_counted(alloc, place, program, input, &numbers, sink)
         }
     }

@@ -10,8 +10,7 @@ ghost use Rattle.mimic_reports.specs.Show.{pretty_failures, pretty_printer, pret
 
 use mimic_events::{Report, Row};
 use mimic_printer::{OutputFault, Printer, Sink, WriteFault, widths};
-use mimic_text::FormatSetting;
-use mimic_trial::{Conclusion, Outcome, TestInfo};
+use mimic_trial::{Conclusion, FormatSetting, Outcome, TestInfo};
 use std::alloc::{AllocError, Global};
 use std::io::Write;
 use std::slice;

@@ -3,9 +3,8 @@ ghost use Rattle.std.specs.Prelude.{◌≡◌, ◌<◌, ◌^◌, List, IfOk};
 ghost use Rattle.mimic_printer.specs.Json.{Entry};
 ghost use Rattle.mimic_reports.specs.Suites.{IsReadFrom, KeepsRows, ReadsAgain, counts_in, numbers_counted, numbers_in, rows_counted};
 
-use crate::elements::Numbers;
-use mimic_events::{Row, counts_of_rows};
-use mimic_input::{Ending, InputRows, ReadFault, RowsRead, read_rows};
+use crate::junit_elements::Numbers;
+use mimic_events::{Ending, InputRows, ReadFault, Row, RowsRead, counts_of_rows, read_rows};
 use mimic_trial::Conclusion;
 use std::alloc::Global;
 use std::io::{ErrorKind, Read};
@@ -15,12 +14,12 @@ use std::io::{ErrorKind, Read};
 pub struct Suite<'a, I: Read> {
     pub(crate) program: &'a str,
     pub(crate) ending: Ending,
-    pub(crate) rows: Rows<I>,
+    pub(crate) rows: SuiteRows<I>,
 }
 
 // Where the rows of a report are.
 #[derive(Drop)]
-pub(crate) enum Rows<I> {
+pub(crate) enum SuiteRows<I> {
     // They are kept.
     Kept(Vec<Row>),
     // They are read again from this input. The outcomes were counted.
@@ -39,7 +38,7 @@ impl<'a, I: Read + Drop> Suite<'a, I> {
         Ok(Suite {
             program,
             ending,
-            rows: Rows::Kept(rows),
+            rows: SuiteRows::Kept(rows),
         })
     }
 
@@ -63,7 +62,7 @@ impl<'a, I: Read + Drop> Suite<'a, I> {
                     return Ok(Suite {
                         program,
                         ending: rows.finish()?,
-                        rows: Rows::Again {
+                        rows: SuiteRows::Again {
                             input: again,
                             counts,
                         },
@@ -88,8 +87,8 @@ impl<I: Read> Suite<'_, I> {
         ensures { result ≡ numbers_in self.now }
     {
         match &self.rows {
-            Rows::Kept(rows) => numbers_counted(&counts_of_rows(rows, 0), &self.ending),
-            Rows::Again { input: _, counts } => numbers_counted(counts, &self.ending),
+            SuiteRows::Kept(rows) => numbers_counted(&counts_of_rows(rows, 0), &self.ending),
+            SuiteRows::Again { input: _, counts } => numbers_counted(counts, &self.ending),
         }
     }
 }

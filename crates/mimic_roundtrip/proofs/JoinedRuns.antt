@@ -1,5 +1,6 @@
 -- What the joined report of the runs of all shards shows.
 use Rattle.std.proofs.Common.{◌≡◌, ◌+◌, ◌-◌, ◌≤◌, List, [], ◌∷◌, ◌++◌, map, length, length-append, refl, sym, ap, subst, ◌∙◌, arith, inl, inr}
+use Rattle.std.specs.List.{AllZip}
 use Rattle.std.specs.Prelude.{◌⊎◌, IsPermutation}
 use Rattle.std.proofs.lemmas.List.Concat.{flat_map-append}
 use Rattle.std.proofs.lemmas.List.Sorted.{IsPermutation-sym, IsPermutation-trans, length_permutation}
@@ -10,11 +11,11 @@ use Rattle.mimic_trial.specs.Promise.{Gives}
 use Rattle.mimic_printer.specs.Json.{Entry}
 use Rattle.mimic_events.specs.Contents.{contents_read}
 use Rattle.mimic_events.specs.declared.report.Report.{Report}
-use Rattle.mimic_reports.specs.Joined.{IsJoined, all_of, entries_in}
-use Rattle.mimic_reports.specs.Joined as joining
-use Rattle.mimic_reports.specs.Turns.{Each, in_turn}
-use Rattle.mimic_reports.proofs.Joining.{concat_orders, entries_turned, filtered_out-append}
-use Rattle.mimic_reports.proofs.Turns.{each-in_turn, each-length, shards_in_turn, parts-in_turn, turns_are_all}
+use Rattle.mimic_join.specs.Joined.{IsJoined, all_of, entries_in}
+use Rattle.mimic_join.specs.Joined as joining
+use Rattle.mimic_join.specs.Turns.{in_turn}
+use Rattle.mimic_join.proofs.Joining.{concat_orders, entries_turned, filtered_out-append}
+use Rattle.mimic_join.proofs.Turns.{each-in_turn, each-length, shards_in_turn, parts-in_turn, turns_are_all}
 use Rattle.mimic_roundtrip.specs.Joined.{IsEntryOf, JoinsRuns, TellsTrials, shards_of}
 
 -- ---- what each item gives: nothing if it is left out, else one entry
@@ -23,33 +24,33 @@ module _ {X E : Type 0} (Out : X → Type 0) (Own : X → E → Type 0) where
   abbrev pub Tells : X → List E → Type 0
   Tells x es = (Out x × (es ≡ [])) ⊎ (¬ Out x × ((e : E) × (es ≡ e ∷ []) × Own x e))
 
-  none_own : (rows : List E) → Each Own [] rows → [] ≡ rows
+  none_own : (rows : List E) → AllZip Own [] rows → [] ≡ rows
   none_own [] h = refl
   none_own (e ∷ rows) h = absurd h
 
   abbrev pub Told : List X → List E → Type 0
-  Told xs rows = (told : List (List E)) × Each Tells xs told × (all_of told ≡ rows)
+  Told xs rows = (told : List (List E)) × AllZip Tells xs told × (all_of told ≡ rows)
 
-  told_kept : (x : X) (xs rest : List X) (rows : List E) → ¬ Out x → Each Own (x ∷ rest) rows → ((es : List E) → Each Own rest es → Told xs es) → Told (x ∷ xs) rows
+  told_kept : (x : X) (xs rest : List X) (rows : List E) → ¬ Out x → AllZip Own (x ∷ rest) rows → ((es : List E) → AllZip Own rest es → Told xs es) → Told (x ∷ xs) rows
   told_kept x xs rest [] stays own more = absurd own
   told_kept x xs rest (e ∷ es) stays own more =
       let t = more es own.1 in ((e ∷ []) ∷ t.0, (inr (stays, (e, refl, own.0)), t.1), ap (λ l. e ∷ l) t.2)
 
-  pub told_of : (xs kept : List X) (rows : List E) → LeavesOut Out xs kept → Each Own kept rows → Told xs rows
-  told_of [] kept rows left own = ([], tt, none_own rows (subst (λ l. Each Own l rows) left own))
+  pub told_of : (xs kept : List X) (rows : List E) → LeavesOut Out xs kept → AllZip Own kept rows → Told xs rows
+  told_of [] kept rows left own = ([], tt, none_own rows (subst (λ l. AllZip Own l rows) left own))
   told_of (x ∷ xs) kept rows (inl h) own = let t = told_of xs kept rows h.1 own in ([] ∷ t.0, (inl (h.0, refl), t.1), t.2)
   told_of (x ∷ xs) kept rows (inr h) own =
-      told_kept x xs h.1.0 rows h.0 (subst (λ l. Each Own l rows) h.1.1 own) (λ es o. told_of xs h.1.0 es h.1.2 o)
+      told_kept x xs h.1.0 rows h.0 (subst (λ l. AllZip Own l rows) h.1.1 own) (λ es o. told_of xs h.1.0 es h.1.2 o)
 
   abbrev Kept : List X → List (List E) → Type 0
-  Kept xs told = (kept : List X) × LeavesOut Out xs kept × Each Own kept (all_of told)
+  Kept xs told = (kept : List X) × LeavesOut Out xs kept × AllZip Own kept (all_of told)
 
   kept_more : (x : X) (xs : List X) (es : List E) (told : List (List E)) → Tells x es → Kept xs told → Kept (x ∷ xs) (es ∷ told)
-  kept_more x xs es told (inl h) k = (k.0, inl (h.0, k.1), subst (λ l. Each Own k.0 (l ++ all_of told)) (sym h.1) k.2)
+  kept_more x xs es told (inl h) k = (k.0, inl (h.0, k.1), subst (λ l. AllZip Own k.0 (l ++ all_of told)) (sym h.1) k.2)
   kept_more x xs es told (inr h) k =
-      (x ∷ k.0, inr (h.0, (k.0, refl, k.1)), subst (λ l. Each Own (x ∷ k.0) (l ++ all_of told)) (sym h.1.1) (h.1.2, k.2))
+      (x ∷ k.0, inr (h.0, (k.0, refl, k.1)), subst (λ l. AllZip Own (x ∷ k.0) (l ++ all_of told)) (sym h.1.1) (h.1.2, k.2))
 
-  pub kept_of : (xs : List X) (told : List (List E)) → Each Tells xs told → Kept xs told
+  pub kept_of : (xs : List X) (told : List (List E)) → AllZip Tells xs told → Kept xs told
   kept_of [] [] h = ([], refl, tt)
   kept_of [] (es ∷ told) h = absurd h
   kept_of (x ∷ xs) [] h = absurd h
@@ -59,7 +60,7 @@ module _ {X E : Type 0} (Out : X → Type 0) (Own : X → E → Type 0) where
   one_at_most x es (inl h) = omega (arith, ap length h.1)
   one_at_most x es (inr h) = omega (arith, ap length h.1.1)
 
-  pub told_at_most : (xs : List X) (told : List (List E)) → Each Tells xs told → length (all_of told) ≤ length told
+  pub told_at_most : (xs : List X) (told : List (List E)) → AllZip Tells xs told → length (all_of told) ≤ length told
   told_at_most [] [] h = omega arith
   told_at_most [] (es ∷ told) h = absurd h
   told_at_most (x ∷ xs) [] h = absurd h
@@ -76,10 +77,10 @@ module _ {R : Type 0} (gives : Gives R) (args : Arguments) where
   ItTells t es = Tells (λ (x : Trial R). IsDropped args x) (IsEntryOf gives args) t es
 
   abbrev Reports : List (List (Trial R)) → List Report → Type 0
-  Reports shards reports = Each (λ shard report. TellsTrials gives args shard (contents_read report)) shards reports
+  Reports shards reports = AllZip (λ shard report. TellsTrials gives args shard (contents_read report)) shards reports
 
   abbrev AllTold : List (List (Trial R)) → List Report → Type 0
-  AllTold shards reports = (tolds : List (List (List Entry))) × Each (Each ItTells) shards tolds × Each IsPermutation (map entries_in reports) (map all_of tolds)
+  AllTold shards reports = (tolds : List (List (List Entry))) × AllZip (AllZip ItTells) shards tolds × AllZip IsPermutation (map entries_in reports) (map all_of tolds)
       × (joining.filtered_out_of reports + length (all_of (all_of tolds)) ≡ length (all_of tolds))
 
   one_more : (shard : List (Trial R)) (shards : List (List (Trial R))) (report : Report) (reports : List Report) → TellsTrials gives args shard (contents_read report) → AllTold shards reports
@@ -110,7 +111,7 @@ module _ {R : Type 0} (gives : Gives R) (args : Arguments) where
       → IsJoined reports whole → TellsTrials gives args trials (contents_read whole)
   joined_told trials shards reports whole same all joined =
       let told : List (List Entry) = in_turn all.0 in
-      let each : Each ItTells trials told = subst (λ l. Each ItTells l told) same (each-in_turn ItTells shards all.0 all.1) in
+      let each : AllZip ItTells trials told = subst (λ l. AllZip ItTells l told) same (each-in_turn ItTells shards all.0 all.1) in
       let kept = kept_of (λ (x : Trial R). IsDropped args x) (IsEntryOf gives args) trials told each in
       let turned : IsPermutation (all_of told) (all_of (all_of all.0)) = parts-in_turn (λ (es : List Entry). es) all.0 in
       let ordered : IsPermutation (all_of (map entries_in reports)) (all_of (all_of all.0)) =

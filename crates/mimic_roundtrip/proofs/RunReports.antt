@@ -2,7 +2,7 @@
 use Rattle.std.proofs.Common.{◌≡◌, ℕ, ◌-◌, ◌<◌, ◌^◌, List, [], length, false, Option, Some, None, IsSome, option_map, refl, sym, subst, arith}
 use Rattle.std.specs.Io.KnownBytes.{Appends}
 use Rattle.mimic_args.specs.declared.Arguments.{Arguments}
-use Rattle.mimic_text.specs.declared.formats.FormatSetting.TheVariants.{Json}
+use Rattle.mimic_trial.specs.declared.formats.FormatSetting.TheVariants.{Json}
 use Rattle.mimic_trial.specs.declared.outcome.conclusion.Conclusion.{Conclusion}
 use Rattle.libtest_mimic.specs.Stopwatch.{Watched}
 use Rattle.mimic_trial.specs.declared.trial.Trial.{Trial}

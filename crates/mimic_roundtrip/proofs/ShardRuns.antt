@@ -1,7 +1,7 @@
 -- What a run writes, in whatever order, is a report of the trials that it was given.
 use Rattle.std.proofs.Common.{All, ◌≡◌, ℕ, ◌+◌, ◌%◌, cond, eqb, true, false, Bool, List, [], ◌∷◌, ◌++◌, Some, get_or, map, length, length-append, refl, set, sym, ap, ap₂, subst, ◌∙◌, arith, append_assoc}
 use Rattle.std.specs.Prelude.{IsPermutation, IsSomeAnd, slice_get, swap}
-use Rattle.std.specs.List.{range_with_len}
+use Rattle.std.specs.List.{AllZip, range_with_len}
 use Rattle.std.proofs.Math.ListN.{get_or-map}
 use Rattle.std.proofs.lemmas.List.{length-map, map-set}
 use Rattle.std.proofs.lemmas.List.Elements.{All-cons, All-head, All-tail}
@@ -14,8 +14,7 @@ use Rattle.mimic_trial.specs.Places.{Placed, places_of}
 use Rattle.mimic_trial.specs.Promise.{Gives}
 use Rattle.mimic_trial.specs.Trial.{info_of}
 use Rattle.mimic_printer.specs.Row.{label_at, label_of, labels_of, rows_at}
-use Rattle.mimic_shard.specs.Shard.{shard_from, shard_of}
-use Rattle.mimic_reports.specs.Turns.{Each}
+use Rattle.mimic_trial.specs.Shard.{shard_from, shard_of}
 use Rattle.std.specs.Prelude.{Err, IfOk, Ok, Result}
 use Rattle.libtest_mimic.specs.Stopwatch.{Watched}
 use Rattle.libtest_mimic.specs.declared.running.RunError.{RunError}
@@ -73,7 +72,7 @@ module _ {R : Type 0} (gives : Gives R) (args : Arguments) where
   own-seam front rest t o own = subst (λ s. IsSomeAnd s (λ x. IsOwn gives args x o)) (slice_get-seam front rest t) own
 
   rows_in_order : (front rest all : List (Trial R)) (placed : List Placed) → front ++ rest ≡ all → places_of placed ≡ range_with_len (length front) (length rest) → All (IsOwnAt gives args all) placed
-      → Each (IsEntryOf gives args) rest (rows_at (labels_of all) placed)
+      → AllZip (IsEntryOf gives args) rest (rows_at (labels_of all) placed)
   rows_in_order front [] all [] e p own = tt
   rows_in_order front [] all (q ∷ placed) e p own = absurd (cc)
   rows_in_order front (t ∷ rest) all [] e p own = absurd (cc)

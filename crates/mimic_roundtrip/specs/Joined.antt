@@ -1,6 +1,6 @@
 -- What the runs of all shards report of the whole list of trials, and their joined report.
 use Rattle.std.specs.Prelude.{◌≡◌, ℕ, ◌<◌, List, map, IsPermutation}
-use Rattle.std.specs.List.{range_with_len}
+use Rattle.std.specs.List.{AllZip, range_with_len}
 use Rattle.libtest_mimic.specs.Suite.{filtered_out_of}
 use Rattle.libtest_mimic.specs.Arrangement.{IsArrangement, IsOwn}
 use Rattle.libtest_mimic.specs.Selection.{IsSelection}
@@ -13,9 +13,8 @@ use Rattle.mimic_printer.specs.Row.{label_of, labels_of, rows_at}
 use Rattle.mimic_printer.specs.Json.{Contents, Entry}
 use Rattle.mimic_events.specs.Contents.{contents_read}
 use Rattle.mimic_events.specs.declared.report.Report.{Report}
-use Rattle.mimic_reports.specs.Joined.{IsJoined, all_of}
-use Rattle.mimic_reports.specs.Turns.{Each}
-use Rattle.mimic_shard.specs.Shard.{shard_of}
+use Rattle.mimic_join.specs.Joined.{IsJoined, all_of}
+use Rattle.mimic_trial.specs.Shard.{shard_of}
 
 -- the shards of all indices, in their order
 abbrev pub shards_of : {X : Type 0} → ℕ → List X → List (List X)
@@ -25,7 +24,7 @@ shards_of count xs = map (λ index. shard_of count index xs) (range_with_len 0 c
 abbrev pub SelectsShards : Type 0 → Type 0
 SelectsShards R = (args : Arguments) (count : ℕ) (trials selected : List (Trial R)) (selections : List (List (Trial R)))
     → 0 < count
-    → Each (λ shard selection. IsSelection args shard selection) (shards_of count trials) selections
+    → AllZip (λ shard selection. IsSelection args shard selection) (shards_of count trials) selections
     → IsSelection args trials selected → IsPermutation (all_of selections) selected
 
 module _ {R : Type 0} (gives : Gives R) where
@@ -38,7 +37,7 @@ module _ {R : Type 0} (gives : Gives R) where
     pub selected : List (Trial R)
     pub selection : IsSelection args trials selected
     pub entries : List Entry
-    pub own : Each (IsEntryOf args) selected entries
+    pub own : AllZip (IsEntryOf args) selected entries
     pub order : IsPermutation report.entries entries
     pub filtered_out : report.filtered_out ≡ filtered_out_of trials selected
 
@@ -52,7 +51,7 @@ module _ {R : Type 0} (gives : Gives R) where
   -- The law from end to end: if for each shard there is a report of its trials, the joined report is one of all trials.
   abbrev pub JoinsRuns : Type 0
   JoinsRuns = (args : Arguments) (count : ℕ) (trials : List (Trial R)) (reports : List Report) (joined : Report) → 0 < count
-      → Each (λ shard report. TellsTrials args shard (contents_read report)) (shards_of count trials) reports
+      → AllZip (λ shard report. TellsTrials args shard (contents_read report)) (shards_of count trials) reports
       → IsJoined reports joined → TellsTrials args trials (contents_read joined)
 
   -- what holds of the runs of all shards

@@ -22,7 +22,7 @@
 mod shard;
 
 ghost use Rattle.std.specs.Prelude.{◌≡◌, false, IfOk};
-ghost use Rattle.mimic_text.specs.declared.formats.FormatSetting.TheVariants.{Json};
+ghost use Rattle.mimic_trial.specs.declared.formats.FormatSetting.TheVariants.{Json};
 ghost use Rattle.libtest_mimic.specs.Arguments.{format_of};
 ghost use Rattle.libtest_mimic.specs.Stopwatch.{IsFresh};
 ghost use Rattle.libtest_mimic.specs.Trial.{AllCanRun};

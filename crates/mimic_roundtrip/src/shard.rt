@@ -1,22 +1,22 @@
 //! Runs the trials of one shard.
 ghost use Rattle.std.specs.Prelude.{◌≡◌, false, IfOk};
-ghost use Rattle.mimic_text.specs.declared.formats.FormatSetting.TheVariants.{Json};
+ghost use Rattle.mimic_trial.specs.declared.formats.FormatSetting.TheVariants.{Json};
 ghost use Rattle.libtest_mimic.specs.Arguments.{format_of};
 ghost use Rattle.libtest_mimic.specs.Stopwatch.{IsFresh};
 ghost use Rattle.libtest_mimic.specs.Trial.{AllCanRun};
 ghost use Rattle.mimic_events.specs.Contents.{contents_read};
 ghost use Rattle.mimic_roundtrip.specs.Joined.{ShardLaws, TellsTrials};
-ghost use Rattle.mimic_shard.specs.Shard.{shard_of};
+ghost use Rattle.mimic_trial.specs.Shard.{shard_of};
 
 use crate::run_to_report;
 use libtest_mimic::{Arguments, Clock, Conclusion, RunError, Stopwatch, Task, Trial};
 use mimic_events::Report;
-use mimic_shard::{Shard, shard_of};
+use mimic_trial::{Shard, shard_of};
 use std::alloc::Global;
 
 /// Runs the selected trials of the shard, as `run_to_report` does.
 ///
-/// The reports of all shards, joined by `mimic_reports::joined`, are a report of all trials.
+/// The reports of all shards, joined by `mimic_join::joined`, are a report of all trials.
 pub fn run_shard<R: Task, C: Clock>(
     alloc: Global,
     args: &Arguments,

@@ -1,7 +1,12 @@
-pub mod Failed
-pub mod Promise
-pub mod Same
 pub mod Case
 pub mod Count
-pub mod Trial
+pub mod Escape
+pub mod Failed
+pub mod Formats
 pub mod Places
+pub mod Promise
+pub mod Same
+pub mod Seconds
+pub mod Shard
+pub mod Text
+pub mod Trial

@@ -3,8 +3,8 @@ use Rattle.std.proofs.Common.{◌≡◌, inl, inr, ℕ, List, [], ◌++◌, Resu
 use Rattle.std.specs.Prelude.{IsErrAnd}
 use Rattle.mimic_trial.specs.declared.outcome.conclusion.Conclusion.{Conclusion}
 use Rattle.mimic_printer.specs.Sink.{LeftBy, Shown, Stopped}
-use Rattle.mimic_input.specs.declared.ending.Ending.{Ending}
-use Rattle.mimic_input.specs.declared.ending.Ending.TheVariants.{Whole, Cut}
+use Rattle.mimic_events.specs.declared.ending.Ending.{Ending}
+use Rattle.mimic_events.specs.declared.ending.Ending.TheVariants.{Whole, Cut}
 use Rattle.mimic_printer.specs.declared.sink.OutputFault.{OutputFault}
 use Rattle.mimic_printer.specs.declared.sink.OutputFault.TheVariants.{OutOfMemory, Write}
 use Rattle.mimic_watch.specs.Watched.{IsLast, last_text}

@@ -10,8 +10,8 @@ use Rattle.mimic_printer.proofs.Appending.{Put-Stopped, Put-refl, Put-trans}
 use Rattle.mimic_events.specs.Feed.{AreEnded}
 use Rattle.mimic_events.specs.Reading.{Decodes}
 use Rattle.mimic_events.specs.SoFar.{IsFirstWrong}
-use Rattle.mimic_input.specs.Readings.{EndsAs, IsOver, IsReading}
-use Rattle.mimic_input.proofs.ReadBytes.{read_more}
+use Rattle.mimic_events.specs.Readings.{EndsAs, IsOver, IsReading}
+use Rattle.mimic_events.proofs.ReadBytes.{read_more}
 use Rattle.mimic_watch.specs.declared.verdict.Verdict.{Verdict}
 use Rattle.mimic_watch.specs.declared.verdict.WatchFault.{WatchFault}
 use Rattle.mimic_watch.specs.declared.verdict.WatchFault.TheVariants.{Write}

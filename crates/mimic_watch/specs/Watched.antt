@@ -1,7 +1,7 @@
 -- What a watch has seen and put.
 use Rattle.std.specs.Prelude.{◌≡◌, ◌⊎◌, ℕ, ◌++◌, nat_lt, if◌then◌else◌, Bool, false, List, [], Option, IfSome}
 use Rattle.std.specs.Io.KnownBytes.{Consumes}
-use Rattle.mimic_text.specs.declared.formats.FormatSetting.TheVariants.{Pretty}
+use Rattle.mimic_trial.specs.declared.formats.FormatSetting.TheVariants.{Pretty}
 use Rattle.mimic_trial.specs.declared.outcome.conclusion.Conclusion.{Conclusion}
 use Rattle.mimic_trial.specs.Count.{counts_of}
 use Rattle.mimic_printer.specs.Json.{Entry}
@@ -9,9 +9,9 @@ use Rattle.mimic_printer.specs.Report.{result_summary}
 use Rattle.mimic_printer.specs.Sink.{Put, Shown, Stopped}
 use Rattle.mimic_printer.specs.declared.sink.OutputFault.TheVariants as output
 use Rattle.mimic_events.specs.Feed.{AreEnded}
-use Rattle.mimic_input.specs.declared.ending.Ending.{Ending}
-use Rattle.mimic_input.specs.declared.ending.Ending.TheVariants.{Whole, Cut}
-use Rattle.mimic_input.specs.Readings.{IsReading}
+use Rattle.mimic_events.specs.declared.ending.Ending.{Ending}
+use Rattle.mimic_events.specs.declared.ending.Ending.TheVariants.{Whole, Cut}
+use Rattle.mimic_events.specs.Readings.{IsReading}
 use Rattle.mimic_watch.specs.declared.verdict.Verdict.{Verdict}
 use Rattle.mimic_watch.specs.declared.verdict.WatchFault.{WatchFault}
 use Rattle.mimic_watch.specs.declared.verdict.WatchFault.TheVariants.{Read, Write}

@@ -1,7 +1,7 @@
 //! Shows a JSON report as it comes: its failures and measurements, and on a terminal how far the run is.
 //!
 //! ```rust
-//! use mimic_input::Ending;
+//! use mimic_events::Ending;
 //! use mimic_printer::Sink;
 //! use mimic_watch::watch;
 //!

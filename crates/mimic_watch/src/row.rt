@@ -2,14 +2,13 @@
 ghost use Rattle.std.specs.Prelude.{◌≡◌, ◌++◌, OnOk, decimal};
 ghost use Rattle.std.specs.Option.{option_copied};
 ghost use Rattle.mimic_events.specs.Contents.{entry_read};
-ghost use Rattle.mimic_text.specs.Text.{grouped};
+ghost use Rattle.mimic_trial.specs.Text.{grouped};
 ghost use Rattle.mimic_watch.specs.Rows.{average_text, label_text, line_text, lines_noun, measured_text, message_lines, message_text, more_text, row_text, variance_text};
 
 use itoa::Buffer;
 use mimic_printer::{Place, push_escaped};
 use mimic_events::Row;
-use mimic_text::thousands;
-use mimic_trial::{Measurement, Outcome};
+use mimic_trial::{Measurement, Outcome, thousands};
 use std::alloc::AllocError;
 
 // At most this many lines of a message are shown.

@@ -2,7 +2,7 @@
 ghost use Rattle.std.specs.Prelude.{◌≡◌};
 ghost use Rattle.mimic_watch.specs.declared.verdict.WatchFault.TheVariants.{Read, Write};
 
-use mimic_input::{Ending, ReadFault};
+use mimic_events::{Ending, ReadFault};
 use mimic_printer::OutputFault;
 use mimic_trial::Conclusion;
 use thiserror::Error;

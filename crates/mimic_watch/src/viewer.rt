@@ -8,11 +8,9 @@ use crate::frame::{ERASE, View, first_line, push_frame, second_line};
 use crate::pace::{Pace, nanos};
 use crate::row::push_row;
 use crate::verdict::{Verdict, WatchFault};
-use mimic_events::{Follower, Row};
-use mimic_input::{Ending, PIECE, ReadFault, read_piece};
+use mimic_events::{Ending, Follower, PIECE, ReadFault, Row, read_piece};
 use mimic_printer::{OutputFault, Printer, Sink, WriteFault};
-use mimic_text::FormatSetting;
-use mimic_trial::{Conclusion, Outcome};
+use mimic_trial::{Conclusion, FormatSetting, Outcome};
 use std::alloc::{AllocError, Global};
 use std::io::{ErrorKind, Read, Write};
 use std::rt::Clock;
@@ -90,7 +88,7 @@ impl Viewer {
     ghost use Rattle.mimic_events.specs.Contents.{entry_read};
     ghost use Rattle.mimic_watch.specs.Moments.{IsDrawing};
     ghost use Rattle.mimic_watch.specs.Watched.{AreCounts, IsLast, last_text};
-    ghost use Rattle.mimic_input.specs.Readings.{EndsAs};
+    ghost use Rattle.mimic_events.specs.Readings.{EndsAs};
     ghost use Rattle.mimic_watch.specs.Watching.{DrawsSeen, HasSeen, ReadsOn, SeesOn, SeesRow, ShowsOn, StaysSeen, put_text};
 
     fn new(alloc: Global, live: bool, now: u64) -> Viewer

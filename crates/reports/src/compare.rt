@@ -4,7 +4,7 @@ use crate::input::Input;
 use crate::line::Compare;
 use crate::{BLOCK, REFUSED};
 use mimic_compare::write_comparison;
-use mimic_input::{Ending, RowsRead, read_rows};
+use mimic_events::{Ending, RowsRead, read_rows};
 use mimic_printer::{OutputFault, Sink};
 use std::alloc::Global;
 use std::io::BufWriter;

@@ -4,7 +4,7 @@ use crate::input::Input;
 use crate::line::Expect;
 use crate::{BLOCK, REFUSED};
 use mimic_expect::{Expectation, InputEnd, KnownFault, Verdict, read_known, write_unexpected};
-use mimic_input::Ending;
+use mimic_events::Ending;
 use mimic_printer::{OutputFault, Sink};
 use std::alloc::Global;
 use std::io::{BufWriter, Read};

@@ -3,10 +3,10 @@ use crate::faults::{refuse, refuse_all};
 use crate::input::Input;
 use crate::line::{Colours, Show};
 use crate::{BLOCK, REFUSED, SUCCESS, TRIALS_FAILED};
-use mimic_events::Report;
+use mimic_events::{ReadFault, Report, read_from};
 use mimic_main::shows_colours;
 use mimic_printer::{OutputFault, Sink};
-use mimic_reports::{ReadFault, read_from, show_failures, show_report};
+use mimic_reports::{show_failures, show_report};
 use std::alloc::Global;
 use std::io::BufWriter;
 

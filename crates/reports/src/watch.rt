@@ -1,7 +1,7 @@
 //! Shows the report on standard input as it comes.
 use crate::faults::refuse_all;
 use crate::pump::{Incoming, Pipe, pump};
-use mimic_input::{Ending, ReadFault};
+use mimic_events::{Ending, ReadFault};
 use mimic_printer::Sink;
 use mimic_watch::{ERASE, watch};
 use std::alloc::Global;

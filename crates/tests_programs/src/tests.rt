@@ -7,3 +7,4 @@ mod outputs;
 mod programs;
 mod runs;
 mod shards;
+mod variables;

@@ -7,6 +7,5 @@ mod lines;
 mod page;
 mod reading;
 mod suites;
-mod variables;
 mod watching;
 mod writers;

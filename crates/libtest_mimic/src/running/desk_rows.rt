@@ -3,7 +3,7 @@ ghost use Rattle.std.specs.Prelude.{◌≡◌, map};
 ghost use Rattle.mimic_trial.specs.Count.{counts_of};
 
 use mimic_pool::Desk;
-use mimic_printer::Rows;
+use mimic_printer::ShownRows;
 use mimic_trial::{Conclusion, Outcome, TestInfo};
 
 // The rows that arrived at the desk. Infos are by place.
@@ -13,7 +13,7 @@ pub(super) struct DeskRows<'a> {
     pub(super) desk: &'a Desk,
 }
 
-impl<'a> Rows for DeskRows<'a> {
+impl<'a> ShownRows for DeskRows<'a> {
     ghost use Rattle.std.specs.Prelude.{◌<◌, All, length, map};
     ghost use Rattle.mimic_trial.specs.Places.{places_of};
     ghost use Rattle.mimic_printer.specs.Row.{label_of, rows_at};

@@ -3,9 +3,9 @@
 ghost use Rattle.std.specs.Prelude.{◌≡◌, ◌↔◌, ◌+◌, ◌<◌, ◌≤◌, IsTrue, length, slice_index};
 ghost use Rattle.libtest_mimic.specs.Selection.{full_name};
 ghost use Rattle.libtest_mimic.specs.Steps.{OccursBefore, StandsAt};
-ghost use Rattle.mimic_text.specs.Text.{kind_part};
+ghost use Rattle.mimic_trial.specs.Text.{kind_part};
 
-use mimic_text::brackets;
+use mimic_trial::brackets;
 
 // Whether the pattern is the full name.
 pub(super) fn is_full_name(pattern: &[u8], kind: &str, name: &[u8]) -> bool

@@ -2,8 +2,7 @@
 ghost use Rattle.std.specs.Prelude.{◌≡◌, IfOk, length};
 
 use mimic_printer::{Printer, Sink, WriteFault};
-use mimic_text::FormatSetting;
-use mimic_trial::{Failed, Measurement, Outcome, TestInfo, Trial};
+use mimic_trial::{Failed, FormatSetting, Measurement, Outcome, TestInfo, Trial};
 use std::alloc::{AllocError, Global};
 use std::test::Fail;
 

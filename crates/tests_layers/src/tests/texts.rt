@@ -1,5 +1,5 @@
 //! Numbers and characters as texts. Expected values are worked by hand from the format's rules.
-use mimic_text::{escape_char, exact_seconds, fmt_with_thousand_sep, thousands};
+use mimic_trial::{escape_char, exact_seconds, fmt_with_thousand_sep, thousands};
 use std::test::Fail;
 
 static GROUPED: [(u64, &str); 5] = [

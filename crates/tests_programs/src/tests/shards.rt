@@ -3,8 +3,8 @@ use super::known_machine::{
     NO_OPTIONS, PRESENT_SECONDS, Streams, Variables, Words, known_machine, run_on,
 };
 use super::runs::Host;
-use libtest_mimic::{Outcome, RunError, Task, Trial};
-use mimic_main::{Program, Schedule};
+use libtest_mimic::{Outcome, RunError, Schedule, Task, Trial};
+use mimic_main::Program;
 use std::alloc::Global;
 use std::fs;
 use std::process::{Abort, ExitCode, Termination};

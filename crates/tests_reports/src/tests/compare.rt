@@ -6,7 +6,7 @@ use super::lines::{
 };
 use super::writers::{check_stops, has_stopped};
 use mimic_compare::{Verdict, write_comparison};
-use mimic_input::RowsRead;
+use mimic_events::RowsRead;
 use mimic_printer::{OutputFault, Sink};
 use mimic_testkit::{Fault, FaultyWriter, Place};
 use std::alloc::{AllocError, Global};

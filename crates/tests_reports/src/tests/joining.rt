@@ -1,6 +1,6 @@
 //! Joins reports, and shows a fault of joining.
 use mimic_events::Report;
-use mimic_reports::{JoinFault, Refusal, joined};
+use mimic_join::{JoinFault, Refusal, joined};
 use std::alloc::{AllocError, Global};
 use std::test::Fail;
 

@@ -1,6 +1,6 @@
 //! The lines of reports in JSON, and small reports. Names, kinds and messages are given as reports escape them.
 use super::reading::Slow;
-use mimic_input::{RowsRead, read_rows};
+use mimic_events::{RowsRead, read_rows};
 use std::alloc::{AllocError, Global};
 use std::test::Fail;
 

@@ -3,8 +3,8 @@ use super::lines::{
     A_FAILED, NONE, announced, failed, ignored, measured, passed, read, summary, title,
 };
 use super::writers::{check_stops, has_stopped};
-use mimic_input::RowsRead;
-use mimic_page::write_page;
+use mimic_events::RowsRead;
+use mimic_reports::write_page;
 use mimic_printer::{Sink, WriteFault};
 use mimic_testkit::{Fault, FaultyWriter, Place};
 use std::alloc::Global;

@@ -5,7 +5,7 @@ use libtest_mimic::{Arguments, FormatSetting, Stopwatch, Trial, run_here};
 use mimic_events::Report;
 use mimic_printer::Sink;
 use mimic_roundtrip::run_shard;
-use mimic_shard::{Shard, shard_of};
+use mimic_trial::{Shard, shard_of};
 use mimic_testkit::{Known, MIXED_BAG, TwoReadings, known_trials};
 use std::alloc::Global;
 use std::process::Abort;

@@ -1,6 +1,6 @@
 //! What no clause states about a watch: when it draws, which times the lines show, and whole runs byte for byte. Expected texts
 //! are worked out by hand.
-use mimic_input::ReadFault;
+use mimic_events::ReadFault;
 use mimic_printer::Sink;
 use mimic_watch::{WatchFault, watch};
 use std::alloc::Global;

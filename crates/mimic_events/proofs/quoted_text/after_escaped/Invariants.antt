@@ -1,5 +1,5 @@
 use Rattle.std.proofs.Common.{List, ℕ, Option, Bor, length}
-use Rattle.mimic_text.specs.Escape.{escaped}
+use Rattle.mimic_trial.specs.Escape.{escaped}
 use Rattle.mimic_events.specs.LineParts.{Follows}
 use Rattle.mimic_events.proofs.quoted_text.after_escaped.Given as goal
 

@@ -1,5 +1,5 @@
 use Rattle.std.proofs.Common.{[], ◌∷◌, ◌++◌, List, ℕ, None, sym, ap, ◌∙◌}
-use Rattle.mimic_text.specs.Escape.{escaped}
+use Rattle.mimic_trial.specs.Escape.{escaped}
 use Rattle.mimic_events.proofs.Fronts.{follows_then, follows_stop}
 use Rattle.mimic_events.proofs.quoted_text.after_quoted.Goals as goal
 

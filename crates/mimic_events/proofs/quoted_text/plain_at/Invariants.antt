@@ -1,5 +1,5 @@
 use Rattle.std.proofs.Common.{◌≤◌, take, length, ◌-◌}
-use Rattle.mimic_text.specs.Escape.{ArePlain}
+use Rattle.mimic_trial.specs.Escape.{ArePlain}
 use Rattle.mimic_events.proofs.quoted_text.plain_at.Given as goal
 
 abbrev pub invariant-loop-len : goal.invariant-loop-len

@@ -1,7 +1,7 @@
 use Rattle.std.proofs.Common.{bit_or, ◌+◌, ◌-◌, ◌≡◌, ℕ, refl, arith, subst, sym, take, drop}
 use Rattle.std.proofs.lemmas.Simd.{zip2_splat, zip2_of_maps, length-chunk}
 use lib.Lanes.{chunk}
-use Rattle.mimic_text.specs.Escape.{ArePlain}
+use Rattle.mimic_trial.specs.Escape.{ArePlain}
 use Rattle.mimic_events.proofs.PlainLanes.{plain_in}
 use Rattle.mimic_events.proofs.quoted_text.plain_lanes.Goals as goal
 

@@ -1,6 +1,6 @@
 use Rattle.std.proofs.Common.{◌++◌}
 use Rattle.mimic_printer.specs.Json.{json_end}
-use Rattle.mimic_text.specs.Seconds.{exact_seconds}
+use Rattle.mimic_trial.specs.Seconds.{exact_seconds}
 use Rattle.mimic_events.proofs.Summaries.{behind_number, is_time, totals_found}
 use Rattle.mimic_events.proofs.summary.totals.Goals as goal
 

@@ -2,7 +2,7 @@
 use Rattle.std.proofs.Common.{List}
 use Rattle.mimic_printer.specs.Json.{Entry}
 use Rattle.mimic_printer.specs.Sink.{shown}
-use Rattle.mimic_input.specs.RowByRow.{HasCome, IsReady}
+use Rattle.mimic_events.specs.RowByRow.{HasCome, IsReady}
 use Rattle.mimic_expect.specs.Judge.{Judges}
 use Rattle.mimic_expect.proofs.inputs.judge_input.Given as goal
 

@@ -1,5 +1,5 @@
 use Rattle.std.proofs.Common.{sym, subst}
-use Rattle.mimic_text.specs.declared.formats.FormatSetting.{FormatSetting}
+use Rattle.mimic_trial.specs.declared.formats.FormatSetting.{FormatSetting}
 use Rattle.mimic_printer.specs.Report.{announcement_in}
 use Rattle.mimic_printer.specs.Row.{label_of}
 use Rattle.mimic_printer.specs.Sink.{Stopped, shown}

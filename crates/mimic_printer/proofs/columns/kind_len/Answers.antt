@@ -1,6 +1,6 @@
 use Rattle.std.proofs.Common.{◌+◌, ◌∙◌, ap, arith, length, sym}
 use Rattle.std.specs.Str.{chars}
-use Rattle.mimic_text.specs.Text.{kind_part}
+use Rattle.mimic_trial.specs.Text.{kind_part}
 use Rattle.mimic_printer.proofs.Characters.{brackets_short, kind_part_chars, length-chars-le, text_small}
 use Rattle.mimic_printer.proofs.columns.kind_len.Goals as goal
 

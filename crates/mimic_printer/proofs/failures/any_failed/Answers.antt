@@ -11,10 +11,10 @@ pub returns-then-matches : goal.returns-then-matches
 returns-then-matches g c =
     let row = row_of c.row.result.0.now c.row.result.1.now in
     let failed : is_failed c.row.result.1.now ≡ true = elim c.match-matches.branch [ in-Failed w ↦ ap is_failed w.in-Failed.is | in_default w ↦ cc ] in
-    sym (any-failed_row (g.R.Rows.rows_of c.args.rows.now) c.loop-number.number row c.row.ensures failed)
+    sym (any-failed_row (g.R.ShownRows.rows_of c.args.rows.now) c.loop-number.number row c.row.ensures failed)
 
 pub loop-number-preserved : goal.loop-number-preserved
 loop-number-preserved g c =
     let row = row_of c.row.result.0.now c.row.result.1.now in
-    let at = sym (get_or_from_slice_get (g.R.Rows.rows_of c.args.rows.now) c.loop-number.number row row c.row.ensures) in
+    let at = sym (get_or_from_slice_get (g.R.ShownRows.rows_of c.args.rows.now) c.loop-number.number row row c.row.ensures) in
     grind (arith, common_steps, at)

@@ -10,7 +10,7 @@ use Rattle.mimic_printer.proofs.failures.put_each.Goals as goal
 
 pub loop-number-preserved : goal.loop-number-preserved
 loop-number-preserved g c =
-    let rows = g.R.Rows.rows_of c.args.rows.now in
+    let rows = g.R.ShownRows.rows_of c.args.rows.now in
     let row = row_of c.row.result.0.now c.row.result.1.now in
     let within : c.loop-number.number < length rows = omega arith in
     let P : List ℕ → Type 0 = λ l. Put (shown g.W.Write.contents c.loop-number.sink) (shown g.W.Write.contents c.put_part.new.sink) l in
@@ -19,7 +19,7 @@ loop-number-preserved g c =
 
 pub returns-in_err-put_part : goal.returns-in_err-put_part
 returns-in_err-put_part g c =
-    let rows = g.R.Rows.rows_of c.args.rows.now in
+    let rows = g.R.ShownRows.rows_of c.args.rows.now in
     let row = row_of c.row.result.0.now c.row.result.1.now in
     let within : c.loop-number.number < length rows = omega arith in
     let P : List ℕ → Type 0 = λ l. Stopped (shown g.W.Write.contents c.loop-number.sink) (shown g.W.Write.contents c.put_part.new.sink) l in
@@ -29,7 +29,7 @@ returns-in_err-put_part g c =
 
 pub returns : goal.returns
 returns g c =
-    let rows = g.R.Rows.rows_of c.args.rows.now in
+    let rows = g.R.ShownRows.rows_of c.args.rows.now in
     let all : length rows ≤ c.loop-number.number = omega arith in
     let P : List ℕ → Type 0 = λ l. Put (shown g.W.Write.contents c.args.sink.now) (shown g.W.Write.contents c.loop-number.sink) l in
     subst P (ap (flat_map (row_part c.args.part)) (take_all c.loop-number.number rows all)) c.loop-number.invariant

@@ -1,6 +1,6 @@
 use Rattle.std.proofs.Common.{◌∙◌, ◌-◌, ap, length, subst, List, ℕ}
 use Rattle.mimic_printer.specs.Sink.{Put, Puts, Stopped, shown}
-use Rattle.mimic_text.specs.Text.{spaces}
+use Rattle.mimic_trial.specs.Text.{spaces}
 use Rattle.mimic_printer.proofs.Appending.{Puts-stopped, Stopped-more, Puts_then}
 use Rattle.mimic_printer.proofs.piece.put_aligned.Goals as goal
 

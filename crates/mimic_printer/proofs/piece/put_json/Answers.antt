@@ -1,7 +1,7 @@
 use Rattle.std.proofs.Common.{◌∙◌, ◌+◌, arith}
 use Rattle.mimic_printer.proofs.Appending.{Puts-stopped}
 use Rattle.mimic_printer.proofs.Escaping.{json_split, more_written, rest_written, shorter, stopped_at, stopped_before}
-use Rattle.mimic_text.proofs.Escapes.{escaped-plain}
+use Rattle.mimic_trial.proofs.Escapes.{escaped-plain}
 use Rattle.mimic_printer.proofs.piece.put_json.Goals as goal
 
 pub returns-in_err-put : goal.returns-in_err-put

@@ -1,5 +1,5 @@
 use Rattle.std.proofs.Common.{◌≤◌, length}
-use Rattle.mimic_text.specs.Escape.{escaped}
+use Rattle.mimic_trial.specs.Escape.{escaped}
 use Rattle.mimic_printer.proofs.Escaping.{WrittenSoFar}
 use Rattle.mimic_printer.specs.Sink.{shown}
 use Rattle.mimic_printer.proofs.piece.put_json.Given as goal

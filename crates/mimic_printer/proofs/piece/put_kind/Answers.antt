@@ -1,5 +1,5 @@
 use Rattle.std.proofs.Common.{◌≢◌, List, [], ℕ, subst, rules}
-use Rattle.mimic_text.specs.Escape.{escaped}
+use Rattle.mimic_trial.specs.Escape.{escaped}
 use Rattle.mimic_printer.specs.Sink.{Put, Puts, Stopped, shown}
 use Rattle.mimic_printer.proofs.Appending.{Puts-stopped, Puts_then, Stopped-more}
 use Rattle.mimic_printer.proofs.Labels.{kind_text-some, key_bytes}

@@ -1,6 +1,6 @@
 use Rattle.std.proofs.Common.{◌≤◌, ◌-◌}
 use Rattle.mimic_printer.specs.Sink.{Put, shown}
-use Rattle.mimic_text.specs.Text.{spaces}
+use Rattle.mimic_trial.specs.Text.{spaces}
 use Rattle.mimic_printer.proofs.piece.put_spaces.Given as goal
 
 abbrev pub invariant-loop-left : goal.invariant-loop-left

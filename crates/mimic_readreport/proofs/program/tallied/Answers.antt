@@ -1,4 +1,4 @@
-use Rattle.mimic_input.proofs.ReadBytes.{read_more}
+use Rattle.mimic_events.proofs.ReadBytes.{read_more}
 use Rattle.mimic_readreport.proofs.program.tallied.Goals as goal
 
 pub loop-preserved : goal.loop-preserved

@@ -5,7 +5,7 @@ use Rattle.mimic_trial.specs.Count.{counts_of}
 use Rattle.mimic_printer.specs.Json.{Entry}
 use Rattle.mimic_printer.specs.Sink.{Put, shown}
 use Rattle.mimic_reports.specs.Junit.{case_text}
-use Rattle.mimic_input.specs.RowByRow.{HasCome, IsReady}
+use Rattle.mimic_events.specs.RowByRow.{HasCome, IsReady}
 use Rattle.mimic_reports.proofs.RowCounts.{outcomes}
 use Rattle.mimic_reports.proofs.junit.put_again.Given as goal
 

@@ -6,8 +6,8 @@ use Rattle.mimic_reports.specs.declared.junit.JunitFault.TheVariants.{Write}
 use Rattle.mimic_reports.specs.Junit.{root_start, total}
 use Rattle.mimic_reports.specs.Suites.{IsShown, LeavesDocument, numbers_in}
 use Rattle.mimic_reports.proofs.Documents.{close_part, leaves, left_by, one_more_suite}
-use Rattle.mimic_reports.proofs.ReadInputs.{each_more}
-use Rattle.mimic_reports.proofs.Results.{at_fault}
+use Rattle.mimic_events.proofs.Pairs.{each_more}
+use Rattle.mimic_events.proofs.Results.{at_fault}
 use Rattle.mimic_reports.proofs.SuiteText.{left_after}
 use Rattle.mimic_reports.proofs.junit.write_junit.Goals as goal
 

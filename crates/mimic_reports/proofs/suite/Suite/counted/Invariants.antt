@@ -2,7 +2,7 @@
 use Rattle.std.proofs.Common.{◌≡◌, List}
 use Rattle.mimic_trial.specs.Count.{counts_of}
 use Rattle.mimic_printer.specs.Json.{Entry}
-use Rattle.mimic_input.specs.RowByRow.{HasCome, IsReady}
+use Rattle.mimic_events.specs.RowByRow.{HasCome, IsReady}
 use Rattle.mimic_reports.proofs.RowCounts.{outcomes}
 use Rattle.mimic_reports.proofs.suite.Suite.counted.Given as goal
 

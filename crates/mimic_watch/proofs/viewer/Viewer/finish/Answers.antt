@@ -2,7 +2,7 @@ use Rattle.std.proofs.Common.{[], ◌++◌, inl, refl, sym, subst}
 use Rattle.mimic_printer.proofs.Appending.{Put-Stopped, Put-trans}
 use Rattle.mimic_printer.specs.declared.sink.OutputFault.TheVariants.{OutOfMemory, Write}
 use Rattle.mimic_watch.specs.Watched.{last_text}
-use Rattle.mimic_input.specs.Readings.{EndsAs}
+use Rattle.mimic_events.specs.Readings.{EndsAs}
 use Rattle.mimic_watch.proofs.Ending.{last_is, left_alone, on_error}
 use Rattle.mimic_watch.proofs.viewer.Viewer.finish.Goals as goal
 

@@ -1,0 +1,32 @@
+//! Reads pieces of an input.
+ghost use Rattle.std.specs.Prelude.{◌≡◌, ◌<◌, IfErr, IfOk, length};
+ghost use Rattle.mimic_events.specs.Inputs.{HasFailed, IsPiece};
+
+use crate::fault::ReadFault;
+use std::io::{ErrorKind, Read};
+
+/// The most bytes that are read at once.
+pub const PIECE: usize = 65_536;
+
+/// Reads bytes to the front of the room, and returns how many: 0 at the end of the input. A read that was interrupted is tried
+/// again. With a fault nothing was read.
+pub fn read_piece<I: Read>(input: &mut I, room: &mut [u8]) -> Result<usize, ReadFault>
+    requires { 0 < length room.old }
+    ensures piece { IfOk result
+        (IsPiece (I.remaining input.old) (I.remaining input.new) room.new) }
+    ensures room { length room.new ≡ length room.old }
+    ensures fault { IfErr result
+        (HasFailed (I.remaining input.old) (I.remaining input.new)) }
+{
+    for _ in 0..u64::MAX {
+        match input.read(room) {
+            Ok(count) => return Ok(count),
+            Err(error) => match error.kind() {
+                ErrorKind::Interrupted => {}
+                ErrorKind::OutOfMemory => return Err(ReadFault::OutOfMemory),
+                _ => return Err(ReadFault::Input(error)),
+            },
+        }
+    }
+    Err(ReadFault::Input(ErrorKind::Interrupted.into()))
+}

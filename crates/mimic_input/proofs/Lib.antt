@@ -1,3 +1,0 @@
-pub mod Endings
-pub mod ReadBytes
-pub mod RowSteps

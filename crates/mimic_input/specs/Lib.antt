@@ -1,4 +1,0 @@
-pub mod Inputs
-pub mod Readings
-pub mod RowByRow
-pub mod Stops

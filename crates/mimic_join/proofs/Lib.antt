@@ -1,0 +1,9 @@
+pub mod Falls
+pub mod Fitting
+pub mod JoinedText
+pub mod Joining
+pub mod Laws
+pub mod ReadInputs
+pub mod SeenNames
+pub mod Taking
+pub mod Turns

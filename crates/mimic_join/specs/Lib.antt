@@ -1,0 +1,4 @@
+pub mod Faults
+pub mod Inputs
+pub mod Joined
+pub mod Turns

@@ -1,0 +1,28 @@
+//! Joins the reports of all shards of a suite to one.
+//!
+//! ```rust
+//! use mimic_events::{read_from, write_report};
+//! use mimic_join::{join_reports, joined};
+//! use mimic_printer::Sink;
+//!
+//! let first = read_from(alloc, &mut first_file)?;
+//! let second = read_from(alloc, &mut second_file)?;
+//! let whole = joined(alloc, vec![in alloc; first, second]?, 2, false)??;
+//! write_report(&whole, &mut sink)?;
+//! // The same from readers to a writer, with less memory:
+//! let counts = join_reports(alloc, vec![in alloc; first_file, second_file]?, 2, false, &mut sink)?;
+//! assert!(rt; !counts.has_failed());
+//! ```
+#![tactic(auto)]
+
+mod faults;
+mod inputs;
+mod join;
+mod names;
+mod numbers;
+mod order;
+mod text;
+
+pub use faults::{JoinFault, NamedFault};
+pub use inputs::join_reports;
+pub use join::{Refusal, joined};

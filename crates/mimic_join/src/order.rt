@@ -1,0 +1,56 @@
+//! The rows of reports in turn.
+ghost use Rattle.std.specs.Prelude.{◌≡◌, All, IfOk, List, map};
+ghost use Rattle.std.specs.List.{AllZip};
+ghost use Rattle.std.specs.Iterator.{AlwaysYields, IsFinite};
+ghost use Rattle.mimic_events.specs.declared.report.Row.{Row};
+ghost use Rattle.mimic_join.specs.Joined.{rows_in};
+ghost use Rattle.mimic_join.specs.Turns.{in_turn};
+
+use mimic_events::{Report, Row};
+use std::alloc::{AllocError, Global};
+use std::collections::VecDeque;
+
+// Returns the rows of the reports in turn.
+pub(crate) fn rows_in_turn(alloc: Global, reports: Vec<Report>) -> Result<Vec<Row>, AllocError>
+    ensures { IfOk result (λ rows. rows.items ≡ in_turn (map rows_in reports.items)) }
+{
+    let mut lists = VecDeque::new(alloc);
+    for report in reports {
+        lists.push_back(report.rows.into_iter())?;
+    }
+    taken_in_turn(alloc, lists)
+}
+
+// Returns the rows of the reports in turn. They stay where they are, so that no second list of them is kept.
+pub(crate) fn refs_in_turn(alloc: Global, reports: &[Report]) -> Result<Vec<&Row>, AllocError>
+    ensures { IfOk result
+        (λ rows. map (λ row. row.now) rows.items ≡ in_turn (map rows_in reports.now)) }
+{
+    let mut lists = VecDeque::new(alloc);
+    for report in reports {
+        lists.push_back(report.rows.iter())?;
+    }
+    taken_in_turn(alloc, lists)
+}
+
+// Takes the rows of the lists in turn. The first row of the first list comes, and what is left of that list goes behind the
+// others.
+#[inline(never)]
+fn taken_in_turn<I: Iterator>(alloc: Global, lists: VecDeque<I>) -> Result<Vec<I::Item>, AllocError>
+where
+    I::Item: Drop,
+    requires { All (λ list. I.can_next list × IsFinite (I.remaining list)) lists.items }
+    ensures { IfOk result (λ rows. (row_in : I.Item → Row) (lists_in : List (List Row))
+        → AllZip (AlwaysYields I.next_gives row_in) lists.items lists_in
+        → map row_in rows.items ≡ in_turn lists_in) }
+{
+    let mut lists = lists;
+    let mut rows = Vec::new(alloc);
+    while let Some(mut list) = lists.pop_front() {
+        if let Some(row) = list.next() {
+            rows.push(row)?;
+            lists.push_back(list)?;
+        }
+    }
+    Ok(rows)
+}

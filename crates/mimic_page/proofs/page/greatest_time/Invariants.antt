@@ -1,6 +1,0 @@
-use Rattle.std.proofs.Common.{◌≡◌, map, take}
-use Rattle.mimic_page.specs.Page.{greatest_time}
-use Rattle.mimic_page.proofs.page.greatest_time.Given as goal
-
-abbrev pub invariant-loop-row : goal.invariant-loop-row
-invariant-loop-row l = l.greatest ≡ greatest_time (map (λ row. row.outcome) (take l.row-index l.rows))

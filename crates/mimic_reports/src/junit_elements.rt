@@ -1,0 +1,206 @@
+//! Writes the elements of JUnit's XML.
+ghost use Rattle.std.specs.Prelude.{◌≡◌};
+ghost use Rattle.mimic_printer.specs.Sink.{HasFaultLeft, Puts};
+ghost use Rattle.mimic_events.specs.Contents.{entry_read};
+ghost use Rattle.mimic_reports.specs.Junit.{case_text, class_point, root_start, running_part, stop_text, suite_start};
+
+use mimic_events::{Row, Stop};
+use mimic_printer::{Piece, Place, Sink, WriteFault, put_pieces};
+use mimic_trial::Outcome;
+use std::io::Write;
+
+// What a report, or all reports together, say in numbers.
+#[derive(Clone, Copy, Debug, PartialEq, Eq)]
+pub(crate) struct Numbers {
+    pub(crate) tests: u128,
+    pub(crate) failures: u128,
+    pub(crate) errors: u128,
+    pub(crate) skipped: u128,
+    pub(crate) nanos: u64,
+}
+
+// Writes the beginning of an element that has the numbers as attributes.
+macro_rules! put_start {
+    ($sink:expr, $numbers:expr, $($front:expr),+) => {{
+        let pieces = [
+            $($front),+,
+            Piece::Text(" tests=\""),
+            Piece::Long($numbers.tests),
+            Piece::Text("\" failures=\""),
+            Piece::Long($numbers.failures),
+            Piece::Text("\" errors=\""),
+            Piece::Long($numbers.errors),
+            Piece::Text("\" skipped=\""),
+            Piece::Long($numbers.skipped),
+            Piece::Text("\" time=\""),
+            Piece::Seconds($numbers.nanos),
+            Piece::Text("\">\n"),
+        ];
+        put_pieces($sink, &pieces)
+    }};
+}
+
+// Writes the line of a row: its program, its kind, its name, and its end, which begins with the quote after the name.
+macro_rules! put_row {
+    ($sink:expr, $program:expr, $row:expr, $($end:expr),+) => {{
+        let kind = $row.kind.as_str();
+        let pieces = [
+            Piece::Text("    <testcase classname=\""),
+            Piece::Escaped($program, Place::Value),
+            Piece::Text(point(kind)),
+            Piece::Escaped(kind, Place::Value),
+            Piece::Text("\" name=\""),
+            Piece::Escaped($row.name.as_str(), Place::Value),
+            $($end),+
+        ];
+        put_pieces($sink, &pieces)
+    }};
+}
+
+// Writes what comes before the first report.
+#[tactic(auto, unfolding(crate::specs::Junit::root_start))]
+pub(crate) fn put_root_start<W: Write>(
+    sink: &mut Sink<W>,
+    numbers: &Numbers,
+) -> Result<(), WriteFault>
+    requires { HasFaultLeft sink.old }
+    ensures { Puts W.contents sink.old sink.new (root_start numbers.now) result }
+{
+    put_start!(
+        sink,
+        numbers,
+        Piece::Text("<?xml version=\"1.0\" encoding=\"UTF-8\"?>\n<testsuites")
+    )
+}
+
+// Writes what comes before the rows of a report.
+#[tactic(auto, unfolding(crate::specs::Junit::suite_start))]
+pub(crate) fn put_suite_start<'a, W: Write>(
+    sink: &mut Sink<W>,
+    program: &'a str,
+    numbers: &Numbers,
+) -> Result<(), WriteFault>
+    requires { HasFaultLeft sink.old }
+    ensures { Puts W.contents sink.old sink.new (suite_start program.now numbers.now) result }
+{
+    put_start!(
+        sink,
+        numbers,
+        Piece::Text("  <testsuite name=\""),
+        Piece::Escaped(program, Place::Value),
+        Piece::Text("\"")
+    )
+}
+
+fn point(kind: &str) -> &'static str
+    ensures { result.now ≡ class_point kind.now }
+{
+    if kind.is_empty() { "" } else { "." }
+}
+
+// Writes a row.
+#[tactic(auto, unfolding(crate::specs::Junit::case_text))]
+pub(crate) fn put_case<'a, W: Write>(
+    sink: &mut Sink<W>,
+    program: &'a str,
+    row: &'a Row,
+) -> Result<(), WriteFault>
+    requires { HasFaultLeft sink.old }
+    ensures { Puts W.contents sink.old sink.new (case_text program.now (entry_read row.now)) result }
+{
+    match &row.outcome {
+        Outcome::Passed => put_row!(sink, program, row, Piece::Text("\"/>\n")),
+        Outcome::Ignored => {
+            put_row!(
+                sink,
+                program,
+                row,
+                Piece::Text("\"><skipped/></testcase>\n")
+            )
+        }
+        Outcome::Failed(failed) => match failed.message() {
+            None => put_row!(
+                sink,
+                program,
+                row,
+                Piece::Text("\"><failure type=\"failed\"/></testcase>\n")
+            ),
+            Some(message) => put_row!(
+                sink,
+                program,
+                row,
+                Piece::Text("\"><failure type=\"failed\" message=\""),
+                Piece::FirstLine(message, Place::Value),
+                Piece::Text("\">"),
+                Piece::Escaped(message, Place::Content),
+                Piece::Text("</failure></testcase>\n")
+            ),
+        },
+        Outcome::Measured(measurement) => put_row!(
+            sink,
+            program,
+            row,
+            Piece::Text("\"><properties><property name=\"ns_per_iter\" value=\""),
+            Piece::Number(measurement.avg),
+            Piece::Text("\"/><property name=\"deviation\" value=\""),
+            Piece::Number(measurement.variance),
+            Piece::Text("\"/></properties></testcase>\n")
+        ),
+    }
+}
+
+// Writes that the report stopped after `ended` rows.
+pub(crate) fn put_stop<'a, W: Write>(
+    sink: &mut Sink<W>,
+    program: &'a str,
+    ended: u128,
+    stop: &'a Stop,
+) -> Result<(), WriteFault>
+    requires { HasFaultLeft sink.old }
+    ensures { Puts W.contents sink.old sink.new (stop_text program.now ended stop.now) result }
+{
+    let front = [
+        Piece::Text("    <testcase classname=\""),
+        Piece::Escaped(program, Place::Value),
+        Piece::Text("\" name=\"(whole report)\"><error type=\"incomplete\" message=\""),
+    ];
+    put_pieces(sink, &front)?;
+    stop.put_extent(sink, ended)?;
+    put_running(sink, stop)?;
+    sink.put(b"\"/></testcase>\n")
+}
+
+fn put_running<W: Write>(sink: &mut Sink<W>, stop: &Stop) -> Result<(), WriteFault>
+    requires { HasFaultLeft sink.old }
+    ensures { Puts W.contents sink.old sink.new (running_part stop.now.running) result }
+{
+    let Some(label) = &stop.running else {
+        return Ok(());
+    };
+    let pieces = [
+        Piece::Text("; running: "),
+        Piece::Bracketed(label.kind.as_str(), Place::Value),
+        Piece::Escaped(label.name.as_str(), Place::Value),
+    ];
+    put_pieces(sink, &pieces)
+}
+
+impl Numbers {
+    ghost use Rattle.std.specs.Prelude.{◌≡◌, MatchOption};
+    ghost use Rattle.mimic_reports.specs.Junit.{added};
+    ghost use Rattle.mimic_reports.specs.Suites.{IsTooGreat};
+
+    // Returns the sums of both, and `None` if one doesn't fit.
+    pub(crate) fn plus(&self, other: &Numbers) -> Option<Numbers>
+        ensures { MatchOption result (IsTooGreat (added self.now other.now))
+            (λ numbers. numbers ≡ added self.now other.now) }
+    {
+        Some(Numbers {
+            tests: self.tests.checked_add(other.tests)?,
+            failures: self.failures.checked_add(other.failures)?,
+            errors: self.errors.checked_add(other.errors)?,
+            skipped: self.skipped.checked_add(other.skipped)?,
+            nanos: self.nanos.checked_add(other.nanos)?,
+        })
+    }
+}

@@ -1,2 +1,0 @@
-pub mod AllShards
-pub mod MoreItems

@@ -1,2 +1,0 @@
-pub mod Shard
-pub mod Variables

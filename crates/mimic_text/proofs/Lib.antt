@@ -1,4 +1,0 @@
-pub mod Bounded
-pub mod Escapes
-pub mod ExactSeconds
-pub mod Grouping

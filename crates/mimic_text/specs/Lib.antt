@@ -1,4 +1,0 @@
-pub mod Text
-pub mod Escape
-pub mod Seconds
-pub mod Formats
