@@ -23,7 +23,7 @@ mod xorshift;
 ghost use Rattle.libtest_mimic.specs.Trial.{AllCanRun};
 
 use asked::{Asked, Runners};
-use libtest_mimic::{ArgumentsError, Clock, Failed, Outcome, RunError, Schedule, Task, Trial};
+use libtest_mimic::{ArgumentsError, Clock, Failed, Outcome, RunError, Task, Trial};
 use measured::Measured;
 use mimic_main::{Machine, MonotonicClock, Program, Sharding, Status, StillClock};
 use std::alloc::Global;
@@ -34,13 +34,9 @@ use std::time::Duration;
 use waits::Waits;
 use xorshift::rounds;
 
-const BENCH_SUITE: Program<'static> = Program {
-    name: "bench_suite",
-    threads: 1,
-    auto_colours: false,
-    prints_causes: true,
-    schedule: Schedule::Queue,
-};
+fn bench_suite() -> Program<'static> {
+    Program::new("bench_suite", 1)
+}
 
 // What a failing test says.
 const MESSAGE: &str = "the left side is not equal to the right!";
@@ -50,7 +46,7 @@ fn main(rt: HostRuntime) -> Status {
         Ok(asked) => measure(&rt, &asked),
         Err(error) => Ok(refuse(&rt, error)),
     };
-    BENCH_SUITE.end(&rt, ended)
+    bench_suite().end(&rt, ended)
 }
 
 // The tests as boxed closures. This is a macro since boxed closures are to be made by the function that hands them in.
@@ -130,7 +126,7 @@ fn failure(alloc: Global) -> Failed {
 fn refuse<M: Machine>(rt: &M, error: ArgumentsError) -> Status {
     let alloc = rt.alloc();
     let none: Result<Vec<Trial>, RunError> = Ok(Vec::new(alloc));
-    BENCH_SUITE.run_line(rt, Err(error), Ok(Sharding::none()), none)
+    bench_suite().run_line(rt, Err(error), Ok(Sharding::none()), none)
 }
 
 // Makes the tests and runs them, and prints what that took.
@@ -168,10 +164,7 @@ fn run_tests<M: Machine + Files + Eprint, R: Task + Send + 'static>(
     let mut err = rt.stderr();
     let mut clock = MonotonicClock::new(rt);
     let start = clock.now();
-    let program = Program {
-        schedule: asked.schedule,
-        ..BENCH_SUITE
-    };
+    let program = bench_suite().with_schedule(asked.schedule);
     let (_, status) = program.harness_run(
         &host,
         &host,

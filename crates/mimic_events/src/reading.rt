@@ -2,10 +2,10 @@
 ghost use Rattle.std.specs.Prelude.{MatchResult};
 ghost use Rattle.mimic_events.specs.Inputs.{GivesNone, IsReportIn};
 
+use crate::Report;
 use crate::ending::Ending;
 use crate::fault::ReadFault;
 use crate::rows_read::{RowsRead, read_rows};
-use crate::Report;
 use std::alloc::Global;
 use std::io::Read;
 

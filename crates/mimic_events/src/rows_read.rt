@@ -4,10 +4,10 @@ ghost use Rattle.mimic_events.specs.Contents.{entry_read};
 ghost use Rattle.mimic_events.specs.Inputs.{IsOfInput};
 ghost use Rattle.mimic_events.specs.Readings.{IsReading};
 
+use crate::Row;
 use crate::ending::Ending;
 use crate::fault::ReadFault;
 use crate::rows::InputRows;
-use crate::Row;
 use std::alloc::Global;
 use std::io::{ErrorKind, Read};
 

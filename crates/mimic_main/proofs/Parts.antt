@@ -8,7 +8,7 @@ use Rattle.mimic_args.specs.declared.error.ArgumentsError.{ArgumentsError}
 use Rattle.mimic_args.specs.declared.error.ArgumentsError.TheVariants.{OutOfMemory, Help, Refused}
 use Rattle.mimic_trial.specs.declared.trial.Trial.{Trial}
 use Rattle.libtest_mimic.specs.Suite.{Asked}
-use Rattle.mimic_trial.specs.Shard.{shard_from}
+use Rattle.mimic_trial.proofs.AllShards.{all_of_shard}
 use Rattle.mimic_trial.specs.declared.shard.Shard.{Shard}
 use Rattle.mimic_main.specs.Ended.{EndsAsAsked, EndsInPart, EndsSomehow}
 use Rattle.mimic_main.specs.Sharding.{HasFilterOf, IsPartFault, items_for, no_sharding, trials_of}
@@ -16,18 +16,9 @@ use Rattle.mimic_main.specs.declared.sharding.Sharding.{Sharding}
 use Rattle.mimic_main.specs.declared.sharding.ShardError.{ShardError}
 
 module _ {X : Type 0} (P : X → Type 0) where
-  all_kept : (b : Bool) (x : X) (xs : List X) → P x → All P xs → All P (cond b (x ∷ xs) xs)
-  all_kept true x xs p all = All-cons P x xs p all
-  all_kept false x xs p all = all
-
-  all_of_shard : (count place index : ℕ) (xs : List X) → All P xs → All P (shard_from count place index xs)
-  all_of_shard count place index [] all = all
-  all_of_shard count place index (x ∷ xs) all =
-      all_kept (eqb (place % count) index) x (shard_from count (place + 1) index xs) (All-head P x xs all) (all_of_shard count (place + 1) index xs (All-tail P x xs all))
-
   all_of_part : (shard : Option Shard) (xs : List X) → All P xs → All P (items_for shard xs)
   all_of_part None xs all = all
-  all_of_part (Some shard) xs all = all_of_shard shard.count 0 shard.index xs all
+  all_of_part (Some shard) xs all = all_of_shard P shard.count shard.index xs all
 
   pub all_taken : (shard : Option Shard) (xs taken : List X) → taken ≡ items_for shard xs → All P xs → All P taken
   all_taken shard xs taken e all = subst (All P) (sym e) (all_of_part shard xs all)

@@ -112,17 +112,13 @@ impl<'a> Program<'a> {
     /// and its workers take trials from one queue.
     pub fn on<M: Machine>(machine: &M, name: &'a str) -> Program<'a>
         ensures name { result.name.now ≡ name.now }
-        ensures threads { 1 ≤ result.threads }
         ensures causes { result.prints_causes ≡ true }
         ensures schedule { result.schedule ≡ Schedule.Queue }
     {
-        Program {
-            name,
-            threads: threads_at_once(&machine.host()),
-            auto_colours: shows_colours(machine, &machine.stdout()),
-            prints_causes: true,
-            schedule: Schedule::Queue,
-        }
+        Program::new(name, threads_at_once(&machine.host())).with_colours(shows_colours(
+            machine,
+            &machine.stdout(),
+        ))
     }
 
     /// Runs or lists the trials as the machine's command line asks, whatever the variables of its environment hold, and returns
@@ -134,8 +130,7 @@ impl<'a> Program<'a> {
         machine: &M,
         tests: Vec<Trial<R>>,
     ) -> Status
-        requires runnable { AllCanRun R.can_run tests.items }
-        requires some_thread { 1 ≤ self.now.threads }
+        requires { AllCanRun R.can_run tests.items }
         ensures { IsOfReadLine (EndsSomehow (asking R.gives self.now.threads self.now.auto_colours tests.items)) (number_of result) }
     {
         let line = Arguments::from_args(machine, machine.alloc());
@@ -156,8 +151,7 @@ impl<'a> Program<'a> {
         sharding: Result<Sharding, ShardError>,
         tests: Result<Vec<Trial<R>>, X>,
     ) -> Status
-        requires runnable { IfOk tests (λ made. AllCanRun R.can_run made.items) }
-        requires some_thread { 1 ≤ self.now.threads }
+        requires { IfOk tests (λ made. AllCanRun R.can_run made.items) }
         ensures made { IfOk tests
             (λ made. EndsAsAsked (asking R.gives self.now.threads self.now.auto_colours) made.items line sharding (number_of result)) }
         ensures refused { OnErr tests (number_of result ≡ 1) }
@@ -186,8 +180,7 @@ impl<'a> Program<'a> {
         tests: Vec<Trial<R>>,
         err: &mut M::Stderr,
     ) -> Status
-        requires runnable { AllCanRun R.can_run tests.items }
-        requires some_thread { 1 ≤ self.now.threads }
+        requires { AllCanRun R.can_run tests.items }
         ensures { EndsInPart (asking R.gives self.now.threads self.now.auto_colours) tests.items args sharding (number_of result) }
     {
         let host = machine.host();

@@ -1,5 +1,5 @@
 //! A program around a run, but for the machine that it runs on.
-ghost use Rattle.std.specs.Prelude.{◌≡◌, ◌≤◌, IfErr, IfOk, IsNone, IsSome};
+ghost use Rattle.std.specs.Prelude.{◌≡◌, ◌≤◌, IfErr, IfOk, IsNone, IsSome, false, true};
 ghost use Rattle.libtest_mimic.specs.Suite.{asking};
 ghost use Rattle.libtest_mimic.specs.Trial.{AllCanRun};
 ghost use Rattle.mimic_main.specs.Ended.{Ended, GotWithout, IfOfRun, number_of, status_of, status_without, status_without_part};
@@ -31,16 +31,69 @@ pub(crate) enum Fault {
 /// and what it prints of faults.
 #[derive(Clone, Copy, Debug, PartialEq, Eq)]
 pub struct Program<'a> {
-    /// Its name, which comes before what it prints of a fault.
-    pub name: &'a str,
-    /// How many threads run the trials if the line leaves it open, at least 1.
-    pub threads: usize,
-    /// Whether a report has colours if the line leaves it open and no logfile is set.
-    pub auto_colours: bool,
-    /// Whether a fault is printed with its cause: the path of the logfile, and what the system said.
-    pub prints_causes: bool,
-    /// How its trials come to workers if more than one thread runs them.
-    pub schedule: Schedule,
+    pub(crate) name: &'a str,
+    pub(crate) threads: usize,
+    pub(crate) auto_colours: bool,
+    pub(crate) prints_causes: bool,
+    pub(crate) schedule: Schedule,
+    pub ghost some_thread: { 1 ≤ threads },
+}
+
+impl<'a> Program<'a> {
+    /// Makes a program of this name, which is printed before a fault. This number of threads runs its trials if the line leaves it
+    /// open. Its reports have no colours, it prints faults with their causes, and its workers take trials from one queue.
+    pub fn new(name: &'a str, threads: usize) -> Program<'a>
+        requires { 1 ≤ threads }
+        ensures name { result.name.now ≡ name.now }
+        ensures threads { result.threads ≡ threads }
+        ensures colours { result.auto_colours ≡ false }
+        ensures causes { result.prints_causes ≡ true }
+        ensures schedule { result.schedule ≡ Schedule.Queue }
+    {
+        Program {
+            name,
+            threads,
+            auto_colours: false,
+            prints_causes: true,
+            schedule: Schedule::Queue,
+        }
+    }
+
+    /// Says whether its reports have colours if the line leaves it open and no logfile is set.
+    pub fn with_colours(mut self, auto_colours: bool) -> Program<'a>
+        ensures name { result.name ≡ self.entry.name }
+        ensures threads { result.threads ≡ self.entry.threads }
+        ensures colours { result.auto_colours ≡ auto_colours }
+        ensures causes { result.prints_causes ≡ self.entry.prints_causes }
+        ensures schedule { result.schedule ≡ self.entry.schedule }
+    {
+        self.auto_colours = auto_colours;
+        self
+    }
+
+    /// Leaves out of what it prints of a fault the path of the logfile, and what the system said.
+    pub fn without_causes(mut self) -> Program<'a>
+        ensures name { result.name ≡ self.entry.name }
+        ensures threads { result.threads ≡ self.entry.threads }
+        ensures colours { result.auto_colours ≡ self.entry.auto_colours }
+        ensures causes { result.prints_causes ≡ false }
+        ensures schedule { result.schedule ≡ self.entry.schedule }
+    {
+        self.prints_causes = false;
+        self
+    }
+
+    /// Says how its trials come to workers if more than one thread runs them.
+    pub fn with_schedule(mut self, schedule: Schedule) -> Program<'a>
+        ensures name { result.name ≡ self.entry.name }
+        ensures threads { result.threads ≡ self.entry.threads }
+        ensures colours { result.auto_colours ≡ self.entry.auto_colours }
+        ensures causes { result.prints_causes ≡ self.entry.prints_causes }
+        ensures schedule { result.schedule ≡ schedule }
+    {
+        self.schedule = schedule;
+        self
+    }
 }
 
 impl Program<'_> {
@@ -68,8 +121,7 @@ impl Program<'_> {
         err: &mut E,
         clock: C,
     ) -> (O, Status)
-        requires runnable { AllCanRun R.can_run tests.items }
-        requires some_thread { 1 ≤ self.now.threads }
+        requires { AllCanRun R.can_run tests.items }
         ensures { Ended (asking R.gives self.now.threads self.now.auto_colours tests.items) line
             (O.contents out) (O.contents result.0) (number_of result.1) }
     {

@@ -93,7 +93,10 @@ enum Part {
 }
 
 // Writes the failures of the rows, and nothing if none failed.
-pub(crate) fn put_if_any<W: Write, R: ShownRows>(sink: &mut Sink<W>, rows: &R) -> Result<(), WriteFault>
+pub(crate) fn put_if_any<W: Write, R: ShownRows>(
+    sink: &mut Sink<W>,
+    rows: &R,
+) -> Result<(), WriteFault>
     requires room { HasFaultLeft sink.old }
     requires can_show { R.can_show rows.now }
     ensures { Puts W.contents sink.old sink.new (failures_if_any (R.rows_of rows.now)) result }
@@ -131,7 +134,11 @@ fn put_failures<W: Write, R: ShownRows>(sink: &mut Sink<W>, rows: &R) -> Result<
 }
 
 // Writes this part of each row that failed.
-fn put_each<W: Write, R: ShownRows>(sink: &mut Sink<W>, rows: &R, part: Part) -> Result<(), WriteFault>
+fn put_each<W: Write, R: ShownRows>(
+    sink: &mut Sink<W>,
+    rows: &R,
+    part: Part,
+) -> Result<(), WriteFault>
     requires room { HasFaultLeft sink.old }
     requires can_show { R.can_show rows.now }
     ensures { Puts W.contents sink.old sink.new

@@ -12,7 +12,7 @@ ghost use Rattle.mimic_printer.specs.EscapeLaws.{EscapeLaws};
 ghost use Rattle.mimic_reports.specs.declared.junit.JunitFault.TheVariants.{Write as WriteStopped};
 
 use crate::junit_elements::{Numbers, put_case, put_root_start, put_stop, put_suite_start};
-use crate::suite::{SuiteRows, Suite, numbers_counted, rows_counted};
+use crate::suite::{Suite, SuiteRows, numbers_counted, rows_counted};
 use mimic_events::{Ending, InputRows, ReadFault, Row, counts_of_rows};
 use mimic_printer::{Sink, WriteFault};
 use mimic_trial::Conclusion;

@@ -24,21 +24,6 @@ use Rattle.mimic_events.specs.declared.report.Report.{Report}
 use Rattle.mimic_roundtrip.specs.Run.{TellsRun}
 use Rattle.mimic_roundtrip.specs.Joined.{IsEntryOf, RunsTell, TellsTrials}
 
--- ---- what is in a shard
-
-module _ {A : Type 0} (P : A → Type 0) where
-  all_if : (b : Bool) (x : A) (xs : List A) → P x → All P xs → All P (cond b (x ∷ xs) xs)
-  all_if true x xs here rest = All-cons P x xs here rest
-  all_if false x xs here rest = rest
-
-  all_from : (count place index : ℕ) (xs : List A) → All P xs → All P (shard_from count place index xs)
-  all_from count place index [] all = all
-  all_from count place index (x ∷ xs) all =
-      all_if (eqb (place % count) index) x (shard_from count (place + 1) index xs) (All-head P x xs all) (all_from count (place + 1) index xs (All-tail P x xs all))
-
-  pub all_of_shard : (count index : ℕ) (xs : List A) → All P xs → All P (shard_of count index xs)
-  all_of_shard count index xs all = all_from count 0 index xs all
-
 -- ---- a permutation of places is one of what is at them
 
 module _ {A B : Type 0} (f : A → B) where

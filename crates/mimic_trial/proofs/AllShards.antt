@@ -1,11 +1,12 @@
 -- The shards of all indices have together each item once, and each part of an item once.
-use Rattle.std.proofs.Common.{◌≡◌, ◌≢◌, ℕ, zero, suc, ◌+◌, ◌%◌, ◌<◌, ◌≤◌, Bool, true, false, cond, eqb, List, [], ◌∷◌, ◌++◌, refl, sym, ap, ap₂, subst, arith, inl, inr, append_assoc}
+use Rattle.std.proofs.Common.{◌≡◌, ◌≢◌, ℕ, zero, suc, ◌+◌, ◌%◌, ◌<◌, ◌≤◌, All, Bool, true, false, cond, eqb, List, [], ◌∷◌, ◌++◌, refl, sym, ap, ap₂, subst, arith, inl, inr, append_assoc}
 use Rattle.std.specs.List.{flat_map, range_with_len}
 use Rattle.std.specs.Prelude.{IsPermutation}
 use Rattle.std.proofs.lemmas.Bool.{cases_eq, cases_lt, eq-eqb, ne_eqb}
+use Rattle.std.proofs.lemmas.List.Elements.{All-cons, All-head, All-tail}
 use Rattle.std.proofs.lemmas.List.Sorted.{IsPermutation-refl, IsPermutation-trans, IsPermutation-append_comm, IsPermutation-append_left, IsPermutation-append_right}
 use Rattle.std.proofs.lemmas.Nat.{mod_below}
-use Rattle.mimic_trial.specs.Shard.{shard_from, ShardsAreAll}
+use Rattle.mimic_trial.specs.Shard.{ShardsAreAll, shard_from, shard_of}
 
 module _ {X : Type 0} where
   pub to_front : (xs ks ys : List X) → IsPermutation (xs ++ (ks ++ ys)) (ks ++ (xs ++ ys))
@@ -79,3 +80,18 @@ module _ {X : Type 0} where
       let all = parts_of_shards (λ (x : X). x ∷ []) count xs some in
       let same = same_lists (λ index. flat_map (λ (x : X). x ∷ []) (shard_from count 0 index xs)) (λ index. shard_from count 0 index xs) (λ index. itself (shard_from count 0 index xs)) (range_with_len 0 count) in
       subst (λ (l : List X). IsPermutation l xs) same (subst (IsPermutation _) (itself xs) all)
+
+-- ---- what holds of all elements holds of all in a shard
+
+module _ {A : Type 0} (P : A → Type 0) where
+  all_if : (b : Bool) (x : A) (xs : List A) → P x → All P xs → All P (cond b (x ∷ xs) xs)
+  all_if true x xs here rest = All-cons P x xs here rest
+  all_if false x xs here rest = rest
+
+  all_from : (count place index : ℕ) (xs : List A) → All P xs → All P (shard_from count place index xs)
+  all_from count place index [] all = all
+  all_from count place index (x ∷ xs) all =
+      all_if (eqb (place % count) index) x (shard_from count (place + 1) index xs) (All-head P x xs all) (all_from count (place + 1) index xs (All-tail P x xs all))
+
+  pub all_of_shard : (count index : ℕ) (xs : List A) → All P xs → All P (shard_of count index xs)
+  all_of_shard count index xs all = all_from count 0 index xs all

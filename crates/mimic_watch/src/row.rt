@@ -6,8 +6,8 @@ ghost use Rattle.mimic_trial.specs.Text.{grouped};
 ghost use Rattle.mimic_watch.specs.Rows.{average_text, label_text, line_text, lines_noun, measured_text, message_lines, message_text, more_text, row_text, variance_text};
 
 use itoa::Buffer;
-use mimic_printer::{Place, push_escaped};
 use mimic_events::Row;
+use mimic_printer::{Place, push_escaped};
 use mimic_trial::{Measurement, Outcome, thousands};
 use std::alloc::AllocError;
 

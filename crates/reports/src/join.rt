@@ -2,8 +2,8 @@
 use crate::input::Input;
 use crate::line::Join;
 use crate::{BLOCK, REFUSED, SUCCESS, TRIALS_FAILED};
-use mimic_printer::Sink;
 use mimic_join::{JoinFault, join_reports};
+use mimic_printer::Sink;
 use mimic_trial::Conclusion;
 use std::alloc::Global;
 use std::io::BufWriter;

@@ -4,8 +4,8 @@ use crate::input::{Input, name_of};
 use crate::line::Page;
 use crate::{BLOCK, SUCCESS};
 use mimic_events::{Ending, ReadFault, RowsRead, read_rows};
-use mimic_reports::write_page;
 use mimic_printer::Sink;
+use mimic_reports::write_page;
 use std::alloc::Global;
 use std::io::BufWriter;
 

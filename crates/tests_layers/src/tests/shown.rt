@@ -1,7 +1,9 @@
 //! What `Debug` shows of each public type that has it, as Rust's derives write it, and the texts of errors.
 use mimic_args::{Arguments, ArgumentsError, ColorSetting, Line, UnstableFlags};
 use mimic_printer::{Printer, WriteFault};
-use mimic_trial::{Conclusion, Failed, FormatSetting, Measurement, Outcome, TestInfo, Trial, UnknownFormat};
+use mimic_trial::{
+    Conclusion, Failed, FormatSetting, Measurement, Outcome, TestInfo, Trial, UnknownFormat,
+};
 use std::alloc::{AllocError, Global};
 use std::fmt::{Debug, Display};
 use std::io;

@@ -1,5 +1,8 @@
 //! Writers that fail once and then are well: a report is whole, or a beginning of it is written and nothing is done any more.
-use libtest_mimic::{Arguments, Conclusion, Failed, FormatSetting, Outcome, RunError, Schedule, Sink, Task, Trial, WriteFault};
+use libtest_mimic::{
+    Arguments, Conclusion, Failed, FormatSetting, Outcome, RunError, Schedule, Sink, Task, Trial,
+    WriteFault,
+};
 use mimic_main::{FlushPolicy, Job, Output, StillClock, run_into};
 use mimic_testkit::{Fault, FaultyWriter, Place};
 use std::alloc::{AllocError, Global};

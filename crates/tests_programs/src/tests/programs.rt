@@ -1,11 +1,12 @@
 //! What a program reports, and the status that it ends with.
-ghost use Rattle.std.specs.Prelude.{◌≤◌};
 ghost use Rattle.libtest_mimic.specs.Trial.{AllCanRun};
 
 use super::outputs::Marked;
 use super::runs::{Host, run_tests};
 use libtest_mimic::pool::{Arrival, Untold};
-use libtest_mimic::{Arguments, Failed, FormatSetting, Outcome, RunError, Schedule, Task, Trial, WriteFault};
+use libtest_mimic::{
+    Arguments, Failed, FormatSetting, Outcome, RunError, Schedule, Task, Trial, WriteFault,
+};
 use mimic_main::{FlushPolicy, Program, StillClock};
 use mimic_testkit::{Fault, FaultyWriter, Place};
 use std::alloc::{AllocError, Global};
@@ -17,21 +18,13 @@ use std::sync::atomic::{AtomicU64, Ordering};
 use std::test::Fail;
 use std::{fs, io, thread};
 
-const PLAIN: Program<'static> = Program {
-    name: "plain",
-    threads: 4,
-    auto_colours: false,
-    prints_causes: false,
-    schedule: Schedule::Queue,
-};
+fn plain() -> Program<'static> {
+    Program::new("plain", 4).without_causes()
+}
 
-const TELLING: Program<'static> = Program {
-    name: "telling",
-    threads: 4,
-    auto_colours: true,
-    prints_causes: true,
-    schedule: Schedule::Queue,
-};
+fn telling() -> Program<'static> {
+    Program::new("telling", 4).with_colours(true)
+}
 
 // A test that passes.
 #[derive(Drop)]
@@ -84,7 +77,6 @@ fn run_program<H: Host, R: Task + Send + 'static, O: Write + IsTerminal + Drop>(
     out: O,
 ) -> Result<Left<O>, Fail>
     requires runnable { AllCanRun R.can_run tests.items }
-    requires some_thread { 1 ≤ program.now.threads }
 {
     let alloc = rt.alloc();
     let mut err: Vec<u8> = Vec::new(alloc);
@@ -108,9 +100,7 @@ fn run_one<H: Host, O: Write + IsTerminal + Drop>(
     program: &Program<'_>,
     args: Arguments,
     out: O,
-) -> Result<Left<O>, Fail>
-    requires { 1 ≤ program.now.threads }
-{
+) -> Result<Left<O>, Fail> {
     run_program(rt, program, args, passing(rt.alloc(), &["a"])?, out)
 }
 
@@ -234,7 +224,7 @@ fn shows_what_runs_and_what_has_ended(rt: HostRuntime) -> Result<(), Fail> {
         for logfile in [None, Some(path)] {
             let args = asking(rt.alloc(), look.0, Some(look.1), logfile)?;
             let out = fs::create(&rt, if logfile.is_some() { "/dev/null" } else { path })?;
-            let left = run_program(&rt, &PLAIN, args, finders(rt, look, path)?, out)?;
+            let left = run_program(&rt, &plain(), args, finders(rt, look, path)?, out)?;
             assert!(rt; left.status == ExitCode::SUCCESS, "{:?} {}", look.0, look.1);
         }
     }
@@ -287,7 +277,7 @@ fn runs_nothing_without_a_title(rt: HostRuntime) -> Result<(), Fail> {
     let path = "runs_nothing_without_a_title";
     for row in &UNTITLED {
         let args = asking(rt.alloc(), row.0, Some(row.1), row.2)?;
-        let left = run_program(&rt, &PLAIN, args, leavers(rt, path)?, narrow(rt.alloc()))?;
+        let left = run_program(&rt, &plain(), args, leavers(rt, path)?, narrow(rt.alloc()))?;
         let is_told = left.err.as_str() == "plain: cannot write the report\n";
         assert!(rt;
             is_told && left.status == ExitCode::from(1),
@@ -346,11 +336,7 @@ static SCHEDULED: [(Schedule, u64, u8); 2] = [
 #[test]
 fn deals_out_or_queues(rt: HostRuntime) -> Result<(), Fail> {
     for (schedule, looks, status) in &SCHEDULED {
-        let program = Program {
-            threads: 2,
-            schedule: *schedule,
-            ..PLAIN
-        };
+        let program = Program::new("plain", 2).with_schedule(*schedule);
         let args = Arguments::new(rt.alloc());
         let tests = eight_tests(rt.alloc(), *looks)?;
         let left = run_program(&rt, &program, args, tests, FaultyWriter::new(rt.alloc()))?;
@@ -405,7 +391,7 @@ fn writes_so<H: Host>(
     let args = asking(alloc, *format, Some(*threads), None)?;
     let mut out = Marked::new(alloc, usize::MAX);
     out.is_terminal = *is_terminal;
-    let left = run_one(host, &PLAIN, args, out)?;
+    let left = run_one(host, &plain(), args, out)?;
     let marks = left.out.marks.as_slice();
     let len = first.len().saturating_add(second.len());
     Ok(
@@ -445,7 +431,7 @@ static REPORTS: [&str; 2] = [
 fn run_two<H: Host>(rt: &H, threads: usize, out: FaultyWriter) -> Result<Left<FaultyWriter>, Fail> {
     let alloc = rt.alloc();
     let args = asking(alloc, FormatSetting::Json, Some(threads), None)?;
-    run_program(rt, &TELLING, args, passing(alloc, &["a", "b"])?, out)
+    run_program(rt, &telling(), args, passing(alloc, &["a", "b"])?, out)
 }
 
 // Whether the line reports this fault. A write of nothing is reported by the sink, or as an error by the buffer.
@@ -553,13 +539,13 @@ fn shows_values_of_programs(rt: HostRuntime) -> Result<(), Fail> {
     check_debug(&rt, alloc, &StillClock, "StillClock")?;
     let program =
         "Program { name: \"telling\", threads: 4, auto_colours: true, prints_causes: true, schedule: Queue }";
-    check_debug(&rt, alloc, &TELLING, program)
+    check_debug(&rt, alloc, &telling(), program)
 }
 
 #[test]
 fn shows_a_status(rt: HostRuntime) -> Result<(), Fail> {
     let mut err: Vec<u8> = Vec::new(rt.alloc());
-    let status = PLAIN.refuse(RunError::Spawn, &mut err);
+    let status = plain().refuse(RunError::Spawn, &mut err);
     let shown = format!(in rt.alloc(); "{status:?}");
     assert!(rt; status.report(&rt) == ExitCode::from(1));
     assert!(rt; shown?.as_str() == "Status { number: 1 }");

@@ -1,5 +1,4 @@
 //! Runs of a program over writers that a test hands in.
-ghost use Rattle.std.specs.Prelude.{◌≤◌};
 ghost use Rattle.libtest_mimic.specs.Trial.{AllCanRun};
 
 use libtest_mimic::{Arguments, ArgumentsError, Spawner, Task, Trial};
@@ -23,7 +22,6 @@ fn run_promising_nothing<H: Host, R: Task + Send + 'static, O: Write + IsTermina
     err: &mut E,
 ) -> (O, Status)
     requires runnable { AllCanRun R.can_run tests.items }
-    requires some_thread { 1 ≤ program.now.threads }
 {
     let alloc = host.alloc();
     program.harness_run(host, host, alloc, line, tests, out, err, StillClock)
@@ -39,7 +37,6 @@ pub(super) fn run_tests<H: Host, R: Task + Send + 'static, O: Write + IsTerminal
     err: &mut E,
 ) -> (O, ExitCode)
     requires runnable { AllCanRun R.can_run tests.items }
-    requires some_thread { 1 ≤ program.now.threads }
 {
     let (out, status) = run_promising_nothing(host, program, line, tests, out, err);
     (out, status.report(host))

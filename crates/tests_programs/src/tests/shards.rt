@@ -3,7 +3,7 @@ use super::known_machine::{
     NO_OPTIONS, PRESENT_SECONDS, Streams, Variables, Words, known_machine, run_on,
 };
 use super::runs::Host;
-use libtest_mimic::{Outcome, RunError, Schedule, Task, Trial};
+use libtest_mimic::{Outcome, RunError, Task, Trial};
 use mimic_main::Program;
 use std::alloc::Global;
 use std::fs;
@@ -344,14 +344,6 @@ fn prints_first_why_tests_were_not_made(rt: HostRuntime) {
     assert!(rt; streams.have_only_printed(alloc, "program: cannot start a worker\n"));
 }
 
-const UNSHARDED: Program<'static> = Program {
-    name: "unsharded",
-    threads: 1,
-    auto_colours: false,
-    prints_causes: true,
-    schedule: Schedule::Queue,
-};
-
 // `Program::run` goes by the line alone.
 #[test]
 fn runs_without_variables(rt: HostRuntime) -> Result<(), Fail> {
@@ -360,7 +352,8 @@ fn runs_without_variables(rt: HostRuntime) -> Result<(), Fail> {
     let streams = Streams::new(alloc);
     let mut machine = known_machine(rt, alloc, NO_OPTIONS, &streams);
     machine.variables = &[(TOTAL, b"5"), (INDEX, b"x"), (ONLY, b"a")];
-    let status = UNSHARDED.run(&machine, five_tests(alloc, &runs)?);
+    let unsharded = Program::new("unsharded", 1);
+    let status = unsharded.run(&machine, five_tests(alloc, &runs)?);
     assert!(rt; status.report(&rt) == ExitCode::SUCCESS);
     assert!(rt; runs.load(Ordering::SeqCst) == 11111 && streams.err.writes.get() == 0);
     Ok(())

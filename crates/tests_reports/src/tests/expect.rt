@@ -6,8 +6,8 @@ use super::lines::{
 };
 use super::reading::Slow;
 use super::writers::{check_stops, has_stopped};
-use mimic_expect::{Expectation, InputEnd, KnownFault, Verdict, read_known, write_unexpected};
 use mimic_events::Ending;
+use mimic_expect::{Expectation, InputEnd, KnownFault, Verdict, read_known, write_unexpected};
 use mimic_printer::{OutputFault, Sink};
 use mimic_testkit::{Fault, FaultyWriter, Place};
 use std::alloc::{AllocError, Global};

@@ -4,8 +4,8 @@ use super::lines::{
 };
 use super::writers::{check_stops, has_stopped};
 use mimic_events::RowsRead;
-use mimic_reports::write_page;
 use mimic_printer::{Sink, WriteFault};
+use mimic_reports::write_page;
 use mimic_testkit::{Fault, FaultyWriter, Place};
 use std::alloc::Global;
 use std::io::Write;

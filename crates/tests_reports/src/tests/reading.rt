@@ -1,7 +1,7 @@
 //! Reports that are read from readers, and texts of readers that are no reports.
 use super::joining::shown;
-use mimic_printer::Sink;
 use mimic_join::{JoinFault, join_reports};
+use mimic_printer::Sink;
 use mimic_testkit::{Fault, FaultyWriter, Place};
 use mimic_trial::Conclusion;
 use std::alloc::Global;

@@ -14,5 +14,9 @@ returns-in_err-put_kept-in-Kept g c = on_error _ (Write c.in_err-put_kept-in-Kep
 pub returns : goal.returns
 returns g c =
     MatchResult-weaker c.put_counted.result c.put_counted.ensures
-    (λ x h. (h.0, again_shown g.I.Read.remaining c.args.suite c.in-Again.input c.in-Again.counts c.numbers-numbers.result h.0
-    c.in-Again.is c.numbers-numbers.ensures h.1 h.2 h.3, h.4)) (λ y h. h)
+    (λ x h. (
+      h.0,
+      again_shown g.I.Read.remaining c.args.suite c.in-Again.input c.in-Again.counts c.numbers-numbers.result h.0
+          c.in-Again.is c.numbers-numbers.ensures h.1 h.2 h.3,
+      h.4,
+    )) (λ y h. h)

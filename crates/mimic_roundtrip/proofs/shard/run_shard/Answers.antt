@@ -1,7 +1,8 @@
 use Rattle.std.proofs.Common.{All, subst, sym}
 use Rattle.mimic_trial.specs.Trial.{runner_of}
 use Rattle.mimic_roundtrip.proofs.ShardLaws.{shard_laws}
-use Rattle.mimic_roundtrip.proofs.ShardRuns.{all_of_shard, run_tells}
+use Rattle.mimic_trial.proofs.AllShards.{all_of_shard}
+use Rattle.mimic_roundtrip.proofs.ShardRuns.{run_tells}
 use Rattle.mimic_roundtrip.proofs.shard.run_shard.Goals as goal
 
 pub run_to_report-requires-clause-runnable : goal.run_to_report-requires-clause-runnable

@@ -9,7 +9,7 @@ use Rattle.mimic_main.proofs.program.Program.run_part.Goals as goal
 pub run-ran-requires-clause-runnable : goal.run-ran-requires-clause-runnable
 run-ran-requires-clause-runnable g c κs within =
     let CanRun : Trial g.row.R.Denot → Type 0 = λ t. g.R.Task.can_run (runner_of t) in
-    all_taken CanRun c.args.sharding.shard c.args.tests.items c.in-Ok.part.1.items c.in-Ok.ensures.trials c.requires.runnable
+    all_taken CanRun c.args.sharding.shard c.args.tests.items c.in-Ok.part.1.items c.in-Ok.ensures.trials c.requires
 
 pub returns : goal.returns
 returns g c =

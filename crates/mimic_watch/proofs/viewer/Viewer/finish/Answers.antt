@@ -17,9 +17,11 @@ returns-in_err-put_moment-clause-put g c =
 pub returns-in_err-put_last-clause-put : goal.returns-in_err-put_last-clause-put
 returns-in_err-put_last-clause-put g c =
     let verdict = c.new-verdict.result in
-    on_error _ (Write c.in_err-put_last.field-0.0) _ _ c.from_residual-in_err-put_last.ensures.1
-    (last_text verdict.counts verdict.ending, last_is verdict.counts verdict.ending,
-    Put-Stopped _ _ (rw c.deref.ensures.value at c.in_ok-put_moment.ensures) c.in_err-put_last.ensures)
+    on_error _ (Write c.in_err-put_last.field-0.0) _ _ c.from_residual-in_err-put_last.ensures.1 (
+      last_text verdict.counts verdict.ending,
+      last_is verdict.counts verdict.ending,
+      Put-Stopped _ _ (rw c.deref.ensures.value at c.in_ok-put_moment.ensures) c.in_err-put_last.ensures,
+    )
 
 pub returns-clause-verdict : goal.returns-clause-verdict
 returns-clause-verdict g c = λ bytes put waiting h. (
