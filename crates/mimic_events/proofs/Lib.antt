@@ -1,4 +1,5 @@
 pub mod Begun
+pub mod Counted
 pub mod Digits
 pub mod EndedLines
 pub mod Endings

@@ -9,7 +9,7 @@ use Rattle.mimic_trial.specs.declared.outcome.Outcome.TheVariants.{Passed, Faile
 use Rattle.mimic_trial.specs.declared.outcome.conclusion.Conclusion.{Conclusion}
 use Rattle.mimic_trial.specs.Count.{HasRoom, counted, counts_of, is_failed, is_ignored_outcome, is_measured, is_passed}
 use Rattle.mimic_trial.proofs.Counting.{HasRoom-counts}
-use Rattle.mimic_watch.proofs.Seeing.{few, one_counted}
+use Rattle.mimic_events.proofs.Counted.{few, one_counted}
 use Rattle.mimic_printer.specs.Json.{Entry}
 use Rattle.mimic_events.specs.Contents.{entry_read}
 use Rattle.mimic_events.specs.Feed.{AreEnded}

@@ -6,6 +6,7 @@ ghost use Rattle.libtest_mimic.specs.Stopwatch.{IsFresh};
 ghost use Rattle.libtest_mimic.specs.Trial.{AllCanRun};
 ghost use Rattle.mimic_events.specs.Contents.{contents_read};
 ghost use Rattle.mimic_roundtrip.specs.Joined.{ShardLaws, TellsTrials};
+ghost use Rattle.mimic_roundtrip.specs.Run.{TellsRun};
 ghost use Rattle.mimic_trial.specs.Shard.{shard_of};
 
 use crate::run_to_report;
@@ -29,7 +30,12 @@ pub fn run_shard<R: Task, C: Clock>(
     requires runnable { AllCanRun R.can_run tests.items }
     requires fresh { IsFresh watch.old }
 
-    // The report is one of the trials of this shard.
+    // The conclusion has the report's counts, and the report has the trials of this shard in their order, and the time of the watch.
+    ensures run { IfOk result
+        (λ told. TellsRun R.gives args.now (shard_of shard.count shard.index tests.items)
+        watch.new told.0 (contents_read told.1)) }
+
+    // So it is a report of the trials of this shard, as one by any number of threads is.
     ensures tells { IfOk result
         (λ told. TellsTrials R.gives args.now (shard_of shard.count shard.index tests.items)
         (contents_read told.1)) }

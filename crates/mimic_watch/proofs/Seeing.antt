@@ -1,31 +1,20 @@
 -- Rows that have ended, one after another.
-use Rattle.std.proofs.Common.{◌≡◌, inl, inr, ℕ, ◌-◌, ◌<◌, ◌^◌, List, [], ◌∷◌, ◌++◌, length, length-append, refl, sym, ap, ◌∙◌, subst, arith, append_assoc, append-nil}
-use Rattle.std.proofs.lemmas.List.{length-map, map-append, flat_map_more}
+use Rattle.std.proofs.Common.{◌≡◌, ℕ, ◌-◌, ◌<◌, ◌^◌, List, [], ◌∷◌, ◌++◌, length, length-append, refl, sym, ap, ◌∙◌, subst, arith, append_assoc, append-nil}
+use Rattle.std.proofs.lemmas.List.{length-map, flat_map_more}
 use Rattle.mimic_trial.specs.declared.outcome.conclusion.Conclusion.{Conclusion}
 use Rattle.mimic_trial.specs.Count.{HasRoom, counted, counts_of}
-use Rattle.mimic_trial.proofs.Counting.{HasRoom-counts, counts-push}
+use Rattle.mimic_trial.proofs.Counting.{HasRoom-counts}
 use Rattle.mimic_printer.specs.Json.{Entry}
 use Rattle.mimic_events.specs.Contents.{entry_read}
-use Rattle.mimic_events.specs.Feed.{AreEnded}
 use Rattle.mimic_events.specs.Follower.{FollowsOn, FollowsRow, HasFollowed}
 use Rattle.mimic_events.specs.declared.report.Row.{Row}
+use Rattle.mimic_events.proofs.Counted.{few, one_counted}
 use Rattle.mimic_watch.specs.declared.viewer.Viewer.{Viewer}
 use Rattle.mimic_watch.specs.Moments.{outcomes_in}
 use Rattle.mimic_watch.specs.Rows.{row_text}
 use Rattle.mimic_watch.specs.Watching.{HasSeen, SeesOn, SeesRow}
 
 -- ---- one row
-
--- there is room for one more
-pub few : (bytes : List ℕ) (entries : List Entry) (e : Entry) → AreEnded bytes (entries ++ e ∷ []) → length entries < 2 ^ 64 - 1
-few bytes entries e h = elim h.begun [
-  | inl none ↦ absurd (omega (arith, ap length none, length-append entries (e ∷ [])))
-  | inr b ↦ omega (arith, b.within, b.number, length-append entries (e ∷ []))
-]
-
--- one more outcome
-pub one_counted : (entries : List Entry) (e : Entry) → counted (counts_of (outcomes_in entries) 0) e.outcome ≡ counts_of (outcomes_in (entries ++ e ∷ [])) 0
-one_counted entries e = sym (rw (map-append, counts-push))
 
 -- a row was followed, and then counted
 pub row_seen : (old mid new : Viewer) (bytes front : List ℕ) (put waiting : List Entry) (e : Entry) → FollowsOn old.follower front mid.follower (e ∷ [])

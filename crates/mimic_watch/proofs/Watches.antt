@@ -19,7 +19,7 @@ use Rattle.mimic_watch.specs.declared.viewer.Viewer.{Viewer}
 use Rattle.mimic_watch.specs.Moments.{AreMomentsAfter, IsDrawn, IsMoment, Moment, ended_in, moment_text, moments_text}
 use Rattle.mimic_watch.specs.Watched.{AreCounts, HasFailed, HasWatched, IsLast, IsLeft, last_text}
 use Rattle.mimic_watch.proofs.Seeing.{none_seen}
-use Rattle.mimic_watch.specs.Watching.{HasSeen, IsWatching, PutsSeen, SeesOn, StaysSeen, put_text}
+use Rattle.mimic_watch.specs.Watching.{HasSeen, IsLastSeen, IsWatching, PutsSeen, SeesOn, StaysSeen, put_text}
 
 -- ---- one moment more
 
@@ -125,7 +125,7 @@ module _ (live : Bool) (start now : Option (List ℕ)) (a b c : Shown) (w : View
   }
 
   -- a fault at that moment, or at last
-  pub moment_left : (fault : OutputFault) (last : List ℕ) → IsLast last → LeftBy fault b c (put_text erases w.waiting.items drawn ++ last)
+  pub moment_left : (fault : OutputFault) (last : List ℕ) → IsLast start (ended_in h.moments ++ h.waiting) last → LeftBy fault b c (put_text erases w.waiting.items drawn ++ last)
       → HasFailed live start now a c (Write fault)
   moment_left output.OutOfMemory last is left =
       subst (λ (x : Shown). HasFailed live start now a x (Write output.OutOfMemory)) (sym left)
@@ -139,7 +139,7 @@ module _ (live : Bool) (start now : Option (List ℕ)) (a b c : Shown) (w : View
     each = each_now;
     ended = subst (AreEnded h.bytes) none_waits h.seen.followed.ended;
     last = last;
-    is_last = is;
+    is_last = subst (λ (es : List Entry). IsLast start es last) (sym (more_ended h.moments moment)) is;
     left = subst (Stopped a c) (all_text last) (Put-Stopped (moments_text h.moments) (put_text erases w.waiting.items drawn ++ last) h.put left);
   }
 
@@ -156,6 +156,13 @@ module _ (live : Bool) (start now : Option (List ℕ)) (a b c : Shown) (w : View
         put = subst (Put a c) (all_text (last_text verdict.counts verdict.ending))
             (Put-trans (moments_text h.moments) (put_text erases w.waiting.items drawn ++ last_text verdict.counts verdict.ending) h.put p);
       }
+
+-- what is put at last is of the rows that have ended
+pub last_seen : (live : Bool) (start now : Option (List ℕ)) (a b : Shown) (w : Viewer) (h : IsWatching live start now a b w) (last : List ℕ) → IsOver now h.bytes
+    → IsLastSeen w last → IsLast start (ended_in h.moments ++ h.waiting) last
+last_seen live start now a b w h last over (inl none) = inl none
+last_seen live start now a b w h last over (inr v) =
+    let ends = v.1 h.bytes (ended_in h.moments) h.waiting h.seen in inr (v.0, ends.0 start now h.gone over, ends.1, v.2)
 
 -- ---- turns of the loop
 

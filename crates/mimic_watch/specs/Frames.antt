@@ -1,6 +1,7 @@
 -- What is drawn below the rows, or in a line of its own: how far the run is.
-use Rattle.std.specs.Prelude.{ℕ, ◌+◌, ◌≤◌, ◌==◌, min, nat_lt, if◌then◌else◌, List, [], ◌∷◌, ◌++◌, length, take, drop, codes, decimal, Option, Some, None}
-use Rattle.std.specs.List.{AllByRecursion}
+use Rattle.std.specs.Prelude.{ℕ, ◌+◌, ◌≤◌, ◌==◌, ◌||◌, min, nat_lt, if◌then◌else◌, List, [], ◌∷◌, ◌++◌, length, take, drop, codes, decimal, Option, Some, None}
+use Rattle.std.specs.List.{AllByRecursion, flat_map}
+use Rattle.mimic_printer.specs.Row.{Label}
 use Rattle.mimic_watch.specs.declared.frame.View.{View}
 
 -- a bar of six cells, of which `cells` are filled
@@ -31,6 +32,24 @@ left_part (Some left) = codes " " ++ (decimal left ++ codes "s left")
 unfoldable pub first_line : View → List ℕ
 first_line v = with_parts (bar v.cells) ((decimal v.ended ++ []) ∷ announced_part v.announced ∷ failed_part v.failed
     ∷ (codes " " ++ (decimal v.elapsed ++ codes "s")) ∷ left_part v.left ∷ [])
+
+-- a byte of a text in UTF-8, with a question mark for each character that is no printable one of ASCII: how wide others are isn't
+-- known. Bytes from 128 to 191 are no character's first.
+abbrev pub plain_byte : ℕ → List ℕ
+plain_byte b = if nat_lt b 128 then (if nat_lt b 32 || nat_lt 126 b then 63 ∷ [] else b ∷ [])
+    else (if nat_lt b 192 then [] else 63 ∷ [])
+
+abbrev pub plain_text : List ℕ → List ℕ
+plain_text text = flat_map plain_byte text
+
+-- for how many seconds no row has ended, and which trial runs, if that is known
+abbrev pub waiting_text : Option Label → ℕ → List ℕ
+waiting_text None quiet = codes "nothing ended for " ++ (decimal quiet ++ codes "s")
+waiting_text (Some label) quiet = codes "waiting " ++ (decimal quiet ++ (codes "s for " ++ label.name))
+
+-- the second line: as much of that as fits into 39 columns, and nothing in the first two seconds
+abbrev pub second_line : Option Label → ℕ → List ℕ
+second_line running quiet = if nat_lt quiet 2 then [] else take 39 (plain_text (waiting_text running quiet))
 
 -- the line has at most 39 columns, each a printable character of ASCII
 pub record FitsLine (line : List ℕ) : Type 0 where

@@ -5,9 +5,11 @@ use Rattle.std.specs.List.{flat_map}
 use Rattle.mimic_trial.specs.declared.outcome.Outcome.{Outcome}
 use Rattle.mimic_trial.specs.Count.{is_failed}
 use Rattle.mimic_printer.specs.Json.{Entry}
-use Rattle.mimic_events.specs.SoFar.{BeginsWithTitle}
+use Rattle.mimic_printer.specs.Row.{Label}
+use Rattle.mimic_events.specs.Feed.{AreEnded}
+use Rattle.mimic_events.specs.SoFar.{BeginsWithTitle, ShowsRunning}
 use Rattle.mimic_watch.specs.declared.frame.View.{View}
-use Rattle.mimic_watch.specs.Frames.{FitsLine, erase, first_line, frame}
+use Rattle.mimic_watch.specs.Frames.{FitsLine, erase, first_line, frame, second_line}
 use Rattle.mimic_watch.specs.Rows.{row_text}
 
 -- one moment: whether what was drawn is erased, the rows that have ended since the moment before, and what is drawn
@@ -24,16 +26,26 @@ abbrev pub drawn_text : Bool → View → List ℕ → List ℕ
 drawn_text true view second = frame (first_line view) second
 drawn_text false view second = first_line view ++ codes "\n"
 
--- what is drawn says how many of these rows there are, how many failed, and how many the input's title announces, once that has come;
--- and no line of it is wider than 39 columns
+-- a front of the text has exactly these rows, and shows that the trial was announced after them and has no outcome
+pub record RunsAfter (entries : List Entry) (label : Label) (text : List ℕ) : Type 0 where
+  pub bytes : List ℕ
+  pub rest : List ℕ
+  pub parts : text ≡ bytes ++ rest
+  pub ended : AreEnded bytes entries
+  pub shows : ShowsRunning label bytes
+
+-- what is drawn says how many of these rows there are, how many failed, and how many the input's title announces, once that has come.
+-- The second line names no trial, or the one that runs. No line of it is wider than 39 columns.
 pub record IsDrawing (start : Option (List ℕ)) (live : Bool) (entries : List Entry) (drawn : List ℕ) : Type 0 where
   pub view : View
-  pub second : List ℕ
+  pub running : Option Label
+  pub quiet : ℕ
   pub ended : view.ended ≡ length entries
   pub failed : view.failed ≡ count_by is_failed (outcomes_in entries)
   pub announced : IfSome view.announced (λ n. IfSome start (BeginsWithTitle n))
-  pub fits : FitsLine second
-  pub text : drawn ≡ drawn_text live view second
+  pub runs : IfSome running (λ label. IfSome start (RunsAfter entries label))
+  pub fits : FitsLine (second_line running quiet)
+  pub text : drawn ≡ drawn_text live view (second_line running quiet)
 
 -- nothing is drawn, or how far the run is
 abbrev pub IsDrawn : Option (List ℕ) → Bool → List Entry → List ℕ → Type 0

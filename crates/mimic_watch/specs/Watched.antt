@@ -59,9 +59,10 @@ IsLeft (Read fault) old new text last = Put old new text
 IsLeft (Write output.OutOfMemory) old new text last = Put old new text
 IsLeft (Write (output.Write error)) old new text last = Stopped old new (text ++ last)
 
--- nothing, or the summary of some report
-abbrev pub IsLast : List ℕ → Type 0
-IsLast last = (last ≡ []) ⊎ ((counts : Conclusion) × (nanos : ℕ) × (last ≡ plain_summary counts nanos))
+-- nothing, or the summary of the report that the input is, which has these rows
+abbrev pub IsLast : Option (List ℕ) → List Entry → List ℕ → Type 0
+IsLast start entries last = (last ≡ []) ⊎ ((verdict : Verdict) × IfSome start (IsReading entries verdict.ending)
+    × AreCounts entries verdict × (last ≡ last_text verdict.counts verdict.ending))
 
 -- some bytes were read; what was put shows rows that have ended in a front of them, from the first one on, each once
 pub record HasFailed (live : Bool) (start end : Option (List ℕ)) (old new : Shown) (fault : WatchFault) : Type 0 where
@@ -73,5 +74,5 @@ pub record HasFailed (live : Bool) (start end : Option (List ℕ)) (old new : Sh
   pub each : AreMomentsAfter start live [] moments
   pub ended : AreEnded bytes (ended_in moments ++ waiting)
   pub last : List ℕ
-  pub is_last : IsLast last
+  pub is_last : IsLast start (ended_in moments) last
   pub left : IsLeft fault old new (moments_text moments) last

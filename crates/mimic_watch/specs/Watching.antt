@@ -1,5 +1,5 @@
 -- What a watch knows on the way. No public clause names these words.
-use Rattle.std.specs.Prelude.{◌≡◌, ℕ, ◌+◌, ◌-◌, ◌<◌, ◌^◌, Bool, true, if◌then◌else◌, List, [], ◌++◌, length, Result, MatchResult, Option}
+use Rattle.std.specs.Prelude.{◌≡◌, ◌⊎◌, ℕ, ◌+◌, ◌-◌, ◌<◌, ◌^◌, Bool, true, if◌then◌else◌, List, [], ◌++◌, length, Result, MatchResult, Option}
 use Rattle.std.specs.Io.KnownBytes.{Consumes}
 use Rattle.std.specs.List.{flat_map}
 use Rattle.mimic_trial.specs.Count.{HasRoom, counted, counts_of}
@@ -7,13 +7,14 @@ use Rattle.mimic_printer.specs.Json.{Entry}
 use Rattle.mimic_printer.specs.Sink.{Put, Shown}
 use Rattle.mimic_printer.specs.declared.sink.OutputFault.{OutputFault}
 use Rattle.mimic_events.specs.Follower.{HasFollowed}
-use Rattle.mimic_events.specs.Readings.{IsOver}
+use Rattle.mimic_events.specs.Readings.{EndsAs, IsOver}
+use Rattle.mimic_watch.specs.declared.verdict.Verdict.{Verdict}
 use Rattle.mimic_watch.specs.declared.verdict.WatchFault.TheVariants.{Write}
 use Rattle.mimic_watch.specs.declared.viewer.Viewer.{Viewer}
 use Rattle.mimic_watch.specs.Frames.{erase}
 use Rattle.mimic_watch.specs.Moments.{AreMomentsAfter, IsDrawn, Moment, ended_in, moments_text, outcomes_in}
 use Rattle.mimic_watch.specs.Rows.{row_text}
-use Rattle.mimic_watch.specs.Watched.{HasFailed}
+use Rattle.mimic_watch.specs.Watched.{AreCounts, HasFailed, last_text}
 
 -- ---- what has come
 
@@ -53,6 +54,15 @@ StaysSeen old new = (bytes : List ℕ) (put waiting : List Entry) → HasSeen ol
 abbrev pub DrawsSeen : Viewer → List ℕ → Type 0
 DrawsSeen w drawn = (start now : Option (List ℕ)) (bytes : List ℕ) (put waiting : List Entry) → Consumes start now bytes → HasSeen w bytes put waiting
     → IsDrawn start w.live (put ++ waiting) drawn
+
+-- what has come is over, and is what the verdict says
+abbrev pub EndsSeen : Viewer → Verdict → Type 0
+EndsSeen w verdict = (bytes : List ℕ) (put waiting : List Entry) → HasSeen w bytes put waiting
+    → EndsAs bytes (put ++ waiting) verdict.ending × AreCounts (put ++ waiting) verdict
+
+-- nothing, or the summary of such a verdict
+abbrev pub IsLastSeen : Viewer → List ℕ → Type 0
+IsLastSeen w last = (last ≡ []) ⊎ ((verdict : Verdict) × EndsSeen w verdict × (last ≡ last_text verdict.counts verdict.ending))
 
 -- ---- what is put
 

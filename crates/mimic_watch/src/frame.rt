@@ -1,6 +1,8 @@
 //! The two lines below the rows: how far the run is.
-ghost use Rattle.std.specs.Prelude.{◌≡◌, ◌≤◌, ◌++◌, IfOk, OnOk, decimal};
-ghost use Rattle.mimic_watch.specs.Frames.{FitsLine, announced_part, bar, failed_part, first_line, frame, left_part, with_part};
+ghost use Rattle.std.specs.Prelude.{◌≡◌, ◌≤◌, ◌++◌, IfOk, OnOk, decimal, length, option_map, take};
+ghost use Rattle.std.specs.Option.{option_to_list};
+ghost use Rattle.mimic_events.specs.Contents.{label_read};
+ghost use Rattle.mimic_watch.specs.Frames.{announced_part, bar, failed_part, first_line, frame, left_part, plain_byte, plain_text, second_line, with_part};
 
 use itoa::Buffer;
 use mimic_events::Label;
@@ -123,7 +125,8 @@ pub(crate) fn second_line(
     running: Option<&Label>,
     quiet: u64,
 ) -> Result<Vec<u8>, AllocError>
-    ensures { IfOk result (λ line. FitsLine line.items) }
+    ensures { IfOk result (λ line. line.items
+        ≡ second_line (option_map (λ label. label_read label.now) running.entry) quiet) }
 {
     let mut line = Vec::new(alloc);
     if quiet < LONG {
@@ -131,47 +134,47 @@ pub(crate) fn second_line(
     }
     let mut seconds = Buffer::new();
     let seconds = seconds.format(quiet).as_bytes();
-    if let Some(label) = running {
-        push_plain(&mut line, b"waiting ")?;
-        push_plain(&mut line, seconds)?;
-        push_plain(&mut line, b"s for ")?;
-        push_plain(&mut line, label.name.as_bytes())?;
-    } else {
+    let Some(label) = running else {
         push_plain(&mut line, b"nothing ended for ")?;
         push_plain(&mut line, seconds)?;
         push_plain(&mut line, b"s")?;
-    }
+        return Ok(line);
+    };
+    push_plain(&mut line, b"waiting ")?;
+    push_plain(&mut line, seconds)?;
+    push_plain(&mut line, b"s for ")?;
+    push_plain(&mut line, label.name.as_bytes())?;
     Ok(line)
 }
 
-// So many seconds without a row are said to be long.
+// The number of seconds from which it is long that no row has ended.
 const LONG: u64 = 2;
 
 // Appends what the line has room for, with a question mark for each character that isn't a printable one of ASCII: how wide
 // others are isn't known.
 fn push_plain(line: &mut Vec<u8>, text: &[u8]) -> Result<(), AllocError>
-    requires { FitsLine line.old.items }
-    ensures { OnOk result (FitsLine line.new.items) }
+    requires { length line.old.items ≤ 39 }
+    ensures { OnOk result ((line.new.items ≡ take 39 (line.old.items ++ plain_text text.now))
+        × (length line.new.items ≤ 39)) }
 {
     for byte in text {
         if line.len() >= COLUMNS {
-            break;
+            return Ok(());
         }
-        if byte.is_ascii() {
-            line.push(plain(*byte))?;
-        } else if *byte >= 192 {
-            line.push(b'?')?;
+        if let Some(plain) = plain(*byte) {
+            line.push(plain)?;
         }
     }
     Ok(())
 }
 
-fn plain(byte: u8) -> u8
-    ensures { (32 ≤ result) × (result ≤ 126) }
+// Returns what the line has for a byte of a text: `None` for a byte that begins no character.
+fn plain(byte: u8) -> Option<u8>
+    ensures { option_to_list result ≡ plain_byte byte }
 {
-    if byte < b' ' || byte > b'~' {
-        b'?'
-    } else {
-        byte
+    match byte {
+        b' '..=b'~' => Some(byte),
+        128..=191 => None,
+        _ => Some(b'?'),
     }
 }

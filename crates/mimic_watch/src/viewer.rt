@@ -1,6 +1,7 @@
 //! Shows a report as it comes.
 ghost use Rattle.std.specs.Prelude.{◌≡◌, MatchResult, OnOk};
 ghost use Rattle.mimic_printer.specs.Sink.{HasFaultLeft, LeavesText, Puts, shown};
+ghost use Rattle.mimic_watch.specs.Frames.{FirstLinesFit};
 ghost use Rattle.mimic_watch.specs.Watched.{HasFailed, HasWatched, last_text};
 ghost use Rattle.mimic_watch.specs.Watching.{put_text};
 
@@ -41,6 +42,7 @@ struct Viewer {
 /// On a terminal (`live`) two lines below say how far the run is, at most ten times a second; each time it is one write, which leaves
 /// the terminal as it was. Else a line reports this every ten seconds, with no escape sequence. A reader that returns
 /// `TimedOut` or `WouldBlock` says that nothing has come for a while. Rows that have passed are not kept.
+#[tactic(auto, using(crate::proofs::Laws::first_lines_fit))]
 pub fn watch<I: Read, W: Write, C: Clock>(
     alloc: Global,
     input: &mut I,
@@ -49,9 +51,12 @@ pub fn watch<I: Read, W: Write, C: Clock>(
     live: bool,
 ) -> Result<Verdict, WatchFault>
     requires { HasFaultLeft sink.old }
-    ensures { MatchResult result
+    ensures watched { MatchResult result
         (HasWatched live (I.remaining input.old) (shown W.contents sink.old) (shown W.contents sink.new))
         (HasFailed live (I.remaining input.old) (I.remaining input.new) (shown W.contents sink.old) (shown W.contents sink.new)) }
+
+    // No first line is wider than 39 columns.
+    ensures law { FirstLinesFit }
 {
     let mut now = nanos(clock, 0);
     let mut viewer = Viewer::new(alloc, live, now);
@@ -87,9 +92,8 @@ impl Viewer {
     ghost use Rattle.mimic_printer.specs.Sink.{HasFaultLeft, LeftBy, Put, shown};
     ghost use Rattle.mimic_events.specs.Contents.{entry_read};
     ghost use Rattle.mimic_watch.specs.Moments.{IsDrawing};
-    ghost use Rattle.mimic_watch.specs.Watched.{AreCounts, IsLast, last_text};
-    ghost use Rattle.mimic_events.specs.Readings.{EndsAs};
-    ghost use Rattle.mimic_watch.specs.Watching.{DrawsSeen, HasSeen, ReadsOn, SeesOn, SeesRow, ShowsOn, StaysSeen, put_text};
+    ghost use Rattle.mimic_watch.specs.Watched.{last_text};
+    ghost use Rattle.mimic_watch.specs.Watching.{DrawsSeen, EndsSeen, HasSeen, IsLastSeen, ReadsOn, SeesOn, SeesRow, ShowsOn, StaysSeen, put_text};
 
     fn new(alloc: Global, live: bool, now: u64) -> Viewer
         ensures seen { HasSeen result [] [] [] }
@@ -238,13 +242,11 @@ impl Viewer {
     // Puts what waits, and the summary of a whole report.
     fn finish<W: Write>(self, sink: &mut Sink<W>) -> Result<Verdict, OutputFault>
         requires { HasFaultLeft sink.old }
-        ensures verdict { IfOk result (λ verdict. (bytes : List ℕ) (put waiting : List Entry)
-            → HasSeen self bytes put waiting
-            → EndsAs bytes (put ++ waiting) verdict.ending × AreCounts (put ++ waiting) verdict) }
+        ensures verdict { IfOk result (EndsSeen self) }
         ensures put { MatchResult result
             (λ verdict. Put (shown W.contents sink.old) (shown W.contents sink.new)
             (put_text self.live self.waiting.items [] ++ last_text verdict.counts verdict.ending))
-            (λ fault. (last : List ℕ) × IsLast last × LeftBy fault (shown W.contents sink.old) (shown W.contents sink.new)
+            (λ fault. (last : List ℕ) × IsLastSeen self last × LeftBy fault (shown W.contents sink.old) (shown W.contents sink.new)
             (put_text self.live self.waiting.items [] ++ last)) }
     {
         let Viewer {

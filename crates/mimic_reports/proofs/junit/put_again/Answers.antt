@@ -4,7 +4,7 @@ use Rattle.mimic_printer.proofs.Appending.{Put-Stopped, Put-trans}
 use Rattle.mimic_events.specs.Contents.{entry_read}
 use Rattle.mimic_reports.specs.declared.junit.JunitFault.TheVariants.{Write}
 use Rattle.mimic_reports.specs.Junit.{case_text}
-use Rattle.mimic_watch.proofs.Ending.{on_error}
+use Rattle.mimic_events.proofs.Results.{on_error}
 use Rattle.mimic_reports.proofs.RowCounts.{has_room, push}
 use Rattle.mimic_reports.proofs.SuiteText.{one_more_row}
 use Rattle.mimic_reports.proofs.junit.put_again.Goals as goal

@@ -4,7 +4,7 @@ use Rattle.mimic_printer.proofs.Appending.{Put-Stopped, Put-trans}
 use Rattle.mimic_reports.specs.declared.junit.JunitFault.TheVariants.{Write}
 use Rattle.mimic_reports.specs.Junit.{Suite, case_text, suite_start}
 use Rattle.mimic_reports.proofs.RowCounts.{numbers_are, rows_counted_are}
-use Rattle.mimic_watch.proofs.Ending.{on_error}
+use Rattle.mimic_events.proofs.Results.{on_error}
 use Rattle.mimic_reports.proofs.SuiteText.{left_after, suite_put}
 use Rattle.mimic_reports.proofs.junit.put_counted.Goals as goal
 

@@ -1,5 +1,5 @@
 use Rattle.mimic_reports.specs.declared.junit.JunitFault.TheVariants.{Write}
-use Rattle.mimic_watch.proofs.Ending.{on_error}
+use Rattle.mimic_events.proofs.Results.{on_error}
 use Rattle.std.proofs.lemmas.Result.{MatchResult-weaker}
 use Rattle.mimic_reports.proofs.SuiteText.{again_shown, kept_shown}
 use Rattle.mimic_reports.proofs.junit.put_suite.Goals as goal

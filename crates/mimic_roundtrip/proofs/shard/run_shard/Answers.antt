@@ -10,6 +10,9 @@ run_to_report-requires-clause-runnable g c =
     subst (All (λ t. g.R.Task.can_run (runner_of t))) (sym c.in_ok-trials.ensures.shard)
     (all_of_shard (λ t. g.R.Task.can_run (runner_of t)) c.args.shard.count c.args.shard.index c.args.tests.items c.requires.runnable)
 
+pub returns-clause-run : goal.returns-clause-run
+returns-clause-run g c = rw c.in_ok-trials.ensures.shard at c.run_to_report.ensures
+
 pub returns-clause-tells : goal.returns-clause-tells
 returns-clause-tells g c = run_tells g.R.Task.gives c.args.args.now c.in_ok-trials.trials.items _ c.run_to_report.new.watch c.run_to_report.result c.in_ok-trials.ensures.shard c.run_to_report.ensures
 

@@ -1,7 +1,7 @@
 use Rattle.std.proofs.Common.{[], arith, inl, refl, rules}
 use Rattle.mimic_watch.specs.declared.verdict.WatchFault.TheVariants.{Read, Write}
-use Rattle.mimic_watch.proofs.Ending.{on_error}
-use Rattle.mimic_watch.proofs.Watches.{begin, failed, moment_last, moment_left, take_on}
+use Rattle.mimic_events.proofs.Results.{on_error}
+use Rattle.mimic_watch.proofs.Watches.{begin, failed, last_seen, moment_last, moment_left, take_on}
 use Rattle.mimic_watch.proofs.viewer.watch.Goals as goal
 
 pub loop-init : goal.loop-init
@@ -10,31 +10,32 @@ loop-init g c = record {
   room = omega arith;
 }
 
-pub returns-in_err-read : goal.returns-in_err-read
-returns-in_err-read g c =
+pub returns-in_err-read-clause-watched : goal.returns-in_err-read-clause-watched
+returns-in_err-read-clause-watched g c =
     let fault = Read c.in_err-read.field-0.0 in
     let before = c.loop.invariant.watching in
     on_error _ fault _ _ c.from_residual.ensures.1
     (failed _ _ _ _ _ _ _ before fault _ c.in_err-read.ensures.fault.1 before.put)
 
-pub returns-in_err-finish : goal.returns-in_err-finish
-returns-in_err-finish g c =
+pub returns-in_err-finish-clause-watched : goal.returns-in_err-finish-clause-watched
+returns-in_err-finish-clause-watched g c =
     let r = c.in_ok-read.ensures.read in
     let last = take_on _ _ _ _ _ _ _ c.loop.invariant.watching _ _ r.gone r.seen r.live in
     let left = c.in_err-finish.ensures.put in
+    let is = last_seen _ _ _ _ _ _ last left.0 (r.last (search rules) last.bytes _ last.waiting last.seen) left.1 in
     on_error _ (Write c.in_err-finish.field-0.0) _ _ c.from_residual-in_err-finish.ensures.1
-    (moment_left _ _ _ _ _ _ _ last _ [] (λ live. live) (inl refl) _ left.0 left.1 left.2)
+    (moment_left _ _ _ _ _ _ _ last _ [] (λ live. live) (inl refl) _ left.0 is left.2)
 
-pub returns-then-branch : goal.returns-then-branch
-returns-then-branch g c =
+pub returns-then-branch-clause-watched : goal.returns-then-branch-clause-watched
+returns-then-branch-clause-watched g c =
     let r = c.in_ok-read.ensures.read in
     let last = take_on _ _ _ _ _ _ _ c.loop.invariant.watching _ _ r.gone r.seen r.live in
     moment_last _ _ _ _ _ _ _ last _ [] (λ live. live) (inl refl) _
     (r.last (search rules) last.bytes _ last.waiting last.seen) c.in_ok-finish.ensures.put
     (c.in_ok-finish.ensures.verdict last.bytes _ last.waiting last.seen)
 
-pub returns-in_err-show : goal.returns-in_err-show
-returns-in_err-show g c =
+pub returns-in_err-show-clause-watched : goal.returns-in_err-show-clause-watched
+returns-in_err-show-clause-watched g c =
     let r = c.in_ok-read.ensures.read in
     let next = take_on _ _ _ _ _ _ _ c.loop.invariant.watching _ _ r.gone r.seen r.live in
     on_error _ (Write c.in_err-show.field-0.0) _ _ c.from_residual-in_err-show.ensures.1

@@ -1,9 +1,10 @@
-use Rattle.std.proofs.Common.{[], ◌++◌, inl, refl, sym, subst}
+use Rattle.std.proofs.Common.{[], ◌++◌, inl, inr, refl, sym, subst}
 use Rattle.mimic_printer.proofs.Appending.{Put-Stopped, Put-trans}
 use Rattle.mimic_printer.specs.declared.sink.OutputFault.TheVariants.{OutOfMemory, Write}
 use Rattle.mimic_watch.specs.Watched.{last_text}
 use Rattle.mimic_events.specs.Readings.{EndsAs}
-use Rattle.mimic_watch.proofs.Ending.{last_is, left_alone, on_error}
+use Rattle.mimic_events.proofs.Results.{on_error}
+use Rattle.mimic_watch.proofs.Ending.{left_alone}
 use Rattle.mimic_watch.proofs.viewer.Viewer.finish.Goals as goal
 
 pub returns-in_err-ending-clause-put : goal.returns-in_err-ending-clause-put
@@ -19,7 +20,14 @@ returns-in_err-put_last-clause-put g c =
     let verdict = c.new-verdict.result in
     on_error _ (Write c.in_err-put_last.field-0.0) _ _ c.from_residual-in_err-put_last.ensures.1 (
       last_text verdict.counts verdict.ending,
-      last_is verdict.counts verdict.ending,
+      inr (
+        verdict,
+        (λ bytes put waiting h. (
+          subst (EndsAs bytes (put ++ waiting)) (sym c.new-verdict.ensures.ending) (c.in_ok-ending.ensures bytes _ h.followed),
+          c.new-verdict.ensures.counts (put ++ waiting) h.counts,
+        )),
+        refl,
+      ),
       Put-Stopped _ _ (rw c.deref.ensures.value at c.in_ok-put_moment.ensures) c.in_err-put_last.ensures,
     )
 

@@ -1,6 +1,7 @@
 use Rattle.std.proofs.Common.{◌≡◌, true, [], inl, refl, rules}
 use Rattle.mimic_watch.specs.Watching.{DrawsSeen}
-use Rattle.mimic_watch.proofs.Ending.{left_alone, on_error}
+use Rattle.mimic_events.proofs.Results.{on_error}
+use Rattle.mimic_watch.proofs.Ending.{left_alone}
 use Rattle.mimic_watch.proofs.Watches.{moment_left, moment_put, stay}
 use Rattle.mimic_watch.proofs.viewer.Viewer.show.Goals as goal
 
