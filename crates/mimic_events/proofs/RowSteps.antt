@@ -1,5 +1,5 @@
 -- The rows of an input, one after another.
-use Rattle.std.proofs.Common.{◌≡◌, inr, ℕ, ◌+◌, ◌-◌, ◌≤◌, true, List, [], ◌∷◌, ◌++◌, Option, Some, None, is_some, length, length-append, length-drop, take, drop, refl, sym, ap, ap₂, subst, ◌∙◌, append_assoc, append-nil, arith}
+use Rattle.std.proofs.Common.{◌≡◌, inr, ℕ, ◌+◌, ◌-◌, ◌≤◌, true, List, [], ◌∷◌, ◌++◌, Option, Some, None, IfSome, is_some, length, length-append, length-drop, take, drop, refl, sym, ap, ap₂, subst, ◌∙◌, append_assoc, append-nil, arith}
 use Rattle.std.specs.Io.KnownBytes.{Consumes}
 use Rattle.std.proofs.Math.Seq.{drop-append_seam}
 use Rattle.std.proofs.lemmas.List.{drop-drop, drop-take, length-take-le}
@@ -10,6 +10,7 @@ use Rattle.mimic_events.specs.Reading.{Decodes}
 use Rattle.mimic_events.specs.SoFar.{IsFirstWrong}
 use Rattle.mimic_events.specs.Follower.{FollowsOn, FollowsRow, HasFollowed}
 use Rattle.mimic_events.specs.declared.rows.InputRows.{InputRows}
+use Rattle.mimic_events.specs.Readings.{HasEndedRows}
 use Rattle.mimic_events.specs.RowByRow.{HasCome, HasEnded, IsReady, pending}
 
 -- what is left of a part of a list behind a front of it
@@ -55,6 +56,15 @@ module _ {I : Type 0} (remaining : I → Option (List ℕ)) where
         followed = f.followed h.bytes entries h.followed;
         gone = rw (input, behind, append_assoc h.bytes f.front left, ← parts) h.gone;
       }
+
+  -- the rows that have come have ended in what the input had
+  pub rows_before : (start : Option (List ℕ)) (r : InputRows I) (entries : List Entry) → HasCome remaining start r entries → IfSome start (HasEndedRows entries)
+  rows_before None r entries h = tt
+  rows_before (Some all) r entries h = at (remaining r.input) h.gone
+    where
+      at : (rest : Option (List ℕ)) → Consumes (Some all) rest (h.bytes ++ pending remaining r) → HasEndedRows entries all
+      at None gone = absurd gone
+      at (Some rest) gone = record { front = h.bytes; rest = pending remaining r ++ rest; parts = gone ∙ append_assoc h.bytes (pending remaining r) rest; ended = h.followed.ended }
 
   -- all that was read was followed
   pub none_came : (start : Option (List ℕ)) (old new : InputRows I) (items : List ℕ) (entries : List Entry)

@@ -27,6 +27,13 @@ pub record IsStopped (bytes : List ℕ) (entries : List Entry) (stop : Stop) : T
   pub running : Decodes ShowsRunning front (option_map label_read stop.running)
   pub wrong : Decodes IsFirstWrong front stop.wrong_line
 
+-- these rows have ended in a front of the bytes
+pub record HasEndedRows (entries : List Entry) (bytes : List ℕ) : Type 0 where
+  pub front : List ℕ
+  pub rest : List ℕ
+  pub parts : bytes ≡ front ++ rest
+  pub ended : AreEnded front entries
+
 -- these rows have ended in the bytes, and this is how they end
 abbrev pub IsReading : List Entry → Ending → List ℕ → Type 0
 IsReading entries (Whole filtered_out nanos) bytes = IsWhole bytes entries filtered_out nanos

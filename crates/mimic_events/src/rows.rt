@@ -8,7 +8,7 @@ ghost use Rattle.mimic_events.specs.RowByRow.{HasCome, HasEnded, IsReady, pendin
 
 use crate::ending::Ending;
 use crate::fault::ReadFault;
-use crate::piece::{PIECE, read_piece};
+use crate::input::{PIECE, read_piece};
 use crate::{Follower, Row};
 use std::alloc::{AllocError, Global};
 use std::io::{ErrorKind, Read};

@@ -3,7 +3,6 @@ use Rattle.std.proofs.Common.{◌≡◌, ◌||◌, ℕ, ◌+◌, ◌-◌, ◌<�
 use Rattle.std.specs.Prelude.{MatchResult, filter}
 use Rattle.std.specs.List.{AllZip, flat_map, list_any}
 use Rattle.std.specs.Result.{IsErrAnd}
-use Rattle.std.specs.Io.KnownBytes.{Consumes}
 use Rattle.std.proofs.lemmas.List.{map-append}
 use Rattle.std.proofs.lemmas.List.Concat.{flat_map-append}
 use Rattle.std.proofs.lemmas.List.Elements.{filter-append}
@@ -19,13 +18,11 @@ use Rattle.mimic_events.specs.Key.{label_in, same_label}
 use Rattle.mimic_events.specs.declared.report.Row.{Row}
 use Rattle.mimic_events.proofs.Keys.{same_label-symm}
 use Rattle.mimic_events.specs.Feed.{AreEnded}
-use Rattle.mimic_events.specs.RowByRow.{HasCome, pending}
-use Rattle.mimic_events.specs.declared.rows.InputRows.{InputRows}
 use Rattle.mimic_expect.specs.Expect.{FailedRow, is_known, rows_with, unknown_failures}
 use Rattle.mimic_expect.specs.FindingText.{finding_text}
 use Rattle.mimic_expect.specs.Judge.{Judged, Judges, labels_known}
 use Rattle.mimic_expect.specs.Known.{Expected, expected_read}
-use Rattle.mimic_expect.specs.Verdict.{HasEndedRows, HasLeft, InputRead, rows_of}
+use Rattle.mimic_expect.specs.Verdict.{HasLeft, InputRead, rows_of}
 use Rattle.mimic_printer.specs.declared.sink.OutputFault.{OutputFault}
 use Rattle.mimic_printer.specs.declared.sink.OutputFault.TheVariants.{OutOfMemory, Write}
 use Rattle.mimic_expect.specs.declared.known.Expectation.{Expectation}
@@ -93,17 +90,6 @@ room bytes entries e a b count s t h j =
     ] in
     omega (arith, counted, lacking, failing, few)
 
--- ---- an input that failed
-
-pub rows_before : {I : Type 0} (remaining : I → Option (List ℕ)) (start : Option (List ℕ)) (r : InputRows I) (entries : List Entry) → HasCome remaining start r entries
-    → IfSome start (λ bytes. HasEndedRows bytes entries)
-rows_before remaining None r entries h = tt
-rows_before remaining (Some all) r entries h = at (remaining r.input) h.gone
-  where
-    at : (rest : Option (List ℕ)) → Consumes (Some all) rest (h.bytes ++ pending remaining r) → HasEndedRows all entries
-    at None gone = absurd gone
-    at (Some rest) gone = record { front = h.bytes; rest = pending remaining r ++ rest; parts = gone ∙ append_assoc h.bytes (pending remaining r) rest; ended = h.followed.ended }
-
 -- ---- a row that a judge takes
 
 pub row_kept : (self : Judged) (known : List Expectation) (rows new : List Row) (row : Row) (s : Shown) → self ≡ record { known = map expected_read known; rows = map entry_read rows }
@@ -136,12 +122,6 @@ left_after a b c text OutOfMemory p left = (text ++ left.0, Put-trans text left.
 left_after a b c text (Write fault) p left = (text ++ left.0, Put-Stopped text left.0 p left.1)
 
 -- ---- inputs, one after another
-
-pub each_more : {A B : Type 0} (R : A → B → Type 0) (xs : List A) (ys : List B) (x : A) (y : B) → AllZip R xs ys → R x y → AllZip R (xs ++ x ∷ []) (ys ++ y ∷ [])
-each_more R [] [] x y h r = (r, tt)
-each_more R [] (b ∷ ys) x y h r = absurd h
-each_more R (a ∷ xs) [] x y h r = absurd h
-each_more R (a ∷ xs) (b ∷ ys) x y h r = (h.0, each_more R xs ys x y h.1 r)
 
 pub input_judged : (a b c : Judged) (read : List InputRead) (next : InputRead) (m n k : ℕ) (s t u : Shown) → Judges a b (rows_of read) m s t → Judges b c next.entries n t u → k ≡ n
     → Judges a c (rows_of (read ++ next ∷ [])) (m + k) s u

@@ -3,8 +3,7 @@ use Rattle.std.specs.Prelude.{◌≡◌, ℕ, ◌==◌, Bool, true, false, if◌
 use Rattle.std.specs.List.{AllZip, flat_map, list_all, list_any}
 use Rattle.mimic_printer.specs.Json.{Entry}
 use Rattle.mimic_printer.specs.Sink.{Put, Shown, Stopped}
-use Rattle.mimic_events.specs.Feed.{AreEnded}
-use Rattle.mimic_events.specs.Readings.{IsReading}
+use Rattle.mimic_events.specs.Readings.{HasEndedRows, IsReading}
 use Rattle.mimic_events.specs.declared.ending.Ending.TheVariants.{Whole}
 use Rattle.mimic_expect.specs.Expect.{counts, findings}
 use Rattle.mimic_expect.specs.FindingText.{rows_text}
@@ -22,17 +21,10 @@ pub record InputRead : Type 0 where
   pub entries : List Entry
   pub end : InputEnd
 
--- these rows have ended in a front of the bytes
-pub record HasEndedRows (bytes : List ℕ) (entries : List Entry) : Type 0 where
-  pub front : List ℕ
-  pub rest : List ℕ
-  pub parts : bytes ≡ front ++ rest
-  pub ended : AreEnded front entries
-
 -- the bytes have these rows, and end so; with an error of the reader the rows are those before it
 abbrev pub Reads : List Entry → InputEnd → List ℕ → Type 0
 Reads entries (Ended ending) bytes = IsReading entries ending bytes
-Reads entries (Failed error) bytes = HasEndedRows bytes entries
+Reads entries (Failed error) bytes = HasEndedRows entries bytes
 
 -- the input, if its bytes are known, was read so
 abbrev pub IsReadOf : Option (List ℕ) → InputRead → Type 0

@@ -1,6 +1,7 @@
 use Rattle.std.proofs.Common.{◌≡◌, ◌+◌, ◌++◌, ◌∷◌, [], arith, cond, refl, suc}
 use Rattle.mimic_events.specs.Contents.{entry_read}
-use Rattle.mimic_expect.proofs.Judged.{err_left, judges_then, left_after, room, rows_before}
+use Rattle.mimic_events.proofs.RowSteps.{rows_before}
+use Rattle.mimic_expect.proofs.Judged.{err_left, judges_then, left_after, room}
 use Rattle.mimic_expect.proofs.inputs.judge_input.Goals as goal
 use Rattle.mimic_expect.proofs.inputs.judge_input.Goals.{then-branch, else-branch}
 
@@ -27,7 +28,7 @@ returns-in-Ok-None g c =
 pub returns-in-Err-Input : goal.returns-in-Err-Input
 returns-in-Err-Input g c =
     let come = c.loop.invariant.come in
-    (come.0, rows_before g.I.Read.remaining (g.I.Read.remaining c.args.input) c.loop.rows come.0 come.1, come.2)
+    (come.0, rows_before g.I.Read.remaining _ c.loop.rows come.0 come.1, come.2)
 
 pub loop-preserved : goal.loop-preserved
 loop-preserved g c =
@@ -51,4 +52,4 @@ loop-preserved g c =
 pub returns : goal.returns
 returns g c =
     let come = c.loop.invariant.come in
-    (come.0, rows_before g.I.Read.remaining (g.I.Read.remaining c.args.input) c.loop.rows come.0 come.1, come.2)
+    (come.0, rows_before g.I.Read.remaining _ c.loop.rows come.0 come.1, come.2)

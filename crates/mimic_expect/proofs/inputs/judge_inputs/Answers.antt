@@ -3,7 +3,8 @@ use Rattle.std.proofs.lemmas.List.{map-append}
 use Rattle.mimic_printer.proofs.Appending.{Put-trans}
 use Rattle.mimic_expect.specs.Verdict.{InputRead, IsReadOf}
 use Rattle.mimic_printer.specs.declared.sink.OutputFault.TheVariants.{OutOfMemory}
-use Rattle.mimic_expect.proofs.Judged.{each_more, err_left, input_judged, judges_none, left_after}
+use Rattle.mimic_events.proofs.Pairs.{each_more}
+use Rattle.mimic_expect.proofs.Judged.{err_left, input_judged, judges_none, left_after}
 use Rattle.mimic_expect.proofs.inputs.judge_inputs.Goals as goal
 
 pub loop-input-init : goal.loop-input-init

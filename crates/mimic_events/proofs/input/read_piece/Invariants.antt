@@ -1,7 +1,7 @@
 -- Nothing was read yet.
 use Rattle.std.proofs.Common.{◌≡◌, length}
 use Rattle.std.specs.Io.KnownBytes.{Keeps}
-use Rattle.mimic_events.proofs.piece.read_piece.Given as goal
+use Rattle.mimic_events.proofs.input.read_piece.Given as goal
 
 abbrev pub invariant-loop : goal.invariant-loop
 invariant-loop g l = record {
