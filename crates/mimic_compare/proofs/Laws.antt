@@ -22,7 +22,7 @@ use Rattle.mimic_compare.specs.Text.{place_of, same_class}
 use Rattle.mimic_compare.specs.Written.{ArePartitioned, ComparisonLaws, SaysWorse, found_in, is_worse, labels_of, stands_in, verdict_of}
 use Rattle.mimic_compare.specs.declared.class.Class.{Class}
 use Rattle.mimic_compare.specs.declared.class.Class.TheVariants.{Regressed, Missing}
-use Rattle.mimic_compare.specs.declared.verdict.Verdict.{Verdict}
+use Rattle.mimic_compare.specs.declared.verdict.ComparisonVerdict.{ComparisonVerdict}
 
 -- ---- each label once
 
@@ -125,7 +125,7 @@ some_counted p q (c ∷ found) =
 
 says_worse : (old new : RowsRead) → SaysWorse old new
 says_worse old new =
-    let v : Verdict = verdict_of old new in
+    let v : ComparisonVerdict = verdict_of old new in
     let found = found_in old new in
     let p : Compared → Bool = λ c. same_class c.class Regressed in
     let q : Compared → Bool = λ c. same_class c.class Missing in

@@ -30,7 +30,7 @@ use Rattle.mimic_events.proofs.Keys.{at_row, same_key-decides, same_key-symm, sa
 use Rattle.mimic_compare.specs.Classes.{Compared, average_of, averages, compared, comparisons, distinct, failures, have_other_messages, ignored, labels_in, outcomes_with, times}
 use Rattle.mimic_compare.specs.Keys.{AddsOthers, HasTallies, HasTimes, is_other, times_of}
 use Rattle.mimic_compare.specs.Tallies.{HasRoom, last_or, tally_of}
-use Rattle.mimic_compare.specs.declared.tally.Tally.{Tally}
+use Rattle.mimic_compare.specs.declared.tally.KeyTally.{KeyTally}
 use denote.Ref.{Bor}
 
 -- ---- lists with one more element
@@ -48,7 +48,7 @@ averages_push : (os : List Outcome) (m : Measurement) → averages (os ++ outcom
 averages_push os m = flat_map-append average_of os (outcome.Measured m ∷ [])
 
 pub measured_push : (os : List Outcome) (m : Measurement)
-    → ◌≡◌ {A = Tally} (record { rows = length os + 1; failed = failures os; ignored = ignored os; measured = length (averages os) + 1; average = m.avg }) (tally_of (os ++ outcome.Measured m ∷ []))
+    → ◌≡◌ {A = KeyTally} (record { rows = length os + 1; failed = failures os; ignored = ignored os; measured = length (averages os) + 1; average = m.avg }) (tally_of (os ++ outcome.Measured m ∷ []))
 measured_push os m =
     rw (
       length-append os (outcome.Measured m ∷ []),
@@ -69,7 +69,7 @@ averages-le (o ∷ os) = omega (arith, averages-le os, length-append (average_of
     few (outcome.Measured m) = omega arith
     few other = omega arith
 
-pub room_of : (t : Tally) (os : List Outcome) → t ≡ tally_of os → length os < 2 ^ 64 - 1 → HasRoom t
+pub room_of : (t : KeyTally) (os : List Outcome) → t ≡ tally_of os → length os < 2 ^ 64 - 1 → HasRoom t
 room_of t os e h = rw e (record {
   rows = h;
   failed = omega (arith, count_by-le-length is_failed os);
@@ -100,7 +100,7 @@ few_outcomes label rows i lt small =
     omega (arith, length-map (filter own es) (λ e. e.outcome), length-filter own es, count_by-le-length own es, length-map (take i rows) entry_read, length-take i rows)
 
 -- the tallies with one more row
-pub tallied : {S : Type 0} (rows : List Row) (i : ℕ) (row : Row) (old new : HashMap Found Tally S) (t : Tally) → i < length rows → row ≡ get_or rows i row
+pub tallied : {S : Type 0} (rows : List Row) (i : ℕ) (row : Row) (old new : HashMap Found KeyTally S) (t : KeyTally) → i < length rows → row ≡ get_or rows i row
     → HasTallies old (map entry_read (take i rows)) → ((key : Found) → get is_same new key ≡ cond (is_same (Trial (at_row row)) key) (Some t) (get is_same old key))
     → t ≡ tally_of (outcomes_with (label_in row) (map entry_read (take i rows)) ++ row.outcome ∷ []) → HasTallies new (map entry_read (take (i + 1) rows))
 tallied rows i row old new t lt is has updates e q =

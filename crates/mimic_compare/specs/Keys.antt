@@ -15,15 +15,15 @@ use Rattle.mimic_compare.specs.Classes.{Compared, have_other_messages, outcomes_
 use Rattle.mimic_compare.specs.Tallies.{tally_of}
 use Rattle.mimic_compare.specs.declared.comparison.Comparison.{Comparison}
 use Rattle.mimic_compare.specs.declared.comparison.Tallies.{Tallies}
-use Rattle.mimic_compare.specs.declared.tally.Tally.{Tally}
+use Rattle.mimic_compare.specs.declared.tally.KeyTally.{KeyTally}
 use denote.Ref.{Bor}
 
 -- the tally that the map has for the row's kind and name
-abbrev pub tally_in : {S : Type 0} → HashMap Found Tally S → Bor Row → Tally
+abbrev pub tally_in : {S : Type 0} → HashMap Found KeyTally S → Bor Row → KeyTally
 tally_in tallies row = unwrap_or (get is_same tallies (Trial row)) (tally_of [])
 
 -- the map has the tally of each kind and name
-abbrev pub HasTallies : {S : Type 0} → HashMap Found Tally S → List Entry → Type 0
+abbrev pub HasTallies : {S : Type 0} → HashMap Found KeyTally S → List Entry → Type 0
 HasTallies tallies entries = (row : Bor Row) → tally_in tallies row ≡ tally_of (outcomes_with (label_in row.now) entries)
 
 -- how often the failure of this key is among the entries

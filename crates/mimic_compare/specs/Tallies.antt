@@ -2,14 +2,14 @@
 use Rattle.std.specs.Prelude.{◌<◌, ◌-◌, ◌^◌, ℕ, List, [], ◌∷◌, length}
 use Rattle.mimic_trial.specs.declared.outcome.Outcome.{Outcome}
 use Rattle.mimic_compare.specs.Classes.{averages, failures, ignored}
-use Rattle.mimic_compare.specs.declared.tally.Tally.{Tally}
+use Rattle.mimic_compare.specs.declared.tally.KeyTally.{KeyTally}
 
 -- the last of the numbers, or `n` if there are none
 abbrev pub last_or : ℕ → List ℕ → ℕ
 last_or n [] = n
 last_or n (m ∷ ms) = last_or m ms
 
-abbrev pub tally_of : List Outcome → Tally
+abbrev pub tally_of : List Outcome → KeyTally
 tally_of outcomes = record {
   rows = length outcomes;
   failed = failures outcomes;
@@ -19,7 +19,7 @@ tally_of outcomes = record {
 }
 
 -- one more outcome can be counted
-pub record HasRoom (t : Tally) : Type 0 where
+pub record HasRoom (t : KeyTally) : Type 0 where
   pub rows : t.rows < 2 ^ 64 - 1
   pub failed : t.failed < 2 ^ 64 - 1
   pub ignored : t.ignored < 2 ^ 64 - 1

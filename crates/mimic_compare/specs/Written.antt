@@ -16,7 +16,7 @@ use Rattle.mimic_printer.specs.EscapeLaws.{HasNoControl}
 use Rattle.mimic_printer.specs.declared.place.Place.TheVariants.{Line}
 use Rattle.mimic_compare.specs.declared.class.Class.{Class}
 use Rattle.mimic_compare.specs.declared.class.Class.TheVariants.{Regressed, Missing, Unchanged}
-use Rattle.mimic_compare.specs.declared.verdict.Verdict.{Verdict}
+use Rattle.mimic_compare.specs.declared.verdict.ComparisonVerdict.{ComparisonVerdict}
 
 -- the report has its end
 abbrev pub is_whole : Ending → Bool
@@ -33,7 +33,7 @@ abbrev pub found_in : RowsRead → RowsRead → List Compared
 found_in old new =
     comparisons (is_full old.ending && is_full new.ending) (map entry_read old.rows.items) (map entry_read new.rows.items)
 
-abbrev pub verdict_of : RowsRead → RowsRead → Verdict
+abbrev pub verdict_of : RowsRead → RowsRead → ComparisonVerdict
 verdict_of old new = record {
   regressed = count_of Regressed (found_in old new);
   missing = count_of Missing (found_in old new);
@@ -41,12 +41,12 @@ verdict_of old new = record {
 }
 
 -- with `Ok` the whole text was written, after a write fault a beginning of it, and if memory ran out nothing
-abbrev pub LeavesComparison : RowsRead → RowsRead → Shown → Shown → Result Verdict OutputFault → Type 0
+abbrev pub LeavesComparison : RowsRead → RowsRead → Shown → Shown → Result ComparisonVerdict OutputFault → Type 0
 LeavesComparison before after old new (Ok verdict) = Put old new (comparison_text (found_in before after)) × (verdict ≡ verdict_of before after)
 LeavesComparison before after old new (Err fault) = LeftBy fault old new (comparison_text (found_in before after))
 
 -- the status of a program: 101 if something regressed or is missing, else 1 if a report is cut, else 0
-abbrev pub status_of : Verdict → ℕ
+abbrev pub status_of : ComparisonVerdict → ℕ
 status_of v = if nat_lt 0 v.regressed || nat_lt 0 v.missing then 101 else (if v.are_whole then 0 else 1)
 
 -- ---- laws

@@ -4,7 +4,7 @@ ghost use Rattle.mimic_trial.specs.declared.outcome.Outcome.{Outcome};
 ghost use Rattle.mimic_compare.specs.Classes.{class_of, have_other_messages};
 ghost use Rattle.mimic_compare.specs.Tallies.{tally_of};
 
-use crate::tally::Tally;
+use crate::tally::KeyTally;
 
 /// What became of a kind and a name from an old report to a new one.
 #[derive(Clone, Copy, Debug, PartialEq, Eq)]
@@ -31,7 +31,7 @@ pub enum Class {
 
 impl Class {
     // Returns the class of a kind and a name with these tallies.
-    pub(crate) fn of(old: &Tally, new: &Tally, has_other_messages: bool, is_judged: bool) -> Class
+    pub(crate) fn of(old: &KeyTally, new: &KeyTally, has_other_messages: bool, is_judged: bool) -> Class
         ensures { (before after : List Outcome) → old.now ≡ tally_of before → new.now ≡ tally_of after
             → has_other_messages ≡ have_other_messages before after
             → result ≡ class_of is_judged before after }

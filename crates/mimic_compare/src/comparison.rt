@@ -9,7 +9,7 @@ ghost use Rattle.mimic_compare.specs.Keys.{comparison_read, IsOf};
 
 use crate::class::Class;
 use crate::messages::others_in;
-use crate::tally::{Tally, tallies_in, tally_in};
+use crate::tally::{KeyTally, tallies_in, tally_in};
 use mimic_events::{Key, Row};
 use std::alloc::{AllocError, Global};
 use std::collections::{HashMap, HashSet};
@@ -62,8 +62,8 @@ fn first_rows<'a>(
 // What is known of each kind and name.
 #[derive(Drop)]
 struct Tallies<'a> {
-    old: HashMap<Key<'a>, Tally>,
-    new: HashMap<Key<'a>, Tally>,
+    old: HashMap<Key<'a>, KeyTally>,
+    new: HashMap<Key<'a>, KeyTally>,
     // The kinds and names whose failures have other messages.
     others: HashSet<Key<'a>>,
 }

@@ -19,4 +19,4 @@ mod tally;
 mod verdict;
 
 pub use class::Class;
-pub use verdict::{Verdict, write_comparison};
+pub use verdict::{ComparisonVerdict, write_comparison};

@@ -12,7 +12,7 @@ use std::collections::HashMap;
 
 // How many rows there are, how many of them have some outcomes, and the average of the last one that was measured.
 #[derive(Clone, Copy)]
-pub(crate) struct Tally {
+pub(crate) struct KeyTally {
     pub(crate) rows: u64,
     pub(crate) failed: u64,
     pub(crate) ignored: u64,
@@ -20,9 +20,9 @@ pub(crate) struct Tally {
     pub(crate) average: u64,
 }
 
-impl Tally {
+impl KeyTally {
     // The tally of no rows.
-    pub(crate) const EMPTY: Tally = Tally {
+    pub(crate) const EMPTY: KeyTally = KeyTally {
         rows: 0,
         failed: 0,
         ignored: 0,
@@ -31,7 +31,7 @@ impl Tally {
     };
 
     // Returns the tally with one more row.
-    fn with(self, outcome: &Outcome) -> Tally
+    fn with(self, outcome: &Outcome) -> KeyTally
         requires { HasRoom self }
         ensures { (outcomes : List OutcomeRead) → self ≡ tally_of outcomes
             → result ≡ tally_of (outcomes ++ outcome.now ∷ []) }
@@ -52,17 +52,17 @@ impl Tally {
 }
 
 // Returns the tally of the row's kind and name.
-pub(crate) fn tally_in<'a>(tallies: &HashMap<Key<'a>, Tally>, row: &'a Row) -> Tally
+pub(crate) fn tally_in<'a>(tallies: &HashMap<Key<'a>, KeyTally>, row: &'a Row) -> KeyTally
     ensures { result ≡ tally_in tallies.now row.entry }
 {
     tallies
         .get(&Key::Trial(row))
         .copied()
-        .unwrap_or(Tally::EMPTY)
+        .unwrap_or(KeyTally::EMPTY)
 }
 
 // Returns the tally of each kind and name that the rows have.
-pub(crate) fn tallies_in(alloc: Global, rows: &[Row]) -> Result<HashMap<Key<'_>, Tally>, AllocError>
+pub(crate) fn tallies_in(alloc: Global, rows: &[Row]) -> Result<HashMap<Key<'_>, KeyTally>, AllocError>
     ensures { IfOk result (λ tallies. HasTallies tallies (map entry_read rows.now)) }
 {
     let mut tallies = HashMap::new(alloc);

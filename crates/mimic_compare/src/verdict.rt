@@ -13,7 +13,7 @@ use std::io::Write;
 
 /// What a comparison found, in numbers.
 #[derive(Clone, Copy, Debug, PartialEq, Eq)]
-pub struct Verdict {
+pub struct ComparisonVerdict {
     /// How many kinds and names regressed.
     pub regressed: usize,
     /// How many are missing.
@@ -22,7 +22,7 @@ pub struct Verdict {
     pub are_whole: bool,
 }
 
-impl Verdict {
+impl ComparisonVerdict {
     ghost use Rattle.std.specs.Prelude.{◌≡◌};
     ghost use Rattle.mimic_compare.specs.Written.{status_of};
 
@@ -57,7 +57,7 @@ pub fn write_comparison<W: Write>(
     old: &RowsRead,
     new: &RowsRead,
     sink: &mut Sink<W>,
-) -> Result<Verdict, OutputFault>
+) -> Result<ComparisonVerdict, OutputFault>
     requires { HasFaultLeft sink.old }
     ensures written { LeavesComparison old.now new.now (shown W.contents sink.old)
         (shown W.contents sink.new) result }
@@ -68,7 +68,7 @@ pub fn write_comparison<W: Write>(
     let is_judged = are_full(&old.ending, &new.ending);
     let found = compare_rows(alloc, &old.rows, &new.rows, is_judged)?;
     put_comparisons(sink, &found)?;
-    Ok(Verdict {
+    Ok(ComparisonVerdict {
         regressed: count_of(&found, Class::Regressed),
         missing: count_of(&found, Class::Missing),
         are_whole: are_whole(&old.ending, &new.ending),

@@ -24,7 +24,8 @@
 //! assert_eq!(rt; (report.filtered_out, report.nanos), (16, 500_000_000));
 //! ```
 //!
-//! Any reader is read by [`read_from`], to a whole report, and by [`read_rows`] or [`InputRows`], to the rows of what may have no end:
+//! Any reader is read by [`read_from`], to a whole report, and by [`read_rows`] or [`InputRows`], to the rows of what may have no
+//! end:
 //!
 //! ```rust
 //! use mimic_events::{Ending, read_from, read_rows};

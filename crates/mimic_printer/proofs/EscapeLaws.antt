@@ -201,7 +201,7 @@ lines_have_no_control text = none_left Line refl line_controls 0 text
 
 pub escape_laws : EscapeLaws
 escape_laws = record {
-  comes_back = λ place text. back place 0 text;
+  unescapes = λ place text. back place 0 text;
   no_markup = λ place text. in_parts place 0 text;
   no_control_in_line = lines_have_no_control;
   no_control_on_terminal = λ text. none_left Terminal refl terminal_controls 0 text;

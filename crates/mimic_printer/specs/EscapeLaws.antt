@@ -68,14 +68,15 @@ IsHarmless place text = (parts : List (List ℕ)) × (text ≡ concat parts) × 
 
 -- ---- laws
 
--- no control character of ASCII is left in the spellings of a place, so that a text stays in its line and is no escape sequence
+-- no control character of ASCII is left in the spellings of a place, so that a text stays in its line. Of the control characters of
+-- two bytes, one of which begins an escape sequence as well, this says nothing: how they are spelled is in `escaped`
 abbrev pub HasNoControl : Place → Type 0
 HasNoControl place = (text : List ℕ) → list_any is_control (escaped place text) ≡ false
 
--- what holds of the spelling of every text: it can be unescaped, so that two texts never have the same; it is harmless, so
+-- what holds of the spelling of every text: it can be unescaped, so that two texts never have the same; and it is harmless, so
 -- that it begins, ends or hides no element
 pub record EscapeLaws : Type 0 where
-  pub comes_back : (place : Place) (text : List ℕ) → unescaped place (escaped place text) ≡ text
+  pub unescapes : (place : Place) (text : List ℕ) → unescaped place (escaped place text) ≡ text
   pub no_markup : (place : Place) (text : List ℕ) → IsHarmless place (escaped place text)
   pub no_control_in_line : HasNoControl Line
   pub no_control_on_terminal : HasNoControl Terminal

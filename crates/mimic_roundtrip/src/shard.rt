@@ -30,7 +30,7 @@ pub fn run_shard<R: Task, C: Clock>(
     requires runnable { AllCanRun R.can_run tests.items }
     requires fresh { IsFresh watch.old }
 
-    // The conclusion has the report's counts, and the report has the trials of this shard in their order, and the time of the watch.
+    // The conclusion has the report's counts, and the report has the trials of this shard in their order, with the watch's time.
     ensures run { IfOk result
         (λ told. TellsRun R.gives args.now (shard_of shard.count shard.index tests.items)
         watch.new told.0 (contents_read told.1)) }

@@ -12,7 +12,7 @@ use Rattle.mimic_events.proofs.Counted.{few, one_counted}
 use Rattle.mimic_watch.specs.declared.viewer.Viewer.{Viewer}
 use Rattle.mimic_watch.specs.Moments.{outcomes_in}
 use Rattle.mimic_watch.specs.Rows.{row_text}
-use Rattle.mimic_watch.specs.Watching.{HasSeen, SeesOn, SeesRow}
+use Rattle.mimic_watch.specs.Viewers.{HasSeen, SeesOn, SeesRow}
 
 -- ---- one row
 

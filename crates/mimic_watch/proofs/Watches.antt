@@ -12,14 +12,14 @@ use Rattle.mimic_events.specs.Reading.{Decodes}
 use Rattle.mimic_events.specs.SoFar.{IsFirstWrong}
 use Rattle.mimic_events.specs.Readings.{EndsAs, IsOver, IsReading}
 use Rattle.mimic_events.proofs.ReadBytes.{read_more}
-use Rattle.mimic_watch.specs.declared.verdict.Verdict.{Verdict}
+use Rattle.mimic_watch.specs.declared.verdict.WatchVerdict.{WatchVerdict}
 use Rattle.mimic_watch.specs.declared.verdict.WatchFault.{WatchFault}
 use Rattle.mimic_watch.specs.declared.verdict.WatchFault.TheVariants.{Write}
 use Rattle.mimic_watch.specs.declared.viewer.Viewer.{Viewer}
 use Rattle.mimic_watch.specs.Moments.{AreMomentsAfter, IsDrawn, IsMoment, Moment, ended_in, moment_text, moments_text}
 use Rattle.mimic_watch.specs.Watched.{AreCounts, HasFailed, HasWatched, IsLast, IsLeft, last_text}
 use Rattle.mimic_watch.proofs.Seeing.{none_seen}
-use Rattle.mimic_watch.specs.Watching.{HasSeen, IsLastSeen, IsWatching, PutsSeen, SeesOn, StaysSeen, put_text}
+use Rattle.mimic_watch.specs.Viewers.{HasSeen, IsLastSeen, IsWatching, PutsSeen, SeesOn, StaysSeen, put_text}
 
 -- ---- one moment more
 
@@ -144,7 +144,7 @@ module _ (live : Bool) (start now : Option (List ℕ)) (a b c : Shown) (w : View
   }
 
   -- the end
-  pub moment_last : (verdict : Verdict) → IsOver now h.bytes → Put b c (put_text erases w.waiting.items drawn ++ last_text verdict.counts verdict.ending)
+  pub moment_last : (verdict : WatchVerdict) → IsOver now h.bytes → Put b c (put_text erases w.waiting.items drawn ++ last_text verdict.counts verdict.ending)
       → EndsAs h.bytes (ended_in h.moments ++ h.waiting) verdict.ending × AreCounts (ended_in h.moments ++ h.waiting) verdict → HasWatched live start a c verdict
   moment_last verdict over p ends =
       let rows : ended_in h.moments ++ h.waiting ≡ ended_in (h.moments ++ moment ∷ []) = sym (more_ended h.moments moment) in

@@ -2,4 +2,4 @@ pub mod Frames
 pub mod Rows
 pub mod Moments
 pub mod Watched
-pub mod Watching
+pub mod Viewers

@@ -12,7 +12,7 @@ use Rattle.mimic_events.specs.Feed.{AreEnded}
 use Rattle.mimic_events.specs.declared.ending.Ending.{Ending}
 use Rattle.mimic_events.specs.declared.ending.Ending.TheVariants.{Whole, Cut}
 use Rattle.mimic_events.specs.Readings.{IsReading}
-use Rattle.mimic_watch.specs.declared.verdict.Verdict.{Verdict}
+use Rattle.mimic_watch.specs.declared.verdict.WatchVerdict.{WatchVerdict}
 use Rattle.mimic_watch.specs.declared.verdict.WatchFault.{WatchFault}
 use Rattle.mimic_watch.specs.declared.verdict.WatchFault.TheVariants.{Read, Write}
 use Rattle.mimic_watch.specs.Moments.{AreMomentsAfter, Moment, ended_in, moments_text, outcomes_in}
@@ -30,7 +30,7 @@ filtered_out_in (Whole filtered_out nanos) = filtered_out
 filtered_out_in (Cut stop) = 0
 
 -- the counts are those of these rows and of the trials that were filtered out
-abbrev pub AreCounts : List Entry → Verdict → Type 0
+abbrev pub AreCounts : List Entry → WatchVerdict → Type 0
 AreCounts entries verdict = verdict.counts ≡ counts_of (outcomes_in entries) (filtered_out_in verdict.ending)
 
 -- the harness's summary in pretty, without colours
@@ -46,7 +46,7 @@ last_text counts (Cut stop) = []
 
 -- the input was a report or none, as the ending says; what was put shows each of its rows that have ended once, in their order, and
 -- then the summary
-pub record HasWatched (live : Bool) (start : Option (List ℕ)) (old new : Shown) (verdict : Verdict) : Type 0 where
+pub record HasWatched (live : Bool) (start : Option (List ℕ)) (old new : Shown) (verdict : WatchVerdict) : Type 0 where
   pub moments : List Moment
   pub each : AreMomentsAfter start live [] moments
   pub ending : IfSome start (IsReading (ended_in moments) verdict.ending)
@@ -61,7 +61,7 @@ IsLeft (Write (output.Write error)) old new text last = Stopped old new (text ++
 
 -- nothing, or the summary of the report that the input is, which has these rows
 abbrev pub IsLast : Option (List ℕ) → List Entry → List ℕ → Type 0
-IsLast start entries last = (last ≡ []) ⊎ ((verdict : Verdict) × IfSome start (IsReading entries verdict.ending)
+IsLast start entries last = (last ≡ []) ⊎ ((verdict : WatchVerdict) × IfSome start (IsReading entries verdict.ending)
     × AreCounts entries verdict × (last ≡ last_text verdict.counts verdict.ending))
 
 -- some bytes were read; what was put shows rows that have ended in a front of them, from the first one on, each once

@@ -21,5 +21,5 @@ mod verdict;
 mod viewer;
 
 pub use frame::ERASE;
-pub use verdict::{Verdict, WatchFault};
+pub use verdict::{WatchVerdict, WatchFault};
 pub use viewer::watch;

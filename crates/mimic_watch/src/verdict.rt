@@ -9,14 +9,14 @@ use thiserror::Error;
 
 /// What the report was that was watched.
 #[derive(Debug, Drop)]
-pub struct Verdict {
+pub struct WatchVerdict {
     /// How many of the rows that have ended have each outcome. Unless the report is whole, it counts no trial as filtered out.
     pub counts: Conclusion,
     /// How the report ended.
     pub ending: Ending,
 }
 
-impl Verdict {
+impl WatchVerdict {
     ghost use Rattle.std.specs.Prelude.{List};
     ghost use Rattle.mimic_trial.specs.Count.{counts_of};
     ghost use Rattle.mimic_printer.specs.Json.{Entry};
@@ -27,14 +27,14 @@ impl Verdict {
     pub const CUT: u8 = 1;
 
     // Returns the verdict on a report whose rows have these counts. The ending says how many trials were filtered out.
-    pub(crate) fn new(mut counts: Conclusion, ending: Ending) -> Verdict
+    pub(crate) fn new(mut counts: Conclusion, ending: Ending) -> WatchVerdict
         ensures ending { result.ending ≡ ending }
         ensures counts { (entries : List Entry) → counts ≡ counts_of (outcomes_in entries) 0 → AreCounts entries result }
     {
         if let Ending::Whole { filtered_out, .. } = &ending {
             counts.num_filtered_out = *filtered_out;
         }
-        Verdict { counts, ending }
+        WatchVerdict { counts, ending }
     }
 
     /// Returns the status that a program is to end with: 101 if a trial failed, 0 if none did, and 1 if the report isn't whole.
@@ -44,7 +44,7 @@ impl Verdict {
         match &self.ending {
             Ending::Whole { .. } if self.counts.has_failed() => Conclusion::FAILED,
             Ending::Whole { .. } => 0,
-            Ending::Cut(_) => Verdict::CUT,
+            Ending::Cut(_) => WatchVerdict::CUT,
         }
     }
 }

@@ -3,12 +3,12 @@ ghost use Rattle.std.specs.Prelude.{◌≡◌, MatchResult, OnOk};
 ghost use Rattle.mimic_printer.specs.Sink.{HasFaultLeft, LeavesText, Puts, shown};
 ghost use Rattle.mimic_watch.specs.Frames.{FirstLinesFit};
 ghost use Rattle.mimic_watch.specs.Watched.{HasFailed, HasWatched, last_text};
-ghost use Rattle.mimic_watch.specs.Watching.{put_text};
+ghost use Rattle.mimic_watch.specs.Viewers.{put_text};
 
 use crate::frame::{ERASE, View, first_line, push_frame, second_line};
 use crate::pace::{Pace, nanos};
 use crate::row::push_row;
-use crate::verdict::{Verdict, WatchFault};
+use crate::verdict::{WatchVerdict, WatchFault};
 use mimic_events::{Ending, Follower, PIECE, ReadFault, Row, read_piece};
 use mimic_printer::{OutputFault, Printer, Sink, WriteFault};
 use mimic_trial::{Conclusion, FormatSetting, Outcome};
@@ -39,8 +39,8 @@ struct Viewer {
 /// Shows a report as its bytes come, up to their end or to the first line that no report has there: each failure and each
 /// measurement once, and at last the harness's summary.
 ///
-/// On a terminal (`live`) two lines below say how far the run is, at most ten times a second; each time it is one write, which leaves
-/// the terminal as it was. Else a line reports this every ten seconds, with no escape sequence. A reader that returns
+/// On a terminal (`live`) two lines below say how far the run is, at most ten times a second; each time it is one write, which
+/// leaves the terminal as it was. Else a line reports this every ten seconds, with no escape sequence. A reader that returns
 /// `TimedOut` or `WouldBlock` says that nothing has come for a while. Rows that have passed are not kept.
 #[tactic(auto, using(crate::proofs::Laws::first_lines_fit))]
 pub fn watch<I: Read, W: Write, C: Clock>(
@@ -49,7 +49,7 @@ pub fn watch<I: Read, W: Write, C: Clock>(
     sink: &mut Sink<W>,
     clock: &C,
     live: bool,
-) -> Result<Verdict, WatchFault>
+) -> Result<WatchVerdict, WatchFault>
     requires { HasFaultLeft sink.old }
     ensures watched { MatchResult result
         (HasWatched live (I.remaining input.old) (shown W.contents sink.old) (shown W.contents sink.new))
@@ -93,7 +93,7 @@ impl Viewer {
     ghost use Rattle.mimic_events.specs.Contents.{entry_read};
     ghost use Rattle.mimic_watch.specs.Moments.{IsDrawing};
     ghost use Rattle.mimic_watch.specs.Watched.{last_text};
-    ghost use Rattle.mimic_watch.specs.Watching.{DrawsSeen, EndsSeen, HasSeen, IsLastSeen, ReadsOn, SeesOn, SeesRow, ShowsOn, StaysSeen, put_text};
+    ghost use Rattle.mimic_watch.specs.Viewers.{DrawsSeen, EndsSeen, HasSeen, IsLastSeen, ReadsOn, SeesOn, SeesRow, ShowsOn, StaysSeen, put_text};
 
     fn new(alloc: Global, live: bool, now: u64) -> Viewer
         ensures seen { HasSeen result [] [] [] }
@@ -111,7 +111,8 @@ impl Viewer {
         }
     }
 
-    // Reads the next piece, unless nothing has come yet, and returns whether the input is over: it is at its end, or a line is wrong.
+    // Reads the next piece, unless nothing has come yet, and returns whether the input is over: it is at its end, or a line is
+    // wrong.
     fn read<I: Read>(&mut self, input: &mut I, room: &mut [u8]) -> Result<bool, ReadFault>
         requires { 0 < length room.old }
         ensures read { IfOk result
@@ -240,7 +241,7 @@ impl Viewer {
     }
 
     // Puts what waits, and the summary of a whole report.
-    fn finish<W: Write>(self, sink: &mut Sink<W>) -> Result<Verdict, OutputFault>
+    fn finish<W: Write>(self, sink: &mut Sink<W>) -> Result<WatchVerdict, OutputFault>
         requires { HasFaultLeft sink.old }
         ensures verdict { IfOk result (EndsSeen self) }
         ensures put { MatchResult result
@@ -260,7 +261,7 @@ impl Viewer {
         } = self;
         let mut text = text;
         let ending = Ending::of(alloc, follower)?;
-        let verdict = Verdict::new(counts, ending);
+        let verdict = WatchVerdict::new(counts, ending);
         put_moment(sink, &mut text, live, &waiting, b"")?;
         put_last(sink, &verdict)?;
         Ok(verdict)
@@ -318,7 +319,7 @@ fn put_whole<W: Write>(sink: &mut Sink<W>, text: &[u8]) -> Result<(), WriteFault
 }
 
 // Puts the summary of a whole report.
-fn put_last<W: Write>(sink: &mut Sink<W>, verdict: &Verdict) -> Result<(), WriteFault>
+fn put_last<W: Write>(sink: &mut Sink<W>, verdict: &WatchVerdict) -> Result<(), WriteFault>
     requires { HasFaultLeft sink.old }
     ensures { Puts W.contents sink.old sink.new (last_text verdict.now.counts verdict.now.ending) result }
 {

@@ -4,7 +4,7 @@ use crate::input::Input;
 use crate::line::Expect;
 use crate::{BLOCK, REFUSED};
 use mimic_events::Ending;
-use mimic_expect::{Expectation, InputEnd, KnownFault, Verdict, read_known, write_unexpected};
+use mimic_expect::{Expectation, InputEnd, KnownFault, ExpectationVerdict, read_known, write_unexpected};
 use mimic_printer::{OutputFault, Sink};
 use std::alloc::Global;
 use std::io::{BufWriter, Read};
@@ -34,7 +34,7 @@ fn print(
     alloc: Global,
     expect: &Expect,
     known: &[Expectation],
-) -> Result<Verdict, OutputFault> {
+) -> Result<ExpectationVerdict, OutputFault> {
     let inputs = Input::all(rt, alloc, &expect.files)?;
     let Ok(out) = BufWriter::with_capacity(alloc, BLOCK, rt.stdout()) else {
         return Err(OutputFault::OutOfMemory);
@@ -43,7 +43,7 @@ fn print(
 }
 
 // Prints for each file without a whole report why it has none.
-fn print_ends(rt: &HostRuntime, expect: &Expect, verdict: &Verdict) {
+fn print_ends(rt: &HostRuntime, expect: &Expect, verdict: &ExpectationVerdict) {
     for (file, end) in expect.files.iter().zip(&verdict.ends) {
         let file = file.as_str();
         match end {

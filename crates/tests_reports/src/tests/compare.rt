@@ -5,7 +5,7 @@ use super::lines::{
     failed, measured, passed, read, summary, title,
 };
 use super::writers::{check_stops, has_stopped};
-use mimic_compare::{Verdict, write_comparison};
+use mimic_compare::{ComparisonVerdict, write_comparison};
 use mimic_events::RowsRead;
 use mimic_printer::{OutputFault, Sink};
 use mimic_testkit::{Fault, FaultyWriter, Place};
@@ -21,7 +21,7 @@ fn compare<W: Write>(
     old: &RowsRead,
     new: &RowsRead,
     writer: W,
-) -> (W, Result<Verdict, OutputFault>) {
+) -> (W, Result<ComparisonVerdict, OutputFault>) {
     let mut sink = Sink::new(writer);
     let compared = write_comparison(alloc, old, new, &mut sink);
     (sink.into_inner(), compared)

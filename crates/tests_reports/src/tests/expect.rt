@@ -7,7 +7,7 @@ use super::lines::{
 use super::reading::Slow;
 use super::writers::{check_stops, has_stopped};
 use mimic_events::Ending;
-use mimic_expect::{Expectation, InputEnd, KnownFault, Verdict, read_known, write_unexpected};
+use mimic_expect::{Expectation, InputEnd, KnownFault, ExpectationVerdict, read_known, write_unexpected};
 use mimic_printer::{OutputFault, Sink};
 use mimic_testkit::{Fault, FaultyWriter, Place};
 use std::alloc::{AllocError, Global};
@@ -41,7 +41,7 @@ fn judge<I: Read + Drop, W: Write>(
     inputs: Vec<I>,
     lax: bool,
     writer: W,
-) -> (W, Result<Verdict, OutputFault>) {
+) -> (W, Result<ExpectationVerdict, OutputFault>) {
     let mut sink = Sink::new(writer);
     let judged = write_unexpected(alloc, known, inputs, lax, &mut sink);
     (sink.into_inner(), judged)
@@ -84,7 +84,7 @@ fn judged(
     known: &[&str],
     inputs: &[Input],
     lax: bool,
-) -> Result<(Verdict, String), Fail> {
+) -> Result<(ExpectationVerdict, String), Fail> {
     let known = known_in(alloc, known)??;
     let texts = texts_of(alloc, inputs)?;
     let readers = readers_of(alloc, &texts, inputs)?;

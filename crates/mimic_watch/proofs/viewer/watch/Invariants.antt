@@ -1,7 +1,7 @@
 -- What has come since the input was at its start, and what was put.
 use Rattle.std.proofs.Common.{◌<◌, length}
 use Rattle.mimic_printer.specs.Sink.{shown}
-use Rattle.mimic_watch.specs.Watching.{IsWatching}
+use Rattle.mimic_watch.specs.Viewers.{IsWatching}
 use Rattle.mimic_watch.proofs.viewer.watch.Given as goal
 
 abbrev pub invariant-loop : goal.invariant-loop

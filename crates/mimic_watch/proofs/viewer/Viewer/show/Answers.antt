@@ -1,5 +1,5 @@
 use Rattle.std.proofs.Common.{◌≡◌, true, [], inl, refl, rules}
-use Rattle.mimic_watch.specs.Watching.{DrawsSeen}
+use Rattle.mimic_watch.specs.Viewers.{DrawsSeen}
 use Rattle.mimic_events.proofs.Results.{on_error}
 use Rattle.mimic_watch.proofs.Ending.{left_alone}
 use Rattle.mimic_watch.proofs.Watches.{moment_left, moment_put, stay}

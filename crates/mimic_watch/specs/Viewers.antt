@@ -1,4 +1,4 @@
--- What a watch knows on the way. No public clause names these words.
+-- What a viewer knows while it watches. No public clause names these words.
 use Rattle.std.specs.Prelude.{◌≡◌, ◌⊎◌, ℕ, ◌+◌, ◌-◌, ◌<◌, ◌^◌, Bool, true, if◌then◌else◌, List, [], ◌++◌, length, Result, MatchResult, Option}
 use Rattle.std.specs.Io.KnownBytes.{Consumes}
 use Rattle.std.specs.List.{flat_map}
@@ -8,7 +8,7 @@ use Rattle.mimic_printer.specs.Sink.{Put, Shown}
 use Rattle.mimic_printer.specs.declared.sink.OutputFault.{OutputFault}
 use Rattle.mimic_events.specs.Follower.{HasFollowed}
 use Rattle.mimic_events.specs.Readings.{EndsAs, IsOver}
-use Rattle.mimic_watch.specs.declared.verdict.Verdict.{Verdict}
+use Rattle.mimic_watch.specs.declared.verdict.WatchVerdict.{WatchVerdict}
 use Rattle.mimic_watch.specs.declared.verdict.WatchFault.TheVariants.{Write}
 use Rattle.mimic_watch.specs.declared.viewer.Viewer.{Viewer}
 use Rattle.mimic_watch.specs.Frames.{erase}
@@ -56,13 +56,13 @@ DrawsSeen w drawn = (start now : Option (List ℕ)) (bytes : List ℕ) (put wait
     → IsDrawn start w.live (put ++ waiting) drawn
 
 -- what has come is over, and is what the verdict says
-abbrev pub EndsSeen : Viewer → Verdict → Type 0
+abbrev pub EndsSeen : Viewer → WatchVerdict → Type 0
 EndsSeen w verdict = (bytes : List ℕ) (put waiting : List Entry) → HasSeen w bytes put waiting
     → EndsAs bytes (put ++ waiting) verdict.ending × AreCounts (put ++ waiting) verdict
 
 -- nothing, or the summary of such a verdict
 abbrev pub IsLastSeen : Viewer → List ℕ → Type 0
-IsLastSeen w last = (last ≡ []) ⊎ ((verdict : Verdict) × EndsSeen w verdict × (last ≡ last_text verdict.counts verdict.ending))
+IsLastSeen w last = (last ≡ []) ⊎ ((verdict : WatchVerdict) × EndsSeen w verdict × (last ≡ last_text verdict.counts verdict.ending))
 
 -- ---- what is put
 
