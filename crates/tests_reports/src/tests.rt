@@ -8,4 +8,4 @@ mod page;
 mod reading;
 mod suites;
 mod watching;
-mod writers;
+mod write_faults;

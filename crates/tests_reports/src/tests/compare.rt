@@ -4,11 +4,9 @@ use super::lines::{
     A_FAILED, A_IGNORED, A_MEASURED, A_PASSED, A_SILENT, FILTERED, NONE, Y_AND_X, announced,
     failed, measured, passed, read, summary, title,
 };
-use super::writers::{check_stops, has_stopped};
 use mimic_compare::{ComparisonVerdict, write_comparison};
 use mimic_events::RowsRead;
 use mimic_printer::{OutputFault, Sink};
-use mimic_testkit::{Fault, FaultyWriter, Place};
 use std::alloc::{AllocError, Global};
 use std::io::Write;
 use std::process::Abort;
@@ -104,7 +102,7 @@ const A_AND_K_A: &[&str] = &[
 ];
 
 // Two reports, and what is printed of them before the numbers. Among equal changes the new report's rows come first.
-const BEFORE: &[&str] = &[
+pub(super) const BEFORE: &[&str] = &[
     title!(5),
     announced!("gone"),
     passed!("gone"),
@@ -119,7 +117,7 @@ const BEFORE: &[&str] = &[
     summary!("failed", 2, 2, 0, 1, 0, "0"),
 ];
 
-const AFTER: &[&str] = &[
+pub(super) const AFTER: &[&str] = &[
     title!(6),
     announced!("fresh"),
     passed!("fresh"),
@@ -235,28 +233,4 @@ fn compares_what_has_ended(rt: HostRuntime) -> Result<(), Fail> {
         check_compared(&rt, rt.alloc(), case)?;
     }
     Ok(())
-}
-
-// Whether a writer that fails at the place got what comes before it, and wasn't called again.
-fn stops_so(alloc: Global, place: Place, fault: Fault) -> Result<bool, Fail> {
-    let (old, new) = (read(alloc, BEFORE)?, read(alloc, AFTER)?);
-    let writer = FaultyWriter::new(alloc).failing(place, fault);
-    let (writer, compared) = compare(alloc, &old, &new, writer);
-    let expected = printed(alloc, CHANGED, 1)?;
-    Ok(matches!(compared, Err(OutputFault::Write(_))) && has_stopped(&writer, expected.as_bytes()))
-}
-
-#[test]
-fn stops_at_a_write_fault(rt: HostRuntime) -> Result<(), Fail> {
-    let places = [
-        Place::Byte(0),
-        Place::Byte(12),
-        Place::Byte(150),
-        Place::Flush(1),
-    ];
-    check_stops(
-        &rt,
-        &places,
-        |place, fault| stops_so(rt.alloc(), place, fault),
-    )
 }

@@ -5,11 +5,9 @@ use super::lines::{
     failed, passed, summary, text_of, title,
 };
 use super::reading::Slow;
-use super::writers::{check_stops, has_stopped};
 use mimic_events::Ending;
 use mimic_expect::{Expectation, InputEnd, KnownFault, ExpectationVerdict, read_known, write_unexpected};
 use mimic_printer::{OutputFault, Sink};
-use mimic_testkit::{Fault, FaultyWriter, Place};
 use std::alloc::{AllocError, Global};
 use std::io::{ErrorKind, Read, Write};
 use std::test::Fail;
@@ -389,30 +387,4 @@ fn refuses_other_lines(rt: HostRuntime) -> Result<(), Fail> {
         );
     }
     Ok(())
-}
-
-// Whether a writer that fails at the place got what comes before it, and wasn't called again.
-fn stops_so(alloc: Global, place: Place, fault: Fault) -> Result<bool, Fail> {
-    let known = known_in(alloc, KNOWN)??;
-    let report = text_of(alloc, FINDINGS)?;
-    let inputs = vec![in alloc; Slow::of(report.as_str())]?;
-    let writer = FaultyWriter::new(alloc).failing(place, fault);
-    let (writer, judged) = judge(alloc, &known, inputs, false, writer);
-    let found = text_of(alloc, FOUND)?;
-    Ok(matches!(judged, Err(OutputFault::Write(_))) && has_stopped(&writer, found.as_bytes()))
-}
-
-#[test]
-fn stops_at_a_write_fault(rt: HostRuntime) -> Result<(), Fail> {
-    let places = [
-        Place::Byte(0),
-        Place::Byte(60),
-        Place::Byte(200),
-        Place::Flush(1),
-    ];
-    check_stops(
-        &rt,
-        &places,
-        |place, fault| stops_so(rt.alloc(), place, fault),
-    )
 }

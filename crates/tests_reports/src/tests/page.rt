@@ -2,11 +2,9 @@
 use super::lines::{
     A_FAILED, NONE, announced, failed, ignored, measured, passed, read, summary, title,
 };
-use super::writers::{check_stops, has_stopped};
 use mimic_events::RowsRead;
 use mimic_printer::{Sink, WriteFault};
 use mimic_reports::write_page;
-use mimic_testkit::{Fault, FaultyWriter, Place};
 use std::alloc::Global;
 use std::io::Write;
 use std::process::Abort;
@@ -216,25 +214,4 @@ fn shows_reports(rt: HostRuntime) -> Result<(), Fail> {
         check_rows(&rt, alloc, page.as_str(), &shown.rows)?;
     }
     Ok(())
-}
-
-// Whether a writer that fails at the place got the part of the page before it, and wasn't called again.
-fn stops_so(alloc: Global, page: &str, place: Place, fault: Fault) -> Result<bool, Fail> {
-    let writer = FaultyWriter::new(alloc).failing(place, fault);
-    let (writer, written) = write_into(&read(alloc, A_FAILED)?, writer);
-    Ok(written.is_err() && has_stopped(&writer, page.as_bytes()))
-}
-
-#[test]
-fn stops_at_a_write_fault(rt: HostRuntime) -> Result<(), Fail> {
-    let page = page_of(rt.alloc(), A_FAILED)?;
-    let places = [
-        Place::Byte(0),
-        Place::Byte(500),
-        Place::Byte(5_000),
-        Place::Flush(1),
-    ];
-    check_stops(&rt, &places, |place, fault| {
-        stops_so(rt.alloc(), page.as_str(), place, fault)
-    })
 }

@@ -2,7 +2,6 @@
 use super::joining::shown;
 use mimic_join::{JoinFault, join_reports};
 use mimic_printer::Sink;
-use mimic_testkit::{Fault, FaultyWriter, Place};
 use mimic_trial::Conclusion;
 use std::alloc::Global;
 use std::io;
@@ -200,23 +199,4 @@ fn refuses_the_first_reader(rt: HostRuntime) -> Result<(), Fail> {
         Slow::of("no line\n"),
         "A: the report is cut",
     )
-}
-
-// Whether a writer that fails after `count` bytes got these bytes of the joined report, and wasn't called again.
-fn stops_so(alloc: Global, count: usize, fault: Fault) -> Result<bool, Fail> {
-    let inputs = vec![in alloc; Slow::of(FIRST), Slow::of(SECOND)]?;
-    let writer = FaultyWriter::new(alloc).failing(Place::Byte(count), fault);
-    let (writer, joined) = join_into(alloc, inputs, 2, writer);
-    let is_refused = matches!(joined, Err(JoinFault::Write(_))) && writer.calls_after == 0;
-    Ok(is_refused && BOTH.as_bytes().get(..count) == Some(writer.bytes.as_slice()))
-}
-
-#[test]
-fn stops_at_a_write_fault(rt: HostRuntime) -> Result<(), Fail> {
-    for count in [0, 3, 60, 400] {
-        for fault in Fault::ALL {
-            assert!(rt; stops_so(rt.alloc(), count, fault)?, "{count} {fault:?}");
-        }
-    }
-    Ok(())
 }
