@@ -5,7 +5,7 @@ use Rattle.mimic_trial.specs.declared.outcome.Outcome.{Outcome}
 use Rattle.mimic_trial.specs.declared.outcome.Outcome.TheVariants as outcome
 use Rattle.mimic_trial.specs.Count.{is_failed, is_ignored_outcome}
 use Rattle.mimic_trial.specs.Same.{same_outcome}
-use Rattle.mimic_printer.specs.Json.{Entry}
+use Rattle.mimic_printer.specs.Json.{Entry, outcomes_in}
 use Rattle.mimic_printer.specs.Row.{Label}
 use Rattle.mimic_events.specs.Key.{same_label}
 use Rattle.mimic_compare.specs.declared.class.Class.{Class}
@@ -23,7 +23,7 @@ labels_in entries = map (λ entry. entry.label) entries
 
 -- the outcomes of the rows with this kind and name
 abbrev pub outcomes_with : Label → List Entry → List Outcome
-outcomes_with label entries = map (λ entry. entry.outcome) (filter (λ entry. same_label label entry.label) entries)
+outcomes_with label entries = outcomes_in (filter (λ entry. same_label label entry.label) entries)
 
 -- ---- classes
 

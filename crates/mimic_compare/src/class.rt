@@ -31,7 +31,12 @@ pub enum Class {
 
 impl Class {
     // Returns the class of a kind and a name with these tallies.
-    pub(crate) fn of(old: &KeyTally, new: &KeyTally, has_other_messages: bool, is_judged: bool) -> Class
+    pub(crate) fn of(
+        old: &KeyTally,
+        new: &KeyTally,
+        has_other_messages: bool,
+        is_judged: bool,
+    ) -> Class
         ensures { (before after : List Outcome) → old.now ≡ tally_of before → new.now ≡ tally_of after
             → has_other_messages ≡ have_other_messages before after
             → result ≡ class_of is_judged before after }

@@ -62,7 +62,10 @@ pub(crate) fn tally_in<'a>(tallies: &HashMap<Key<'a>, KeyTally>, row: &'a Row) -
 }
 
 // Returns the tally of each kind and name that the rows have.
-pub(crate) fn tallies_in(alloc: Global, rows: &[Row]) -> Result<HashMap<Key<'_>, KeyTally>, AllocError>
+pub(crate) fn tallies_in(
+    alloc: Global,
+    rows: &[Row],
+) -> Result<HashMap<Key<'_>, KeyTally>, AllocError>
     ensures { IfOk result (λ tallies. HasTallies tallies (map entry_read rows.now)) }
 {
     let mut tallies = HashMap::new(alloc);

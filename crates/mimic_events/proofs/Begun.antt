@@ -8,7 +8,7 @@ use Rattle.std.proofs.lemmas.Str.{IsUtf8-nil}
 use Rattle.mimic_trial.specs.declared.outcome.Outcome.TheVariants.{Passed}
 use Rattle.mimic_trial.specs.Count.{counts_of}
 use Rattle.mimic_printer.specs.Row.{Label}
-use Rattle.mimic_printer.specs.Json.{Contents, Entry, FitsEntry, IsLine, entry_lines, json_announcement, json_outcome, json_summary, json_title}
+use Rattle.mimic_printer.specs.Json.{Contents, Entry, FitsEntry, IsLine, entry_lines, json_announcement, json_outcome, json_summary, json_title, outcomes_in}
 use Rattle.mimic_printer.proofs.JsonLines.{each_append}
 use Rattle.mimic_events.specs.Contents.{Spells}
 use Rattle.mimic_events.specs.Progress.{Fits, FitsNext, LeadsFrom, Next, Runs, State, Step, lines_from, start, state_text, text_so_far, title_and, title_next, row_next, outcome_next, nothing_next}
@@ -17,7 +17,6 @@ use Rattle.mimic_events.specs.Reading.{Decodes}
 use Rattle.mimic_events.specs.SoFar.{BeginsReport, IsFirstWrong}
 use Rattle.mimic_events.proofs.Readings.{ended, over, report_leads, report_read}
 use Rattle.mimic_events.proofs.States.{fits_more, rows_more, step_keeps}
-use Rattle.mimic_events.proofs.Summaries.{outcomes}
 use Rattle.mimic_events.proofs.WholeLines.{line_some, no_line, one_line}
 
 -- ---- what was read begins a report
@@ -52,7 +51,7 @@ rows_begin zero n es all small fits =
     let few : length es < 2 ^ 64 = omega (arith, all, small) in
     let whole = report_begins c (record { announced = few; entries = fits; next = (refl, omega arith, omega arith) }) in
     subst (λ (m : ℕ). BeginsReport (json_title m ++ concat (flat_map entry_lines es))) (omega (arith, all))
-    (front_begins (title_and (over c)) (json_summary (counts_of (outcomes es) 0) 0) whole)
+    (front_begins (title_and (over c)) (json_summary (counts_of (outcomes_in es) 0) 0) whole)
 rows_begin (suc k) n es all small fits =
     let e : Entry = blank nameless in
     let more = rows_begin k n (es ++ e ∷ []) (omega (arith, all, length-append es (e ∷ []))) small
@@ -73,7 +72,7 @@ begins_at (outcome_next label) s small fits at =
 begins_at (nothing_next filtered_out nanos) s small fits at =
     let c : Contents = record { entries = s.entries; filtered_out = filtered_out; nanos = nanos } in
     let few : length s.entries < 2 ^ 64 = omega (arith, at.0, small) in
-    subst (λ (m : ℕ). BeginsReport ((json_title m ++ concat (flat_map entry_lines s.entries)) ++ json_summary (counts_of (outcomes s.entries) filtered_out) nanos)) at.0
+    subst (λ (m : ℕ). BeginsReport ((json_title m ++ concat (flat_map entry_lines s.entries)) ++ json_summary (counts_of (outcomes_in s.entries) filtered_out) nanos)) at.0
     (report_begins c (record { announced = few; entries = fits; next = (refl, at.1, at.2) }))
 
 state_begins : (s : State) → Fits s → BeginsReport (state_text s)

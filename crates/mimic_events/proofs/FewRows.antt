@@ -12,11 +12,10 @@ use Rattle.std.proofs.lemmas.Str.{digit_value_digit}
 use Rattle.std.specs.Char.{digit_value}
 use Rattle.std.proofs.lemmas.List.Folds.{concat-append}
 use Rattle.mimic_trial.specs.Count.{counts_of}
-use Rattle.mimic_printer.specs.Json.{Contents, Entry, IsJsonReport, conclusion_of, entry_lines, json_announcement, json_end, json_outcome, json_report, json_summary, json_title, title_front}
+use Rattle.mimic_printer.specs.Json.{Contents, Entry, IsJsonReport, conclusion_of, entry_lines, json_announcement, json_end, json_outcome, json_report, json_summary, json_title, title_front, outcomes_in}
 use Rattle.mimic_printer.proofs.JsonLines.{announcement_line}
 use Rattle.mimic_events.specs.Progress.{Fits, Next, State, announced_from, state_text, text_so_far, title_next, outcome_next, nothing_next}
 use Rattle.mimic_events.proofs.Digits.{decimal_digits, one_end}
-use Rattle.mimic_events.proofs.Summaries.{outcomes}
 use Rattle.mimic_events.proofs.WholeLines.{line_some}
 
 -- ---- before the title
@@ -87,7 +86,7 @@ report_begins c = (_, refl)
 -- what follows the title and the rows
 abbrev pub behind_rows : Next → State → List ℕ
 behind_rows (outcome_next label) s = json_announcement label
-behind_rows (nothing_next filtered_out nanos) s = json_summary (counts_of (outcomes s.entries) filtered_out) nanos
+behind_rows (nothing_next filtered_out nanos) s = json_summary (counts_of (outcomes_in s.entries) filtered_out) nanos
 behind_rows other s = []
 
 -- the text, if its title was read

@@ -1,5 +1,5 @@
 -- The line that ends a report.
-use Rattle.std.proofs.Common.{◌≡◌, ℕ, List, [], ◌∷◌, ◌++◌, Option, Some, None, map, decimal, refl, sym, ap, ◌∙◌, arith}
+use Rattle.std.proofs.Common.{◌≡◌, ℕ, List, [], ◌∷◌, ◌++◌, Option, Some, None, decimal, refl, sym, ap, ◌∙◌, arith}
 use Rattle.std.specs.List.{concat}
 use Rattle.std.proofs.lemmas.List.{append_cancel_left, append_cancel_right, map-append}
 use Rattle.std.proofs.lemmas.List.Folds.{concat-append}
@@ -7,18 +7,15 @@ use Rattle.mimic_trial.specs.declared.outcome.Outcome.{Outcome}
 use Rattle.mimic_trial.specs.declared.outcome.conclusion.Conclusion.{Conclusion}
 use Rattle.mimic_trial.specs.Count.{counted, counts_of}
 use Rattle.mimic_trial.proofs.Counting.{counts-push}
-use Rattle.mimic_printer.specs.Json.{Entry, json_end, json_summary, summary_front, time_key}
+use Rattle.mimic_printer.specs.Json.{Entry, json_end, json_summary, summary_front, time_key, outcomes_in}
 use Rattle.mimic_trial.specs.Seconds.{exact_seconds}
 use Rattle.mimic_events.specs.LineParts.{IsTotals, ReadsNumber}
 use Rattle.mimic_events.specs.Reading.{Decodes, HasCounts, IsSeconds, IsSummary}
 
-abbrev pub outcomes : List Entry → List Outcome
-outcomes entries = map (λ entry. entry.outcome) entries
-
 -- one row more
 pub counts_more : (entries : List Entry) (counts : Conclusion) (e : Entry) → HasCounts counts entries → HasCounts (counted counts e.outcome) (entries ++ e ∷ [])
 counts_more entries counts e h =
-    ap (λ (c : Conclusion). counted c e.outcome) h ∙ sym (counts-push (outcomes entries) e.outcome 0)
+    ap (λ (c : Conclusion). counted c e.outcome) h ∙ sym (counts-push (outcomes_in entries) e.outcome 0)
     ∙ ap (λ (os : List Outcome). counts_of os 0) (sym (map-append (λ (x : Entry). x.outcome) entries (e ∷ [])))
 
 -- ---- what follows the counts of outcomes
@@ -60,7 +57,7 @@ summary_is os x t = concat-append (summary_front (counts_of os 0)) (decimal x �
 pub summary_front_is : (entries : List Entry) (counts : Conclusion) (line : List ℕ) (v : ℕ × ℕ) → HasCounts counts entries → IsSummary entries v line
     → line ≡ concat (summary_front counts) ++ totals_of v.0 v.1
 summary_front_is entries counts line v e h =
-    h.2 ∙ summary_is (outcomes entries) v.0 v.1
+    h.2 ∙ summary_is (outcomes_in entries) v.0 v.1
     ∙ ap (λ (c : Conclusion). concat (summary_front c) ++ totals_of v.0 v.1) (sym e)
 
 -- what is read after the counts is what the line says
@@ -68,8 +65,8 @@ pub summary_read : (entries : List Entry) (counts : Conclusion) (line rest : Lis
     → Decodes IsTotals rest o → Decodes (IsSummary entries) line o
 summary_read entries counts line rest None e f d = λ v h. d v (h.0, h.1, append_cancel_left (concat (summary_front counts)) rest (totals_of v.0 v.1) (sym f ∙ summary_front_is entries counts line v e h))
 summary_read entries counts line rest (Some found) e f d =
-    let whole : line ≡ json_summary (counts_of (outcomes entries) found.0) found.1 =
-    f ∙ ap (λ (y : List ℕ). concat (summary_front counts) ++ y) d.0.2 ∙ ap (λ (c : Conclusion). concat (summary_front c) ++ totals_of found.0 found.1) e ∙ sym (summary_is (outcomes entries) found.0 found.1) in (
+    let whole : line ≡ json_summary (counts_of (outcomes_in entries) found.0) found.1 =
+    f ∙ ap (λ (y : List ℕ). concat (summary_front counts) ++ y) d.0.2 ∙ ap (λ (c : Conclusion). concat (summary_front c) ++ totals_of found.0 found.1) e ∙ sym (summary_is (outcomes_in entries) found.0 found.1) in (
       (d.0.0, d.0.1, whole),
       λ v h. d.1 v (h.0, h.1, append_cancel_left (concat (summary_front counts)) rest (totals_of v.0 v.1) (sym f ∙ summary_front_is entries counts line v e h)),
     )

@@ -1,10 +1,10 @@
 -- How a report is read line by line, as by a machine: which line may come next, and where it leads. Of public clauses only those of a tally and of a follower name these words.
-use Rattle.std.specs.Prelude.{◌≡◌, ◌≢◌, ◌⊎◌, ℕ, ◌+◌, ◌*◌, ◌<◌, ◌≤◌, ◌^◌, List, [], ◌∷◌, ◌++◌, length, map, Bool, true, false, Option, Some, None}
+use Rattle.std.specs.Prelude.{◌≡◌, ◌≢◌, ◌⊎◌, ℕ, ◌+◌, ◌*◌, ◌<◌, ◌≤◌, ◌^◌, List, [], ◌∷◌, ◌++◌, length, Bool, true, false, Option, Some, None}
 use Rattle.std.specs.List.{AllByRecursion, concat, flat_map}
 use Rattle.mimic_trial.specs.declared.outcome.Outcome.{Outcome}
 use Rattle.mimic_trial.specs.Count.{counts_of}
 use Rattle.mimic_printer.specs.Row.{Label}
-use Rattle.mimic_printer.specs.Json.{Entry, FitsEntry, FitsLabel, entry_lines, json_announcement, json_outcome, json_summary, json_title}
+use Rattle.mimic_printer.specs.Json.{Entry, FitsEntry, FitsLabel, entry_lines, json_announcement, json_outcome, json_summary, json_title, outcomes_in}
 pub use Rattle.mimic_printer.specs.Json.{HasNoEnd, IsLine}
 use Rattle.mimic_events.specs.declared.stage.Stage.{Stage}
 use Rattle.mimic_events.specs.declared.stage.Stage.TheVariants as stage
@@ -83,7 +83,7 @@ text_so_far title_next s = []
 text_so_far row_next s = title_and s
 text_so_far (outcome_next label) s = title_and s ++ json_announcement label
 text_so_far (nothing_next filtered_out nanos) s =
-    title_and s ++ json_summary (counts_of (map (λ entry. entry.outcome) s.entries) filtered_out) nanos
+    title_and s ++ json_summary (counts_of (outcomes_in s.entries) filtered_out) nanos
 
 -- the lines that were read, one after another
 abbrev pub state_text : State → List ℕ
@@ -168,4 +168,4 @@ abbrev pub HasTotals : State → Option Totals → Type 0
 HasTotals s None = (filtered_out nanos : ℕ) → s.next ≢ nothing_next filtered_out nanos
 HasTotals s (Some t) = (s.next ≡ nothing_next t.counts.num_filtered_out t.nanos)
     × (t.rows ≡ length s.entries)
-    × (t.counts ≡ counts_of (map (λ entry. entry.outcome) s.entries) t.counts.num_filtered_out)
+    × (t.counts ≡ counts_of (outcomes_in s.entries) t.counts.num_filtered_out)

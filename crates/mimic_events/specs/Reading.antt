@@ -1,9 +1,9 @@
 -- What readers return, and what they read.
-use Rattle.std.specs.Prelude.{◌≡◌, ℕ, ◌<◌, ◌^◌, true, List, map, decimal, Option, Some, None}
+use Rattle.std.specs.Prelude.{◌≡◌, ℕ, ◌<◌, ◌^◌, true, List, decimal, Option, Some, None}
 use Rattle.mimic_trial.specs.declared.outcome.Outcome.{Outcome}
 use Rattle.mimic_trial.specs.declared.outcome.conclusion.Conclusion.{Conclusion}
 use Rattle.mimic_trial.specs.Count.{counts_of, is_failed}
-use Rattle.mimic_printer.specs.Json.{Entry, FitsEntry, FitsLabel, json_title, json_announcement, json_outcome, json_summary}
+use Rattle.mimic_printer.specs.Json.{Entry, FitsEntry, FitsLabel, json_title, json_announcement, json_outcome, json_summary, outcomes_in}
 use Rattle.mimic_printer.specs.Row.{Label}
 use Rattle.mimic_trial.specs.Promise.{FitsTypes}
 use Rattle.mimic_trial.specs.Seconds.{exact_seconds}
@@ -44,8 +44,8 @@ IsFailedLine entry line = (is_failed entry.outcome ≡ true) × FitsEntry entry 
 -- the line ends a report of these rows; `numbers` are how many trials were filtered out, and the nanoseconds
 abbrev pub IsSummary : List Entry → ℕ × ℕ → List ℕ → Type 0
 IsSummary entries numbers line = (numbers.0 < 2 ^ 64) × (numbers.1 < 2 ^ 64)
-    × (line ≡ json_summary (counts_of (map (λ entry. entry.outcome) entries) numbers.0) numbers.1)
+    × (line ≡ json_summary (counts_of (outcomes_in entries) numbers.0) numbers.1)
 
 -- `counts` says how many rows have each outcome
 abbrev pub HasCounts : Conclusion → List Entry → Type 0
-HasCounts counts entries = counts ≡ counts_of (map (λ entry. entry.outcome) entries) 0
+HasCounts counts entries = counts ≡ counts_of (outcomes_in entries) 0

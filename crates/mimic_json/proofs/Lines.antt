@@ -52,20 +52,20 @@ then_fields digits fs end e = ap (λ (r : List ℕ). digits ++ r) e ∙ sym (app
 number_printed : (key : List ℕ) (n : ℕ) (fs : List Field) (end : List ℕ) → end ≡ later_text fs ++ 10 ∷ [] → 44 ∷ 32 ∷ 34 ∷ (escaped key ++ 34 ∷ 58 ∷ 32 ∷ (decimal n ++ end)) ≡ later_text ((key, count n) ∷ fs) ++ 10 ∷ []
 number_printed key n fs end e = rw e (simp append_assoc)
 
-told_printed : (o : Outcome) → json_line (ours.outcome_fields o) ≡ later_text (event_fields o) ++ 10 ∷ []
+event_printed : (o : Outcome) → json_line (ours.outcome_fields o) ≡ later_text (event_fields o) ++ 10 ∷ []
 unfolding escaped
-told_printed Passed = refl
-told_printed (Failed None) = refl
-told_printed (Failed (Some message)) = ap (λ (r : List ℕ). codes ", \"event\": \"failed\", \"stdout\": \"Error: \\\"" ++ r)
+event_printed Passed = refl
+event_printed (Failed None) = refl
+event_printed (Failed (Some message)) = ap (λ (r : List ℕ). codes ", \"event\": \"failed\", \"stdout\": \"Error: \\\"" ++ r)
     (message_printed message (codes " }\n") ∙ sym (append_assoc (escaped (message ++ codes "\"\n") ++ 34 ∷ []) (codes " }") (10 ∷ [])))
-told_printed Ignored = refl
-told_printed (Measured m) = number_printed (codes "median") m.avg ((codes "deviation", count m.variance) ∷ []) _ (number_printed (codes "deviation") m.variance [] (codes " }\n") refl)
+event_printed Ignored = refl
+event_printed (Measured m) = number_printed (codes "median") m.avg ((codes "deviation", count m.variance) ∷ []) _ (number_printed (codes "deviation") m.variance [] (codes " }\n") refl)
 
 outcome_printed : (label : Label) (o : Outcome) (measured : Bool) → json_line (outcome_front measured ∷ escaped label.name ∷ codes "\"" ∷ kind_field label.kind ∷ ours.outcome_fields o)
     ≡ object_text ((codes "type", text (type_of measured)) ∷ (codes "name", text label.name) ∷ (kind_fields label.kind ++ event_fields o)) ++ 10 ∷ []
 unfolding escaped
-outcome_printed label o false = ap (λ (r : List ℕ). outcome_front false ++ r) (name_printed label.name label.kind (event_fields o) _ (told_printed o))
-outcome_printed label o true = ap (λ (r : List ℕ). outcome_front true ++ r) (name_printed label.name label.kind (event_fields o) _ (told_printed o))
+outcome_printed label o false = ap (λ (r : List ℕ). outcome_front false ++ r) (name_printed label.name label.kind (event_fields o) _ (event_printed o))
+outcome_printed label o true = ap (λ (r : List ℕ). outcome_front true ++ r) (name_printed label.name label.kind (event_fields o) _ (event_printed o))
 
 title_printed : (n : ℕ) → json_title n ≡ object_text (title_fields n) ++ 10 ∷ []
 unfolding json_title escaped
@@ -128,12 +128,12 @@ kind_fit : (kind : List ℕ) (fs : List Field) → AllByRecursion (λ g. FitsSca
 kind_fit [] fs h = h
 kind_fit (b ∷ bs) fs h = (tt, h)
 
-told_fit : (o : Outcome) → FitsTypes o → AllByRecursion (λ g. FitsScalar g.1) (event_fields o)
-told_fit Passed h = (tt, tt)
-told_fit (Failed None) h = (tt, tt)
-told_fit (Failed (Some message)) h = (tt, (tt, tt))
-told_fit Ignored h = (tt, tt)
-told_fit (Measured m) h = (h.0, (h.1, tt))
+event_fits : (o : Outcome) → FitsTypes o → AllByRecursion (λ g. FitsScalar g.1) (event_fields o)
+event_fits Passed h = (tt, tt)
+event_fits (Failed None) h = (tt, tt)
+event_fits (Failed (Some message)) h = (tt, (tt, tt))
+event_fits Ignored h = (tt, tt)
+event_fits (Measured m) h = (h.0, (h.1, tt))
 
 pub announcement_says : (label : Label) → IsReadAs (json_announcement label) (announcement_fields label)
 announcement_says label =
@@ -143,7 +143,7 @@ announcement_says label =
 
 pub outcome_says : (label : Label) (o : Outcome) → FitsTypes o → IsReadAs (json_outcome label o) (outcome_fields label o)
 unfolding json_outcome
-outcome_says label o h = says (json_outcome label o) (outcome_fields label o) (outcome_printed label o (is_measured o)) (tt, (tt, kind_fit label.kind (event_fields o) (told_fit o h))) (outcome_own label label.kind o)
+outcome_says label o h = says (json_outcome label o) (outcome_fields label o) (outcome_printed label o (is_measured o)) (tt, (tt, kind_fit label.kind (event_fields o) (event_fits o h))) (outcome_own label label.kind o)
 
 pub title_says : (n : ℕ) → n < 2 ^ 64 → IsReadAs (json_title n) (title_fields n)
 title_says n h = says (json_title n) (title_fields n) (title_printed n) (tt, (tt, (h, tt))) refl

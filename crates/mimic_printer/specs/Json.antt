@@ -143,9 +143,13 @@ pub record Contents : Type 0 where
   pub filtered_out : ℕ
   pub nanos : ℕ
 
+-- the outcomes of entries
+abbrev pub outcomes_in : List Entry → List Outcome
+outcomes_in entries = map (λ entry. entry.outcome) entries
+
 -- the counts that a report says
 abbrev pub conclusion_of : Contents → Conclusion
-conclusion_of c = counts_of (map (λ entry. entry.outcome) c.entries) c.filtered_out
+conclusion_of c = counts_of (outcomes_in c.entries) c.filtered_out
 
 -- the lines of a report: its title, those of its entries and its summary
 abbrev pub report_lines : Contents → List (List ℕ)

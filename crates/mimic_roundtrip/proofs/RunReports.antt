@@ -19,7 +19,7 @@ use Rattle.mimic_printer.proofs.JsonReports.{contents_of as contents_of_rows}
 use Rattle.mimic_events.specs.declared.report.Report.{Report}
 use Rattle.mimic_events.specs.Contents.{Spells, contents_read}
 use Rattle.mimic_events.specs.Reading.{Decodes}
-use Rattle.mimic_roundtrip.specs.Run.{TellsRun}
+use Rattle.mimic_roundtrip.specs.Run.{ReportsRun}
 
 -- ---- a run
 
@@ -28,27 +28,27 @@ appended bytes text a b e f p = rw (e, f) at p
 
 module _ {R : Type 0} (gives : Gives R) where
   -- the bytes are the report of what a run did
-  pub record Told (args : Arguments) (trials : List (Trial R)) (watch : Watched) (c : Conclusion) (bytes : List ℕ) : Type 0 where
+  pub record IsRead (args : Arguments) (trials : List (Trial R)) (watch : Watched) (c : Conclusion) (bytes : List ℕ) : Type 0 where
     pub report : Contents
     pub spelled : IsJsonReport bytes report
-    pub tells : TellsRun gives args trials watch c report
+    pub reports_trials : ReportsRun gives args trials watch c report
 
   -- the reading of these bytes
-  pub told_some : (args : Arguments) (trials : List (Trial R)) (watch : Watched) (c : Conclusion) (bytes : List ℕ) (o : Option Report) → Told args trials watch c bytes → Decodes Spells bytes (option_map contents_read o) → IsSome o
-  told_some args trials watch c bytes None told read = absurd (read told.report told.spelled)
-  told_some args trials watch c bytes (Some r) told read = refl
+  pub some_is_read : (args : Arguments) (trials : List (Trial R)) (watch : Watched) (c : Conclusion) (bytes : List ℕ) (o : Option Report) → IsRead args trials watch c bytes → Decodes Spells bytes (option_map contents_read o) → IsSome o
+  some_is_read args trials watch c bytes None reported read = absurd (read reported.report reported.spelled)
+  some_is_read args trials watch c bytes (Some r) reported read = refl
 
-  pub told_same : (args : Arguments) (trials : List (Trial R)) (watch : Watched) (c : Conclusion) (bytes : List ℕ) (o : Option Report) (r : Report) → o ≡ Some r → Told args trials watch c bytes → Decodes Spells bytes (option_map contents_read o)
-      → TellsRun gives args trials watch c (contents_read r)
-  told_same args trials watch c bytes o r e told read =
+  pub same_is_read : (args : Arguments) (trials : List (Trial R)) (watch : Watched) (c : Conclusion) (bytes : List ℕ) (o : Option Report) (r : Report) → o ≡ Some r → IsRead args trials watch c bytes → Decodes Spells bytes (option_map contents_read o)
+      → ReportsRun gives args trials watch c (contents_read r)
+  same_is_read args trials watch c bytes o r e reported read =
       let only = rw e at read in
-      subst (TellsRun gives args trials watch c) (only.1 told.report told.spelled) told.tells
+      subst (ReportsRun gives args trials watch c) (only.1 reported.report reported.spelled) reported.reports_trials
 
 module _ {R : Type 0} (gives : Gives R) where
   -- a run in JSON into an empty writer leaves such bytes
-  pub run_told : (args : Arguments) (trials : List (Trial R)) (old new : Shown) (watch : Watched) (c : Conclusion) (bytes : List ℕ) → format_of args ≡ Json → length trials < 2 ^ 64
-      → old.bytes ≡ Some [] → new.bytes ≡ Some bytes → OfSuite args false trials (λ suite. ReportedBy gives 1 suite old new watch c) → Told gives args trials watch c bytes
-  run_told args trials old new watch c bytes format few empty full (selected, selection, (placed, ordered, some, report)) =
+  pub run_is_read : (args : Arguments) (trials : List (Trial R)) (old new : Shown) (watch : Watched) (c : Conclusion) (bytes : List ℕ) → format_of args ≡ Json → length trials < 2 ^ 64
+      → old.bytes ≡ Some [] → new.bytes ≡ Some bytes → OfSuite args false trials (λ suite. ReportedBy gives 1 suite old new watch c) → IsRead gives args trials watch c bytes
+  run_is_read args trials old new watch c bytes format few empty full (selected, selection, (placed, ordered, some, report)) =
       let suite = suite_of args false selected (length trials - length selected) in
       let rows : List PrintedRow = rows_of suite placed in
       let x = suite.filtered_out in
@@ -57,7 +57,7 @@ module _ {R : Type 0} (gives : Gives R) where
       record {
         report = contents_of_rows rows x report.nanos;
         spelled = subst (λ (t : List ℕ). IsJsonReport t (contents_of_rows rows x report.nanos)) (sym same) spelled;
-        tells = record {
+        reports_trials = record {
           selected = selected;
           selection = selection;
           placed = placed;

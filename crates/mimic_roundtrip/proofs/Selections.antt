@@ -8,11 +8,11 @@ use Rattle.mimic_join.specs.Joined.{all_of}
 use Rattle.mimic_join.specs.Turns.{in_turn}
 use Rattle.mimic_join.proofs.Turns.{each-in_turn, parts-in_turn, shards_in_turn}
 use Rattle.mimic_roundtrip.specs.Joined.{SelectsShards, shards_of}
-use Rattle.mimic_roundtrip.proofs.JoinedRuns.{Tells, all_of-all, told_of}
+use Rattle.mimic_roundtrip.proofs.JoinedRuns.{IsReportedBy, all_of-all, reported_of}
 
 module _ {X : Type 0} (Out : X → Type 0) where
   abbrev Keeps : X → List X → Type 0
-  Keeps x part = Tells Out (λ (a b : X). a ≡ b) x part
+  Keeps x part = IsReportedBy Out (λ (a b : X). a ≡ b) x part
 
   each_itself : (xs : List X) → AllZip (λ (a b : X). a ≡ b) xs xs
   each_itself [] = tt
@@ -42,14 +42,14 @@ module _ {X : Type 0} (Out : X → Type 0) where
   all_parts [] (k ∷ kepts) h = absurd h
   all_parts (xs ∷ xss) [] h = absurd h
   all_parts (xs ∷ xss) (kept ∷ kepts) h =
-      let own = told_of Out (λ (a b : X). a ≡ b) xs kept kept h.0 (each_itself kept) in
+      let own = reported_of Out (λ (a b : X). a ≡ b) xs kept kept h.0 (each_itself kept) in
       let more = all_parts xss kepts h.1 in
       (own.0 ∷ more.0, (own.1, more.1), ap₂ (λ (y : List X) (ys : List (List X)). y ∷ ys) own.2 more.2)
 
   pub kept_in_turn : (xss kepts : List (List X)) (xs kept : List X) → in_turn xss ≡ xs → AllZip (LeavesOut Out) xss kepts → LeavesOut Out xs kept → IsPermutation (all_of kepts) kept
   kept_in_turn xss kepts xs kept same each left =
       let all = all_parts xss kepts each in
-      let own = told_of Out (λ (a b : X). a ≡ b) xs kept kept left (each_itself kept) in
+      let own = reported_of Out (λ (a b : X). a ≡ b) xs kept kept left (each_itself kept) in
       let turned : AllZip Keeps xs (in_turn all.0) = subst (λ l. AllZip Keeps l (in_turn all.0)) same (each-in_turn Keeps xss all.0 all.1) in
       let first : all_of (in_turn all.0) ≡ kept = ap all_of (one_list xs (in_turn all.0) own.0 turned own.1) ∙ own.2 in
       let last : all_of (all_of all.0) ≡ all_of kepts = sym (all_of-all all.0) ∙ ap all_of all.2 in

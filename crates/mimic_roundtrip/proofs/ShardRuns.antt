@@ -21,8 +21,8 @@ use Rattle.libtest_mimic.specs.declared.running.RunError.{RunError}
 use Rattle.mimic_trial.specs.declared.outcome.conclusion.Conclusion.{Conclusion}
 use Rattle.mimic_events.specs.Contents.{contents_read}
 use Rattle.mimic_events.specs.declared.report.Report.{Report}
-use Rattle.mimic_roundtrip.specs.Run.{TellsRun}
-use Rattle.mimic_roundtrip.specs.Joined.{IsEntryOf, RunsTell, TellsTrials}
+use Rattle.mimic_roundtrip.specs.Run.{ReportsRun}
+use Rattle.mimic_roundtrip.specs.Joined.{IsEntryOf, RunsReport, ReportsTrials}
 
 -- ---- a permutation of places is one of what is at them
 
@@ -72,8 +72,8 @@ module _ {R : Type 0} (gives : Gives R) (args : Arguments) where
         rows_in_order (front ++ t ∷ []) rest all placed (append_assoc front (t ∷ []) rest ∙ e) (more ∙ ap (λ k. range_with_len k (length rest)) (sym next)) (All-tail (IsOwnAt gives args all) (n, o) placed own),
       )
 
-pub runs_tell : {R : Type 0} (gives : Gives R) → RunsTell gives
-runs_tell gives args trials selected placed report selection arranged rows filtered_out =
+pub runs_report : {R : Type 0} (gives : Gives R) → RunsReport gives
+runs_report gives args trials selected placed report selection arranged rows filtered_out =
     let sorted = lifted (λ (p : Placed). p.0) placed (range_with_len 0 (length selected)) arranged.places in
     let own : All (IsOwnAt gives args selected) sorted.0 = All-permutation (IsOwnAt gives args selected) placed sorted.0 sorted.1 arranged.own in
     let labels = labels_of selected in
@@ -88,9 +88,9 @@ runs_tell gives args trials selected placed report selection arranged rows filte
     }
 
 -- the report of a run of the shard
-pub run_tells : {R : Type 0} (gives : Gives R) (args : Arguments) (tests shard : List (Trial R)) (watch : Watched) (result : Result (Conclusion × Report) RunError) → tests ≡ shard
-    → IfOk result (λ told. TellsRun gives args tests watch told.0 (contents_read told.1)) → IfOk result (λ told. TellsTrials gives args shard (contents_read told.1))
-run_tells gives args tests shard watch (Ok told) e h =
-    subst (λ l. TellsTrials gives args l (contents_read told.1)) e
-    (runs_tell gives args tests h.selected h.placed (contents_read told.1) h.selection h.arranged h.rows h.filtered_out)
-run_tells gives args tests shard watch (Err x) e h = tt
+pub shard_reports : {R : Type 0} (gives : Gives R) (args : Arguments) (tests shard : List (Trial R)) (watch : Watched) (result : Result (Conclusion × Report) RunError) → tests ≡ shard
+    → IfOk result (λ reported. ReportsRun gives args tests watch reported.0 (contents_read reported.1)) → IfOk result (λ reported. ReportsTrials gives args shard (contents_read reported.1))
+shard_reports gives args tests shard watch (Ok reported) e h =
+    subst (λ l. ReportsTrials gives args l (contents_read reported.1)) e
+    (runs_report gives args tests h.selected h.placed (contents_read reported.1) h.selection h.arranged h.rows h.filtered_out)
+shard_reports gives args tests shard watch (Err x) e h = tt

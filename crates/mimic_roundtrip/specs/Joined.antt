@@ -33,7 +33,7 @@ module _ {R : Type 0} (gives : Gives R) where
   IsEntryOf args trial entry = (entry.label ≡ label_of (info_of trial)) × IsOwn gives args trial entry.outcome
 
   -- a report of these trials: in some order an entry of each selected trial, each once, and the number of the others
-  pub record TellsTrials (args : Arguments) (trials : List (Trial R)) (report : Contents) : Type 0 where
+  pub record ReportsTrials (args : Arguments) (trials : List (Trial R)) (report : Contents) : Type 0 where
     pub selected : List (Trial R)
     pub selection : IsSelection args trials selected
     pub entries : List Entry
@@ -42,20 +42,20 @@ module _ {R : Type 0} (gives : Gives R) where
     pub filtered_out : report.filtered_out ≡ filtered_out_of trials selected
 
   -- The law of runs: what a run writes, whatever the order of its trials, is a report of the trials that it was given.
-  abbrev pub RunsTell : Type 0
-  RunsTell = (args : Arguments) (trials selected : List (Trial R)) (placed : List Placed) (report : Contents)
+  abbrev pub RunsReport : Type 0
+  RunsReport = (args : Arguments) (trials selected : List (Trial R)) (placed : List Placed) (report : Contents)
       → IsSelection args trials selected → IsArrangement gives args selected placed
       → report.entries ≡ rows_at (labels_of selected) placed → report.filtered_out ≡ filtered_out_of trials selected
-      → TellsTrials args trials report
+      → ReportsTrials args trials report
 
   -- The law from end to end: if for each shard there is a report of its trials, the joined report is one of all trials.
   abbrev pub JoinsRuns : Type 0
   JoinsRuns = (args : Arguments) (count : ℕ) (trials : List (Trial R)) (reports : List Report) (joined : Report) → 0 < count
-      → AllZip (λ shard report. TellsTrials args shard (contents_read report)) (shards_of count trials) reports
-      → IsJoined reports joined → TellsTrials args trials (contents_read joined)
+      → AllZip (λ shard report. ReportsTrials args shard (contents_read report)) (shards_of count trials) reports
+      → IsJoined reports joined → ReportsTrials args trials (contents_read joined)
 
   -- what holds of the runs of all shards
   pub record ShardLaws : Type 0 where
-    pub runs : RunsTell
+    pub runs : RunsReport
     pub joins : JoinsRuns
     pub selects : SelectsShards R

@@ -27,7 +27,7 @@ ghost use Rattle.libtest_mimic.specs.Arguments.{format_of};
 ghost use Rattle.libtest_mimic.specs.Stopwatch.{IsFresh};
 ghost use Rattle.libtest_mimic.specs.Trial.{AllCanRun};
 ghost use Rattle.mimic_events.specs.Contents.{contents_read};
-ghost use Rattle.mimic_roundtrip.specs.Run.{TellsRun};
+ghost use Rattle.mimic_roundtrip.specs.Run.{ReportsRun};
 
 use libtest_mimic::{
     Arguments, Clock, Conclusion, RunError, Sink, Stopwatch, Task, Trial, run_here,
@@ -50,7 +50,7 @@ pub fn run_to_report<R: Task, C: Clock>(
     requires runnable { AllCanRun R.can_run tests.items }
     requires fresh { IsFresh watch.old }
     ensures { IfOk result
-        (λ told. TellsRun R.gives args.now tests.items watch.new told.0 (contents_read told.1)) }
+        (λ ran. ReportsRun R.gives args.now tests.items watch.new ran.0 (contents_read ran.1)) }
 {
     let mut sink = Sink::new(Vec::new(alloc));
     let conclusion = run_here(alloc, args, tests, &mut sink, watch, false)?;

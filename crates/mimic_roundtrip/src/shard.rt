@@ -5,8 +5,8 @@ ghost use Rattle.libtest_mimic.specs.Arguments.{format_of};
 ghost use Rattle.libtest_mimic.specs.Stopwatch.{IsFresh};
 ghost use Rattle.libtest_mimic.specs.Trial.{AllCanRun};
 ghost use Rattle.mimic_events.specs.Contents.{contents_read};
-ghost use Rattle.mimic_roundtrip.specs.Joined.{ShardLaws, TellsTrials};
-ghost use Rattle.mimic_roundtrip.specs.Run.{TellsRun};
+ghost use Rattle.mimic_roundtrip.specs.Joined.{ShardLaws, ReportsTrials};
+ghost use Rattle.mimic_roundtrip.specs.Run.{ReportsRun};
 ghost use Rattle.mimic_trial.specs.Shard.{shard_of};
 
 use crate::run_to_report;
@@ -32,13 +32,13 @@ pub fn run_shard<R: Task, C: Clock>(
 
     // The conclusion has the report's counts, and the report has the trials of this shard in their order, with the watch's time.
     ensures run { IfOk result
-        (λ told. TellsRun R.gives args.now (shard_of shard.count shard.index tests.items)
-        watch.new told.0 (contents_read told.1)) }
+        (λ ran. ReportsRun R.gives args.now (shard_of shard.count shard.index tests.items)
+        watch.new ran.0 (contents_read ran.1)) }
 
     // So it is a report of the trials of this shard, as one by any number of threads is.
-    ensures tells { IfOk result
-        (λ told. TellsTrials R.gives args.now (shard_of shard.count shard.index tests.items)
-        (contents_read told.1)) }
+    ensures trials { IfOk result
+        (λ ran. ReportsTrials R.gives args.now (shard_of shard.count shard.index tests.items)
+        (contents_read ran.1)) }
 
     // So is what any run writes of a shard, with any number of threads, and the joined report of all shards is one of all
     // trials.

@@ -4,13 +4,12 @@ use Rattle.std.proofs.lemmas.List.{length-map, flat_map_more}
 use Rattle.mimic_trial.specs.declared.outcome.conclusion.Conclusion.{Conclusion}
 use Rattle.mimic_trial.specs.Count.{HasRoom, counted, counts_of}
 use Rattle.mimic_trial.proofs.Counting.{HasRoom-counts}
-use Rattle.mimic_printer.specs.Json.{Entry}
+use Rattle.mimic_printer.specs.Json.{Entry, outcomes_in}
 use Rattle.mimic_events.specs.Contents.{entry_read}
 use Rattle.mimic_events.specs.Follower.{FollowsOn, FollowsRow, HasFollowed}
 use Rattle.mimic_events.specs.declared.report.Row.{Row}
 use Rattle.mimic_events.proofs.Counted.{few, one_counted}
 use Rattle.mimic_watch.specs.declared.viewer.Viewer.{Viewer}
-use Rattle.mimic_watch.specs.Moments.{outcomes_in}
 use Rattle.mimic_watch.specs.Rows.{row_text}
 use Rattle.mimic_watch.specs.Viewers.{HasSeen, SeesOn, SeesRow}
 

@@ -1,10 +1,9 @@
 -- What is put as a report comes: at each moment what the rows show that have ended since the moment before, and maybe how far the run
 -- is.
-use Rattle.std.specs.Prelude.{◌≡◌, ◌⊎◌, ℕ, Bool, true, false, if◌then◌else◌, List, [], ◌∷◌, ◌++◌, length, map, codes, count_by, ⊤, Option, IfSome}
+use Rattle.std.specs.Prelude.{◌≡◌, ◌⊎◌, ℕ, Bool, true, false, if◌then◌else◌, List, [], ◌∷◌, ◌++◌, length, codes, count_by, ⊤, Option, IfSome}
 use Rattle.std.specs.List.{flat_map}
-use Rattle.mimic_trial.specs.declared.outcome.Outcome.{Outcome}
 use Rattle.mimic_trial.specs.Count.{is_failed}
-use Rattle.mimic_printer.specs.Json.{Entry}
+use Rattle.mimic_printer.specs.Json.{Entry, outcomes_in}
 use Rattle.mimic_printer.specs.Row.{Label}
 use Rattle.mimic_events.specs.Feed.{AreEnded}
 use Rattle.mimic_events.specs.SoFar.{BeginsWithTitle, ShowsRunning}
@@ -17,9 +16,6 @@ pub record Moment : Type 0 where
   pub erased : Bool
   pub ended : List Entry
   pub drawn : List ℕ
-
-abbrev pub outcomes_in : List Entry → List Outcome
-outcomes_in entries = map (λ entry. entry.outcome) entries
 
 -- on a terminal two lines, and else one
 abbrev pub drawn_text : Bool → View → List ℕ → List ℕ

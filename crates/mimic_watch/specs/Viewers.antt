@@ -3,7 +3,7 @@ use Rattle.std.specs.Prelude.{◌≡◌, ◌⊎◌, ℕ, ◌+◌, ◌-◌, ◌<�
 use Rattle.std.specs.Io.KnownBytes.{Consumes}
 use Rattle.std.specs.List.{flat_map}
 use Rattle.mimic_trial.specs.Count.{HasRoom, counted, counts_of}
-use Rattle.mimic_printer.specs.Json.{Entry}
+use Rattle.mimic_printer.specs.Json.{Entry, outcomes_in}
 use Rattle.mimic_printer.specs.Sink.{Put, Shown}
 use Rattle.mimic_printer.specs.declared.sink.OutputFault.{OutputFault}
 use Rattle.mimic_events.specs.Follower.{HasFollowed}
@@ -12,7 +12,7 @@ use Rattle.mimic_watch.specs.declared.verdict.WatchVerdict.{WatchVerdict}
 use Rattle.mimic_watch.specs.declared.verdict.WatchFault.TheVariants.{Write}
 use Rattle.mimic_watch.specs.declared.viewer.Viewer.{Viewer}
 use Rattle.mimic_watch.specs.Frames.{erase}
-use Rattle.mimic_watch.specs.Moments.{AreMomentsAfter, IsDrawn, Moment, ended_in, moments_text, outcomes_in}
+use Rattle.mimic_watch.specs.Moments.{AreMomentsAfter, IsDrawn, Moment, ended_in, moments_text}
 use Rattle.mimic_watch.specs.Rows.{row_text}
 use Rattle.mimic_watch.specs.Watched.{AreCounts, HasFailed, last_text}
 

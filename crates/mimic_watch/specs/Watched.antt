@@ -4,7 +4,7 @@ use Rattle.std.specs.Io.KnownBytes.{Consumes}
 use Rattle.mimic_trial.specs.declared.formats.FormatSetting.TheVariants.{Pretty}
 use Rattle.mimic_trial.specs.declared.outcome.conclusion.Conclusion.{Conclusion}
 use Rattle.mimic_trial.specs.Count.{counts_of}
-use Rattle.mimic_printer.specs.Json.{Entry}
+use Rattle.mimic_printer.specs.Json.{Entry, outcomes_in}
 use Rattle.mimic_printer.specs.Report.{result_summary}
 use Rattle.mimic_printer.specs.Sink.{Put, Shown, Stopped}
 use Rattle.mimic_printer.specs.declared.sink.OutputFault.TheVariants as output
@@ -15,7 +15,7 @@ use Rattle.mimic_events.specs.Readings.{IsReading}
 use Rattle.mimic_watch.specs.declared.verdict.WatchVerdict.{WatchVerdict}
 use Rattle.mimic_watch.specs.declared.verdict.WatchFault.{WatchFault}
 use Rattle.mimic_watch.specs.declared.verdict.WatchFault.TheVariants.{Read, Write}
-use Rattle.mimic_watch.specs.Moments.{AreMomentsAfter, Moment, ended_in, moments_text, outcomes_in}
+use Rattle.mimic_watch.specs.Moments.{AreMomentsAfter, Moment, ended_in, moments_text}
 
 -- ---- verdicts
 

@@ -21,5 +21,5 @@ mod verdict;
 mod viewer;
 
 pub use frame::ERASE;
-pub use verdict::{WatchVerdict, WatchFault};
+pub use verdict::{WatchFault, WatchVerdict};
 pub use viewer::watch;

@@ -19,8 +19,7 @@ pub struct WatchVerdict {
 impl WatchVerdict {
     ghost use Rattle.std.specs.Prelude.{List};
     ghost use Rattle.mimic_trial.specs.Count.{counts_of};
-    ghost use Rattle.mimic_printer.specs.Json.{Entry};
-    ghost use Rattle.mimic_watch.specs.Moments.{outcomes_in};
+    ghost use Rattle.mimic_printer.specs.Json.{Entry, outcomes_in};
     ghost use Rattle.mimic_watch.specs.Watched.{AreCounts, status_of};
 
     /// The status of a watch of a report that isn't whole.

@@ -8,7 +8,7 @@ ghost use Rattle.mimic_watch.specs.Viewers.{put_text};
 use crate::frame::{ERASE, View, first_line, push_frame, second_line};
 use crate::pace::{Pace, nanos};
 use crate::row::push_row;
-use crate::verdict::{WatchVerdict, WatchFault};
+use crate::verdict::{WatchFault, WatchVerdict};
 use mimic_events::{Ending, Follower, PIECE, ReadFault, Row, read_piece};
 use mimic_printer::{OutputFault, Printer, Sink, WriteFault};
 use mimic_trial::{Conclusion, FormatSetting, Outcome};

@@ -4,7 +4,9 @@ use crate::input::Input;
 use crate::line::Expect;
 use crate::{BLOCK, REFUSED};
 use mimic_events::Ending;
-use mimic_expect::{Expectation, InputEnd, KnownFault, ExpectationVerdict, read_known, write_unexpected};
+use mimic_expect::{
+    Expectation, ExpectationVerdict, InputEnd, KnownFault, read_known, write_unexpected,
+};
 use mimic_printer::{OutputFault, Sink};
 use std::alloc::Global;
 use std::io::{BufWriter, Read};

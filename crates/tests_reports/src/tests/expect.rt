@@ -6,7 +6,9 @@ use super::lines::{
 };
 use super::reading::Slow;
 use mimic_events::Ending;
-use mimic_expect::{Expectation, InputEnd, KnownFault, ExpectationVerdict, read_known, write_unexpected};
+use mimic_expect::{
+    Expectation, ExpectationVerdict, InputEnd, KnownFault, read_known, write_unexpected,
+};
 use mimic_printer::{OutputFault, Sink};
 use std::alloc::{AllocError, Global};
 use std::io::{ErrorKind, Read, Write};

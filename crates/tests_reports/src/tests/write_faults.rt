@@ -19,7 +19,6 @@ use std::process::Abort;
 use std::test::Fail;
 use std::time::Duration;
 
-
 // A call that writes to a sink.
 #[derive(Clone, Copy, Debug, PartialEq, Eq)]
 enum Call {
@@ -85,7 +84,10 @@ fn write_text(
     let fault = match call {
         Call::Pieces => fault_of(alloc, put_pieces(&mut sink, &[SHORT, SHORT])),
         Call::LongPieces => fault_of(alloc, put_pieces(&mut sink, &[SHORT, LONG, SHORT])),
-        _ => fault_of(alloc, put_escaped(&mut sink, b"a\x1bb\x1bc", Place::Terminal)),
+        _ => fault_of(
+            alloc,
+            put_escaped(&mut sink, b"a\x1bb\x1bc", Place::Terminal),
+        ),
     }?;
     Ok((sink.into_inner(), fault))
 }
@@ -126,7 +128,10 @@ fn write(
         }
         Call::Unexpected => {
             let inputs = vec![in alloc; input]?;
-            fault_of(alloc, write_unexpected(alloc, &[], inputs, false, &mut sink))
+            fault_of(
+                alloc,
+                write_unexpected(alloc, &[], inputs, false, &mut sink),
+            )
         }
         Call::Watch => {
             let mut input = input;
