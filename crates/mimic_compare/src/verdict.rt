@@ -8,6 +8,7 @@ use crate::comparison::compare_rows;
 use crate::lines::{count_of, put_comparisons};
 use mimic_events::{Ending, RowsRead};
 use mimic_printer::{OutputFault, Sink};
+use mimic_trial::Conclusion;
 use std::alloc::Global;
 use std::io::Write;
 
@@ -31,7 +32,7 @@ impl ComparisonVerdict {
         ensures { result ≡ status_of self.now }
     {
         if self.regressed > 0 || self.missing > 0 {
-            101
+            Conclusion::FAILED
         } else if self.are_whole {
             0
         } else {

@@ -6,7 +6,7 @@ ghost use Rattle.mimic_join.specs.Inputs.{AreReportsIn, CannotRead, Leaves};
 use crate::faults::JoinFault;
 use crate::join::totals_of;
 use crate::order::refs_in_turn;
-use crate::text::{counts_of_refs, put_joined};
+use crate::write::{counts_of_refs, put_joined};
 use mimic_events::{Report, read_from};
 use mimic_printer::Sink;
 use mimic_trial::Conclusion;

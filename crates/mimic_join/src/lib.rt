@@ -21,7 +21,7 @@ mod join;
 mod names;
 mod numbers;
 mod order;
-mod text;
+mod write;
 
 pub use faults::{JoinFault, NamedFault};
 pub use inputs::join_reports;

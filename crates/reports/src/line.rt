@@ -87,6 +87,9 @@ pub(crate) enum LineError {
     /// Standard input is named twice.
     #[error("standard input can be read once only")]
     TwoInputs,
+    /// No subcommand is named that is read here.
+    #[error("no subcommand")]
+    NoSubcommand,
     /// Help was asked for, or `clap` refused the line.
     #[error("{0}")]
     Shown(clap::Error),
@@ -110,8 +113,9 @@ impl Line {
             Some(("expect", expect)) => Line::Expect(Expect::from_matches(alloc, expect)?),
             Some(("compare", compare)) => Line::Compare(Compare::from_matches(alloc, compare)?),
             Some(("page", page)) => Line::Page(Page::from_matches(alloc, page)?),
-            // `clap` has refused a line without a subcommand.
-            _ => Line::Watch,
+            Some(("watch", _)) => Line::Watch,
+            // `clap` has refused a line with no subcommand or with another one.
+            _ => return Err(LineError::NoSubcommand),
         })
     }
 }

@@ -15,6 +15,7 @@ mod watch;
 
 use faults::refuse_all;
 use line::{Line, LineError};
+use mimic_trial::Conclusion;
 use std::process::ExitCode;
 
 // How many bytes of a report are buffered at most before they are written.
@@ -27,7 +28,7 @@ const REFUSED: u8 = 1;
 
 const USAGE: u8 = 2;
 
-const TRIALS_FAILED: u8 = 101;
+const TRIALS_FAILED: u8 = Conclusion::FAILED;
 
 fn main(rt: HostRuntime) -> ExitCode {
     let alloc = rt.alloc();
@@ -48,7 +49,7 @@ fn main(rt: HostRuntime) -> ExitCode {
 fn refuse(rt: &HostRuntime, error: &LineError) -> u8 {
     match error {
         LineError::OutOfMemory(_) => refuse_all(rt, error),
-        LineError::Unread(_) | LineError::TwoInputs => {
+        LineError::Unread(_) | LineError::TwoInputs | LineError::NoSubcommand => {
             refuse_all(rt, error);
             USAGE
         }

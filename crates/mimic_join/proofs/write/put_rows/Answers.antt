@@ -1,7 +1,7 @@
 use Rattle.mimic_events.specs.Written.{row_lines}
 use Rattle.mimic_events.specs.declared.report.Row.{Row}
 use Rattle.mimic_printer.proofs.Appending.{Put-next, Puts-stopped, Stopped-next}
-use Rattle.mimic_join.proofs.text.put_rows.Goals as goal
+use Rattle.mimic_join.proofs.write.put_rows.Goals as goal
 use denote.Ref.{Bor}
 
 pub returns-in_err-put_row : goal.returns-in_err-put_row

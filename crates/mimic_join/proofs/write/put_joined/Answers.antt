@@ -1,5 +1,5 @@
 use Rattle.mimic_printer.proofs.Appending.{Put-Stopped, Put-trans, Puts-stopped, Puts_after, Stopped-more, stop2}
-use Rattle.mimic_join.proofs.text.put_joined.Goals as goal
+use Rattle.mimic_join.proofs.write.put_joined.Goals as goal
 
 pub returns-in_err-put_title : goal.returns-in_err-put_title
 returns-in_err-put_title g c = Puts-stopped _ _ c.from_residual.ensures.0 (Stopped-more _ _ c.in_err-put_title.ensures)
