@@ -1,18 +1,19 @@
 -- What workers reported and answered: the title, the rows that were reported, and then those that were missing.
-use Rattle.std.proofs.Common.{◌≡◌, ◌∙◌, ℕ, ◌<◌, ◌||◌, Bool, true, false, inr, List, [], ◌∷◌, ◌++◌, Option, None, Some, Result, Ok, Err, length, map, drop, refl, sym, ap, subst, arith}
+use Rattle.std.proofs.Common.{◌≡◌, ◌∙◌, ℕ, ◌<◌, ◌||◌, Bool, true, false, inl, inr, List, [], ◌∷◌, ◌++◌, Option, None, Some, Result, Ok, Err, length, map, drop, refl, sym, ap, subst, arith}
 use Rattle.std.specs.List.{range_with_len}
 use Rattle.std.specs.List.Sorted.{IsPermutation}
-use Rattle.std.specs.Prelude.{IfErr, IsErrAnd, MatchResult, slice_get}
+use Rattle.std.specs.Prelude.{IfErr, IsErrAnd, MatchResult, is_ok, slice_get}
 use Rattle.std.proofs.Math.Seq.{drop-append_seam}
 use Rattle.std.proofs.lemmas.List.Concat.{flat_map-append}
 use Rattle.mimic_trial.specs.declared.outcome.Outcome.{Outcome}
 use Rattle.mimic_trial.specs.declared.trial.TestInfo.{TestInfo}
 use Rattle.mimic_trial.specs.Places.{Placed, placed_at, placed_if, places_of}
 use Rattle.mimic_pool.specs.declared.share.Assigned.{Assigned}
-use Rattle.mimic_pool.specs.Arrivals.{Arrived, missing_of}
+use Rattle.mimic_pool.specs.Arrivals.{AgreesAt, Arrived, arrived_at, missing_of}
 use Rattle.mimic_pool.specs.Joined.{AreJoined, AreOutcomes, put_each}
 use Rattle.mimic_pool.specs.Share.{assigned_from}
 use Rattle.mimic_pool.proofs.Joining.{joined_whole}
+use Rattle.mimic_pool.proofs.Placing.{have_places, put_or, row_put}
 use Rattle.mimic_trial.specs.Promise.{Gives}
 use Rattle.mimic_printer.specs.declared.Printer.{Printer}
 use Rattle.mimic_printer.specs.Report.{rows_text, title_text}
@@ -23,7 +24,7 @@ use Rattle.mimic_printer.proofs.Appending.{Put-Stopped, Put-refl, Put-trans, Sto
 use Rattle.libtest_mimic.specs.Run.{Follows, OnNothingWritten}
 use Rattle.libtest_mimic.specs.declared.running.RunError.{RunError}
 use Rattle.libtest_mimic.specs.declared.running.RunError.TheVariants.{OutOfMemory, Write, ZeroThreads, Spawn, Arrival}
-use Rattle.libtest_mimic.specs.Gathering.{Gathered, GatheredSome, GatheringRefused, IsCompleted, IsDifference, IsGathered, IsOfRows, IsReturned}
+use Rattle.libtest_mimic.specs.Gathering.{Gathered, GatheredSome, GatheringRefused, IsCompleted, IsDifference, IsGathered, IsLeastDifference, IsOfRows, IsReturned, WrittenAndReturned}
 use Rattle.libtest_mimic.specs.Steps.{RowsRefused, titled_told, told_text}
 use Rattle.libtest_mimic.proofs.Arranged.{length_assigned}
 use Rattle.std.proofs.lemmas.Bool.{false≢true}
@@ -170,19 +171,72 @@ module _ {R : Type 0} (gives : Gives R) (mode : Bool) (items : List (Assigned R)
   after_title all (Write fault) (placed, left, rows, none, s) = inr (placed, left, rows, Put-Stopped _ _ titled s)
   after_title all ZeroThreads h = absurd h
   after_title all Spawn h = absurd h
-  after_title all (Arrival place) (low, h) =
+  after_title all (Arrival place) (low, h, named) =
       (low, record { text = title_text p (length infos) ++ h.text; appended = Appends-trans a.bytes b.bytes c.bytes (title_text p (length infos)) h.text titled.appended h.appended; kept = omega (arith, titled.faults, h.kept); one = omega (arith, titled.faults, h.one) })
 
   -- and what was written if they were not
   pub titled_all : (desk : Arrived) → IsGathered gives mode items desk × Put b c (told_text p infos desk) → IsGathered gives mode items desk × Put a c (titled_told p infos desk)
   titled_all desk rows = (rows.0, Put-trans _ _ titled rows.1)
 
--- a difference that is named
-pub differs_refused : {R : Type 0} (gives : Gives R) (mode : Bool) (items : List (Assigned R)) (all : Bool) (p : Printer) (infos : List TestInfo) (a b : Shown)
-    (desk : Arrived) (joined : List (List Placed)) → desk.places ≡ length infos → Follows a b → (e : RunError) → IsDifference desk joined e → GatheringRefused gives mode items all p infos a b e
-differs_refused gives mode items all p infos a b desk joined places h e differs =
-    let named = differs.named in
-    subst (GatheringRefused gives mode items all p infos a b) (sym named.named) (subst (λ (n : ℕ). named.place < n) places named.below, h)
+-- ---- a difference
+
+-- something arrived at a place that doesn't agree
+arrived_there : (rows : List Placed) (outs : List Outcome) (p : ℕ) (x : Option Outcome) → arrived_at p rows ≡ x → ¬ AgreesAt rows outs p → (o : Outcome) × (arrived_at p rows ≡ Some o)
+arrived_there rows outs p None e differs = absurd (differs (λ o first. absurd (let none = sym e ∙ first in cc)))
+arrived_there rows outs p (Some o) e differs = (o, e)
+
+pub or_true : (runs whole : Bool) → whole ≡ true → (runs || whole) ≡ true
+or_true true whole all = refl
+or_true false whole all = all
+
+or_false : (runs whole : Bool) → whole ≡ false → (runs || whole) ≡ runs
+or_false true whole part = refl
+or_false false whole part = part
+
+module _ {R : Type 0} (gives : Gives R) (mode : Bool) (rs : List R) (bs : List Bool) where
+  abbrev trials : List (Assigned R)
+  trials = assigned_from 0 rs bs
+
+  -- what differs from the outcomes that were put is no row of a worker
+  least_difference : (whole : Bool) (desk : Arrived) (joined : List (List Placed)) (e : RunError) (difference : IsDifference desk joined e) → AreJoined gives mode trials whole joined
+      → IsLeastDifference desk.rows joined difference.named.place
+  least_difference whole desk joined e difference are =
+      let named = difference.named in
+      let first = arrived_there desk.rows (put_each joined difference.outcomes) named.place (arrived_at named.place desk.rows) refl named.differs in
+      let low : named.place < length difference.outcomes = omega (arith, named.below, difference.count) in
+      record {
+        outcome = first.0;
+        first = first.1;
+        differs = λ has. named.differs (λ o came. row_put whole (length trials) joined difference.outcomes named.place first.0 (have_places gives mode rs bs whole joined are) low has ∙ (sym first.1 ∙ came));
+        least = λ earlier o below came. elim (put_or joined difference.outcomes earlier o (named.least earlier below o came)) [
+          | inl has ↦ has
+          | inr before ↦ absurd (difference.others earlier o came before)
+        ];
+      }
+
+  was_written : {E T : Type 0} (all whole : Bool) (r : Result T E) (text : List ℕ) (a b : Shown) (joined : List (List Placed)) → whole ≡ is_ok r → Writes a b text r → AreJoined gives mode trials (all || whole) joined
+      → WrittenAndReturned gives mode trials all text a b joined
+  was_written all whole (Ok x) text a b joined is put are = inl (put, subst (λ (w : Bool). AreJoined gives mode trials w joined) (or_true all whole is) are)
+  was_written all whole (Err x) text a b joined is stopped are = inr (stopped, subst (λ (w : Bool). AreJoined gives mode trials w joined) (or_false all whole is) are)
+
+  -- a difference that is named
+  pub differs_refused : {E T : Type 0} (all whole : Bool) (r : Result T E) (p : Printer) (infos : List TestInfo) (a b : Shown) (desk : Arrived) (joined : List (List Placed)) → desk.places ≡ length infos → whole ≡ is_ok r
+      → IsPermutation (places_of desk.rows ++ missing_of desk) (range_with_len 0 desk.places)
+      → Writes a b (told_text p infos desk) r → AreJoined gives mode trials (all || whole) joined → (e : RunError) → IsDifference desk joined e → GatheringRefused gives mode trials all p infos a b e
+  differs_refused all whole r p infos a b desk joined places is once written are e difference =
+      let named = difference.named in
+      subst (GatheringRefused gives mode trials all p infos a b) (sym named.named) (
+        subst (λ (n : ℕ). named.place < n) places named.below,
+        follows a a b [] (told_text p infos desk) r (Put-refl a) written,
+        record {
+          arrived = desk.rows;
+          missing = missing_of desk;
+          once = subst (λ (n : ℕ). IsPermutation (places_of desk.rows ++ missing_of desk) (range_with_len 0 n)) places once;
+          returned = joined;
+          written = was_written all whole r (told_text p infos desk) a b joined is written are;
+          least = least_difference (all || whole) desk joined e difference are;
+        },
+      )
 
 -- such a refusal comes when something was written
 pub written_before : {T : Type 0} (r : Result T RunError) (P : Type 0) → IfErr r IsOfRows → OnNothingWritten r P

@@ -27,18 +27,28 @@ use Rattle.libtest_mimic.specs.declared.running.RunError.TheVariants.{OutOfMemor
 use Rattle.libtest_mimic.specs.Arrangement.{IsArrangement, IsOwnAt}
 use Rattle.libtest_mimic.specs.Run.{ReportRefused, ReportedBy}
 use Rattle.libtest_mimic.specs.Gathering.{Gathered, IsGathered, IsRowOf}
-use Rattle.libtest_mimic.specs.Steps.{AreParts, RowsRefused, titled_told}
+use Rattle.libtest_mimic.specs.Steps.{AreParts, AreSupplied, RowsRefused, titled_told}
 use Rattle.libtest_mimic.specs.Stopwatch.{Watched, IsRunning, elapsed_of}
 use Rattle.libtest_mimic.specs.Suite.{Suite, in_order, rows_of}
 use Rattle.libtest_mimic.proofs.Arranged.{arranged, flags_length, labels_apart, length_assigned, length_gathered, order_below, rows_own, whole_gathered}
 use Rattle.libtest_mimic.proofs.OnlyOutcomes.{outcomes_of-rows_at}
 use Rattle.libtest_mimic.proofs.WholeReport.{reported, starts_failures, starts_some, starts_summary, starts_title, titled}
 
-pub parts_shown : {R : Type 0} (args : Arguments) (trials : List (Trial R)) (infos shown : List TestInfo) (rs : List R) (bs : List Bool) → shown ≡ infos
+parts_shown : {R : Type 0} (args : Arguments) (trials : List (Trial R)) (infos shown : List TestInfo) (rs : List R) (bs : List Bool) → shown ≡ infos
     → AreParts args trials infos rs bs → AreParts args trials shown rs bs
 parts_shown args trials infos shown rs bs e parts = record { each_info = e ∙ parts.each_info; each_runner = parts.each_runner; each_flag = parts.each_flag }
 
-module _ {R : Type 0} (gives : Gives R) (suite : Suite R) (infos : List TestInfo) (rs : List R) (bs : List Bool) (parts : AreParts suite.args suite.trials infos rs bs) where
+-- trials that were supplied, and what is shown of each
+module _ {R : Type 0} (gives : Gives R) (suite : Suite R) (can_run : R → Type 0) (supply : Supply R) (known infos : List TestInfo) (are : infos ≡ known) (supplied : AreSupplied can_run suite.args suite.trials known supply) where
+  abbrev rs : List R
+  rs = supplied.runners
+
+  abbrev bs : List Bool
+  bs = supplied.flags
+
+  parts : AreParts suite.args suite.trials infos rs bs
+  parts = parts_shown suite.args suite.trials known infos rs bs are supplied.parts
+
   abbrev GatheredOf : List ℕ → List Outcome → Type 0
   GatheredOf order outs = Gathered gives (not suite.args.bench) (assigned_from 0 rs bs) order outs
 
@@ -59,13 +69,12 @@ module _ {R : Type 0} (gives : Gives R) (suite : Suite R) (infos : List TestInfo
   flags_of_infos = sym (flags_length suite.args suite.trials bs parts.each_flag) ∙ sym count
 
   -- what holds of all runners and flags that were put holds of those of the trials
-  pub of_held : {P : List R → List Bool → Type 0} (can_run : R → Type 0) (supply : Supply R) → Holds can_run supply (assigned_from 0 rs bs)
+  pub of_held : {P : List R → List Bool → Type 0}
       → ((rs' : List R) (bs' : List Bool) → length rs' ≡ length infos → length bs' ≡ length infos → Holds can_run supply (assigned_from 0 rs' bs') → P rs' bs') → P rs bs
-  of_held can_run supply held said = said rs bs runners_of_infos flags_of_infos held
+  of_held said = said rs bs runners_of_infos flags_of_infos supplied.held
 
-  pub held_of : (can_run : R → Type 0) (supply : Supply R) → Holds can_run supply (assigned_from 0 rs bs)
-      → (rs' : List R) × (bs' : List Bool) × (length rs' ≡ length infos) × (length bs' ≡ length infos) × Holds can_run supply (assigned_from 0 rs' bs')
-  held_of can_run supply held = (rs, bs, runners_of_infos, flags_of_infos, held)
+  pub held_of : (rs' : List R) × (bs' : List Bool) × (length rs' ≡ length infos) × (length bs' ≡ length infos) × Holds can_run supply (assigned_from 0 rs' bs')
+  held_of = (rs, bs, runners_of_infos, flags_of_infos, supplied.held)
 
   -- as many were put as there are trials
   as_many_put : length (assigned_from 0 rs bs) ≡ length suite.trials

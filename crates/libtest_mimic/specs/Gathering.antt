@@ -1,18 +1,18 @@
 -- What the rows of workers are: that they run the trials, what they returned, and what is refused.
-use Rattle.std.specs.Prelude.{◌≡◌, ◌≢◌, ◌<◌, ◌≤◌, ◌++◌, ℕ, All, Bool, List, [], Some, false, length, map, true, Result, MatchResult, slice_get, slice_index_or, vec_capacity, vec_len}
-use Rattle.std.specs.List.{range_with_len}
+use Rattle.std.specs.Prelude.{◌≡◌, ◌≢◌, ◌⊎◌, ◌<◌, ◌≤◌, ◌++◌, ℕ, All, Bool, List, [], Some, false, length, map, true, Result, MatchResult, slice_get, slice_index_or, vec_capacity, vec_len}
+use Rattle.std.specs.List.{Contains, flat_map, range_with_len}
 use Rattle.std.specs.List.Sorted.{IsPermutation}
 use Rattle.mimic_trial.specs.declared.outcome.Outcome.{Outcome}
 use Rattle.mimic_trial.specs.declared.trial.TestInfo.{TestInfo}
 use Rattle.mimic_trial.specs.Places.{Placed, placed_at, places_of}
 use Rattle.mimic_trial.specs.Promise.{Gives, IsOutcomeOf}
 use Rattle.mimic_pool.specs.Arrivals.{AgreesAt, Arrived, arrived_at}
-use Rattle.mimic_pool.specs.Joined.{AreOutcomes, put_each}
+use Rattle.mimic_pool.specs.Joined.{AreJoined, AreOutcomes, put_each}
 use Rattle.mimic_pool.specs.declared.share.Assigned.{Assigned}
 use Rattle.mimic_printer.specs.declared.Printer.{Printer}
 use Rattle.mimic_printer.specs.Report.{rows_text}
 use Rattle.mimic_printer.specs.Row.{label_of, rows_at}
-use Rattle.mimic_printer.specs.Sink.{Shown, Stopped}
+use Rattle.mimic_printer.specs.Sink.{Put, Shown, Stopped}
 use Rattle.libtest_mimic.specs.declared.running.RunError.{RunError}
 use Rattle.libtest_mimic.specs.declared.running.RunError.TheVariants.{OutOfMemory, Write, ZeroThreads, Spawn, Arrival}
 use Rattle.libtest_mimic.specs.declared.running.gathering.Started.{Started}
@@ -48,10 +48,11 @@ pub record IsCompleted (whole : Bool) (old : Arrived) (joined : List (List Place
   pub all : IsPermutation (places_of new.rows) (range_with_len 0 old.places)
   pub arrived : whole ≡ false → IsReturned old outcomes (put_each joined outcomes)
 
--- something else arrived than the workers returned
+-- something else arrived than the workers returned, or they returned nothing there
 pub record IsDifference (desk : Arrived) (joined : List (List Placed)) (error : RunError) : Type 0 where
   pub outcomes : List Outcome
   pub count : length outcomes ≡ desk.places
+  pub others : (place : ℕ) (o : Outcome) → arrived_at place desk.rows ≡ Some o → slice_get outcomes place ≢ Some o
   pub named : NamesDifference desk (put_each joined outcomes) error
 
 -- the desk was completed with what the workers returned, unless something else had arrived
@@ -65,6 +66,14 @@ IsOfRows (Write fault) = Unit {0}
 IsOfRows ZeroThreads = ⊥
 IsOfRows Spawn = ⊥
 IsOfRows (Arrival place) = Unit {0}
+
+-- the place is the least one whose first row among those that arrived is none that a worker returned
+pub record IsLeastDifference (arrived : List Placed) (returned : List (List Placed)) (place : ℕ) : Type 0 where
+  pub outcome : Outcome
+  pub first : arrived_at place arrived ≡ Some outcome
+  pub differs : ¬ Contains (flat_map (λ rows. rows) returned) (place, outcome)
+  pub least : (earlier : ℕ) (o : Outcome) → earlier < place → arrived_at earlier arrived ≡ Some o
+      → Contains (flat_map (λ rows. rows) returned) (earlier, o)
 
 module _ {R : Type 0} (gives : Gives R) (test_mode : Bool) (items : List (Assigned R)) where
   -- there is an outcome of each item at its place, and the order has each place once
@@ -88,8 +97,25 @@ module _ {R : Type 0} (gives : Gives R) (test_mode : Bool) (items : List (Assign
     pub own : All IsRowOf placed
     pub places : IsPermutation (places_of placed ++ left) (range_with_len 0 (length items))
 
+  -- the text was written, and the workers returned rows of all items; or a beginning of it was, and they returned rows of all items
+  -- if they run all
+  abbrev pub WrittenAndReturned : Bool → List ℕ → Shown → Shown → List (List Placed) → Type 0
+  WrittenAndReturned all text old new returned =
+      (Put old new text × AreJoined gives test_mode items true returned)
+      ⊎ (Stopped old new text × AreJoined gives test_mode items all returned)
+
+  -- rows arrived, each at a place of its own, and were written, or a beginning of them was; the workers returned rows; and the place is
+  -- the least one at which these differ
+  pub record NamesLeast (all : Bool) (p : Printer) (infos : List TestInfo) (old new : Shown) (place : ℕ) : Type 0 where
+    pub arrived : List Placed
+    pub missing : List ℕ
+    pub once : IsPermutation (places_of arrived ++ missing) (range_with_len 0 (length infos))
+    pub returned : List (List Placed)
+    pub written : WrittenAndReturned all (rows_text p (rows_at (map label_of infos) arrived)) old new returned
+    pub least : IsLeastDifference arrived returned place
+
   -- what was written if rows were refused: if a write failed, a beginning of rows of what the workers returned, and no item is left
-  -- if these run all
+  -- if these run all; if an outcome that arrived isn't the one that its worker returned, what had arrived, and its place is the least
   abbrev pub GatheringRefused : Bool → Printer → List TestInfo → Shown → Shown → RunError → Type 0
   GatheringRefused all p infos old new OutOfMemory = ⊥
   GatheringRefused all p infos old new (Write fault) =
@@ -97,4 +123,5 @@ module _ {R : Type 0} (gives : Gives R) (test_mode : Bool) (items : List (Assign
       × Stopped old new (rows_text p (rows_at (map label_of infos) placed))
   GatheringRefused all p infos old new ZeroThreads = ⊥
   GatheringRefused all p infos old new Spawn = ⊥
-  GatheringRefused all p infos old new (Arrival place) = (place < length infos) × Follows old new
+  GatheringRefused all p infos old new (Arrival place) =
+      (place < length infos) × Follows old new × NamesLeast all p infos old new place

@@ -4,5 +4,5 @@ pub use crate::running::gathering::{Started, gather_rows};
 pub use mimic_pool::{
     Arrival, Board, BoardReports, Crew, Desk, Inbox, MemoryReports, Missing, Reports, Rows,
     Schedule, Share, Starts, Supply, Untold, deal, deal_next, empty_shares, join_all, put_joined,
-    start_all, work,
+    start_all, work, worker_count,
 };

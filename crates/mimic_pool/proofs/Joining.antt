@@ -53,7 +53,7 @@ module _ {X : Type 0} where
   has_from_index p zero (x ∷ xs) d low e = inl e
   has_from_index p (suc k) (x ∷ xs) d low e = inr (has_from_index p k xs d (omega arith) e)
 
-length_put : (rows : List Placed) (outs : List Outcome) → length (put_all rows outs) ≡ length outs
+pub length_put : (rows : List Placed) (outs : List Outcome) → length (put_all rows outs) ≡ length outs
 length_put [] outs = refl
 length_put (r ∷ rs) outs = length_put rs (slice_set outs r.0 r.1) ∙ length-set outs r.0 r.1
 
@@ -97,7 +97,7 @@ put_both [] more outcomes = refl
 put_both (row ∷ rows) more outcomes = put_both rows more _
 
 -- the rows of each worker, one worker's after another's, are one list of rows
-put_flat : (joined : List (List Placed)) (outcomes : List Outcome) → put_each joined outcomes ≡ put_all (flat_map (λ rows. rows) joined) outcomes
+pub put_flat : (joined : List (List Placed)) (outcomes : List Outcome) → put_each joined outcomes ≡ put_all (flat_map (λ rows. rows) joined) outcomes
 put_flat [] outcomes = refl
 put_flat (rows ∷ joined) outcomes = put_flat joined (put_all rows outcomes) ∙ sym (put_both rows (flat_map (λ rows. rows) joined) outcomes)
 

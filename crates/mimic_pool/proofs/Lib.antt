@@ -4,6 +4,7 @@ pub mod FirstArrivals
 pub mod Reporting
 pub mod Posting
 pub mod Joining
+pub mod Placing
 pub mod Ordering
 pub mod Seating
 pub mod Settling

@@ -11,8 +11,9 @@ use Rattle.mimic_trial.specs.Promise.{Gives}
 use Rattle.mimic_pool.specs.declared.share.Assigned.{Assigned}
 use Rattle.mimic_pool.specs.declared.share.Share.{Share}
 use Rattle.mimic_pool.specs.Answers.{Answers}
-use Rattle.mimic_pool.specs.Share.{AllRunners, AreShares, items_of, share_of}
-use Rattle.mimic_pool.specs.Shares.{AreAnswered, AreDealt, jobs_of}
+use Rattle.mimic_pool.specs.Share.{AllRunners, AreShares, assigned_from, items_of, share_of}
+use Rattle.mimic_pool.specs.Shares.{AreAnswered, AreDealt, AreOfShare, AreOfShares, jobs_of}
+use Rattle.mimic_pool.proofs.Placing.{answered_places, share_places}
 use Rattle.mimic_pool.proofs.Working.{answers_both}
 
 module _ {X : Type 0} (can_run : X → Type 0) where
@@ -107,6 +108,41 @@ module _ {X : Type 0} (gives : Gives X) where
   answered_flat mode [] (rows ∷ joined) are = absurd are
   answered_flat mode (s ∷ shares) [] are = absurd are
   answered_flat mode (s ∷ shares) (rows ∷ joined) are = answers_both gives mode (items_of s) (flat_map items_of shares) rows (flat_map (λ rows. rows) joined) are.0 (answered_flat mode shares joined are.1)
+
+  answered_count : (mode : Bool) (shares : List (Share X)) (joined : List (List Placed)) → AreAnswered gives (jobs_of mode shares) joined → length joined ≡ length shares
+  answered_count mode [] [] are = refl
+  answered_count mode [] (rows ∷ joined) are = absurd are
+  answered_count mode (s ∷ shares) [] are = absurd are
+  answered_count mode (s ∷ shares) (rows ∷ joined) are = let rest = answered_count mode shares joined are.1 in omega (arith, rest)
+
+  answered_at : (mode : Bool) (shares : List (Share X)) (joined : List (List Placed)) (worker : ℕ) (s : Share X) (rows : List Placed) → AreAnswered gives (jobs_of mode shares) joined → worker < length joined
+      → Answers gives mode (items_of (slice_index_or shares worker s)) (slice_index_or joined worker rows)
+  answered_at mode [] [] worker s d are low = absurd (omega arith)
+  answered_at mode [] (rows ∷ joined) worker s d are low = absurd are
+  answered_at mode (share ∷ shares) [] worker s d are low = absurd are
+  answered_at mode (share ∷ shares) (rows ∷ joined) zero s d are low = are.0
+  answered_at mode (share ∷ shares) (rows ∷ joined) (suc worker) s d are low = answered_at mode shares joined worker s d are.1 (omega arith)
+
+  -- the rows that answer the share of a worker have its places
+  of_share : (mode : Bool) (rs : List X) (bs : List Bool) (workers worker : ℕ) (rows : List Placed) → Answers gives mode (share_of workers worker (assigned_from 0 rs bs)) rows → AreOfShare gives mode (assigned_from 0 rs bs) workers worker rows
+  of_share mode rs bs workers worker rows answers = record {
+    places = answered_places gives mode (share_of workers worker (assigned_from 0 rs bs)) rows answers ∙ share_places workers worker 0 rs bs;
+    answers = answers;
+  }
+
+  pub of_shares : (mode : Bool) (rs : List X) (bs : List Bool) (shares : List (Share X)) (joined : List (List Placed)) → 1 ≤ length shares → AreShares (assigned_from 0 rs bs) (length shares) shares
+      → AreAnswered gives (jobs_of mode shares) joined → AreOfShares gives mode (assigned_from 0 rs bs) joined
+  of_shares mode rs bs [] joined some dealt are = absurd (omega arith)
+  of_shares mode rs bs (s ∷ shares) joined some dealt are =
+      let trials = assigned_from 0 rs bs in
+      let count = answered_count mode (s ∷ shares) joined are in
+      let each : (worker : ℕ) (d : List Placed) → worker < length joined → AreOfShare gives mode trials (length (s ∷ shares)) worker (slice_index_or joined worker d) = λ worker d low.
+      of_share mode rs bs (length (s ∷ shares)) worker (slice_index_or joined worker d)
+      (subst (λ items. Answers gives mode items (slice_index_or joined worker d)) (dealt worker s (omega (arith, low, count))) (answered_at mode (s ∷ shares) joined worker s d are low)) in
+      record {
+        some = omega (arith, some, count);
+        each = subst (λ (n : ℕ). (worker : ℕ) (d : List Placed) → worker < length joined → AreOfShare gives mode trials n worker (slice_index_or joined worker d)) (sym count) each;
+      }
 
   -- what answers the jobs that are left makes answers of all jobs
   abbrev pub LeavesJobs : List (Bool × List (Assigned X)) → List (List Placed) → List (Bool × List (Assigned X)) → Type 0

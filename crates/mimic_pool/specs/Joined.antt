@@ -1,9 +1,9 @@
 -- What the workers' answers make when they are joined: an outcome for each place.
 use Rattle.std.specs.Prelude.{ℕ, ◌≡◌, ◌<◌, ◌++◌, Bool, List, [], ◌∷◌, length, slice_index_or, slice_set, true}
-use Rattle.std.specs.List.{flat_map}
+use Rattle.std.specs.List.{flat_map, range_with_len}
 use Rattle.std.specs.List.Sorted.{IsPermutation}
 use Rattle.mimic_trial.specs.declared.outcome.Outcome.{Outcome}
-use Rattle.mimic_trial.specs.Places.{Placed}
+use Rattle.mimic_trial.specs.Places.{Placed, places_of}
 use Rattle.mimic_trial.specs.Promise.{Gives, IsOutcomeOf}
 use Rattle.mimic_pool.specs.Answers.{Answers}
 use Rattle.mimic_pool.specs.declared.share.Assigned.{Assigned}
@@ -17,6 +17,12 @@ put_all (row ∷ rows) outcomes = put_all rows (slice_set outcomes row.0 row.1)
 abbrev pub put_each : List (List Placed) → List Outcome → List Outcome
 put_each [] outcomes = outcomes
 put_each (rows ∷ more) outcomes = put_each more (put_all rows outcomes)
+
+-- the rows of all workers have each of `count` places once, and no other place, but for those that are left, and none is left if the whole is to be run
+pub record HavePlaces (whole : Bool) (count : ℕ) (joined : List (List Placed)) : Type 0 where
+  pub left : List ℕ
+  pub once : IsPermutation (places_of (flat_map (λ rows. rows) joined) ++ left) (range_with_len 0 count)
+  pub all : whole ≡ true → left ≡ []
 
 module _ {X : Type 0} (gives : Gives X) where
   -- these rows answer the trials, each once, in some order, but for those that were dropped

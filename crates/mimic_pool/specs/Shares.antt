@@ -1,9 +1,10 @@
 -- Shares that workers start with, run and return.
-use Rattle.std.specs.Prelude.{◌≡◌, ◌≤◌, ◌∷◌, [], All, Bool, List, length, map, vec_capacity, vec_len}
-use Rattle.mimic_trial.specs.Places.{Placed}
+use Rattle.std.specs.Prelude.{◌≡◌, ◌%◌, ◌<◌, ◌≤◌, ◌==◌, ◌∷◌, [], ℕ, All, Bool, List, filter, length, map, slice_index_or, vec_capacity, vec_len}
+use Rattle.std.specs.List.{range_with_len}
+use Rattle.mimic_trial.specs.Places.{Placed, places_of}
 use Rattle.mimic_trial.specs.Promise.{Gives}
 use Rattle.mimic_pool.specs.Answers.{Answers}
-use Rattle.mimic_pool.specs.Share.{AreShares, items_of}
+use Rattle.mimic_pool.specs.Share.{AreShares, items_of, share_of}
 use Rattle.mimic_pool.specs.declared.share.Assigned.{Assigned}
 use Rattle.mimic_pool.specs.declared.share.Share.{Share}
 use Rattle.mimic_pool.specs.declared.shares.ShareCrew.{ShareCrew}
@@ -54,3 +55,14 @@ AreAnswered gives [] [] = Unit {0}
 AreAnswered gives [] (rows ∷ joined) = ⊥
 AreAnswered gives (job ∷ jobs) [] = ⊥
 AreAnswered gives (job ∷ jobs) (rows ∷ joined) = Answers gives job.0 job.1 rows × AreAnswered gives jobs joined
+
+module _ {X : Type 0} (gives : Gives X) (mode : Bool) (trials : List (Assigned X)) where
+  -- these rows are of the worker's share: each of its places once, rising, with an own outcome
+  pub record AreOfShare (workers worker : ℕ) (rows : List Placed) : Type 0 where
+    pub places : places_of rows ≡ filter (λ place. place % workers == worker) (range_with_len 0 (length trials))
+    pub answers : Answers gives mode (share_of workers worker trials) rows
+
+  -- the rows of each worker are of its share
+  pub record AreOfShares (joined : List (List Placed)) : Type 0 where
+    pub some : 1 ≤ length joined
+    pub each : (worker : ℕ) (rows : List Placed) → worker < length joined → AreOfShare (length joined) worker (slice_index_or joined worker rows)

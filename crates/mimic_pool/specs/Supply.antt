@@ -36,3 +36,8 @@ module _ {X : Type 0} where
   abbrev pub runs_all : Crew X → Bool
   runs_all (crew.Shares started) = true
   runs_all (crew.Queue started) = false
+
+  -- P holds if the workers run shares
+  abbrev pub OnShares : Crew X → Type 0 → Type 0
+  OnShares (crew.Shares started) P = P
+  OnShares (crew.Queue started) P = Unit {0}

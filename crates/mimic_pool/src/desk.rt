@@ -105,9 +105,12 @@ impl Desk {
         lying(self.outcomes.as_slice(), seat)
     }
 
-    /// The places of the first arrivals, in the order in which they came.
+    /// The places of the first arrivals, in the order in which they came. They and those that are missing are all places, each
+    /// once.
     pub fn order(&self) -> &[usize]
-        ensures { result.now ≡ places_of self.now.rows }
+        ensures places { result.now ≡ places_of self.now.rows }
+        ensures whole { IsPermutation (places_of self.now.rows ++ missing_of self.now)
+            (range_with_len 0 self.now.places) }
     {
         self.order.as_slice()
     }

@@ -50,5 +50,5 @@ pub use rows::{Rows, put_joined};
 pub use share::{Share, deal, deal_next, empty_shares};
 pub use shares::{ShareCrew, ShareStarts};
 pub use spawner::Spawner;
-pub use supply::{Crew, Schedule, Starts, Supply, join_all, start_all};
+pub use supply::{Crew, Schedule, Starts, Supply, join_all, start_all, worker_count};
 pub use worker::work;

@@ -4,9 +4,9 @@ ghost use Rattle.mimic_pool.specs.Answers.{Answers};
 ghost use Rattle.mimic_pool.specs.Board.{empty_board};
 ghost use Rattle.mimic_pool.specs.Inbox.{board_of};
 ghost use Rattle.mimic_pool.specs.Rows.{rows_in};
-ghost use Rattle.mimic_pool.specs.Share.{AllRunners, items_of};
+ghost use Rattle.mimic_pool.specs.Share.{AllRunners, assigned_from, items_of};
 ghost use Rattle.mimic_pool.specs.Joined.{AreJoined};
-ghost use Rattle.mimic_pool.specs.Shares.{AreAnswered, AreDealt, AreReadyShares, RunsShares, job_of, jobs_of, shares_of};
+ghost use Rattle.mimic_pool.specs.Shares.{AreAnswered, AreDealt, AreOfShares, AreReadyShares, RunsShares, job_of, jobs_of, shares_of};
 ghost use Rattle.mimic_pool.specs.declared.share.Assigned.{Assigned};
 
 use crate::board_reports::BoardReports;
@@ -93,6 +93,8 @@ pub(crate) fn join_shares<T: Task + Send + 'static, R: Threads>(
     requires running { (mode : Bool) × (trials : List (Assigned T)) × RunsShares crew mode trials }
     ensures joined { (mode : Bool) (trials : List (Assigned T)) → RunsShares crew mode trials
         → AreJoined T.gives mode trials true (map rows_in result.items) }
+    ensures shares { (mode : Bool) (runners : List T) (flags : List Bool) → RunsShares crew mode (assigned_from 0 runners flags)
+        → AreOfShares T.gives mode (assigned_from 0 runners flags) (map rows_in result.items) }
 {
     let ShareCrew { handles, joined } = crew;
     join_workers(rt, handles, joined)

@@ -1,12 +1,13 @@
 //! How trials get to workers.
-ghost use Rattle.std.specs.Prelude.{◌≡◌, ◌++◌, ◌∷◌, ◌≤◌, ◌||◌, [], Bool, IfOk, IfSome, List, OnOk, length, map, true};
+ghost use Rattle.std.specs.Prelude.{◌≡◌, ◌++◌, ◌∷◌, ◌≤◌, ◌||◌, [], Bool, IfOk, IfSome, List, OnOk, length, map, min, true};
 ghost use Rattle.mimic_trial.specs.declared.outcome.Outcome.{Outcome as AnOutcome};
 ghost use Rattle.mimic_pool.specs.Board.{empty_board};
 ghost use Rattle.mimic_pool.specs.Inbox.{board_of};
-ghost use Rattle.mimic_pool.specs.Joined.{AreJoined, AreOutcomes, put_each};
+ghost use Rattle.mimic_pool.specs.Joined.{AreJoined, AreOutcomes, HavePlaces, put_each};
 ghost use Rattle.mimic_pool.specs.Rows.{rows_in};
-ghost use Rattle.mimic_pool.specs.Supply.{AreReady, Holds, Runs, runs_all, workers_of};
 ghost use Rattle.mimic_pool.specs.Share.{assigned_from};
+ghost use Rattle.mimic_pool.specs.Shares.{AreOfShares};
+ghost use Rattle.mimic_pool.specs.Supply.{AreReady, Holds, OnShares, Runs, runs_all, workers_of};
 ghost use Rattle.mimic_pool.specs.declared.share.Assigned.{Assigned};
 
 use crate::inbox::Inbox;
@@ -27,6 +28,13 @@ pub enum Schedule {
     Shares,
     /// Trials wait in one queue, and a worker takes the next ones when it is free.
     Queue,
+}
+
+/// How many workers run `trials` on `threads`: one for each thread, but never more than there are trials.
+pub fn worker_count(threads: usize, trials: usize) -> usize
+    ensures { result ≡ min threads trials }
+{
+    threads.min(trials)
 }
 
 /// Trials that wait for workers.
@@ -150,9 +158,9 @@ pub fn start_all<T: Task + Send + 'static, R: Spawner + 'static>(
     }
 }
 
-/// Joins the workers, and returns the rows of each: a place and the outcome there, for each trial that it ran. Unless `whole`
-/// is set, workers that take from a queue end what they have taken and take no more, and the trials that are left there are
-/// dropped. A worker that has a share runs all of it.
+/// Joins the workers, and returns the rows of each: a place and the outcome there, for each trial that it ran, in the order in
+/// which it ran them. Unless `whole` is set, workers that take from a queue end what they have taken and take no more, and the
+/// trials that are left there are dropped. A worker that has a share runs all of it, in rising order of the places.
 pub fn join_all<T: Task + Send + 'static, R: Spawner>(
     rt: &R,
     crew: Crew<T>,
@@ -161,6 +169,10 @@ pub fn join_all<T: Task + Send + 'static, R: Spawner>(
     requires running { (mode : Bool) × (trials : List (Assigned T)) × Runs T.gives crew mode trials }
     ensures joined { (mode : Bool) (trials : List (Assigned T)) → Runs T.gives crew mode trials
         → AreJoined T.gives mode trials (runs_all crew || whole) (map rows_in result.items) }
+    ensures places { (mode : Bool) (runners : List T) (flags : List Bool) → Runs T.gives crew mode (assigned_from 0 runners flags)
+        → HavePlaces (runs_all crew || whole) (length (assigned_from 0 runners flags)) (map rows_in result.items) }
+    ensures shares { (mode : Bool) (runners : List T) (flags : List Bool) → Runs T.gives crew mode (assigned_from 0 runners flags)
+        → OnShares crew (AreOfShares T.gives mode (assigned_from 0 runners flags) (map rows_in result.items)) }
     ensures outcomes { (mode : Bool) (runners : List T) (flags : List Bool) → Runs T.gives crew mode (assigned_from 0 runners flags)
         → (runs_all crew || whole) ≡ true → (outcomes : List AnOutcome) → length outcomes ≡ length (assigned_from 0 runners flags)
         → AreOutcomes T.gives mode (assigned_from 0 runners flags) (put_each (map rows_in result.items) outcomes) }

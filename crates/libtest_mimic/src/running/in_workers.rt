@@ -17,7 +17,7 @@ use crate::running::summary::write_summary;
 use crate::select::is_ignored;
 use crate::stopwatch::{Clock, Stopwatch};
 use mimic_args::Arguments;
-use mimic_pool::{Desk, Remaining, Schedule, Spawner, Supply, start_all};
+use mimic_pool::{Desk, Remaining, Schedule, Spawner, Supply, start_all, worker_count};
 use mimic_printer::{Printer, Sink};
 use mimic_trial::{Conclusion, Task, TestInfo, Trial};
 use std::alloc::{AllocError, Global};
@@ -55,7 +55,7 @@ pub(super) fn run_in_workers<R: Task + Send + 'static, W: Write, C: Clock, T: Sp
         printer,
         filtered_out,
     } = selected;
-    let count = workers.threads.min(trials.len());
+    let count = worker_count(workers.threads, trials.len());
     let supply = Supply::new(alloc, workers.schedule, trials.len(), count)?;
     let (infos, supplied) = take_apart(rt, alloc, args, trials, supply)?;
     let infos = infos.as_slice();

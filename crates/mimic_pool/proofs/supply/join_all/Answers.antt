@@ -1,16 +1,25 @@
 use Rattle.std.proofs.Common.{map, refl, true}
 use Rattle.mimic_pool.specs.Rows.{rows_in}
 use Rattle.mimic_pool.proofs.Joining.{joined_whole}
+use Rattle.mimic_pool.proofs.Placing.{have_places}
 use Rattle.mimic_pool.proofs.supply.join_all.Goals as goal
 
 pub returns-in-Shares : goal.returns-in-Shares
-returns-in-Shares g c = rw c.in-Shares.is (record {
-  joined = c.join_shares.ensures.joined;
-  outcomes = λ mode rs bs runs all outcomes len. joined_whole g.T.Task.gives mode rs bs true (map rows_in c.join_shares.result.items) (c.join_shares.ensures.joined mode _ runs) refl outcomes len;
-})
+returns-in-Shares g c =
+    let joined = map rows_in c.join_shares.result.items in
+    rw c.in-Shares.is (record {
+      joined = c.join_shares.ensures.joined;
+      places = λ mode rs bs runs. have_places g.T.Task.gives mode rs bs true joined (c.join_shares.ensures.joined mode _ runs);
+      shares = c.join_shares.ensures.shares;
+      outcomes = λ mode rs bs runs all outcomes len. joined_whole g.T.Task.gives mode rs bs true joined (c.join_shares.ensures.joined mode _ runs) refl outcomes len;
+    })
 
 pub returns-in-Queue : goal.returns-in-Queue
-returns-in-Queue g c = rw c.in-Queue.is (record {
-  joined = c.join_takers.ensures.joined;
-  outcomes = λ mode rs bs runs all outcomes len. joined_whole g.T.Task.gives mode rs bs c.args.whole (map rows_in c.join_takers.result.items) (c.join_takers.ensures.joined mode _ runs) all outcomes len;
-})
+returns-in-Queue g c =
+    let joined = map rows_in c.join_takers.result.items in
+    rw c.in-Queue.is (record {
+      joined = c.join_takers.ensures.joined;
+      places = λ mode rs bs runs. have_places g.T.Task.gives mode rs bs c.args.whole joined (c.join_takers.ensures.joined mode _ runs);
+      shares = λ mode rs bs runs. tt;
+      outcomes = λ mode rs bs runs all outcomes len. joined_whole g.T.Task.gives mode rs bs c.args.whole joined (c.join_takers.ensures.joined mode _ runs) all outcomes len;
+    })

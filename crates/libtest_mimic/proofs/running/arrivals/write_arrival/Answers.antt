@@ -14,13 +14,13 @@ pub row-requires : goal.row-requires
 row-requires g c =
     let first = first_row c.args.desk.now c.args.place c.args.outcome (sym c.in-First.is ∙ c.arrive.ensures.answer) in
     let rows = ap length (c.arrive.ensures.rows ∙ first.2) in
-    omega (arith, rows, length-append c.args.desk.now.rows ((c.args.place, c.args.outcome) ∷ []), ap length c.order-number.ensures, length-map c.args.desk.now.rows (λ (r : Placed). r.0))
+    omega (arith, rows, length-append c.args.desk.now.rows ((c.args.place, c.args.outcome) ∷ []), ap length c.order-number.ensures.places, length-map c.args.desk.now.rows (λ (r : Placed). r.0))
 
 pub returns-in-First-clause-told : goal.returns-in-First-clause-told
 returns-in-First-clause-told g c base put =
     let first = first_row c.args.desk.now c.args.place c.args.outcome (sym c.in-First.is ∙ c.arrive.ensures.answer) in
     let rows = c.arrive.ensures.rows ∙ first.2 in
-    let number = ap length c.order-number.ensures ∙ length-map c.args.desk.now.rows (λ (r : Placed). r.0) in
+    let number = ap length c.order-number.ensures.places ∙ length-map c.args.desk.now.rows (λ (r : Placed). r.0) in
     let row : Placed = (c.args.place, c.args.outcome) in
     let got : Placed = (c.row.result.0, c.row.result.1.now) in
     let same : Some got ≡ Some row = sym c.row.ensures ∙ (ap (λ l. slice_get l (length c.order-number.result.now)) rows ∙ (ap (slice_get _) number ∙ row_last c.args.desk.now.rows row)) in

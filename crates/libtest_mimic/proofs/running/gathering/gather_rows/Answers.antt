@@ -1,92 +1,107 @@
-use Rattle.std.proofs.Common.{◌≡◌, ◌∙◌, ◌<◌, ◌||◌, [], ℕ, Bool, ap, arith, false, length, map, refl, subst, sym, true}
+use Rattle.std.proofs.Common.{◌≡◌, ◌∙◌, ◌<◌, [], ℕ, Bool, List, ap, arith, false, length, map, refl, subst, sym}
 use Rattle.std.specs.Prelude.{All, is_ok}
 use Rattle.std.proofs.lemmas.List.{length-append, length-map}
 use Rattle.mimic_trial.specs.Places.{places_of}
 use Rattle.mimic_pool.specs.Joined.{put_each}
 use Rattle.mimic_pool.specs.Rows.{rows_in}
 use Rattle.mimic_pool.specs.Share.{assigned_from}
-use Rattle.mimic_pool.specs.Supply.{runs_all}
-use Rattle.mimic_printer.specs.Sink.{Writes, shown}
-use Rattle.mimic_printer.proofs.Appending.{Put-refl}
-use Rattle.libtest_mimic.specs.declared.running.RunError.TheVariants.{Write}
+use Rattle.mimic_pool.specs.Supply.{Runs, runs_all}
+use Rattle.mimic_printer.specs.Sink.{Put, Writes, shown}
+use Rattle.libtest_mimic.specs.Gathering.{Gathered}
 use Rattle.libtest_mimic.specs.Steps.{told_text}
 use Rattle.libtest_mimic.proofs.Arranged.{order_below}
-use Rattle.libtest_mimic.proofs.Gathering.{completed_gathered, differs_refused, follows, outcomes_count, nothing_told, on_error, put_all, stopped_missing, told_refused}
+use Rattle.libtest_mimic.proofs.Gathering.{completed_gathered, differs_refused, nothing_told, on_error, or_true, outcomes_count, put_all, stopped_missing, told_refused}
 use Rattle.libtest_mimic.proofs.Returned.{all_gathered}
+use Rattle.libtest_mimic.proofs.running.gathering.gather_rows.Given.{Over}
+use Rattle.libtest_mimic.proofs.running.gathering.gather_rows.Goals.{After-write_arrivals-written, In_ok-written}
 use Rattle.libtest_mimic.proofs.running.gathering.gather_rows.Goals as goal
+
+-- there is a place for each info
+places : (g : Over) (c : After-write_arrivals-written g) → c.write_arrivals-written.new.desk.places ≡ length c.args.infos.now
+places g c = c.write_arrivals-written.ensures.places ∙ ap (λ d. d.places) c.requires.ready.desk
+
+-- the rows that arrived were written, or a beginning of them
+told : (g : Over) (c : After-write_arrivals-written g)
+    → Writes (shown g.W.Write.contents c.args.sink.now) (shown g.W.Write.contents c.write_arrivals-written.new.sink) (told_text c.args.printer.now c.args.infos.now c.write_arrivals-written.new.desk) c.write_arrivals-written.result
+told g c =
+    let before = shown g.W.Write.contents c.args.sink.now in
+    c.write_arrivals-written.ensures.told before (nothing_told c.args.printer.now c.args.infos.now _ _ c.requires.ready.desk before)
+
+-- if no write failed, they were written
+all_told : (g : Over) (c : In_ok-written g)
+    → Put (shown g.W.Write.contents c.args.sink.now) (shown g.W.Write.contents c.write_arrivals-written.new.sink) (told_text c.args.printer.now c.args.infos.now c.write_arrivals-written.new.desk)
+all_told g c =
+    let before = shown g.W.Write.contents c.args.sink.now in
+    subst (λ r. Writes before (shown g.W.Write.contents c.write_arrivals-written.new.sink) (told_text c.args.printer.now c.args.infos.now c.write_arrivals-written.new.desk) r)
+    c.in_ok-written.was (c.write_arrivals-written.ensures.told before (nothing_told c.args.printer.now c.args.infos.now _ _ c.requires.ready.desk before))
+
+-- then each trial has an outcome
+gathered : (g : Over) (c : In_ok-written g) (mode : Bool) (rs : List _) (bs : List Bool) → length rs ≡ length c.args.infos.now → length bs ≡ length c.args.infos.now
+    → Runs g.R.Task.gives c.args.started.crew mode (assigned_from 0 rs bs)
+    → Gathered g.R.Task.gives mode (assigned_from 0 rs bs) (places_of c.complete.new.desk.rows) (put_each (map rows_in c.join_all-joined.result.items) c.in_ok-complete.ensures.completed.outcomes)
+gathered g c mode rs bs runners flags runs =
+    let same = runners ∙ sym flags in
+    let here = c.write_arrivals-written.ensures.places ∙ ap (λ d. d.places) c.requires.ready.desk ∙ sym runners in
+    let done = c.in_ok-complete.ensures.completed in
+    let whole = or_true (runs_all c.args.started.crew) c.is_ok-whole.result (c.is_ok-whole.ensures.value ∙ ap is_ok c.in_ok-written.was) in
+    let count = outcomes_count g.R.Task.gives mode rs bs same _ _ _ _ done here in
+    completed_gathered g.R.Task.gives mode rs bs same _ _ _ _ done (c.join_all-joined.ensures.outcomes mode rs bs runs whole done.outcomes count) here
 
 pub returns-in_err-complete-clause-rows : goal.returns-in_err-complete-clause-rows
 returns-in_err-complete-clause-rows g c = λ rs bs mode runners flags runs.
-    let before = shown g.W.Write.contents c.args.sink.now in
-    let written = c.write_arrivals-written.ensures.told before (nothing_told c.args.printer.now c.args.infos.now _ _ c.requires.ready.desk before) in
-    let places = c.write_arrivals-written.ensures.places ∙ ap (λ d. d.places) c.requires.ready.desk in
-    on_error c.from_residual.result c.in_err-complete.field-0.0 _ _ c.from_residual.ensures.1
-    (differs_refused g.R.Task.gives mode (assigned_from 0 rs bs) (runs_all c.args.started.crew) c.args.printer.now c.args.infos.now _ _ _ _ places (follows _ _ _ _ _ c.write_arrivals-written.result (Put-refl before) written) _ c.in_err-complete.ensures.completed)
+    let arrivals = (goal.at.returns-in_err-complete-clause-rows g c).After-write_arrivals-written in
+    on_error c.from_residual.result _ _ _ c.from_residual.ensures.1
+    (differs_refused g.R.Task.gives mode rs bs (runs_all c.args.started.crew) c.is_ok-whole.result c.write_arrivals-written.result c.args.printer.now c.args.infos.now _ _ _ _ (places g arrivals)
+    c.is_ok-whole.ensures.value c.order-told.ensures.whole (told g arrivals) (c.join_all-joined.ensures.joined mode _ runs) _ c.in_err-complete.ensures.completed)
 
 pub returns-in_err-written-clause-rows : goal.returns-in_err-written-clause-rows
 returns-in_err-written-clause-rows g c = λ rs bs mode runners flags runs.
-    let places = c.write_arrivals-written.ensures.places ∙ ap (λ d. d.places) c.requires.ready.desk ∙ sym runners in
+    let arrivals = (goal.at.returns-in_err-written-clause-rows g c).After-write_arrivals-written in
     let before = shown g.W.Write.contents c.args.sink.now in
-    let written = c.write_arrivals-written.ensures.told before (nothing_told c.args.printer.now c.args.infos.now _ _ c.requires.ready.desk before) in
-    let stopped = subst (λ r. Writes before (shown g.W.Write.contents c.write_arrivals-written.new.sink) (told_text c.args.printer.now c.args.infos.now c.write_arrivals-written.new.desk) r) c.in_err-written.was written in
+    let stopped = subst (λ r. Writes before (shown g.W.Write.contents c.write_arrivals-written.new.sink) (told_text c.args.printer.now c.args.infos.now c.write_arrivals-written.new.desk) r) c.in_err-written.was (told g arrivals) in
     let part : c.is_ok-whole.result ≡ false = c.is_ok-whole.ensures.value ∙ ap is_ok c.in_err-written.was in
-    on_error c.from_residual-in_err-written.result (Write c.in_err-written.field-0.0) _ _ c.from_residual-in_err-written.ensures.1
-    (told_refused g.R.Task.gives mode rs bs (runners ∙ sym flags) c.args.printer.now c.args.infos.now (runs_all c.args.started.crew) c.is_ok-whole.result _ _ _ c.in_ok-complete.ensures.completed part (c.join_all-joined.ensures.joined mode _ runs) places before _ stopped)
-
-or_true : (runs whole : Bool) → whole ≡ true → (runs || whole) ≡ true
-or_true true whole all = refl
-or_true false whole all = all
+    on_error c.from_residual-in_err-written.result _ _ _ c.from_residual-in_err-written.ensures.1
+    (told_refused g.R.Task.gives mode rs bs (runners ∙ sym flags) c.args.printer.now c.args.infos.now (runs_all c.args.started.crew) c.is_ok-whole.result _ _ _ c.in_ok-complete.ensures.completed part
+    (c.join_all-joined.ensures.joined mode _ runs) (places g arrivals ∙ sym runners) before _ stopped)
 
 pub write_missing-requires-clause-room : goal.write_missing-requires-clause-room
 write_missing-requires-clause-room g c =
-    let before = shown g.W.Write.contents c.args.sink.now in
-    let written = c.write_arrivals-written.ensures.told before (nothing_told c.args.printer.now c.args.infos.now _ _ c.requires.ready.desk before) in
-    let put = subst (λ r. Writes before (shown g.W.Write.contents c.write_arrivals-written.new.sink) (told_text c.args.printer.now c.args.infos.now c.write_arrivals-written.new.desk) r) c.in_ok-written.was written in
+    let put = all_told g (goal.at.write_missing-requires-clause-room g c).In_ok-written in
     omega (arith, put.faults, c.requires.room)
 
 pub write_missing-requires-clause-places : goal.write_missing-requires-clause-places
 write_missing-requires-clause-places g c =
-    let places = c.write_arrivals-written.ensures.places ∙ ap (λ d. d.places) c.requires.ready.desk in
-    subst (λ (n : ℕ). All (λ place. place < n) (places_of c.complete.new.desk.rows)) places (order_below _ _ c.in_ok-complete.ensures.completed.all)
+    let here = places g (goal.at.write_missing-requires-clause-places g c).After-write_arrivals-written in
+    subst (λ (n : ℕ). All (λ place. place < n) (places_of c.complete.new.desk.rows)) here (order_below _ _ c.in_ok-complete.ensures.completed.all)
 
 pub write_missing-requires-clause-first : goal.write_missing-requires-clause-first
 write_missing-requires-clause-first g c =
     let old = c.write_arrivals-written.new.desk.rows in
     let done = c.in_ok-complete.ensures.completed in
-    omega (arith, ap length c.order-told.ensures, length-map old (λ r. r.0), ap length done.rows, length-append old done.missing)
+    omega (arith, ap length c.order-told.ensures.places, length-map old (λ r. r.0), ap length done.rows, length-append old done.missing)
 
 pub returns-in_err-write_missing-clause-rows : goal.returns-in_err-write_missing-clause-rows
 returns-in_err-write_missing-clause-rows g c = λ rs bs mode runners flags runs.
-    let same = runners ∙ sym flags in
-    let places = c.write_arrivals-written.ensures.places ∙ ap (λ d. d.places) c.requires.ready.desk ∙ sym runners in
+    let whole = (goal.at.returns-in_err-write_missing-clause-rows g c).In_ok-written in
     let done = c.in_ok-complete.ensures.completed in
-    let whole : c.is_ok-whole.result ≡ true = c.is_ok-whole.ensures.value ∙ ap is_ok c.in_ok-written.was in
-    let count = outcomes_count g.R.Task.gives mode rs bs same _ _ _ _ done places in
-    let own = c.join_all-joined.ensures.outcomes mode rs bs runs (or_true (runs_all c.args.started.crew) c.is_ok-whole.result whole) done.outcomes count in
-    let all = completed_gathered g.R.Task.gives mode rs bs same _ _ _ _ done own places in
-    let before = shown g.W.Write.contents c.args.sink.now in
-    let written = subst (λ r. Writes before (shown g.W.Write.contents c.write_arrivals-written.new.sink) (told_text c.args.printer.now c.args.infos.now c.write_arrivals-written.new.desk) r) c.in_ok-written.was (c.write_arrivals-written.ensures.told before (nothing_told c.args.printer.now c.args.infos.now _ _ c.requires.ready.desk before)) in
-    let told = ap length c.order-told.ensures ∙ length-map c.write_arrivals-written.new.desk.rows (λ r. r.0) in
-    on_error c.from_residual-in_err-write_missing.result (Write c.in_err-write_missing.field-0.0) _ _ c.from_residual-in_err-write_missing.ensures.1 (
+    let count = ap length c.order-told.ensures.places ∙ length-map c.write_arrivals-written.new.desk.rows (λ r. r.0) in
+    on_error c.from_residual-in_err-write_missing.result _ _ _ c.from_residual-in_err-write_missing.ensures.1 (
       c.complete.new.desk.rows,
       [],
-      all_gathered g.R.Task.gives mode (assigned_from 0 rs bs) c.complete.new.desk.rows _ done.returned all,
+      all_gathered g.R.Task.gives mode (assigned_from 0 rs bs) c.complete.new.desk.rows _ done.returned (gathered g whole mode rs bs runners flags runs),
       (λ _. refl),
-      stopped_missing c.args.printer.now c.args.infos.now _ _ _ _ done _ _ _ written _ told c.in_err-write_missing.ensures,
+      stopped_missing c.args.printer.now c.args.infos.now _ _ _ _ done _ _ _ (all_told g whole) _ count c.in_err-write_missing.ensures,
     )
 
 pub returns-clause-rows : goal.returns-clause-rows
 returns-clause-rows g c = λ rs bs mode runners flags runs.
-    let same = runners ∙ sym flags in
-    let places = c.write_arrivals-written.ensures.places ∙ ap (λ d. d.places) c.requires.ready.desk ∙ sym runners in
+    let whole = (goal.at.returns-clause-rows g c).In_ok-written in
     let done = c.in_ok-complete.ensures.completed in
-    let whole : c.is_ok-whole.result ≡ true = c.is_ok-whole.ensures.value ∙ ap is_ok c.in_ok-written.was in
-    let count = outcomes_count g.R.Task.gives mode rs bs same _ _ _ _ done places in
-    let own = c.join_all-joined.ensures.outcomes mode rs bs runs (or_true (runs_all c.args.started.crew) c.is_ok-whole.result whole) done.outcomes count in
-    let all = completed_gathered g.R.Task.gives mode rs bs same _ _ _ _ done own places in
-    let before = shown g.W.Write.contents c.args.sink.now in
-    let written = subst (λ r. Writes before (shown g.W.Write.contents c.write_arrivals-written.new.sink) (told_text c.args.printer.now c.args.infos.now c.write_arrivals-written.new.desk) r) c.in_ok-written.was (c.write_arrivals-written.ensures.told before (nothing_told c.args.printer.now c.args.infos.now _ _ c.requires.ready.desk before)) in
-    let told = ap length c.order-told.ensures ∙ length-map c.write_arrivals-written.new.desk.rows (λ r. r.0) in (
-      record { outcomes = put_each (map rows_in c.join_all-joined.result.items) done.outcomes; gathered = all; rows = done.returned },
-      put_all c.args.printer.now c.args.infos.now _ _ _ _ done _ _ _ written _ told c.in_ok-write_missing.ensures,
+    let count = ap length c.order-told.ensures.places ∙ length-map c.write_arrivals-written.new.desk.rows (λ r. r.0) in (
+      record {
+        outcomes = put_each (map rows_in c.join_all-joined.result.items) done.outcomes;
+        gathered = gathered g whole mode rs bs runners flags runs;
+        rows = done.returned;
+      },
+      put_all c.args.printer.now c.args.infos.now _ _ _ _ done _ _ _ (all_told g whole) _ count c.in_ok-write_missing.ensures,
     )

@@ -1,76 +1,73 @@
 use Rattle.std.proofs.Common.{arith}
-use Rattle.libtest_mimic.specs.declared.running.RunError.TheVariants.{Write}
 use Rattle.libtest_mimic.specs.Steps.{selected_suite}
 use Rattle.libtest_mimic.proofs.Gathering.{on_error}
-use Rattle.libtest_mimic.proofs.InWorkers.{below, failures_refused, held_of, of_held, parts_shown, reported_by, rows_refused, summary_refused}
+use Rattle.libtest_mimic.proofs.InWorkers.{below, failures_refused, held_of, of_held, reported_by, rows_refused, summary_refused}
 use Rattle.libtest_mimic.proofs.running.in_workers.run_in_workers.Goals as goal
 
 pub write_rows-requires-clause-held : goal.write_rows-requires-clause-held
 write_rows-requires-clause-held g c κs within =
     let suite = selected_suite c.args.selected in
-    let supplied = c.in_ok-infos.ensures in
-    let parts = parts_shown _ _ _ _ _ _ c.as_slice-infos.ensures.value supplied.parts in
-    held_of g.R.Task.gives suite _ _ _ parts g.R.Task.can_run _ supplied.held
+    held_of g.R.Task.gives suite _ _ _ _ c.as_slice-infos.ensures.value c.in_ok-infos.ensures
 
 pub returns-in_err-desk-clause-reported : goal.returns-in_err-desk-clause-reported
 returns-in_err-desk-clause-reported g c =
     let suite = selected_suite c.args.selected in
+    let shows = c.as_slice-infos.ensures.value in
     let supplied = c.in_ok-infos.ensures in
-    let parts = parts_shown _ _ _ _ _ _ c.as_slice-infos.ensures.value supplied.parts in
-    let rows = of_held g.R.Task.gives suite _ _ _ parts g.R.Task.can_run _ supplied.held c.in_err-desk.ensures.rows in
-    on_error c.from_residual-in_err-desk.result c.in_err-desk.field-0.0 _ _ c.from_residual-in_err-desk.ensures.1
-    (rows_refused _ suite _ _ _ parts _ c.requires.several c.requires.some _ _ _ _ c.requires.running rows)
+    let rows = of_held g.R.Task.gives suite _ _ _ _ shows supplied c.in_err-desk.ensures.rows in
+    on_error c.from_residual-in_err-desk.result _ _ _ c.from_residual-in_err-desk.ensures.1
+    (rows_refused _ suite _ _ _ _ shows supplied _ c.requires.several c.requires.some _ _ _ _ c.requires.running rows)
 
 pub print_failures_in-requires-clause-room : goal.print_failures_in-requires-clause-room
 print_failures_in-requires-clause-room g c =
     let suite = selected_suite c.args.selected in
+    let shows = c.as_slice-infos.ensures.value in
     let supplied = c.in_ok-infos.ensures in
-    let parts = parts_shown _ _ _ _ _ _ c.as_slice-infos.ensures.value supplied.parts in
-    let rows = of_held g.R.Task.gives suite _ _ _ parts g.R.Task.can_run _ supplied.held c.in_ok-desk.ensures.rows in
+    let rows = of_held g.R.Task.gives suite _ _ _ _ shows supplied c.in_ok-desk.ensures.rows in
     omega (arith, rows.1.faults, c.requires.room)
 
 pub print_failures_in-requires-clause-can_show : goal.print_failures_in-requires-clause-can_show
 print_failures_in-requires-clause-can_show g c =
     let suite = selected_suite c.args.selected in
+    let shows = c.as_slice-infos.ensures.value in
     let supplied = c.in_ok-infos.ensures in
-    let parts = parts_shown _ _ _ _ _ _ c.as_slice-infos.ensures.value supplied.parts in
-    let rows = of_held g.R.Task.gives suite _ _ _ parts g.R.Task.can_run _ supplied.held c.in_ok-desk.ensures.rows in
-    below _ suite _ _ _ parts _ _ rows.0.gathered
+    let rows = of_held g.R.Task.gives suite _ _ _ _ shows supplied c.in_ok-desk.ensures.rows in
+    below _ suite _ _ _ _ shows supplied _ _ rows.0.gathered
 
 pub write_summary-requires-clause-room : goal.write_summary-requires-clause-room
 write_summary-requires-clause-room g c =
     let suite = selected_suite c.args.selected in
+    let shows = c.as_slice-infos.ensures.value in
     let supplied = c.in_ok-infos.ensures in
-    let parts = parts_shown _ _ _ _ _ _ c.as_slice-infos.ensures.value supplied.parts in
-    let rows = of_held g.R.Task.gives suite _ _ _ parts g.R.Task.can_run _ supplied.held c.in_ok-desk.ensures.rows in
+    let rows = of_held g.R.Task.gives suite _ _ _ _ shows supplied c.in_ok-desk.ensures.rows in
     omega (arith, rows.1.faults, c.in_ok-print_failures_in.ensures.faults, c.requires.room)
 
 pub returns-in_err-print_failures_in-clause-reported : goal.returns-in_err-print_failures_in-clause-reported
 returns-in_err-print_failures_in-clause-reported g c =
     let suite = selected_suite c.args.selected in
+    let shows = c.as_slice-infos.ensures.value in
     let supplied = c.in_ok-infos.ensures in
-    let parts = parts_shown _ _ _ _ _ _ c.as_slice-infos.ensures.value supplied.parts in
-    let rows = of_held g.R.Task.gives suite _ _ _ parts g.R.Task.can_run _ supplied.held c.in_ok-desk.ensures.rows in
-    on_error c.from_residual-in_err-print_failures_in.result (Write c.in_err-print_failures_in.field-0.0) _ _ c.from_residual-in_err-print_failures_in.ensures.1
-    (failures_refused _ suite _ _ _ parts _ c.requires.several c.requires.some _ rows.0 _ _ rows.1 _ _ c.in_err-print_failures_in.field-0.0 c.requires.running c.in_err-print_failures_in.ensures)
+    let rows = of_held g.R.Task.gives suite _ _ _ _ shows supplied c.in_ok-desk.ensures.rows in
+    on_error c.from_residual-in_err-print_failures_in.result _ _ _ c.from_residual-in_err-print_failures_in.ensures.1
+    (failures_refused _ suite _ _ _ _ shows supplied _ c.requires.several c.requires.some _ rows.0 _ _ rows.1 _ _ c.in_err-print_failures_in.field-0.0 c.requires.running c.in_err-print_failures_in.ensures)
 
 pub returns-in_err-write_summary-clause-reported : goal.returns-in_err-write_summary-clause-reported
 returns-in_err-write_summary-clause-reported g c =
     let suite = selected_suite c.args.selected in
+    let shows = c.as_slice-infos.ensures.value in
     let supplied = c.in_ok-infos.ensures in
-    let parts = parts_shown _ _ _ _ _ _ c.as_slice-infos.ensures.value supplied.parts in
-    let rows = of_held g.R.Task.gives suite _ _ _ parts g.R.Task.can_run _ supplied.held c.in_ok-desk.ensures.rows in
+    let rows = of_held g.R.Task.gives suite _ _ _ _ shows supplied c.in_ok-desk.ensures.rows in
     let summary = c.in_err-write_summary.ensures in
-    on_error c.from_residual-in_err-write_summary.result (Write c.in_err-write_summary.field-0.0) _ _ c.from_residual-in_err-write_summary.ensures.1
-    (summary_refused _ suite _ _ _ parts _ c.requires.several c.requires.some _ rows.0 _ _ rows.1 _ c.in_ok-print_failures_in.ensures
+    on_error c.from_residual-in_err-write_summary.result _ _ _ c.from_residual-in_err-write_summary.ensures.1
+    (summary_refused _ suite _ _ _ _ shows supplied _ c.requires.several c.requires.some _ rows.0 _ _ rows.1 _ c.in_ok-print_failures_in.ensures
     _ c.count_outcomes-conclusion.ensures _ _ _ summary.elapsed c.in_err-write_summary.field-0.0 summary.text)
 
 pub returns-clause-reported : goal.returns-clause-reported
 returns-clause-reported g c =
     let suite = selected_suite c.args.selected in
+    let shows = c.as_slice-infos.ensures.value in
     let supplied = c.in_ok-infos.ensures in
-    let parts = parts_shown _ _ _ _ _ _ c.as_slice-infos.ensures.value supplied.parts in
-    let rows = of_held g.R.Task.gives suite _ _ _ parts g.R.Task.can_run _ supplied.held c.in_ok-desk.ensures.rows in
+    let rows = of_held g.R.Task.gives suite _ _ _ _ shows supplied c.in_ok-desk.ensures.rows in
     let summary = c.in_ok-write_summary.ensures in
-    reported_by _ suite _ _ _ parts _ c.requires.several c.requires.some _ rows.0 _ _ rows.1 _ c.in_ok-print_failures_in.ensures
+    reported_by _ suite _ _ _ _ shows supplied _ c.requires.several c.requires.some _ rows.0 _ _ rows.1 _ c.in_ok-print_failures_in.ensures
     _ c.count_outcomes-conclusion.ensures _ _ _ summary.elapsed summary.fits summary.text
