@@ -1,8 +1,7 @@
 -- Rows that are judged one after another.
-use Rattle.std.proofs.Common.{◌≡◌, ◌||◌, ℕ, ◌+◌, ◌-◌, ◌<◌, ◌^◌, Bool, true, false, not, List, [], ◌∷◌, ◌++◌, length, length-append, map, Option, None, Some, IfSome, Result, Ok, Err, refl, sym, ap, ap₂, subst, ◌∙◌, append_assoc, append-nil, arith, inl, inr}
-use Rattle.std.specs.Prelude.{MatchResult, filter}
+use Rattle.std.proofs.Common.{◌≡◌, ◌||◌, ℕ, ◌+◌, ◌-◌, ◌<◌, ◌^◌, Bool, true, false, not, List, [], ◌∷◌, ◌++◌, length-append, map, Option, None, Some, IfSome, refl, sym, ap, ap₂, subst, ◌∙◌, append_assoc, append-nil, arith, inl}
+use Rattle.std.specs.Prelude.{filter}
 use Rattle.std.specs.List.{AllZip, flat_map, list_any}
-use Rattle.std.specs.Result.{IsErrAnd}
 use Rattle.std.proofs.lemmas.List.{map-append}
 use Rattle.std.proofs.lemmas.List.Concat.{flat_map-append}
 use Rattle.std.proofs.lemmas.List.Elements.{filter-append}
@@ -10,19 +9,21 @@ use Rattle.std.proofs.lemmas.List.Filters.{length-filter_both}
 use Rattle.mimic_trial.specs.declared.outcome.Outcome.{Outcome}
 use Rattle.mimic_trial.specs.declared.outcome.Outcome.TheVariants.{Failed, Ignored, Measured, Passed}
 use Rattle.mimic_trial.specs.Count.{is_failed}
-use Rattle.mimic_printer.specs.Json.{Entry}
-use Rattle.mimic_printer.specs.Sink.{Put, Shown}
+use Rattle.mimic_printer.specs.Json.{Entry, json_title}
+use Rattle.mimic_printer.specs.Sink.{LeftBy, Put, Shown, Stopped}
 use Rattle.mimic_printer.proofs.Appending.{Put-Stopped, Put-refl, Put-trans}
 use Rattle.mimic_events.specs.Contents.{entry_read}
 use Rattle.mimic_events.specs.Key.{label_in, same_label}
 use Rattle.mimic_events.specs.declared.report.Row.{Row}
 use Rattle.mimic_events.proofs.Keys.{same_label-symm}
 use Rattle.mimic_events.specs.Feed.{AreEnded}
+use Rattle.mimic_events.specs.Readings.{HasEndedRows}
+use Rattle.mimic_events.proofs.Counted.{few}
 use Rattle.mimic_expect.specs.Expect.{FailedRow, is_known, rows_with, unknown_failures}
-use Rattle.mimic_expect.specs.FindingText.{finding_text}
-use Rattle.mimic_expect.specs.Judge.{Judged, Judges, labels_known}
+use Rattle.mimic_expect.specs.FindingText.{finding_text, unknown_text}
+use Rattle.mimic_expect.specs.JudgedRows.{HasLines, Judged, Judges, labels_known}
 use Rattle.mimic_expect.specs.Known.{Expected, expected_read}
-use Rattle.mimic_expect.specs.Verdict.{HasLeft, InputRead, rows_of}
+use Rattle.mimic_expect.specs.Verdict.{AreBegun, AreNext, InputRead, IsReadOf, rows_of}
 use Rattle.mimic_printer.specs.declared.sink.OutputFault.{OutputFault}
 use Rattle.mimic_printer.specs.declared.sink.OutputFault.TheVariants.{OutOfMemory, Write}
 use Rattle.mimic_expect.specs.declared.known.Expectation.{Expectation}
@@ -38,6 +39,9 @@ unknown-append known xs ys =
 lines-append : (xs ys : List Entry) → lines (xs ++ ys) ≡ lines xs ++ lines ys
 lines-append xs ys = ap (flat_map finding_text) (map-append FailedRow xs ys) ∙ flat_map-append finding_text (map FailedRow xs) (map FailedRow ys)
 
+unknown_text-append : (known : List Expected) (xs ys : List Entry) → unknown_text known (xs ++ ys) ≡ unknown_text known xs ++ unknown_text known ys
+unknown_text-append known xs ys = ap lines (unknown-append known xs ys) ∙ lines-append (unknown_failures known xs) (unknown_failures known ys)
+
 pub judges_none : (a : Judged) (s : Shown) → Judges a a [] 0 s s
 judges_none a s = record { known = refl; kept = sym (append-nil a.rows); counted = refl; put = Put-refl s }
 
@@ -50,6 +54,11 @@ judges_then a b c xs ys m n s t u p q =
       counted = rw (p.counted, q.counted, p.known, both, length-append) refl;
       put = rw (both, lines-append) (Put-trans _ _ p.put (rw p.known at q.put));
     }
+
+-- the lines of rows that were judged from the start
+pub lines_put : (known : List Expected) (start new : Judged) (rows : List Entry) (count : ℕ) (s t : Shown) → start ≡ record { known = known; rows = [] }
+    → Judges start new rows count s t → Put s t (unknown_text known rows)
+lines_put known start new rows count s t begun judged = subst (λ (j : Judged). Put s t (unknown_text j.known rows)) begun judged.put
 
 -- ---- one row
 
@@ -67,14 +76,13 @@ module _ (known : List Expected) (rows : List Entry) (row : Entry) where
   pub judges_other : (s : Shown) → is_known known row ≡ false → is_failed row.outcome ≡ false → Judges now now (row ∷ []) 0 s s
   judges_other s e is = record { known = refl; kept = rw e (sym (append-nil rows)); counted = rw (e, is) refl; put = rw (e, is) (Put-refl s) }
 
+  pub unknown_row : is_known known row ≡ false → is_failed row.outcome ≡ true → unknown_text known (row ∷ []) ≡ finding_text (FailedRow row)
+  unknown_row e is = rw (e, is) (append-nil (finding_text (FailedRow row)))
+
   pub judges_failed : (s t : Shown) → is_known known row ≡ false → is_failed row.outcome ≡ true → Put s t (finding_text (FailedRow row)) → Judges now now (row ∷ []) 1 s t
-  judges_failed s t e is p = record { known = refl; kept = rw e (sym (append-nil rows)); counted = rw (e, is) refl; put = rw (e, is) (rw append-nil p) }
+  judges_failed s t e is p = record { known = refl; kept = rw e (sym (append-nil rows)); counted = rw (e, is) refl; put = subst (Put s t) (sym (unknown_row e is)) p }
 
 -- ---- how many
-
-nil_not_push : {X : Type 0} (xs : List X) (x : X) → xs ++ x ∷ [] ≡ [] → ⊥
-nil_not_push [] x e = absurd (cc)
-nil_not_push (y ∷ ys) x e = absurd (cc)
 
 -- there is room for one more failure while one more row comes
 pub room : (bytes : List ℕ) (entries : List Entry) (e : Entry) (a b : Judged) (count : ℕ) (s t : Shown) → AreEnded bytes (entries ++ e ∷ []) → Judges a b entries count s t → count < 2 ^ 64 - 1
@@ -84,11 +92,7 @@ room bytes entries e a b count s t h j =
     let counted = j.counted in
     let lacking = length-filter_both lacks (λ (x : Entry). not (lacks x)) (λ x. refl) entries in
     let failing = length-filter_both fails (λ (x : Entry). not (fails x)) (λ x. refl) (filter lacks entries) in
-    let few : length entries < 2 ^ 64 - 1 = elim h.begun [
-      | inl none ↦ absurd (nil_not_push entries e none)
-      | inr b ↦ let within = b.within in let number = b.number in omega (arith, within, number, length-append entries (e ∷ []))
-    ] in
-    omega (arith, counted, lacking, failing, few)
+    omega (arith, counted, lacking, failing, few bytes entries e h)
 
 -- ---- a row that a judge takes
 
@@ -111,15 +115,27 @@ pub row_failed : (self : Judged) (known : List Expectation) (rows : List Row) (r
     → is_known (map expected_read known) (entry_read row) ≡ false → row.outcome ≡ Failed m → Put s t (finding_text (FailedRow (entry_read row))) → Judges self self (entry_read row ∷ []) 1 s t
 row_failed self known rows row m s t e has is p = rw e (judges_failed (map expected_read known) (map entry_read rows) (entry_read row) s t has (ap is_failed is) p)
 
+pub row_stopped : (self : Judged) (known : List Expectation) (rows : List Row) (row : Row) (m : Option (List ℕ)) (s t : Shown) → self ≡ record { known = map expected_read known; rows = map entry_read rows }
+    → is_known (map expected_read known) (entry_read row) ≡ false → row.outcome ≡ Failed m → Stopped s t (finding_text (FailedRow (entry_read row)))
+    → Stopped s t (unknown_text self.known (entry_read row ∷ []))
+row_stopped self known rows row m s t e has is p =
+    rw e (subst (Stopped s t) (sym (unknown_row (map expected_read known) (map entry_read rows) (entry_read row) has (ap is_failed is))) p)
+
 -- ---- faults
 
-pub err_left : {T : Type 0} (P : T → Type 0) (a b : Shown) (result : Result T OutputFault) (fault : OutputFault) → IsErrAnd result (λ f. f ≡ fault) → HasLeft a b fault → MatchResult result P (HasLeft a b)
-err_left P a b (Ok x) fault h left = absurd h
-err_left P a b (Err f) fault h left = subst (HasLeft a b) (sym h) left
+-- a fault behind rows that were judged
+lines_then : (a b : Judged) (xs ys : List Entry) (count : ℕ) (s t u : Shown) (fault : OutputFault) → Judges a b xs count s t → HasLines b.known t u fault ys → HasLines a.known s u fault (xs ++ ys)
+lines_then a b xs ys count s t u OutOfMemory j left =
+    subst (Put s u) (sym (unknown_text-append a.known xs ys)) (Put-trans _ _ j.put (rw j.known at left))
+lines_then a b xs ys count s t u (Write fault) j left =
+    subst (Stopped s u) (sym (unknown_text-append a.known xs ys)) (Put-Stopped _ _ j.put (rw j.known at left))
 
-pub left_after : (a b c : Shown) (text : List ℕ) (fault : OutputFault) → Put a b text → HasLeft b c fault → HasLeft a c fault
-left_after a b c text OutOfMemory p left = (text ++ left.0, Put-trans text left.0 p left.1)
-left_after a b c text (Write fault) p left = (text ++ left.0, Put-Stopped text left.0 p left.1)
+-- a fault in the next row
+pub row_left : (input : Option (List ℕ)) (a b : Judged) (entries : List Entry) (e : Entry) (count : ℕ) (s t u : Shown) (fault : OutputFault)
+    → IfSome input (HasEndedRows entries) → IfSome input (HasEndedRows (entries ++ e ∷ [])) → Judges a b entries count s t → LeftBy fault t u (unknown_text b.known (e ∷ []))
+    → (rows : List Entry) × IfSome input (HasEndedRows rows) × HasLines a.known s u fault rows
+row_left input a b entries e count s t u OutOfMemory before after j left = (entries, before, subst (λ (x : Shown). Put s x (unknown_text a.known entries)) (sym left) j.put)
+row_left input a b entries e count s t u (Write fault) before after j left = (entries ++ e ∷ [], after, lines_then a b entries (e ∷ []) count s t u (Write fault) j left)
 
 -- ---- inputs, one after another
 
@@ -127,3 +143,60 @@ pub input_judged : (a b c : Judged) (read : List InputRead) (next : InputRead) (
     → Judges a c (rows_of (read ++ next ∷ [])) (m + k) s u
 input_judged a b c read next m n k s t u p q e =
     rw (e, flat_map-append (λ (r : InputRead). r.entries) read (next ∷ []), append-nil next.entries) (judges_then a b c (rows_of read) next.entries m n s t u p q)
+
+-- no row came of the next input, or of any behind the last one
+no_title : (n : ℕ) (rest : List ℕ) → [] ≡ json_title n ++ rest → ⊥
+unfolding json_title
+no_title n rest e = absurd (cc)
+
+pub none_ended : (input : Option (List ℕ)) → IfSome input (HasEndedRows [])
+none_ended None = tt
+none_ended (Some bytes) = record {
+  front = [];
+  rest = bytes;
+  parts = refl;
+  ended = record { begun = inl refl; longest = λ others h. absurd (no_title h.announced _ h.parts) };
+}
+
+module _ {I : Type 0} (remaining : I → Option (List ℕ)) where
+  pub none_next : (inputs : List I) → AreNext remaining inputs []
+  none_next [] = refl
+  none_next (input ∷ inputs) = none_ended (remaining input)
+
+  -- a fault in the next input
+  pub input_left : (inputs before rest : List I) (input : I) (read : List InputRead) (a b : Judged) (count : ℕ) (s t u : Shown) (fault : OutputFault)
+      → inputs ≡ before ++ input ∷ rest → AllZip (λ input r. IsReadOf (remaining input) r) before read → Judges a b (rows_of read) count s t
+      → (rows : List Entry) × IfSome (remaining input) (HasEndedRows rows) × HasLines b.known t u fault rows
+      → (rows : List Entry) × AreBegun remaining inputs rows × HasLines a.known s u fault rows
+  input_left inputs before rest input read a b count s t u fault parts each j left = (
+    rows_of read ++ left.0,
+    record {
+      before = before;
+      after = input ∷ rest;
+      parts = parts;
+      read = read;
+      each = each;
+      last = left.0;
+      next = left.1;
+      all = refl;
+    },
+    lines_then a b (rows_of read) left.0 count s t u fault j left.2,
+  )
+
+  -- some inputs were read, and no row of the next one
+  pub inputs_read : (inputs before after : List I) (read : List InputRead) → inputs ≡ before ++ after → AllZip (λ input r. IsReadOf (remaining input) r) before read
+      → AreBegun remaining inputs (rows_of read)
+  inputs_read inputs before after read parts each = record {
+    before = before;
+    after = after;
+    parts = parts;
+    read = read;
+    each = each;
+    last = [];
+    next = none_next after;
+    all = sym (append-nil (rows_of read));
+  }
+
+  -- no input was read
+  pub none_read : (inputs : List I) → AreBegun remaining inputs []
+  none_read inputs = inputs_read inputs [] inputs [] refl tt

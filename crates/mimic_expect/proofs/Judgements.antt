@@ -10,7 +10,7 @@ use Rattle.mimic_events.specs.Contents.{entry_read}
 use Rattle.mimic_events.specs.declared.report.Row.{Row}
 use Rattle.mimic_events.specs.Key.{Key}
 use Rattle.mimic_expect.specs.Expect.{has_passed, keyed, met_by, rows_with, unmet_by, without}
-use Rattle.mimic_expect.specs.Judging.{entries_read}
+use Rattle.mimic_expect.specs.JudgementText.{entries_read}
 use Rattle.mimic_expect.specs.Known.{expected_read}
 use Rattle.mimic_expect.specs.declared.known.Expectation.{Expectation}
 use denote.Ref.{Bor}

@@ -1,7 +1,7 @@
 -- What is written at the end, and what it says.
-use Rattle.std.proofs.Common.{◌≡◌, ◌||◌, ℕ, ◌+◌, ◌<◌, ◌≤◌, suc, Bool, false, cond, List, [], ◌∷◌, ◌++◌, length, map, get_or, take, codes, decimal, Option, Result, Ok, Err, refl, sym, ap, ap₂, subst, ◌∙◌, append_assoc, arith}
+use Rattle.std.proofs.Common.{◌≡◌, ◌||◌, inl, inr, ℕ, ◌+◌, ◌<◌, ◌≤◌, suc, Bool, false, cond, List, [], ◌∷◌, ◌++◌, length, map, get_or, take, codes, decimal, Option, Result, refl, sym, ap, ap₂, subst, ◌∙◌, append_assoc, arith}
 use Rattle.std.specs.Prelude.{count_by, nat_lt}
-use Rattle.std.specs.List.{flat_map, list_all, list_any}
+use Rattle.std.specs.List.{AllZip, flat_map, list_all, list_any}
 use Rattle.std.specs.Result.{IsErrAnd}
 use Rattle.std.proofs.lemmas.Bool.Decides.{nat_tests}
 use Rattle.std.proofs.lemmas.List.{take_all}
@@ -13,20 +13,21 @@ use Rattle.mimic_trial.specs.Count.{is_failed}
 use Rattle.mimic_printer.specs.Json.{Entry}
 use Rattle.mimic_printer.specs.Sink.{Put, Shown, Stopped, Writes}
 use Rattle.mimic_printer.specs.declared.sink.WriteFault.{WriteFault}
-use Rattle.mimic_printer.proofs.Appending.{Put-trans, Put_after, Puts_then, Stopped-more, Stopped-next}
+use Rattle.mimic_printer.proofs.Appending.{Puts_then, Stopped-more, Stopped-next}
 use Rattle.mimic_expect.specs.Expect.{FailedRow, Finding, counts, findings, findings_in_turn, is_absent_line, is_failed_row, is_other_message, is_passed_line, keyed, known_rows, met_by, rows_with, unknown_failures}
-use Rattle.mimic_expect.specs.FindingText.{finding_text, numbers_text, rows_text}
-use Rattle.mimic_expect.specs.Judge.{Judged, Judges}
-use Rattle.mimic_expect.specs.Judging.{count_in, finding_read, judgement_numbers, judgement_text}
+use Rattle.mimic_expect.specs.FindingText.{finding_text, numbers_text, rows_text, unknown_text}
+use Rattle.mimic_expect.specs.JudgedRows.{HasLines, Judged, Judges}
+use Rattle.mimic_expect.specs.JudgementText.{count_in, finding_read, judgement_numbers, judgement_text}
 use Rattle.mimic_expect.specs.Known.{Expected}
-use Rattle.mimic_expect.specs.Verdict.{HasLeft, InputRead, LeavesVerdict, has_all, have_all}
+use Rattle.mimic_expect.specs.Verdict.{AreBegun, HasLeft, InputRead, IsReadOf, LeavesVerdict, has_all, have_all, rows_of}
 use Rattle.mimic_expect.specs.declared.judgement.Judgement.{Judgement}
 use Rattle.mimic_expect.specs.declared.judgement.Unexpected.{Unexpected}
 use Rattle.mimic_printer.specs.declared.sink.OutputFault.{OutputFault}
-use Rattle.mimic_printer.specs.declared.sink.OutputFault.TheVariants.{Write as WriteFailed}
+use Rattle.mimic_printer.specs.declared.sink.OutputFault.TheVariants.{OutOfMemory, Write as WriteFailed}
 use Rattle.mimic_expect.specs.declared.verdict.InputEnd.{InputEnd}
-use Rattle.mimic_expect.specs.declared.verdict.Verdict.{Verdict}
-use Rattle.mimic_expect.proofs.Judged.{lines}
+use Rattle.mimic_expect.specs.declared.verdict.ExpectationVerdict.{ExpectationVerdict}
+use Rattle.mimic_events.proofs.Results.{at_fault}
+use Rattle.mimic_expect.proofs.Judged.{lines, lines_put}
 use Rattle.mimic_expect.proofs.Strangers.{has_same}
 
 -- ---- the lines of a judgement
@@ -111,9 +112,6 @@ module _ (known : List Expected) (start new : Judged) (rows : List Entry) (are_a
     counted : count ≡ length failures
     counted = judged.counted ∙ ap (λ (j : Judged). length (unknown_failures j.known rows)) begun
 
-    pub lines_put : Put s t (lines failures)
-    lines_put = subst (λ (j : Judged). Put s t (lines (unknown_failures j.known rows))) begun judged.put
-
     module _ (says : Says) where
       found : map finding_read judgement.unexpected.items ≡ rest
       found = says ∙ ap₂ (λ (k : List Expected) (l : List Entry). findings k l are_all) knows kept
@@ -134,15 +132,12 @@ module _ (known : List Expected) (start new : Judged) (rows : List Entry) (are_a
           met ∙ (ap₂ (λ (k : List Expected) (l : List Entry). length (met_by (keyed k) (rows_with is_failed l))) knows kept ∙ ap length (has_same known rows are_all).met) in
           rw (is, all_failed, none_of is_passed_line (λ row. refl), none_of is_other_message (λ row. refl), none_of is_absent_line (λ row. refl)) refl
 
-      pub all_put : {u v : Shown} → judgement.met ≡ length (met_by (keyed new.known) (rows_with is_failed new.rows)) → Put t u (judgement_text judgement count) → Put u v []
-          → Put s v (rows_text known rows are_all)
-      all_put {u} {v} met put flush =
+      all_text : judgement.met ≡ length (met_by (keyed new.known) (rows_with is_failed new.rows)) → lines failures ++ judgement_text judgement count ≡ rows_text known rows are_all
+      all_text met =
           let shown : flat_map finding_text (findings_in_turn known rows are_all) ≡ lines failures ++ flat_map line_of judgement.unexpected.items =
           flat_map-append finding_text (map FailedRow failures) rest
           ∙ ap (λ (l : List ℕ). lines failures ++ l) (ap (flat_map finding_text) (sym found) ∙ flat_map-map finding_text finding_read judgement.unexpected.items) in
-          let text : lines failures ++ judgement_text judgement count ≡ rows_text known rows are_all =
-          sym (append_assoc (lines failures) (flat_map line_of judgement.unexpected.items) (judgement_numbers judgement count)) ∙ ap₂ (λ (a b : List ℕ). a ++ b) (sym shown) (numbers met) in
-          subst (Put s v) text (Put_after _ (Put-trans _ _ lines_put put) flush)
+          sym (append_assoc (lines failures) (flat_map line_of judgement.unexpected.items) (judgement_numbers judgement count)) ∙ ap₂ (λ (a b : List ℕ). a ++ b) (sym shown) (numbers met)
 
       module _ (lax : Bool) where
         any_in_turn : list_any (counts lax) (findings known rows are_all) ≡ (list_any (counts lax) (map FailedRow failures) || list_any (counts lax) rest)
@@ -158,10 +153,47 @@ module _ (known : List Expected) (start new : Judged) (rows : List Entry) (are_a
 
 -- ---- what is left
 
-pub write_left : {I : Type 0} (remaining : I → Option (List ℕ)) (expected : List Expected) (inputs : List I) (lax : Bool) (old new : Shown) (result : Result Verdict OutputFault) (error : WriteFault) (text : List ℕ)
-    → IsErrAnd result (λ fault. fault ≡ WriteFailed error) → Stopped old new text → LeavesVerdict remaining expected inputs lax old new result
-write_left remaining expected inputs lax old new (Ok x) error text h s = absurd h
-write_left remaining expected inputs lax old new (Err fault) error text h s = subst (HasLeft old new) (sym h) (text, s)
+module _ {I : Type 0} (remaining : I → Option (List ℕ)) (expected : List Expected) (inputs : List I) (lax : Bool) (old new : Shown) (result : Result ExpectationVerdict OutputFault) where
+  -- a fault in what is written of all inputs
+  pub write_left : (error : WriteFault) (read : List InputRead) → IsErrAnd result (λ fault. fault ≡ WriteFailed error) → AllZip (λ input r. IsReadOf (remaining input) r) inputs read
+      → Stopped old new (rows_text expected (rows_of read) (have_all read)) → LeavesVerdict remaining expected inputs lax old new result
+  write_left error read h each s =
+      at_fault (LeavesVerdict remaining expected inputs lax old new) result (WriteFailed error) h
+      (rows_text expected (rows_of read) (have_all read), inr (read, each, refl), s)
+
+  -- no memory
+  pub memory_left : (rows : List Entry) → IsErrAnd result (λ fault. fault ≡ OutOfMemory) → AreBegun remaining inputs rows → Put old new (unknown_text expected rows)
+      → LeavesVerdict remaining expected inputs lax old new result
+  memory_left rows h are p = at_fault (LeavesVerdict remaining expected inputs lax old new) result OutOfMemory h (unknown_text expected rows, (rows, are, refl), p)
+
+  begun_left : (fault : OutputFault) (rows : List Entry) → AreBegun remaining inputs rows → HasLines expected old new fault rows → HasLeft remaining expected inputs old new fault
+  begun_left OutOfMemory rows are left = (unknown_text expected rows, (rows, are, refl), left)
+  begun_left (WriteFailed error) rows are left = (unknown_text expected rows, inl (rows, are, refl), left)
+
+  -- a fault while rows come
+  pub rows_left_by : (fault : OutputFault) (known : List Expected) → known ≡ expected → IsErrAnd result (λ f. f ≡ fault)
+      → (rows : List Entry) × AreBegun remaining inputs rows × HasLines known old new fault rows → LeavesVerdict remaining expected inputs lax old new result
+  rows_left_by fault known e h left =
+      at_fault (LeavesVerdict remaining expected inputs lax old new) result fault h
+      (begun_left fault left.0 left.1 (subst (λ (k : List Expected). HasLines k old new fault left.0) e left.2))
 
 pub ends_have_all : (read : List InputRead) (ends : List InputEnd) → ends ≡ map (λ (r : InputRead). r.end) read → list_all has_all ends ≡ have_all read
 ends_have_all read ends e = ap (list_all has_all) e ∙ list_all-map has_all (λ (r : InputRead). r.end) read
+
+-- a judgement by whether the ends that were found say that all trials are there is one by whether the inputs do
+pub says_of : (judgement : Judgement) (new : Judged) (read : List InputRead) (given ends : List InputEnd) (all : Bool) → all ≡ list_all has_all given → given ≡ ends
+    → ends ≡ map (λ (r : InputRead). r.end) read → map finding_read judgement.unexpected.items ≡ findings new.known new.rows all
+    → map finding_read judgement.unexpected.items ≡ findings new.known new.rows (have_all read)
+says_of judgement new read given ends all a same e says =
+    says ∙ ap (findings new.known new.rows) (a ∙ (ap (list_all has_all) same ∙ ends_have_all read ends e))
+
+-- the lines that were written while rows came, and all that is written
+pub whole_text : (known : List Expected) (start new : Judged) (read : List InputRead) (given ends : List InputEnd) (all : Bool) (count : ℕ) (judgement : Judgement) (s t : Shown)
+    → start ≡ record { known = known; rows = [] } → Judges start new (rows_of read) count s t → all ≡ list_all has_all given → given ≡ ends
+    → ends ≡ map (λ (r : InputRead). r.end) read → map finding_read judgement.unexpected.items ≡ findings new.known new.rows all
+    → judgement.met ≡ length (met_by (keyed new.known) (rows_with is_failed new.rows))
+    → Put s t (unknown_text known (rows_of read)) × (unknown_text known (rows_of read) ++ judgement_text judgement count ≡ rows_text known (rows_of read) (have_all read))
+whole_text known start new read given ends all count judgement s t begun judged a same e says met = (
+  lines_put known start new (rows_of read) count s t begun judged,
+  all_text known start new (rows_of read) (have_all read) count judgement begun judged (says_of judgement new read given ends all a same e says) met,
+)

@@ -1,9 +1,9 @@
 -- The lines that are printed of what is unexpected (our own).
-use Rattle.std.specs.Prelude.{ℕ, Bool, List, [], ◌∷◌, ◌++◌, codes, count_by, decimal, length}
+use Rattle.std.specs.Prelude.{ℕ, Bool, List, [], ◌∷◌, ◌++◌, codes, count_by, decimal, length, map}
 use Rattle.std.specs.List.{concat, flat_map}
 use Rattle.mimic_trial.specs.Count.{is_failed}
 use Rattle.mimic_printer.specs.Json.{Entry, json_outcome}
-use Rattle.mimic_expect.specs.Expect.{AbsentLine, FailedRow, Finding, OtherMessage, PassedLine, findings_in_turn, is_absent_line, is_failed_row, is_other_message, is_passed_line, keyed, met_by, rows_with}
+use Rattle.mimic_expect.specs.Expect.{AbsentLine, FailedRow, Finding, OtherMessage, PassedLine, findings_in_turn, is_absent_line, is_failed_row, is_other_message, is_passed_line, keyed, met_by, rows_with, unknown_failures}
 use Rattle.mimic_expect.specs.Known.{Expected}
 
 -- the words, the number of a line, and the row as a report in JSON has it
@@ -16,6 +16,10 @@ finding_text (FailedRow row) = codes "failed: " ++ json_outcome row.label row.ou
 finding_text (OtherMessage e row) = numbered_text (codes "another message, line ") e.line row
 finding_text (PassedLine e) = numbered_text (codes "passed, line ") e.line e.entry
 finding_text (AbsentLine e) = numbered_text (codes "absent, line ") e.line e.entry
+
+-- the lines of the failures whose kind and name no known failure has, which are printed as they come
+abbrev pub unknown_text : List Expected → List Entry → List ℕ
+unknown_text expected rows = flat_map finding_text (map FailedRow (unknown_failures expected rows))
 
 -- the numbers: how many failures met a line, and how many findings there are of each kind
 abbrev pub numbers_text : ℕ → List Finding → List ℕ

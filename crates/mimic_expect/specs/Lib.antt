@@ -1,7 +1,7 @@
 pub mod Expect
 pub mod FindingText
-pub mod Judge
-pub mod Judging
+pub mod JudgedRows
+pub mod JudgementText
 pub mod Known
 pub mod Lines
 pub mod Pool

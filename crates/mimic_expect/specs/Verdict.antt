@@ -1,18 +1,18 @@
 -- What a call leaves that writes what of reports is unexpected (our own).
-use Rattle.std.specs.Prelude.{◌≡◌, ℕ, ◌==◌, Bool, true, false, if◌then◌else◌, List, ◌++◌, map, Option, IfSome, Result, Ok, Err}
+use Rattle.std.specs.Prelude.{◌≡◌, ◌⊎◌, ℕ, ◌==◌, Bool, true, false, if◌then◌else◌, List, [], ◌∷◌, ◌++◌, map, Option, IfSome, Result, Ok, Err}
 use Rattle.std.specs.List.{AllZip, flat_map, list_all, list_any}
 use Rattle.mimic_printer.specs.Json.{Entry}
 use Rattle.mimic_printer.specs.Sink.{Put, Shown, Stopped}
 use Rattle.mimic_events.specs.Readings.{HasEndedRows, IsReading}
 use Rattle.mimic_events.specs.declared.ending.Ending.TheVariants.{Whole}
 use Rattle.mimic_expect.specs.Expect.{counts, findings}
-use Rattle.mimic_expect.specs.FindingText.{rows_text}
+use Rattle.mimic_expect.specs.FindingText.{rows_text, unknown_text}
 use Rattle.mimic_expect.specs.Known.{Expected}
 use Rattle.mimic_printer.specs.declared.sink.OutputFault.{OutputFault}
 use Rattle.mimic_printer.specs.declared.sink.OutputFault.TheVariants.{OutOfMemory, Write}
 use Rattle.mimic_expect.specs.declared.verdict.InputEnd.{InputEnd}
 use Rattle.mimic_expect.specs.declared.verdict.InputEnd.TheVariants.{Ended, Failed}
-use Rattle.mimic_expect.specs.declared.verdict.Verdict.{Verdict}
+use Rattle.mimic_expect.specs.declared.verdict.ExpectationVerdict.{ExpectationVerdict}
 
 -- ---- inputs
 
@@ -21,7 +21,7 @@ pub record InputRead : Type 0 where
   pub entries : List Entry
   pub end : InputEnd
 
--- the bytes have these rows, and end so; with an error of the reader the rows are those before it
+-- the bytes have these rows, and end so; with an error of the reader these rows have ended in a front of the bytes
 abbrev pub Reads : List Entry → InputEnd → List ℕ → Type 0
 Reads entries (Ended ending) bytes = IsReading entries ending bytes
 Reads entries (Failed error) bytes = HasEndedRows entries bytes
@@ -52,25 +52,53 @@ have_all inputs = list_all (λ read. has_all read.end) inputs
 
 -- what is unexpected of the rows of all inputs was written, each once, and the numbers; the verdict says whether any of it counts
 pub record IsVerdict {I : Type 0} (remaining : I → Option (List ℕ)) (expected : List Expected) (inputs : List I) (lax : Bool)
-    (old new : Shown) (verdict : Verdict) : Type 0 where
+    (old new : Shown) (verdict : ExpectationVerdict) : Type 0 where
   pub read : List InputRead
   pub each : AllZip (λ input r. IsReadOf (remaining input) r) inputs read
   pub ends : verdict.ends.items ≡ map (λ r. r.end) read
   pub put : Put old new (rows_text expected (rows_of read) (have_all read))
   pub unexpected : verdict.is_unexpected ≡ list_any (counts lax) (findings expected (rows_of read) (have_all read))
 
--- without memory some text was appended, and with a fault of the writer a beginning of one
-abbrev pub HasLeft : Shown → Shown → OutputFault → Type 0
-HasLeft old new OutOfMemory = (text : List ℕ) × Put old new text
-HasLeft old new (Write fault) = (text : List ℕ) × Stopped old new text
+-- ---- what is left with a fault
+
+-- rows that have ended in the next input, and none behind the last one
+abbrev pub AreNext : {I : Type 0} → (I → Option (List ℕ)) → List I → List Entry → Type 0
+AreNext remaining [] rows = rows ≡ []
+AreNext remaining (input ∷ inputs) rows = IfSome (remaining input) (HasEndedRows rows)
+
+-- these rows were read: of some first inputs all, and then rows of the next one
+pub record AreBegun {I : Type 0} (remaining : I → Option (List ℕ)) (inputs : List I) (rows : List Entry) : Type 0 where
+  pub before : List I
+  pub after : List I
+  pub parts : inputs ≡ before ++ after
+  pub read : List InputRead
+  pub each : AllZip (λ input r. IsReadOf (remaining input) r) before read
+  pub last : List Entry
+  pub next : AreNext remaining after last
+  pub all : rows ≡ rows_of read ++ last
+
+-- the text has the failures among rows that were read, whose kind and name no known failure has
+abbrev pub IsBegun : {I : Type 0} → (I → Option (List ℕ)) → List Expected → List I → List ℕ → Type 0
+IsBegun remaining expected inputs text = (rows : List Entry) × AreBegun remaining inputs rows × (text ≡ unknown_text expected rows)
+
+-- the text is what is written of all inputs
+abbrev pub IsWhole : {I : Type 0} → (I → Option (List ℕ)) → List Expected → List I → List ℕ → Type 0
+IsWhole remaining expected inputs text = (read : List InputRead) × AllZip (λ input r. IsReadOf (remaining input) r) inputs read
+    × (text ≡ rows_text expected (rows_of read) (have_all read))
+
+-- without memory such failures were appended; and with a fault of the writer a beginning of such failures, or of the whole text
+abbrev pub HasLeft : {I : Type 0} → (I → Option (List ℕ)) → List Expected → List I → Shown → Shown → OutputFault → Type 0
+HasLeft remaining expected inputs old new OutOfMemory = (text : List ℕ) × IsBegun remaining expected inputs text × Put old new text
+HasLeft remaining expected inputs old new (Write fault) = (text : List ℕ)
+    × (IsBegun remaining expected inputs text ⊎ IsWhole remaining expected inputs text) × Stopped old new text
 
 -- what a call leaves that judges the inputs
 abbrev pub LeavesVerdict : {I : Type 0} → (I → Option (List ℕ)) → List Expected → List I → Bool → Shown → Shown
-    → Result Verdict OutputFault → Type 0
+    → Result ExpectationVerdict OutputFault → Type 0
 LeavesVerdict remaining expected inputs lax old new (Ok verdict) =
     IsVerdict remaining expected inputs lax old new verdict
-LeavesVerdict remaining expected inputs lax old new (Err fault) = HasLeft old new fault
+LeavesVerdict remaining expected inputs lax old new (Err fault) = HasLeft remaining expected inputs old new fault
 
 -- the exit status: 1 if some input is no whole report, else 101 if anything is unexpected that counts, else 0
-abbrev pub status_of : Verdict → ℕ
+abbrev pub status_of : ExpectationVerdict → ℕ
 status_of verdict = if list_all is_whole verdict.ends.items then (if verdict.is_unexpected then 101 else 0) else 1

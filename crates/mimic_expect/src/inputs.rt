@@ -3,17 +3,18 @@ ghost use Rattle.std.specs.Prelude.{◌≡◌, ◌<◌, ◌-◌, ◌^◌, ◌++�
 ghost use Rattle.std.specs.List.{AllZip, flat_map};
 ghost use Rattle.mimic_printer.specs.Json.{Entry};
 ghost use Rattle.mimic_printer.specs.Sink.{HasFaultLeft, Puts, shown};
+ghost use Rattle.mimic_events.specs.Readings.{HasEndedRows};
 ghost use Rattle.mimic_expect.specs.Expect.{ExpectLaws};
 ghost use Rattle.mimic_expect.specs.FindingText.{finding_text};
-ghost use Rattle.mimic_expect.specs.Judge.{Judges};
-ghost use Rattle.mimic_expect.specs.Judging.{finding_read, judgement_text};
+ghost use Rattle.mimic_expect.specs.JudgedRows.{HasLines, Judges};
+ghost use Rattle.mimic_expect.specs.JudgementText.{finding_read, judgement_text};
 ghost use Rattle.mimic_expect.specs.Known.{expected_read};
-ghost use Rattle.mimic_expect.specs.Verdict.{HasLeft, InputRead, IsReadOf, LeavesVerdict, Reads, rows_of};
+ghost use Rattle.mimic_expect.specs.Verdict.{AreBegun, InputRead, IsReadOf, LeavesVerdict, Reads, rows_of};
 
 use crate::judge::Judge;
 use crate::judgement::Judgement;
 use crate::known::Expectation;
-use crate::verdict::{InputEnd, Verdict, have_all};
+use crate::verdict::{ExpectationVerdict, InputEnd, have_all};
 use itoa::Buffer;
 use mimic_events::{InputRows, ReadFault};
 use mimic_printer::{OutputFault, Sink, WriteFault};
@@ -32,7 +33,9 @@ use std::io::{ErrorKind, Read, Write};
 /// A failure whose kind and name no known failure has is written as soon as it is read. Rows of known kinds and names are kept,
 /// and no others.
 ///
-/// If an input fails, the others are still judged: the verdict says how each ended. With a fault a beginning was written.
+/// If an input fails, the others are still judged: the verdict says how each ended, and of that one rows are judged that have ended
+/// in a front of its bytes. Without memory what was written are the failures that no known failure has, of rows of some first
+/// inputs and of the next one. With a fault of the writer it is a beginning of these, or of the whole text.
 #[tactic(auto, using(crate::proofs::Strangers::expect_laws))]
 pub fn write_unexpected<I: Read + Drop, W: Write>(
     alloc: Global,
@@ -40,7 +43,7 @@ pub fn write_unexpected<I: Read + Drop, W: Write>(
     inputs: Vec<I>,
     lax: bool,
     sink: &mut Sink<W>,
-) -> Result<Verdict, OutputFault>
+) -> Result<ExpectationVerdict, OutputFault>
     requires { HasFaultLeft sink.old }
     ensures verdict { LeavesVerdict I.remaining (map expected_read known.now) inputs.items lax
         (shown W.contents sink.old) (shown W.contents sink.new) result }
@@ -53,7 +56,7 @@ pub fn write_unexpected<I: Read + Drop, W: Write>(
     let judgement = judge.finish(alloc, have_all(&ends))?;
     put_judgement(sink, &judgement, failed)?;
     sink.flush()?;
-    Ok(Verdict {
+    Ok(ExpectationVerdict {
         is_unexpected: failed > 0 || judgement.is_unexpected(lax),
         ends,
     })
@@ -74,7 +77,8 @@ fn judge_inputs<I: Read + Drop, W: Write>(
         × (x.1.items ≡ map (λ r. r.end) read)
         × Judges judge.old judge.new (rows_of read) x.0
         (shown W.contents sink.old) (shown W.contents sink.new) × (x.0 < 2 ^ 128 - 2 ^ 64))
-        (HasLeft (shown W.contents sink.old) (shown W.contents sink.new)) }
+        (λ fault. (rows : List Entry) × AreBegun I.remaining inputs.items rows
+        × HasLines judge.old.known (shown W.contents sink.old) (shown W.contents sink.new) fault rows) }
 {
     let mut failed = 0_u128;
     let mut ends = Vec::new(alloc);
@@ -99,7 +103,8 @@ fn judge_input<I: Read + Drop, W: Write>(
         (λ x. (entries : List Entry) × IfSome (I.remaining input) (Reads entries x.1)
         × Judges judge.old judge.new entries x.0
         (shown W.contents sink.old) (shown W.contents sink.new))
-        (HasLeft (shown W.contents sink.old) (shown W.contents sink.new)) }
+        (λ fault. (rows : List Entry) × IfSome (I.remaining input) (HasEndedRows rows)
+        × HasLines judge.old.known (shown W.contents sink.old) (shown W.contents sink.new) fault rows) }
 {
     let mut rows = InputRows::new(alloc, input)?;
     let mut failed = 0;

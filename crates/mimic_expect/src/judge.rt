@@ -1,14 +1,14 @@
 //! Judges rows that come one by one.
 ghost use Rattle.std.specs.Prelude.{◌≡◌, ◌∷◌, [], IfOk, MatchResult, cond, length, map};
 ghost use Rattle.mimic_trial.specs.Count.{is_failed};
-ghost use Rattle.mimic_printer.specs.Sink.{HasFaultLeft, shown};
+ghost use Rattle.mimic_printer.specs.Sink.{HasFaultLeft, LeftBy, shown};
 ghost use Rattle.mimic_events.specs.Contents.{entry_read};
 ghost use Rattle.mimic_expect.specs.Expect.{findings, keyed, met_by, rows_with};
-ghost use Rattle.mimic_expect.specs.Judge.{Judges, labels_known};
+ghost use Rattle.mimic_expect.specs.FindingText.{unknown_text};
+ghost use Rattle.mimic_expect.specs.JudgedRows.{Judges, labels_known};
 ghost use Rattle.mimic_events.specs.Key.{HasTrials};
-ghost use Rattle.mimic_expect.specs.Judging.{finding_read};
+ghost use Rattle.mimic_expect.specs.JudgementText.{finding_read};
 ghost use Rattle.mimic_expect.specs.Known.{expected_read};
-ghost use Rattle.mimic_expect.specs.Verdict.{HasLeft};
 
 use crate::judgement::{Judgement, Unexpected, judge};
 use crate::known::Expectation;
@@ -34,7 +34,7 @@ impl<'a> Model for Judge<'a> {
     ghost use Rattle.std.specs.Prelude.{map};
     ghost use Rattle.mimic_events.specs.Contents.{entry_read};
     ghost use Rattle.mimic_events.specs.Key.{HasTrials};
-    ghost use Rattle.mimic_expect.specs.Judge.{Judged, labels_known};
+    ghost use Rattle.mimic_expect.specs.JudgedRows.{Judged, labels_known};
     ghost use Rattle.mimic_expect.specs.Known.{expected_read};
 
     ghost Value = { Judged };
@@ -71,7 +71,8 @@ impl<'a> Judge<'a> {
         ensures { MatchResult result
             (λ unknown. Judges self.old self.new (entry_read row ∷ []) (cond unknown 1 0)
             (shown W.contents sink.old) (shown W.contents sink.new))
-            (HasLeft (shown W.contents sink.old) (shown W.contents sink.new)) }
+            (λ fault. LeftBy fault (shown W.contents sink.old) (shown W.contents sink.new)
+            (unknown_text self.old.known (entry_read row ∷ []))) }
     {
         if (&self.labels).contains(&Key::Trial(&row)) {
             self.rows.push(row)?;

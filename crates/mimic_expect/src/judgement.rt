@@ -5,7 +5,7 @@ ghost use Rattle.std.specs.Option.{is_some, option_to_list};
 ghost use Rattle.mimic_trial.specs.Count.{is_failed, is_ignored_outcome};
 ghost use Rattle.mimic_events.specs.Contents.{entry_read};
 ghost use Rattle.mimic_expect.specs.Expect.{FailedRow, answers, counts, fate, findings, findings_with, has_passed, is_absent_line, is_failed_row, is_other_message, is_passed_line, keyed, labelled, left_by, meets, met_by, rows_with, unanswered, unmet_by, without};
-ghost use Rattle.mimic_expect.specs.Judging.{entries_read, expected_at, finding_read, lines_left, rows_left};
+ghost use Rattle.mimic_expect.specs.JudgementText.{entries_read, expected_at, finding_read, lines_left, rows_left};
 ghost use Rattle.mimic_expect.specs.Known.{expected_read};
 
 use crate::known::Expectation;

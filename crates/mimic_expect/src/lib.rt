@@ -19,4 +19,4 @@ mod verdict;
 
 pub use inputs::write_unexpected;
 pub use known::{Expectation, KnownFault, read_known};
-pub use verdict::{InputEnd, Verdict};
+pub use verdict::{ExpectationVerdict, InputEnd};

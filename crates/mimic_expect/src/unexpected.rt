@@ -3,7 +3,7 @@ ghost use Rattle.mimic_printer.specs.Json.{json_outcome};
 ghost use Rattle.mimic_printer.specs.Sink.{HasFaultLeft, Puts};
 ghost use Rattle.mimic_events.specs.Contents.{entry_read};
 ghost use Rattle.mimic_expect.specs.FindingText.{finding_text, numbered_text};
-ghost use Rattle.mimic_expect.specs.Judging.{finding_read};
+ghost use Rattle.mimic_expect.specs.JudgementText.{finding_read};
 
 use crate::judgement::Unexpected;
 use itoa::Buffer;

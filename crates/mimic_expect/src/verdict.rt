@@ -17,14 +17,14 @@ pub enum InputEnd {
 
 /// What was found in the reports of inputs.
 #[derive(Debug, Drop)]
-pub struct Verdict {
+pub struct ExpectationVerdict {
     /// Whether anything is unexpected that counts.
     pub is_unexpected: bool,
     /// How each input ended, in their order.
     pub ends: Vec<InputEnd>,
 }
 
-impl Verdict {
+impl ExpectationVerdict {
     /// Returns the exit status: 1 if an input is no whole report, else 101 if anything is unexpected that counts, else 0.
     pub fn status(&self) -> u8
         ensures { result ≡ status_of self.now }

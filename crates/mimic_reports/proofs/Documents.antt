@@ -1,15 +1,22 @@
--- The document of reports, one after another.
-use Rattle.std.proofs.Common.{◌≡◌, ℕ, ◌<◌, List, [], ◌∷◌, ◌++◌, Option, length, map, codes, refl, sym, ap₂, subst, append_assoc, append-nil}
+-- The document of reports, one after another, and what is left of it with a fault.
+use Rattle.std.proofs.Common.{◌≡◌, inl, inr, ℕ, List, [], ◌∷◌, ◌++◌, Option, length, map, codes, refl, sym, ap, ap₂, subst, ◌∙◌, append_assoc, append-nil, length-append, arith}
 use Rattle.std.specs.List.{AllZip, flat_map}
 use Rattle.std.proofs.lemmas.List.Concat.{flat_map-append}
-use Rattle.mimic_printer.specs.Sink.{Put, Shown}
-use Rattle.mimic_printer.proofs.Appending.{Put-trans, Put_after}
+use Rattle.mimic_printer.specs.Json.{Entry}
+use Rattle.mimic_printer.specs.Sink.{Put, Shown, Stopped}
+use Rattle.mimic_printer.specs.declared.sink.WriteFault.{WriteFault}
+use Rattle.mimic_printer.proofs.Appending.{Put-Stopped, Put-trans, Put_after, Stopped-more}
+use Rattle.mimic_events.specs.Contents.{entry_read}
+use Rattle.mimic_events.proofs.Pairs.{each_more}
 use Rattle.mimic_reports.specs.declared.junit_elements.Numbers.{Numbers}
 use Rattle.mimic_reports.specs.declared.junit.JunitFault.{JunitFault}
 use Rattle.mimic_reports.specs.declared.junit.JunitFault.TheVariants as junit
 use Rattle.mimic_reports.specs.declared.suite.Suite.{Suite as SuiteRead}
+use Rattle.mimic_reports.specs.declared.suite.SuiteRows.{SuiteRows}
+use Rattle.mimic_reports.specs.declared.suite.SuiteRows.TheVariants.{Again, Kept}
 use Rattle.mimic_reports.specs.Junit.{Suite, junit_text, numbers_of, root_start, suite_text, total}
-use Rattle.mimic_reports.specs.Suites.{HasLeft, IsShown, LeftBy, numbers_in}
+use Rattle.mimic_reports.specs.Suites.{AreBegun, HasLeft, IsBegun, IsNext, IsPart, IsShown, LeftBy, numbers_in, part_text}
+use Rattle.mimic_reports.proofs.SuiteText.{none_ended}
 
 abbrev pub close_part : List ℕ
 close_part = codes "</testsuites>\n"
@@ -35,17 +42,86 @@ module _ {I : Type 0} (remaining : I → Option (List ℕ)) where
       let shown : AllZip (IsShown remaining) reports written = rw all at each in
       (written, shown, subst (Put a d) (document reports written shown) (Put_after _ (Put-trans _ close_part p q) flush))
 
--- one more report
-pub one_more_suite : (front : List ℕ) (written : List Suite) (s : Suite) {a b c : Shown} → Put a b (front ++ flat_map suite_text written) → Put b c (suite_text s)
-    → Put a c (front ++ flat_map suite_text (written ++ s ∷ []))
-one_more_suite front written s {a} {b} {c} p q =
-    rw (flat_map-append, append-nil, ← append_assoc) (Put-trans _ (suite_text s) p q)
+-- ---- a beginning
 
--- a fault of one of the reports
-pub left_by : {I : Type 0} (reports : List (SuiteRead I)) (place : ℕ) (old new : Shown)
-    (fault : JunitFault) → place < length reports → HasLeft place old new fault
-    → LeftBy reports old new fault
-left_by reports place old new junit.TooMany within left = absurd left
-left_by reports place old new (junit.Input at fault) within left = (rw left.0 within, left.1, left.2)
-left_by reports place old new (junit.Changed at) within left = (rw left.0 within, left.1, left.2)
-left_by reports place old new (junit.Write fault) within left = left
+module _ {I : Type 0} (suites : List (SuiteRead I)) where
+  abbrev start : List ℕ
+  start = root_start (total (map numbers_in suites))
+
+  -- the start of the document, and these reports
+  abbrev pub front : List Suite → List ℕ
+  front whole = start ++ flat_map suite_text whole
+
+  pub front_more : (whole : List Suite) (s : Suite) → front (whole ++ s ∷ []) ≡ front whole ++ suite_text s
+  front_more whole s =
+      ap (λ (l : List ℕ). start ++ l)
+      (flat_map-append suite_text whole (s ∷ []) ∙ ap (λ (l : List ℕ). flat_map suite_text whole ++ l) (append-nil (suite_text s)))
+      ∙ sym (append_assoc start (flat_map suite_text whole) (suite_text s))
+
+module _ {I : Type 0} (remaining : I → Option (List ℕ)) where
+  any_rows : (numbers : Numbers) (rows : SuiteRows I) (fault : WriteFault) → (entries : List Entry) × AreBegun remaining numbers rows (junit.Write fault) entries
+  any_rows numbers (Kept rows) fault = (map entry_read rows.items, refl)
+  any_rows numbers (Again input counts) fault = ([], none_ended (remaining input))
+
+  -- something may always come next
+  any_next : (suites : List (SuiteRead I)) (fault : WriteFault) → (text : List ℕ) × IsNext remaining suites (junit.Write fault) text
+  any_next [] fault = (close_part, refl)
+  any_next (suite ∷ suites) fault =
+      let rows = any_rows (numbers_in suite) suite.rows fault in
+      (part_text suite.program.now (numbers_in suite) rows.0, (rows.0, rows.1, refl))
+
+  module _ (suites before after : List (SuiteRead I)) (whole : List Suite) (parts : suites ≡ before ++ after) (each : AllZip (IsShown remaining) before whole) where
+    begun : (count : ℕ) (fault : JunitFault) (last : List ℕ) → count ≡ length before → IsNext remaining after fault last → IsBegun remaining suites count fault (front suites whole ++ last)
+    begun count fault last place next = record {
+      before = before;
+      after = after;
+      parts = parts;
+      place = place;
+      whole = whole;
+      each = each;
+      last = last;
+      next = next;
+      begun = append_assoc (root_start (total (map numbers_in suites))) (flat_map suite_text whole) last;
+    }
+
+    -- a fault of the writer in what these reports are
+    pub stopped_front : (a b : Shown) (fault : WriteFault) → Stopped a b (front suites whole) → LeftBy remaining suites a b (junit.Write fault)
+    stopped_front a b fault s =
+        let next = any_next after fault in
+        (length before, front suites whole ++ next.0, begun (length before) (junit.Write fault) next.0 refl next.1, Stopped-more (front suites whole) next.0 s)
+
+    -- or in the end of the document
+    pub stopped_end : (a b : Shown) (fault : WriteFault) → after ≡ [] → Stopped a b (front suites whole ++ close_part) → LeftBy remaining suites a b (junit.Write fault)
+    stopped_end a b fault none s = (length before, front suites whole ++ close_part, begun (length before) (junit.Write fault) close_part refl (rw none refl), s)
+
+  -- a fault in the next report
+  pub left_by : (suites before rest : List (SuiteRead I)) (suite : SuiteRead I) (whole : List Suite) (place : ℕ) (a b c : Shown) (fault : JunitFault)
+      → suites ≡ before ++ suite ∷ rest → place ≡ length before → AllZip (IsShown remaining) before whole → Put a b (front suites whole)
+      → HasLeft (IsPart remaining suite) (IsShown remaining suite) place b c fault → LeftBy remaining suites a c fault
+  left_by suites before rest suite whole place a b c junit.TooMany parts is each p left = absurd left
+  left_by suites before rest suite whole place a b c (junit.Input at fault) parts is each p left = (
+    omega (arith, left.0, is, ap length parts, length-append before (suite ∷ rest)),
+    front suites whole ++ left.1,
+    begun suites before (suite ∷ rest) whole parts each at (junit.Input at fault) left.1 (left.0 ∙ is) left.2,
+    Put-trans (front suites whole) left.1 p left.3,
+  )
+  left_by suites before rest suite whole place a b c (junit.Changed at) parts is each p left = (
+    omega (arith, left.0, is, ap length parts, length-append before (suite ∷ rest)),
+    front suites whole ++ left.1,
+    begun suites before (suite ∷ rest) whole parts each at (junit.Changed at) left.1 (left.0 ∙ is) left.2,
+    Put-trans (front suites whole) left.1 p left.3,
+  )
+  left_by suites before rest suite whole place a b c (junit.Write fault) parts is each p left = elim left.1 [
+    | inl part ↦ (
+      length before,
+      front suites whole ++ left.0,
+      begun suites before (suite ∷ rest) whole parts each (length before) (junit.Write fault) left.0 refl part,
+      Put-Stopped (front suites whole) left.0 p left.2,
+    )
+    | inr w ↦
+        let text : front suites whole ++ left.0 ≡ front suites (whole ++ w.0 ∷ []) = ap (λ (l : List ℕ). front suites whole ++ l) w.2 ∙ sym (front_more suites whole w.0) in
+        stopped_front suites (before ++ suite ∷ []) rest (whole ++ w.0 ∷ [])
+        (parts ∙ sym (append_assoc before (suite ∷ []) rest))
+        (each_more (IsShown remaining) before whole suite w.0 each w.1) a c fault
+        (subst (Stopped a c) text (Put-Stopped (front suites whole) left.0 p left.2))
+  ]

@@ -1,22 +1,25 @@
 -- The element of a report, by its parts, and what is left of it with a fault.
-use Rattle.std.proofs.Common.{◌≡◌, ℕ, List, [], ◌∷◌, ◌++◌, Option, IfSome, Result, length, map, codes, refl, sym, subst, ◌∙◌, append-nil}
+use Rattle.std.proofs.Common.{◌≡◌, inl, inr, ℕ, List, [], ◌∷◌, ◌++◌, Option, None, Some, IfSome, Result, length, map, codes, refl, sym, ap, subst, ◌∙◌, append_assoc, append-nil}
 use Rattle.std.specs.List.{flat_map}
 use Rattle.std.proofs.lemmas.List.Concat.{flat_map-append}
 use Rattle.std.proofs.lemmas.List.Folds.{flat_map-map}
-use Rattle.mimic_printer.specs.Json.{Entry}
+use Rattle.mimic_printer.specs.Json.{Entry, json_title}
 use Rattle.mimic_printer.specs.Sink.{Put, Shown, Stopped, Writes}
-use Rattle.mimic_printer.proofs.Appending.{Put-Stopped, Put-trans, Puts_then, Stopped-more, stop2}
+use Rattle.mimic_printer.proofs.Appending.{Puts_then, Stopped-more, stop2}
 use Rattle.mimic_events.specs.Contents.{entry_read}
 use Rattle.mimic_events.specs.declared.report.Row.{Row}
 use Rattle.mimic_reports.specs.declared.junit_elements.Numbers.{Numbers}
 use Rattle.mimic_reports.specs.declared.junit.JunitFault.{JunitFault}
 use Rattle.mimic_reports.specs.declared.junit.JunitFault.TheVariants as junit
 use Rattle.mimic_reports.specs.Junit.{Suite, case_text, ending_text, numbers_of, suite_start, suite_text}
+use Rattle.mimic_reports.specs.declared.suite.SuiteRows.{SuiteRows}
 use Rattle.mimic_reports.specs.declared.suite.SuiteRows.TheVariants.{Again, Kept}
 use Rattle.mimic_reports.specs.declared.suite.Suite.{Suite as SuiteRead}
-use Rattle.mimic_events.specs.Readings.{IsReading}
-use Rattle.mimic_reports.specs.Suites.{HasLeft, IsShown, numbers_in}
-use Rattle.mimic_reports.proofs.RowCounts.{numbers_kept}
+use Rattle.mimic_events.specs.Readings.{HasEndedRows, IsReading}
+use Rattle.mimic_events.specs.declared.ending.Ending.{Ending}
+use Rattle.mimic_reports.specs.Suites.{AreBegun, AreRead, HasLeft, IsPart, IsPartOf, IsReadAgain, IsShown, numbers_counted, numbers_in, part_text, rows_counted}
+use Rattle.mimic_reports.proofs.RowCounts.{numbers_are, numbers_kept, outcomes, rows_counted_are}
+use Rattle.mimic_trial.specs.Count.{counts_of}
 use Rattle.mimic_trial.specs.declared.outcome.conclusion.Conclusion.{Conclusion}
 use Rattle.std.specs.Global.{Vec}
 
@@ -34,31 +37,56 @@ module _ (s : Suite) (numbers : Numbers) (rows : List ℕ) (ended : ℕ) (n : nu
   pub stopped_rows : {a b c : Shown} → Put a b (suite_start s.program numbers) → Stopped b c rows → Stopped a c (suite_text s)
   stopped_rows {a} {b} {c} p q = subst (Stopped a c) (sym parts) (stop2 _ _ _ p q)
 
-  pub suite_put : {a b c d : Shown} → Put a b (suite_start s.program numbers) → Put b c rows → Put c d (ending_text s.program ended s.ending ++ last_part) → Put a d (suite_text s)
-  suite_put {a} {b} {c} {d} p q h = subst (Put a d) (sym parts) (Put-trans _ _ p (Put-trans _ _ q h))
-
   pub suite_puts : {E T : Type 0} (a b c d : Shown) (x : Result T E) → Put a b (suite_start s.program numbers) → Put b c rows
       → Writes c d (ending_text s.program ended s.ending ++ last_part) x → Writes a d (suite_text s) x
   suite_puts a b c d x p q h = subst (λ (l : List ℕ). Writes a d l x) (sym parts) (Puts_then a b d _ _ x p (Puts_then b c d _ _ x q h))
+
+-- its start and its rows, and then its end
+whole_text : (s : Suite) (numbers : Numbers) (ended : ℕ) → numbers ≡ numbers_of s → ended ≡ length s.entries
+    → part_text s.program numbers s.entries ++ (ending_text s.program ended s.ending ++ last_part) ≡ suite_text s
+whole_text s numbers ended n e =
+    append_assoc (suite_start s.program numbers) (flat_map (case_text s.program) s.entries) (ending_text s.program ended s.ending ++ last_part)
+    ∙ sym (parts s numbers (flat_map (case_text s.program) s.entries) ended n refl e)
+
+-- what is written of a report that was read again, and has the same numbers
+pub again_whole : (program : List ℕ) (numbers : Numbers) (input : Option (List ℕ)) (entries : List Entry) (counts : Conclusion) (ending : Ending) (ended : ℕ)
+    → counts ≡ counts_of (outcomes entries) 0 → numbers_counted counts ending ≡ numbers → ended ≡ rows_counted counts → IfSome input (IsReading entries ending)
+    → (written : Suite) × IsReadAgain program numbers input written × (part_text program numbers entries ++ (ending_text program ended ending ++ last_part) ≡ suite_text written)
+again_whole program numbers input entries counts ending ended counted same e reading =
+    let written : Suite = record { program = program; entries = entries; ending = ending } in
+    let n : numbers ≡ numbers_of written = sym same ∙ numbers_are program entries ending counts counted in (
+      written,
+      record { of = refl; same = sym n; reading = reading },
+      whole_text written numbers ended n (e ∙ rows_counted_are entries counts counted),
+    )
 
 -- the rows that are kept
 pub rows_kept : (program : List ℕ) (rows : List Row) → flat_map (λ row. case_text program (entry_read row)) rows ≡ flat_map (case_text program) (map entry_read rows)
 rows_kept program rows = sym (flat_map-map (case_text program) entry_read rows)
 
 -- one more row
-pub one_more_row : (program : List ℕ) (entries : List Entry) (e : Entry) → flat_map (case_text program) (entries ++ e ∷ []) ≡ flat_map (case_text program) entries ++ case_text program e
-one_more_row program entries e = rw (flat_map-append, append-nil)
+pub part_more : (program : List ℕ) (numbers : Numbers) (entries : List Entry) (e : Entry)
+    → part_text program numbers (entries ++ e ∷ []) ≡ part_text program numbers entries ++ case_text program e
+part_more program numbers entries e =
+    ap (λ (l : List ℕ). suite_start program numbers ++ l)
+    (flat_map-append (case_text program) entries (e ∷ []) ∙ ap (λ (l : List ℕ). flat_map (case_text program) entries ++ l) (append-nil (case_text program e)))
+    ∙ sym (append_assoc (suite_start program numbers) (flat_map (case_text program) entries) (case_text program e))
 
--- a fault after what was written
-pub left_after : (place : ℕ) (a b c : Shown) (text : List ℕ) (fault : JunitFault)
-    → Put a b text → HasLeft place b c fault → HasLeft place a c fault
-left_after place a b c text junit.TooMany p left = left
-left_after place a b c text (junit.Input at fault) p left =
-    (left.0, text ++ left.1, Put-trans text left.1 p left.2)
-left_after place a b c text (junit.Changed at) p left =
-    (left.0, text ++ left.1, Put-trans text left.1 p left.2)
-left_after place a b c text (junit.Write fault) p left =
-    (text ++ left.0, Put-Stopped text left.0 p left.1)
+-- ---- no rows
+
+no_title : (n : ℕ) (rest : List ℕ) → [] ≡ json_title n ++ rest → ⊥
+unfolding json_title
+no_title n rest e = absurd (cc)
+
+-- no rows have ended in any bytes
+pub none_ended : (input : Option (List ℕ)) → IfSome input (HasEndedRows [])
+none_ended None = tt
+none_ended (Some bytes) = record {
+  front = [];
+  rest = bytes;
+  parts = refl;
+  ended = record { begun = inl refl; longest = λ others h. absurd (no_title h.announced _ h.parts) };
+}
 
 -- ---- what is written of a report that was read
 
@@ -71,11 +99,34 @@ module _ {I : Type 0} (remaining : I → Option (List ℕ)) (report : SuiteRead 
     rows = rw e (refl, refl);
   }
 
-  pub again_shown : (input : I) (counts : Conclusion) (numbers : Numbers) (written : Suite) → report.rows ≡ Again input counts → numbers ≡ numbers_in report
-      → written.program ≡ report.program.now → numbers_of written ≡ numbers → IfSome (remaining input) (IsReading written.entries written.ending)
-      → IsShown remaining report written
-  again_shown input counts numbers written e same program n reading = record {
-    program = program;
-    numbers = n ∙ same;
-    rows = rw e reading;
-  }
+  module _ (input : I) (counts : Conclusion) (numbers : Numbers) (is : report.rows ≡ Again input counts) (same : numbers ≡ numbers_in report) where
+    pub again_shown : (written : Suite) → IsReadAgain report.program.now numbers (remaining input) written → IsShown remaining report written
+    again_shown written h = record {
+      program = h.of;
+      numbers = h.same ∙ same;
+      rows = rw is h.reading;
+    }
+
+    again_part : (fault : JunitFault) (text : List ℕ) → IsPartOf report.program.now numbers (remaining input) fault text → IsPart remaining report fault text
+    again_part fault text h =
+        let rows : AreRead (numbers_in report) (remaining input) fault h.0 = subst (λ (n : Numbers). AreRead n (remaining input) fault h.0) same h.1 in (
+          h.0,
+          subst (λ (r : SuiteRows I). AreBegun remaining (numbers_in report) r fault h.0) (sym is) rows,
+          h.2 ∙ ap (λ (n : Numbers). part_text report.program.now n h.0) same,
+        )
+
+    -- what is left of it with a fault
+    pub again_left : (place : ℕ) (a b : Shown) (fault : JunitFault)
+        → HasLeft (IsPartOf report.program.now numbers (remaining input)) (IsReadAgain report.program.now numbers (remaining input)) place a b fault
+        → HasLeft (IsPart remaining report) (IsShown remaining report) place a b fault
+    again_left place a b junit.TooMany left = absurd left
+    again_left place a b (junit.Input at fault) left = (left.0, left.1, again_part (junit.Input at fault) left.1 left.2, left.3)
+    again_left place a b (junit.Changed at) left = (left.0, left.1, again_part (junit.Changed at) left.1 left.2, left.3)
+    again_left place a b (junit.Write fault) left = (
+      left.0,
+      elim left.1 [
+        | inl part ↦ inl (again_part (junit.Write fault) left.0 part)
+        | inr w ↦ inr (w.0, again_shown w.0 w.1, w.2)
+      ],
+      left.2,
+    )

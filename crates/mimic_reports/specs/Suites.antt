@@ -1,11 +1,12 @@
 -- Reports that were read to be written in XML, and what a call that writes them leaves.
-use Rattle.std.specs.Prelude.{◌≡◌, ℕ, ◌+◌, ◌<◌, ◌≤◌, ◌⊎◌, ◌^◌, List, length, map, Option, None, Some, IfSome, Result, Ok, Err}
-use Rattle.std.specs.List.{AllZip}
+use Rattle.std.specs.Prelude.{◌≡◌, ◌≢◌, ℕ, ◌+◌, ◌<◌, ◌≤◌, ◌⊎◌, ◌^◌, List, [], ◌∷◌, ◌++◌, length, map, codes, Option, None, Some, IfSome, Result, Ok, Err}
+use Rattle.std.specs.List.{AllZip, flat_map}
 use Rattle.mimic_trial.specs.declared.outcome.conclusion.Conclusion.{Conclusion}
 use Rattle.mimic_trial.specs.Count.{counts_of}
 use Rattle.mimic_printer.specs.Json.{Entry}
 use Rattle.mimic_printer.specs.Sink.{Put, Shown, Stopped}
 use Rattle.mimic_events.specs.Contents.{entry_read}
+use Rattle.mimic_events.specs.Inputs.{IsOfInput}
 use Rattle.mimic_reports.specs.declared.junit_elements.Numbers.{Numbers}
 use Rattle.mimic_events.specs.declared.ending.Ending.{Ending}
 use Rattle.mimic_reports.specs.declared.junit.JunitFault.{JunitFault}
@@ -13,8 +14,8 @@ use Rattle.mimic_reports.specs.declared.junit.JunitFault.TheVariants as junit
 use Rattle.mimic_reports.specs.declared.suite.SuiteRows.{SuiteRows}
 use Rattle.mimic_reports.specs.declared.suite.SuiteRows.TheVariants.{Kept, Again}
 use Rattle.mimic_reports.specs.declared.suite.Suite.{Suite as SuiteRead}
-use Rattle.mimic_reports.specs.Junit.{Suite, errors_of, junit_text, nanos_of, numbers_of, total}
-use Rattle.mimic_events.specs.Readings.{IsReading}
+use Rattle.mimic_reports.specs.Junit.{Suite, case_text, errors_of, junit_text, nanos_of, numbers_of, root_start, suite_start, suite_text, total}
+use Rattle.mimic_events.specs.Readings.{HasEndedRows, IsReading}
 
 -- ---- numbers
 
@@ -73,15 +74,63 @@ abbrev pub ReadsAgain : {I : Type 0} → SuiteRows I → I → Type 0
 ReadsAgain (Kept rows) input = ⊥
 ReadsAgain (Again other counts) input = other ≡ input
 
+-- ---- what is written before a fault
+
+-- the start of a report, with these numbers, and these rows
+abbrev pub part_text : List ℕ → Numbers → List Entry → List ℕ
+part_text program numbers entries = suite_start program numbers ++ flat_map (case_text program) entries
+
+-- these rows of a report that is read again come before the fault: some that have ended, or if it has changed all, which have other
+-- numbers
+abbrev pub AreRead : Numbers → Option (List ℕ) → JunitFault → List Entry → Type 0
+AreRead numbers input junit.TooMany entries = ⊥
+AreRead numbers input (junit.Input place fault) entries = IsOfInput fault × IfSome input (HasEndedRows entries)
+AreRead numbers input (junit.Changed place) entries = (ending : Ending) × IfSome input (IsReading entries ending)
+    × (numbers_counted (counts_of (map (λ entry. entry.outcome) entries) 0) ending ≢ numbers)
+AreRead numbers input (junit.Write fault) entries = IfSome input (HasEndedRows entries)
+
+-- these rows of a report come before the fault. If they are kept they are all there, and only the writer can have a fault
+abbrev pub AreBegun : {I : Type 0} → (I → Option (List ℕ)) → Numbers → SuiteRows I → JunitFault → List Entry → Type 0
+AreBegun remaining numbers (Kept rows) (junit.Write fault) entries = entries ≡ map entry_read rows.items
+AreBegun remaining numbers (Kept rows) other entries = ⊥
+AreBegun remaining numbers (Again input counts) fault entries = AreRead numbers (remaining input) fault entries
+
+-- the text is the start of this report, with the numbers that were read first, and its rows before the fault
+abbrev pub IsPart : {I : Type 0} → (I → Option (List ℕ)) → SuiteRead I → JunitFault → List ℕ → Type 0
+IsPart remaining suite fault text = (entries : List Entry) × AreBegun remaining (numbers_in suite) suite.rows fault entries
+    × (text ≡ part_text suite.program.now (numbers_in suite) entries)
+
+-- the text is a part of the next report; or behind the last one, where only the writer can have a fault, the end of the document
+abbrev pub IsNext : {I : Type 0} → (I → Option (List ℕ)) → List (SuiteRead I) → JunitFault → List ℕ → Type 0
+IsNext remaining [] (junit.Write fault) text = text ≡ codes "</testsuites>\n"
+IsNext remaining [] other text = ⊥
+IsNext remaining (suite ∷ suites) fault text = IsPart remaining suite fault text
+
+-- the text is a beginning of the document of these reports: the first `count` are whole, each as it was read, and what is next
+-- follows
+pub record IsBegun {I : Type 0} (remaining : I → Option (List ℕ)) (suites : List (SuiteRead I)) (count : ℕ) (fault : JunitFault) (text : List ℕ) : Type 0 where
+  pub before : List (SuiteRead I)
+  pub after : List (SuiteRead I)
+  pub parts : suites ≡ before ++ after
+  pub place : count ≡ length before
+  pub whole : List Suite
+  pub each : AllZip (IsShown remaining) before whole
+  pub last : List ℕ
+  pub next : IsNext remaining after fault last
+  pub begun : text ≡ root_start (total (map numbers_in suites)) ++ (flat_map suite_text whole ++ last)
+
 -- ---- what is left
 
--- with a fault of the writer something was appended, of which it took a beginning; with a fault of a report something was
--- appended; and nothing, if the numbers are too great
-abbrev pub LeftBy : {I : Type 0} → List (SuiteRead I) → Shown → Shown → JunitFault → Type 0
-LeftBy suites old new junit.TooMany = IsTooGreat (total (map numbers_in suites)) × (new ≡ old)
-LeftBy suites old new (junit.Input place fault) = (place < length suites) × (text : List ℕ) × Put old new text
-LeftBy suites old new (junit.Changed place) = (place < length suites) × (text : List ℕ) × Put old new text
-LeftBy suites old new (junit.Write fault) = (text : List ℕ) × Stopped old new text
+-- with a fault of a report the document was appended up to it; with one of the writer a beginning of it; and nothing, if the
+-- numbers are too great
+abbrev pub LeftBy : {I : Type 0} → (I → Option (List ℕ)) → List (SuiteRead I) → Shown → Shown → JunitFault → Type 0
+LeftBy remaining suites old new junit.TooMany = IsTooGreat (total (map numbers_in suites)) × (new ≡ old)
+LeftBy remaining suites old new (junit.Input place fault) = (place < length suites) × (text : List ℕ)
+    × IsBegun remaining suites place (junit.Input place fault) text × Put old new text
+LeftBy remaining suites old new (junit.Changed place) = (place < length suites) × (text : List ℕ)
+    × IsBegun remaining suites place (junit.Changed place) text × Put old new text
+LeftBy remaining suites old new (junit.Write fault) = (count : ℕ) × (text : List ℕ)
+    × IsBegun remaining suites count (junit.Write fault) text × Stopped old new text
 
 -- the place of the report that the fault is in
 abbrev pub place_of : JunitFault → Option ℕ
@@ -93,13 +142,27 @@ place_of (junit.Write fault) = None
 -- what a call that writes these reports leaves: the document of all of them, in their order
 abbrev pub LeavesDocument : {I : Type 0} → (I → Option (List ℕ)) → List (SuiteRead I) → Shown → Shown → Result (Unit {0}) JunitFault → Type 0
 LeavesDocument remaining suites old new (Ok done) = (shown : List Suite) × AllZip (IsShown remaining) suites shown × Put old new (junit_text shown)
-LeavesDocument remaining suites old new (Err fault) = LeftBy suites old new fault
+LeavesDocument remaining suites old new (Err fault) = LeftBy remaining suites old new fault
 
--- ---- one report. No public clause names this word
+-- ---- one report. No public clause names these words
 
--- what is left of the report of this place with a fault
-abbrev pub HasLeft : ℕ → Shown → Shown → JunitFault → Type 0
-HasLeft place old new junit.TooMany = ⊥
-HasLeft place old new (junit.Input at fault) = (at ≡ place) × (text : List ℕ) × Put old new text
-HasLeft place old new (junit.Changed at) = (at ≡ place) × (text : List ℕ) × Put old new text
-HasLeft place old new (junit.Write fault) = (text : List ℕ) × Stopped old new text
+-- the text is the start of a report of this program, with these numbers, and rows that come before the fault
+abbrev pub IsPartOf : List ℕ → Numbers → Option (List ℕ) → JunitFault → List ℕ → Type 0
+IsPartOf program numbers input fault text = (entries : List Entry) × AreRead numbers input fault entries
+    × (text ≡ part_text program numbers entries)
+
+-- this is written of a report of this program that was read twice, with these numbers, and from this input the second time
+pub record IsReadAgain (program : List ℕ) (numbers : Numbers) (input : Option (List ℕ)) (shown : Suite) : Type 0 where
+  pub of : shown.program ≡ program
+  pub same : numbers_of shown ≡ numbers
+  pub reading : IfSome input (IsReading shown.entries shown.ending)
+
+-- what is left of the report of this place with a fault, if these are its parts, and this is written of it as a whole
+abbrev pub HasLeft : (JunitFault → List ℕ → Type 0) → (Suite → Type 0) → ℕ → Shown → Shown → JunitFault → Type 0
+HasLeft Part Whole place old new junit.TooMany = ⊥
+HasLeft Part Whole place old new (junit.Input at fault) = (at ≡ place) × (text : List ℕ) × Part (junit.Input at fault) text
+    × Put old new text
+HasLeft Part Whole place old new (junit.Changed at) = (at ≡ place) × (text : List ℕ) × Part (junit.Changed at) text
+    × Put old new text
+HasLeft Part Whole place old new (junit.Write fault) = (text : List ℕ)
+    × (Part (junit.Write fault) text ⊎ ((shown : Suite) × Whole shown × (text ≡ suite_text shown))) × Stopped old new text

@@ -5,9 +5,9 @@ ghost use Rattle.mimic_trial.specs.Count.{counts_of};
 ghost use Rattle.mimic_printer.specs.Json.{Entry};
 ghost use Rattle.mimic_printer.specs.Sink.{HasFaultLeft, Put, Puts, shown};
 ghost use Rattle.mimic_events.specs.Contents.{entry_read};
-ghost use Rattle.mimic_reports.specs.Junit.{Suite as ShownSuite, case_text, ending_text, numbers_of, suite_text, total};
+ghost use Rattle.mimic_reports.specs.Junit.{Suite as ShownSuite, case_text, ending_text, suite_text, total};
 ghost use Rattle.mimic_events.specs.Readings.{IsReading};
-ghost use Rattle.mimic_reports.specs.Suites.{HasLeft, IsShown, IsTooGreat, LeavesDocument, numbers_in};
+ghost use Rattle.mimic_reports.specs.Suites.{HasLeft, IsPart, IsPartOf, IsReadAgain, IsShown, IsTooGreat, LeavesDocument, numbers_in, part_text};
 ghost use Rattle.mimic_printer.specs.EscapeLaws.{EscapeLaws};
 ghost use Rattle.mimic_reports.specs.declared.junit.JunitFault.TheVariants.{Write as WriteStopped};
 
@@ -72,7 +72,10 @@ fn total_of<I: Read>(suites: &[Suite<'_, I>]) -> Option<Numbers>
 
 /// Writes the reports, in their order, as one document of JUnit's XML, and flushes it.
 ///
-/// Rows that are not kept are read again, each once. With a fault a beginning was written that is no document.
+/// Rows that are not kept are read again, each once. With a fault of a report the document is written up to it: the reports before
+/// it are whole, and of this one there are its start, which has the numbers that were read first, and rows: some that have ended
+/// in its input, or all of a report that has changed. With a fault of the writer a beginning of such a text, or of the document,
+/// was written.
 #[tactic(auto, using(mimic_printer::proofs::EscapeLaws::escape_laws))]
 pub fn write_junit<I: Read + Drop, W: Write>(
     alloc: Global,
@@ -111,7 +114,8 @@ fn put_suite<I: Read + Drop, W: Write>(
     ensures { MatchResult result (λ _. (written : ShownSuite)
         × IsShown I.remaining suite.entry written
         × Put (shown W.contents sink.old) (shown W.contents sink.new) (suite_text written))
-        (HasLeft place (shown W.contents sink.old) (shown W.contents sink.new)) }
+        (HasLeft (IsPart I.remaining suite.entry) (IsShown I.remaining suite.entry) place
+        (shown W.contents sink.old) (shown W.contents sink.new)) }
 {
     let numbers = suite.numbers();
     let Suite {
@@ -193,14 +197,14 @@ fn put_counted<'a, I: Read + Drop, W: Write>(
     sink: &mut Sink<W>,
 ) -> Result<(), JunitFault>
     requires { HasFaultLeft sink.old }
-    ensures { MatchResult result (λ _. (written : ShownSuite) × (written.program ≡ program.now)
-        × (numbers_of written ≡ numbers.now)
-        × IfSome (I.remaining input) (IsReading written.entries written.ending)
+    ensures { MatchResult result (λ _. (written : ShownSuite)
+        × IsReadAgain program.now numbers.now (I.remaining input) written
         × Put (shown W.contents sink.old) (shown W.contents sink.new) (suite_text written))
-        (HasLeft place (shown W.contents sink.old) (shown W.contents sink.new)) }
+        (HasLeft (IsPartOf program.now numbers.now (I.remaining input))
+        (IsReadAgain program.now numbers.now (I.remaining input)) place
+        (shown W.contents sink.old) (shown W.contents sink.new)) }
 {
-    put_suite_start(sink, program, numbers)?;
-    let (counts, ending) = put_again(alloc, place, program, input, sink)?;
+    let (counts, ending) = put_again(alloc, place, program, input, numbers, sink)?;
     if numbers_counted(&counts, &ending) != *numbers {
         return Err(JunitFault::Changed { place });
     }
@@ -208,12 +212,14 @@ fn put_counted<'a, I: Read + Drop, W: Write>(
     Ok(())
 }
 
-// Writes the rows of an input as they come, and returns their counts and how the report ended.
+// Writes the start of a report that has these numbers, and the rows of an input as they come, and returns their counts and how the
+// report ended.
 fn put_again<'a, I: Read + Drop, W: Write>(
     alloc: Global,
     place: usize,
     program: &'a str,
     input: I,
+    numbers: &Numbers,
     sink: &mut Sink<W>,
 ) -> Result<(Conclusion, Ending), JunitFault>
     requires { HasFaultLeft sink.old }
@@ -221,9 +227,12 @@ fn put_again<'a, I: Read + Drop, W: Write>(
         × (x.0 ≡ counts_of (map (λ entry. entry.outcome) entries) 0)
         × IfSome (I.remaining input) (IsReading entries x.1)
         × Put (shown W.contents sink.old) (shown W.contents sink.new)
-        (flat_map (case_text program.now) entries))
-        (HasLeft place (shown W.contents sink.old) (shown W.contents sink.new)) }
+        (part_text program.now numbers.now entries))
+        (HasLeft (IsPartOf program.now numbers.now (I.remaining input))
+        (IsReadAgain program.now numbers.now (I.remaining input)) place
+        (shown W.contents sink.old) (shown W.contents sink.new)) }
 {
+    put_suite_start(sink, program, numbers)?;
     let Ok(mut rows) = InputRows::new(alloc, input) else {
         return Err(JunitFault::Input {
             place,

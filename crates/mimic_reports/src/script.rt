@@ -11,8 +11,8 @@ pub(crate) const FILTER: &str = r#"<form role="search" autocomplete="off" hidden
 </form>
 "#;
 
-// The script shows the filter, and then the rows whose outcome is ticked, and whose kind and name have all the words that were typed, in small or
-// capital letters.
+// The script shows the filter, and then the rows whose outcome is ticked, and whose kind and name have all the words that were
+// typed, in small or capital letters.
 pub(crate) const SCRIPT: &str = r#"
 "use strict";
 const form = document.querySelector("form");

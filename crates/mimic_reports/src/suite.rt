@@ -1,6 +1,7 @@
 //! Reads reports that are to be written in XML.
-ghost use Rattle.std.specs.Prelude.{◌≡◌, ◌<◌, ◌^◌, List, IfOk};
+ghost use Rattle.std.specs.Prelude.{◌≡◌, ◌<◌, ◌^◌, List, IfErr, IfOk};
 ghost use Rattle.mimic_printer.specs.Json.{Entry};
+ghost use Rattle.mimic_events.specs.Inputs.{IsOfInput};
 ghost use Rattle.mimic_reports.specs.Suites.{IsReadFrom, KeepsRows, ReadsAgain, counts_in, numbers_counted, numbers_in, rows_counted};
 
 use crate::junit_elements::Numbers;
@@ -28,11 +29,12 @@ pub(crate) enum SuiteRows<I> {
 
 impl<'a, I: Read + Drop> Suite<'a, I> {
     /// Reads a report that can be read once only, and keeps its rows. Of what isn't a whole report these are the rows that have
-    /// ended, before the first line that no report has there.
+    /// ended, before the first line that no report has there. It fails only if the reader fails or there is no memory.
     pub fn kept(alloc: Global, program: &'a str, input: I) -> Result<Suite<'a, I>, ReadFault>
-        ensures { IfOk result (λ suite. (entries : List Entry)
+        ensures read { IfOk result (λ suite. (entries : List Entry)
             × IsReadFrom (I.remaining input) suite entries × KeepsRows suite.rows entries
             × (suite.program.now ≡ program.now)) }
+        ensures fault { IfErr result IsOfInput }
     {
         let RowsRead { rows, ending } = read_rows(alloc, input)?;
         Ok(Suite {
@@ -42,16 +44,18 @@ impl<'a, I: Read + Drop> Suite<'a, I> {
         })
     }
 
-    /// Reads a report to its end, and keeps none of its rows: they are read from `again` when the report is written.
+    /// Reads a report to its end, and keeps none of its rows: they are read from `again` when the report is written. It fails only
+    /// if the reader fails or there is no memory.
     pub fn counted(
         alloc: Global,
         program: &'a str,
         input: I,
         again: I,
     ) -> Result<Suite<'a, I>, ReadFault>
-        ensures { IfOk result (λ suite. (entries : List Entry)
+        ensures read { IfOk result (λ suite. (entries : List Entry)
             × IsReadFrom (I.remaining input) suite entries × ReadsAgain suite.rows again
             × (suite.program.now ≡ program.now)) }
+        ensures fault { IfErr result IsOfInput }
     {
         let mut rows = InputRows::new(alloc, input)?;
         let mut counts = Conclusion::empty(0);

@@ -3,7 +3,7 @@ use Rattle.std.proofs.Common.{List}
 use Rattle.mimic_printer.specs.Json.{Entry}
 use Rattle.mimic_printer.specs.Sink.{shown}
 use Rattle.mimic_events.specs.RowByRow.{HasCome, IsReady}
-use Rattle.mimic_expect.specs.Judge.{Judges}
+use Rattle.mimic_expect.specs.JudgedRows.{Judges}
 use Rattle.mimic_expect.proofs.inputs.judge_input.Given as goal
 
 abbrev pub invariant-loop : goal.invariant-loop

@@ -3,7 +3,7 @@ use Rattle.std.specs.Prelude.{◌≡◌, ◌≤◌, ◌+◌, ◌-◌, ◌*◌, �
 use Rattle.std.specs.List.{AllZip}
 use Rattle.std.specs.Vec.Iter.{into_iter_items, into_iter_len}
 use Rattle.mimic_printer.specs.Sink.{shown}
-use Rattle.mimic_expect.specs.Judge.{Judges}
+use Rattle.mimic_expect.specs.JudgedRows.{Judges}
 use Rattle.mimic_expect.specs.Verdict.{InputRead, IsReadOf, rows_of}
 use Rattle.mimic_expect.proofs.inputs.judge_inputs.Given as goal
 

@@ -2,7 +2,7 @@ use Rattle.std.proofs.Common.{take}
 use Rattle.std.specs.List.{flat_map}
 use Rattle.mimic_printer.specs.Sink.{Put, shown}
 use Rattle.mimic_expect.specs.FindingText.{finding_text}
-use Rattle.mimic_expect.specs.Judging.{finding_read}
+use Rattle.mimic_expect.specs.JudgementText.{finding_read}
 use Rattle.mimic_expect.proofs.inputs.put_judgement.Given as goal
 
 abbrev pub invariant-loop-found : goal.invariant-loop-found

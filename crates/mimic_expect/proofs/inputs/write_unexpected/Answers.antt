@@ -1,40 +1,71 @@
-use Rattle.std.proofs.Common.{◌≡◌, ◌∙◌, [], ap, map}
-use Rattle.std.specs.List.{list_all}
-use Rattle.mimic_printer.proofs.Appending.{Put-Stopped, Put-trans}
-use Rattle.mimic_expect.specs.Expect.{findings}
+use Rattle.std.proofs.Common.{◌∙◌, [], ap, append-nil, map, subst, sym}
+use Rattle.mimic_printer.specs.Sink.{Put, Stopped}
+use Rattle.mimic_printer.proofs.Appending.{Put-Stopped, Put-refl, Put-trans, Put_after, Stopped_after}
 use Rattle.mimic_expect.specs.Known.{expected_read}
-use Rattle.mimic_expect.specs.Verdict.{has_all, have_all, rows_of}
-use Rattle.mimic_expect.proofs.Verdicts.{all_put, ends_have_all, rest_counts, some_counts, write_left}
+use Rattle.mimic_expect.specs.JudgedRows.{Judged}
+use Rattle.mimic_expect.specs.Verdict.{have_all, rows_of}
+use Rattle.mimic_expect.proofs.Judged.{inputs_read, lines_put, none_read}
+use Rattle.mimic_expect.proofs.Verdicts.{memory_left, rest_counts, rows_left_by, says_of, some_counts, whole_text, write_left}
 use Rattle.mimic_expect.proofs.inputs.write_unexpected.Goals as goal
 use Rattle.mimic_expect.proofs.inputs.write_unexpected.Goals.{then-failed-gt0, else-failed-gt0}
 
+pub returns-in_err-judge-clause-verdict : goal.returns-in_err-judge-clause-verdict
+returns-in_err-judge-clause-verdict g c =
+    memory_left g.I.Read.remaining (map expected_read c.args.known.now) c.args.inputs.items c.args.lax _ _ c.from_residual.result []
+    c.from_residual.ensures.1 (none_read g.I.Read.remaining c.args.inputs.items) (Put-refl _)
+
+pub returns-in_err-failed-clause-verdict : goal.returns-in_err-failed-clause-verdict
+returns-in_err-failed-clause-verdict g c =
+    rows_left_by g.I.Read.remaining (map expected_read c.args.known.now) c.args.inputs.items c.args.lax _ _ c.from_residual-in_err-failed.result
+    c.in_err-failed.field-0.0 _ (ap (λ (j : Judged). j.known) c.in_ok-judge.ensures) c.from_residual-in_err-failed.ensures.1 c.in_err-failed.ensures
+
+pub returns-in_err-judgement-clause-verdict : goal.returns-in_err-judgement-clause-verdict
+returns-in_err-judgement-clause-verdict g c =
+    let known = map expected_read c.args.known.now in
+    let inputs = c.args.inputs.items in
+    let came = c.in_ok-failed.ensures in
+    memory_left g.I.Read.remaining known inputs c.args.lax _ _ c.from_residual-in_err-judgement.result (rows_of came.0)
+    c.from_residual-in_err-judgement.ensures.1
+    (inputs_read g.I.Read.remaining inputs inputs [] came.0 (sym (append-nil inputs)) came.1)
+    (lines_put known c.in_ok-judge.judge c.judge_inputs.new.judge (rows_of came.0) c.in_ok-failed.failed _ _ c.in_ok-judge.ensures came.3)
+
 pub returns-in_err-put_judgement-clause-verdict : goal.returns-in_err-put_judgement-clause-verdict
 returns-in_err-put_judgement-clause-verdict g c =
-    write_left g.I.Read.remaining (map expected_read c.args.known.now) c.args.inputs.items c.args.lax _ _ c.from_residual-in_err-put_judgement.result c.in_err-put_judgement.field-0.0 _
-    c.from_residual-in_err-put_judgement.ensures.1 (Put-Stopped _ _ c.in_ok-failed.ensures.3.put c.in_err-put_judgement.ensures)
+    let known = map expected_read c.args.known.now in
+    let came = c.in_ok-failed.ensures in
+    let whole = whole_text known c.in_ok-judge.judge c.judge_inputs.new.judge came.0 _ c.in_ok-failed.ends.items _ c.in_ok-failed.failed c.in_ok-judgement.judgement _ _
+    c.in_ok-judge.ensures came.3 c.have_all.ensures c.deref.ensures.value came.2 c.in_ok-judgement.ensures.unexpected c.in_ok-judgement.ensures.met in
+    write_left g.I.Read.remaining known c.args.inputs.items c.args.lax _ _ c.from_residual-in_err-put_judgement.result c.in_err-put_judgement.field-0.0 came.0
+    c.from_residual-in_err-put_judgement.ensures.1 came.1 (subst (Stopped _ _) whole.1 (Put-Stopped _ _ whole.0 c.in_err-put_judgement.ensures))
 
 pub returns-in_err-flush-clause-verdict : goal.returns-in_err-flush-clause-verdict
 returns-in_err-flush-clause-verdict g c =
-    write_left g.I.Read.remaining (map expected_read c.args.known.now) c.args.inputs.items c.args.lax _ _ c.from_residual-in_err-flush.result c.in_err-flush.field-0.0 _
-    c.from_residual-in_err-flush.ensures.1 (Put-Stopped _ [] (Put-trans _ _ c.in_ok-failed.ensures.3.put c.in_ok-put_judgement.ensures) c.in_err-flush.ensures)
+    let known = map expected_read c.args.known.now in
+    let came = c.in_ok-failed.ensures in
+    let whole = whole_text known c.in_ok-judge.judge c.judge_inputs.new.judge came.0 _ c.in_ok-failed.ends.items _ c.in_ok-failed.failed c.in_ok-judgement.judgement _ _
+    c.in_ok-judge.ensures came.3 c.have_all.ensures c.deref.ensures.value came.2 c.in_ok-judgement.ensures.unexpected c.in_ok-judgement.ensures.met in
+    write_left g.I.Read.remaining known c.args.inputs.items c.args.lax _ _ c.from_residual-in_err-flush.result c.in_err-flush.field-0.0 came.0
+    c.from_residual-in_err-flush.ensures.1 came.1 (subst (Stopped _ _) whole.1 (Stopped_after _ (Put-trans _ _ whole.0 c.in_ok-put_judgement.ensures) c.in_err-flush.ensures))
 
 pub returns-clause-verdict : goal.returns-clause-verdict
 returns-clause-verdict g c =
     let known = map expected_read c.args.known.now in
     let came = c.in_ok-failed.ensures in
+    let whole = whole_text known c.in_ok-judge.judge c.judge_inputs.new.judge came.0 _ c.in_ok-failed.ends.items _ c.in_ok-failed.failed c.in_ok-judgement.judgement _ _
+    c.in_ok-judge.ensures came.3 c.have_all.ensures c.deref.ensures.value came.2 c.in_ok-judgement.ensures.unexpected c.in_ok-judgement.ensures.met in
     let begun = c.in_ok-judge.ensures in
     let failed = c.in_ok-failed.failed in
+    let rows = rows_of came.0 in
     let judgement = c.in_ok-judgement.judgement in
     let new = c.judge_inputs.new.judge in
-    let are_all : c.have_all.result ≡ have_all came.0 = c.have_all.ensures ∙ (ap (list_all has_all) c.deref.ensures.value ∙ ends_have_all came.0 c.in_ok-failed.ends.items came.2) in
-    let says = c.in_ok-judgement.ensures.unexpected ∙ ap (findings new.known new.rows) are_all in
+    let says = says_of judgement new came.0 _ c.in_ok-failed.ends.items _ c.have_all.ensures c.deref.ensures.value came.2 c.in_ok-judgement.ensures.unexpected in
     record {
       read = came.0;
       each = came.1;
       ends = came.2;
-      put = all_put known c.in_ok-judge.judge new (rows_of came.0) (have_all came.0) failed judgement begun came.3 says c.in_ok-judgement.ensures.met c.in_ok-put_judgement.ensures c.in_ok-flush.ensures;
+      put = subst (Put _ _) whole.1 (Put_after _ (Put-trans _ _ whole.0 c.in_ok-put_judgement.ensures) c.in_ok-flush.ensures);
       unexpected = elim c.if-failed-gt0.branch [
-        | then-failed-gt0 w ↦ w.result-is ∙ some_counts known c.in_ok-judge.judge new (rows_of came.0) (have_all came.0) failed judgement begun came.3 says c.args.lax w.if-failed-gt0.true
-        | else-failed-gt0 w ↦ w.result-is ∙ rest_counts known c.in_ok-judge.judge new (rows_of came.0) (have_all came.0) failed judgement begun came.3 says c.args.lax w.is_unexpected.result w.if-failed-gt0.false w.is_unexpected.ensures
+        | then-failed-gt0 w ↦ w.result-is ∙ some_counts known c.in_ok-judge.judge new rows (have_all came.0) failed judgement begun came.3 says c.args.lax w.if-failed-gt0.true
+        | else-failed-gt0 w ↦ w.result-is ∙ rest_counts known c.in_ok-judge.judge new rows (have_all came.0) failed judgement begun came.3 says c.args.lax w.is_unexpected.result w.if-failed-gt0.false w.is_unexpected.ensures
       ];
     }

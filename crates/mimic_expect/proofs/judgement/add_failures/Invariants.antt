@@ -1,7 +1,7 @@
 use Rattle.std.proofs.Common.{◌≡◌, ◌++◌, map, take}
 use Rattle.mimic_trial.specs.Count.{is_failed}
 use Rattle.mimic_expect.specs.Expect.{FailedRow, rows_with}
-use Rattle.mimic_expect.specs.Judging.{entries_read, finding_read}
+use Rattle.mimic_expect.specs.JudgementText.{entries_read, finding_read}
 use Rattle.mimic_expect.proofs.judgement.add_failures.Given as goal
 
 abbrev pub invariant-loop-row : goal.invariant-loop-row

@@ -6,7 +6,7 @@ use Rattle.mimic_events.specs.Contents.{entry_read}
 use Rattle.mimic_events.specs.Key.{any_in, same_key}
 use Rattle.mimic_events.specs.declared.report.Row.{Row}
 use Rattle.mimic_printer.specs.Json.{Entry}
-use Rattle.mimic_expect.specs.Judging.{finding_read}
+use Rattle.mimic_expect.specs.JudgementText.{finding_read}
 use Rattle.mimic_expect.specs.Known.{expected_read}
 use Rattle.mimic_expect.specs.declared.known.Expectation.{Expectation}
 use Rattle.mimic_expect.proofs.Meeting.{answers-more, one_more, removed-over, unanswered-more}

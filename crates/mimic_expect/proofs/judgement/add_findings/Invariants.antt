@@ -1,7 +1,7 @@
 use Rattle.std.proofs.Common.{◌≡◌, ◌++◌, map, take}
 use Rattle.std.specs.List.{flat_map}
 use Rattle.mimic_expect.specs.Expect.{answers, fate, unanswered}
-use Rattle.mimic_expect.specs.Judging.{expected_at, finding_read, rows_left}
+use Rattle.mimic_expect.specs.JudgementText.{expected_at, finding_read, rows_left}
 use Rattle.mimic_expect.proofs.judgement.add_findings.Given as goal
 
 abbrev pub invariant-loop-expectation : goal.invariant-loop-expectation

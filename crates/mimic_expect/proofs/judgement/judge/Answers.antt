@@ -2,7 +2,7 @@ use Rattle.std.proofs.Common.{◌++◌, ◌∙◌, ap, ap₂, arith, map}
 use Rattle.mimic_trial.specs.Count.{is_ignored_outcome}
 use Rattle.mimic_events.specs.Contents.{entry_read}
 use Rattle.mimic_expect.specs.Expect.{findings_with, has_passed, keyed, left_by, rows_with, unmet_by}
-use Rattle.mimic_expect.specs.Judging.{entries_read, expected_at}
+use Rattle.mimic_expect.specs.JudgementText.{entries_read, expected_at}
 use Rattle.mimic_expect.specs.Known.{expected_read}
 use Rattle.mimic_expect.proofs.Judgements.{counted, failures_read, others_found}
 use Rattle.mimic_expect.proofs.judgement.judge.Goals as goal

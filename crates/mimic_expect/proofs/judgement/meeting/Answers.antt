@@ -1,5 +1,5 @@
 use Rattle.std.proofs.Common.{refl}
-use Rattle.mimic_expect.specs.Judging.{entries_read}
+use Rattle.mimic_expect.specs.JudgementText.{entries_read}
 use Rattle.mimic_expect.specs.Known.{expected_read}
 use Rattle.mimic_expect.proofs.Meeting.{read_left}
 use Rattle.mimic_expect.proofs.judgement.meeting.Goals as goal

@@ -1,7 +1,7 @@
 use Rattle.std.proofs.Common.{◌≡◌, map, take}
 use Rattle.mimic_events.specs.Key.{key_read}
 use Rattle.mimic_expect.specs.Expect.{keyed}
-use Rattle.mimic_expect.specs.Judging.{lines_left}
+use Rattle.mimic_expect.specs.JudgementText.{lines_left}
 use Rattle.mimic_expect.specs.Known.{expected_read}
 use Rattle.mimic_expect.proofs.judgement.pool_of.Given as goal
 

@@ -1,7 +1,7 @@
 use Rattle.std.proofs.Common.{◌≡◌, map, take}
 use Rattle.mimic_events.specs.Key.{key_read}
 use Rattle.mimic_expect.specs.Expect.{labelled}
-use Rattle.mimic_expect.specs.Judging.{entries_read, rows_left}
+use Rattle.mimic_expect.specs.JudgementText.{entries_read, rows_left}
 use Rattle.mimic_expect.proofs.judgement.pool_of_rows.Given as goal
 
 abbrev pub invariant-loop-row : goal.invariant-loop-row

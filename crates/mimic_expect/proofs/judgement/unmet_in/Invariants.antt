@@ -1,6 +1,6 @@
 use Rattle.std.proofs.Common.{◌≡◌, take}
 use Rattle.mimic_expect.specs.Expect.{left_by, unmet_by}
-use Rattle.mimic_expect.specs.Judging.{entries_read, lines_left}
+use Rattle.mimic_expect.specs.JudgementText.{entries_read, lines_left}
 use Rattle.mimic_expect.proofs.judgement.unmet_in.Given as goal
 
 abbrev pub invariant-loop-row : goal.invariant-loop-row

@@ -1,11 +1,10 @@
--- The rows that have come are counted, and were written.
+-- The rows that have come are counted, and were written after the start.
 use Rattle.std.proofs.Common.{◌≡◌, List}
-use Rattle.std.specs.List.{flat_map}
 use Rattle.mimic_trial.specs.Count.{counts_of}
 use Rattle.mimic_printer.specs.Json.{Entry}
 use Rattle.mimic_printer.specs.Sink.{Put, shown}
-use Rattle.mimic_reports.specs.Junit.{case_text}
 use Rattle.mimic_events.specs.RowByRow.{HasCome, IsReady}
+use Rattle.mimic_reports.specs.Suites.{part_text}
 use Rattle.mimic_reports.proofs.RowCounts.{outcomes}
 use Rattle.mimic_reports.proofs.junit.put_again.Given as goal
 
@@ -13,5 +12,5 @@ abbrev pub invariant-loop : goal.invariant-loop
 invariant-loop g l = record {
   ready : IsReady l.rows;
   come : (entries : List Entry) × HasCome g.I.Read.remaining (g.I.Read.remaining l.fn.input) l.rows entries × (l.counts ≡ counts_of (outcomes entries) 0)
-      × Put (shown g.W.Write.contents l.initial.sink) (shown g.W.Write.contents l.sink) (flat_map (case_text l.program) entries);
+      × Put (shown g.W.Write.contents l.fn.sink) (shown g.W.Write.contents l.sink) (part_text l.program l.numbers entries);
 }

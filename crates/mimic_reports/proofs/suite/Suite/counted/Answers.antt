@@ -8,8 +8,8 @@ count-requires g c =
     let come = c.loop.invariant.come in
     has_room _ _ _ come.0 _ c.loop.counts (rw c.in-Some.is at (c.in_ok-row.ensures.rows _ come.0 come.1)) come.2
 
-pub returns-in-None : goal.returns-in-None
-returns-in-None g c =
+pub returns-in-None-clause-read : goal.returns-in-None-clause-read
+returns-in-None-clause-read g c =
     let come = c.loop.invariant.come in
     let ended = rw c.in-None.is at (c.in_ok-row.ensures.rows _ come.0 come.1) in
     (come.0, record { reading = c.in_ok-finish-in-None.ensures _ come.0 ended; counts = come.2 }, refl, refl)

@@ -1,12 +1,13 @@
 -- Rows that are judged one by one. No public clause names these words.
 use Rattle.std.specs.Prelude.{◌≡◌, ℕ, List, ◌++◌, map, length}
-use Rattle.std.specs.List.{flat_map}
 use Rattle.mimic_printer.specs.Json.{Entry}
 use Rattle.mimic_printer.specs.Row.{Label}
-use Rattle.mimic_printer.specs.Sink.{Put, Shown}
+use Rattle.mimic_printer.specs.Sink.{Put, Shown, Stopped}
+use Rattle.mimic_printer.specs.declared.sink.OutputFault.{OutputFault}
+use Rattle.mimic_printer.specs.declared.sink.OutputFault.TheVariants.{OutOfMemory, Write}
 use Rattle.mimic_events.specs.Key.{label_in}
-use Rattle.mimic_expect.specs.Expect.{FailedRow, known_rows, unknown_failures}
-use Rattle.mimic_expect.specs.FindingText.{finding_text}
+use Rattle.mimic_expect.specs.Expect.{known_rows, unknown_failures}
+use Rattle.mimic_expect.specs.FindingText.{unknown_text}
 use Rattle.mimic_expect.specs.Known.{Expected}
 use Rattle.mimic_expect.specs.declared.known.Expectation.{Expectation}
 
@@ -25,4 +26,10 @@ pub record Judges (old new : Judged) (rows : List Entry) (count : ℕ) (before a
   pub known : new.known ≡ old.known
   pub kept : new.rows ≡ old.rows ++ known_rows old.known rows
   pub counted : count ≡ length (unknown_failures old.known rows)
-  pub put : Put before after (flat_map finding_text (map FailedRow (unknown_failures old.known rows)))
+  pub put : Put before after (unknown_text old.known rows)
+
+-- with a fault, of these rows the failures had lines that no known failure has: without memory all of them, and with a fault of the
+-- writer a beginning
+abbrev pub HasLines : List Expected → Shown → Shown → OutputFault → List Entry → Type 0
+HasLines known before after OutOfMemory rows = Put before after (unknown_text known rows)
+HasLines known before after (Write fault) rows = Stopped before after (unknown_text known rows)
