@@ -9,10 +9,12 @@ use Rattle.mimic_printer.specs.declared.sink.Sink.{Sink}
 use Rattle.mimic_printer.specs.declared.sink.WriteFault.TheVariants as WriteFault
 use Rattle.libtest_mimic.specs.declared.running.RunError.{RunError}
 use Rattle.libtest_mimic.specs.declared.running.RunError.TheVariants.{Write}
+use Rattle.libtest_mimic.specs.Run.{Done}
 use Rattle.libtest_mimic.specs.Sink.{Put, Shown, faults_of, shown, writer_of}
+use Rattle.libtest_mimic.specs.Stopwatch.{Watched}
 use Rattle.libtest_mimic.specs.Suite.{Asked}
 use Rattle.mimic_main.specs.Output.{HandsOn}
-use Rattle.mimic_main.specs.Run.{GotBeginning, IsFaultOf, Left, Ran, faultless}
+use Rattle.mimic_main.specs.Run.{GotBeginning, IsFaultOf, Left, Ran, done_over, faultless}
 
 -- a sink with no fault shows the bytes of its writer
 pub shown-new : {W : Type 0} (contents : W → Option (List ℕ)) (s : Sink W) (w : W) → writer_of s ≡ w → faults_of s ≡ 0 → shown contents s ≡ faultless (contents w)
@@ -39,11 +41,21 @@ IsFaultOf-settled (Ok c) fault (Err error) same kept cause = (error, same_fault 
 Put-got : (old : Option (List ℕ)) (new : Shown) (got : Option (List ℕ)) (text : List ℕ) → Keeps new.bytes got → Put (faultless old) new text → Put (faultless old) (faultless got) text
 Put-got old new got text k p = record { appended = Appends-kept old new.bytes got text p.appended k; faults = refl }
 
-module _ {R : Type 0} (asked : Asked R) where
-  Ran-got : (old : Option (List ℕ)) (new : Shown) (got : Option (List ℕ)) (c : Conclusion) → Keeps new.bytes got → Left asked (faultless old) new (Ok c) → Ran asked old got c
+-- what a run with this watch did, if its sink showed these two before and after it
+abbrev pub seen : Shown → Shown → Watched → Result Conclusion RunError → Done
+seen first new watch answer = record {
+  before = first;
+  after = new;
+  watch = watch;
+  answer = answer;
+}
+
+module _ {R : Type 0} (asked : Asked R) (watch : Watched) where
+  Ran-got : (old : Option (List ℕ)) (new : Shown) (got : Option (List ℕ)) (c : Conclusion)
+      → Keeps new.bytes got → Left asked (done_over old new watch (Ok c)) → Ran asked old got watch c
   Ran-got old new got c k a = record {
-    watch = a.watch;
     listed = λ is_list. let l = a.listed is_list in (l.0, l.1, (l.2.0, Put-got old new got _ k l.2.1));
+    watched = a.watched;
     reported = λ unlisted.
         let o = a.reported unlisted in
         let r = o.2.3 in (
@@ -70,22 +82,27 @@ module _ {R : Type 0} (asked : Asked R) where
   OnOk-here (Err e) K p k = absurd (false≢true p)
 
   -- what a run left behind these bytes, in a sink that had no fault
-  left_behind : (old : Option (List ℕ)) (first new : Shown) (ran : Result Conclusion RunError) → first ≡ faultless old → Left asked first new ran → Left asked (faultless old) new ran
-  left_behind old first new ran e left = subst (λ (s : Shown). Left asked s new ran) e left
+  left_behind : (old : Option (List ℕ)) (first new : Shown) (ran : Result Conclusion RunError)
+      → first ≡ faultless old → Left asked (seen first new watch ran) → Left asked (done_over old new watch ran)
+  left_behind old first new ran e left = subst (λ (s : Shown). Left asked (seen s new watch ran)) e left
 
   -- the answer `r`, which is Ok only if the run answered that and its last bytes were written out
-  pub Ran-settled : {T E : Type 0} (old : Option (List ℕ)) (first new : Shown) (got : Option (List ℕ)) (ran r : Result Conclusion RunError) (finished : Result T E)
-      → first ≡ faultless old → OnOk finished (Keeps new.bytes got) → IfOk r (λ c. ran ≡ Ok c) → (IsOk r → IsOk finished) → Left asked first new ran
-      → IfOk r (λ c. Ran asked old got c)
+  pub Ran-settled : {T E : Type 0} (old : Option (List ℕ)) (first new : Shown) (got : Option (List ℕ))
+      (ran r : Result Conclusion RunError) (finished : Result T E)
+      → first ≡ faultless old → OnOk finished (Keeps new.bytes got) → IfOk r (λ c. ran ≡ Ok c)
+      → (IsOk r → IsOk finished) → Left asked (seen first new watch ran) → IfOk r (λ c. Ran asked old got watch c)
   Ran-settled old first new got ran (Ok c) finished e k a f left =
-      Ran-got old new got c (OnOk-here finished _ (f refl) k) (subst (λ x. Left asked (faultless old) new x) a (left_behind old first new ran e left))
+      let Answered : Result Conclusion RunError → Type 0 = λ x. Left asked (done_over old new watch x) in
+      Ran-got old new got c (OnOk-here finished _ (f refl) k) (subst Answered a (left_behind old first new ran e left))
   Ran-settled old first new got ran (Err x) finished e k a f left = tt
 
   -- a run of which a beginning was written out, if the answer `r` is a fault
-  pub GotBeginning-from : {T : Type 0} (old : Option (List ℕ)) (first new : Shown) (got : Option (List ℕ)) (ran r : Result Conclusion RunError) (finished : Result T Error)
+  pub GotBeginning-from : {T : Type 0} (old : Option (List ℕ)) (first new : Shown) (got : Option (List ℕ))
+      (ran r : Result Conclusion RunError) (finished : Result T Error)
       → first ≡ faultless old → HandsOn new.bytes got
-      → IfErr ran (λ fault. r ≡ refused fault) → (IsOk finished → r ≡ ran) → (IsOk ran → IfErr finished (λ error. r ≡ refused (Write (WriteFault.Error error))))
-      → Left asked first new ran → IfErr r (λ fault. GotBeginning asked old got fault)
+      → IfErr ran (λ fault. r ≡ refused fault) → (IsOk finished → r ≡ ran)
+      → (IsOk ran → IfErr finished (λ error. r ≡ refused (Write (WriteFault.Error error))))
+      → Left asked (seen first new watch ran) → IfErr r (λ fault. GotBeginning asked old got watch fault)
   GotBeginning-from old first new got ran (Ok c) finished e handed same kept cause left = tt
   GotBeginning-from old first new got ran (Err fault) finished e handed same kept cause left =
       (new, ran, left_behind old first new ran e left, handed, IsFaultOf-settled ran fault finished same kept cause)

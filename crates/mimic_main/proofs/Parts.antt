@@ -7,6 +7,7 @@ use Rattle.mimic_args.specs.declared.Arguments.{Arguments}
 use Rattle.mimic_args.specs.declared.error.ArgumentsError.{ArgumentsError}
 use Rattle.mimic_args.specs.declared.error.ArgumentsError.TheVariants.{OutOfMemory, Help, Refused}
 use Rattle.mimic_trial.specs.declared.trial.Trial.{Trial}
+use Rattle.libtest_mimic.specs.Stopwatch.{nothing}
 use Rattle.libtest_mimic.specs.Suite.{Asked}
 use Rattle.mimic_trial.proofs.AllShards.{all_of_shard}
 use Rattle.mimic_trial.specs.declared.shard.Shard.{Shard}
@@ -39,9 +40,9 @@ no_fault (ShardError.StatusFile path cause) h = false≢true h.0
 
 pub ends_whole : {R : Type 0} (ask : List (Trial R) → Arguments → Asked R) (trials : List (Trial R)) (line : Result Arguments ArgumentsError) (status : ℕ)
     → EndsAsAsked ask trials line (Ok no_sharding) status → EndsSomehow (ask trials) line status
-ends_whole ask trials (Err OutOfMemory) status e = (None, None, (e, refl))
-ends_whole ask trials (Err (Help text)) status e = (None, None, (e, tt))
-ends_whole ask trials (Err (Refused text)) status e = (None, None, (e, refl))
+ends_whole ask trials (Err OutOfMemory) status e = (None, None, nothing, (e, refl))
+ends_whole ask trials (Err (Help text)) status e = (None, None, nothing, (e, tt))
+ends_whole ask trials (Err (Refused text)) status e = (None, None, nothing, (e, refl))
 ends_whole ask trials (Ok args) status (inl h) =
     let Ends : Arguments → Type 0 = λ a. EndsSomehow (ask trials) (Ok a) status in subst Ends (h.1.none refl) h.2
 ends_whole ask trials (Ok args) status (inr h) = absurd (no_fault h.0 h.1)

@@ -7,6 +7,7 @@ use Rattle.mimic_trial.specs.declared.trial.Trial.{Trial}
 use Rattle.mimic_trial.specs.Promise.{Gives}
 use Rattle.mimic_trial.specs.declared.outcome.conclusion.Conclusion.{Conclusion}
 use Rattle.libtest_mimic.specs.CommandLine.{IsMeaningOf}
+use Rattle.libtest_mimic.specs.Stopwatch.{Watched}
 use Rattle.libtest_mimic.specs.Suite.{Asked, asking}
 use Rattle.libtest_mimic.specs.declared.running.RunError.{RunError}
 use Rattle.mimic_main.specs.declared.program.Fault.{Fault}
@@ -47,25 +48,26 @@ IfOfRun (Run fault) P = P fault
 abbrev pub IsReadLine : Result Arguments ArgumentsError → Type 0
 IsReadLine line = IfOk line (λ args. (words : List (List ℕ)) × IsMeaningOf words args)
 
--- the status is that of an answer whose counts are lawful for these trials. Without a logfile it is a run's, and the output
--- got all of its bytes, or if the answer is a fault a beginning of some run's; with one it got nothing
-pub record RanLine {R : Type 0} (asked : Asked R) (old got : Option (List ℕ)) (status : ℕ) : Type 0 where
+-- the status is that of an answer whose counts are lawful for these trials. Without a logfile it is that of a run with this watch,
+-- and the output got all of its bytes, or if the answer is a fault a beginning of those of such a run; with one it got nothing
+pub record RanLine {R : Type 0} (asked : Asked R) (old got : Option (List ℕ)) (watch : Watched) (status : ℕ) : Type 0 where
   pub answer : Result Conclusion Fault
   pub ended : status ≡ status_of answer
-  pub ran : IsNone asked.args.logfile → IfOk answer (Ran asked old got)
-  pub beginning : IsNone asked.args.logfile → IfErr answer (λ fault. IfOfRun fault (GotBeginning asked old got))
+  pub ran : IsNone asked.args.logfile → IfOk answer (Ran asked old got watch)
+  pub beginning : IsNone asked.args.logfile → IfErr answer (λ fault. IfOfRun fault (GotBeginning asked old got watch))
   pub nothing : IsSome asked.args.logfile → got ≡ old
   pub lawful : IfOk answer (IsLawful asked)
 
 -- if the line gave arguments, the status is that of a run as they ask; else status and output say why there are none
 abbrev pub Ended : {R : Type 0} → (Arguments → Asked R) → Result Arguments ArgumentsError → Option (List ℕ)
-    → Option (List ℕ) → ℕ → Type 0
-Ended ask (Ok args) old got status = RanLine (ask args) old got status
-Ended ask (Err error) old got status = (status ≡ status_without error) × GotWithout error old got
+    → Option (List ℕ) → Watched → ℕ → Type 0
+Ended ask (Ok args) old got watch status = RanLine (ask args) old got watch status
+Ended ask (Err error) old got watch status = (status ≡ status_without error) × GotWithout error old got
 
--- the status is that of a run as the line asks, whatever its output holds
+-- the status is that of a run as the line asks, whatever its output and its watch hold
 abbrev pub EndsSomehow : {R : Type 0} → (Arguments → Asked R) → Result Arguments ArgumentsError → ℕ → Type 0
-EndsSomehow ask line status = (old : Option (List ℕ)) × (got : Option (List ℕ)) × Ended ask line old got status
+EndsSomehow ask line status =
+    (old : Option (List ℕ)) × (got : Option (List ℕ)) × (watch : Watched) × Ended ask line old got watch status
 
 -- 2 if no part of the trials can be taken, 1 if an allocation failed
 abbrev pub status_without_part : ShardError → ℕ
@@ -74,8 +76,8 @@ status_without_part (ShardError.NotUtf8 name) = 2
 status_without_part (ShardError.NoShard fault) = 2
 status_without_part (ShardError.StatusFile path cause) = 2
 
--- the status is that of a run of the shard's trials, with the filter of the environment if these arguments have none; or that of what
--- is in its way
+-- the status is that of a run of the shard's trials, with the filter of the environment if these arguments have none; or that of
+-- what is in its way
 abbrev pub EndsInPart : {R : Type 0} → (List (Trial R) → Arguments → Asked R) → List (Trial R) → Arguments → Sharding → ℕ → Type 0
 EndsInPart ask trials args sharding status =
     ((asked : Arguments) × HasFilterOf sharding.filter args asked × EndsSomehow (ask (trials_of sharding trials)) (Ok asked) status)
@@ -102,6 +104,7 @@ IsOfReadLine Ends status = (line : Result Arguments ArgumentsError) × IsReadLin
 abbrev pub IsOfReadVariables : (Result Sharding ShardError → ℕ → Type 0) → ℕ → Type 0
 IsOfReadVariables Ends status = (sharding : Result Sharding ShardError) × IsReadSharding sharding × Ends sharding status
 
--- the status is that of a program as it reads some command line and some variables, whatever the machine reports about threads and colours
+-- the status is that of a program as it reads some command line and some variables, whatever the machine reports about threads and
+-- colours
 abbrev pub EndsByLine : {R : Type 0} → Gives R → List (Trial R) → ℕ → Type 0
 EndsByLine gives trials = IsOfReadLine (λ line. IsOfReadVariables (EndsForLine gives trials line))

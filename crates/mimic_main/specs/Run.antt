@@ -1,15 +1,15 @@
 -- What a run into a buffered writer returns, and what that writer has got.
 use Rattle.std.specs.Prelude.{◌≡◌, ℕ, List, [], length, Option, Result, Ok, Err, true, false}
 use Rattle.mimic_trial.specs.declared.outcome.conclusion.Conclusion.{Conclusion}
-use Rattle.libtest_mimic.specs.Stopwatch.{Watched}
+use Rattle.libtest_mimic.specs.Stopwatch.{IsRunning, Watched}
 use Rattle.std.specs.declared.io.Error.{Error}
 use Rattle.mimic_printer.specs.declared.sink.WriteFault.TheVariants as WriteFault
 use Rattle.libtest_mimic.specs.declared.running.RunError.{RunError}
 use Rattle.libtest_mimic.specs.declared.running.RunError.TheVariants.{Write}
-use Rattle.libtest_mimic.specs.Run.{HasAnswer, Lists, Reports}
+use Rattle.libtest_mimic.specs.Run.{Done, HasAnswer, Lists, RunsBy}
 use Rattle.mimic_args.specs.Arguments.{threads_of}
 use Rattle.libtest_mimic.specs.Sink.{Shown}
-use Rattle.libtest_mimic.specs.Suite.{Asked, OfAsked, Suite, asking}
+use Rattle.libtest_mimic.specs.Suite.{Asked, OfAsked, asking}
 use Rattle.mimic_trial.specs.Count.{counts_of}
 use Rattle.libtest_mimic.specs.Count.{total_of}
 use Rattle.libtest_mimic.specs.Promise.{Gives}
@@ -29,27 +29,35 @@ IsFaultOf (Err e) fault = fault ≡ e
 abbrev pub asked_by : {R C : Type 0} → Gives R → Job R C → Asked R
 asked_by gives job = asking gives job.default_threads job.auto_colours job.tests.items job.args.now
 
--- what a run left: the list of the selected trials if one is asked, else their report, or what is left if either was refused
-pub record Left {R : Type 0} (asked : Asked R) (old new : Shown) (result : Result Conclusion RunError) : Type 0 where
-  pub watch : Watched
-  pub listed : asked.args.list ≡ true → OfAsked asked (λ suite. Lists suite old new result)
-  pub reported : asked.args.list ≡ false
-      → OfAsked asked (λ suite. Reports asked.gives
-      (threads_of asked.args asked.default_threads) suite old new watch result)
+-- what a run did whose writer had these bytes, and whose sink shows this in the end
+abbrev pub done_over : Option (List ℕ) → Shown → Watched → Result Conclusion RunError → Done
+done_over old new watch answer = record {
+  before = faultless old;
+  after = new;
+  watch = watch;
+  answer = answer;
+}
 
--- a run gave this answer, and brought the writer from the old bytes to the new ones
-abbrev pub Ran : {R : Type 0} → Asked R → Option (List ℕ) → Option (List ℕ) → Conclusion → Type 0
-Ran asked old new c = Left asked (faultless old) (faultless new) (Ok c)
+-- what a run left: the list of the selected trials if one is asked, and a running watch; else their report, with the time of the
+-- watch; or what is left if either was refused
+pub record Left {R : Type 0} (asked : Asked R) (did : Done) : Type 0 where
+  pub listed : asked.args.list ≡ true → OfAsked asked (λ suite. Lists suite did.before did.after did.answer)
+  pub watched : asked.args.list ≡ true → IsRunning did.watch
+  pub reported : RunsBy (threads_of asked.args asked.default_threads) asked did
 
--- the writer got a beginning of the bytes that were there and of what some run left after them in its sink, and this is the fault of
--- that run
-abbrev pub GotBeginning : {R : Type 0} → Asked R → Option (List ℕ) → Option (List ℕ) → RunError → Type 0
-GotBeginning asked old got fault =
-    (left : Shown) × (answer : Result Conclusion RunError) × Left asked (faultless old) left answer
+-- a run with this watch gave this answer, and brought the writer from the old bytes to the new ones
+abbrev pub Ran : {R : Type 0} → Asked R → Option (List ℕ) → Option (List ℕ) → Watched → Conclusion → Type 0
+Ran asked old new watch c = Left asked (done_over old (faultless new) watch (Ok c))
+
+-- the writer got a beginning of the bytes that were there and of what some run with this watch left after them in its sink, and
+-- this is the fault of that run
+abbrev pub GotBeginning : {R : Type 0} → Asked R → Option (List ℕ) → Option (List ℕ) → Watched → RunError → Type 0
+GotBeginning asked old got watch fault =
+    (left : Shown) × (answer : Result Conclusion RunError) × Left asked (done_over old left watch answer)
     × HandsOn left.bytes got × IsFaultOf answer fault
 
--- the counts that a run may answer if it is asked for this: five zeros after a list; else, if each selected trial has just one own outcome, the
--- counts of those; and in all as many as there are trials
+-- the counts that a run may answer if it is asked for this: five zeros after a list; else, if each selected trial has just one own
+-- outcome, the counts of those; and in all as many as there are trials
 pub record IsLawful {R : Type 0} (asked : Asked R) (c : Conclusion) : Type 0 where
   pub listed : asked.args.list ≡ true → c ≡ counts_of [] 0
   pub answer : HasAnswer asked (Ok c)

@@ -20,6 +20,7 @@ use libtest_mimic::{
 use std::alloc::Global;
 use std::convert::AsStr;
 use std::fmt::Display;
+use std::io::IsTerminal;
 use std::num::NonZeroUsize;
 use std::{io, thread};
 
@@ -114,6 +115,7 @@ impl<'a> Program<'a> {
         ensures name { result.name.now ≡ name.now }
         ensures causes { result.prints_causes ≡ true }
         ensures schedule { result.schedule ≡ Schedule.Queue }
+        ensures terminal { result.on_terminal ≡ false }
     {
         Program::new(name, threads_at_once(&machine.host())).with_colours(shows_colours(
             machine,
@@ -131,7 +133,8 @@ impl<'a> Program<'a> {
         tests: Vec<Trial<R>>,
     ) -> Status
         requires { AllCanRun R.can_run tests.items }
-        ensures { IsOfReadLine (EndsSomehow (asking R.gives self.now.threads self.now.auto_colours tests.items)) (number_of result) }
+        ensures { IsOfReadLine
+            (EndsSomehow (asking R.gives self.now.threads self.now.auto_colours tests.items)) (number_of result) }
     {
         let line = Arguments::from_args(machine, machine.alloc());
         let made: Result<Vec<Trial<R>>, RunError> = Ok(tests);
@@ -153,7 +156,8 @@ impl<'a> Program<'a> {
     ) -> Status
         requires { IfOk tests (λ made. AllCanRun R.can_run made.items) }
         ensures made { IfOk tests
-            (λ made. EndsAsAsked (asking R.gives self.now.threads self.now.auto_colours) made.items line sharding (number_of result)) }
+            (λ made. EndsAsAsked (asking R.gives self.now.threads self.now.auto_colours) made.items line sharding
+            (number_of result)) }
         ensures refused { OnErr tests (number_of result ≡ 1) }
     {
         let mut err = machine.stderr();
@@ -201,7 +205,9 @@ impl<'a> Program<'a> {
             auto_colours: self.auto_colours,
             schedule: self.schedule,
         };
-        let (_, ran) = job.run(&host, &host, alloc, machine.stdout());
+        let out = machine.stdout();
+        let on_terminal = out.is_terminal();
+        let (_, _, ran) = job.run(&host, &host, alloc, out, on_terminal);
         self.status_of(ran, args.logfile.as_ref(), err)
     }
 

@@ -1,8 +1,9 @@
 //! What a run is about, and its run into a buffered writer.
 ghost use Rattle.std.specs.Prelude.{◌≡◌, ◌≤◌, Err, IfErr, IfOk, IsOk, Ok};
-ghost use Rattle.mimic_printer.specs.Sink.{HasFaultLeft, shown};
+ghost use Rattle.mimic_printer.specs.Sink.{HasFaultLeft};
 ghost use Rattle.mimic_printer.specs.declared.sink.WriteFault.TheVariants.{Error};
 ghost use Rattle.libtest_mimic.specs.declared.running.RunError.TheVariants.{Write};
+ghost use Rattle.libtest_mimic.specs.Run.{done};
 ghost use Rattle.libtest_mimic.specs.Trial.{AllCanRun};
 ghost use Rattle.mimic_main.specs.Output.{given_to};
 ghost use Rattle.mimic_main.specs.Run.{GotBeginning, IsLawful, Left, Ran, asked_by};
@@ -41,19 +42,19 @@ impl<R, C> Job<'_, R, C> {
     }
 }
 
-impl<R: Task + Send + 'static, C: Clock + Drop> Job<'_, R, C> {
-    // Runs or lists its trials, which come to workers as it says, and measures the time of the run by its clock.
+impl<R: Task + Send + 'static, C: Clock> Job<'_, R, C> {
+    // Runs or lists its trials, which come to workers as it says, and returns the watch over its clock that measured the time.
     fn run_to_sink<W: Write, T: Spawner + 'static>(
         self,
         rt: &T,
         alloc: Global,
         sink: &mut Sink<W>,
-    ) -> Result<Conclusion, RunError>
+    ) -> (Stopwatch<C>, Result<Conclusion, RunError>)
         requires room { HasFaultLeft sink.old }
         requires runnable { AllCanRun R.can_run self.tests.items }
         requires some_thread { 1 ≤ self.default_threads }
-        ensures left { Left (asked_by R.gives self.entry) (shown W.contents sink.old) (shown W.contents sink.new) result }
-        ensures lawful { IfOk result (IsLawful (asked_by R.gives self.entry)) }
+        ensures left { Left (asked_by R.gives self.entry) (done W.contents sink.old sink.new result.0 result.1) }
+        ensures lawful { IfOk result.1 (IsLawful (asked_by R.gives self.entry)) }
     {
         let Job {
             args,
@@ -66,34 +67,41 @@ impl<R: Task + Send + 'static, C: Clock + Drop> Job<'_, R, C> {
         let mut watch = Stopwatch::new(clock);
         match schedule {
             Schedule::Queue => {
-                run_from_queue(rt, alloc, args, tests, sink, &mut watch, threads, colours)
+                let ran = run_from_queue(
+                    rt, alloc, args, tests, sink, &mut watch, threads, colours,
+                );
+                (watch, ran)
             }
-            Schedule::Shares => run(rt, alloc, args, tests, sink, &mut watch, threads, colours),
+            Schedule::Shares => {
+                let ran = run(rt, alloc, args, tests, sink, &mut watch, threads, colours);
+                (watch, ran)
+            }
         }
     }
 }
 
-/// Runs or lists the trials of the job, writes out what the buffer holds at the end, and gives the writer back.
+/// Runs or lists the trials of the job, writes out what the buffer holds at the end, and gives the writer back, and the watch over
+/// the job's clock, whose time the report shows.
 ///
 /// A fault in writing the last bytes out is a fault of the run.
-pub fn run_into<R: Task + Send + 'static, W: Write, C: Clock + Drop, T: Spawner + 'static>(
+pub fn run_into<R: Task + Send + 'static, W: Write, C: Clock, T: Spawner + 'static>(
     rt: &T,
     alloc: Global,
     job: Job<'_, R, C>,
     output: Output<W>,
-) -> (W, Result<Conclusion, RunError>)
+) -> (W, Stopwatch<C>, Result<Conclusion, RunError>)
     requires runnable { AllCanRun R.can_run job.tests.items }
     requires some_thread { 1 ≤ job.default_threads }
-    ensures ran { IfOk result.1
-        (Ran (asked_by R.gives job.entry) (given_to W.contents output) (W.contents result.0)) }
-    ensures beginning { IfErr result.1
-        (GotBeginning (asked_by R.gives job.entry) (given_to W.contents output) (W.contents result.0)) }
-    ensures lawful { IfOk result.1 (IsLawful (asked_by R.gives job.entry)) }
+    ensures ran { IfOk result.2
+        (Ran (asked_by R.gives job.entry) (given_to W.contents output) (W.contents result.0) result.1) }
+    ensures beginning { IfErr result.2
+        (GotBeginning (asked_by R.gives job.entry) (given_to W.contents output) (W.contents result.0) result.1) }
+    ensures lawful { IfOk result.2 (IsLawful (asked_by R.gives job.entry)) }
 {
     let mut sink = Sink::new(output);
-    let ran = job.run_to_sink(rt, alloc, &mut sink);
+    let (watch, ran) = job.run_to_sink(rt, alloc, &mut sink);
     let (writer, finished) = sink.into_inner().finish();
-    (writer, settled(ran, finished))
+    (writer, watch, settled(ran, finished))
 }
 
 // What a run returned, if what was left could be written out.

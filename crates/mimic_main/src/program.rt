@@ -11,13 +11,14 @@ use crate::sharding::ShardError;
 use crate::status::Status;
 use arrayvec::ArrayVec;
 use libtest_mimic::{
-    Arguments, ArgumentsError, Clock, Conclusion, RunError, Schedule, Spawner, Task, Trial,
+    Arguments, ArgumentsError, Clock, Conclusion, RunError, Schedule, Spawner, Stopwatch, Task,
+    Trial,
 };
 use mimic_trial::Shard;
 use std::alloc::Global;
 use std::fmt::Display;
 use std::fs::Files;
-use std::io::{IsTerminal, Write};
+use std::io::Write;
 use std::{fs, io};
 
 // Why no report, or only a part of one, was written.
@@ -27,8 +28,8 @@ pub(crate) enum Fault {
     Run(RunError),
 }
 
-/// A program that runs a harness: how many threads run its trials, how these come to them, whether its reports have colours,
-/// and what it prints of faults.
+/// A program that runs a harness: how many threads run its trials, how these come to them, whether its reports have colours and
+/// go to a terminal, and what it prints of faults.
 #[derive(Clone, Copy, Debug, PartialEq, Eq)]
 pub struct Program<'a> {
     pub(crate) name: &'a str,
@@ -36,12 +37,14 @@ pub struct Program<'a> {
     pub(crate) auto_colours: bool,
     pub(crate) prints_causes: bool,
     pub(crate) schedule: Schedule,
+    pub(crate) on_terminal: bool,
     pub ghost some_thread: { 1 ≤ threads },
 }
 
 impl<'a> Program<'a> {
     /// Makes a program of this name, which is printed before a fault. This number of threads runs its trials if the line leaves it
-    /// open. Its reports have no colours, it prints faults with their causes, and its workers take trials from one queue.
+    /// open. Its reports have no colours, it prints faults with their causes, its workers take trials from one queue, and an output
+    /// that [`harness_run`](Program::harness_run) is given is no terminal.
     pub fn new(name: &'a str, threads: usize) -> Program<'a>
         requires { 1 ≤ threads }
         ensures name { result.name.now ≡ name.now }
@@ -49,6 +52,7 @@ impl<'a> Program<'a> {
         ensures colours { result.auto_colours ≡ false }
         ensures causes { result.prints_causes ≡ true }
         ensures schedule { result.schedule ≡ Schedule.Queue }
+        ensures terminal { result.on_terminal ≡ false }
     {
         Program {
             name,
@@ -56,6 +60,7 @@ impl<'a> Program<'a> {
             auto_colours: false,
             prints_causes: true,
             schedule: Schedule::Queue,
+            on_terminal: false,
         }
     }
 
@@ -66,6 +71,7 @@ impl<'a> Program<'a> {
         ensures colours { result.auto_colours ≡ auto_colours }
         ensures causes { result.prints_causes ≡ self.entry.prints_causes }
         ensures schedule { result.schedule ≡ self.entry.schedule }
+        ensures terminal { result.on_terminal ≡ self.entry.on_terminal }
     {
         self.auto_colours = auto_colours;
         self
@@ -78,6 +84,7 @@ impl<'a> Program<'a> {
         ensures colours { result.auto_colours ≡ self.entry.auto_colours }
         ensures causes { result.prints_causes ≡ false }
         ensures schedule { result.schedule ≡ self.entry.schedule }
+        ensures terminal { result.on_terminal ≡ self.entry.on_terminal }
     {
         self.prints_causes = false;
         self
@@ -90,16 +97,31 @@ impl<'a> Program<'a> {
         ensures colours { result.auto_colours ≡ self.entry.auto_colours }
         ensures causes { result.prints_causes ≡ self.entry.prints_causes }
         ensures schedule { result.schedule ≡ schedule }
+        ensures terminal { result.on_terminal ≡ self.entry.on_terminal }
     {
         self.schedule = schedule;
+        self
+    }
+
+    /// Says whether the output that [`harness_run`](Program::harness_run) is given is a terminal, to which a report in terse goes
+    /// mark by mark. Calls that are given a machine ask its standard output.
+    pub fn with_terminal(mut self, on_terminal: bool) -> Program<'a>
+        ensures name { result.name ≡ self.entry.name }
+        ensures threads { result.threads ≡ self.entry.threads }
+        ensures colours { result.auto_colours ≡ self.entry.auto_colours }
+        ensures causes { result.prints_causes ≡ self.entry.prints_causes }
+        ensures schedule { result.schedule ≡ self.entry.schedule }
+        ensures terminal { result.on_terminal ≡ on_terminal }
+    {
+        self.on_terminal = on_terminal;
         self
     }
 }
 
 impl Program<'_> {
-    /// Runs or lists the trials as the line asks, and returns the writer `out` and the exit status: 0 if no trial
-    /// failed or help was asked for, 101 if one failed, 1 if the logfile or the run was refused or there was no memory to
-    /// read the line, 2 if the line was refused.
+    /// Runs or lists the trials as the line asks, and returns the writer `out`, the watch over the clock, whose time the report
+    /// shows, and the exit status: 0 if no trial failed or help was asked for, 101 if one failed, 1 if the logfile or the run was
+    /// refused or there was no memory to read the line, 2 if the line was refused.
     ///
     /// The report or list goes into the logfile, which is made or emptied first; without one it goes to `out`. Help
     /// goes to `out`, the reason for a refusal to `err`. Failing to write either leaves the status as it is.
@@ -107,9 +129,9 @@ impl Program<'_> {
         T: Spawner + 'static,
         F: Files,
         R: Task + Send + 'static,
-        O: Write + IsTerminal,
+        O: Write,
         E: Write,
-        C: Clock + Drop,
+        C: Clock,
     >(
         &self,
         rt: &T,
@@ -120,10 +142,10 @@ impl Program<'_> {
         out: O,
         err: &mut E,
         clock: C,
-    ) -> (O, Status)
+    ) -> (O, Stopwatch<C>, Status)
         requires { AllCanRun R.can_run tests.items }
         ensures { Ended (asking R.gives self.now.threads self.now.auto_colours tests.items) line
-            (O.contents out) (O.contents result.0) (number_of result.1) }
+            (O.contents out) (O.contents result.0) result.1 (number_of result.2) }
     {
         match line {
             Ok(args) => {
@@ -135,13 +157,13 @@ impl Program<'_> {
                     auto_colours: self.auto_colours,
                     schedule: self.schedule,
                 };
-                let (out, ran) = job.run(rt, files, alloc, out);
-                (out, self.status_of(ran, args.logfile.as_ref(), err))
+                let (out, watch, ran) = job.run(rt, files, alloc, out, self.on_terminal);
+                (out, watch, self.status_of(ran, args.logfile.as_ref(), err))
             }
             Err(error) => {
                 let mut out = out;
                 let status = self.status_without(error, &mut out, err);
-                (out, status)
+                (out, Stopwatch::new(clock), status)
             }
         }
     }
@@ -258,37 +280,40 @@ fn print_line<L: Display + Drop, E: Write>(line: L, err: &mut E) {
     };
 }
 
-impl<R: Task + Send + 'static, C: Clock + Drop> Job<'_, R, C> {
-    // Runs into the logfile if there is one, which is made or emptied first, else to `out`, which is given back.
-    pub(crate) fn run<T: Spawner + 'static, F: Files, O: Write + IsTerminal>(
+impl<R: Task + Send + 'static, C: Clock> Job<'_, R, C> {
+    // Runs into the logfile if there is one, which is made or emptied first, else to `out`, which may be a terminal. Gives back
+    // `out` and the watch over its clock, which is fresh if the logfile could not be made.
+    pub(crate) fn run<T: Spawner + 'static, F: Files, O: Write>(
         self,
         rt: &T,
         files: &F,
         alloc: Global,
         out: O,
-    ) -> (O, Result<Conclusion, Fault>)
+        on_terminal: bool,
+    ) -> (O, Stopwatch<C>, Result<Conclusion, Fault>)
         requires runnable { AllCanRun R.can_run self.tests.items }
         requires some_thread { 1 ≤ self.default_threads }
         ensures ran { IsNone self.entry.args.now.logfile
-            → IfOk result.1 (Ran (asked_by R.gives self.entry) (O.contents out) (O.contents result.0)) }
+            → IfOk result.2 (Ran (asked_by R.gives self.entry) (O.contents out) (O.contents result.0) result.1) }
         ensures beginning { IsNone self.entry.args.now.logfile
-            → IfErr result.1 (λ fault. IfOfRun fault (GotBeginning (asked_by R.gives self.entry) (O.contents out) (O.contents result.0))) }
+            → IfErr result.2 (λ fault. IfOfRun fault
+            (GotBeginning (asked_by R.gives self.entry) (O.contents out) (O.contents result.0) result.1)) }
         ensures nothing { IsSome self.entry.args.now.logfile → result.0 ≡ out }
-        ensures lawful { IfOk result.1 (IsLawful (asked_by R.gives self.entry)) }
+        ensures lawful { IfOk result.2 (IsLawful (asked_by R.gives self.entry)) }
     {
         match &self.args.logfile {
             Some(path) => match fs::create(files, path.as_str()) {
                 Ok(file) => {
                     let output = Output::new(self.policy(false), file);
-                    let (_, ran) = run_into(rt, alloc, self, output);
-                    (out, ran.map_err(Fault::Run))
+                    let (_, watch, ran) = run_into(rt, alloc, self, output);
+                    (out, watch, ran.map_err(Fault::Run))
                 }
-                Err(error) => (out, Err(Fault::Logfile(error))),
+                Err(error) => (out, Stopwatch::new(self.clock), Err(Fault::Logfile(error))),
             },
             None => {
-                let output = Output::new(self.policy(out.is_terminal()), out);
-                let (out, ran) = run_into(rt, alloc, self, output);
-                (out, ran.map_err(Fault::Run))
+                let output = Output::new(self.policy(on_terminal), out);
+                let (out, watch, ran) = run_into(rt, alloc, self, output);
+                (out, watch, ran.map_err(Fault::Run))
             }
         }
     }

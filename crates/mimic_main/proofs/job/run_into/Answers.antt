@@ -9,8 +9,9 @@ returns-clause-ran g c =
     let bytes = given_to g.W.Write.contents in
     let first = shown-new bytes c.new-sink.result c.args.output c.new-sink.ensures.writer c.new-sink.ensures.faults in
     let handed = rw c.into_inner.ensures at c.finish-writer.ensures.whole in
-    Ran-settled (asked_by g.R.Task.gives c.args.job) (bytes c.args.output) (shown bytes c.new-sink.result) (shown bytes c.run_to_sink-ran.new.sink) (g.W.Write.contents c.finish-writer.result.0)
-    c.run_to_sink-ran.result c.settled.result c.finish-writer.result.1 first handed c.settled.ensures.answered c.settled.ensures.finished c.run_to_sink-ran.ensures.left
+    Ran-settled (asked_by g.R.Task.gives c.args.job) c.run_to_sink-watch.result.0 (bytes c.args.output) (shown bytes c.new-sink.result)
+    (shown bytes c.run_to_sink-watch.new.sink) (g.W.Write.contents c.finish-writer.result.0) c.run_to_sink-watch.result.1 c.settled.result c.finish-writer.result.1
+    first handed c.settled.ensures.answered c.settled.ensures.finished c.run_to_sink-watch.ensures.left
 
 pub returns-clause-beginning : goal.returns-clause-beginning
 returns-clause-beginning g c =
@@ -18,5 +19,6 @@ returns-clause-beginning g c =
     let first = shown-new bytes c.new-sink.result c.args.output c.new-sink.ensures.writer c.new-sink.ensures.faults in
     let handed = rw c.into_inner.ensures at c.finish-writer.ensures.beginning in
     let settled = c.settled.ensures in
-    GotBeginning-from (asked_by g.R.Task.gives c.args.job) (bytes c.args.output) (shown bytes c.new-sink.result) (shown bytes c.run_to_sink-ran.new.sink) (g.W.Write.contents c.finish-writer.result.0)
-    c.run_to_sink-ran.result c.settled.result c.finish-writer.result.1 first handed settled.refused settled.kept settled.cause c.run_to_sink-ran.ensures.left
+    GotBeginning-from (asked_by g.R.Task.gives c.args.job) c.run_to_sink-watch.result.0 (bytes c.args.output) (shown bytes c.new-sink.result)
+    (shown bytes c.run_to_sink-watch.new.sink) (g.W.Write.contents c.finish-writer.result.0) c.run_to_sink-watch.result.1 c.settled.result c.finish-writer.result.1
+    first handed settled.refused settled.kept settled.cause c.run_to_sink-watch.ensures.left

@@ -15,8 +15,8 @@ pub returns : goal.returns
 returns g c =
     let ask = asking g.R.Task.gives c.args.self.now.threads c.args.self.now.auto_colours in
     let status = number_of c.status_of.result in
-    let ended : RanLine (ask c.in-Ok.part.1.items c.in-Ok.part.0) _ _ status = record {
-      answer = c.run-ran.result.1;
+    let ended : RanLine (ask c.in-Ok.part.1.items c.in-Ok.part.0) _ _ _ status = record {
+      answer = c.run-ran.result.2;
       ended = c.status_of.ensures;
       ran = c.run-ran.ensures.ran;
       beginning = c.run-ran.ensures.beginning;
@@ -24,4 +24,4 @@ returns g c =
       lawful = c.run-ran.ensures.lawful;
     } in
     ends_in_part ask c.args.tests.items c.in-Ok.part.1.items c.args.args c.in-Ok.part.0 c.args.sharding status
-    c.in-Ok.ensures.args c.in-Ok.ensures.trials (_, _, ended)
+    c.in-Ok.ensures.args c.in-Ok.ensures.trials (_, _, _, ended)
