@@ -144,11 +144,13 @@ pub input_judged : (a b c : Judged) (read : List InputRead) (next : InputRead) (
 input_judged a b c read next m n k s t u p q e =
     rw (e, flat_map-append (λ (r : InputRead). r.entries) read (next ∷ []), append-nil next.entries) (judges_then a b c (rows_of read) next.entries m n s t u p q)
 
--- no row came of the next input, or of any behind the last one
+-- ---- no rows
+
 no_title : (n : ℕ) (rest : List ℕ) → [] ≡ json_title n ++ rest → ⊥
 unfolding json_title
 no_title n rest e = absurd (cc)
 
+-- no rows have ended in any bytes
 pub none_ended : (input : Option (List ℕ)) → IfSome input (HasEndedRows [])
 none_ended None = tt
 none_ended (Some bytes) = record {
