@@ -4,6 +4,7 @@ ghost use Rattle.std.specs.List.{list_all};
 ghost use Rattle.mimic_expect.specs.Verdict.{has_all, is_whole, status_of};
 
 use mimic_events::Ending;
+use mimic_trial::Conclusion;
 use std::io;
 
 /// How an input ended.
@@ -31,7 +32,7 @@ impl ExpectationVerdict {
     {
         match (self.are_whole(), self.is_unexpected) {
             (false, _) => 1,
-            (true, true) => 101,
+            (true, true) => Conclusion::FAILED,
             (true, false) => 0,
         }
     }

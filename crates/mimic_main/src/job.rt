@@ -1,22 +1,25 @@
 //! What a run is about, and its run into a buffered writer.
-ghost use Rattle.std.specs.Prelude.{◌≡◌, ◌≤◌, Err, IfErr, IfOk, IsOk, Ok};
+ghost use Rattle.std.specs.Prelude.{◌≡◌, ◌≤◌, Err, IfErr, IfOk, IsNone, IsOk, IsSome, Ok};
 ghost use Rattle.mimic_printer.specs.Sink.{HasFaultLeft};
 ghost use Rattle.mimic_printer.specs.declared.sink.WriteFault.TheVariants.{Error};
 ghost use Rattle.libtest_mimic.specs.declared.running.RunError.TheVariants.{Write};
 ghost use Rattle.libtest_mimic.specs.Run.{done};
 ghost use Rattle.libtest_mimic.specs.Trial.{AllCanRun};
+ghost use Rattle.mimic_main.specs.Ended.{IfOfRun};
 ghost use Rattle.mimic_main.specs.Output.{given_to};
 ghost use Rattle.mimic_main.specs.Run.{GotBeginning, IsLawful, Left, Ran, asked_by};
 
 use crate::output::Output;
 use crate::policy::FlushPolicy;
+use crate::program::Fault;
 use libtest_mimic::{
     Arguments, Clock, Conclusion, RunError, Schedule, Sink, Spawner, Stopwatch, Task, Trial,
     WriteFault, run, run_from_queue,
 };
 use std::alloc::Global;
-use std::io;
+use std::fs::Files;
 use std::io::Write;
+use std::{fs, io};
 
 /// What a run is about.
 #[derive(Drop)]
@@ -43,6 +46,43 @@ impl<R, C> Job<'_, R, C> {
 }
 
 impl<R: Task + Send + 'static, C: Clock> Job<'_, R, C> {
+    // Runs into the logfile if there is one, which is made or emptied first, else to `out`, which may be a terminal. Gives back
+    // `out` and the watch over its clock, which is fresh if the logfile could not be made.
+    pub(crate) fn run<T: Spawner + 'static, F: Files, O: Write>(
+        self,
+        rt: &T,
+        files: &F,
+        alloc: Global,
+        out: O,
+        on_terminal: bool,
+    ) -> (O, Stopwatch<C>, Result<Conclusion, Fault>)
+        requires runnable { AllCanRun R.can_run self.tests.items }
+        requires some_thread { 1 ≤ self.default_threads }
+        ensures ran { IsNone self.entry.args.now.logfile
+            → IfOk result.2 (Ran (asked_by R.gives self.entry) (O.contents out) (O.contents result.0) result.1) }
+        ensures beginning { IsNone self.entry.args.now.logfile
+            → IfErr result.2 (λ fault. IfOfRun fault
+            (GotBeginning (asked_by R.gives self.entry) (O.contents out) (O.contents result.0) result.1)) }
+        ensures nothing { IsSome self.entry.args.now.logfile → result.0 ≡ out }
+        ensures lawful { IfOk result.2 (IsLawful (asked_by R.gives self.entry)) }
+    {
+        match &self.args.logfile {
+            Some(path) => match fs::create(files, path.as_str()) {
+                Ok(file) => {
+                    let output = Output::new(self.policy(false), file);
+                    let (_, watch, ran) = run_into(rt, alloc, self, output);
+                    (out, watch, ran.map_err(Fault::Run))
+                }
+                Err(error) => (out, Stopwatch::new(self.clock), Err(Fault::Logfile(error))),
+            },
+            None => {
+                let output = Output::new(self.policy(on_terminal), out);
+                let (out, watch, ran) = run_into(rt, alloc, self, output);
+                (out, watch, ran.map_err(Fault::Run))
+            }
+        }
+    }
+
     // Runs or lists its trials, which come to workers as it says, and returns the watch over its clock that measured the time.
     fn run_to_sink<W: Write, T: Spawner + 'static>(
         self,

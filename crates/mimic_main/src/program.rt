@@ -1,12 +1,11 @@
 //! A program around a run, but for the machine that it runs on.
-ghost use Rattle.std.specs.Prelude.{◌≡◌, ◌≤◌, IfErr, IfOk, IsNone, IsSome, false, true};
+ghost use Rattle.std.specs.Prelude.{◌≡◌, ◌≤◌, false, true};
 ghost use Rattle.libtest_mimic.specs.Suite.{asking};
 ghost use Rattle.libtest_mimic.specs.Trial.{AllCanRun};
-ghost use Rattle.mimic_main.specs.Ended.{Ended, GotWithout, IfOfRun, number_of, status_of, status_without, status_without_part};
-ghost use Rattle.mimic_main.specs.Run.{GotBeginning, IsLawful, Ran, asked_by};
+ghost use Rattle.mimic_main.specs.Ended.{Ended, GotWithout, number_of, status_of, status_without, status_without_part};
 
-use crate::job::{Job, run_into};
-use crate::output::{BLOCK, Output};
+use crate::job::Job;
+use crate::output::BLOCK;
 use crate::sharding::ShardError;
 use crate::status::Status;
 use arrayvec::ArrayVec;
@@ -18,8 +17,8 @@ use mimic_trial::Shard;
 use std::alloc::Global;
 use std::fmt::Display;
 use std::fs::Files;
+use std::io;
 use std::io::Write;
-use std::{fs, io};
 
 // Why no report, or only a part of one, was written.
 #[derive(Debug, Drop)]
@@ -278,43 +277,4 @@ fn print_line<L: Display + Drop, E: Write>(line: L, err: &mut E) {
         Ok(()) => err.write_all(text.as_slice()),
         Err(_) => writeln!(err, "{line}"),
     };
-}
-
-impl<R: Task + Send + 'static, C: Clock> Job<'_, R, C> {
-    // Runs into the logfile if there is one, which is made or emptied first, else to `out`, which may be a terminal. Gives back
-    // `out` and the watch over its clock, which is fresh if the logfile could not be made.
-    pub(crate) fn run<T: Spawner + 'static, F: Files, O: Write>(
-        self,
-        rt: &T,
-        files: &F,
-        alloc: Global,
-        out: O,
-        on_terminal: bool,
-    ) -> (O, Stopwatch<C>, Result<Conclusion, Fault>)
-        requires runnable { AllCanRun R.can_run self.tests.items }
-        requires some_thread { 1 ≤ self.default_threads }
-        ensures ran { IsNone self.entry.args.now.logfile
-            → IfOk result.2 (Ran (asked_by R.gives self.entry) (O.contents out) (O.contents result.0) result.1) }
-        ensures beginning { IsNone self.entry.args.now.logfile
-            → IfErr result.2 (λ fault. IfOfRun fault
-            (GotBeginning (asked_by R.gives self.entry) (O.contents out) (O.contents result.0) result.1)) }
-        ensures nothing { IsSome self.entry.args.now.logfile → result.0 ≡ out }
-        ensures lawful { IfOk result.2 (IsLawful (asked_by R.gives self.entry)) }
-    {
-        match &self.args.logfile {
-            Some(path) => match fs::create(files, path.as_str()) {
-                Ok(file) => {
-                    let output = Output::new(self.policy(false), file);
-                    let (_, watch, ran) = run_into(rt, alloc, self, output);
-                    (out, watch, ran.map_err(Fault::Run))
-                }
-                Err(error) => (out, Stopwatch::new(self.clock), Err(Fault::Logfile(error))),
-            },
-            None => {
-                let output = Output::new(self.policy(on_terminal), out);
-                let (out, watch, ran) = run_into(rt, alloc, self, output);
-                (out, watch, ran.map_err(Fault::Run))
-            }
-        }
-    }
 }

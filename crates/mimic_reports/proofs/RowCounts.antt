@@ -10,7 +10,7 @@ use Rattle.mimic_trial.specs.declared.outcome.conclusion.Conclusion.{Conclusion}
 use Rattle.mimic_trial.specs.Count.{HasRoom, counted, counts_of, is_failed, is_ignored_outcome, is_measured, is_passed}
 use Rattle.mimic_trial.proofs.Counting.{HasRoom-counts}
 use Rattle.mimic_events.proofs.Counted.{few, one_counted}
-use Rattle.mimic_printer.specs.Json.{Entry}
+use Rattle.mimic_printer.specs.Json.{Entry, outcomes_in}
 use Rattle.mimic_events.specs.Contents.{entry_read}
 use Rattle.mimic_events.specs.Feed.{AreEnded}
 use Rattle.mimic_events.specs.declared.report.Row.{Row}
@@ -21,20 +21,17 @@ use Rattle.mimic_reports.specs.declared.junit_elements.Numbers.{Numbers}
 use Rattle.mimic_reports.specs.Junit.{numbers_of}
 use Rattle.mimic_reports.specs.Suites.{numbers_counted, rows_counted}
 
-abbrev pub outcomes : List Entry → List Outcome
-outcomes entries = map (λ entry. entry.outcome) entries
-
 -- there is room for one more
-room : (bytes : List ℕ) (entries : List Entry) (e : Entry) → AreEnded bytes (entries ++ e ∷ []) → HasRoom (counts_of (outcomes entries) 0)
-room bytes entries e h = HasRoom-counts (outcomes entries) 0 (omega (arith, few bytes entries e h, length-map entries (λ (x : Entry). x.outcome)))
+room : (bytes : List ℕ) (entries : List Entry) (e : Entry) → AreEnded bytes (entries ++ e ∷ []) → HasRoom (counts_of (outcomes_in entries) 0)
+room bytes entries e h = HasRoom-counts (outcomes_in entries) 0 (omega (arith, few bytes entries e h, length-map entries (λ (x : Entry). x.outcome)))
 
 -- one more is counted
-pub push : (entries : List Entry) (e : Entry) (counts : Conclusion) → counts ≡ counts_of (outcomes entries) 0 → counted counts e.outcome ≡ counts_of (outcomes (entries ++ e ∷ [])) 0
+pub push : (entries : List Entry) (e : Entry) (counts : Conclusion) → counts ≡ counts_of (outcomes_in entries) 0 → counted counts e.outcome ≡ counts_of (outcomes_in (entries ++ e ∷ [])) 0
 push entries e counts h = rw h (one_counted entries e)
 
 -- there is room for a row that has come
 pub has_room : {I : Type 0} (remaining : I → Option (List ℕ)) (start : Option (List ℕ)) (now : InputRows I) (entries : List Entry) (e : Entry) (counts : Conclusion)
-    → HasCome remaining start now (entries ++ e ∷ []) → counts ≡ counts_of (outcomes entries) 0 → HasRoom counts
+    → HasCome remaining start now (entries ++ e ∷ []) → counts ≡ counts_of (outcomes_in entries) 0 → HasRoom counts
 has_room remaining start now entries e counts come h = rw h (room come.bytes entries e come.followed.ended)
 
 -- each row has one of the four outcomes that are counted
@@ -50,19 +47,19 @@ all_counted (Failed f ∷ os) = omega (arith, unrolled (Failed f) os, all_counte
 all_counted (Ignored ∷ os) = omega (arith, unrolled Ignored os, all_counted os)
 all_counted (Measured m ∷ os) = omega (arith, unrolled (Measured m) os, all_counted os)
 
-pub rows_counted_are : (entries : List Entry) (counts : Conclusion) → counts ≡ counts_of (outcomes entries) 0 → rows_counted counts ≡ length entries
-rows_counted_are entries counts h = ap rows_counted h ∙ all_counted (outcomes entries) ∙ length-map entries (λ (x : Entry). x.outcome)
+pub rows_counted_are : (entries : List Entry) (counts : Conclusion) → counts ≡ counts_of (outcomes_in entries) 0 → rows_counted counts ≡ length entries
+rows_counted_are entries counts h = ap rows_counted h ∙ all_counted (outcomes_in entries) ∙ length-map entries (λ (x : Entry). x.outcome)
 
-pub numbers_are : (program : List ℕ) (entries : List Entry) (ending : Ending) (counts : Conclusion) → counts ≡ counts_of (outcomes entries) 0
+pub numbers_are : (program : List ℕ) (entries : List Entry) (ending : Ending) (counts : Conclusion) → counts ≡ counts_of (outcomes_in entries) 0
     → numbers_counted counts ending ≡ numbers_of (record { program = program; entries = entries; ending = ending })
 numbers_are program entries ending counts h =
     ap (λ (c : Conclusion). numbers_counted c ending) h
-    ∙ rw (rows_counted_are entries (counts_of (outcomes entries) 0) refl) refl
+    ∙ rw (rows_counted_are entries (counts_of (outcomes_in entries) 0) refl) refl
 
 -- the counts of rows that are kept, and what they are in numbers
 pub counts_kept : (rows : List Row) (counts : Conclusion)
     → counts ≡ counts_of (map (λ row. row.outcome) rows) 0
-    → counts ≡ counts_of (outcomes (map entry_read rows)) 0
+    → counts ≡ counts_of (outcomes_in (map entry_read rows)) 0
 counts_kept rows counts h = rw (h, map-map) refl
 
 pub numbers_kept : (program : List ℕ) (rows : List Row) (ending : Ending) (counts : Conclusion)

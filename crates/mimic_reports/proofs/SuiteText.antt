@@ -3,7 +3,7 @@ use Rattle.std.proofs.Common.{◌≡◌, inl, inr, ℕ, List, [], ◌∷◌, ◌
 use Rattle.std.specs.List.{flat_map}
 use Rattle.std.proofs.lemmas.List.Concat.{flat_map-append}
 use Rattle.std.proofs.lemmas.List.Folds.{flat_map-map}
-use Rattle.mimic_printer.specs.Json.{Entry, json_title}
+use Rattle.mimic_printer.specs.Json.{Entry, json_title, outcomes_in}
 use Rattle.mimic_printer.specs.Sink.{Put, Shown, Stopped, Writes}
 use Rattle.mimic_printer.proofs.Appending.{Puts_then, Stopped-more, stop2}
 use Rattle.mimic_events.specs.Contents.{entry_read}
@@ -18,7 +18,7 @@ use Rattle.mimic_reports.specs.declared.suite.Suite.{Suite as SuiteRead}
 use Rattle.mimic_events.specs.Readings.{HasEndedRows, IsReading}
 use Rattle.mimic_events.specs.declared.ending.Ending.{Ending}
 use Rattle.mimic_reports.specs.Suites.{AreBegun, AreRead, HasLeft, IsPart, IsPartOf, IsReadAgain, IsShown, numbers_counted, numbers_in, part_text, rows_counted}
-use Rattle.mimic_reports.proofs.RowCounts.{numbers_are, numbers_kept, outcomes, rows_counted_are}
+use Rattle.mimic_reports.proofs.RowCounts.{numbers_are, numbers_kept, rows_counted_are}
 use Rattle.mimic_trial.specs.Count.{counts_of}
 use Rattle.mimic_trial.specs.declared.outcome.conclusion.Conclusion.{Conclusion}
 use Rattle.std.specs.Global.{Vec}
@@ -50,7 +50,7 @@ whole_text s numbers ended n e =
 
 -- what is written of a report that was read again, and has the same numbers
 pub again_whole : (program : List ℕ) (numbers : Numbers) (input : Option (List ℕ)) (entries : List Entry) (counts : Conclusion) (ending : Ending) (ended : ℕ)
-    → counts ≡ counts_of (outcomes entries) 0 → numbers_counted counts ending ≡ numbers → ended ≡ rows_counted counts → IfSome input (IsReading entries ending)
+    → counts ≡ counts_of (outcomes_in entries) 0 → numbers_counted counts ending ≡ numbers → ended ≡ rows_counted counts → IfSome input (IsReading entries ending)
     → (written : Suite) × IsReadAgain program numbers input written × (part_text program numbers entries ++ (ending_text program ended ending ++ last_part) ≡ suite_text written)
 again_whole program numbers input entries counts ending ended counted same e reading =
     let written : Suite = record { program = program; entries = entries; ending = ending } in

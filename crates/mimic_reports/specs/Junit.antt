@@ -6,7 +6,7 @@ use Rattle.mimic_trial.specs.declared.outcome.Outcome.{Outcome}
 use Rattle.mimic_trial.specs.declared.outcome.Outcome.TheVariants.{Passed, Failed, Ignored, Measured}
 use Rattle.mimic_trial.specs.Count.{is_failed, is_ignored_outcome}
 use Rattle.mimic_trial.specs.Seconds.{exact_seconds}
-use Rattle.mimic_printer.specs.Json.{Entry}
+use Rattle.mimic_printer.specs.Json.{Entry, outcomes_in}
 use Rattle.mimic_events.specs.declared.report.Label.{Label as LabelRead}
 use Rattle.mimic_events.specs.declared.ending.Ending.{Ending}
 use Rattle.mimic_events.specs.declared.ending.Ending.TheVariants.{Whole, Cut}
@@ -39,9 +39,9 @@ nanos_of (Cut stop) = 0
 abbrev pub numbers_of : Suite → Numbers
 numbers_of s = record {
   tests = length s.entries + errors_of s.ending;
-  failures = count_by is_failed (map (λ entry. entry.outcome) s.entries);
+  failures = count_by is_failed (outcomes_in s.entries);
   errors = errors_of s.ending;
-  skipped = count_by is_ignored_outcome (map (λ entry. entry.outcome) s.entries);
+  skipped = count_by is_ignored_outcome (outcomes_in s.entries);
   nanos = nanos_of s.ending;
 }
 

@@ -7,7 +7,7 @@ use Rattle.mimic_trial.specs.declared.outcome.Outcome.{Outcome}
 use Rattle.mimic_trial.specs.declared.outcome.Outcome.TheVariants as outcome
 use Rattle.mimic_trial.specs.declared.outcome.conclusion.Conclusion.{Conclusion}
 use Rattle.mimic_trial.specs.Count.{counts_of, is_failed, is_measured}
-use Rattle.mimic_printer.specs.Json.{Entry}
+use Rattle.mimic_printer.specs.Json.{Entry, outcomes_in}
 use Rattle.mimic_printer.specs.Row.{Label}
 use Rattle.mimic_events.specs.Contents.{label_read}
 use Rattle.mimic_events.specs.declared.report.Label.{Label as LabelRead}
@@ -189,15 +189,12 @@ counts_text counts missing = concat (codes "<div class=\"bar\" aria-hidden=\"tru
 abbrev pub end_text : List ℕ
 end_text = concat (codes "</main>\n<script>" ∷ SCRIPT.now ∷ codes "</script>\n</body>\n</html>\n" ∷ [])
 
-abbrev pub outcomes : List Entry → List Outcome
-outcomes entries = map (λ entry. entry.outcome) entries
-
 -- the page of a report of the program: its rows that have ended, and how it ended
 unfoldable pub page_text : List ℕ → List Entry → Ending → List ℕ
-page_text program entries ending = concat (start_text program (counts_of (outcomes entries) 0) ending
+page_text program entries ending = concat (start_text program (counts_of (outcomes_in entries) 0) ending
     ∷ ending_text (length entries) ending
-    ∷ counts_text (counts_of (outcomes entries) 0) (missing_in (length entries) ending)
-    ∷ rows_text entries (greatest_time (outcomes entries)) ∷ end_text ∷ [])
+    ∷ counts_text (counts_of (outcomes_in entries) 0) (missing_in (length entries) ending)
+    ∷ rows_text entries (greatest_time (outcomes_in entries)) ∷ end_text ∷ [])
 
 -- ---- laws
 

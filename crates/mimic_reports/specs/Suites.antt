@@ -3,7 +3,7 @@ use Rattle.std.specs.Prelude.{◌≡◌, ◌≢◌, ℕ, ◌+◌, ◌<◌, ◌�
 use Rattle.std.specs.List.{AllZip, flat_map}
 use Rattle.mimic_trial.specs.declared.outcome.conclusion.Conclusion.{Conclusion}
 use Rattle.mimic_trial.specs.Count.{counts_of}
-use Rattle.mimic_printer.specs.Json.{Entry}
+use Rattle.mimic_printer.specs.Json.{Entry, outcomes_in}
 use Rattle.mimic_printer.specs.Sink.{Put, Shown, Stopped}
 use Rattle.mimic_events.specs.Contents.{entry_read}
 use Rattle.mimic_events.specs.Inputs.{IsOfInput}
@@ -62,7 +62,7 @@ pub record IsShown {I : Type 0} (remaining : I → Option (List ℕ)) (suite : S
 -- the input, if its bytes are known, gave these rows and this end, and the report has their numbers
 pub record IsReadFrom {I : Type 0} (input : Option (List ℕ)) (suite : SuiteRead I) (entries : List Entry) : Type 0 where
   pub reading : IfSome input (IsReading entries suite.ending)
-  pub counts : counts_in suite.rows ≡ counts_of (map (λ entry. entry.outcome) entries) 0
+  pub counts : counts_in suite.rows ≡ counts_of (outcomes_in entries) 0
 
 -- the report's rows are kept
 abbrev pub KeepsRows : {I : Type 0} → SuiteRows I → List Entry → Type 0
@@ -86,7 +86,7 @@ abbrev pub AreRead : Numbers → Option (List ℕ) → JunitFault → List Entry
 AreRead numbers input junit.TooMany entries = ⊥
 AreRead numbers input (junit.Input place fault) entries = IsOfInput fault × IfSome input (HasEndedRows entries)
 AreRead numbers input (junit.Changed place) entries = (ending : Ending) × IfSome input (IsReading entries ending)
-    × (numbers_counted (counts_of (map (λ entry. entry.outcome) entries) 0) ending ≢ numbers)
+    × (numbers_counted (counts_of (outcomes_in entries) 0) ending ≢ numbers)
 AreRead numbers input (junit.Write fault) entries = IfSome input (HasEndedRows entries)
 
 -- these rows of a report come before the fault. If they are kept they are all there, and only the writer can have a fault

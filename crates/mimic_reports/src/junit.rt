@@ -2,7 +2,7 @@
 ghost use Rattle.std.specs.Prelude.{◌≡◌, ◌++◌, List, MatchOption, MatchResult, IfSome, codes, map};
 ghost use Rattle.std.specs.List.{flat_map};
 ghost use Rattle.mimic_trial.specs.Count.{counts_of};
-ghost use Rattle.mimic_printer.specs.Json.{Entry};
+ghost use Rattle.mimic_printer.specs.Json.{Entry, outcomes_in};
 ghost use Rattle.mimic_printer.specs.Sink.{HasFaultLeft, Put, Puts, shown};
 ghost use Rattle.mimic_events.specs.Contents.{entry_read};
 ghost use Rattle.mimic_reports.specs.Junit.{Suite as ShownSuite, case_text, ending_text, suite_text, total};
@@ -224,7 +224,7 @@ fn put_again<'a, I: Read + Drop, W: Write>(
 ) -> Result<(Conclusion, Ending), JunitFault>
     requires { HasFaultLeft sink.old }
     ensures { MatchResult result (λ x. (entries : List Entry)
-        × (x.0 ≡ counts_of (map (λ entry. entry.outcome) entries) 0)
+        × (x.0 ≡ counts_of (outcomes_in entries) 0)
         × IfSome (I.remaining input) (IsReading entries x.1)
         × Put (shown W.contents sink.old) (shown W.contents sink.new)
         (part_text program.now numbers.now entries))
