@@ -28,7 +28,7 @@ use measured::Measured;
 use mimic_main::{Machine, MonotonicClock, Program, Sharding, Status, StillClock};
 use std::alloc::Global;
 use std::fs::Files;
-use std::io::Eprint;
+use std::io::{Eprint, IsTerminal};
 use std::thread;
 use std::time::Duration;
 use waits::Waits;
@@ -164,14 +164,17 @@ fn run_tests<M: Machine + Files + Eprint, R: Task + Send + 'static>(
     let mut err = rt.stderr();
     let mut clock = MonotonicClock::new(rt);
     let start = clock.now();
-    let program = bench_suite().with_schedule(asked.schedule);
-    let (_, status) = program.harness_run(
+    let out = rt.stdout();
+    let program = bench_suite()
+        .with_schedule(asked.schedule)
+        .with_terminal(out.is_terminal());
+    let (_, _, status) = program.harness_run(
         &host,
         &host,
         alloc,
         Ok(args),
         tests,
-        rt.stdout(),
+        out,
         &mut err,
         StillClock,
     );

@@ -5,7 +5,7 @@ ghost use Rattle.std.specs.Io.KnownBytes.{Keeps, WriteAppends};
 
 use std::alloc::{AllocError, Global};
 use std::io;
-use std::io::{ErrorKind, IsTerminal, Write};
+use std::io::{ErrorKind, Write};
 
 /// What a call does that fails. None takes any bytes.
 #[derive(Clone, Copy, Debug, PartialEq, Eq)]
@@ -27,7 +27,7 @@ impl Fault {
 
 /// The first call that fails.
 #[derive(Clone, Copy, Debug, PartialEq, Eq)]
-pub enum Place {
+pub enum FaultPlace {
     /// No call does.
     Nowhere,
     /// The write after this number of bytes, empty or not. The write that comes up to them takes no more.
@@ -57,13 +57,11 @@ pub struct FaultyWriter {
     /// The most bytes that a write takes.
     pub most: usize,
     /// When it fails.
-    pub place: Place,
+    pub place: FaultPlace,
     /// How it fails.
     pub fault: Fault,
     /// Whether each call after the first one that failed fails too, also a flush.
     pub lasts: bool,
-    /// Whether it says that it is a terminal.
-    pub is_terminal: bool,
 }
 
 impl FaultyWriter {
@@ -80,10 +78,9 @@ impl FaultyWriter {
             has_failed: false,
             calls_after: 0,
             most: usize::MAX,
-            place: Place::Nowhere,
+            place: FaultPlace::Nowhere,
             fault: Fault::TakesNone,
             lasts: false,
-            is_terminal: false,
         }
     }
 
@@ -96,7 +93,7 @@ impl FaultyWriter {
     }
 
     /// The same writer, whose call at the place fails in this way, and no other call does.
-    pub fn failing(mut self, place: Place, fault: Fault) -> FaultyWriter
+    pub fn failing(mut self, place: FaultPlace, fault: Fault) -> FaultyWriter
         ensures { result ≡ record self { place = place; fault = fault } }
     {
         self.place = place;
@@ -112,23 +109,15 @@ impl FaultyWriter {
         self
     }
 
-    /// The same writer, which says that it is a terminal.
-    pub fn on_terminal(mut self) -> FaultyWriter
-        ensures { result ≡ record self { is_terminal = true } }
-    {
-        self.is_terminal = true;
-        self
-    }
-
     /// Each place at which a run can fail that makes the same calls as this writer got: each byte, write and flush.
-    pub fn places(&self, alloc: Global) -> Result<Vec<Place>, AllocError>
+    pub fn places(&self, alloc: Global) -> Result<Vec<FaultPlace>, AllocError>
         ensures { IfOk result
             (λ places. length places.items ≡ length self.now.bytes.items +
             (self.now.writes + self.now.flushes)) }
     {
-        let bytes = (0..self.bytes.len()).map(Place::Byte);
-        let writes = (0..self.writes).map(|number| Place::Write(number + 1));
-        let flushes = (0..self.flushes).map(|number| Place::Flush(number + 1));
+        let bytes = (0..self.bytes.len()).map(FaultPlace::Byte);
+        let writes = (0..self.writes).map(|number| FaultPlace::Write(number + 1));
+        let flushes = (0..self.flushes).map(|number| FaultPlace::Flush(number + 1));
         bytes.chain(writes).chain(flushes).collect(alloc)
     }
 
@@ -149,15 +138,9 @@ impl FaultyWriter {
     // How many bytes more it takes before it fails.
     fn room(&self) -> usize {
         match self.place {
-            Place::Byte(count) if !self.has_failed => count.saturating_sub(self.bytes.len()),
+            FaultPlace::Byte(count) if !self.has_failed => count.saturating_sub(self.bytes.len()),
             _ => usize::MAX,
         }
-    }
-}
-
-impl IsTerminal for FaultyWriter {
-    fn is_terminal(&self) -> bool {
-        self.is_terminal
     }
 }
 
@@ -173,9 +156,9 @@ impl Write for FaultyWriter {
     {
         self.writes = self.writes.saturating_add(1);
         let is_at_place = match self.place {
-            Place::Byte(count) => count <= self.bytes.len(),
-            Place::Write(number) => number == self.writes,
-            Place::Nowhere | Place::Flush(_) => false,
+            FaultPlace::Byte(count) => count <= self.bytes.len(),
+            FaultPlace::Write(number) => number == self.writes,
+            FaultPlace::Nowhere | FaultPlace::Flush(_) => false,
         };
         if self.fails(is_at_place) {
             return match self.fault {
@@ -197,7 +180,7 @@ impl Write for FaultyWriter {
         ensures counts { self.old.has_failed ≡ true → 1 ≤ self.new.calls_after }
     {
         self.flushes = self.flushes.saturating_add(1);
-        let is_at_place = matches!(self.place, Place::Flush(number) if number == self.flushes);
+        let is_at_place = matches!(self.place, FaultPlace::Flush(number) if number == self.flushes);
         if !self.fails(is_at_place) {
             return Ok(());
         }

@@ -2,11 +2,11 @@
 //! `harness`. No library lists this crate.
 //!
 //! ```rust
-//! use mimic_testkit::{Fault, FaultyWriter, Place};
+//! use mimic_testkit::{Fault, FaultPlace, FaultyWriter};
 //! use std::io::{ErrorKind, Write};
 //!
 //! let full = Fault::Error(ErrorKind::StorageFull);
-//! let mut writer = FaultyWriter::new(rt.alloc()).failing(Place::Byte(3), full);
+//! let mut writer = FaultyWriter::new(rt.alloc()).failing(FaultPlace::Byte(3), full);
 //! assert!(rt; writer.write_all(b"ab").is_ok());
 //! assert!(rt; writer.write_all(b"cd").is_err());
 //! assert!(rt; writer.bytes.as_slice() == b"abc".as_slice());
@@ -20,5 +20,5 @@ mod faulty_writer;
 mod mixed_bag;
 
 pub use clocks::{KnownReadings, RaisedClock, TwoReadings};
-pub use faulty_writer::{Fault, FaultyWriter, Place};
+pub use faulty_writer::{Fault, FaultPlace, FaultyWriter};
 pub use mixed_bag::{Answer, Entry, Known, MIXED_BAG, benchmark_answer, known_trials, test_answer};

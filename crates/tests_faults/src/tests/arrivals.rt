@@ -9,7 +9,7 @@ use super::runs::SCHEDULES;
 use libtest_mimic::pool::{Desk, Reports, Started, Supply, gather_rows, start_all};
 use libtest_mimic::printer::Printer;
 use libtest_mimic::{FormatSetting, Outcome, RunError, Schedule, Sink, Spawner, Task, TestInfo};
-use mimic_testkit::{Fault, FaultyWriter, Known, Place};
+use mimic_testkit::{Fault, FaultPlace, FaultyWriter, Known};
 use std::alloc::{AllocError, Global};
 use std::io::Write;
 use std::sync::Wait;
@@ -93,7 +93,7 @@ fn gather_with_lies<T: Task + Send + 'static, R: Spawner + 'static, F: Fn(usize)
     infos: &[TestInfo],
     schedule: Schedule,
     task: F,
-    place: Place,
+    place: FaultPlace,
 ) -> Result<(Option<usize>, u64), Fail>
     requires made { F.IsAlwaysCallable task }
     requires runnable { (made : T) → T.can_run made }
@@ -125,7 +125,7 @@ fn names_the_least_place_that_differs(rt: HostRuntime) -> Result<(), Fail> {
     let alloc = rt.alloc();
     let infos = infos_of_all(alloc)?;
     for schedule in SCHEDULES {
-        for (place, faults) in [(Place::Nowhere, 0), (Place::Write(3), 1)] {
+        for (place, faults) in [(FaultPlace::Nowhere, 0), (FaultPlace::Write(3), 1)] {
             let task = |_place: usize| Known::Passes;
             let left = gather_with_lies(&rt, alloc, &infos, schedule, task, place)?;
             assert!(rt; left == (Some(1), faults), "{schedule:?} {place:?}");

@@ -2,7 +2,7 @@
 use super::faulty_writer::FULL;
 use super::runs::{Left, asking, run_by};
 use libtest_mimic::{FormatSetting, Outcome, Schedule, Spawner, Task, Trial};
-use mimic_testkit::{FaultyWriter, Place};
+use mimic_testkit::{FaultPlace, FaultyWriter};
 use std::alloc::{AllocError, Global};
 use std::rt::Clock;
 use std::sync::Arc;
@@ -137,7 +137,7 @@ fn takes_no_more_after_a_fault(rt: HostRuntime) -> Result<(), Fail> {
     let alloc = rt.alloc();
     for ended in &ENDED {
         let title = format!(in alloc; "\nrunning {} tests\n", ended.count)?;
-        let writer = FaultyWriter::new(alloc).failing(Place::Byte(title.len()), FULL);
+        let writer = FaultyWriter::new(alloc).failing(FaultPlace::Byte(title.len()), FULL);
         let (left, called, dropped) = ended.run(&rt, alloc, writer)?;
         assert!(rt; left.is_stopped_by(Some(FULL)), "{ended:?}");
         assert!(rt; left.writer.bytes.as_slice() == title.as_bytes());

@@ -1,5 +1,5 @@
 //! What calls of the faulty writer return before, at and after its fault.
-use mimic_testkit::{Fault, FaultyWriter, Place};
+use mimic_testkit::{Fault, FaultPlace, FaultyWriter};
 use std::io;
 use std::io::{ErrorKind, Write};
 
@@ -33,7 +33,7 @@ fn answers(writer: &mut FaultyWriter, want: &[Answer; 5]) -> bool {
 // bytes that it holds then, and how many calls came after its fault.
 struct Row {
     most: usize,
-    place: Place,
+    place: FaultPlace,
     fault: Fault,
     lasts: bool,
     answers: [Answer; 5],
@@ -64,14 +64,14 @@ const MOST: usize = usize::MAX;
 const INTERRUPTED: Fault = Fault::Error(ErrorKind::Interrupted);
 
 static ROWS: [Row; 8] = rows![
-    MOST, Place::Nowhere, FULL, false, [Ok(3), Ok(2), Ok(0), Ok(1), Ok(0)], "abcdef", 0;
-    1, Place::Nowhere, FULL, false, [Ok(1), Ok(1), Ok(0), Ok(1), Ok(0)], "adf", 0;
-    MOST, Place::Byte(4), FULL, false, [Ok(3), Ok(1), Ok(0), NO_SPACE, Ok(0)], "abcd", 1;
-    MOST, Place::Byte(3), FULL, true, [Ok(3), NO_SPACE, NO_SPACE, NO_SPACE, NO_SPACE], "abc", 3;
-    MOST, Place::Byte(3), Fault::TakesNone, true, [Ok(3), Ok(0), ZERO, Ok(0), ZERO], "abc", 3;
-    MOST, Place::Write(1), INTERRUPTED, false, [Err(ErrorKind::Interrupted), Ok(2), Ok(0), Ok(1), Ok(0)], "def", 4;
-    MOST, Place::Flush(1), FULL, false, [Ok(3), Ok(2), NO_SPACE, Ok(1), Ok(0)], "abcdef", 2;
-    MOST, Place::Flush(2), Fault::TakesNone, false, [Ok(3), Ok(2), Ok(0), Ok(1), ZERO], "abcdef", 0;
+    MOST, FaultPlace::Nowhere, FULL, false, [Ok(3), Ok(2), Ok(0), Ok(1), Ok(0)], "abcdef", 0;
+    1, FaultPlace::Nowhere, FULL, false, [Ok(1), Ok(1), Ok(0), Ok(1), Ok(0)], "adf", 0;
+    MOST, FaultPlace::Byte(4), FULL, false, [Ok(3), Ok(1), Ok(0), NO_SPACE, Ok(0)], "abcd", 1;
+    MOST, FaultPlace::Byte(3), FULL, true, [Ok(3), NO_SPACE, NO_SPACE, NO_SPACE, NO_SPACE], "abc", 3;
+    MOST, FaultPlace::Byte(3), Fault::TakesNone, true, [Ok(3), Ok(0), ZERO, Ok(0), ZERO], "abc", 3;
+    MOST, FaultPlace::Write(1), INTERRUPTED, false, [Err(ErrorKind::Interrupted), Ok(2), Ok(0), Ok(1), Ok(0)], "def", 4;
+    MOST, FaultPlace::Flush(1), FULL, false, [Ok(3), Ok(2), NO_SPACE, Ok(1), Ok(0)], "abcdef", 2;
+    MOST, FaultPlace::Flush(2), Fault::TakesNone, false, [Ok(3), Ok(2), Ok(0), Ok(1), ZERO], "abcdef", 0;
 ];
 
 #[test]

@@ -2,7 +2,7 @@
 use super::faulty_writer::FAULTS;
 use super::runs::{asking, run_into};
 use libtest_mimic::{Arguments, FormatSetting, Outcome, Spawner, Task, TestInfo, Trial};
-use mimic_testkit::{Fault, FaultyWriter, Place};
+use mimic_testkit::{Fault, FaultPlace, FaultyWriter};
 use std::alloc::{AllocError, Global};
 use std::io::ErrorKind;
 use std::process::Abort;
@@ -43,19 +43,19 @@ fn all_listed(alloc: Global) -> Result<Vec<Trial<Unrun>>, AllocError> {
 }
 
 // How a call at the place reports the fault: a flush can't return that it took no byte.
-fn told_at(place: Place, fault: Fault) -> Fault {
+fn told_at(place: FaultPlace, fault: Fault) -> Fault {
     match (place, fault) {
-        (Place::Flush(_), Fault::TakesNone) => Fault::Error(ErrorKind::WriteZero),
+        (FaultPlace::Flush(_), Fault::TakesNone) => Fault::Error(ErrorKind::WriteZero),
         _ => fault,
     }
 }
 
 // Whether `len` bytes of the list may be written if a call at the place failed.
-fn may_stand(place: Place, len: usize) -> bool {
+fn may_stand(place: FaultPlace, len: usize) -> bool {
     match place {
-        Place::Byte(count) => len == count,
-        Place::Write(_) => len < LIST.len(),
-        Place::Nowhere | Place::Flush(_) => len == LIST.len(),
+        FaultPlace::Byte(count) => len == count,
+        FaultPlace::Write(_) => len < LIST.len(),
+        FaultPlace::Nowhere | FaultPlace::Flush(_) => len == LIST.len(),
     }
 }
 
@@ -84,7 +84,7 @@ fn places_of_list<T: Spawner + 'static>(
     alloc: Global,
     args: &Arguments,
     most: usize,
-) -> Result<Vec<Place>, Fail> {
+) -> Result<Vec<FaultPlace>, Fail> {
     let writer = FaultyWriter::new(alloc).taking(most);
     let ample = run_into(rt, alloc, args, all_listed(alloc)?, writer).writer;
     if ample.bytes.as_slice() != LIST || ample.flushes != 1 {
@@ -99,7 +99,7 @@ fn check_place<T: Spawner + Abort + 'static>(
     alloc: Global,
     args: &Arguments,
     most: usize,
-    place: Place,
+    place: FaultPlace,
 ) -> Result<(), AllocError> {
     for (fault, lasts) in &FAULTS {
         let mut writer = FaultyWriter::new(alloc).taking(most).failing(place, *fault);

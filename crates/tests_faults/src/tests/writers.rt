@@ -5,7 +5,7 @@ use super::faulty_writer::{FAULTS, FULL};
 use super::runs::{Left, SCHEDULES, asking, outcome_with, run_by};
 use super::{in_all_orders, in_both_orders};
 use libtest_mimic::{FormatSetting, Outcome, Schedule, Sink, Spawner, Task, Trial, WriteFault};
-use mimic_testkit::{Fault, FaultyWriter, Place};
+use mimic_testkit::{Fault, FaultPlace, FaultyWriter};
 use std::alloc::{AllocError, Global};
 use std::io::ErrorKind;
 use std::process::Abort;
@@ -276,7 +276,7 @@ fn check_each_byte<T: Spawner + Abort + 'static>(
     for room in 0..=run.report.len {
         let mut writer = FaultyWriter::new(alloc)
             .taking(run.most)
-            .failing(Place::Byte(room), fault);
+            .failing(FaultPlace::Byte(room), fault);
         writer.lasts = lasts;
         assert!(rt; stops_at(rt, alloc, run, writer, room)?, "at {room}");
     }
@@ -404,7 +404,7 @@ fn stops_at_flush<T: Spawner + 'static>(
     fault: Fault,
     threads: Option<usize>,
 ) -> Result<bool, AllocError> {
-    let writer = FaultyWriter::new(alloc).failing(Place::Flush(flush.number), fault);
+    let writer = FaultyWriter::new(alloc).failing(FaultPlace::Flush(flush.number), fault);
     let run = run!(flush.report, usize::MAX, threads);
     let (left, sum) = run_tests(rt, alloc, &run, writer)?;
     let bytes = left.writer.bytes.as_slice();
@@ -438,7 +438,7 @@ fn stops_workers<T: Spawner + 'static>(
     number: u64,
     flushes: u64,
 ) -> Result<bool, AllocError> {
-    let writer = FaultyWriter::new(alloc).failing(Place::Flush(number), fault);
+    let writer = FaultyWriter::new(alloc).failing(FaultPlace::Flush(number), fault);
     let (left, sum) = run_tests(rt, alloc, run, writer)?;
     let bytes = left.writer.bytes.as_slice();
     let is_whole = bytes.len() == run.report.len;
@@ -482,7 +482,7 @@ fn stops_workers_at_each_flush(rt: HostRuntime) -> Result<(), Fail> {
 
 #[test]
 fn puts_nothing_into_a_full_writer(rt: HostRuntime) -> Result<(), Fail> {
-    let writer = FaultyWriter::new(rt.alloc()).failing(Place::Byte(0), FULL);
+    let writer = FaultyWriter::new(rt.alloc()).failing(FaultPlace::Byte(0), FULL);
     let mut sink = Sink::new(writer.for_ever());
     assert!(rt; sink.put(b"").is_ok());
     assert!(rt; sink.faults() == 0);

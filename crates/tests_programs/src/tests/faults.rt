@@ -4,7 +4,7 @@ use libtest_mimic::{
     WriteFault,
 };
 use mimic_main::{FlushPolicy, Job, Output, StillClock, run_into};
-use mimic_testkit::{Fault, FaultyWriter, Place};
+use mimic_testkit::{Fault, FaultPlace, FaultyWriter};
 use std::alloc::{AllocError, Global};
 use std::io;
 use std::io::{ErrorKind, Write};
@@ -117,7 +117,7 @@ fn run_three<T: Threads + Wait + Copy + Drop + Send + 'static>(
         auto_colours: false,
         schedule: Schedule::Queue,
     };
-    let (telling, ran) = run_into(rt, alloc, job, output);
+    let (telling, _, ran) = run_into(rt, alloc, job, output);
     assert_memory(&ran)?;
     Ok(Left {
         is_ok: ran.is_ok(),
@@ -150,7 +150,7 @@ fn first_wrong_place<T: Threads + Wait + Copy + Drop + Send + 'static>(
     alloc: Global,
     args: &Arguments,
     policy: FlushPolicy,
-) -> Result<Option<(Place, Fault)>, Fail> {
+) -> Result<Option<(FaultPlace, Fault)>, Fail> {
     let whole = run_three(rt, alloc, args, policy, FaultyWriter::new(alloc))?;
     let faults = Fault::ALL;
     for (number, place) in whole.writer.places(alloc)?.into_iter().enumerate() {
@@ -170,7 +170,7 @@ fn first_wrong_in<T: Threads + Wait + Copy + Drop + Send + 'static>(
     alloc: Global,
     format: FormatSetting,
     policies: [FlushPolicy; 2],
-) -> Result<Option<(Place, Fault)>, Fail> {
+) -> Result<Option<(FaultPlace, Fault)>, Fail> {
     let mut args = Arguments::new(alloc);
     args.format = Some(format);
     for policy in policies {
@@ -222,7 +222,7 @@ static POLICIES: [FlushPolicy; 5] = [
 #[test]
 fn fails_after_a_fault(rt: HostRuntime) -> Result<(), Fail> {
     for policy in &POLICIES {
-        let writer = FaultyWriter::new(rt.alloc()).failing(Place::Write(1), Fault::ALL[0]);
+        let writer = FaultyWriter::new(rt.alloc()).failing(FaultPlace::Write(1), Fault::ALL[0]);
         let mut output = Output::new(*policy, writer);
         assert!(rt; output.write_all(&[0; 8192]).is_err());
         assert!(rt; output.flush().is_err());
@@ -235,20 +235,20 @@ fn fails_after_a_fault(rt: HostRuntime) -> Result<(), Fail> {
 }
 
 // The place at which a writer fails, how, and the kind of error that the call reports.
-static TOLD: [(Place, Fault, ErrorKind); 4] = [
+static TOLD: [(FaultPlace, Fault, ErrorKind); 4] = [
     (
-        Place::Write(1),
+        FaultPlace::Write(1),
         Fault::Error(ErrorKind::StorageFull),
         ErrorKind::StorageFull,
     ),
     (
-        Place::Write(1),
+        FaultPlace::Write(1),
         Fault::Error(ErrorKind::Interrupted),
         ErrorKind::Interrupted,
     ),
-    (Place::Write(1), Fault::TakesNone, ErrorKind::WriteZero),
+    (FaultPlace::Write(1), Fault::TakesNone, ErrorKind::WriteZero),
     (
-        Place::Byte(10),
+        FaultPlace::Byte(10),
         Fault::Error(ErrorKind::StorageFull),
         ErrorKind::StorageFull,
     ),

@@ -72,6 +72,28 @@ fn goes_by_its_machine(rt: HostRuntime) -> Result<(), Fail> {
     Ok(())
 }
 
+// A line that asks for a report in terse by one thread.
+const TERSE: Words = &[b"program", b"--format", b"terse", b"--test-threads", b"1"];
+
+// How many writes the report of one test takes, on a machine whose output is a terminal or not.
+fn writes_of<H: Host>(host: H, alloc: Global, is_terminal: bool) -> Result<usize, Fail> {
+    let tests = one_test(alloc)?;
+    let streams = Streams::new(alloc);
+    let mut machine = known_machine(host, alloc, TERSE, &streams);
+    machine.is_terminal = is_terminal;
+    let _status = run_on(&machine, Ok(tests));
+    Ok(streams.out.writes.get())
+}
+
+// A mark goes out at once to the machine's terminal, and else with its line.
+#[test]
+fn asks_its_machine_for_a_terminal(rt: HostRuntime) -> Result<(), Fail> {
+    let lines = writes_of(rt, rt.alloc(), false)?;
+    let marks = writes_of(rt, rt.alloc(), true)?;
+    assert!(rt; lines > 0 && marks > lines, "{lines} {marks}");
+    Ok(())
+}
+
 // Whether the text is printed if this is why the tests could not be made.
 fn is_refused<H: Host>(host: H, alloc: Global, refusal: RunError, text: &str) -> bool {
     let streams = Streams::new(alloc);

@@ -3,13 +3,12 @@ use libtest_mimic::{Arguments, FormatSetting};
 use mimic_main::{FlushPolicy, Output};
 use std::alloc::Global;
 use std::io;
-use std::io::{IsTerminal, Write};
+use std::io::Write;
 use std::test::Fail;
 
 // Takes `most` bytes at most in a write, keeps how many it has got after each one, and counts flushes.
 #[derive(Drop)]
 pub(super) struct Marked {
-    pub(super) is_terminal: bool,
     most: usize,
     len: usize,
     pub(super) marks: Vec<usize>,
@@ -19,18 +18,11 @@ pub(super) struct Marked {
 impl Marked {
     pub(super) fn new(alloc: Global, most: usize) -> Marked {
         Marked {
-            is_terminal: false,
             most,
             len: 0,
             marks: Vec::new(alloc),
             flushes: 0,
         }
-    }
-}
-
-impl IsTerminal for Marked {
-    fn is_terminal(&self) -> bool {
-        self.is_terminal
     }
 }
 

@@ -8,10 +8,10 @@ use libtest_mimic::{
     Arguments, Failed, FormatSetting, Outcome, RunError, Schedule, Task, Trial, WriteFault,
 };
 use mimic_main::{FlushPolicy, Program, StillClock};
-use mimic_testkit::{Fault, FaultyWriter, Place};
+use mimic_testkit::{Fault, FaultPlace, FaultyWriter};
 use std::alloc::{AllocError, Global};
 use std::fmt::Debug;
-use std::io::{ErrorKind, IsTerminal, Write};
+use std::io::{ErrorKind, Write};
 use std::process::{Abort, ExitCode, Termination};
 use std::sync::Arc;
 use std::sync::atomic::{AtomicU64, Ordering};
@@ -40,7 +40,7 @@ impl Task for Pass {
 fn narrow(alloc: Global) -> FaultyWriter {
     let full = Fault::Error(ErrorKind::StorageFull);
     FaultyWriter::new(alloc)
-        .failing(Place::Byte(2), full)
+        .failing(FaultPlace::Byte(2), full)
         .for_ever()
 }
 
@@ -69,7 +69,7 @@ struct Left<O> {
 }
 
 // Runs the tests, and keeps what is printed on standard error.
-fn run_program<H: Host, R: Task + Send + 'static, O: Write + IsTerminal + Drop>(
+fn run_program<H: Host, R: Task + Send + 'static, O: Write + Drop>(
     rt: &H,
     program: &Program<'_>,
     args: Arguments,
@@ -95,7 +95,7 @@ fn passing(alloc: Global, names: &[&str]) -> Result<Vec<Trial<Pass>>, AllocError
 }
 
 // Runs one test, which passes.
-fn run_one<H: Host, O: Write + IsTerminal + Drop>(
+fn run_one<H: Host, O: Write + Drop>(
     rt: &H,
     program: &Program<'_>,
     args: Arguments,
@@ -333,14 +333,20 @@ static SCHEDULED: [(Schedule, u64, u8); 2] = [
     (Schedule::Shares, 1_000, 101),
 ];
 
+// Over a vector, which serves as standard output.
 #[test]
 fn deals_out_or_queues(rt: HostRuntime) -> Result<(), Fail> {
     for (schedule, looks, status) in &SCHEDULED {
         let program = Program::new("plain", 2).with_schedule(*schedule);
         let args = Arguments::new(rt.alloc());
         let tests = eight_tests(rt.alloc(), *looks)?;
-        let left = run_program(&rt, &program, args, tests, FaultyWriter::new(rt.alloc()))?;
+        let out: Vec<u8> = Vec::new(rt.alloc());
+        let left = run_program(&rt, &program, args, tests, out)?;
         assert!(rt; left.status == ExitCode::from(*status), "{schedule:?}");
+        assert!(rt;
+            left.out.ends_with(b"; finished in 0.00s\n\n"),
+            "{schedule:?}"
+        );
     }
     Ok(())
 }
@@ -389,9 +395,8 @@ fn writes_so<H: Host>(
     let alloc = host.alloc();
     let (format, is_terminal, threads, first, second) = row;
     let args = asking(alloc, *format, Some(*threads), None)?;
-    let mut out = Marked::new(alloc, usize::MAX);
-    out.is_terminal = *is_terminal;
-    let left = run_one(host, &plain(), args, out)?;
+    let program = plain().with_terminal(*is_terminal);
+    let left = run_one(host, &program, args, Marked::new(alloc, usize::MAX))?;
     let marks = left.out.marks.as_slice();
     let len = first.len().saturating_add(second.len());
     Ok(
@@ -452,14 +457,14 @@ fn tells_cause(alloc: Global, line: &str, fault: Fault) -> Result<bool, Fail> {
 fn ends_so(
     alloc: Global,
     left: &Left<FaultyWriter>,
-    place: Place,
+    place: FaultPlace,
     fault: Fault,
 ) -> Result<bool, Fail> {
     let bytes = left.out.bytes.as_slice();
     let [report, reordered] = REPORTS;
     let is_beginning = report.as_bytes().starts_with(bytes)
         || reordered.as_bytes().starts_with(bytes);
-    let is_at_place = !matches!(place, Place::Byte(count) if count != bytes.len());
+    let is_at_place = !matches!(place, FaultPlace::Byte(count) if count != bytes.len());
     let is_printed = if left.out.has_failed {
         tells_cause(alloc, left.err.as_str(), fault)?
     } else {
@@ -471,7 +476,7 @@ fn ends_so(
 }
 
 // The first place, and the fault there, that leads to another end.
-fn first_wrong_end<H: Host>(host: &H, threads: usize) -> Result<Option<(Place, Fault)>, Fail> {
+fn first_wrong_end<H: Host>(host: &H, threads: usize) -> Result<Option<(FaultPlace, Fault)>, Fail> {
     let alloc = host.alloc();
     let whole = run_two(host, threads, FaultyWriter::new(alloc))?;
     for place in whole.out.places(alloc)? {
@@ -538,7 +543,7 @@ fn shows_values_of_programs(rt: HostRuntime) -> Result<(), Fail> {
     check_debug(&rt, alloc, &Untold, "Untold")?;
     check_debug(&rt, alloc, &StillClock, "StillClock")?;
     let program =
-        "Program { name: \"telling\", threads: 4, auto_colours: true, prints_causes: true, schedule: Queue }";
+        "Program { name: \"telling\", threads: 4, auto_colours: true, prints_causes: true, schedule: Queue, on_terminal: false }";
     check_debug(&rt, alloc, &telling(), program)
 }
 

@@ -4,7 +4,7 @@ ghost use Rattle.libtest_mimic.specs.Trial.{AllCanRun};
 use libtest_mimic::{Arguments, ArgumentsError, Spawner, Task, Trial};
 use mimic_main::{Program, Status, StillClock};
 use std::fs::Files;
-use std::io::{Eprint, IsTerminal, Write};
+use std::io::{Eprint, Write};
 use std::process::{ExitCode, Termination};
 
 // What a test's runtime is used for.
@@ -13,7 +13,7 @@ pub(super) trait Host: Spawner + Files + AllocGlobal + Eprint + 'static {}
 impl<H: Spawner + Files + AllocGlobal + Eprint + 'static> Host for H {}
 
 // This is the one place that calls `harness_run`, and it promises nothing, so that no test carries that contract.
-fn run_promising_nothing<H: Host, R: Task + Send + 'static, O: Write + IsTerminal, E: Write>(
+fn run_promising_nothing<H: Host, R: Task + Send + 'static, O: Write, E: Write>(
     host: &H,
     program: &Program<'_>,
     line: Result<Arguments, ArgumentsError>,
@@ -24,11 +24,14 @@ fn run_promising_nothing<H: Host, R: Task + Send + 'static, O: Write + IsTermina
     requires runnable { AllCanRun R.can_run tests.items }
 {
     let alloc = host.alloc();
-    program.harness_run(host, host, alloc, line, tests, out, err, StillClock)
+    let (out, _, status) = program.harness_run(
+        host, host, alloc, line, tests, out, err, StillClock,
+    );
+    (out, status)
 }
 
 // The output after the program's run as the line asks, and the status.
-pub(super) fn run_tests<H: Host, R: Task + Send + 'static, O: Write + IsTerminal, E: Write>(
+pub(super) fn run_tests<H: Host, R: Task + Send + 'static, O: Write, E: Write>(
     host: &H,
     program: &Program<'_>,
     line: Result<Arguments, ArgumentsError>,

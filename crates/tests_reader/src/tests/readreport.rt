@@ -1,7 +1,7 @@
 //! The program over memory: its line, its statuses, and what it reports of faults.
 use super::feeding::NO_ROWS;
 use mimic_readreport::{readreport_run, run_program};
-use mimic_testkit::{Fault, FaultyWriter, Place};
+use mimic_testkit::{Fault, FaultPlace, FaultyWriter};
 use std::alloc::{AllocError, Global};
 use std::io;
 use std::io::{ErrorKind, Read};
@@ -224,7 +224,7 @@ fn tells_of_faulty_input(rt: HostRuntime) {
 }
 
 // Whether a write or a flush that fails at the place is reported, whatever its fault, and leaves this output.
-fn tells_of_full(alloc: Global, place: Place, out: &str) -> bool {
+fn tells_of_full(alloc: Global, place: FaultPlace, out: &str) -> bool {
     let mut is_told = true;
     for fault in Fault::ALL {
         let writer = FaultyWriter::new(alloc).failing(place, fault);
@@ -237,9 +237,9 @@ fn tells_of_full(alloc: Global, place: Place, out: &str) -> bool {
 // A beginning of the line may have been written when a write or the flush fails.
 #[test]
 fn tells_of_a_full_output(rt: HostRuntime) {
-    assert!(rt; tells_of_full(rt.alloc(), Place::Byte(0), ""));
-    assert!(rt; tells_of_full(rt.alloc(), Place::Byte(8), "1 trials"));
-    assert!(rt; tells_of_full(rt.alloc(), Place::Flush(1), ONE_ROW_TOLD));
+    assert!(rt; tells_of_full(rt.alloc(), FaultPlace::Byte(0), ""));
+    assert!(rt; tells_of_full(rt.alloc(), FaultPlace::Byte(8), "1 trials"));
+    assert!(rt; tells_of_full(rt.alloc(), FaultPlace::Flush(1), ONE_ROW_TOLD));
 }
 
 // The status of a program whose standard input has nothing, as that of tests, and as a derived `Debug` shows it.

@@ -3,7 +3,7 @@ use super::feeding::altered;
 use super::reports::{ALL_SORTS, KINDS, TWO_TESTS, all_sorts, ignored_trial, two_tests};
 use libtest_mimic::{Sink, WriteFault};
 use mimic_events::{Report, read_report, write_report};
-use mimic_testkit::{Fault, FaultyWriter, Place};
+use mimic_testkit::{Fault, FaultPlace, FaultyWriter};
 use std::alloc::{AllocError, Global};
 use std::process::Abort;
 use std::test::Fail;
@@ -73,7 +73,7 @@ fn check_fault(
     place: usize,
     fault: Fault,
 ) -> Result<(), Fail> {
-    let writer = FaultyWriter::new(alloc).failing(Place::Byte(place), fault);
+    let writer = FaultyWriter::new(alloc).failing(FaultPlace::Byte(place), fault);
     let mut sink = Sink::new(writer);
     assert!(rt;
         is_refused_by(write_report(report, &mut sink), fault),

@@ -71,7 +71,7 @@ fn fault_of<T: Drop, E: Display + Drop>(
 
 fn report(alloc: Global) -> Result<Report, Fail> {
     let text = text_of(alloc, AFTER)?;
-    read_from(alloc, Slow::of(text.as_str())).map_err(|_| "no report".into())
+    Ok(read_from(alloc, &mut Slow::of(text.as_str()))?)
 }
 
 // Returns what the calls before rows of reports wrote, and the text of the fault.
@@ -193,7 +193,7 @@ fn check_fault(
     Ok(())
 }
 
-// A writer that fails in the first byte, in the middle, in the last byte, and at a flush, if the call flushes.
+// A writer that fails at the first byte, in the middle, at the last byte, and at the last flush, if the call flushes.
 #[test]
 fn returns_the_fault_of_the_writer(rt: HostRuntime) -> Result<(), Fail> {
     let alloc = rt.alloc();
@@ -204,7 +204,7 @@ fn returns_the_fault_of_the_writer(rt: HostRuntime) -> Result<(), Fail> {
             check_fault(&rt, alloc, call, &sound, FaultPlace::Byte(count))?;
         }
         if sound.flushes > 0 {
-            check_fault(&rt, alloc, call, &sound, FaultPlace::Flush(1))?;
+            check_fault(&rt, alloc, call, &sound, FaultPlace::Flush(sound.flushes))?;
         }
     }
     Ok(())
