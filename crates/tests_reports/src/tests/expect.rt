@@ -265,7 +265,7 @@ fn lets_known_failures_pass(rt: HostRuntime) -> Result<(), Fail> {
 }
 
 // Inputs, the status, how each ended, and what is printed if `a` is known to fail with `x`.
-static INPUTS: [(&[Input], u8, &str, &[&str]); 7] = [
+static INPUTS: [(&[Input], u8, &str, &[&str]); 8] = [
     (
         &[(A_FAILED, None), (NONE, None)],
         0,
@@ -331,6 +331,23 @@ static INPUTS: [(&[Input], u8, &str, &[&str]); 7] = [
         1,
         "broken pipe\nwhole\n",
         &[numbers!(1, 0, 0, 0, 0)],
+    ),
+    // Of an input that fails, all rows are judged that came before.
+    (
+        &[(
+            &[
+                title!(3),
+                announced!("a"),
+                failed!("a", "x"),
+                announced!("b"),
+                failed!("b"),
+                announced!("c"),
+            ],
+            Some(ErrorKind::BrokenPipe),
+        )],
+        1,
+        "broken pipe\n",
+        &["failed: ", failed!("b"), numbers!(1, 1, 0, 0, 0)],
     ),
 ];
 

@@ -4,7 +4,7 @@ use super::compare::{AFTER, BEFORE};
 use super::lines::{read, text_of};
 use super::reading::Slow;
 use mimic_compare::write_comparison;
-use mimic_events::{Report, read_from, write_report};
+use mimic_events::{Ending, Report, RowsRead, read_from, write_report};
 use mimic_expect::write_unexpected;
 use mimic_join::join_reports;
 use mimic_printer::{Piece, Place, Sink, put_escaped, put_pieces};
@@ -25,6 +25,7 @@ enum Call {
     Pieces,
     LongPieces,
     Escaped,
+    Extent,
     Report,
     Joined,
     Shown,
@@ -35,12 +36,14 @@ enum Call {
     Comparison,
     Unexpected,
     Watch,
+    LiveWatch,
 }
 
-static CALLS: [Call; 13] = [
+static CALLS: [Call; 15] = [
     Call::Pieces,
     Call::LongPieces,
     Call::Escaped,
+    Call::Extent,
     Call::Report,
     Call::Joined,
     Call::Shown,
@@ -51,6 +54,7 @@ static CALLS: [Call; 13] = [
     Call::Comparison,
     Call::Unexpected,
     Call::Watch,
+    Call::LiveWatch,
 ];
 
 // The pieces are gathered if they are short.
@@ -74,7 +78,21 @@ fn report(alloc: Global) -> Result<Report, Fail> {
     Ok(read_from(alloc, &mut Slow::of(text.as_str()))?)
 }
 
-// Returns what the calls before rows of reports wrote, and the text of the fault.
+// Reads the suite, whose rows are kept, or read again when it is written.
+fn suites_of<'a>(
+    alloc: Global,
+    text: &'a str,
+    again: bool,
+) -> Result<Vec<Suite<'a, Slow<'a>>>, Fail> {
+    let suite = if again {
+        Suite::counted(alloc, "a", Slow::of(text), Slow::of(text))
+    } else {
+        Suite::kept(alloc, "a", Slow::of(text))
+    };
+    Ok(vec![in alloc; suite?]?)
+}
+
+// Returns what a call that writes no rows wrote, and the text of the fault.
 fn write_text(
     alloc: Global,
     call: Call,
@@ -84,6 +102,13 @@ fn write_text(
     let fault = match call {
         Call::Pieces => fault_of(alloc, put_pieces(&mut sink, &[SHORT, SHORT])),
         Call::LongPieces => fault_of(alloc, put_pieces(&mut sink, &[SHORT, LONG, SHORT])),
+        Call::Extent => {
+            let RowsRead { rows: _, ending } = read(alloc, &["what\n"])?;
+            let Ending::Cut(stop) = ending else {
+                return Err("a whole report".into());
+            };
+            fault_of(alloc, stop.put_extent(&mut sink, 0))
+        }
         _ => fault_of(
             alloc,
             put_escaped(&mut sink, b"a\x1bb\x1bc", Place::Terminal),
@@ -99,10 +124,10 @@ fn write(
     writer: FaultyWriter,
 ) -> Result<(FaultyWriter, Option<String>), Fail> {
     let text = text_of(alloc, AFTER)?;
-    let input = Slow::of(text.as_str());
+    let mut input = Slow::of(text.as_str());
     let mut sink = Sink::new(writer);
     let fault = match call {
-        Call::Pieces | Call::LongPieces | Call::Escaped => {
+        Call::Pieces | Call::LongPieces | Call::Escaped | Call::Extent => {
             return write_text(alloc, call, sink.into_inner());
         }
         Call::Report => fault_of(alloc, write_report(&report(alloc)?, &mut sink)),
@@ -113,13 +138,8 @@ fn write(
         Call::Shown => fault_of(alloc, show_report(alloc, report(alloc)?, false, &mut sink)),
         Call::Failures => fault_of(alloc, show_failures(alloc, report(alloc)?, &mut sink)),
         Call::Page => fault_of(alloc, write_page("a", &read(alloc, AFTER)?, &mut sink)),
-        Call::Junit => {
-            let suites = vec![in alloc; Suite::kept(alloc, "a", input)?]?;
-            fault_of(alloc, write_junit(alloc, suites, &mut sink))
-        }
-        Call::JunitAgain => {
-            let again = Slow::of(text.as_str());
-            let suites = vec![in alloc; Suite::counted(alloc, "a", input, again)?]?;
+        Call::Junit | Call::JunitAgain => {
+            let suites = suites_of(alloc, text.as_str(), call == Call::JunitAgain)?;
             fault_of(alloc, write_junit(alloc, suites, &mut sink))
         }
         Call::Comparison => {
@@ -133,10 +153,8 @@ fn write(
                 write_unexpected(alloc, &[], inputs, false, &mut sink),
             )
         }
-        Call::Watch => {
-            let mut input = input;
-            fault_of(alloc, watch(alloc, &mut input, &mut sink, &Stopped, false))
-        }
+        Call::Watch => fault_of(alloc, watch(alloc, &mut input, &mut sink, &Stopped, false)),
+        Call::LiveWatch => fault_of(alloc, watch(alloc, &mut input, &mut sink, &Stopped, true)),
     }?;
     Ok((sink.into_inner(), fault))
 }
