@@ -23,7 +23,7 @@ use Rattle.libtest_mimic.specs.Selection.{IsIgnored}
 use Rattle.libtest_mimic.specs.Gathering.{Gathered, IsRowOf}
 use Rattle.libtest_mimic.specs.Steps.{AreFlags}
 use Rattle.libtest_mimic.proofs.OnlyOutcomes.{outcome_at}
-use Rattle.libtest_mimic.proofs.Told.{slice_get-at}
+use Rattle.libtest_mimic.proofs.ArrivedRows.{slice_get-at}
 
 -- ---- places
 

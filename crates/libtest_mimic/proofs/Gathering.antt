@@ -25,12 +25,12 @@ use Rattle.libtest_mimic.specs.Run.{Follows, OnNothingWritten}
 use Rattle.libtest_mimic.specs.declared.running.RunError.{RunError}
 use Rattle.libtest_mimic.specs.declared.running.RunError.TheVariants.{OutOfMemory, Write, ZeroThreads, Spawn, Arrival}
 use Rattle.libtest_mimic.specs.Gathering.{Gathered, GatheredSome, GatheringRefused, IsCompleted, IsDifference, IsGathered, IsLeastDifference, IsOfRows, IsReturned, WrittenAndReturned}
-use Rattle.libtest_mimic.specs.Steps.{RowsRefused, titled_told, told_text}
+use Rattle.libtest_mimic.specs.Steps.{RowsRefused, titled_arrived, arrived_text}
 use Rattle.libtest_mimic.proofs.Arranged.{length_assigned}
 use Rattle.std.proofs.lemmas.Bool.{false≢true}
 use Rattle.std.proofs.lemmas.List.{map-append}
 use Rattle.libtest_mimic.proofs.Returned.{all_gathered, some_gathered}
-use Rattle.libtest_mimic.proofs.Told.{count_rows_at, rows_joined}
+use Rattle.libtest_mimic.proofs.ArrivedRows.{count_rows_at, rows_joined}
 
 -- an answer that is this error
 pub on_error : {T E : Type 0} (r : Result T E) (error : E) (P : T → Type 0) (Q : E → Type 0) → IsErrAnd r (λ e. e ≡ error) → Q error → MatchResult r P Q
@@ -109,23 +109,23 @@ rest_of labels xs ys k e =
 -- ---- the texts
 
 -- an empty desk has no rows to write
-pub nothing_told : (p : Printer) (infos : List TestInfo) (desk : Arrived) (n : ℕ) → desk ≡ record { places = n; rows = [] } → (s : Shown) → Put s s (told_text p infos desk)
-nothing_told p infos desk n e s = subst (λ t. Put s s t) (sym (ap (told_text p infos) e)) (Put-refl s)
+pub nothing_arrived : (p : Printer) (infos : List TestInfo) (desk : Arrived) (n : ℕ) → desk ≡ record { places = n; rows = [] } → (s : Shown) → Put s s (arrived_text p infos desk)
+nothing_arrived p infos desk n e s = subst (λ t. Put s s t) (sym (ap (arrived_text p infos) e)) (Put-refl s)
 
 module _ (p : Printer) (infos : List TestInfo) (whole : Bool) (old new : Arrived) (joined : List (List Placed)) (done : IsCompleted whole old joined new) where
   abbrev missing_text : List ℕ
   missing_text = rows_text p (rows_at (map label_of infos) done.missing)
 
   -- the rows that were reported, and then those that were missing
-  split : told_text p infos new ≡ told_text p infos old ++ missing_text
+  split : arrived_text p infos new ≡ arrived_text p infos old ++ missing_text
   split = ap (λ l. rows_text p (rows_at (map label_of infos) l)) done.rows ∙ rows_joined p (map label_of infos) old.rows done.missing
 
   module _ (a b : Shown) where
     -- a fault in a row that was reported
-    pub stopped_told : Stopped a b (told_text p infos old) → Stopped a b (told_text p infos new)
-    stopped_told s = subst (λ t. Stopped a b t) (sym split) (Stopped-more _ missing_text s)
+    pub stopped_arrived : Stopped a b (arrived_text p infos old) → Stopped a b (arrived_text p infos new)
+    stopped_arrived s = subst (λ t. Stopped a b t) (sym split) (Stopped-more _ missing_text s)
 
-    module _ (c : Shown) (told : Put a b (told_text p infos old)) (k : ℕ) (count : k ≡ length old.rows) where
+    module _ (c : Shown) (arrived : Put a b (arrived_text p infos old)) (k : ℕ) (count : k ≡ length old.rows) where
       abbrev pub text_from : List ℕ
       text_from = rows_text p (drop k (rows_at (map label_of infos) new.rows))
 
@@ -133,24 +133,24 @@ module _ (p : Printer) (infos : List TestInfo) (whole : Bool) (old new : Arrived
       is_missing = ap (rows_text p) (ap (λ l. drop k (rows_at (map label_of infos) l)) done.rows ∙ rest_of (map label_of infos) old.rows done.missing k count)
 
       -- a fault in a row that was missing
-      pub stopped_missing : Stopped b c text_from → Stopped a c (told_text p infos new)
-      stopped_missing s = subst (λ t. Stopped a c t) (sym split) (Put-Stopped _ _ told (subst (λ t. Stopped b c t) is_missing s))
+      pub stopped_missing : Stopped b c text_from → Stopped a c (arrived_text p infos new)
+      stopped_missing s = subst (λ t. Stopped a c t) (sym split) (Put-Stopped _ _ arrived (subst (λ t. Stopped b c t) is_missing s))
 
-      pub put_all : Put b c text_from → Put a c (told_text p infos new)
-      put_all s = subst (λ t. Put a c t) (sym split) (Put-trans _ _ told (subst (λ t. Put b c t) is_missing s))
+      pub put_all : Put b c text_from → Put a c (arrived_text p infos new)
+      put_all s = subst (λ t. Put a c t) (sym split) (Put-trans _ _ arrived (subst (λ t. Put b c t) is_missing s))
 
 -- a write fault in rows that were reported. If the workers ran all trials, all rows are theirs, else those that were reported are
-pub told_refused : {R : Type 0} (gives : Gives R) (mode : Bool) (rs : List R) (bs : List Bool) (same : length rs ≡ length bs) (p : Printer) (infos : List TestInfo) (runs whole : Bool) (old new : Arrived) (joined : List (List Placed))
-    (done : IsCompleted whole old joined new) → whole ≡ false → AreJoined gives mode (assigned_from 0 rs bs) (runs || whole) joined → old.places ≡ length rs → (a b : Shown) → Stopped a b (told_text p infos old)
+pub arrival_refused : {R : Type 0} (gives : Gives R) (mode : Bool) (rs : List R) (bs : List Bool) (same : length rs ≡ length bs) (p : Printer) (infos : List TestInfo) (runs whole : Bool) (old new : Arrived) (joined : List (List Placed))
+    (done : IsCompleted whole old joined new) → whole ≡ false → AreJoined gives mode (assigned_from 0 rs bs) (runs || whole) joined → old.places ≡ length rs → (a b : Shown) → Stopped a b (arrived_text p infos old)
     → (placed : List Placed) × (left : List ℕ) × GatheredSome gives mode (assigned_from 0 rs bs) placed left × (runs ≡ true → left ≡ []) × Stopped a b (rows_text p (rows_at (map label_of infos) placed))
-told_refused gives mode rs bs same p infos true whole old new joined done part are places a b stopped = (
+arrival_refused gives mode rs bs same p infos true whole old new joined done part are places a b stopped = (
   new.rows,
   [],
   all_gathered gives mode (assigned_from 0 rs bs) new.rows (put_each joined done.outcomes) done.returned (completed_gathered gives mode rs bs same whole joined old new done (joined_whole gives mode rs bs true joined are refl done.outcomes (outcomes_count gives mode rs bs same whole joined old new done places)) places),
   λ _. refl,
-  stopped_told p infos whole old new joined done a b stopped,
+  stopped_arrived p infos whole old new joined done a b stopped,
 )
-told_refused gives mode rs bs same p infos false whole old new joined done part are places a b stopped = (
+arrival_refused gives mode rs bs same p infos false whole old new joined done part are places a b stopped = (
   old.rows,
   places_of done.missing,
   some_gathered gives mode rs bs same old new joined places whole are.dropped done part are.answered,
@@ -175,7 +175,7 @@ module _ {R : Type 0} (gives : Gives R) (mode : Bool) (items : List (Assigned R)
       (low, record { text = title_text p (length infos) ++ h.text; appended = Appends-trans a.bytes b.bytes c.bytes (title_text p (length infos)) h.text titled.appended h.appended; kept = omega (arith, titled.faults, h.kept); one = omega (arith, titled.faults, h.one) })
 
   -- and what was written if they were not
-  pub titled_all : (desk : Arrived) → IsGathered gives mode items desk × Put b c (told_text p infos desk) → IsGathered gives mode items desk × Put a c (titled_told p infos desk)
+  pub titled_all : (desk : Arrived) → IsGathered gives mode items desk × Put b c (arrived_text p infos desk) → IsGathered gives mode items desk × Put a c (titled_arrived p infos desk)
   titled_all desk rows = (rows.0, Put-trans _ _ titled rows.1)
 
 -- ---- a difference
@@ -222,18 +222,18 @@ module _ {R : Type 0} (gives : Gives R) (mode : Bool) (rs : List R) (bs : List B
   -- a difference that is named
   pub differs_refused : {E T : Type 0} (all whole : Bool) (r : Result T E) (p : Printer) (infos : List TestInfo) (a b : Shown) (desk : Arrived) (joined : List (List Placed)) → desk.places ≡ length infos → whole ≡ is_ok r
       → IsPermutation (places_of desk.rows ++ missing_of desk) (range_with_len 0 desk.places)
-      → Writes a b (told_text p infos desk) r → AreJoined gives mode trials (all || whole) joined → (e : RunError) → IsDifference desk joined e → GatheringRefused gives mode trials all p infos a b e
+      → Writes a b (arrived_text p infos desk) r → AreJoined gives mode trials (all || whole) joined → (e : RunError) → IsDifference desk joined e → GatheringRefused gives mode trials all p infos a b e
   differs_refused all whole r p infos a b desk joined places is once written are e difference =
       let named = difference.named in
       subst (GatheringRefused gives mode trials all p infos a b) (sym named.named) (
         subst (λ (n : ℕ). named.place < n) places named.below,
-        follows a a b [] (told_text p infos desk) r (Put-refl a) written,
+        follows a a b [] (arrived_text p infos desk) r (Put-refl a) written,
         record {
           arrived = desk.rows;
           missing = missing_of desk;
           once = subst (λ (n : ℕ). IsPermutation (places_of desk.rows ++ missing_of desk) (range_with_len 0 n)) places once;
           returned = joined;
-          written = was_written all whole r (told_text p infos desk) a b joined is written are;
+          written = was_written all whole r (arrived_text p infos desk) a b joined is written are;
           least = least_difference (all || whole) desk joined e difference are;
         },
       )

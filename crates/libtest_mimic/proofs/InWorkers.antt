@@ -27,7 +27,7 @@ use Rattle.libtest_mimic.specs.declared.running.RunError.TheVariants.{OutOfMemor
 use Rattle.libtest_mimic.specs.Arrangement.{IsArrangement, IsOwnAt}
 use Rattle.libtest_mimic.specs.Run.{ReportRefused, ReportedBy}
 use Rattle.libtest_mimic.specs.Gathering.{Gathered, IsGathered, IsRowOf}
-use Rattle.libtest_mimic.specs.Steps.{AreParts, AreSupplied, RowsRefused, titled_told}
+use Rattle.libtest_mimic.specs.Steps.{AreParts, AreSupplied, RowsRefused, titled_arrived}
 use Rattle.libtest_mimic.specs.Stopwatch.{Watched, IsRunning, elapsed_of}
 use Rattle.libtest_mimic.specs.Suite.{Suite, in_order, rows_of}
 use Rattle.libtest_mimic.proofs.Arranged.{arranged, flags_length, labels_apart, length_assigned, length_gathered, order_below, rows_own, whole_gathered}
@@ -134,7 +134,7 @@ module _ {R : Type 0} (gives : Gives R) (suite : Suite R) (can_run : R → Type 
     rows_refused a b w Spawn r h = (several, some, subst (λ (n : ℕ). Put a b (title_text suite.printer n)) count h, r)
     rows_refused a b w (Arrival place) r (low, h) = (several, subst (λ (n : ℕ). place < n) count low, h, r)
 
-    module _ (desk : Arrived) (gathered : IsGathered gives (not suite.args.bench) (assigned_from 0 rs bs) desk) (a c : Shown) (rows : Put a c (titled_told suite.printer infos desk)) where
+    module _ (desk : Arrived) (gathered : IsGathered gives (not suite.args.bench) (assigned_from 0 rs bs) desk) (a c : Shown) (rows : Put a c (titled_arrived suite.printer infos desk)) where
       abbrev placed : List Placed
       placed = placed_at (places_of desk.rows) gathered.outcomes
 

@@ -1,5 +1,6 @@
 pub mod Answered
 pub mod Arranged
+pub mod ArrivedRows
 pub mod Columns
 pub mod Supplying
 pub mod FullName
@@ -9,6 +10,5 @@ pub mod JsonRuns
 pub mod OnlyOutcomes
 pub mod RowsInOrder
 pub mod Selecting
-pub mod Told
 pub mod WholeReport
 pub mod Returned

@@ -17,7 +17,7 @@ use Rattle.mimic_pool.specs.Share.{assigned_from}
 use Rattle.mimic_pool.proofs.Joining.{joined_own_or, length_put_each}
 use Rattle.libtest_mimic.specs.Gathering.{Gathered, GatheredSome, IsCompleted, IsRowOf}
 use Rattle.libtest_mimic.proofs.Arranged.{length_assigned}
-use Rattle.libtest_mimic.proofs.Told.{slice_get-at}
+use Rattle.libtest_mimic.proofs.ArrivedRows.{slice_get-at}
 
 -- ---- the outcome at a place
 

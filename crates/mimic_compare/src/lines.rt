@@ -137,10 +137,10 @@ fn put_benchmark<'a, W: Write>(
             row,
             old,
             new,
-            Piece::Long(ratio / 100),
+            Piece::Long(&(ratio / 100)),
             Piece::Text("."),
-            Piece::Long(ratio / 10 % 10),
-            Piece::Long(ratio % 10),
+            Piece::Long(&(ratio / 10 % 10)),
+            Piece::Long(&(ratio % 10)),
             Piece::Text(")\n")
         ),
     }

@@ -1,9 +1,9 @@
 -- The rows of an input, one after another.
-use Rattle.std.proofs.Common.{◌≡◌, inr, ℕ, ◌+◌, ◌-◌, ◌≤◌, true, List, [], ◌∷◌, ◌++◌, Option, Some, None, IfSome, is_some, length, length-append, length-drop, take, drop, refl, sym, ap, ap₂, subst, ◌∙◌, append_assoc, append-nil, arith}
+use Rattle.std.proofs.Common.{◌≡◌, inl, inr, ℕ, ◌+◌, ◌-◌, ◌≤◌, true, List, [], ◌∷◌, ◌++◌, Option, Some, None, IfSome, is_some, length, length-append, length-drop, take, drop, refl, sym, ap, ap₂, subst, ◌∙◌, append_assoc, append-nil, arith}
 use Rattle.std.specs.Io.KnownBytes.{Consumes}
 use Rattle.std.proofs.Math.Seq.{drop-append_seam}
 use Rattle.std.proofs.lemmas.List.{drop-drop, drop-take, length-take-le}
-use Rattle.mimic_printer.specs.Json.{Entry}
+use Rattle.mimic_printer.specs.Json.{Entry, json_title}
 use Rattle.mimic_events.specs.declared.report.Row.{Row}
 use Rattle.mimic_events.specs.Contents.{entry_read}
 use Rattle.mimic_events.specs.Reading.{Decodes}
@@ -32,6 +32,20 @@ left_at xs front left from to order within e =
 pub none_gone : (o : Option (List ℕ)) → Consumes o o []
 none_gone None = tt
 none_gone (Some xs) = refl
+
+no_title : (n : ℕ) (rest : List ℕ) → [] ≡ json_title n ++ rest → ⊥
+unfolding json_title
+no_title n rest e = absurd (cc)
+
+-- no rows have ended in any bytes
+pub none_ended : (input : Option (List ℕ)) → IfSome input (HasEndedRows [])
+none_ended None = tt
+none_ended (Some bytes) = record {
+  front = [];
+  rest = bytes;
+  parts = refl;
+  ended = record { begun = inl refl; longest = λ others h. absurd (no_title h.announced _ h.parts) };
+}
 
 module _ {I : Type 0} (remaining : I → Option (List ℕ)) where
   pub no_rows : (r : InputRows I) → HasFollowed r.follower [] [] → r.from ≡ 0 → r.to ≡ 0 → HasCome remaining (remaining r.input) r []

@@ -95,14 +95,14 @@ impl Stop {
         requires { HasFaultLeft sink.old }
         ensures { Puts W.contents sink.old sink.new (extent_text ended self.now) result }
     {
-        put_pieces(sink, &wrong_pieces(self.wrong_line))?;
-        put_pieces(sink, &extent_pieces(ended, self.announced))
+        put_pieces(sink, &wrong_pieces(&self.wrong_line))?;
+        put_pieces(sink, &extent_pieces(&ended, self.announced))
     }
 }
 
 // Returns the part of the message about the wrong line, which is empty if no line is wrong.
-fn wrong_pieces(number: Option<u128>) -> [Piece<'static>; 3]
-    ensures { pieces_text result ≡ wrong_part number }
+fn wrong_pieces(number: &Option<u128>) -> [Piece<'_>; 3]
+    ensures { pieces_text result ≡ wrong_part number.now }
 {
     match number {
         Some(number) => [
@@ -115,8 +115,8 @@ fn wrong_pieces(number: Option<u128>) -> [Piece<'static>; 3]
 }
 
 // Returns the part of the message about how far the report goes.
-fn extent_pieces(ended: u128, announced: Option<u64>) -> [Piece<'static>; 5]
-    ensures { pieces_text result ≡ ended_part ended announced }
+fn extent_pieces(ended: &u128, announced: Option<u64>) -> [Piece<'_>; 5]
+    ensures { pieces_text result ≡ ended_part ended.now announced }
 {
     match announced {
         Some(announced) => [

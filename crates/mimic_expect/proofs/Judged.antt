@@ -1,5 +1,5 @@
 -- Rows that are judged one after another.
-use Rattle.std.proofs.Common.{◌≡◌, ◌||◌, ℕ, ◌+◌, ◌-◌, ◌<◌, ◌^◌, Bool, true, false, not, List, [], ◌∷◌, ◌++◌, length-append, map, Option, None, Some, IfSome, refl, sym, ap, ap₂, subst, ◌∙◌, append_assoc, append-nil, arith, inl}
+use Rattle.std.proofs.Common.{◌≡◌, ◌||◌, ℕ, ◌+◌, ◌-◌, ◌<◌, ◌^◌, Bool, true, false, not, List, [], ◌∷◌, ◌++◌, length-append, map, Option, None, Some, IfSome, refl, sym, ap, ap₂, subst, ◌∙◌, append_assoc, append-nil, arith}
 use Rattle.std.specs.Prelude.{filter}
 use Rattle.std.specs.List.{AllZip, flat_map, list_any}
 use Rattle.std.proofs.lemmas.List.{map-append}
@@ -9,13 +9,14 @@ use Rattle.std.proofs.lemmas.List.Filters.{length-filter_both}
 use Rattle.mimic_trial.specs.declared.outcome.Outcome.{Outcome}
 use Rattle.mimic_trial.specs.declared.outcome.Outcome.TheVariants.{Failed, Ignored, Measured, Passed}
 use Rattle.mimic_trial.specs.Count.{is_failed}
-use Rattle.mimic_printer.specs.Json.{Entry, json_title}
+use Rattle.mimic_printer.specs.Json.{Entry}
 use Rattle.mimic_printer.specs.Sink.{LeftBy, Put, Shown, Stopped}
 use Rattle.mimic_printer.proofs.Appending.{Put-Stopped, Put-refl, Put-trans}
 use Rattle.mimic_events.specs.Contents.{entry_read}
 use Rattle.mimic_events.specs.Key.{label_in, same_label}
 use Rattle.mimic_events.specs.declared.report.Row.{Row}
 use Rattle.mimic_events.proofs.Keys.{same_label-symm}
+use Rattle.mimic_events.proofs.RowSteps.{none_ended}
 use Rattle.mimic_events.specs.Feed.{AreEnded}
 use Rattle.mimic_events.specs.Readings.{HasEndedRows}
 use Rattle.mimic_events.proofs.Counted.{few}
@@ -145,20 +146,6 @@ input_judged a b c read next m n k s t u p q e =
     rw (e, flat_map-append (λ (r : InputRead). r.entries) read (next ∷ []), append-nil next.entries) (judges_then a b c (rows_of read) next.entries m n s t u p q)
 
 -- ---- no rows
-
-no_title : (n : ℕ) (rest : List ℕ) → [] ≡ json_title n ++ rest → ⊥
-unfolding json_title
-no_title n rest e = absurd (cc)
-
--- no rows have ended in any bytes
-pub none_ended : (input : Option (List ℕ)) → IfSome input (HasEndedRows [])
-none_ended None = tt
-none_ended (Some bytes) = record {
-  front = [];
-  rest = bytes;
-  parts = refl;
-  ended = record { begun = inl refl; longest = λ others h. absurd (no_title h.announced _ h.parts) };
-}
 
 module _ {I : Type 0} (remaining : I → Option (List ℕ)) where
   pub none_next : (inputs : List I) → AreNext remaining inputs []

@@ -1,8 +1,8 @@
 mod Judged
 mod Judgements
+mod KeyedPlaces
 mod KnownLines
 pub mod Laws
 mod Meeting
-mod Pools
 mod Strangers
 mod Verdicts

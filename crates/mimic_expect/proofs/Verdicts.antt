@@ -19,7 +19,7 @@ use Rattle.mimic_expect.specs.FindingText.{finding_text, numbers_text, rows_text
 use Rattle.mimic_expect.specs.JudgedRows.{HasLines, Judged, Judges}
 use Rattle.mimic_expect.specs.JudgementText.{count_in, finding_read, judgement_numbers, judgement_text}
 use Rattle.mimic_expect.specs.Known.{Expected}
-use Rattle.mimic_expect.specs.Verdict.{AreBegun, HasLeft, InputRead, IsReadOf, LeavesVerdict, has_all, have_all, rows_of}
+use Rattle.mimic_expect.specs.Verdict.{AreBegun, InputRead, IsBegun, IsReadOf, IsWhole, LeavesVerdict, VerdictLeftBy, has_all, have_all, rows_of}
 use Rattle.mimic_expect.specs.declared.judgement.Judgement.{Judgement}
 use Rattle.mimic_expect.specs.declared.judgement.Unexpected.{Unexpected}
 use Rattle.mimic_printer.specs.declared.sink.OutputFault.{OutputFault}
@@ -166,7 +166,8 @@ module _ {I : Type 0} (remaining : I → Option (List ℕ)) (expected : List Exp
       → LeavesVerdict remaining expected inputs lax old new result
   memory_left rows h are p = at_fault (LeavesVerdict remaining expected inputs lax old new) result OutOfMemory h (unknown_text expected rows, (rows, are, refl), p)
 
-  begun_left : (fault : OutputFault) (rows : List Entry) → AreBegun remaining inputs rows → HasLines expected old new fault rows → HasLeft remaining expected inputs old new fault
+  begun_left : (fault : OutputFault) (rows : List Entry) → AreBegun remaining inputs rows → HasLines expected old new fault rows
+      → VerdictLeftBy (IsBegun remaining expected inputs) (IsWhole remaining expected inputs) old new fault
   begun_left OutOfMemory rows are left = (unknown_text expected rows, (rows, are, refl), left)
   begun_left (WriteFailed error) rows are left = (unknown_text expected rows, inl (rows, are, refl), left)
 

@@ -2,7 +2,7 @@ pub mod Expect
 pub mod FindingText
 pub mod JudgedRows
 pub mod JudgementText
+pub mod KeyedItems
 pub mod Known
 pub mod Lines
-pub mod Pool
 pub mod Verdict

@@ -87,17 +87,17 @@ IsWhole remaining expected inputs text = (read : List InputRead) × AllZip (λ i
     × (text ≡ rows_text expected (rows_of read) (have_all read))
 
 -- without memory such failures were appended; and with a fault of the writer a beginning of such failures, or of the whole text
-abbrev pub HasLeft : {I : Type 0} → (I → Option (List ℕ)) → List Expected → List I → Shown → Shown → OutputFault → Type 0
-HasLeft remaining expected inputs old new OutOfMemory = (text : List ℕ) × IsBegun remaining expected inputs text × Put old new text
-HasLeft remaining expected inputs old new (Write fault) = (text : List ℕ)
-    × (IsBegun remaining expected inputs text ⊎ IsWhole remaining expected inputs text) × Stopped old new text
+abbrev pub VerdictLeftBy : (List ℕ → Type 0) → (List ℕ → Type 0) → Shown → Shown → OutputFault → Type 0
+VerdictLeftBy Begun Whole old new OutOfMemory = (text : List ℕ) × Begun text × Put old new text
+VerdictLeftBy Begun Whole old new (Write fault) = (text : List ℕ) × (Begun text ⊎ Whole text) × Stopped old new text
 
 -- what a call leaves that judges the inputs
 abbrev pub LeavesVerdict : {I : Type 0} → (I → Option (List ℕ)) → List Expected → List I → Bool → Shown → Shown
     → Result ExpectationVerdict OutputFault → Type 0
 LeavesVerdict remaining expected inputs lax old new (Ok verdict) =
     IsVerdict remaining expected inputs lax old new verdict
-LeavesVerdict remaining expected inputs lax old new (Err fault) = HasLeft remaining expected inputs old new fault
+LeavesVerdict remaining expected inputs lax old new (Err fault) =
+    VerdictLeftBy (IsBegun remaining expected inputs) (IsWhole remaining expected inputs) old new fault
 
 -- the exit status: 1 if some input is no whole report, else 101 if anything is unexpected that counts, else 0
 abbrev pub status_of : ExpectationVerdict → ℕ

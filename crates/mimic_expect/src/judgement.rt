@@ -8,8 +8,8 @@ ghost use Rattle.mimic_expect.specs.Expect.{FailedRow, answers, counts, fate, fi
 ghost use Rattle.mimic_expect.specs.JudgementText.{entries_read, expected_at, finding_read, lines_left, rows_left};
 ghost use Rattle.mimic_expect.specs.Known.{expected_read};
 
+use crate::keyed_items::KeyedItems;
 use crate::known::Expectation;
-use crate::pool::Pool;
 use mimic_events::{Key, Row};
 use mimic_trial::Outcome;
 use std::alloc::{AllocError, Global};
@@ -31,25 +31,28 @@ pub(crate) enum Unexpected<'a> {
 }
 
 // Returns the expectations, to be found by what they say about failures.
-fn pool_of(alloc: Global, known: &[Expectation]) -> Result<Pool<'_, &Expectation>, AllocError>
-    ensures { IfOk result (λ pool. lines_left pool ≡ keyed (map expected_read known.now)) }
+fn keyed_expectations(
+    alloc: Global,
+    known: &[Expectation],
+) -> Result<KeyedItems<'_, &Expectation>, AllocError>
+    ensures { IfOk result (λ items. lines_left items ≡ keyed (map expected_read known.now)) }
 {
     let mut items = Vec::new(alloc);
     for expectation in known {
         items.push((Key::Failure(&expectation.row), expectation))?;
     }
-    Pool::new(alloc, &items)
+    KeyedItems::new(alloc, &items)
 }
 
 // Returns the rows, to be found by their kinds and names.
-fn pool_of_rows<'a>(alloc: Global, rows: &[&'a Row]) -> Result<Pool<'a, &'a Row>, AllocError>
-    ensures { IfOk result (λ pool. rows_left pool ≡ labelled (entries_read rows.now)) }
+fn keyed_rows<'a>(alloc: Global, rows: &[&'a Row]) -> Result<KeyedItems<'a, &'a Row>, AllocError>
+    ensures { IfOk result (λ items. rows_left items ≡ labelled (entries_read rows.now)) }
 {
     let mut items = Vec::new(alloc);
     for row in rows {
         items.push((Key::Trial(row), *row))?;
     }
-    Pool::new(alloc, &items)
+    KeyedItems::new(alloc, &items)
 }
 
 fn failed_in(alloc: Global, rows: &[Row]) -> Result<Vec<&Row>, AllocError>
@@ -81,26 +84,26 @@ fn ignored_in(alloc: Global, rows: &[Row]) -> Result<Vec<&Row>, AllocError>
 }
 
 // Takes what the failure meets, if anything.
-fn meet<'a>(pool: &mut Pool<'a, &'a Expectation>, row: &'a Row) -> bool
-    ensures met { result ≡ is_some (meets (lines_left pool.old) (entry_read row.now)) }
-    ensures left { lines_left pool.new ≡ without (lines_left pool.old) (entry_read row.now) }
+fn meet<'a>(items: &mut KeyedItems<'a, &'a Expectation>, row: &'a Row) -> bool
+    ensures met { result ≡ is_some (meets (lines_left items.old) (entry_read row.now)) }
+    ensures left { lines_left items.new ≡ without (lines_left items.old) (entry_read row.now) }
 {
-    pool.take(&Key::Failure(row)).is_some() || pool.take(&Key::Trial(row)).is_some()
+    items.take(&Key::Failure(row)).is_some() || items.take(&Key::Trial(row)).is_some()
 }
 
-// Returns the failures that meet nothing, and takes from the pool what the others meet.
+// Returns the failures that meet nothing, and takes from the expectations those that the others meet.
 fn unmet_in<'a>(
     alloc: Global,
-    pool: &mut Pool<'a, &'a Expectation>,
+    items: &mut KeyedItems<'a, &'a Expectation>,
     failed: &[&'a Row],
 ) -> Result<Vec<&'a Row>, AllocError>
     ensures { IfOk result
-        (λ unmet. (entries_read unmet.items ≡ unmet_by (lines_left pool.old) (entries_read failed.now))
-        × (lines_left pool.new ≡ left_by (lines_left pool.old) (entries_read failed.now))) }
+        (λ unmet. (entries_read unmet.items ≡ unmet_by (lines_left items.old) (entries_read failed.now))
+        × (lines_left items.new ≡ left_by (lines_left items.old) (entries_read failed.now))) }
 {
     let mut unmet = Vec::new(alloc);
     for row in failed {
-        if !meet(pool, row) {
+        if !meet(items, row) {
             unmet.push(*row)?;
         }
     }
@@ -149,7 +152,7 @@ fn finding<'a>(
 // Adds what is unexpected about the lines that are left, and takes their rows from `others`.
 fn add_findings<'a>(
     unexpected: &mut Vec<Unexpected<'a>>,
-    others: &mut Pool<'a, &'a Row>,
+    others: &mut KeyedItems<'a, &'a Row>,
     left: &[&'a Expectation],
     are_all: bool,
 ) -> Result<(), AllocError>
@@ -223,9 +226,9 @@ fn meeting<'a>(
         × (entries_read found.1.items
         ≡ unmet_by (keyed (map expected_read known.now)) (entries_read failed.now))) }
 {
-    let mut pool = pool_of(alloc, known)?;
-    let unmet = unmet_in(alloc, &mut pool, failed)?;
-    Ok((pool.left(alloc)?, unmet))
+    let mut items = keyed_expectations(alloc, known)?;
+    let unmet = unmet_in(alloc, &mut items, failed)?;
+    Ok((items.left(alloc)?, unmet))
 }
 
 // Returns what is unexpected about the expectations that are left, and then the failures among the rows that none of them took.
@@ -238,10 +241,10 @@ fn findings_of<'a>(
     ensures { IfOk result (λ unexpected. map finding_read unexpected.items
         ≡ findings_with (expected_at left.now) (entries_read others.now) are_all) }
 {
-    let mut pool = pool_of_rows(alloc, others)?;
+    let mut items = keyed_rows(alloc, others)?;
     let mut unexpected = Vec::new(alloc);
-    add_findings(&mut unexpected, &mut pool, left, are_all)?;
-    add_failures(&mut unexpected, &pool.left(alloc)?)?;
+    add_findings(&mut unexpected, &mut items, left, are_all)?;
+    add_failures(&mut unexpected, &items.left(alloc)?)?;
     Ok(unexpected)
 }
 

@@ -12,8 +12,8 @@
 mod inputs;
 mod judge;
 mod judgement;
+mod keyed_items;
 mod known;
-mod pool;
 mod unexpected;
 mod verdict;
 

@@ -2,5 +2,5 @@ pub mod Ended
 pub mod Output
 pub mod Policy
 pub mod Run
+pub mod ShardVariables
 pub mod Sharding
-pub mod Variables

@@ -3,9 +3,9 @@ use Rattle.std.specs.Prelude.{◌≡◌, ◌≢◌, ◌⊎◌, List, ℕ, [], �
 use Rattle.std.specs.declared.alloc.Global.{Global}
 use Rattle.mimic_args.specs.declared.Arguments.{Arguments}
 use Rattle.mimic_trial.specs.Shard.{shard_of}
-use Rattle.mimic_main.specs.Variables.{GivesShard}
+use Rattle.mimic_main.specs.ShardVariables.{GivesShard}
 use Rattle.mimic_trial.specs.declared.shard.Shard.{Shard}
-use Rattle.mimic_main.specs.declared.variables.ShardFault.{ShardFault}
+use Rattle.mimic_main.specs.declared.shard_variables.ShardFault.{ShardFault}
 use Rattle.mimic_main.specs.declared.sharding.Sharding.{Sharding}
 use Rattle.mimic_main.specs.declared.sharding.ShardError.{ShardError}
 use Rattle.mimic_main.specs.declared.sharding.ShardError.TheVariants.{OutOfMemory, NotUtf8, NoShard, StatusFile}

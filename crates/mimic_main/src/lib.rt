@@ -28,9 +28,9 @@ mod machine;
 mod output;
 mod policy;
 mod program;
+mod shard_variables;
 mod sharding;
 mod status;
-mod variables;
 
 pub use clock::{MonotonicClock, StillClock};
 pub use colours::shows_colours;
@@ -40,6 +40,6 @@ pub use machine::{Machine, Streams};
 pub use output::Output;
 pub use policy::FlushPolicy;
 pub use program::Program;
+pub use shard_variables::{ShardFault, shard_from_variables};
 pub use sharding::{ShardError, Sharding};
 pub use status::Status;
-pub use variables::{ShardFault, shard_from_variables};

@@ -3,7 +3,7 @@ ghost use Rattle.std.specs.Prelude.{◌≡◌, IfErr, IfOk, IsSome, OnErr, optio
 ghost use Rattle.mimic_main.specs.Sharding.{HasFilterOf, IsPartFault, IsReadSharding, IsUnreadable, no_sharding, trials_of, unless_empty};
 ghost use Rattle.mimic_main.specs.declared.sharding.ShardError.TheVariants.{NoShard, OutOfMemory};
 
-use crate::variables::{ShardFault, shard_from_variables};
+use crate::shard_variables::{ShardFault, shard_from_variables};
 use libtest_mimic::{Arguments, Trial};
 use mimic_trial::{Shard, shard_of};
 use std::alloc::{AllocError, Global};

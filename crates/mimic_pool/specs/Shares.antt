@@ -9,8 +9,8 @@ use Rattle.mimic_pool.specs.declared.share.Assigned.{Assigned}
 use Rattle.mimic_pool.specs.declared.share.Share.{Share}
 use Rattle.mimic_pool.specs.declared.shares.ShareCrew.{ShareCrew}
 use Rattle.mimic_pool.specs.declared.shares.ShareStarts.{ShareStarts}
-use Rattle.mimic_pool.specs.declared.start.AnswersShare.{AnswersShare}
-use Rattle.mimic_pool.specs.declared.start.Start.{Start}
+use Rattle.mimic_pool.specs.declared.share_start.AnswersShare.{AnswersShare}
+use Rattle.mimic_pool.specs.declared.share_start.Start.{Start}
 use Rattle.std.specs.declared.thread.PromisedHandle.{PromisedHandle}
 
 module _ {X : Type 0} where

@@ -28,7 +28,7 @@ bracketed place (b ∷ kind) = codes "[" ++ (escaped place (b ∷ kind) ++ codes
 abbrev pub piece_text : Piece → List ℕ
 piece_text (Text t) = t.now
 piece_text (Number n) = decimal n
-piece_text (Long n) = decimal n
+piece_text (Long n) = decimal n.now
 piece_text (TwoDigits n) = two_digits n
 piece_text (Spaces n) = spaces n
 piece_text (Grouped n) = grouped (decimal n)

@@ -22,7 +22,7 @@ pub enum Piece<'a> {
     /// The number in decimal.
     Number(u64),
     /// The number in decimal.
-    Long(u128),
+    Long(&'a u128),
     /// A number below 100 in two digits.
     TwoDigits(u8),
     /// This number of spaces.
@@ -177,7 +177,7 @@ impl Piece<'_> {
         match self {
             Piece::Text(text) => append(row, len, text.as_bytes()),
             Piece::Number(number) => append(row, len, Buffer::new().format(number).as_bytes()),
-            Piece::Long(number) => append(row, len, Buffer::new().format(number).as_bytes()),
+            Piece::Long(number) => append(row, len, Buffer::new().format(*number).as_bytes()),
             Piece::TwoDigits(number) => {
                 append(row, len, &[b'0' + number / 10, b'0' + number % 10])
             }
@@ -206,7 +206,7 @@ impl Piece<'_> {
         match self {
             Piece::Text(text) => sink.put(text.as_bytes()),
             Piece::Number(number) => sink.put(Buffer::new().format(number).as_bytes()),
-            Piece::Long(number) => sink.put(Buffer::new().format(number).as_bytes()),
+            Piece::Long(number) => sink.put(Buffer::new().format(*number).as_bytes()),
             Piece::TwoDigits(number) => sink.put(&[b'0' + number / 10, b'0' + number % 10]),
             Piece::Spaces(count) => put_spaces(sink, count),
             Piece::Grouped(number) => sink.put(thousands(number, &mut [0; 26]).as_bytes()),

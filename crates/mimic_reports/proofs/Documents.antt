@@ -8,6 +8,7 @@ use Rattle.mimic_printer.specs.declared.sink.WriteFault.{WriteFault}
 use Rattle.mimic_printer.proofs.Appending.{Put-Stopped, Put-trans, Put_after, Stopped-more}
 use Rattle.mimic_events.specs.Contents.{entry_read}
 use Rattle.mimic_events.proofs.Pairs.{each_more}
+use Rattle.mimic_events.proofs.RowSteps.{none_ended}
 use Rattle.mimic_reports.specs.declared.junit_elements.Numbers.{Numbers}
 use Rattle.mimic_reports.specs.declared.junit.JunitFault.{JunitFault}
 use Rattle.mimic_reports.specs.declared.junit.JunitFault.TheVariants as junit
@@ -15,8 +16,7 @@ use Rattle.mimic_reports.specs.declared.suite.Suite.{Suite as SuiteRead}
 use Rattle.mimic_reports.specs.declared.suite.SuiteRows.{SuiteRows}
 use Rattle.mimic_reports.specs.declared.suite.SuiteRows.TheVariants.{Again, Kept}
 use Rattle.mimic_reports.specs.Junit.{Suite, junit_text, numbers_of, root_start, suite_text, total}
-use Rattle.mimic_reports.specs.Suites.{AreBegun, HasLeft, IsBegun, IsNext, IsPart, IsShown, LeftBy, numbers_in, part_text}
-use Rattle.mimic_reports.proofs.SuiteText.{none_ended}
+use Rattle.mimic_reports.specs.Suites.{AreRowsBefore, DocumentLeftBy, IsDocumentBegun, IsNext, IsPart, IsShown, SuiteLeftBy, numbers_in, part_text}
 
 abbrev pub close_part : List ℕ
 close_part = codes "</testsuites>\n"
@@ -59,7 +59,7 @@ module _ {I : Type 0} (suites : List (SuiteRead I)) where
       ∙ sym (append_assoc start (flat_map suite_text whole) (suite_text s))
 
 module _ {I : Type 0} (remaining : I → Option (List ℕ)) where
-  any_rows : (numbers : Numbers) (rows : SuiteRows I) (fault : WriteFault) → (entries : List Entry) × AreBegun remaining numbers rows (junit.Write fault) entries
+  any_rows : (numbers : Numbers) (rows : SuiteRows I) (fault : WriteFault) → (entries : List Entry) × AreRowsBefore remaining numbers rows (junit.Write fault) entries
   any_rows numbers (Kept rows) fault = (map entry_read rows.items, refl)
   any_rows numbers (Again input counts) fault = ([], none_ended (remaining input))
 
@@ -71,7 +71,7 @@ module _ {I : Type 0} (remaining : I → Option (List ℕ)) where
       (part_text suite.program.now (numbers_in suite) rows.0, (rows.0, rows.1, refl))
 
   module _ (suites before after : List (SuiteRead I)) (whole : List Suite) (parts : suites ≡ before ++ after) (each : AllZip (IsShown remaining) before whole) where
-    begun : (count : ℕ) (fault : JunitFault) (last : List ℕ) → count ≡ length before → IsNext remaining after fault last → IsBegun remaining suites count fault (front suites whole ++ last)
+    begun : (count : ℕ) (fault : JunitFault) (last : List ℕ) → count ≡ length before → IsNext remaining after fault last → IsDocumentBegun remaining suites count fault (front suites whole ++ last)
     begun count fault last place next = record {
       before = before;
       after = after;
@@ -85,19 +85,19 @@ module _ {I : Type 0} (remaining : I → Option (List ℕ)) where
     }
 
     -- a fault of the writer in what these reports are
-    pub stopped_front : (a b : Shown) (fault : WriteFault) → Stopped a b (front suites whole) → LeftBy remaining suites a b (junit.Write fault)
+    pub stopped_front : (a b : Shown) (fault : WriteFault) → Stopped a b (front suites whole) → DocumentLeftBy remaining suites a b (junit.Write fault)
     stopped_front a b fault s =
         let next = any_next after fault in
         (length before, front suites whole ++ next.0, begun (length before) (junit.Write fault) next.0 refl next.1, Stopped-more (front suites whole) next.0 s)
 
     -- or in the end of the document
-    pub stopped_end : (a b : Shown) (fault : WriteFault) → after ≡ [] → Stopped a b (front suites whole ++ close_part) → LeftBy remaining suites a b (junit.Write fault)
+    pub stopped_end : (a b : Shown) (fault : WriteFault) → after ≡ [] → Stopped a b (front suites whole ++ close_part) → DocumentLeftBy remaining suites a b (junit.Write fault)
     stopped_end a b fault none s = (length before, front suites whole ++ close_part, begun (length before) (junit.Write fault) close_part refl (rw none refl), s)
 
   -- a fault in the next report
   pub left_by : (suites before rest : List (SuiteRead I)) (suite : SuiteRead I) (whole : List Suite) (place : ℕ) (a b c : Shown) (fault : JunitFault)
       → suites ≡ before ++ suite ∷ rest → place ≡ length before → AllZip (IsShown remaining) before whole → Put a b (front suites whole)
-      → HasLeft (IsPart remaining suite) (IsShown remaining suite) place b c fault → LeftBy remaining suites a c fault
+      → SuiteLeftBy (IsPart remaining suite) (IsShown remaining suite) place b c fault → DocumentLeftBy remaining suites a c fault
   left_by suites before rest suite whole place a b c junit.TooMany parts is each p left = absurd left
   left_by suites before rest suite whole place a b c (junit.Input at fault) parts is each p left = (
     omega (arith, left.0, is, ap length parts, length-append before (suite ∷ rest)),

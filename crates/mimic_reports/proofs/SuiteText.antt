@@ -3,7 +3,7 @@ use Rattle.std.proofs.Common.{◌≡◌, inl, inr, ℕ, List, [], ◌∷◌, ◌
 use Rattle.std.specs.List.{flat_map}
 use Rattle.std.proofs.lemmas.List.Concat.{flat_map-append}
 use Rattle.std.proofs.lemmas.List.Folds.{flat_map-map}
-use Rattle.mimic_printer.specs.Json.{Entry, json_title, outcomes_in}
+use Rattle.mimic_printer.specs.Json.{Entry, outcomes_in}
 use Rattle.mimic_printer.specs.Sink.{Put, Shown, Stopped, Writes}
 use Rattle.mimic_printer.proofs.Appending.{Puts_then, Stopped-more, stop2}
 use Rattle.mimic_events.specs.Contents.{entry_read}
@@ -15,9 +15,9 @@ use Rattle.mimic_reports.specs.Junit.{Suite, case_text, ending_text, numbers_of,
 use Rattle.mimic_reports.specs.declared.suite.SuiteRows.{SuiteRows}
 use Rattle.mimic_reports.specs.declared.suite.SuiteRows.TheVariants.{Again, Kept}
 use Rattle.mimic_reports.specs.declared.suite.Suite.{Suite as SuiteRead}
-use Rattle.mimic_events.specs.Readings.{HasEndedRows, IsReading}
+use Rattle.mimic_events.specs.Readings.{IsReading}
 use Rattle.mimic_events.specs.declared.ending.Ending.{Ending}
-use Rattle.mimic_reports.specs.Suites.{AreBegun, AreRead, HasLeft, IsPart, IsPartOf, IsReadAgain, IsShown, numbers_counted, numbers_in, part_text, rows_counted}
+use Rattle.mimic_reports.specs.Suites.{AreRead, AreRowsBefore, IsPart, IsPartOf, IsReadAgain, IsShown, SuiteLeftBy, numbers_counted, numbers_in, part_text, rows_counted}
 use Rattle.mimic_reports.proofs.RowCounts.{numbers_are, numbers_kept, rows_counted_are}
 use Rattle.mimic_trial.specs.Count.{counts_of}
 use Rattle.mimic_trial.specs.declared.outcome.conclusion.Conclusion.{Conclusion}
@@ -72,22 +72,6 @@ part_more program numbers entries e =
     (flat_map-append (case_text program) entries (e ∷ []) ∙ ap (λ (l : List ℕ). flat_map (case_text program) entries ++ l) (append-nil (case_text program e)))
     ∙ sym (append_assoc (suite_start program numbers) (flat_map (case_text program) entries) (case_text program e))
 
--- ---- no rows
-
-no_title : (n : ℕ) (rest : List ℕ) → [] ≡ json_title n ++ rest → ⊥
-unfolding json_title
-no_title n rest e = absurd (cc)
-
--- no rows have ended in any bytes
-pub none_ended : (input : Option (List ℕ)) → IfSome input (HasEndedRows [])
-none_ended None = tt
-none_ended (Some bytes) = record {
-  front = [];
-  rest = bytes;
-  parts = refl;
-  ended = record { begun = inl refl; longest = λ others h. absurd (no_title h.announced _ h.parts) };
-}
-
 -- ---- what is written of a report that was read
 
 module _ {I : Type 0} (remaining : I → Option (List ℕ)) (report : SuiteRead I) where
@@ -111,14 +95,14 @@ module _ {I : Type 0} (remaining : I → Option (List ℕ)) (report : SuiteRead 
     again_part fault text h =
         let rows : AreRead (numbers_in report) (remaining input) fault h.0 = subst (λ (n : Numbers). AreRead n (remaining input) fault h.0) same h.1 in (
           h.0,
-          subst (λ (r : SuiteRows I). AreBegun remaining (numbers_in report) r fault h.0) (sym is) rows,
+          subst (λ (r : SuiteRows I). AreRowsBefore remaining (numbers_in report) r fault h.0) (sym is) rows,
           h.2 ∙ ap (λ (n : Numbers). part_text report.program.now n h.0) same,
         )
 
     -- what is left of it with a fault
     pub again_left : (place : ℕ) (a b : Shown) (fault : JunitFault)
-        → HasLeft (IsPartOf report.program.now numbers (remaining input)) (IsReadAgain report.program.now numbers (remaining input)) place a b fault
-        → HasLeft (IsPart remaining report) (IsShown remaining report) place a b fault
+        → SuiteLeftBy (IsPartOf report.program.now numbers (remaining input)) (IsReadAgain report.program.now numbers (remaining input)) place a b fault
+        → SuiteLeftBy (IsPart remaining report) (IsShown remaining report) place a b fault
     again_left place a b junit.TooMany left = absurd left
     again_left place a b (junit.Input at fault) left = (left.0, left.1, again_part (junit.Input at fault) left.1 left.2, left.3)
     again_left place a b (junit.Changed at) left = (left.0, left.1, again_part (junit.Changed at) left.1 left.2, left.3)

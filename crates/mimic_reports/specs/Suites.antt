@@ -90,14 +90,14 @@ AreRead numbers input (junit.Changed place) entries = (ending : Ending) × IfSom
 AreRead numbers input (junit.Write fault) entries = IfSome input (HasEndedRows entries)
 
 -- these rows of a report come before the fault. If they are kept they are all there, and only the writer can have a fault
-abbrev pub AreBegun : {I : Type 0} → (I → Option (List ℕ)) → Numbers → SuiteRows I → JunitFault → List Entry → Type 0
-AreBegun remaining numbers (Kept rows) (junit.Write fault) entries = entries ≡ map entry_read rows.items
-AreBegun remaining numbers (Kept rows) other entries = ⊥
-AreBegun remaining numbers (Again input counts) fault entries = AreRead numbers (remaining input) fault entries
+abbrev pub AreRowsBefore : {I : Type 0} → (I → Option (List ℕ)) → Numbers → SuiteRows I → JunitFault → List Entry → Type 0
+AreRowsBefore remaining numbers (Kept rows) (junit.Write fault) entries = entries ≡ map entry_read rows.items
+AreRowsBefore remaining numbers (Kept rows) other entries = ⊥
+AreRowsBefore remaining numbers (Again input counts) fault entries = AreRead numbers (remaining input) fault entries
 
 -- the text is the start of this report, with the numbers that were read first, and its rows before the fault
 abbrev pub IsPart : {I : Type 0} → (I → Option (List ℕ)) → SuiteRead I → JunitFault → List ℕ → Type 0
-IsPart remaining suite fault text = (entries : List Entry) × AreBegun remaining (numbers_in suite) suite.rows fault entries
+IsPart remaining suite fault text = (entries : List Entry) × AreRowsBefore remaining (numbers_in suite) suite.rows fault entries
     × (text ≡ part_text suite.program.now (numbers_in suite) entries)
 
 -- the text is a part of the next report; or behind the last one, where only the writer can have a fault, the end of the document
@@ -108,7 +108,7 @@ IsNext remaining (suite ∷ suites) fault text = IsPart remaining suite fault te
 
 -- the text is a beginning of the document of these reports: the first `count` are whole, each as it was read, and what is next
 -- follows
-pub record IsBegun {I : Type 0} (remaining : I → Option (List ℕ)) (suites : List (SuiteRead I)) (count : ℕ) (fault : JunitFault) (text : List ℕ) : Type 0 where
+pub record IsDocumentBegun {I : Type 0} (remaining : I → Option (List ℕ)) (suites : List (SuiteRead I)) (count : ℕ) (fault : JunitFault) (text : List ℕ) : Type 0 where
   pub before : List (SuiteRead I)
   pub after : List (SuiteRead I)
   pub parts : suites ≡ before ++ after
@@ -123,14 +123,14 @@ pub record IsBegun {I : Type 0} (remaining : I → Option (List ℕ)) (suites : 
 
 -- with a fault of a report the document was appended up to it; with one of the writer a beginning of it; and nothing, if the
 -- numbers are too great
-abbrev pub LeftBy : {I : Type 0} → (I → Option (List ℕ)) → List (SuiteRead I) → Shown → Shown → JunitFault → Type 0
-LeftBy remaining suites old new junit.TooMany = IsTooGreat (total (map numbers_in suites)) × (new ≡ old)
-LeftBy remaining suites old new (junit.Input place fault) = (place < length suites) × (text : List ℕ)
-    × IsBegun remaining suites place (junit.Input place fault) text × Put old new text
-LeftBy remaining suites old new (junit.Changed place) = (place < length suites) × (text : List ℕ)
-    × IsBegun remaining suites place (junit.Changed place) text × Put old new text
-LeftBy remaining suites old new (junit.Write fault) = (count : ℕ) × (text : List ℕ)
-    × IsBegun remaining suites count (junit.Write fault) text × Stopped old new text
+abbrev pub DocumentLeftBy : {I : Type 0} → (I → Option (List ℕ)) → List (SuiteRead I) → Shown → Shown → JunitFault → Type 0
+DocumentLeftBy remaining suites old new junit.TooMany = IsTooGreat (total (map numbers_in suites)) × (new ≡ old)
+DocumentLeftBy remaining suites old new (junit.Input place fault) = (place < length suites) × (text : List ℕ)
+    × IsDocumentBegun remaining suites place (junit.Input place fault) text × Put old new text
+DocumentLeftBy remaining suites old new (junit.Changed place) = (place < length suites) × (text : List ℕ)
+    × IsDocumentBegun remaining suites place (junit.Changed place) text × Put old new text
+DocumentLeftBy remaining suites old new (junit.Write fault) = (count : ℕ) × (text : List ℕ)
+    × IsDocumentBegun remaining suites count (junit.Write fault) text × Stopped old new text
 
 -- the place of the report that the fault is in
 abbrev pub place_of : JunitFault → Option ℕ
@@ -142,7 +142,7 @@ place_of (junit.Write fault) = None
 -- what a call that writes these reports leaves: the document of all of them, in their order
 abbrev pub LeavesDocument : {I : Type 0} → (I → Option (List ℕ)) → List (SuiteRead I) → Shown → Shown → Result (Unit {0}) JunitFault → Type 0
 LeavesDocument remaining suites old new (Ok done) = (shown : List Suite) × AllZip (IsShown remaining) suites shown × Put old new (junit_text shown)
-LeavesDocument remaining suites old new (Err fault) = LeftBy remaining suites old new fault
+LeavesDocument remaining suites old new (Err fault) = DocumentLeftBy remaining suites old new fault
 
 -- ---- one report. No public clause names these words
 
@@ -158,11 +158,11 @@ pub record IsReadAgain (program : List ℕ) (numbers : Numbers) (input : Option 
   pub reading : IfSome input (IsReading shown.entries shown.ending)
 
 -- what is left of the report of this place with a fault, if these are its parts, and this is written of it as a whole
-abbrev pub HasLeft : (JunitFault → List ℕ → Type 0) → (Suite → Type 0) → ℕ → Shown → Shown → JunitFault → Type 0
-HasLeft Part Whole place old new junit.TooMany = ⊥
-HasLeft Part Whole place old new (junit.Input at fault) = (at ≡ place) × (text : List ℕ) × Part (junit.Input at fault) text
+abbrev pub SuiteLeftBy : (JunitFault → List ℕ → Type 0) → (Suite → Type 0) → ℕ → Shown → Shown → JunitFault → Type 0
+SuiteLeftBy Part Whole place old new junit.TooMany = ⊥
+SuiteLeftBy Part Whole place old new (junit.Input at fault) = (at ≡ place) × (text : List ℕ) × Part (junit.Input at fault) text
     × Put old new text
-HasLeft Part Whole place old new (junit.Changed at) = (at ≡ place) × (text : List ℕ) × Part (junit.Changed at) text
+SuiteLeftBy Part Whole place old new (junit.Changed at) = (at ≡ place) × (text : List ℕ) × Part (junit.Changed at) text
     × Put old new text
-HasLeft Part Whole place old new (junit.Write fault) = (text : List ℕ)
+SuiteLeftBy Part Whole place old new (junit.Write fault) = (text : List ℕ)
     × (Part (junit.Write fault) text ⊎ ((shown : Suite) × Whole shown × (text ≡ suite_text shown))) × Stopped old new text

@@ -7,7 +7,7 @@ ghost use Rattle.mimic_printer.specs.Sink.{HasFaultLeft, Put, Puts, shown};
 ghost use Rattle.mimic_events.specs.Contents.{entry_read};
 ghost use Rattle.mimic_reports.specs.Junit.{Suite as ShownSuite, case_text, ending_text, suite_text, total};
 ghost use Rattle.mimic_events.specs.Readings.{IsReading};
-ghost use Rattle.mimic_reports.specs.Suites.{HasLeft, IsPart, IsPartOf, IsReadAgain, IsShown, IsTooGreat, LeavesDocument, numbers_in, part_text};
+ghost use Rattle.mimic_reports.specs.Suites.{IsPart, IsPartOf, IsReadAgain, IsShown, IsTooGreat, LeavesDocument, SuiteLeftBy, numbers_in, part_text};
 ghost use Rattle.mimic_printer.specs.EscapeLaws.{EscapeLaws};
 ghost use Rattle.mimic_reports.specs.declared.junit.JunitFault.TheVariants.{Write as WriteStopped};
 
@@ -114,7 +114,7 @@ fn put_suite<I: Read + Drop, W: Write>(
     ensures { MatchResult result (λ _. (written : ShownSuite)
         × IsShown I.remaining suite.entry written
         × Put (shown W.contents sink.old) (shown W.contents sink.new) (suite_text written))
-        (HasLeft (IsPart I.remaining suite.entry) (IsShown I.remaining suite.entry) place
+        (SuiteLeftBy (IsPart I.remaining suite.entry) (IsShown I.remaining suite.entry) place
         (shown W.contents sink.old) (shown W.contents sink.new)) }
 {
     let numbers = suite.numbers();
@@ -200,7 +200,7 @@ fn put_counted<'a, I: Read + Drop, W: Write>(
     ensures { MatchResult result (λ _. (written : ShownSuite)
         × IsReadAgain program.now numbers.now (I.remaining input) written
         × Put (shown W.contents sink.old) (shown W.contents sink.new) (suite_text written))
-        (HasLeft (IsPartOf program.now numbers.now (I.remaining input))
+        (SuiteLeftBy (IsPartOf program.now numbers.now (I.remaining input))
         (IsReadAgain program.now numbers.now (I.remaining input)) place
         (shown W.contents sink.old) (shown W.contents sink.new)) }
 {
@@ -228,7 +228,7 @@ fn put_again<'a, I: Read + Drop, W: Write>(
         × IfSome (I.remaining input) (IsReading entries x.1)
         × Put (shown W.contents sink.old) (shown W.contents sink.new)
         (part_text program.now numbers.now entries))
-        (HasLeft (IsPartOf program.now numbers.now (I.remaining input))
+        (SuiteLeftBy (IsPartOf program.now numbers.now (I.remaining input))
         (IsReadAgain program.now numbers.now (I.remaining input)) place
         (shown W.contents sink.old) (shown W.contents sink.new)) }
 {

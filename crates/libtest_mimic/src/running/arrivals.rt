@@ -4,7 +4,7 @@ ghost use Rattle.mimic_printer.specs.Report.{rows_text};
 ghost use Rattle.mimic_printer.specs.Row.{label_of, rows_at};
 ghost use Rattle.mimic_printer.specs.Sink.{HasFaultLeft, Put, Puts, Shown, Writes, faults_of, shown};
 ghost use Rattle.mimic_trial.specs.Places.{places_of};
-ghost use Rattle.libtest_mimic.specs.Steps.{told_text};
+ghost use Rattle.libtest_mimic.specs.Steps.{arrived_text};
 
 use mimic_pool::{Arrival, Desk, Inbox};
 use mimic_printer::{Printer, Sink, WriteFault};
@@ -24,9 +24,9 @@ pub(super) fn write_arrivals<W: Write, T: Wait>(
     requires room { HasFaultLeft sink.old }
     requires places { desk.old.places ≡ length infos.now }
     ensures places { desk.new.places ≡ desk.old.places }
-    ensures told { (base : Shown)
-        → Put base (shown W.contents sink.old) (told_text printer.now infos.now desk.old)
-        → Writes base (shown W.contents sink.new) (told_text printer.now infos.now desk.new) result }
+    ensures arrived { (base : Shown)
+        → Put base (shown W.contents sink.old) (arrived_text printer.now infos.now desk.old)
+        → Writes base (shown W.contents sink.new) (arrived_text printer.now infos.now desk.new) result }
 {
     for _ in rt.forever() {
         let Some((place, outcome)) = inbox.next(rt) else {
@@ -50,9 +50,9 @@ fn write_arrival<W: Write>(
     requires places { desk.old.places ≡ length infos.now }
     ensures places { desk.new.places ≡ desk.old.places }
     ensures faults { OnOk result (faults_of sink.new ≡ faults_of sink.old) }
-    ensures told { (base : Shown)
-        → Put base (shown W.contents sink.old) (told_text printer.now infos.now desk.old)
-        → Writes base (shown W.contents sink.new) (told_text printer.now infos.now desk.new) result }
+    ensures arrived { (base : Shown)
+        → Put base (shown W.contents sink.old) (arrived_text printer.now infos.now desk.old)
+        → Writes base (shown W.contents sink.new) (arrived_text printer.now infos.now desk.new) result }
 {
     let number = desk.order().len();
     match desk.arrive(place, outcome) {

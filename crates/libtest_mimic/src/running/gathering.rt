@@ -9,7 +9,7 @@ ghost use Rattle.mimic_pool.specs.Share.{assigned_from};
 ghost use Rattle.mimic_pool.specs.Supply.{Runs, runs_all};
 ghost use Rattle.mimic_pool.specs.declared.share.Assigned.{Assigned};
 ghost use Rattle.libtest_mimic.specs.Gathering.{IsGathered, IsOfRows, IsReadyFor, Completes, GatheringRefused};
-ghost use Rattle.libtest_mimic.specs.Steps.{told_text};
+ghost use Rattle.libtest_mimic.specs.Steps.{arrived_text};
 
 use crate::running::RunError;
 use crate::running::arrivals::{write_arrivals, write_missing};
@@ -51,7 +51,7 @@ pub fn gather_rows<R: Task + Send + 'static, W: Write, T: Spawner + 'static>(
         → Runs R.gives started.crew test_mode (assigned_from 0 runners flags)
         → MatchResult result
         (λ desk. IsGathered R.gives test_mode (assigned_from 0 runners flags) desk
-        × Put (shown W.contents sink.old) (shown W.contents sink.new) (told_text printer.now infos.now desk))
+        × Put (shown W.contents sink.old) (shown W.contents sink.new) (arrived_text printer.now infos.now desk))
         (λ e. GatheringRefused R.gives test_mode (assigned_from 0 runners flags) (runs_all started.crew)
         printer.now infos.now (shown W.contents sink.old) (shown W.contents sink.new) e) }
     ensures refused { IfErr result IsOfRows }
@@ -65,11 +65,11 @@ pub fn gather_rows<R: Task + Send + 'static, W: Write, T: Spawner + 'static>(
     let written = write_arrivals(rt, printer, infos, inbox, &mut desk, sink);
     let whole = written.is_ok();
     let joined = join_all(rt, crew, whole);
-    let told = desk.order().len();
+    let arrived = desk.order().len();
     complete(&mut desk, joined, infos.len(), room, whole)?;
     // A write fault waits until here, since an outcome that differs is reported in its place.
     written?;
-    write_missing(printer, infos, &desk, told, sink)?;
+    write_missing(printer, infos, &desk, arrived, sink)?;
     Ok(desk)
 }
 

@@ -6,7 +6,7 @@ ghost use Rattle.mimic_pool.specs.Share.{assigned_from};
 ghost use Rattle.mimic_pool.specs.Supply.{Holds};
 ghost use Rattle.libtest_mimic.specs.Gathering.{IsGathered};
 ghost use Rattle.libtest_mimic.specs.Run.{OnNothingWritten, Reports};
-ghost use Rattle.libtest_mimic.specs.Steps.{AreSupplied, RowsRefused, selected_suite, titled_told};
+ghost use Rattle.libtest_mimic.specs.Steps.{AreSupplied, RowsRefused, selected_suite, titled_arrived};
 ghost use Rattle.libtest_mimic.specs.Stopwatch.{IsRunning};
 
 use crate::running::RunError;
@@ -118,7 +118,7 @@ fn write_rows<R: Task + Send + 'static, W: Write, T: Spawner + 'static>(
         → Holds R.can_run supplied.supply (assigned_from 0 runners flags)
         → MatchResult result
         (λ desk. IsGathered R.gives test_mode (assigned_from 0 runners flags) desk
-        × Put (shown W.contents sink.old) (shown W.contents sink.new) (titled_told printer.now infos.now desk))
+        × Put (shown W.contents sink.old) (shown W.contents sink.new) (titled_arrived printer.now infos.now desk))
         (λ e. RowsRefused R.gives test_mode (assigned_from 0 runners flags) printer.now infos.now
         (shown W.contents sink.old) (shown W.contents sink.new) e) }
     ensures unwritten { OnNothingWritten result (sink.new ≡ sink.old) }

@@ -92,71 +92,100 @@ fn suites_of<'a>(
     Ok(vec![in alloc; suite?]?)
 }
 
-// Returns what a call that writes no rows wrote, and the text of the fault.
-fn write_text(
-    alloc: Global,
-    call: Call,
-    writer: FaultyWriter,
-) -> Result<(FaultyWriter, Option<String>), Fail> {
-    let mut sink = Sink::new(writer);
-    let fault = match call {
-        Call::Pieces => fault_of(alloc, put_pieces(&mut sink, &[SHORT, SHORT])),
-        Call::LongPieces => fault_of(alloc, put_pieces(&mut sink, &[SHORT, LONG, SHORT])),
-        Call::Extent => {
-            let RowsRead { rows: _, ending } = read(alloc, &["what\n"])?;
-            let Ending::Cut(stop) = ending else {
-                return Err("a whole report".into());
-            };
-            fault_of(alloc, stop.put_extent(&mut sink, 0))
-        }
-        _ => fault_of(
-            alloc,
-            put_escaped(&mut sink, b"a\x1bb\x1bc", Place::Terminal),
-        ),
-    }?;
-    Ok((sink.into_inner(), fault))
+// What a call wrote, and the text of the fault.
+type Written = Result<(FaultyWriter, Option<String>), Fail>;
+
+// What a call writes to a sink over the writer. Each call has a function of its own, which promises nothing: a proof is quick
+// that has one contract before it.
+macro_rules! written {
+    ($alloc:expr, $writer:expr, $sink:ident => $call:expr) => {{
+        let mut $sink = Sink::new($writer);
+        let fault = fault_of($alloc, $call)?;
+        Ok(($sink.into_inner(), fault))
+    }};
 }
 
-// Returns what the call wrote, and the text of the fault.
-fn write(
-    alloc: Global,
-    call: Call,
-    writer: FaultyWriter,
-) -> Result<(FaultyWriter, Option<String>), Fail> {
+fn pieces(alloc: Global, pieces: &[Piece<'_>], writer: FaultyWriter) -> Written {
+    written!(alloc, writer, sink => put_pieces(&mut sink, pieces))
+}
+
+fn escaped(alloc: Global, writer: FaultyWriter) -> Written {
+    written!(alloc, writer, sink => put_escaped(&mut sink, b"a\x1bb\x1bc", Place::Terminal))
+}
+
+fn extent(alloc: Global, writer: FaultyWriter) -> Written {
+    let RowsRead { rows: _, ending } = read(alloc, &["what\n"])?;
+    let Ending::Cut(stop) = ending else {
+        return Err("a whole report".into());
+    };
+    written!(alloc, writer, sink => stop.put_extent(&mut sink, 0))
+}
+
+fn whole(alloc: Global, writer: FaultyWriter) -> Written {
+    let report = report(alloc)?;
+    written!(alloc, writer, sink => write_report(&report, &mut sink))
+}
+
+fn joined(alloc: Global, text: &str, writer: FaultyWriter) -> Written {
+    let inputs = vec![in alloc; Slow::of(text)]?;
+    written!(alloc, writer, sink => join_reports(alloc, inputs, 1, false, &mut sink))
+}
+
+fn shown(alloc: Global, writer: FaultyWriter) -> Written {
+    let report = report(alloc)?;
+    written!(alloc, writer, sink => show_report(alloc, report, false, &mut sink))
+}
+
+fn failures(alloc: Global, writer: FaultyWriter) -> Written {
+    let report = report(alloc)?;
+    written!(alloc, writer, sink => show_failures(alloc, report, &mut sink))
+}
+
+fn page(alloc: Global, writer: FaultyWriter) -> Written {
+    let rows = read(alloc, AFTER)?;
+    written!(alloc, writer, sink => write_page("a", &rows, &mut sink))
+}
+
+fn junit(alloc: Global, text: &str, again: bool, writer: FaultyWriter) -> Written {
+    let suites = suites_of(alloc, text, again)?;
+    written!(alloc, writer, sink => write_junit(alloc, suites, &mut sink))
+}
+
+fn comparison(alloc: Global, writer: FaultyWriter) -> Written {
+    let (old, new) = (read(alloc, BEFORE)?, read(alloc, AFTER)?);
+    written!(alloc, writer, sink => write_comparison(alloc, &old, &new, &mut sink))
+}
+
+fn unexpected(alloc: Global, text: &str, writer: FaultyWriter) -> Written {
+    let inputs = vec![in alloc; Slow::of(text)]?;
+    written!(alloc, writer, sink => write_unexpected(alloc, &[], inputs, false, &mut sink))
+}
+
+fn watched(alloc: Global, text: &str, is_live: bool, writer: FaultyWriter) -> Written {
+    let mut input = Slow::of(text);
+    written!(alloc, writer, sink => watch(alloc, &mut input, &mut sink, &Stopped, is_live))
+}
+
+fn write(alloc: Global, call: Call, writer: FaultyWriter) -> Written {
     let text = text_of(alloc, AFTER)?;
-    let mut input = Slow::of(text.as_str());
-    let mut sink = Sink::new(writer);
-    let fault = match call {
-        Call::Pieces | Call::LongPieces | Call::Escaped | Call::Extent => {
-            return write_text(alloc, call, sink.into_inner());
-        }
-        Call::Report => fault_of(alloc, write_report(&report(alloc)?, &mut sink)),
-        Call::Joined => {
-            let inputs = vec![in alloc; input]?;
-            fault_of(alloc, join_reports(alloc, inputs, 1, false, &mut sink))
-        }
-        Call::Shown => fault_of(alloc, show_report(alloc, report(alloc)?, false, &mut sink)),
-        Call::Failures => fault_of(alloc, show_failures(alloc, report(alloc)?, &mut sink)),
-        Call::Page => fault_of(alloc, write_page("a", &read(alloc, AFTER)?, &mut sink)),
-        Call::Junit | Call::JunitAgain => {
-            let suites = suites_of(alloc, text.as_str(), call == Call::JunitAgain)?;
-            fault_of(alloc, write_junit(alloc, suites, &mut sink))
-        }
-        Call::Comparison => {
-            let (old, new) = (read(alloc, BEFORE)?, read(alloc, AFTER)?);
-            fault_of(alloc, write_comparison(alloc, &old, &new, &mut sink))
-        }
-        Call::Unexpected => {
-            let inputs = vec![in alloc; input]?;
-            fault_of(
-                alloc,
-                write_unexpected(alloc, &[], inputs, false, &mut sink),
-            )
-        }
-        Call::Watch => fault_of(alloc, watch(alloc, &mut input, &mut sink, &Stopped, false)),
-        Call::LiveWatch => fault_of(alloc, watch(alloc, &mut input, &mut sink, &Stopped, true)),
-    }?;
-    Ok((sink.into_inner(), fault))
+    let text = text.as_str();
+    match call {
+        Call::Pieces => pieces(alloc, &[SHORT, SHORT], writer),
+        Call::LongPieces => pieces(alloc, &[SHORT, LONG, SHORT], writer),
+        Call::Escaped => escaped(alloc, writer),
+        Call::Extent => extent(alloc, writer),
+        Call::Report => whole(alloc, writer),
+        Call::Joined => joined(alloc, text, writer),
+        Call::Shown => shown(alloc, writer),
+        Call::Failures => failures(alloc, writer),
+        Call::Page => page(alloc, writer),
+        Call::Junit => junit(alloc, text, false, writer),
+        Call::JunitAgain => junit(alloc, text, true, writer),
+        Call::Comparison => comparison(alloc, writer),
+        Call::Unexpected => unexpected(alloc, text, writer),
+        Call::Watch => watched(alloc, text, false, writer),
+        Call::LiveWatch => watched(alloc, text, true, writer),
+    }
 }
 
 // A clock that stays.

@@ -1,10 +1,10 @@
 use Rattle.std.proofs.Common.{◌≡◌, ◌+◌, ◌++◌, ◌∷◌, [], arith, cond, refl, suc}
 use Rattle.mimic_events.specs.Contents.{entry_read}
 use Rattle.mimic_events.proofs.Results.{on_error}
-use Rattle.mimic_events.proofs.RowSteps.{rows_before}
+use Rattle.mimic_events.proofs.RowSteps.{none_ended, rows_before}
 use Rattle.mimic_printer.proofs.Appending.{Put-refl}
 use Rattle.mimic_printer.specs.declared.sink.OutputFault.TheVariants.{OutOfMemory}
-use Rattle.mimic_expect.proofs.Judged.{judges_then, none_ended, room, row_left}
+use Rattle.mimic_expect.proofs.Judged.{judges_then, room, row_left}
 use Rattle.mimic_expect.proofs.inputs.judge_input.Goals as goal
 use Rattle.mimic_expect.proofs.inputs.judge_input.Goals.{then-branch, else-branch}
 

@@ -7,4 +7,4 @@ pub returns : goal.returns
 returns c =
     let a = c.in_ok-add_findings.ensures in
     rw (c.in_ok-add_failures.ensures, c.deref.ensures.value, c.in_ok-left.ensures)
-    (rw (read_left (λ row. entry_read row.now) c.add_findings.new.others, a.1, a.0, c.in_ok-pool.ensures, c.new-unexpected.ensures.items) refl)
+    (rw (read_left (λ row. entry_read row.now) c.add_findings.new.others, a.1, a.0, c.in_ok-items.ensures, c.new-unexpected.ensures.items) refl)

@@ -8,6 +8,6 @@ pub returns : goal.returns
 returns c =
     let u = c.in_ok-unmet.ensures in
     let failed = entries_read c.args.failed.now in (
-      rw (c.in_ok-left.ensures, read_left (λ e. expected_read e.now) c.unmet_in.new.pool, u.1, c.in_ok-pool.ensures) refl,
-      rw (← c.in_ok-pool.ensures) u.0,
+      rw (c.in_ok-left.ensures, read_left (λ e. expected_read e.now) c.unmet_in.new.items, u.1, c.in_ok-items.ensures) refl,
+      rw (← c.in_ok-items.ensures) u.0,
     )

@@ -5,6 +5,6 @@ use Rattle.mimic_expect.proofs.judgement.unmet_in.Given as goal
 
 abbrev pub invariant-loop-row : goal.invariant-loop-row
 invariant-loop-row l = record {
-  unmet : entries_read l.unmet.items ≡ unmet_by (lines_left l.fn.pool) (entries_read (take l.row-index l.failed));
-  left : lines_left l.pool ≡ left_by (lines_left l.fn.pool) (entries_read (take l.row-index l.failed));
+  unmet : entries_read l.unmet.items ≡ unmet_by (lines_left l.fn.items) (entries_read (take l.row-index l.failed));
+  left : lines_left l.items ≡ left_by (lines_left l.fn.items) (entries_read (take l.row-index l.failed));
 }

@@ -2,13 +2,13 @@ use Rattle.std.proofs.Common.{◌∙◌, ◌++◌, ◌∷◌, [], append-nil, in
 use Rattle.mimic_printer.specs.Sink.{Put, Stopped}
 use Rattle.mimic_printer.proofs.Appending.{Put-Stopped, Put-trans, Stopped-more}
 use Rattle.mimic_events.specs.Contents.{entry_read}
-use Rattle.mimic_events.proofs.RowSteps.{rows_before}
+use Rattle.mimic_events.proofs.RowSteps.{none_ended, rows_before}
 use Rattle.mimic_events.proofs.Results.{on_error}
 use Rattle.mimic_reports.specs.declared.junit.JunitFault.TheVariants.{Write}
 use Rattle.mimic_reports.specs.Junit.{suite_start}
 use Rattle.mimic_reports.specs.Suites.{part_text}
 use Rattle.mimic_reports.proofs.RowCounts.{has_room, push}
-use Rattle.mimic_reports.proofs.SuiteText.{none_ended, part_more}
+use Rattle.mimic_reports.proofs.SuiteText.{part_more}
 use Rattle.mimic_reports.proofs.junit.put_again.Goals as goal
 
 pub returns-in_err-put_suite_start : goal.returns-in_err-put_suite_start

@@ -5,7 +5,7 @@ use Rattle.mimic_printer.specs.Report.{row_text, rows_text}
 use Rattle.mimic_printer.specs.Row.{label_of, row_of, rows_at}
 use Rattle.mimic_printer.specs.Sink.{Put, Stopped, shown}
 use Rattle.mimic_printer.proofs.Appending.{Put-next, Puts-stopped, Stopped-next}
-use Rattle.libtest_mimic.proofs.Told.{count_rows_at, place_below, row_from}
+use Rattle.libtest_mimic.proofs.ArrivedRows.{count_rows_at, place_below, row_from}
 use Rattle.libtest_mimic.proofs.running.arrivals.write_missing.Goals as goal
 
 pub offset_bounds-infos-place : goal.offset_bounds-infos-place

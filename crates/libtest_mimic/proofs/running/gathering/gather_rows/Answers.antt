@@ -8,9 +8,9 @@ use Rattle.mimic_pool.specs.Share.{assigned_from}
 use Rattle.mimic_pool.specs.Supply.{Runs, runs_all}
 use Rattle.mimic_printer.specs.Sink.{Put, Writes, shown}
 use Rattle.libtest_mimic.specs.Gathering.{Gathered}
-use Rattle.libtest_mimic.specs.Steps.{told_text}
+use Rattle.libtest_mimic.specs.Steps.{arrived_text}
 use Rattle.libtest_mimic.proofs.Arranged.{order_below}
-use Rattle.libtest_mimic.proofs.Gathering.{completed_gathered, differs_refused, nothing_told, on_error, or_true, outcomes_count, put_all, stopped_missing, told_refused}
+use Rattle.libtest_mimic.proofs.Gathering.{completed_gathered, differs_refused, nothing_arrived, on_error, or_true, outcomes_count, put_all, stopped_missing, arrival_refused}
 use Rattle.libtest_mimic.proofs.Returned.{all_gathered}
 use Rattle.libtest_mimic.proofs.running.gathering.gather_rows.Given.{Over}
 use Rattle.libtest_mimic.proofs.running.gathering.gather_rows.Goals.{After-write_arrivals-written, In_ok-written}
@@ -21,19 +21,19 @@ places : (g : Over) (c : After-write_arrivals-written g) → c.write_arrivals-wr
 places g c = c.write_arrivals-written.ensures.places ∙ ap (λ d. d.places) c.requires.ready.desk
 
 -- the rows that arrived were written, or a beginning of them
-told : (g : Over) (c : After-write_arrivals-written g)
-    → Writes (shown g.W.Write.contents c.args.sink.now) (shown g.W.Write.contents c.write_arrivals-written.new.sink) (told_text c.args.printer.now c.args.infos.now c.write_arrivals-written.new.desk) c.write_arrivals-written.result
-told g c =
+arrived : (g : Over) (c : After-write_arrivals-written g)
+    → Writes (shown g.W.Write.contents c.args.sink.now) (shown g.W.Write.contents c.write_arrivals-written.new.sink) (arrived_text c.args.printer.now c.args.infos.now c.write_arrivals-written.new.desk) c.write_arrivals-written.result
+arrived g c =
     let before = shown g.W.Write.contents c.args.sink.now in
-    c.write_arrivals-written.ensures.told before (nothing_told c.args.printer.now c.args.infos.now _ _ c.requires.ready.desk before)
+    c.write_arrivals-written.ensures.arrived before (nothing_arrived c.args.printer.now c.args.infos.now _ _ c.requires.ready.desk before)
 
 -- if no write failed, they were written
-all_told : (g : Over) (c : In_ok-written g)
-    → Put (shown g.W.Write.contents c.args.sink.now) (shown g.W.Write.contents c.write_arrivals-written.new.sink) (told_text c.args.printer.now c.args.infos.now c.write_arrivals-written.new.desk)
-all_told g c =
+all_arrived : (g : Over) (c : In_ok-written g)
+    → Put (shown g.W.Write.contents c.args.sink.now) (shown g.W.Write.contents c.write_arrivals-written.new.sink) (arrived_text c.args.printer.now c.args.infos.now c.write_arrivals-written.new.desk)
+all_arrived g c =
     let before = shown g.W.Write.contents c.args.sink.now in
-    subst (λ r. Writes before (shown g.W.Write.contents c.write_arrivals-written.new.sink) (told_text c.args.printer.now c.args.infos.now c.write_arrivals-written.new.desk) r)
-    c.in_ok-written.was (c.write_arrivals-written.ensures.told before (nothing_told c.args.printer.now c.args.infos.now _ _ c.requires.ready.desk before))
+    subst (λ r. Writes before (shown g.W.Write.contents c.write_arrivals-written.new.sink) (arrived_text c.args.printer.now c.args.infos.now c.write_arrivals-written.new.desk) r)
+    c.in_ok-written.was (c.write_arrivals-written.ensures.arrived before (nothing_arrived c.args.printer.now c.args.infos.now _ _ c.requires.ready.desk before))
 
 -- then each trial has an outcome
 gathered : (g : Over) (c : In_ok-written g) (mode : Bool) (rs : List _) (bs : List Bool) → length rs ≡ length c.args.infos.now → length bs ≡ length c.args.infos.now
@@ -52,21 +52,21 @@ returns-in_err-complete-clause-rows g c = λ rs bs mode runners flags runs.
     let arrivals = (goal.at.returns-in_err-complete-clause-rows g c).After-write_arrivals-written in
     on_error c.from_residual.result _ _ _ c.from_residual.ensures.1
     (differs_refused g.R.Task.gives mode rs bs (runs_all c.args.started.crew) c.is_ok-whole.result c.write_arrivals-written.result c.args.printer.now c.args.infos.now _ _ _ _ (places g arrivals)
-    c.is_ok-whole.ensures.value c.order-told.ensures.whole (told g arrivals) (c.join_all-joined.ensures.joined mode _ runs) _ c.in_err-complete.ensures.completed)
+    c.is_ok-whole.ensures.value c.order-arrived.ensures.whole (arrived g arrivals) (c.join_all-joined.ensures.joined mode _ runs) _ c.in_err-complete.ensures.completed)
 
 pub returns-in_err-written-clause-rows : goal.returns-in_err-written-clause-rows
 returns-in_err-written-clause-rows g c = λ rs bs mode runners flags runs.
     let arrivals = (goal.at.returns-in_err-written-clause-rows g c).After-write_arrivals-written in
     let before = shown g.W.Write.contents c.args.sink.now in
-    let stopped = subst (λ r. Writes before (shown g.W.Write.contents c.write_arrivals-written.new.sink) (told_text c.args.printer.now c.args.infos.now c.write_arrivals-written.new.desk) r) c.in_err-written.was (told g arrivals) in
+    let stopped = subst (λ r. Writes before (shown g.W.Write.contents c.write_arrivals-written.new.sink) (arrived_text c.args.printer.now c.args.infos.now c.write_arrivals-written.new.desk) r) c.in_err-written.was (arrived g arrivals) in
     let part : c.is_ok-whole.result ≡ false = c.is_ok-whole.ensures.value ∙ ap is_ok c.in_err-written.was in
     on_error c.from_residual-in_err-written.result _ _ _ c.from_residual-in_err-written.ensures.1
-    (told_refused g.R.Task.gives mode rs bs (runners ∙ sym flags) c.args.printer.now c.args.infos.now (runs_all c.args.started.crew) c.is_ok-whole.result _ _ _ c.in_ok-complete.ensures.completed part
+    (arrival_refused g.R.Task.gives mode rs bs (runners ∙ sym flags) c.args.printer.now c.args.infos.now (runs_all c.args.started.crew) c.is_ok-whole.result _ _ _ c.in_ok-complete.ensures.completed part
     (c.join_all-joined.ensures.joined mode _ runs) (places g arrivals ∙ sym runners) before _ stopped)
 
 pub write_missing-requires-clause-room : goal.write_missing-requires-clause-room
 write_missing-requires-clause-room g c =
-    let put = all_told g (goal.at.write_missing-requires-clause-room g c).In_ok-written in
+    let put = all_arrived g (goal.at.write_missing-requires-clause-room g c).In_ok-written in
     omega (arith, put.faults, c.requires.room)
 
 pub write_missing-requires-clause-places : goal.write_missing-requires-clause-places
@@ -78,30 +78,30 @@ pub write_missing-requires-clause-first : goal.write_missing-requires-clause-fir
 write_missing-requires-clause-first g c =
     let old = c.write_arrivals-written.new.desk.rows in
     let done = c.in_ok-complete.ensures.completed in
-    omega (arith, ap length c.order-told.ensures.places, length-map old (λ r. r.0), ap length done.rows, length-append old done.missing)
+    omega (arith, ap length c.order-arrived.ensures.places, length-map old (λ r. r.0), ap length done.rows, length-append old done.missing)
 
 pub returns-in_err-write_missing-clause-rows : goal.returns-in_err-write_missing-clause-rows
 returns-in_err-write_missing-clause-rows g c = λ rs bs mode runners flags runs.
     let whole = (goal.at.returns-in_err-write_missing-clause-rows g c).In_ok-written in
     let done = c.in_ok-complete.ensures.completed in
-    let count = ap length c.order-told.ensures.places ∙ length-map c.write_arrivals-written.new.desk.rows (λ r. r.0) in
+    let count = ap length c.order-arrived.ensures.places ∙ length-map c.write_arrivals-written.new.desk.rows (λ r. r.0) in
     on_error c.from_residual-in_err-write_missing.result _ _ _ c.from_residual-in_err-write_missing.ensures.1 (
       c.complete.new.desk.rows,
       [],
       all_gathered g.R.Task.gives mode (assigned_from 0 rs bs) c.complete.new.desk.rows _ done.returned (gathered g whole mode rs bs runners flags runs),
       (λ _. refl),
-      stopped_missing c.args.printer.now c.args.infos.now _ _ _ _ done _ _ _ (all_told g whole) _ count c.in_err-write_missing.ensures,
+      stopped_missing c.args.printer.now c.args.infos.now _ _ _ _ done _ _ _ (all_arrived g whole) _ count c.in_err-write_missing.ensures,
     )
 
 pub returns-clause-rows : goal.returns-clause-rows
 returns-clause-rows g c = λ rs bs mode runners flags runs.
     let whole = (goal.at.returns-clause-rows g c).In_ok-written in
     let done = c.in_ok-complete.ensures.completed in
-    let count = ap length c.order-told.ensures.places ∙ length-map c.write_arrivals-written.new.desk.rows (λ r. r.0) in (
+    let count = ap length c.order-arrived.ensures.places ∙ length-map c.write_arrivals-written.new.desk.rows (λ r. r.0) in (
       record {
         outcomes = put_each (map rows_in c.join_all-joined.result.items) done.outcomes;
         gathered = gathered g whole mode rs bs runners flags runs;
         rows = done.returned;
       },
-      put_all c.args.printer.now c.args.infos.now _ _ _ _ done _ _ _ (all_told g whole) _ count c.in_ok-write_missing.ensures,
+      put_all c.args.printer.now c.args.infos.now _ _ _ _ done _ _ _ (all_arrived g whole) _ count c.in_ok-write_missing.ensures,
     )

@@ -1,7 +1,7 @@
 use Rattle.std.proofs.Common.{◌≡◌, map, take}
 use Rattle.mimic_events.specs.Key.{key_read}
-use Rattle.mimic_expect.specs.Pool.{ArePlaces, left_of}
-use Rattle.mimic_expect.proofs.pool.Pool.new.Given as goal
+use Rattle.mimic_expect.specs.KeyedItems.{ArePlaces, left_of}
+use Rattle.mimic_expect.proofs.keyed_items.KeyedItems.new.Given as goal
 
 abbrev pub invariant-loop-key : goal.invariant-loop-key
 invariant-loop-key g l = record {

@@ -13,7 +13,7 @@ use Rattle.mimic_pool.specs.declared.desk.Arrival.TheVariants.{First, Again, Str
 use Rattle.mimic_printer.specs.declared.Printer.{Printer}
 use Rattle.mimic_printer.specs.Report.{row_text, rows_text}
 use Rattle.mimic_printer.specs.Row.{Label, PrintedRow, label_at, label_of, row_of, rows_at}
-use Rattle.libtest_mimic.specs.Steps.{told_text}
+use Rattle.libtest_mimic.specs.Steps.{arrived_text}
 
 -- ---- a first arrival
 
@@ -56,12 +56,12 @@ row_alone p infos place o info label =
     append-nil (row_text p (record { label = label_at (map label_of infos) place; outcome = o })) ∙ ap (λ (l : Label). row_text p (record { label = l; outcome = o })) label
 
 -- one more row that was reported
-pub told_more : (p : Printer) (infos : List TestInfo) (old new : Arrived) (place : ℕ) (o : Outcome) (info : TestInfo)
-    → new.rows ≡ old.rows ++ (place, o) ∷ [] → label_at (map label_of infos) place ≡ label_of info → told_text p infos new ≡ told_text p infos old ++ row_text p (row_of info o)
-told_more p infos old new place o info rows label =
+pub arrived_more : (p : Printer) (infos : List TestInfo) (old new : Arrived) (place : ℕ) (o : Outcome) (info : TestInfo)
+    → new.rows ≡ old.rows ++ (place, o) ∷ [] → label_at (map label_of infos) place ≡ label_of info → arrived_text p infos new ≡ arrived_text p infos old ++ row_text p (row_of info o)
+arrived_more p infos old new place o info rows label =
     ap (λ l. rows_text p (rows_at (map label_of infos) l)) rows
     ∙ rows_joined p (map label_of infos) old.rows ((place, o) ∷ [])
-    ∙ ap (λ l. told_text p infos old ++ l) (row_alone p infos place o info label)
+    ∙ ap (λ l. arrived_text p infos old ++ l) (row_alone p infos place o info label)
 
 pub slice_get-at : (os : List Outcome) (p : ℕ) (o : Outcome) → p < length os → o ≡ slice_index_or os p o → slice_get os p ≡ Some o
 slice_get-at [] p o low e = absurd (omega arith)

@@ -3,7 +3,7 @@ ghost use Rattle.std.specs.Prelude.{◌≡◌, ◌∷◌, [], ◌++◌, IfOk, Ma
 ghost use Rattle.std.specs.Map.{lookup, remove_entry};
 ghost use Rattle.mimic_events.specs.Key.{is_same, key_read, same_key};
 ghost use Rattle.mimic_events.specs.declared.key.Key.{Key as Found};
-ghost use Rattle.mimic_expect.specs.Pool.{places_at};
+ghost use Rattle.mimic_expect.specs.KeyedItems.{places_at};
 
 use mimic_events::Key;
 use std::alloc::{AllocError, Global};
@@ -14,29 +14,32 @@ use std::marker::Model;
 //
 // Contracts see those that are left, each with its key.
 #[derive(Drop)]
-pub(crate) struct Pool<'a, T: Copy> {
+pub(crate) struct KeyedItems<'a, T: Copy> {
     // The items, each with its key, and whether it is left.
     items: Vec<(Key<'a>, T, bool)>,
     // The places of those that are left with a key, in their order.
     places: HashMap<Key<'a>, VecDeque<usize>>,
 }
 
-impl<'a, T: Copy> Model for Pool<'a, T> {
+impl<'a, T: Copy> Model for KeyedItems<'a, T> {
     ghost use Rattle.std.specs.Prelude.{List};
     ghost use Rattle.mimic_events.specs.Key.{Key as KeyRead};
 
     ghost Value = { List (KeyRead × T) };
 
-    ghost use Rattle.mimic_expect.specs.Pool.{ArePlaces, left_of};
+    ghost use Rattle.mimic_expect.specs.KeyedItems.{ArePlaces, left_of};
 
-    ghost view = { λ pool. left_of pool.items.items };
+    ghost view = { λ keyed. left_of keyed.items.items };
 
-    ghost invariant = { λ pool. ArePlaces pool.places pool.items.items };
+    ghost invariant = { λ keyed. ArePlaces keyed.places keyed.items.items };
 }
 
-impl<'a, T: Copy> Pool<'a, T> {
-    pub(crate) fn new(alloc: Global, items: &[(Key<'a>, T)]) -> Result<Pool<'a, T>, AllocError>
-        ensures { IfOk result (λ pool. pool ≡ map (λ x. (key_read x.0, x.1)) items.now) }
+impl<'a, T: Copy> KeyedItems<'a, T> {
+    pub(crate) fn new(
+        alloc: Global,
+        items: &[(Key<'a>, T)],
+    ) -> Result<KeyedItems<'a, T>, AllocError>
+        ensures { IfOk result (λ keyed. keyed ≡ map (λ x. (key_read x.0, x.1)) items.now) }
     {
         let mut all = Vec::new(alloc);
         let mut places = HashMap::new(alloc);
@@ -44,7 +47,7 @@ impl<'a, T: Copy> Pool<'a, T> {
             add_place(alloc, &mut places, *key, all.len())?;
             all.push((*key, *item, true))?;
         }
-        Ok(Pool { items: all, places })
+        Ok(KeyedItems { items: all, places })
     }
 
     // Takes the first one left with the key.

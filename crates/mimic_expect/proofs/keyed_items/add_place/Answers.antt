@@ -1,7 +1,7 @@
 use Rattle.std.proofs.Common.{ap, sym}
 use Rattle.std.specs.Option.{is_some}
-use Rattle.mimic_expect.proofs.Pools.{place_added}
-use Rattle.mimic_expect.proofs.pool.add_place.Goals as goal
+use Rattle.mimic_expect.proofs.KeyedPlaces.{place_added}
+use Rattle.mimic_expect.proofs.keyed_items.add_place.Goals as goal
 
 pub returns-in-Some : goal.returns-in-Some
 returns-in-Some c =

@@ -9,7 +9,7 @@ use Rattle.std.proofs.lemmas.List.Elements.{filter-append}
 use Rattle.mimic_events.specs.Key.{Key, is_same, key_read, same_key}
 use Rattle.mimic_events.specs.declared.key.Key.{Key as Found}
 use Rattle.mimic_events.proofs.Keys.{same_key-decides, same_key-symm}
-use Rattle.mimic_expect.specs.Pool.{ArePlaces, left_of, places_at, places_of, queued}
+use Rattle.mimic_expect.specs.KeyedItems.{ArePlaces, left_of, places_at, places_of, queued}
 use Rattle.mimic_expect.proofs.Meeting.{keeps}
 
 shifted : (b : Bool) (n : ℕ) → map suc (cond b (n ∷ []) []) ≡ cond b (suc n ∷ []) []

@@ -2,8 +2,8 @@
 use Rattle.std.specs.Prelude.{◌≡◌, ℕ, ◌<◌, ◌≤◌, ◌^◌, List, Option, Some, None, Result, Ok, Err}
 use Rattle.std.specs.Str.Parse.{IsNumeral, digits_value}
 use Rattle.mimic_trial.specs.declared.shard.Shard.{Shard}
-use Rattle.mimic_main.specs.declared.variables.ShardFault.{ShardFault}
-use Rattle.mimic_main.specs.declared.variables.ShardFault.TheVariants.{NoTotal, NoIndex, OddTotal, OddIndex}
+use Rattle.mimic_main.specs.declared.shard_variables.ShardFault.{ShardFault}
+use Rattle.mimic_main.specs.declared.shard_variables.ShardFault.TheVariants.{NoTotal, NoIndex, OddTotal, OddIndex}
 
 -- the text is decimal digits alone, and they write this number, which fits in a `usize`
 abbrev pub IsNumber : List ℕ → ℕ → Type 0

@@ -2,8 +2,8 @@ use Rattle.std.proofs.Common.{arith, length, rules, true, ◌≡◌}
 use Rattle.std.proofs.lemmas.Grind.{common_steps}
 use Rattle.mimic_events.specs.Key.{key_read}
 use Rattle.mimic_events.proofs.Keys.{same_key-symm}
-use Rattle.mimic_expect.proofs.Pools.{left-push, places-push}
-use Rattle.mimic_expect.proofs.pool.Pool.new.Goals as goal
+use Rattle.mimic_expect.proofs.KeyedPlaces.{left-push, places-push}
+use Rattle.mimic_expect.proofs.keyed_items.KeyedItems.new.Goals as goal
 
 pub loop-key-preserved : goal.loop-key-preserved
 loop-key-preserved g c =

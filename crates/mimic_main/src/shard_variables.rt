@@ -2,7 +2,7 @@
 ghost use Rattle.std.specs.Prelude.{◌<◌, ◌^◌, SomeIff};
 ghost use Rattle.std.specs.Option.{option_copied};
 ghost use Rattle.std.specs.Str.Parse.{IsNumeral, digits_value};
-ghost use Rattle.mimic_main.specs.Variables.{GivesShard, IsNamedBy};
+ghost use Rattle.mimic_main.specs.ShardVariables.{GivesShard, IsNamedBy};
 
 use mimic_trial::Shard;
 use thiserror::Error;

@@ -1,7 +1,7 @@
 use Rattle.std.proofs.Common.{ap, sym}
 use Rattle.std.specs.Option.{is_some}
-use Rattle.mimic_expect.proofs.Pools.{place_gone}
-use Rattle.mimic_expect.proofs.pool.first_place.Goals as goal
+use Rattle.mimic_expect.proofs.KeyedPlaces.{place_gone}
+use Rattle.mimic_expect.proofs.keyed_items.first_place.Goals as goal
 
 pub returns : goal.returns
 returns c =

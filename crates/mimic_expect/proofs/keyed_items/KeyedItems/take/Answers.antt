@@ -1,6 +1,6 @@
 use Rattle.std.proofs.Common.{◌≡◌, arith, get_or, sym}
-use Rattle.mimic_expect.proofs.Pools.{none_taken, one_taken, places_taken}
-use Rattle.mimic_expect.proofs.pool.Pool.take.Goals as goal
+use Rattle.mimic_expect.proofs.KeyedPlaces.{none_taken, one_taken, places_taken}
+use Rattle.mimic_expect.proofs.keyed_items.KeyedItems.take.Goals as goal
 
 pub returns-in_err-place : goal.returns-in_err-place
 returns-in_err-place g c =

@@ -3,7 +3,7 @@ use Rattle.std.proofs.lemmas.Iterator.{YieldsList-from_map, YieldsList-from_slic
 use Rattle.std.proofs.lemmas.Iterator.Consumers.{YieldsList-at, YieldsList-from_filter}
 use Rattle.std.proofs.lemmas.Result.{IfOk-weaker}
 use Rattle.std.proofs.lemmas.Simd.{map-map}
-use Rattle.mimic_expect.proofs.pool.Pool.left.Goals as goal
+use Rattle.mimic_expect.proofs.keyed_items.KeyedItems.left.Goals as goal
 
 pub returns : goal.returns
 returns g c =
