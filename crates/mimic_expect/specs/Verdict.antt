@@ -66,7 +66,7 @@ abbrev pub AreNext : {I : Type 0} → (I → Option (List ℕ)) → List I → L
 AreNext remaining [] rows = rows ≡ []
 AreNext remaining (input ∷ inputs) rows = IfSome (remaining input) (HasEndedRows rows)
 
--- these rows were read: of some first inputs all, and then rows of the next one
+-- these rows were read: of each of some first inputs those that go with its end, and then rows of the next one
 pub record AreBegun {I : Type 0} (remaining : I → Option (List ℕ)) (inputs : List I) (rows : List Entry) : Type 0 where
   pub before : List I
   pub after : List I

@@ -34,9 +34,9 @@ use std::io::{ErrorKind, Read, Write};
 /// and no others.
 ///
 /// If an input fails, the others are still judged: the verdict says how each ended, and of that one rows are judged that have ended
-/// in a front of its bytes. Without memory the lines were written of the failures that no known failure has, among the rows of some
-/// first inputs and rows that have ended in the next one. With a fault of the writer a beginning of such lines, or of the whole
-/// text, was written.
+/// in a front of its bytes. Without memory the lines were written of the failures that no known failure has, among rows that were
+/// judged so of some first inputs and of the next one. With a fault of the writer a beginning of such lines, or of the whole text,
+/// was written.
 #[tactic(auto, using(crate::proofs::Strangers::expect_laws))]
 pub fn write_unexpected<I: Read + Drop, W: Write>(
     alloc: Global,
