@@ -88,8 +88,8 @@ IsWhole remaining expected inputs text = (read : List InputRead) × AllZip (λ i
 
 -- without memory such failures were appended; and with a fault of the writer a beginning of such failures, or of the whole text
 abbrev pub VerdictLeftBy : (List ℕ → Type 0) → (List ℕ → Type 0) → Shown → Shown → OutputFault → Type 0
-VerdictLeftBy Begun Whole old new OutOfMemory = (text : List ℕ) × Begun text × Put old new text
-VerdictLeftBy Begun Whole old new (Write fault) = (text : List ℕ) × (Begun text ⊎ Whole text) × Stopped old new text
+VerdictLeftBy Beginning Complete old new OutOfMemory = (text : List ℕ) × Beginning text × Put old new text
+VerdictLeftBy Beginning Complete old new (Write fault) = (text : List ℕ) × (Beginning text ⊎ Complete text) × Stopped old new text
 
 -- what a call leaves that judges the inputs
 abbrev pub LeavesVerdict : {I : Type 0} → (I → Option (List ℕ)) → List Expected → List I → Bool → Shown → Shown

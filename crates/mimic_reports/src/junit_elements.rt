@@ -78,7 +78,7 @@ pub(crate) fn put_root_start<W: Write>(
 pub(crate) fn put_suite_start<'a, W: Write>(
     sink: &mut Sink<W>,
     program: &'a str,
-    numbers: &Numbers,
+    numbers: &'a Numbers,
 ) -> Result<(), WriteFault>
     requires { HasFaultLeft sink.old }
     ensures { Puts W.contents sink.old sink.new (suite_start program.now numbers.now) result }
