@@ -1,3 +1,4 @@
+mod Averages
 mod Laws
 mod Printed
 mod Steps

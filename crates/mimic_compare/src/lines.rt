@@ -1,9 +1,9 @@
 //! Prints what became of kinds and names.
 ghost use Rattle.std.specs.Prelude.{◌≡◌, count_by, map};
-ghost use Rattle.std.specs.List.{flat_map};
+ghost use Rattle.std.specs.List.{concat, flat_map};
 ghost use Rattle.mimic_printer.specs.Sink.{HasFaultLeft, Puts};
 ghost use Rattle.mimic_compare.specs.Keys.{comparison_read};
-ghost use Rattle.mimic_compare.specs.Text.{benchmark_in, changes, comparison_text, count_of, line_in, lines_of, number_text, numbers_text, ratio_of, same_class, word};
+ghost use Rattle.mimic_compare.specs.Text.{benchmark_in, changes, comparison_text, count_of, line_in, lines_of, number_text, numbers_text, ratio_of, ratio_part, same_class, word};
 
 use crate::class::Class;
 use crate::comparison::Comparison;
@@ -99,29 +99,10 @@ fn ratio_of(old: u64, new: u64) -> Option<u128>
     Some((200 * new + old) / (2 * old))
 }
 
-// Writes the line of a benchmark.
-macro_rules! put_averages {
-    ($sink:expr, $row:expr, $old:expr, $new:expr, $($end:expr),+) => {{
-        let pieces = [
-            Piece::Text("bench: "),
-            Piece::Bracketed($row.kind.as_str(), Place::Line),
-            Piece::Escaped($row.name.as_str(), Place::Line),
-            Piece::Text(": "),
-            Piece::Grouped($old),
-            Piece::Text(" -> "),
-            Piece::Grouped($new),
-            Piece::Text(" ns/iter ("),
-            $($end),+
-        ];
-        put_pieces($sink, &pieces)
-    }};
-}
-
 // Writes the averages of what was measured once in both reports.
-#[tactic(auto, unfolding(crate::specs::Text::benchmark_text))]
-fn put_benchmark<'a, W: Write>(
+fn put_benchmark<W: Write>(
     sink: &mut Sink<W>,
-    comparison: &Comparison<'a>,
+    comparison: &Comparison<'_>,
 ) -> Result<(), WriteFault>
     requires { HasFaultLeft sink.old }
     ensures { Puts W.contents sink.old sink.new (benchmark_in (comparison_read comparison.now)) result }
@@ -130,20 +111,37 @@ fn put_benchmark<'a, W: Write>(
     let Some((old, new)) = comparison.averages else {
         return Ok(());
     };
-    match ratio_of(old, new) {
-        None => put_averages!(sink, row, old, new, Piece::Text("-)\n")),
-        Some(ratio) => put_averages!(
-            sink,
-            row,
-            old,
-            new,
-            Piece::Long(&(ratio / 100)),
-            Piece::Text("."),
-            Piece::Long(&(ratio / 10 % 10)),
-            Piece::Long(&(ratio % 10)),
-            Piece::Text(")\n")
-        ),
-    }
+    let pieces = [
+        Piece::Text("bench: "),
+        Piece::Bracketed(row.kind.as_str(), Place::Line),
+        Piece::Escaped(row.name.as_str(), Place::Line),
+        Piece::Text(": "),
+        Piece::Grouped(old),
+        Piece::Text(" -> "),
+        Piece::Grouped(new),
+        Piece::Text(" ns/iter ("),
+    ];
+    put_pieces(sink, &pieces)?;
+    put_ratio(sink, ratio_of(old, new))
+}
+
+// Writes the ratio with two decimals, or `-` if there is none, and the end of the line.
+fn put_ratio<W: Write>(sink: &mut Sink<W>, ratio: Option<u128>) -> Result<(), WriteFault>
+    requires { HasFaultLeft sink.old }
+    ensures { Puts W.contents sink.old sink.new (concat (ratio_part ratio)) result }
+{
+    let Some(ratio) = ratio else {
+        return sink.put(b"-)\n");
+    };
+    let (whole, tenths, hundredths) = (ratio / 100, ratio / 10 % 10, ratio % 10);
+    let pieces = [
+        Piece::Long(&whole),
+        Piece::Text("."),
+        Piece::Long(&tenths),
+        Piece::Long(&hundredths),
+        Piece::Text(")\n"),
+    ];
+    put_pieces(sink, &pieces)
 }
 
 // Writes the averages of all that was measured once in both reports.
