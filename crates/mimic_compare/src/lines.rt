@@ -1,6 +1,7 @@
 //! Prints what became of kinds and names.
-ghost use Rattle.std.specs.Prelude.{◌≡◌, count_by, map};
+ghost use Rattle.std.specs.Prelude.{◌≡◌, ◌∷◌, [], codes, count_by, decimal, map};
 ghost use Rattle.std.specs.List.{concat, flat_map};
+ghost use Rattle.mimic_printer.specs.Piece.{pieces_text};
 ghost use Rattle.mimic_printer.specs.Sink.{HasFaultLeft, Puts};
 ghost use Rattle.mimic_compare.specs.Keys.{comparison_read};
 ghost use Rattle.mimic_compare.specs.Text.{benchmark_in, changes, comparison_text, count_of, line_in, lines_of, number_text, numbers_text, ratio_of, ratio_part, same_class, word};
@@ -133,15 +134,22 @@ fn put_ratio<W: Write>(sink: &mut Sink<W>, ratio: Option<u128>) -> Result<(), Wr
     let Some(ratio) = ratio else {
         return sink.put(b"-)\n");
     };
-    let (whole, tenths, hundredths) = (ratio / 100, ratio / 10 % 10, ratio % 10);
-    let pieces = [
-        Piece::Long(&whole),
+    let digits = (ratio / 100, ratio / 10 % 10, ratio % 10);
+    put_pieces(sink, &ratio_pieces(&digits))
+}
+
+// Returns the pieces of a ratio: the whole part and two decimals, and the end of the line.
+fn ratio_pieces(digits: &(u128, u128, u128)) -> [Piece<'_>; 5]
+    ensures { pieces_text result ≡ concat (decimal digits.now.0 ∷ codes "." ∷ decimal digits.now.1
+        ∷ decimal digits.now.2 ∷ codes ")\n" ∷ []) }
+{
+    [
+        Piece::Long(&digits.0),
         Piece::Text("."),
-        Piece::Long(&tenths),
-        Piece::Long(&hundredths),
+        Piece::Long(&digits.1),
+        Piece::Long(&digits.2),
         Piece::Text(")\n"),
-    ];
-    put_pieces(sink, &pieces)
+    ]
 }
 
 // Writes the averages of all that was measured once in both reports.
