@@ -55,8 +55,8 @@ fn put_line<'a, W: Write>(
     let pieces = [
         Piece::Text(word(class)),
         Piece::Text(": "),
-        Piece::Bracketed(comparison.row.kind.as_str(), Place::Line),
-        Piece::Escaped(comparison.row.name.as_str(), Place::Line),
+        Piece::Bracketed(Place::Line, comparison.row.kind.as_str()),
+        Piece::Escaped(Place::Line, comparison.row.name.as_str()),
         Piece::Text("\n"),
     ];
     put_pieces(sink, &pieces)
@@ -114,8 +114,8 @@ fn put_benchmark<W: Write>(
     };
     let pieces = [
         Piece::Text("bench: "),
-        Piece::Bracketed(row.kind.as_str(), Place::Line),
-        Piece::Escaped(row.name.as_str(), Place::Line),
+        Piece::Bracketed(Place::Line, row.kind.as_str()),
+        Piece::Escaped(Place::Line, row.name.as_str()),
         Piece::Text(": "),
         Piece::Grouped(old),
         Piece::Text(" -> "),

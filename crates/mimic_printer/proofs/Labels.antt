@@ -25,6 +25,11 @@ kind_joined front keyed kind key k e some =
     ∙ append_assoc front key_bytes (escaped kind)
     ∙ ap (λ (l : List ℕ). front ++ l) (sym (kind_text-some kind some))
 
+-- three texts, one after another
+pub joined : (front first second text o k e left kind right : List ℕ) → first ≡ front ++ o → second ≡ first ++ k → o ≡ left → k ≡ kind → e ≡ right
+    → left ++ (kind ++ right) ≡ text → second ++ e ≡ front ++ text
+joined front first second text o k e left kind right a b x y z shown = rw (b, a, x, y, z, ← shown) (simp append_assoc)
+
 -- a kind, the last quote, and what follows
 kind_then : (kind rest : List ℕ) → kind_text kind ++ 34 ∷ rest ≡ 34 ∷ (kind_field kind ++ rest)
 kind_then [] rest = refl

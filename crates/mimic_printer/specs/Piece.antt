@@ -2,12 +2,12 @@
 use Rattle.std.specs.Prelude.{ℕ, ◌==◌, if◌then◌else◌, List, [], ◌∷◌, ◌++◌, codes, decimal}
 use Rattle.std.specs.List.{flat_map}
 use Rattle.mimic_printer.specs.declared.piece.Piece.{Piece}
-use Rattle.mimic_printer.specs.declared.piece.Piece.TheVariants.{Text, Number, Long, TwoDigits, Spaces, Grouped, Aligned, Seconds, Json, Kind, Escaped, FirstLine, Bracketed}
+use Rattle.mimic_printer.specs.declared.piece.Piece.TheVariants.{Text, Number, Long, TwoDigits, Spaces, Grouped, Aligned, Seconds, Json, Kind, Escaped, FirstLine, Bracketed, PlainKind}
 use Rattle.mimic_printer.specs.declared.place.Place.{Place}
 use Rattle.mimic_printer.specs.Escapes.{escaped}
 use Rattle.mimic_trial.specs.Escape.{escaped as json_escaped}
 use Rattle.mimic_trial.specs.Seconds.{exact_seconds}
-use Rattle.mimic_trial.specs.Text.{spaces, two_digits, right_aligned, grouped}
+use Rattle.mimic_trial.specs.Text.{spaces, two_digits, right_aligned, grouped, kind_part}
 
 -- what is between a name and the quote behind the kind in JSON, and nothing for an empty kind
 abbrev pub kind_text : List ℕ → List ℕ
@@ -36,9 +36,10 @@ piece_text (Aligned n width) = right_aligned width (grouped (decimal n))
 piece_text (Seconds n) = exact_seconds n
 piece_text (Json t) = json_escaped t.now
 piece_text (Kind k) = kind_text k.now
-piece_text (Escaped t place) = escaped place t.now
-piece_text (FirstLine t place) = escaped place (first_line t.now)
-piece_text (Bracketed kind place) = bracketed place kind.now
+piece_text (Escaped place t) = escaped place t.now
+piece_text (FirstLine place t) = escaped place (first_line t.now)
+piece_text (Bracketed place kind) = bracketed place kind.now
+piece_text (PlainKind kind) = kind_part kind.now
 
 -- their texts, one after another
 abbrev pub pieces_text : List Piece → List ℕ

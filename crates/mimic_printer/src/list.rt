@@ -5,7 +5,7 @@ ghost use Rattle.mimic_printer.specs.Sink.{HasFaultLeft, Puts};
 
 use crate::piece::{Piece, put_pieces};
 use crate::sink::{Sink, WriteFault};
-use mimic_trial::{TestInfo, brackets};
+use mimic_trial::TestInfo;
 use std::io::Write;
 
 // Writes the line of a trial.
@@ -14,11 +14,8 @@ pub(super) fn put_line<W: Write>(sink: &mut Sink<W>, info: &TestInfo) -> Result<
     requires { HasFaultLeft sink.old }
     ensures { Puts W.contents sink.old sink.new (list_line info.now) result }
 {
-    let (open, close) = brackets(info.kind.as_str());
     let pieces = [
-        Piece::Text(open),
-        Piece::Text(info.kind.as_str()),
-        Piece::Text(close),
+        Piece::PlainKind(info.kind.as_str()),
         Piece::Text(info.name.as_str()),
         Piece::Text(": "),
         Piece::Text(sort_word(info.is_bench)),

@@ -3,7 +3,7 @@ ghost use Rattle.std.specs.Prelude.{◌≡◌, ◌≤◌, ◌++◌, IfSome, deci
 ghost use Rattle.std.specs.Option.{MatchOption};
 ghost use Rattle.mimic_printer.specs.Sink.{HasFaultLeft, Puts};
 ghost use Rattle.mimic_trial.specs.Escape.{escaped as json_escaped};
-ghost use Rattle.mimic_trial.specs.Text.{spaces, right_aligned, grouped};
+ghost use Rattle.mimic_trial.specs.Text.{spaces, right_aligned, grouped, kind_part};
 ghost use Rattle.mimic_printer.specs.Escapes.{escaped};
 ghost use Rattle.mimic_printer.specs.Piece.{bracketed, first_line, kind_text, piece_text, pieces_text};
 
@@ -11,7 +11,7 @@ use crate::escape::{first_escape, put_escaped};
 use crate::place::Place;
 use crate::sink::{Sink, WriteFault};
 use itoa::Buffer;
-use mimic_trial::{escape_byte, exact_seconds, next_escape, thousands};
+use mimic_trial::{brackets, escape_byte, exact_seconds, next_escape, thousands};
 use std::io::Write;
 
 /// A part of a text.
@@ -43,11 +43,13 @@ pub enum Piece<'a> {
     /// What follows a trial's name in JSON: the key of a kind and the kind, up to its last quote, and nothing for an empty kind.
     Kind(&'a str),
     /// The text as it is in the place.
-    Escaped(&'a str, Place),
+    Escaped(Place, &'a str),
     /// The first line of the text as it is in the place.
-    FirstLine(&'a str, Place),
+    FirstLine(Place, &'a str),
     /// The kind as it is in the place, in brackets and with a space after them, and nothing for an empty kind.
-    Bracketed(&'a str, Place),
+    Bracketed(Place, &'a str),
+    /// The kind as it is, in brackets and with a space after them, and nothing for an empty kind.
+    PlainKind(&'a str),
 }
 
 /// A trial's name in JSON. Most need no escape, and a row that has its name twice looks for escapes once.
@@ -159,6 +161,21 @@ fn append_kind(row: &mut [u8; ROW], len: usize, kind: &str) -> Option<usize>
     append_json(row, end, kind)
 }
 
+// The same of a kind in brackets.
+fn append_plain_kind(row: &mut [u8; ROW], len: usize, kind: &str) -> Option<usize>
+    requires { len ≤ 256 }
+    ensures { IfSome result
+        (λ end. (end ≤ 256) × (take end row.new ≡ take len row.old ++ kind_part kind.now)) }
+{
+    if kind.is_empty() {
+        return Some(len);
+    }
+    let (open, close) = brackets(kind);
+    let end = append(row, len, open.as_bytes())?;
+    let end = append(row, end, kind.as_bytes())?;
+    append(row, end, close.as_bytes())
+}
+
 // What comes between a name and a kind.
 const KIND_KEY: &str = "\", \"kind\": \"";
 
@@ -190,11 +207,12 @@ impl Piece<'_> {
             Piece::Spaces(count) if count <= SPACES.len() => append(row, len, &SPACES[..count]),
             Piece::Json(text) => append_json(row, len, text),
             Piece::Kind(kind) => append_kind(row, len, kind),
-            Piece::Escaped(text, place) => append_escaped(row, len, text.as_bytes(), place),
-            Piece::FirstLine(text, place) => {
+            Piece::Escaped(place, text) => append_escaped(row, len, text.as_bytes(), place),
+            Piece::FirstLine(place, text) => {
                 append_escaped(row, len, first_line(text.as_bytes()), place)
             }
-            Piece::Bracketed(kind, _) if kind.is_empty() => Some(len),
+            Piece::Bracketed(_, kind) if kind.is_empty() => Some(len),
+            Piece::PlainKind(kind) => append_plain_kind(row, len, kind),
             _ => None,
         }
     }
@@ -214,11 +232,12 @@ impl Piece<'_> {
             Piece::Seconds(nanos) => sink.put(exact_seconds(nanos, &mut [0; 32]).as_bytes()),
             Piece::Json(text) => put_json(sink, text.as_bytes()),
             Piece::Kind(kind) => put_kind(sink, kind),
-            Piece::Escaped(text, place) => put_escaped(sink, text.as_bytes(), place),
-            Piece::FirstLine(text, place) => {
+            Piece::Escaped(place, text) => put_escaped(sink, text.as_bytes(), place),
+            Piece::FirstLine(place, text) => {
                 put_escaped(sink, first_line(text.as_bytes()), place)
             }
-            Piece::Bracketed(kind, place) => put_bracketed(sink, kind, place),
+            Piece::Bracketed(place, kind) => put_bracketed(sink, kind, place),
+            Piece::PlainKind(kind) => put_plain_kind(sink, kind),
         }
     }
 }
@@ -285,6 +304,16 @@ fn put_bracketed<W: Write>(sink: &mut Sink<W>, kind: &str, place: Place) -> Resu
     sink.put(b"[")?;
     put_escaped(sink, kind.as_bytes(), place)?;
     sink.put(b"] ")
+}
+
+fn put_plain_kind<W: Write>(sink: &mut Sink<W>, kind: &str) -> Result<(), WriteFault>
+    requires { HasFaultLeft sink.old }
+    ensures { Puts W.contents sink.old sink.new (kind_part kind.now) result }
+{
+    let (open, close) = brackets(kind);
+    sink.put(open.as_bytes())?;
+    sink.put(kind.as_bytes())?;
+    sink.put(close.as_bytes())
 }
 
 // Returns the text up to its first line end.

@@ -9,7 +9,7 @@ use crate::colour::{colour_end, colour_start};
 use crate::columns::{kind_len, name_len};
 use crate::piece::{Piece, put_pieces};
 use crate::sink::{Sink, WriteFault};
-use mimic_trial::{Conclusion, Failed, Outcome, TestInfo, brackets, hundredths};
+use mimic_trial::{Conclusion, Failed, Outcome, TestInfo, hundredths};
 use std::io::Write;
 
 // Writes how many trials are run.
@@ -44,12 +44,9 @@ pub(super) fn put_announcement<W: Write>(
     ensures { Puts W.contents sink.old sink.new
         (pretty_announcement printer.now (label_of info.now)) result }
 {
-    let (open, close) = brackets(info.kind.as_str());
     let pieces = [
         Piece::Text("test "),
-        Piece::Text(open),
-        Piece::Text(info.kind.as_str()),
-        Piece::Text(close),
+        Piece::PlainKind(info.kind.as_str()),
         Piece::Spaces(printer.kind_width.saturating_sub(kind_len(info))),
         Piece::Text(info.name.as_str()),
         Piece::Spaces(printer.name_width.saturating_sub(name_len(info))),

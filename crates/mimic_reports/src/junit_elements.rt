@@ -46,11 +46,11 @@ macro_rules! put_row {
         let kind = $row.kind.as_str();
         let pieces = [
             Piece::Text("    <testcase classname=\""),
-            Piece::Escaped($program, Place::Value),
+            Piece::Escaped(Place::Value, $program),
             Piece::Text(point(kind)),
-            Piece::Escaped(kind, Place::Value),
+            Piece::Escaped(Place::Value, kind),
             Piece::Text("\" name=\""),
-            Piece::Escaped($row.name.as_str(), Place::Value),
+            Piece::Escaped(Place::Value, $row.name.as_str()),
             $($end),+
         ];
         put_pieces($sink, &pieces)
@@ -87,7 +87,7 @@ pub(crate) fn put_suite_start<'a, W: Write>(
         sink,
         numbers,
         Piece::Text("  <testsuite name=\""),
-        Piece::Escaped(program, Place::Value),
+        Piece::Escaped(Place::Value, program),
         Piece::Text("\"")
     )
 }
@@ -130,9 +130,9 @@ pub(crate) fn put_case<'a, W: Write>(
                 program,
                 row,
                 Piece::Text("\"><failure type=\"failed\" message=\""),
-                Piece::FirstLine(message, Place::Value),
+                Piece::FirstLine(Place::Value, message),
                 Piece::Text("\">"),
-                Piece::Escaped(message, Place::Content),
+                Piece::Escaped(Place::Content, message),
                 Piece::Text("</failure></testcase>\n")
             ),
         },
@@ -161,7 +161,7 @@ pub(crate) fn put_stop<'a, W: Write>(
 {
     let front = [
         Piece::Text("    <testcase classname=\""),
-        Piece::Escaped(program, Place::Value),
+        Piece::Escaped(Place::Value, program),
         Piece::Text("\" name=\"(whole report)\"><error type=\"incomplete\" message=\""),
     ];
     put_pieces(sink, &front)?;
@@ -179,8 +179,8 @@ fn put_running<W: Write>(sink: &mut Sink<W>, stop: &Stop) -> Result<(), WriteFau
     };
     let pieces = [
         Piece::Text("; running: "),
-        Piece::Bracketed(label.kind.as_str(), Place::Value),
-        Piece::Escaped(label.name.as_str(), Place::Value),
+        Piece::Bracketed(Place::Value, label.kind.as_str()),
+        Piece::Escaped(Place::Value, label.name.as_str()),
     ];
     put_pieces(sink, &pieces)
 }

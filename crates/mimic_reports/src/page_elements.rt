@@ -19,9 +19,9 @@ macro_rules! put_label {
         let pieces = [
             Piece::Text($start),
             Piece::Text(kind_start),
-            Piece::Escaped(kind, Place::Html),
+            Piece::Escaped(Place::Html, kind),
             Piece::Text(kind_end),
-            Piece::Escaped($label.name.as_str(), Place::Html),
+            Piece::Escaped(Place::Html, $label.name.as_str()),
             $($end),+
         ];
         put_pieces($sink, &pieces)
@@ -59,7 +59,7 @@ pub(crate) fn put_start<'a, W: Write>(
         ),
         Piece::Text(SCRIPT_DIGEST),
         Piece::Text("'\">\n<title>"),
-        Piece::Escaped(program, Place::Html),
+        Piece::Escaped(Place::Html, program),
         Piece::Text(": "),
         Piece::Text(verdict),
         Piece::Text(". "),
@@ -73,7 +73,7 @@ pub(crate) fn put_start<'a, W: Write>(
         Piece::Text(" measured</title>\n<style>\n"),
         Piece::Text(STYLE),
         Piece::Text("</style>\n</head>\n<body>\n<header>\n<h1><bdi>"),
-        Piece::Escaped(program, Place::Html),
+        Piece::Escaped(Place::Html, program),
         Piece::Text("</bdi> <strong class=\""),
         Piece::Text(verdict),
         Piece::Text("\">"),
@@ -235,7 +235,7 @@ pub(crate) fn put_row<'a, W: Write>(
                 row,
                 "<li class=\"failed\"><details open><summary><b>FAILED</b> ",
                 Piece::Text("</bdi></summary><pre>\n"),
-                Piece::Escaped(message, Place::Html),
+                Piece::Escaped(Place::Html, message),
                 Piece::Text("</pre></details></li>\n")
             ),
         },
