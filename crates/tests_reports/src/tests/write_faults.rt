@@ -156,8 +156,9 @@ fn comparison(alloc: Global, writer: FaultyWriter) -> Written {
     written!(alloc, writer, sink => write_comparison(alloc, &old, &new, &mut sink))
 }
 
+// Of the first input all rows are judged, also if the writer fails in those of the second.
 fn unexpected(alloc: Global, text: &str, writer: FaultyWriter) -> Written {
-    let inputs = vec![in alloc; Slow::of(text)]?;
+    let inputs = vec![in alloc; Slow::of(text), Slow::of(text)]?;
     written!(alloc, writer, sink => write_unexpected(alloc, &[], inputs, false, &mut sink))
 }
 
