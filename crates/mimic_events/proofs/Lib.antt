@@ -25,6 +25,5 @@ pub mod SoFar
 pub mod States
 pub mod Summaries
 pub mod Tallies
-pub mod Times
 pub mod WholeLines
 pub mod Writing

@@ -1,5 +1,4 @@
 pub mod Junit
 pub mod Page
 pub mod Show
-pub mod Slowest
 pub mod Suites

@@ -5,5 +5,4 @@ mod questions;
 mod readreport;
 mod reports;
 mod runs_read_back;
-mod times;
 mod writing;
