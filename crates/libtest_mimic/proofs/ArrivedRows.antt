@@ -1,5 +1,5 @@
 -- Rows that workers reported, in the order in which they came, and rows by place.
-use Rattle.std.proofs.Common.{◌≡◌, ◌∙◌, ℕ, suc, zero, ◌-◌, ◌<◌, ◌≤◌, drop, nat_lt, not, ◌&&◌, Bool, true, false, cond, List, [], ◌∷◌, ◌++◌, Some, length, map, refl, sym, ap, append-nil, arith, slice_index_or}
+use Rattle.std.proofs.Common.{◌≡◌, ◌∙◌, ℕ, suc, zero, ◌-◌, ◌<◌, ◌≤◌, drop, nat_lt, not, ◌&&◌, Bool, true, false, cond, List, [], ◌∷◌, ◌++◌, None, Some, length, map, refl, sym, ap, append-nil, arith, slice_index_or}
 use Rattle.std.specs.Prelude.{All, slice_get}
 use Rattle.std.proofs.lemmas.Bool.Decides.{nat_tests}
 use Rattle.std.proofs.lemmas.List.{length-map, map-append}
@@ -47,13 +47,13 @@ label_at-info (i ∷ infos) (suc place) info low e = label_at-info infos place i
 
 pub rows_joined : (p : Printer) (labels : List Label) (xs ys : List Placed) → rows_text p (rows_at labels (xs ++ ys)) ≡ rows_text p (rows_at labels xs) ++ rows_text p (rows_at labels ys)
 rows_joined p labels xs ys =
-    ap (rows_text p) (map-append (λ (q : Placed). record { label = label_at labels q.0; outcome = q.1 }) xs ys)
+    ap (rows_text p) (map-append (λ (q : Placed). record { label = label_at labels q.0; outcome = q.1; nanos = None }) xs ys)
     ∙ flat_map-append (row_text p) (rows_at labels xs) (rows_at labels ys)
 
 row_alone : (p : Printer) (infos : List TestInfo) (place : ℕ) (o : Outcome) (info : TestInfo) → label_at (map label_of infos) place ≡ label_of info
     → rows_text p (rows_at (map label_of infos) ((place, o) ∷ [])) ≡ row_text p (row_of info o)
 row_alone p infos place o info label =
-    append-nil (row_text p (record { label = label_at (map label_of infos) place; outcome = o })) ∙ ap (λ (l : Label). row_text p (record { label = l; outcome = o })) label
+    append-nil (row_text p (record { label = label_at (map label_of infos) place; outcome = o; nanos = None })) ∙ ap (λ (l : Label). row_text p (record { label = l; outcome = o; nanos = None })) label
 
 -- one more row that was reported
 pub arrived_more : (p : Printer) (infos : List TestInfo) (old new : Arrived) (place : ℕ) (o : Outcome) (info : TestInfo)
@@ -87,7 +87,7 @@ got_from (suc first) (suc k) (r ∷ rows) row d from e =
 
 -- what is printed of it
 abbrev printed : List Label → Placed → PrintedRow
-printed labels row = record { label = label_at labels row.0; outcome = row.1 }
+printed labels row = record { label = label_at labels row.0; outcome = row.1; nanos = None }
 
 row_printed : (labels : List Label) (rows : List Placed) (k : ℕ) (row : Placed) → slice_get rows k ≡ Some row → slice_get (rows_at labels rows) k ≡ Some (printed labels row)
 row_printed labels [] k row e = absurd (cc)
@@ -115,7 +115,7 @@ module _ (infos : List TestInfo) (rows : List Placed) (number place : ℕ) (o : 
   pub row_by_info : slice_get (rows_at (map label_of infos) rows) number ≡ Some (row_of info o)
   row_by_info =
       row_printed (map label_of infos) rows number (place, o) at
-      ∙ ap (λ (l : Label). Some (record { label = l; outcome = o })) (label_at-info infos place info low is)
+      ∙ ap (λ (l : Label). Some (record { label = l; outcome = o; nanos = None })) (label_at-info infos place info low is)
 
   -- also among the rows from one on
   pub row_from : (first : ℕ) (d : PrintedRow) → first ≤ number → row_of info o ≡ slice_index_or (drop first (rows_at (map label_of infos) rows)) (number - first) d

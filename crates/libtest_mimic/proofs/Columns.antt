@@ -39,20 +39,20 @@ marked : (p q : Printer) (o : Outcome) (mark : List ℕ) → p.colour ≡ q.colo
 unfolding outcome_mark
 marked p q o mark c = rw c refl
 
-lined : (p q : Printer) (o : Outcome) → p.colour ≡ q.colour → outcome_line p o ≡ outcome_line q o
+lined : (p q : Printer) (o : Outcome) (time : Option ℕ) → p.colour ≡ q.colour → outcome_line p o time ≡ outcome_line q o time
 unfolding outcome_line
-lined p q o c = rw c refl
+lined p q o time c = rw c refl
 
 in_terse : (p q : Printer) (o : Outcome) → p.colour ≡ q.colour → terse_outcome p o ≡ terse_outcome q o
 in_terse p q Passed c = marked p q Passed _ c
 in_terse p q (Failed f) c = marked p q (Failed f) _ c
 in_terse p q Ignored c = marked p q Ignored _ c
-in_terse p q (Measured m) c = lined p q (Measured m) c
+in_terse p q (Measured m) c = lined p q (Measured m) None c
 
-ended : (p q : Printer) (f : FormatSetting) (l : Label) (o : Outcome) → p.colour ≡ q.colour → (f ≡ Pretty → p ≡ q) → outcome_in f p l o ≡ outcome_in f q l o
-ended p q Pretty l o c same = ap (λ (x : Printer). outcome_in Pretty x l o) (same refl)
-ended p q Terse l o c same = in_terse p q o c
-ended p q Json l o c same = refl
+ended : (p q : Printer) (f : FormatSetting) (l : Label) (o : Outcome) (time : Option ℕ) → p.colour ≡ q.colour → (f ≡ Pretty → p ≡ q) → outcome_in f p l o time ≡ outcome_in f q l o time
+ended p q Pretty l o time c same = ap (λ (x : Printer). outcome_in Pretty x l o time) (same refl)
+ended p q Terse l o time c same = in_terse p q o c
+ended p q Json l o time c same = refl
 
 concluded : (p q : Printer) (c : Conclusion) (nanos : ℕ) → p.colour ≡ q.colour → result_summary p c nanos ≡ result_summary q c nanos
 unfolding result_summary
@@ -78,7 +78,7 @@ module _ (p q : Printer) (same : PrintsAs p q) where
   row_same : (row : PrintedRow) → row_text p row ≡ row_text q row
   row_same row =
       ap₂ (λ x y. x ++ y) (announcement_same row.label)
-      (ended p q p.format row.label row.outcome same.colour same.columns ∙ ap (λ f. outcome_in f q row.label row.outcome) same.format)
+      (ended p q p.format row.label row.outcome row.nanos same.colour same.columns ∙ ap (λ f. outcome_in f q row.label row.outcome row.nanos) same.format)
 
   rows_same : (rows : List PrintedRow) → rows_text p rows ≡ rows_text q rows
   rows_same [] = refl

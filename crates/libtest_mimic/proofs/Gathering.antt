@@ -103,7 +103,7 @@ completed old new joined start outs count put settled more all_places returned w
 rest_of : (labels : List Label) (xs ys : List Placed) (k : ℕ) → k ≡ length xs → drop k (rows_at labels (xs ++ ys)) ≡ rows_at labels ys
 rest_of labels xs ys k e =
     ap (λ n. drop n (rows_at labels (xs ++ ys))) (e ∙ sym (count_rows_at labels xs))
-    ∙ ap (drop (length (rows_at labels xs))) (map-append (λ (q : Placed). record { label = label_at labels q.0; outcome = q.1 }) xs ys)
+    ∙ ap (drop (length (rows_at labels xs))) (map-append (λ (q : Placed). record { label = label_at labels q.0; outcome = q.1; nanos = None }) xs ys)
     ∙ drop-append_seam (rows_at labels xs) (rows_at labels ys)
 
 -- ---- the texts

@@ -1,5 +1,5 @@
 -- Rows of trials that run one after another.
-use Rattle.std.proofs.Common.{All, ◌≡◌, ℕ, zero, suc, ◌+◌, ◌-◌, ◌^◌, ◌<◌, ◌≤◌, List, [], ◌∷◌, ◌++◌, Option, Some, Bool, not, filter, length, refl, sym, ap, ap₂, ◌∙◌, subst, arith, add-zero, zero-add, append-nil, length-append, vec_len}
+use Rattle.std.proofs.Common.{All, ◌≡◌, ℕ, zero, suc, ◌+◌, ◌-◌, ◌^◌, ◌<◌, ◌≤◌, List, [], ◌∷◌, ◌++◌, Option, None, Some, Bool, not, filter, length, refl, sym, ap, ap₂, ◌∙◌, subst, arith, add-zero, zero-add, append-nil, length-append, vec_len}
 use Rattle.std.proofs.lemmas.Result.{MatchResult-from_err}
 use Rattle.std.specs.Result.{IsErr}
 use Rattle.std.specs.Prelude.{Result}
@@ -106,8 +106,8 @@ rows_text-push p rows row =
 rows_at-push : (labels : List Label) (placed : List Placed) (info : TestInfo) (o : Outcome) → label_of info ≡ label_at labels (length placed)
     → rows_at labels placed ++ row_of info o ∷ [] ≡ rows_at labels (placed ++ (length placed, o) ∷ [])
 rows_at-push labels placed info o e =
-    ap (λ (l : Label). rows_at labels placed ++ record { label = l; outcome = o } ∷ []) e
-    ∙ sym (map-append (λ (p : Placed). record { label = label_at labels p.0; outcome = p.1 }) placed ((length placed, o) ∷ []))
+    ap (λ (l : Label). rows_at labels placed ++ record { label = l; outcome = o; nanos = None } ∷ []) e
+    ∙ sym (map-append (λ (p : Placed). record { label = label_at labels p.0; outcome = p.1; nanos = None }) placed ((length placed, o) ∷ []))
 
 module _ (p : Printer) (rows : List PrintedRow) (info : TestInfo) (o : Outcome) (a b c d : Shown) where
   Put-row : Put a b (rows_text p rows) → Put b c (announcement_text p (label_of info)) → Put c d (outcome_text p (label_of info) o) → Put a d (rows_text p (rows ++ row_of info o ∷ []))

@@ -1,5 +1,5 @@
 -- Which lines begin a report: those that lead from the start to some state, and no others.
-use Rattle.std.proofs.Common.{◌≡◌, ◌⊎◌, ℕ, zero, suc, ◌+◌, ◌-◌, ◌<◌, ◌^◌, List, [], ◌∷◌, ◌++◌, length, Bool, true, false, refl, sym, ap, subst, ◌∙◌, append_assoc, append-nil, inl, inr, arith}
+use Rattle.std.proofs.Common.{◌≡◌, ◌⊎◌, ℕ, zero, suc, ◌+◌, ◌-◌, ◌<◌, ◌^◌, List, [], ◌∷◌, ◌++◌, length, None, Bool, true, false, refl, sym, ap, subst, ◌∙◌, append_assoc, append-nil, inl, inr, arith}
 use Rattle.std.specs.Bool.{then_some}
 use Rattle.std.specs.List.{AllByRecursion, concat, flat_map}
 use Rattle.std.proofs.lemmas.List.{length-append}
@@ -39,7 +39,7 @@ report_begins c fits = record {
 
 -- a row that may come next
 abbrev blank : Label → Entry
-blank label = record { label = label; outcome = Passed }
+blank label = record { label = label; outcome = Passed; nanos = None }
 
 abbrev nameless : Label
 nameless = record { kind = []; name = [] }
@@ -55,8 +55,8 @@ rows_begin zero n es all small fits =
 rows_begin (suc k) n es all small fits =
     let e : Entry = blank nameless in
     let more = rows_begin k n (es ++ e ∷ []) (omega (arith, all, length-append es (e ∷ []))) small
-    (fits_more es e fits (record { label = record { name = IsUtf8-nil; kind = IsUtf8-nil }; outcome = tt })) in
-    front_begins (json_title n ++ concat (flat_map entry_lines es)) (json_announcement nameless ++ json_outcome nameless Passed)
+    (fits_more es e fits (record { label = record { name = IsUtf8-nil; kind = IsUtf8-nil }; outcome = tt; nanos = tt })) in
+    front_begins (json_title n ++ concat (flat_map entry_lines es)) (json_announcement nameless ++ json_outcome nameless Passed None)
     (simp append_assoc (rw (rows_more es e) at more))
 
 begins_at : (next : Next) (s : State) → s.announced < 2 ^ 64 → AllByRecursion FitsEntry s.entries → FitsNext next s → BeginsReport (text_so_far next s)
@@ -67,8 +67,8 @@ begins_at row_next s small fits at = rows_begin (s.announced - length s.entries)
 begins_at (outcome_next label) s small fits at =
     let e : Entry = blank label in
     let more = rows_begin (s.announced - (length s.entries + 1)) s.announced (s.entries ++ e ∷ []) (omega (arith, at.0, length-append s.entries (e ∷ []))) small
-    (fits_more s.entries e fits (record { label = at.1; outcome = tt })) in
-    front_begins (title_and s ++ json_announcement label) (json_outcome label Passed) (simp append_assoc (rw (rows_more s.entries e) at more))
+    (fits_more s.entries e fits (record { label = at.1; outcome = tt; nanos = tt })) in
+    front_begins (title_and s ++ json_announcement label) (json_outcome label Passed None) (simp append_assoc (rw (rows_more s.entries e) at more))
 begins_at (nothing_next filtered_out nanos) s small fits at =
     let c : Contents = record { entries = s.entries; filtered_out = filtered_out; nanos = nanos } in
     let few : length s.entries < 2 ^ 64 = omega (arith, at.0, small) in
@@ -114,8 +114,8 @@ line_more : (next : Next) (s : State) (line : List ℕ) (t : State) → FitsNext
 line_more title_next s line t at (count, is, e) = omega (arith, ap length at, ap lines_of e)
 line_more row_next s line t at (inl (more, label, is, e)) = omega (arith, ap lines_of e)
 line_more row_next s line t at (inr (all, numbers, is, e)) = omega (arith, ap lines_of e)
-line_more (outcome_next label) s line t at (outcome, is, e) =
-    omega (arith, ap lines_of e, length-append s.entries (record { label = label; outcome = outcome } ∷ []))
+line_more (outcome_next label) s line t at (end, is, e) =
+    omega (arith, ap lines_of e, length-append s.entries (record { label = label; outcome = end.0; nanos = end.1 } ∷ []))
 line_more (nothing_next filtered_out nanos) s line t at h = absurd h
 
 lines_more : (lines : List (List ℕ)) (s t : State) → Fits s → Runs s lines t → lines_of t ≡ lines_of s + length lines

@@ -1,5 +1,5 @@
 -- Numbers and seconds: where the digits at the front of a text end, and what they are worth.
-use Rattle.std.proofs.Common.{◌≡◌, ◌≢◌, ℕ, inl, inr, ◌<◌, ◌≤◌, ◌^◌, ◌+◌, ◌-◌, ◌*◌, List, [], ◌∷◌, ◌++◌, Option, Some, None, length, take, get_or, refl, sym, ap, subst, ◌∙◌, arith, decimal}
+use Rattle.std.proofs.Common.{◌≡◌, ◌≢◌, ℕ, inl, inr, ◌<◌, ◌≤◌, ◌^◌, ◌+◌, ◌-◌, ◌*◌, List, [], ◌∷◌, ◌++◌, Option, Some, None, length, take, get_or, refl, sym, ap, ap₂, subst, ◌∙◌, arith, decimal}
 use Rattle.std.specs.Int.{IsInRange}
 use Rattle.std.specs.Prelude.{Result, Ok, Err, SomeIff, IsUtf8}
 use Rattle.std.specs.Result.{result_ok}
@@ -10,7 +10,7 @@ use Rattle.std.specs.Str.Parse.{AllDigits, IsNumeral, digits_value, ParsesUnsign
 use Rattle.std.proofs.lemmas.Str.Parse.{digit_from_value, numerals_by_value, tells_by_index, tells_digits, parse_plain, digits_value_short}
 use Rattle.std.proofs.lemmas.Fmt.{digits_decimal, decimal_injective, IsAscii-from_digits}
 use Rattle.std.proofs.lemmas.List.{get_or-take, length-take}
-use Rattle.mimic_trial.specs.Seconds.{IsRest, IsExactSeconds}
+use Rattle.mimic_trial.specs.Seconds.{IsRest, IsExactSeconds, exact_seconds}
 use Rattle.mimic_trial.proofs.ExactSeconds.{seconds_exact, seconds_only}
 use Rattle.mimic_events.specs.LineParts.{EndsNumber, SplitsDigits, ReadsNumber}
 use Rattle.mimic_events.specs.Reading.{Decodes, IsNumber, IsSeconds}
@@ -79,7 +79,7 @@ fraction_fits digits value short numeral is =
     let below : digits_value 10 digits < 10 ^ length digits = digits_value_short own digits (length digits) numeral.1 (omega arith) in
     scaled_fits value (length digits) short (rw is below)
 
-rest_ends : (fraction : ℕ) (rest : List ℕ) → IsRest fraction rest → EndsNumber rest
+pub rest_ends : (fraction : ℕ) (rest : List ℕ) → IsRest fraction rest → EndsNumber rest
 rest_ends fraction rest (inl h) = subst EndsNumber (sym h.0) tt
 rest_ends fraction rest (inr h) = subst EndsNumber (sym h.1) (λ a b. omega arith)
 
@@ -114,3 +114,26 @@ seconds_found text whole fraction rest (Some n) read d h = (
   (omega (arith, h.0, h.1), seconds_only n text (record { whole = whole; fraction = fraction; rest = rest; parts = read.1; spelled = d.0; value = h.1 })),
   λ nanos s. let p = seconds_parts text whole rest nanos read s in let same = d.1 p.0 p.1 in omega (arith, p.2, same, h.1),
 )
+
+-- what follows the whole seconds is worth one number only
+one_fraction : (a b : ℕ) (rest : List ℕ) → IsRest a rest → IsRest b rest → a ≡ b
+one_fraction a b rest (inl h) (inl k) = h.1 ∙ sym k.1
+one_fraction a b rest (inl h) (inr k) = let e : [] ≡ 46 ∷ k.0 = sym h.0 ∙ k.1 in absurd cc
+one_fraction a b rest (inr h) (inl k) = let e : 46 ∷ h.0 ≡ [] = sym h.1 ∙ k.0 in absurd cc
+one_fraction a b rest (inr h) (inr k) =
+    let e : 46 ∷ h.0 ≡ 46 ∷ k.0 = sym h.1 ∙ k.1 in
+    let same : h.0 ≡ k.0 = cc in
+    h.2.value ∙ ap (λ (d : List ℕ). digits_value 10 d * 10 ^ (9 - length d)) same ∙ sym k.2.value
+
+-- seconds are worth one number of nanoseconds only
+pub one_seconds : (a b : ℕ) → a < 2 ^ 64 → b < 2 ^ 64 → exact_seconds a ≡ exact_seconds b → a ≡ b
+one_seconds a b f g e =
+    let x = seconds_exact a in
+    let y : IsExactSeconds b (exact_seconds a) = subst (IsExactSeconds b) (sym e) (seconds_exact b) in
+    let fits : x.whole < 2 ^ 64 = omega (arith, f, x.value) in
+    let also : y.whole < 2 ^ 64 = omega (arith, g, y.value) in
+    let same = one_end (decimal x.whole) (decimal y.whole) x.rest y.rest (decimal_digits x.whole fits) (decimal_digits y.whole also)
+    (rest_ends x.fraction x.rest x.spelled) (rest_ends y.fraction y.rest y.spelled) (sym x.parts ∙ y.parts) in
+    let whole : x.whole ≡ y.whole = decimal_injective x.whole y.whole fits also same.0 in
+    let fraction : x.fraction ≡ y.fraction = one_fraction x.fraction y.fraction y.rest (subst (IsRest x.fraction) same.1 x.spelled) y.spelled in
+    x.value ∙ ap₂ (λ (w r : ℕ). w * 10 ^ 9 + r) whole fraction ∙ sym y.value

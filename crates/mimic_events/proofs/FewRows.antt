@@ -25,7 +25,7 @@ rows_long : (es : List Entry) → length es ≤ length (concat (flat_map entry_l
 rows_long [] = omega arith
 rows_long (e ∷ es) =
     let a : List ℕ = json_announcement e.label in
-    let o : List ℕ = json_outcome e.label e.outcome in
+    let o : List ℕ = json_outcome e.label e.outcome e.nanos in
     let some : 0 < length a = line_some a (announcement_line e.label) in
     let rest : List ℕ = concat (flat_map entry_lines es) in
     omega (arith, some, rows_long es, length-append a (o ++ rest), length-append o rest)

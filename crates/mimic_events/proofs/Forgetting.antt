@@ -53,10 +53,10 @@ announcement_begins : (label : Label) → (rest : List ℕ) × (json_announcemen
 unfolding json_announcement
 announcement_begins label = (_, refl)
 
-outcome_begins : (label : Label) (outcome : Outcome) → (rest : List ℕ) × (json_outcome label outcome ≡ line_front ++ rest)
+outcome_begins : (label : Label) (outcome : Outcome) (time : Option ℕ) → (rest : List ℕ) × (json_outcome label outcome time ≡ line_front ++ rest)
 unfolding json_outcome
-outcome_begins label (Measured measurement) = (_, refl)
-outcome_begins label other = (_, refl)
+outcome_begins label (Measured measurement) time = (_, refl)
+outcome_begins label other time = (_, refl)
 
 summary_begins : (c : Conclusion) (nanos : ℕ) → (rest : List ℕ) × (json_summary c nanos ≡ line_front ++ rest)
 unfolding json_summary
@@ -67,7 +67,7 @@ step_begins : (next : Next) (s : State) (line : List ℕ) (t : State) → LeadsF
 step_begins title_next s line t (count, is, e) = let b = title_begins count in (b.0, is.1 ∙ b.1)
 step_begins row_next s line t (inl (more, label, is, e)) = let b = announcement_begins label in (b.0, is.1 ∙ b.1)
 step_begins row_next s line t (inr (all, numbers, is, e)) = let b = summary_begins _ numbers.1 in (b.0, is.2 ∙ b.1)
-step_begins (outcome_next label) s line t (outcome, is, e) = let b = outcome_begins label outcome in (b.0, is.1 ∙ b.1)
+step_begins (outcome_next label) s line t (end, is, e) = let b = outcome_begins label end.0 end.1 in (b.0, is.2 ∙ b.1)
 step_begins (nothing_next filtered_out nanos) s line t h = absurd h
 
 -- a text that never begins with `line_front` leads nowhere, whatever follows

@@ -25,5 +25,6 @@ pub mod SoFar
 pub mod States
 pub mod Summaries
 pub mod Tallies
+pub mod Times
 pub mod WholeLines
 pub mod Writing

@@ -8,8 +8,8 @@ use Rattle.std.proofs.lemmas.List.{append_cancel_left, append_cancel_right}
 use Rattle.mimic_trial.specs.declared.outcome.Outcome.TheVariants.{Failed}
 use Rattle.mimic_trial.specs.Escape.{escape, escaped}
 use Rattle.mimic_printer.specs.Row.{Label}
-use Rattle.mimic_printer.specs.Json.{announcement_front, event_field, json_announcement, json_end, json_title, kind_field, kind_key, stdout_key, title_front}
-use Rattle.mimic_events.specs.LineParts.{Follows, ReadsQuoted, ReadsNamed, ReadsNumber, IsFailure, IsKind, IsQuoted, tail}
+use Rattle.mimic_printer.specs.Json.{announcement_front, json_announcement, json_end, json_title, kind_field, kind_key, stdout_key, title_front}
+use Rattle.mimic_events.specs.LineParts.{Follows, ReadsQuoted, ReadsNamed, ReadsNumber, IsKind, IsQuoted, IsSaid, behind_time}
 use Rattle.mimic_events.specs.Reading.{Decodes, IsAnnouncement, IsTitle}
 use Rattle.mimic_events.proofs.Fronts.{follows_then, follows_stop}
 
@@ -115,9 +115,6 @@ title_some line rest end n e h last = (
 
 -- ---- the message of a failure
 
-abbrev pub failure_front : List ℕ
-failure_front = event_field (codes "failed") ++ stdout_key
-
 -- the message, and the quote and the line end after it
 abbrev pub said : List ℕ → List ℕ
 said message = message ++ codes "\"\n"
@@ -126,17 +123,17 @@ escaped_said : (message : List ℕ) → escaped (said message) ≡ escaped messa
 unfolding escaped
 escaped_said message = flat_map-append escape message (codes "\"\n")
 
-pub failure_is : (message : List ℕ) → tail (Failed (Some message)) ≡ failure_front ++ (escaped (said message) ++ 34 ∷ json_end)
-failure_is message = rw (escaped_said message) (simp append_assoc)
+pub message_is : (message : List ℕ) → behind_time (Failed (Some message)) ≡ stdout_key ++ (escaped (said message) ++ 34 ∷ json_end)
+message_is message = rw (escaped_said message) (simp append_assoc)
 
 said_one : (a b : List ℕ) → said a ≡ said b → a ≡ b
 said_one a b e = append_cancel_right a b (codes "\"\n") e
 
-pub failure_some : (text said_text : List ℕ) (o : Option (List ℕ)) (message : List ℕ) → Decodes (IsQuoted failure_front) text (Some said_text) → said_text ≡ said message
-    → MatchOption o (IsUtf8 message → ⊥) (λ t. (t ≡ message) × IsUtf8 message) → Decodes IsFailure text o
-failure_some text st None message h e t = λ v f.
-    let same = h.1 (said v) (f.1 ∙ failure_is v) ∙ e in t (subst IsUtf8 (said_one v message same) f.0)
-failure_some text st (Some m) message h e t = (
-  (subst IsUtf8 (sym t.0) t.1, h.0 ∙ ap (λ (x : List ℕ). failure_front ++ (escaped x ++ 34 ∷ json_end)) (e ∙ ap said (sym t.0)) ∙ sym (failure_is m)),
-  λ v f. said_one v message (h.1 (said v) (f.1 ∙ failure_is v) ∙ e) ∙ sym t.0,
+pub message_some : (text said_text : List ℕ) (o : Option (List ℕ)) (message : List ℕ) → Decodes (IsQuoted stdout_key) text (Some said_text) → said_text ≡ said message
+    → MatchOption o (IsUtf8 message → ⊥) (λ t. (t ≡ message) × IsUtf8 message) → Decodes IsSaid text o
+message_some text st None message h e t = λ v f.
+    let same = h.1 (said v) (f.1 ∙ message_is v) ∙ e in t (subst IsUtf8 (said_one v message same) f.0)
+message_some text st (Some m) message h e t = (
+  (subst IsUtf8 (sym t.0) t.1, h.0 ∙ ap (λ (x : List ℕ). stdout_key ++ (escaped x ++ 34 ∷ json_end)) (e ∙ ap said (sym t.0)) ∙ sym (message_is m)),
+  λ v f. said_one v message (h.1 (said v) (f.1 ∙ message_is v) ∙ e) ∙ sym t.0,
 )

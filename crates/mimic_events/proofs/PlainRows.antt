@@ -8,15 +8,15 @@ use Rattle.mimic_trial.specs.Count.{is_measured}
 use Rattle.mimic_trial.specs.Escape.{escape, escaped}
 use Rattle.mimic_trial.proofs.Escapes.{escaped-plain}
 use Rattle.mimic_printer.specs.Row.{Label}
-use Rattle.mimic_printer.specs.Json.{FitsLabel, IsLine, announcement_front, json_announcement, json_end, json_outcome, kind_field, kind_key, outcome_front}
-use Rattle.mimic_events.specs.LineParts.{BeginsRow, IsPlainText, IsWord, SpellsLabel, tail}
+use Rattle.mimic_printer.specs.Json.{FitsLabel, FitsTime, IsLine, announcement_front, json_announcement, json_end, json_outcome, kind_field, kind_key, outcome_front, time_field}
+use Rattle.mimic_events.specs.LineParts.{BeginsEvent, BeginsRow, BeginsTail, IsPlainText, IsWord, SpellsLabel, tail}
 use Rattle.mimic_printer.proofs.JsonLines.{announcement_line}
 use Rattle.mimic_events.specs.declared.progress.Progress.{Progress}
 use Rattle.mimic_events.specs.declared.row_reader.RowReader.{RowReader}
 use Rattle.mimic_events.specs.Progress.{CountsRow, State, Takes, state_text, state_with}
 use Rattle.mimic_events.specs.Readers.{Known, PassesRows, ReadsOn}
 use Rattle.mimic_events.specs.Reading.{Decodes, IsAnnouncement, IsOutcome}
-use Rattle.mimic_events.proofs.EndedLines.{ended_some, is_word, named, outcome_is, word_parts}
+use Rattle.mimic_events.proofs.EndedLines.{ended_some, is_word, named, outcome_is, tail_parts, word_parts}
 use Rattle.mimic_events.proofs.Escapes.{one_split}
 use Rattle.mimic_events.proofs.NamedLines.{announcement_is, quoted_kind}
 use Rattle.mimic_events.proofs.QuotedTexts.{no_quote}
@@ -77,31 +77,47 @@ plain_kind text name middle (b ∷ kind) rest plain also some e f =
     (e ∙ ap₂ (λ (x : List ℕ) (y : List ℕ). x ++ 34 ∷ y) (sym (escaped-plain name plain.1)) quoted)
 
 -- the two lines, one after another
-row_text : (text bytes a b c d left rest : List ℕ) (label : Label) (outcome : Outcome)
+row_text : (text bytes a b c d left rest : List ℕ) (label : Label) (outcome : Outcome) (time : Option ℕ)
     → bytes ≡ escaped label.name ++ 34 ∷ kind_field label.kind → IsWord outcome → text ≡ announcement_front ++ a
-    → a ≡ bytes ++ b → b ≡ json_end ++ c → c ≡ outcome_front false ++ d → d ≡ bytes ++ left → left ≡ tail outcome ++ rest
-    → text ≡ json_announcement label ++ (json_outcome label outcome ++ rest)
-row_text text bytes a b c d left rest label outcome spelled word e f g h i j =
+    → a ≡ bytes ++ b → b ≡ json_end ++ c → c ≡ outcome_front false ++ d → d ≡ bytes ++ left → left ≡ tail outcome time ++ rest
+    → text ≡ json_announcement label ++ (json_outcome label outcome time ++ rest)
+row_text text bytes a b c d left rest label outcome time spelled word e f g h i j =
     let first : text ≡ json_announcement label ++ c = rw (e, f, g, spelled, announcement_is label) (simp append_assoc) in
-    let second : c ≡ json_outcome label outcome ++ rest = rw (h, i, j, spelled, outcome_is label outcome, (word_parts outcome word).0) (simp append_assoc) in
+    let second : c ≡ json_outcome label outcome time ++ rest = rw (h, i, j, spelled, outcome_is label outcome time, (word_parts outcome word).0) (simp append_assoc) in
     first ∙ ap (λ (x : List ℕ). json_announcement label ++ x) second
 
 pub row_some : (text label a b c d left : List ℕ) (o : Option (Outcome × Bor (List ℕ))) → text ≡ announcement_front ++ a → SpellsLabel label → a ≡ label ++ b → b ≡ json_end ++ c → c ≡ outcome_front false ++ d
-    → d ≡ label ++ left → IfSome o (λ x. IsWord x.0 × (left ≡ tail x.0 ++ x.1.now)) → IfSome o (λ x. BeginsRow text x.0 x.1.now)
+    → d ≡ label ++ left → IfSome o (λ x. BeginsTail left x.0 x.1.now) → IfSome o (λ x. BeginsRow text x.0 x.1.now)
 row_some text label a b c d left None e s f g h i j = tt
-row_some text label a b c d left (Some x) e s f g h i (word, j) =
-    record { label = s.label; fits = s.fits; word = word; parts = row_text text label a b c d left x.1.now s.label x.0 s.spelled word e f g h i j }
+row_some text label a b c d left (Some x) e s f g h i (word, (time, lasts, j)) = record {
+  label = s.label;
+  fits = s.fits;
+  word = word;
+  time = time;
+  time_fits = lasts;
+  parts = row_text text label a b c d left x.1.now s.label x.0 time s.spelled word e f g h i j;
+}
+
+-- a tail without a time
+pub untimed : (text rest : List ℕ) (w : Outcome) → IsWord w → text ≡ tail w None ++ rest → BeginsTail text w rest
+untimed text rest w word e = (word, (None, tt, e))
+
+-- a tail by its word, its time and its end
+pub timed : (text behind last rest : List ℕ) (w : Outcome) (time : Option ℕ) → BeginsEvent text w behind → FitsTime time → behind ≡ time_field time ++ last → last ≡ json_end ++ rest → BeginsTail text w rest
+timed text behind last rest w time (word, e) lasts f g =
+    let parts = word_parts w word in
+    (word, (time, lasts, rw (e, f, g, tail_parts w time parts.0, parts.2) (simp append_assoc)))
 
 -- ---- each of the two lines is one thing only
 
 pub announces_one : (label : Label) → FitsLabel label → Decodes IsAnnouncement (json_announcement label) (Some label)
 announces_one label fits = ((fits, refl), λ v h. sym (one_announcement label v h.1))
 
-at_tail : (label : Label) (outcome : Outcome) → is_measured outcome ≡ false → json_outcome label outcome ≡ named false label ++ tail outcome
-at_tail label outcome e = rw (outcome_is label outcome, e) (simp append_assoc)
+at_tail : (label : Label) (outcome : Outcome) (time : Option ℕ) → is_measured outcome ≡ false → json_outcome label outcome time ≡ named false label ++ tail outcome time
+at_tail label outcome time e = rw (outcome_is label outcome time, e) (simp append_assoc)
 
-pub ends_one : (label : Label) (w : Outcome) → IsWord w → Decodes (IsOutcome label) (json_outcome label w) (Some w)
-ends_one label w word = ended_some false _ label (tail w) (Some w) (at_tail label w (word_parts w word).0) (is_word (tail w) w word refl)
+pub ends_one : (label : Label) (w : Outcome) (time : Option ℕ) → IsWord w → FitsTime time → Decodes (IsOutcome label) (json_outcome label w time) (Some (w, time))
+ends_one label w time word lasts = ended_some false _ label (tail w time) (Some (w, time)) (at_tail label w time (word_parts w word).0) (is_word (tail w time) w time word lasts refl)
 
 -- ---- rows that were passed
 
@@ -113,28 +129,28 @@ both_lines s mid t a o known is also first second =
     (two.0 ∙ ap (λ (x : List ℕ). x ++ o) one.0 ∙ append_assoc (state_text s ++ []) a o, two.1)
 
 one_passed : (b c : RowReader) (left after : List ℕ) → b.stuck ≡ false → b.rest.items ≡ [] → c.stuck ≡ false → c.rest.items ≡ [] → (r : CountsRow b.progress left c.progress after)
-    → ReadsOn b (json_announcement r.entry.label ++ json_outcome r.entry.label r.entry.outcome) c (r.entry ∷ [])
+    → ReadsOn b (json_announcement r.entry.label ++ json_outcome r.entry.label r.entry.outcome r.entry.nanos) c (r.entry ∷ [])
 one_passed b c left after free none stays still r entries sound =
     let s = state_with b.progress entries in
     let t = state_with c.progress (entries ++ r.entry ∷ []) in
     let known : Known s [] false = subst (λ (x : List ℕ). Known s x false) none (subst (λ (k : Bool). Known s b.rest.items k) free sound.known) in
-    let both = both_lines s _ t _ _ known (announcement_line r.entry.label) (an_outcome r.entry.label r.entry.outcome r.fits.label r.fits.outcome) (r.announced entries sound.counted) (r.ended entries sound.counted) in (
+    let both = both_lines s _ t _ _ known (announcement_line r.entry.label) (an_outcome r.entry.label (r.entry.outcome, r.entry.nanos) r.fits.label r.fits.outcome r.fits.nanos) (r.announced entries sound.counted) (r.ended entries sound.counted) in (
       record {
         counted = r.counted entries sound.counted;
         known = subst (λ (k : Bool). Known t c.rest.items k) (sym stays) (subst (λ (x : List ℕ). Known t x false) (sym still) both.1);
       },
-      ap (λ (x : List ℕ). state_text t ++ x) still ∙ both.0 ∙ ap (λ (x : List ℕ). (state_text s ++ x) ++ (json_announcement r.entry.label ++ json_outcome r.entry.label r.entry.outcome)) (sym none),
+      ap (λ (x : List ℕ). state_text t ++ x) still ∙ both.0 ∙ ap (λ (x : List ℕ). (state_text s ++ x) ++ (json_announcement r.entry.label ++ json_outcome r.entry.label r.entry.outcome r.entry.nanos)) (sym none),
     )
 
 pub row_passed : (a b c : RowReader) (piece left after : List ℕ) → PassesRows a piece b left → b.stuck ≡ false → b.rest.items ≡ [] → c.stuck ≡ false → c.rest.items ≡ [] → CountsRow b.progress left c.progress after → PassesRows a piece c after
 row_passed a b c piece left after p free none stays still r =
-    let lines : List ℕ = json_announcement r.entry.label ++ json_outcome r.entry.label r.entry.outcome in
-    let here : left ≡ lines ++ after = r.parts ∙ sym (append_assoc (json_announcement r.entry.label) (json_outcome r.entry.label r.entry.outcome) after) in
+    let lines : List ℕ = json_announcement r.entry.label ++ json_outcome r.entry.label r.entry.outcome r.entry.nanos in
+    let here : left ≡ lines ++ after = r.parts ∙ sym (append_assoc (json_announcement r.entry.label) (json_outcome r.entry.label r.entry.outcome r.entry.nanos) after) in
     (p.0 ++ r.entry ∷ [], reads_then a b c piece left lines after p.0 (r.entry ∷ []) p.1 here (one_passed b c left after free none stays still r))
 
 pub row_shorter : (old new : Progress) (text rest : List ℕ) → CountsRow old text new rest → length rest < length text
 row_shorter old new text rest r =
     let first : List ℕ = json_announcement r.entry.label in
-    let second : List ℕ = json_outcome r.entry.label r.entry.outcome in
+    let second : List ℕ = json_outcome r.entry.label r.entry.outcome r.entry.nanos in
     let is = announcement_line r.entry.label in
     omega (arith, ap length r.parts, length-append first (second ++ rest), length-append second rest, ap length is.parts, length-append is.front (10 ∷ []))

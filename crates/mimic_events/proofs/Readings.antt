@@ -29,7 +29,7 @@ rows_run n old (e ∷ es) le fits =
     let rest = rows_run n (old ++ e ∷ []) es (omega (arith, le, length-append old (e ∷ []))) fits.1 in (
       record { next = outcome_next e.label; announced = n; entries = old },
       inl (omega (arith, le), e.label, (fits.0.label, refl), refl),
-      (record { next = row_next; announced = n; entries = old ++ e ∷ [] }, (e.outcome, (fits.0.outcome, refl), refl), rw append_assoc at rest),
+      (record { next = row_next; announced = n; entries = old ++ e ∷ [] }, ((e.outcome, e.nanos), (fits.0.outcome, fits.0.nanos, refl), refl), rw append_assoc at rest),
     )
 
 -- a title and the lines of rows lead to the state after them
@@ -44,7 +44,7 @@ longer_from : (next : Next) (s : State) (line : List ℕ) (t : State) → LeadsF
 longer_from title_next s line t (count, is, e) = ([], ap (λ (u : State). u.entries) e ∙ sym (append-nil s.entries))
 longer_from row_next s line t (inl (more, label, is, e)) = ([], ap (λ (u : State). u.entries) e ∙ sym (append-nil s.entries))
 longer_from row_next s line t (inr (all, numbers, is, e)) = ([], ap (λ (u : State). u.entries) e ∙ sym (append-nil s.entries))
-longer_from (outcome_next label) s line t (outcome, is, e) = (record { label = label; outcome = outcome } ∷ [], ap (λ (u : State). u.entries) e)
+longer_from (outcome_next label) s line t (end, is, e) = (record { label = label; outcome = end.0; nanos = end.1 } ∷ [], ap (λ (u : State). u.entries) e)
 longer_from (nothing_next filtered_out nanos) s line t h = absurd h
 
 longer : (s : State) (lines : List (List ℕ)) (t : State) → Runs s lines t → (more : List Entry) × (t.entries ≡ s.entries ++ more)

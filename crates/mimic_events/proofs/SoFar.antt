@@ -1,12 +1,11 @@
 -- What the lines that were read say so far.
 use Rattle.std.proofs.Common.{◌≡◌, ◌≢◌, ℕ, ◌<◌, ◌^◌, List, [], ◌∷◌, ◌++◌, Bool, true, false, Option, Some, refl, sym, ap, subst, ◌∙◌, append_assoc, inl, inr, arith}
 use Rattle.std.specs.List.{concat, flat_map}
-use Rattle.mimic_trial.specs.declared.outcome.Outcome.{Outcome}
 use Rattle.mimic_trial.specs.Promise.{FitsTypes}
 use Rattle.mimic_printer.specs.Row.{Label}
-use Rattle.mimic_printer.specs.Json.{Entry, FitsLabel, IsLine, entry_lines, json_announcement, json_outcome}
+use Rattle.mimic_printer.specs.Json.{Entry, FitsLabel, FitsTime, IsLine, entry_lines, json_announcement, json_outcome}
 use Rattle.mimic_printer.proofs.JsonLines.{announcement_line, rows_each}
-use Rattle.mimic_events.specs.Reading.{Decodes}
+use Rattle.mimic_events.specs.Reading.{Decodes, End}
 use Rattle.mimic_events.specs.Progress.{Fits, FitsNext, LeadsFrom, Next, Runs, State, announced_from, running_from, start, state_text, text_so_far, title_next, row_next, outcome_next, nothing_next}
 use Rattle.mimic_events.specs.Readers.{IsUnread, Known, Leads}
 use Rattle.mimic_events.specs.SoFar.{BeginsWithTitle, ShowsRunning}
@@ -23,7 +22,7 @@ stays_from : (next : Next) (s : State) (line : List ℕ) (t : State) (n : ℕ) �
 stays_from title_next s line t n h step = absurd cc
 stays_from row_next s line t n h (inl (more, label, is, e)) = ap announced_in e ∙ h
 stays_from row_next s line t n h (inr (all, numbers, is, e)) = ap announced_in e ∙ h
-stays_from (outcome_next label) s line t n h (outcome, is, e) = ap announced_in e ∙ h
+stays_from (outcome_next label) s line t n h (end, is, e) = ap announced_in e ∙ h
 stays_from (nothing_next filtered_out nanos) s line t n h step = absurd step
 
 -- a title that was read stays the title
@@ -76,20 +75,22 @@ running_read s rest stuck known label h =
   where
     at : (lines : List (List ℕ)) → Runs (announced_state label (state_text s ++ rest) h) lines s → h.rest ≡ concat lines ++ rest → running_in s ≡ Some label
     at [] run e = ap running_in (sym run)
-    at (l ∷ lines) (next, (outcome, is, same), run) e =
-        absurd (h.unended outcome (concat lines ++ rest) is.0 (e ∙ append_assoc l (concat lines) rest ∙ ap (λ (x : List ℕ). x ++ (concat lines ++ rest)) is.1))
+    at (l ∷ lines) (next, (end, is, same), run) e =
+        absurd (h.unended end (concat lines ++ rest) is.0 is.1 (e ∙ append_assoc l (concat lines) rest ∙ ap (λ (x : List ℕ). x ++ (concat lines ++ rest)) is.2))
 
 -- no outcome of the trial follows
-pub an_outcome : (label : Label) (outcome : Outcome) → FitsLabel label → FitsTypes outcome → IsLine (json_outcome label outcome)
-an_outcome label outcome named fits = (rows_each (record { label = label; outcome = outcome } ∷ []) (record { label = named; outcome = fits }, tt)).1.0
+pub an_outcome : (label : Label) (end : End) → FitsLabel label → FitsTypes end.0 → FitsTime end.1 → IsLine (json_outcome label end.0 end.1)
+an_outcome label end named fits lasts =
+    (rows_each (record { label = label; outcome = end.0; nanos = end.1 } ∷ []) (record { label = named; outcome = fits; nanos = lasts }, tt)).1.0
 
-unended : (s : State) (rest : List ℕ) (stuck : Bool) (label : Label) → s.next ≡ outcome_next label → FitsLabel label → IsUnread stuck s rest → (outcome : Outcome) (after : List ℕ) → FitsTypes outcome → rest ≢ json_outcome label outcome ++ after
-unended s rest false label at named unread outcome after fits e = no_line (json_outcome label outcome) after rest (an_outcome label outcome named fits) unread (sym e)
-unended s rest true label at named unread outcome after fits e =
-    let same = one_line unread.line (json_outcome label outcome) unread.more after unread.whole (an_outcome label outcome named fits) (sym unread.parts ∙ e) in
-    let one : Entry = record { label = label; outcome = outcome } in
+unended : (s : State) (rest : List ℕ) (stuck : Bool) (label : Label) → s.next ≡ outcome_next label → FitsLabel label → IsUnread stuck s rest → (end : End) (after : List ℕ)
+    → FitsTypes end.0 → FitsTime end.1 → rest ≢ json_outcome label end.0 end.1 ++ after
+unended s rest false label at named unread end after fits lasts e = no_line (json_outcome label end.0 end.1) after rest (an_outcome label end named fits lasts) unread (sym e)
+unended s rest true label at named unread end after fits lasts e =
+    let same = one_line unread.line (json_outcome label end.0 end.1) unread.more after unread.whole (an_outcome label end named fits lasts) (sym unread.parts ∙ e) in
+    let one : Entry = record { label = label; outcome = end.0; nanos = end.1 } in
     let next : State = record s { next = row_next; entries = s.entries ++ one ∷ [] } in
-    unread.nowhere next (subst (λ (n : Next). LeadsFrom n s unread.line next) (sym at) (outcome, (fits, same.0), refl))
+    unread.nowhere next (subst (λ (n : Next). LeadsFrom n s unread.line next) (sym at) (end, (fits, lasts, same.0), refl))
 
 running_at : (next : Next) (s : State) (rest : List ℕ) (stuck : Bool) → s.next ≡ next → Fits s → FitsNext next s → IsUnread stuck s rest
     → ((label : Label) → ShowsRunning label (text_so_far next s ++ rest) → running_from next ≡ Some label)

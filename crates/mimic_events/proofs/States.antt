@@ -8,7 +8,7 @@ use Rattle.mimic_trial.specs.declared.outcome.Outcome.{Outcome}
 use Rattle.mimic_printer.specs.Row.{Label}
 use Rattle.mimic_printer.specs.Json.{Entry, FitsEntry, entry_lines, json_announcement, json_outcome}
 use Rattle.mimic_events.specs.Progress.{Announces, Ends, Fits, FitsNext, LeadsFrom, Next, State, Step, Takes, state_text, text_so_far, title_and, title_next, row_next, outcome_next, nothing_next}
-use Rattle.mimic_events.specs.Reading.{Decodes, IsAnnouncement, IsOutcome, IsSummary, IsTitle}
+use Rattle.mimic_events.specs.Reading.{Decodes, End, IsAnnouncement, IsOutcome, IsSummary, IsTitle}
 
 -- ---- a step
 
@@ -17,7 +17,7 @@ fits_more [] e h one = (one, tt)
 fits_more (x ∷ entries) e h one = (h.0, fits_more entries e h.1 one)
 
 -- the lines of rows, and those of one more
-pub rows_more : (entries : List Entry) (e : Entry) → concat (flat_map entry_lines (entries ++ e ∷ [])) ≡ concat (flat_map entry_lines entries) ++ (json_announcement e.label ++ json_outcome e.label e.outcome)
+pub rows_more : (entries : List Entry) (e : Entry) → concat (flat_map entry_lines (entries ++ e ∷ [])) ≡ concat (flat_map entry_lines entries) ++ (json_announcement e.label ++ json_outcome e.label e.outcome e.nanos)
 rows_more entries e =
     ap concat (flat_map-append entry_lines entries (e ∷ [])) ∙ concat-append (flat_map entry_lines entries) (entry_lines e) ∙ simp append-nil
 
@@ -36,16 +36,16 @@ keeps_from row_next old line new few fits at (inl (more, label, is, e)) =
 keeps_from row_next old line new few fits at (inr (all, numbers, is, e)) =
     let there : State = record old { next = nothing_next numbers.0 numbers.1 } in
     subst (Keeps (title_and old) line) (sym e) (ap (λ (l : List ℕ). title_and old ++ l) (sym is.2), record { announced = few; entries = fits; next = (omega (arith, at, all), is.0, is.1) })
-keeps_from (outcome_next label) old line new few fits at (outcome, is, e) =
-    let one : Entry = record { label = label; outcome = outcome } in
+keeps_from (outcome_next label) old line new few fits at (end, is, e) =
+    let one : Entry = record { label = label; outcome = end.0; nanos = end.1 } in
     let there : State = record old { next = row_next; entries = old.entries ++ one ∷ [] } in
     let lines = rows_more old.entries one in
-    let text : state_text there ≡ text_so_far (outcome_next label) old ++ line = rw (is.1, lines) (simp append_assoc) in
+    let text : state_text there ≡ text_so_far (outcome_next label) old ++ line = rw (is.2, lines) (simp append_assoc) in
     subst (Keeps (text_so_far (outcome_next label) old) line) (sym e) (
       text,
       record {
         announced = few;
-        entries = fits_more old.entries one fits (record { label = at.1; outcome = is.0 });
+        entries = fits_more old.entries one fits (record { label = at.1; outcome = is.0; nanos = is.1 });
         next = omega (arith, at.0, length-append old.entries (one ∷ []));
       },
     )
@@ -66,9 +66,10 @@ one_label s line label t more only (inr (all, numbers, is, e)) = absurd (omega (
 pub takes_announcement : (s : State) (line : List ℕ) (label : Label) → s.next ≡ row_next → length s.entries < s.announced → Decodes IsAnnouncement line (Some label) → Takes true s line (record s { next = outcome_next label })
 takes_announcement s line label at more d = rw at (inl (more, label, d.0, refl), λ t h. one_label s line label t more d.1 h)
 
-pub takes_outcome : (s : State) (line : List ℕ) (label : Label) (outcome : Outcome) → s.next ≡ outcome_next label → Decodes (IsOutcome label) line (Some outcome)
-    → Takes true s line (record s { next = row_next; entries = s.entries ++ record { label = label; outcome = outcome } ∷ [] })
-takes_outcome s line label outcome at d = rw at ((outcome, d.0, refl), λ t h. h.2 ∙ ap (λ (o : Outcome). record s { next = row_next; entries = s.entries ++ record { label = label; outcome = o } ∷ [] }) (d.1 h.0 h.1))
+pub takes_outcome : (s : State) (line : List ℕ) (label : Label) (end : End) → s.next ≡ outcome_next label → Decodes (IsOutcome label) line (Some end)
+    → Takes true s line (record s { next = row_next; entries = s.entries ++ record { label = label; outcome = end.0; nanos = end.1 } ∷ [] })
+takes_outcome s line label end at d =
+    rw at ((end, d.0, refl), λ t h. h.2 ∙ ap (λ (x : End). record s { next = row_next; entries = s.entries ++ record { label = label; outcome = x.0; nanos = x.1 } ∷ [] }) (d.1 h.0 h.1))
 
 -- ---- after all rows
 

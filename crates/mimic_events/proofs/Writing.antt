@@ -20,11 +20,11 @@ use Rattle.mimic_events.specs.Written.{FitsRow, row_lines}
 
 -- ---- a row
 
-pub row_put : {E T : Type 0} (a b : Shown) (l m : Label) (o : Outcome) (r : Result T E) → l ≡ m
-    → Writes a b (json_announcement l ++ json_outcome l o) r → Writes a b (json_announcement m ++ (json_outcome m o ++ [])) r
-row_put a b l m o r e p =
-    subst (λ (x : Label). Writes a b (json_announcement x ++ (json_outcome x o ++ [])) r) e
-    (subst (λ (t : List ℕ). Writes a b (json_announcement l ++ t) r) (sym (append-nil (json_outcome l o))) p)
+pub row_put : {E T : Type 0} (a b : Shown) (l m : Label) (o : Outcome) (time : Option ℕ) (r : Result T E) → l ≡ m
+    → Writes a b (json_announcement l ++ json_outcome l o time) r → Writes a b (json_announcement m ++ (json_outcome m o time ++ [])) r
+row_put a b l m o time r e p =
+    subst (λ (x : Label). Writes a b (json_announcement x ++ (json_outcome x o time ++ [])) r) e
+    (subst (λ (t : List ℕ). Writes a b (json_announcement l ++ t) r) (sym (append-nil (json_outcome l o time))) p)
 
 -- ---- the text
 

@@ -11,11 +11,12 @@ use Rattle.mimic_events.specs.declared.report.Totals.{Totals}
 abbrev pub label_read : LabelRead → Label
 label_read label = record { kind = string_bytes label.kind; name = string_bytes label.name }
 
--- what a row that was read says: its name, its kind and its outcome
+-- what a row that was read says: its name, its kind, its outcome and its time
 abbrev pub entry_read : Row → Entry
 entry_read row = record {
   label = record { kind = string_bytes row.kind; name = string_bytes row.name };
   outcome = row.outcome;
+  nanos = row.nanos;
 }
 
 -- what a report that was read says: the entries of its rows, and its two numbers

@@ -1,16 +1,17 @@
 -- What the private readers of parts of a line promise one another. No public clause names these words.
-use Rattle.std.specs.Prelude.{◌≡◌, ◌≢◌, ℕ, ◌+◌, ◌-◌, ◌<◌, ◌≤◌, ◌^◌, ◌==◌, nat_lt, if◌then◌else◌, Bool, List, [], ◌∷◌, ◌++◌, decimal, Option, Some, None, IsUtf8}
+use Rattle.std.specs.Prelude.{◌≡◌, ◌≢◌, ℕ, ◌+◌, ◌-◌, ◌<◌, ◌≤◌, ◌^◌, ◌==◌, nat_lt, if◌then◌else◌, Bool, true, List, [], ◌∷◌, ◌++◌, decimal, Option, Some, None, IsUtf8, codes, ◌⊎◌}
 use Rattle.std.specs.Borrow.{Bor}
+use Rattle.std.specs.List.{AllByRecursion}
 use Rattle.std.specs.Str.Parse.{AllDigits}
 use Rattle.mimic_trial.specs.declared.outcome.Outcome.{Outcome}
 use Rattle.mimic_trial.specs.declared.outcome.Outcome.TheVariants.{Passed, Failed, Ignored, Measured}
-use Rattle.mimic_trial.specs.Count.{is_measured}
+use Rattle.mimic_trial.specs.Count.{is_failed, is_measured}
 use Rattle.mimic_trial.specs.Escape.{ArePlain, escape, escaped}
 use Rattle.mimic_printer.specs.Row.{Label}
-use Rattle.mimic_printer.specs.Json.{Entry, FitsLabel, json_announcement, json_end, json_line, json_outcome, kind_field, outcome_fields, time_key}
+use Rattle.mimic_printer.specs.Json.{Entry, FitsLabel, FitsTime, event_field, json_announcement, json_end, json_line, json_outcome, kind_field, outcome_fields, stdout_key, time_field, time_key}
 use Rattle.mimic_trial.specs.Seconds.{exact_seconds}
 use Rattle.mimic_trial.specs.Promise.{FitsTypes}
-use Rattle.mimic_events.specs.Reading.{IsFailedLine}
+use Rattle.mimic_events.specs.Reading.{End, IsFailedLine}
 
 -- ---- fronts
 
@@ -108,16 +109,68 @@ abbrev pub IsKind : List ℕ → List ℕ → Type 0
 IsKind kind text = IsUtf8 kind × (text ≡ kind_field kind ++ json_end)
 
 -- what follows the name and the kind in the line of an outcome
-abbrev pub tail : Outcome → List ℕ
-tail outcome = json_line (outcome_fields outcome)
+abbrev pub tail : Outcome → Option ℕ → List ℕ
+tail outcome time = json_line (outcome_fields outcome time)
 
--- the text is the tail of this outcome, which was measured or wasn't
-abbrev pub IsTail : Bool → Outcome → List ℕ → Type 0
-IsTail measured outcome text = (is_measured outcome ≡ measured) × FitsTypes outcome × (text ≡ tail outcome)
+-- the text is the tail of this outcome, which was measured or wasn't, with this time
+abbrev pub IsTail : Bool → End → List ℕ → Type 0
+IsTail measured end text = (is_measured end.0 ≡ measured) × FitsTypes end.0 × FitsTime end.1 × (text ≡ tail end.0 end.1)
 
--- what follows them if it failed with this message
-abbrev pub IsFailure : List ℕ → List ℕ → Type 0
-IsFailure message text = IsUtf8 message × (text ≡ tail (Failed (Some message)))
+-- the field that says an outcome in a word, and nothing for a measurement
+abbrev pub word_field : Outcome → List ℕ
+word_field Passed = event_field (codes "ok")
+word_field (Failed message) = event_field (codes "failed")
+word_field Ignored = event_field (codes "ignored")
+word_field (Measured m) = []
+
+-- what follows the time: a failure's message, and the end of the line
+abbrev pub behind_time : Outcome → List ℕ
+behind_time (Failed (Some message)) = stdout_key ++ (escaped message ++ (codes "\\\"\\n\"" ++ json_end))
+behind_time outcome = json_end
+
+-- the text is what follows the word of a failure with this end
+abbrev pub IsFailedEnd : End → List ℕ → Type 0
+IsFailedEnd end text = (is_failed end.0 ≡ true) × FitsTypes end.0 × FitsTime end.1 × (text ≡ time_field end.1 ++ behind_time end.0)
+
+-- the text is what follows the time of a failure with this message, or without one
+abbrev pub IsMessage : Option (List ℕ) → List ℕ → Type 0
+IsMessage message text = FitsTypes (Failed message) × (text ≡ behind_time (Failed message))
+
+-- the same with a message
+abbrev pub IsSaid : List ℕ → List ℕ → Type 0
+IsSaid message text = IsUtf8 message × (text ≡ behind_time (Failed (Some message)))
+
+-- ---- times
+
+-- the byte is a digit or a point
+abbrev pub IsOfSeconds : ℕ → Type 0
+IsOfSeconds b = (b ≡ 46) ⊎ ((48 ≤ b) × (b ≤ 57))
+
+-- the bytes don't begin with a digit or a point
+abbrev pub EndsSeconds : List ℕ → Type 0
+EndsSeconds [] = Unit {0}
+EndsSeconds (b ∷ bytes) = IsOfSeconds b → ⊥
+
+-- the digits and points at the front, all of them, and the rest
+pub record SplitsSeconds (bytes front rest : List ℕ) : Type 0 where
+  pub parts : bytes ≡ front ++ rest
+  pub seconds : AllByRecursion IsOfSeconds front
+  pub stop : EndsSeconds rest
+
+-- what can follow a time in a line: its end, or a failure's message
+abbrev pub FollowsTime : List ℕ → Type 0
+FollowsTime rest = (rest ≡ json_end) ⊎ ((more : List ℕ) × (rest ≡ stdout_key ++ more))
+
+-- what was found is the time at the front, or none, before the rest, and no other does; if nothing was found, none does
+abbrev pub ReadsTime : List ℕ → Option (Option ℕ × List ℕ) → Type 0
+ReadsTime text None = (time : Option ℕ) (rest : List ℕ) → FitsTime time → FollowsTime rest → text ≡ time_field time ++ rest → ⊥
+ReadsTime text (Some found) = FitsTime found.0 × (text ≡ time_field found.0 ++ found.1)
+    × ((time : Option ℕ) (rest : List ℕ) → FitsTime time → FollowsTime rest → text ≡ time_field time ++ rest
+    → (time ≡ found.0) × (rest ≡ found.1))
+
+-- the text is this time and the end of the line
+abbrev pub IsTime : Option ℕ → List ℕ → Type 0
+IsTime time text = FitsTime time × (text ≡ time_field time ++ json_end)
 
 -- if the line says that a trial failed, the texts that were found are its name and kind; if none were found, it says it of none
 abbrev pub SaysFailed : List ℕ → Option Label → Type 0
@@ -126,7 +179,8 @@ SaysFailed line (Some label) = FitsLabel label × ((entry : Entry) → IsFailedL
 
 -- the text has no other kind before the tail of a failure
 abbrev pub SaysKind : List ℕ → List ℕ → Type 0
-SaysKind text kind = (other : List ℕ) (message : Option (List ℕ)) → text ≡ kind_field other ++ tail (Failed message) → other ≡ kind
+SaysKind text kind = (other : List ℕ) (message : Option (List ℕ)) (time : Option ℕ)
+    → text ≡ kind_field other ++ tail (Failed message) time → other ≡ kind
 
 -- what follows the counts of outcomes in a summary: how many trials were filtered out, and the nanoseconds
 abbrev pub IsTotals : ℕ × ℕ → List ℕ → Type 0
@@ -149,9 +203,19 @@ pub record SpellsLabel (bytes : List ℕ) : Type 0 where
   pub fits : FitsLabel label
   pub spelled : bytes ≡ escaped label.name ++ 34 ∷ kind_field label.kind
 
--- the text begins with the two lines of a row with this outcome, which is said in a word; the rest follows
+-- the text begins with the field of this outcome, which is said in a word, and the rest follows
+abbrev pub BeginsEvent : List ℕ → Outcome → List ℕ → Type 0
+BeginsEvent text outcome rest = IsWord outcome × (text ≡ word_field outcome ++ rest)
+
+-- the text begins with the tail of this outcome, which is said in a word, with some time, and the rest follows
+abbrev pub BeginsTail : List ℕ → Outcome → List ℕ → Type 0
+BeginsTail text outcome rest = IsWord outcome × ((time : Option ℕ) × FitsTime time × (text ≡ tail outcome time ++ rest))
+
+-- the text begins with the two lines of a row with this outcome, which is said in a word, and with some time; the rest follows
 pub record BeginsRow (text : List ℕ) (outcome : Outcome) (rest : List ℕ) : Type 0 where
   pub label : Label
   pub fits : FitsLabel label
   pub word : IsWord outcome
-  pub parts : text ≡ json_announcement label ++ (json_outcome label outcome ++ rest)
+  pub time : Option ℕ
+  pub time_fits : FitsTime time
+  pub parts : text ≡ json_announcement label ++ (json_outcome label outcome time ++ rest)

@@ -14,7 +14,7 @@ use Rattle.mimic_events.specs.declared.progress.Taken.TheVariants.{Astray, Read}
 use Rattle.mimic_events.specs.declared.report.Row.{Row}
 use Rattle.mimic_events.specs.declared.report.Totals.{Totals}
 use Rattle.mimic_events.specs.Contents.{entry_read, label_read}
-use Rattle.mimic_events.specs.Reading.{HasCounts, IsTitle, IsAnnouncement, IsOutcome, IsSummary}
+use Rattle.mimic_events.specs.Reading.{End, HasCounts, IsTitle, IsAnnouncement, IsOutcome, IsSummary}
 
 -- ---- states between lines
 
@@ -122,8 +122,8 @@ LeadsFrom title_next old line new = (count : ℕ) × IsTitle count line
     × (new ≡ record old { next = row_next; announced = count })
 LeadsFrom row_next old line new = Announces old line new ⊎ Ends old line new
 LeadsFrom (outcome_next label) old line new =
-    (outcome : Outcome) × IsOutcome label outcome line
-    × (new ≡ record old { next = row_next; entries = old.entries ++ record { label = label; outcome = outcome } ∷ [] })
+    (end : End) × IsOutcome label end line
+    × (new ≡ record old { next = row_next; entries = old.entries ++ record { label = label; outcome = end.0; nanos = end.1 } ∷ [] })
 LeadsFrom (nothing_next filtered_out nanos) old line new = ⊥
 
 -- the line leads from one state to the other
@@ -151,12 +151,12 @@ Moves old entries line new (Read row) = IsCounted new (entries ++ row_list row)
 pub record CountsRow (old : Progress) (text : List ℕ) (new : Progress) (rest : List ℕ) : Type 0 where
   pub entry : Entry
   pub fits : FitsEntry entry
-  pub parts : text ≡ json_announcement entry.label ++ (json_outcome entry.label entry.outcome ++ rest)
+  pub parts : text ≡ json_announcement entry.label ++ (json_outcome entry.label entry.outcome entry.nanos ++ rest)
   pub counted : (entries : List Entry) → IsCounted old entries → IsCounted new (entries ++ entry ∷ [])
   pub announced : (entries : List Entry) → IsCounted old entries
       → Takes true (state_with old entries) (json_announcement entry.label) (record (state_with old entries) { next = outcome_next entry.label })
   pub ended : (entries : List Entry) → IsCounted old entries
-      → Takes true (record (state_with old entries) { next = outcome_next entry.label }) (json_outcome entry.label entry.outcome) (state_with new (entries ++ entry ∷ []))
+      → Takes true (record (state_with old entries) { next = outcome_next entry.label }) (json_outcome entry.label entry.outcome entry.nanos) (state_with new (entries ++ entry ∷ []))
 
 -- the lines lead from one state to the other
 abbrev pub Runs : State → List (List ℕ) → State → Type 0

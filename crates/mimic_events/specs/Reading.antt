@@ -3,7 +3,7 @@ use Rattle.std.specs.Prelude.{◌≡◌, ℕ, ◌<◌, ◌^◌, true, List, deci
 use Rattle.mimic_trial.specs.declared.outcome.Outcome.{Outcome}
 use Rattle.mimic_trial.specs.declared.outcome.conclusion.Conclusion.{Conclusion}
 use Rattle.mimic_trial.specs.Count.{counts_of, is_failed}
-use Rattle.mimic_printer.specs.Json.{Entry, FitsEntry, FitsLabel, json_title, json_announcement, json_outcome, json_summary, outcomes_in}
+use Rattle.mimic_printer.specs.Json.{Entry, FitsEntry, FitsLabel, FitsTime, json_title, json_announcement, json_outcome, json_summary, outcomes_in}
 use Rattle.mimic_printer.specs.Row.{Label}
 use Rattle.mimic_trial.specs.Promise.{FitsTypes}
 use Rattle.mimic_trial.specs.Seconds.{exact_seconds}
@@ -33,13 +33,18 @@ IsTitle count line = (count < 2 ^ 64) × (line ≡ json_title count)
 abbrev pub IsAnnouncement : Label → List ℕ → Type 0
 IsAnnouncement label line = FitsLabel label × (line ≡ json_announcement label)
 
--- the line says this outcome of the trial of this name and kind
-abbrev pub IsOutcome : Label → Outcome → List ℕ → Type 0
-IsOutcome label outcome line = FitsTypes outcome × (line ≡ json_outcome label outcome)
+-- an outcome, and the nanoseconds that the trial took if the report says so
+abbrev pub End : Type 0
+End = Outcome × Option ℕ
+
+-- the line says this outcome and this time of the trial of this name and kind
+abbrev pub IsOutcome : Label → End → List ℕ → Type 0
+IsOutcome label end line = FitsTypes end.0 × FitsTime end.1 × (line ≡ json_outcome label end.0 end.1)
 
 -- the line says that the entry's trial failed, with a message or without one
 abbrev pub IsFailedLine : Entry → List ℕ → Type 0
-IsFailedLine entry line = (is_failed entry.outcome ≡ true) × FitsEntry entry × (line ≡ json_outcome entry.label entry.outcome)
+IsFailedLine entry line = (is_failed entry.outcome ≡ true) × FitsEntry entry
+    × (line ≡ json_outcome entry.label entry.outcome entry.nanos)
 
 -- the line ends a report of these rows; `numbers` are how many trials were filtered out, and the nanoseconds
 abbrev pub IsSummary : List Entry → ℕ × ℕ → List ℕ → Type 0

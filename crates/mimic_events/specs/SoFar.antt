@@ -1,12 +1,12 @@
 -- What the bytes so far say about a report, besides the rows that have ended (our own).
 use Rattle.std.specs.Prelude.{◌≡◌, ◌≢◌, ℕ, ◌+◌, ◌<◌, ◌^◌, List, ◌++◌, length}
 use Rattle.std.specs.List.{AllByRecursion, concat}
-use Rattle.mimic_trial.specs.declared.outcome.Outcome.{Outcome}
 use Rattle.mimic_trial.specs.Promise.{FitsTypes}
 use Rattle.mimic_printer.specs.Row.{Label}
-use Rattle.mimic_printer.specs.Json.{Contents, Entry, FitsLabel, IsLine, json_announcement, json_outcome, json_title}
+use Rattle.mimic_printer.specs.Json.{Contents, Entry, FitsLabel, FitsTime, IsLine, json_announcement, json_outcome, json_title}
 use Rattle.mimic_events.specs.Contents.{Spells}
 use Rattle.mimic_events.specs.Feed.{BeginsWith}
+use Rattle.mimic_events.specs.Reading.{End}
 
 -- the text begins with a title that announces `count` trials, whatever follows
 pub record BeginsWithTitle (count : ℕ) (text : List ℕ) : Type 0 where
@@ -22,7 +22,7 @@ pub record ShowsRunning (label : Label) (text : List ℕ) : Type 0 where
   pub rest : List ℕ
   pub announced : begins.rest ≡ json_announcement label ++ rest
   pub label_fits : FitsLabel label
-  pub unended : (outcome : Outcome) (after : List ℕ) → FitsTypes outcome → rest ≢ json_outcome label outcome ++ after
+  pub unended : (end : End) (after : List ℕ) → FitsTypes end.0 → FitsTime end.1 → rest ≢ json_outcome label end.0 end.1 ++ after
 
 -- some report, of fewer than 2^64 rows, begins with this text
 pub record BeginsReport (text : List ℕ) : Type 0 where

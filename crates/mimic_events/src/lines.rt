@@ -3,11 +3,11 @@ ghost use Rattle.std.specs.Prelude.{◌≡◌, ◌≢◌, ◌∷◌, ◌++◌, �
 ghost use Rattle.mimic_trial.specs.Escape.{escaped};
 ghost use Rattle.mimic_events.specs.Contents.{entry_read, label_read};
 ghost use Rattle.mimic_printer.specs.Json.{kind_field};
-ghost use Rattle.mimic_events.specs.LineParts.{Follows, IsFailure, IsKind, IsQuoted, IsTail, SaysFailed, SaysKind};
+ghost use Rattle.mimic_events.specs.LineParts.{Follows, IsFailedEnd, IsKind, IsMessage, IsQuoted, IsSaid, IsTail, IsTime, SaysFailed, SaysKind};
 ghost use Rattle.mimic_events.specs.Reading.{Decodes, IsTitle, IsAnnouncement, IsFailedLine, IsOutcome};
 
 use crate::ends::{after, before};
-use crate::numbers::number_at;
+use crate::numbers::{number_at, time_at};
 use crate::quoted_text::{after_quoted, quoted_after};
 use crate::report::{Label, Row};
 use mimic_trial::{Failed, Measurement, Outcome};
@@ -72,21 +72,21 @@ fn last_quoted(alloc: Global, text: &[u8], front: &[u8]) -> Result<Option<Vec<u8
     }
 }
 
-// Returns the outcome that a line reports for this trial.
+// Returns the outcome that a line reports for this trial, and the nanoseconds that it took if the line says so.
 pub(crate) fn ended(
     alloc: Global,
     label: &Label,
     line: &[u8],
-) -> Result<Option<Outcome>, AllocError>
-    ensures { IfOk result (λ outcome. Decodes (IsOutcome (label_read label.now)) line.now outcome) }
+) -> Result<Option<(Outcome, Option<u64>)>, AllocError>
+    ensures { IfOk result (λ end. Decodes (IsOutcome (label_read label.now)) line.now end) }
 {
     if let Some(rest) = after_label(line, br#"{ "type": "bench", "name": ""#, label) {
         return Ok(measured(rest));
     }
     match after_label(line, br#"{ "type": "test", "name": ""#, label) {
         Some(rest) => {
-            let outcome = tested(alloc, rest)?;
-            Ok(outcome)
+            let end = tested(alloc, rest)?;
+            Ok(end)
         }
         None => Ok(None),
     }
@@ -102,11 +102,15 @@ pub fn read_failed_line(alloc: Global, line: &[u8]) -> Result<Option<Row>, Alloc
     let Some(label) = label_of(alloc, line)? else {
         return Ok(None);
     };
-    match ended(alloc, &label, line)? {
-        Some(Outcome::Failed(failed)) => Ok(Some(Row {
+    let Some((outcome, nanos)) = ended(alloc, &label, line)? else {
+        return Ok(None);
+    };
+    match outcome {
+        Outcome::Failed(failed) => Ok(Some(Row {
             name: label.name,
             kind: label.kind,
             outcome: Outcome::Failed(failed),
+            nanos,
         })),
         _ => Ok(None),
     }
@@ -151,46 +155,89 @@ fn after_label<'a>(line: &'a [u8], front: &[u8], label: &Label) -> Option<&'a [u
     after_quoted(rest, br#", "kind": ""#, label.kind.as_str())
 }
 
-// Reads the outcome of a measured trial from what follows the name and the kind.
-fn measured(rest: &[u8]) -> Option<Outcome>
+// Reads the end of a measured trial from what follows the name and the kind.
+fn measured(rest: &[u8]) -> Option<(Outcome, Option<u64>)>
     ensures { Decodes (IsTail true) rest.now result }
 {
     let (avg, rest) = number_at(after(rest, br#", "median": "#)?)?;
-    let (variance, end) = number_at(after(rest, br#", "deviation": "#)?)?;
+    let (variance, rest) = number_at(after(rest, br#", "deviation": "#)?)?;
+    let nanos = last_time(rest)?;
+    Some((Outcome::Measured(Measurement { avg, variance }), nanos))
+}
+
+// Reads the end of a trial that was not measured from what follows the name and the kind.
+fn tested(alloc: Global, rest: &[u8]) -> Result<Option<(Outcome, Option<u64>)>, AllocError>
+    ensures { IfOk result (λ end. Decodes (IsTail false) rest.now end) }
+{
+    if let Some(rest) = after(rest, br#", "event": "ok""#) {
+        return Ok(with_outcome(Outcome::Passed, last_time(rest)));
+    }
+    if let Some(rest) = after(rest, br#", "event": "ignored""#) {
+        return Ok(with_outcome(Outcome::Ignored, last_time(rest)));
+    }
+    match after(rest, br#", "event": "failed""#) {
+        Some(rest) => {
+            let end = failed(alloc, rest)?;
+            Ok(end)
+        }
+        None => Ok(None),
+    }
+}
+
+// Returns the outcome with the time that was read.
+fn with_outcome(outcome: Outcome, nanos: Option<Option<u64>>) -> Option<(Outcome, Option<u64>)>
+    ensures { result ≡ option_map (λ time. (outcome, time)) nanos }
+{
+    match nanos {
+        Some(nanos) => Some((outcome, nanos)),
+        None => None,
+    }
+}
+
+// Returns the time at the front of a text that has nothing more but the end of the line.
+fn last_time(text: &[u8]) -> Option<Option<u64>>
+    ensures { Decodes IsTime text.now result }
+{
+    let (nanos, end) = time_at(text)?;
     if end == b" }\n".as_slice() {
-        Some(Outcome::Measured(Measurement { avg, variance }))
+        Some(nanos)
     } else {
         None
     }
 }
 
-// Reads the outcome of a trial that was not measured from what follows the name and the kind.
-#[tactic(auto, using(crate::proofs::EndedLines::is_word, crate::proofs::EndedLines::tail_some))]
-fn tested(alloc: Global, rest: &[u8]) -> Result<Option<Outcome>, AllocError>
-    ensures { IfOk result (λ outcome. Decodes (IsTail false) rest.now outcome) }
+// Reads the end of a trial that failed from what follows the word.
+fn failed(alloc: Global, rest: &[u8]) -> Result<Option<(Outcome, Option<u64>)>, AllocError>
+    ensures { IfOk result (λ end. Decodes IsFailedEnd rest.now end) }
 {
-    if rest == b", \"event\": \"ok\" }\n".as_slice() {
-        return Ok(Some(Outcome::Passed));
-    }
-    if rest == b", \"event\": \"ignored\" }\n".as_slice() {
-        return Ok(Some(Outcome::Ignored));
-    }
-    if rest == b", \"event\": \"failed\" }\n".as_slice() {
-        return Ok(Some(Outcome::Failed(Failed::without_message())));
-    }
+    let Some((nanos, rest)) = time_at(rest) else {
+        return Ok(None);
+    };
     match failure(alloc, rest)? {
-        Some(message) => Ok(Some(Outcome::Failed(Failed::with_message(message)))),
+        Some(failed) => Ok(Some((Outcome::Failed(failed), nanos))),
         None => Ok(None),
     }
 }
 
-// Reads the message of a failure from what follows the name and the kind.
-fn failure(alloc: Global, rest: &[u8]) -> Result<Option<String>, AllocError>
-    ensures { IfOk result
-        (λ message. Decodes IsFailure rest.now (option_map string_bytes message)) }
+// Reads the message of a failure, or that there is none, from what follows the word and the time.
+fn failure(alloc: Global, rest: &[u8]) -> Result<Option<Failed>, AllocError>
+    ensures { IfOk result (λ failed. Decodes IsMessage rest.now failed) }
 {
-    let front = br#", "event": "failed", "stdout": "Error: \""#;
-    let Some(text) = last_quoted(alloc, rest, front)? else {
+    if rest == b" }\n".as_slice() {
+        return Ok(Some(Failed::without_message()));
+    }
+    match message(alloc, rest)? {
+        Some(message) => Ok(Some(Failed::with_message(message))),
+        None => Ok(None),
+    }
+}
+
+// Reads the message of a failure from what follows the word and the time.
+fn message(alloc: Global, rest: &[u8]) -> Result<Option<String>, AllocError>
+    ensures { IfOk result
+        (λ message. Decodes IsSaid rest.now (option_map string_bytes message)) }
+{
+    let Some(text) = last_quoted(alloc, rest, br#", "stdout": "Error: \""#)? else {
         return Ok(None);
     };
     match before_quote(text) {

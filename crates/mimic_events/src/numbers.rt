@@ -1,10 +1,11 @@
 //! Reads numbers and seconds, as a report spells them.
-ghost use Rattle.std.specs.Prelude.{◌≡◌, ◌<◌, ◌≤◌, ◌+◌, ◌*◌, ◌^◌, length, option_map, SomeIff};
+ghost use Rattle.std.specs.Prelude.{◌≡◌, ◌↔◌, ◌<◌, ◌≤◌, ◌+◌, ◌*◌, ◌^◌, length, option_map, IsTrue, SomeIff};
 ghost use Rattle.std.specs.Str.Parse.{IsNumeral, digits_value};
 ghost use Rattle.mimic_trial.specs.Seconds.{IsFraction, IsRest};
 ghost use Rattle.mimic_events.specs.Reading.{Decodes, IsNumber, IsSeconds};
-ghost use Rattle.mimic_events.specs.LineParts.{SplitsDigits, ReadsNumber};
+ghost use Rattle.mimic_events.specs.LineParts.{IsOfSeconds, SplitsDigits, SplitsSeconds, ReadsNumber, ReadsTime};
 
+use crate::ends::after;
 use itoa::Buffer;
 use mimic_trial::NANOS_PER_SECOND;
 use std::str;
@@ -26,6 +27,36 @@ pub(crate) fn seconds(text: &[u8]) -> Option<u64>
     let (whole, rest) = number_at(text)?;
     let fraction = rest_of_second(rest)?;
     nanos_of(whole, fraction)
+}
+
+// Returns the time at the front, if its key is there, and what follows it. `None` if what follows the key is no time.
+pub(crate) fn time_at(text: &[u8]) -> Option<(Option<u64>, &[u8])>
+    ensures { ReadsTime text.now (option_map (λ found. (found.0, found.1.now)) result) }
+{
+    let Some(rest) = after(text, br#", "exec_time": "#) else {
+        return Some((None, text));
+    };
+    let (front, rest) = seconds_at(rest);
+    let nanos = seconds(front)?;
+    Some((Some(nanos), rest))
+}
+
+// Splits the text after all digits and points at its front.
+fn seconds_at(bytes: &[u8]) -> (&[u8], &[u8])
+    ensures { SplitsSeconds bytes.now result.0.now result.1.now }
+{
+    let mut len = 0;
+    while len < bytes.len() && is_of_seconds(bytes[len]) {
+        len += 1;
+    }
+    bytes.split_at(len)
+}
+
+// Returns whether the byte is a digit or a point.
+fn is_of_seconds(byte: u8) -> bool
+    ensures { IsTrue result ↔ IsOfSeconds byte }
+{
+    byte == b'.' || byte.is_ascii_digit()
 }
 
 // Splits the text after all digits at its front.

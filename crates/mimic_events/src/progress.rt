@@ -83,7 +83,7 @@ impl Progress {
                 None
             }
             Stage::Outcome(label) => {
-                let Some(outcome) = ended(alloc, label, line)? else {
+                let Some((outcome, nanos)) = ended(alloc, label, line)? else {
                     return Ok(Taken::Astray);
                 };
                 let name = mem::replace(&mut label.name, String::new(alloc));
@@ -95,6 +95,7 @@ impl Progress {
                     name,
                     kind,
                     outcome,
+                    nanos,
                 })
             }
             Stage::Over(_, _) => return Ok(Taken::Astray),

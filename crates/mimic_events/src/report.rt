@@ -23,6 +23,8 @@ pub struct Row {
     pub kind: String,
     /// What became of the trial.
     pub outcome: Outcome,
+    /// How long it took in nanoseconds, if the report says so.
+    pub nanos: Option<u64>,
 }
 
 /// What a report says.

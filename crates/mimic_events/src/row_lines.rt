@@ -1,8 +1,9 @@
 //! Reads the two lines of a row at once, and keeps nothing of them.
 ghost use Rattle.std.specs.Prelude.{◌≡◌, ◌++◌, IfSome};
-ghost use Rattle.mimic_events.specs.LineParts.{BeginsRow, IsWord, SpellsLabel, tail};
+ghost use Rattle.mimic_events.specs.LineParts.{BeginsEvent, BeginsRow, BeginsTail, SpellsLabel};
 
 use crate::ends::after;
+use crate::numbers::time_at;
 use crate::quoted_text::plain_text_at;
 use mimic_trial::{Failed, Outcome};
 
@@ -38,18 +39,46 @@ fn label_at(text: &[u8]) -> Option<(&[u8], &[u8])>
     Some(text.split_at(text.len() - rest.len()))
 }
 
-// Returns the outcome that is said in a word at the front of what follows the name and the kind, and what follows it.
+// Returns the outcome that is said in a word at the front of what follows the name and the kind, and what follows it and its time.
 #[inline(always)]
+#[tactic(auto, using(crate::proofs::PlainRows::untimed))]
 fn word_at(text: &[u8]) -> Option<(Outcome, &[u8])>
-    ensures { IfSome result (λ found. IsWord found.0
-        × (text.now ≡ tail found.0 ++ found.1.now)) }
+    ensures { IfSome result (λ found. BeginsTail text.now found.0 found.1.now) }
 {
+    // Most reports have no times.
     if let Some(rest) = after(text, b", \"event\": \"ok\" }\n") {
         return Some((Outcome::Passed, rest));
     }
     if let Some(rest) = after(text, b", \"event\": \"ignored\" }\n") {
         return Some((Outcome::Ignored, rest));
     }
-    let rest = after(text, b", \"event\": \"failed\" }\n")?;
+    if let Some(rest) = after(text, b", \"event\": \"failed\" }\n") {
+        return Some((Outcome::Failed(Failed::without_message()), rest));
+    }
+    timed_word_at(text)
+}
+
+// The same if the word has a time.
+#[inline(never)]
+fn timed_word_at(text: &[u8]) -> Option<(Outcome, &[u8])>
+    ensures { IfSome result (λ found. BeginsTail text.now found.0 found.1.now) }
+{
+    let (outcome, rest) = event_at(text)?;
+    let (_nanos, rest) = time_at(rest)?;
+    let rest = after(rest, b" }\n")?;
+    Some((outcome, rest))
+}
+
+// Returns the outcome whose word is at the front, and what follows the word.
+fn event_at(text: &[u8]) -> Option<(Outcome, &[u8])>
+    ensures { IfSome result (λ found. BeginsEvent text.now found.0 found.1.now) }
+{
+    if let Some(rest) = after(text, br#", "event": "ok""#) {
+        return Some((Outcome::Passed, rest));
+    }
+    if let Some(rest) = after(text, br#", "event": "ignored""#) {
+        return Some((Outcome::Ignored, rest));
+    }
+    let rest = after(text, br#", "event": "failed""#)?;
     Some((Outcome::Failed(Failed::without_message()), rest))
 }

@@ -1,8 +1,9 @@
 //! Writes reports, as those that were read or built.
 ghost use Rattle.std.specs.Prelude.{◌≡◌, All, OnOk, true};
 ghost use Rattle.std.specs.List.{flat_map};
-ghost use Rattle.mimic_printer.specs.Json.{json_report};
+ghost use Rattle.mimic_printer.specs.Json.{FitsTime, json_report};
 ghost use Rattle.mimic_printer.specs.Sink.{HasFaultLeft, Puts};
+ghost use Rattle.mimic_trial.specs.Promise.{FitsTypes};
 ghost use Rattle.mimic_events.specs.Contents.{Spells, contents_read};
 ghost use Rattle.mimic_events.specs.Reading.{IsReadAs};
 ghost use Rattle.mimic_events.specs.Written.{FitsRow, row_lines};
@@ -58,7 +59,13 @@ pub fn put_row<W: Write>(sink: &mut Sink<W>, row: &Row) -> Result<(), WriteFault
     ensures fits { OnOk result (FitsRow row.now) }
 {
     prove!(row_fits(row));
-    json::put_row(sink, row.name.as_str(), row.kind.as_str(), &row.outcome)
+    json::put_row(
+        sink,
+        row.name.as_str(),
+        row.kind.as_str(),
+        &row.outcome,
+        row.nanos,
+    )
 }
 
 // Shows that the name, the kind and the message of a row are text, and that its numbers fit.
@@ -67,7 +74,14 @@ fn row_fits(row: &Row) -> bool
     ensures always { result ≡ true }
 {
     let (_name, _kind) = (row.name.as_str(), row.kind.as_str());
-    match &row.outcome {
+    outcome_fits(&row.outcome) && time_fits(row.nanos)
+}
+
+fn outcome_fits(outcome: &Outcome) -> bool
+    ensures fits { FitsTypes outcome.now }
+    ensures always { result ≡ true }
+{
+    match outcome {
         Outcome::Passed | Outcome::Ignored => true,
         Outcome::Measured(measurement) => {
             let _avg = measurement.avg;
@@ -78,5 +92,15 @@ fn row_fits(row: &Row) -> bool
             let _message = failed.message();
             true
         }
+    }
+}
+
+fn time_fits(nanos: Option<u64>) -> bool
+    ensures fits { FitsTime nanos }
+    ensures always { result ≡ true }
+{
+    match nanos {
+        None => true,
+        Some(_nanos) => true,
     }
 }

@@ -1,18 +1,21 @@
 -- The lines that are printed of what is unexpected (our own).
-use Rattle.std.specs.Prelude.{ℕ, Bool, List, [], ◌∷◌, ◌++◌, codes, count_by, decimal, length, map}
+use Rattle.std.specs.Prelude.{ℕ, Bool, List, [], ◌∷◌, ◌++◌, codes, count_by, decimal, length, map, None}
 use Rattle.std.specs.List.{concat, flat_map}
 use Rattle.mimic_trial.specs.Count.{is_failed}
 use Rattle.mimic_printer.specs.Json.{Entry, json_outcome}
 use Rattle.mimic_expect.specs.Expect.{AbsentLine, FailedRow, Finding, OtherMessage, PassedLine, findings_in_turn, is_absent_line, is_failed_row, is_other_message, is_passed_line, keyed, met_by, rows_with, unknown_failures}
 use Rattle.mimic_expect.specs.Known.{Expected}
 
--- the words, the number of a line, and the row as a report in JSON has it
+-- the line that a report in JSON without times has of the row's outcome: what is unexpected has nothing to do with times
+abbrev pub row_line : Entry → List ℕ
+row_line row = json_outcome row.label row.outcome None
+
+-- the words, the number of a line, and the row
 abbrev pub numbered_text : List ℕ → ℕ → Entry → List ℕ
-numbered_text words line row =
-    concat (words ∷ decimal line ∷ codes " can go: " ∷ json_outcome row.label row.outcome ∷ [])
+numbered_text words line row = concat (words ∷ decimal line ∷ codes " can go: " ∷ row_line row ∷ [])
 
 abbrev pub finding_text : Finding → List ℕ
-finding_text (FailedRow row) = codes "failed: " ++ json_outcome row.label row.outcome
+finding_text (FailedRow row) = codes "failed: " ++ row_line row
 finding_text (OtherMessage e row) = numbered_text (codes "another message, line ") e.line row
 finding_text (PassedLine e) = numbered_text (codes "passed, line ") e.line e.entry
 finding_text (AbsentLine e) = numbered_text (codes "absent, line ") e.line e.entry

@@ -9,7 +9,7 @@ use Rattle.mimic_expect.specs.declared.known.Expectation.{Expectation}
 use Rattle.mimic_expect.specs.declared.known.KnownFault.{KnownFault}
 use Rattle.mimic_expect.specs.declared.known.KnownFault.TheVariants.{Line, OutOfMemory}
 
--- a known failure: what its line says about a trial, and the number of that line
+-- a known failure: what its line says about a trial, and the number of that line. A time in it takes no part in what meets it
 pub record Expected : Type 0 where
   pub entry : Entry
   pub line : ℕ
@@ -26,7 +26,7 @@ abbrev pub says_nothing : List ℕ → Bool
 says_nothing [] = true
 says_nothing (b ∷ bs) = b == 35
 
--- a report has this line, with an end, of the failed trial
+-- a report has this line, with an end, of the failed trial, with a time or without one
 abbrev pub SaysFailure : Entry → List ℕ → Type 0
 SaysFailure entry line = IsFailedLine entry (line ++ 10 ∷ [])
 

@@ -14,7 +14,7 @@ use thiserror::Error;
 /// A failure that is known.
 #[derive(Debug, Drop)]
 pub struct Expectation {
-    /// The failed trial. If its failure has no message, any message is expected.
+    /// The failed trial. If its failure has no message, any message is expected. Its time takes no part in what is expected.
     pub row: Row,
     /// The number of its line, counted from 1.
     pub line: usize,
@@ -32,8 +32,8 @@ pub enum KnownFault {
     Line(usize),
 }
 
-/// Reads the bytes of a file of known failures: lines of failed trials, as a report in JSON has them. Empty lines and those that
-/// begin with `#` are passed over. The last line needs no end.
+/// Reads the bytes of a file of known failures: lines of failed trials, as a report in JSON has them. They may have times. Empty
+/// lines and those that begin with `#` are passed over. The last line needs no end.
 pub fn read_known(alloc: Global, bytes: &[u8]) -> Result<Vec<Expectation>, KnownFault>
     ensures { MatchResult result
         (λ known. Decodes AreExpected bytes.now (Some (map expected_read known.items)))

@@ -1,8 +1,7 @@
 //! Prints what is unexpected.
-ghost use Rattle.mimic_printer.specs.Json.{json_outcome};
 ghost use Rattle.mimic_printer.specs.Sink.{HasFaultLeft, Puts};
 ghost use Rattle.mimic_events.specs.Contents.{entry_read};
-ghost use Rattle.mimic_expect.specs.FindingText.{finding_text, numbered_text};
+ghost use Rattle.mimic_expect.specs.FindingText.{finding_text, numbered_text, row_line};
 ghost use Rattle.mimic_expect.specs.JudgementText.{finding_read};
 
 use crate::judgement::Unexpected;
@@ -14,7 +13,7 @@ use std::io::Write;
 
 impl Unexpected<'_> {
     // Writes it as one line: what it is, which line of the known failures can go, and the row, or that line if there is no row
-    // to show, as a report in JSON has it. So nothing in a name or a message ends the line or makes another.
+    // to show, as a report in JSON without times has it. So nothing in a name or a message ends the line or makes another.
     pub(crate) fn put<W: Write>(&self, sink: &mut Sink<W>) -> Result<(), WriteFault>
         requires { HasFaultLeft sink.old }
         ensures { Puts W.contents sink.old sink.new (finding_text (finding_read self.now)) result }
@@ -54,11 +53,17 @@ fn put_numbered<W: Write>(
     put_row(sink, row)
 }
 
-// Writes the line that a report in JSON has of the outcome.
+// Writes the line that a report in JSON has of the outcome, without a time.
 fn put_row<W: Write>(sink: &mut Sink<W>, row: &Row) -> Result<(), WriteFault>
     requires { HasFaultLeft sink.old }
     ensures { Puts W.contents sink.old sink.new
-        (json_outcome (entry_read row.now).label (entry_read row.now).outcome) result }
+        (row_line (entry_read row.now)) result }
 {
-    put_outcome(sink, row.name.as_str(), row.kind.as_str(), &row.outcome)
+    put_outcome(
+        sink,
+        row.name.as_str(),
+        row.kind.as_str(),
+        &row.outcome,
+        None,
+    )
 }

@@ -1,8 +1,8 @@
 -- The lines of a report are texts of objects.
-use Rattle.std.proofs.Common.{◌≡◌, ℕ, ◌<◌, ◌^◌, Bool, true, false, cond, ltb, List, [], ◌∷◌, ◌++◌, length, None, Some, decimal, refl, sym, ap, ap₂, ◌∙◌, subst, arith, append_assoc, append-nil, map}
+use Rattle.std.proofs.Common.{◌≡◌, ℕ, ◌<◌, ◌^◌, Bool, true, false, cond, ltb, List, [], ◌∷◌, ◌++◌, length, Option, None, Some, decimal, refl, sym, ap, ap₂, ◌∙◌, subst, arith, append_assoc, append-nil, map}
 use Rattle.std.specs.Prelude.{codes, IfOk, Result, Ok, Err}
 use Rattle.std.specs.List.{AllByRecursion, concat, flat_map}
-use Rattle.std.proofs.lemmas.Bool.{ne_eqb}
+use Rattle.std.proofs.lemmas.Bool.{and_from, and_parts, ne_eqb}
 use Rattle.std.proofs.lemmas.List.{append_cancel_right, length-map}
 use Rattle.std.proofs.lemmas.List.Sums.{count_by-le-length}
 use Rattle.std.proofs.lemmas.List.Concat.{flat_map-append}
@@ -16,13 +16,13 @@ use Rattle.mimic_trial.specs.Promise.{FitsTypes}
 use Rattle.mimic_printer.specs.Row.{Label}
 use Rattle.mimic_printer.specs.Json as ours
 use Rattle.mimic_printer.proofs.JsonLines.{lines_each}
-use Rattle.mimic_printer.specs.Json.{Contents, Entry, FitsEntry, HasNoEnd, IsJsonReport, IsLine, json_report, conclusion_of, entry_lines, report_lines, announcement_front, json_announcement, json_line, json_outcome, json_summary, json_title, json_verdict, kind_field, outcome_front, title_front}
+use Rattle.mimic_printer.specs.Json.{Contents, Entry, FitsEntry, FitsTime, HasNoEnd, IsJsonReport, IsLine, json_report, conclusion_of, entry_lines, report_lines, announcement_front, json_announcement, json_line, json_outcome, json_summary, json_title, json_verdict, kind_field, outcome_front, title_front}
 use Rattle.serde_json.specs.Read.{read}
 use Rattle.mimic_json.specs.Fields.{object_of, Field, text, count, seconds}
-use Rattle.mimic_json.specs.Lines.{IsReadAs, AreReadAs, FitsCounts, LinesAreObjects, before_first, lines_of, entry_fields, report_fields, announcement_fields, outcome_fields, title_fields, summary_fields, kind_fields, event_fields, type_of}
-use Rattle.mimic_json.proofs.Members.{own_keys, HaveOwnKeys-own_keys, has_exactly}
+use Rattle.mimic_json.specs.Lines.{IsReadAs, AreReadAs, FitsCounts, LinesAreObjects, before_first, lines_of, entry_fields, report_fields, announcement_fields, outcome_fields, title_fields, summary_fields, kind_fields, time_fields, event_fields, type_of}
+use Rattle.mimic_json.proofs.Members.{is_other_key, own_keys, HaveOwnKeys-own_keys, has_exactly}
 use Rattle.mimic_json.proofs.Times.{to_float-seconds_number}
-use Rattle.mimic_json.proofs.Objects.{FitsScalar, object_text, later_text, object_document, object_read}
+use Rattle.mimic_json.proofs.Objects.{FitsScalar, field_text, object_text, later_text, object_document, object_read}
 
 kind_printed : (kind : List ℕ) (fs : List Field) → kind_field kind ++ later_text fs ≡ later_text (kind_fields kind ++ fs)
 unfolding escaped
@@ -45,31 +45,48 @@ message_printed : (message rest : List ℕ) → escaped message ++ (codes "\\\"\
 unfolding escaped
 message_printed message rest = rw (flat_map-append escape message (codes "\"\n")) (simp append_assoc)
 
--- a number, and what follows
-then_fields : (digits : List ℕ) (fs : List Field) (end : List ℕ) → end ≡ later_text fs ++ 10 ∷ [] → digits ++ end ≡ (digits ++ later_text fs) ++ 10 ∷ []
-then_fields digits fs end e = ap (λ (r : List ℕ). digits ++ r) e ∙ sym (append_assoc digits (later_text fs) (10 ∷ []))
+-- a field, and what follows
+field_printed : (f : Field) (fs : List Field) (end : List ℕ) → end ≡ later_text fs ++ 10 ∷ [] → (44 ∷ field_text f) ++ end ≡ later_text (f ∷ fs) ++ 10 ∷ []
+field_printed f fs end e = ap (λ (r : List ℕ). (44 ∷ field_text f) ++ r) e ∙ sym (append_assoc (44 ∷ field_text f) (later_text fs) (10 ∷ []))
 
-number_printed : (key : List ℕ) (n : ℕ) (fs : List Field) (end : List ℕ) → end ≡ later_text fs ++ 10 ∷ [] → 44 ∷ 32 ∷ 34 ∷ (escaped key ++ 34 ∷ 58 ∷ 32 ∷ (decimal n ++ end)) ≡ later_text ((key, count n) ∷ fs) ++ 10 ∷ []
-number_printed key n fs end e = rw e (simp append_assoc)
-
-event_printed : (o : Outcome) → json_line (ours.outcome_fields o) ≡ later_text (event_fields o) ++ 10 ∷ []
+-- the time, if there is one, and what follows
+time_printed : (time : Option ℕ) (fs : List Field) (end : List ℕ) → end ≡ later_text fs ++ 10 ∷ [] → ours.time_field time ++ end ≡ later_text (time_fields time ++ fs) ++ 10 ∷ []
 unfolding escaped
-event_printed Passed = refl
-event_printed (Failed None) = refl
-event_printed (Failed (Some message)) = ap (λ (r : List ℕ). codes ", \"event\": \"failed\", \"stdout\": \"Error: \\\"" ++ r)
-    (message_printed message (codes " }\n") ∙ sym (append_assoc (escaped (message ++ codes "\"\n") ++ 34 ∷ []) (codes " }") (10 ∷ [])))
-event_printed Ignored = refl
-event_printed (Measured m) = number_printed (codes "median") m.avg ((codes "deviation", count m.variance) ∷ []) _ (number_printed (codes "deviation") m.variance [] (codes " }\n") refl)
+time_printed None fs end e = e
+time_printed (Some nanos) fs end e = field_printed (codes "exec_time", seconds nanos) fs end e
 
-outcome_printed : (label : Label) (o : Outcome) (measured : Bool) → json_line (outcome_front measured ∷ escaped label.name ∷ codes "\"" ∷ kind_field label.kind ∷ ours.outcome_fields o)
-    ≡ object_text ((codes "type", text (type_of measured)) ∷ (codes "name", text label.name) ∷ (kind_fields label.kind ++ event_fields o)) ++ 10 ∷ []
+-- the time as the last field
+last_printed : (time : Option ℕ) → ours.time_field time ++ codes " }\n" ≡ later_text (time_fields time) ++ 10 ∷ []
+last_printed time = time_printed time [] (codes " }\n") refl ∙ ap (λ (fs : List Field). later_text fs ++ 10 ∷ []) (append-nil (time_fields time))
+
+-- a failure's message as the last field
+stdout_printed : (message : List ℕ) → json_line (ours.stdout_key ∷ escaped message ∷ codes "\\\"\\n\"" ∷ [])
+    ≡ later_text ((codes "stdout", text (codes "Error: \"" ++ (message ++ codes "\"\n"))) ∷ []) ++ 10 ∷ []
 unfolding escaped
-outcome_printed label o false = ap (λ (r : List ℕ). outcome_front false ++ r) (name_printed label.name label.kind (event_fields o) _ (event_printed o))
-outcome_printed label o true = ap (λ (r : List ℕ). outcome_front true ++ r) (name_printed label.name label.kind (event_fields o) _ (event_printed o))
+stdout_printed message = ap (λ (r : List ℕ). ours.stdout_key ++ r) (message_printed message (codes " }\n"))
+    ∙ field_printed (codes "stdout", text (codes "Error: \"" ++ (message ++ codes "\"\n"))) [] (codes " }\n") refl
+
+event_printed : (o : Outcome) (time : Option ℕ) → json_line (ours.outcome_fields o time) ≡ later_text (event_fields o time) ++ 10 ∷ []
+unfolding escaped
+event_printed Passed time = field_printed (codes "event", text (codes "ok")) (time_fields time) _ (last_printed time)
+event_printed (Failed None) time = field_printed (codes "event", text (codes "failed")) (time_fields time) _ (last_printed time)
+event_printed (Failed (Some message)) time =
+    let stdout : List Field = (codes "stdout", text (codes "Error: \"" ++ (message ++ codes "\"\n"))) ∷ [] in
+    field_printed (codes "event", text (codes "failed")) (time_fields time ++ stdout) _ (time_printed time stdout _ (stdout_printed message))
+event_printed Ignored time = field_printed (codes "event", text (codes "ignored")) (time_fields time) _ (last_printed time)
+event_printed (Measured m) time =
+    field_printed (codes "median", count m.avg) ((codes "deviation", count m.variance) ∷ time_fields time) _
+    (field_printed (codes "deviation", count m.variance) (time_fields time) _ (last_printed time))
+
+outcome_printed : (label : Label) (o : Outcome) (time : Option ℕ) (measured : Bool) → json_line (outcome_front measured ∷ escaped label.name ∷ codes "\"" ∷ kind_field label.kind ∷ ours.outcome_fields o time)
+    ≡ object_text ((codes "type", text (type_of measured)) ∷ (codes "name", text label.name) ∷ (kind_fields label.kind ++ event_fields o time)) ++ 10 ∷ []
+unfolding escaped
+outcome_printed label o time false = ap (λ (r : List ℕ). outcome_front false ++ r) (name_printed label.name label.kind (event_fields o time) _ (event_printed o time))
+outcome_printed label o time true = ap (λ (r : List ℕ). outcome_front true ++ r) (name_printed label.name label.kind (event_fields o time) _ (event_printed o time))
 
 title_printed : (n : ℕ) → json_title n ≡ object_text (title_fields n) ++ 10 ∷ []
 unfolding json_title escaped
-title_printed n = ap (λ (r : List ℕ). codes "{ \"type\": \"suite\", \"event\": \"started\"" ++ r) (number_printed (codes "test_count") n [] (codes " }\n") refl)
+title_printed n = ap (λ (r : List ℕ). codes "{ \"type\": \"suite\", \"event\": \"started\"" ++ r) (field_printed (codes "test_count", count n) [] (codes " }\n") refl)
 
 -- the counts of a summary, and its time
 counts_printed : (c : Conclusion) (nanos : ℕ) → concat (ours.number_field (codes ", \"passed\": ") c.num_passed
@@ -84,12 +101,12 @@ counts_printed c nanos =
     let f3 : List Field = (codes "measured", count c.num_measured) ∷ f4 in
     let f2 : List Field = (codes "ignored", count c.num_ignored) ∷ f3 in
     let f1 : List Field = (codes "failed", count c.num_failed) ∷ f2 in
-    number_printed (codes "passed") c.num_passed f1 _
-    (number_printed (codes "failed") c.num_failed f2 _
-    (number_printed (codes "ignored") c.num_ignored f3 _
-    (number_printed (codes "measured") c.num_measured f4 _
-    (number_printed (codes "filtered_out") c.num_filtered_out f5 _
-    (ap (λ (r : List ℕ). codes ", \"exec_time\": " ++ r) (then_fields (exact_seconds nanos) [] (codes " }\n") refl))))))
+    field_printed (codes "passed", count c.num_passed) f1 _
+    (field_printed (codes "failed", count c.num_failed) f2 _
+    (field_printed (codes "ignored", count c.num_ignored) f3 _
+    (field_printed (codes "measured", count c.num_measured) f4 _
+    (field_printed (codes "filtered_out", count c.num_filtered_out) f5 _
+    (field_printed (codes "exec_time", seconds nanos) [] (codes " }\n") refl)))))
 
 summary_at : (c : Conclusion) (nanos : ℕ) (b : Bool) → json_line (codes "{ \"type\": \"suite\", \"event\": \"" ∷ cond b (codes "failed") (codes "ok") ∷ ours.number_field (codes "\", \"passed\": ") c.num_passed
     ∷ ours.number_field (codes ", \"failed\": ") c.num_failed ∷ ours.number_field (codes ", \"ignored\": ") c.num_ignored ∷ ours.number_field (codes ", \"measured\": ") c.num_measured
@@ -112,38 +129,63 @@ announcement_own : (name kind : List ℕ) → own_keys ((codes "type", text (cod
 announcement_own name [] = refl
 announcement_own name (b ∷ bs) = refl
 
-outcome_own : (label : Label) (kind : List ℕ) (o : Outcome) → own_keys ((codes "type", text (type_of (is_measured o))) ∷ (codes "name", text label.name) ∷ (kind_fields kind ++ event_fields o)) ≡ true
-outcome_own label [] Passed = refl
-outcome_own label (b ∷ bs) Passed = refl
-outcome_own label [] (Failed None) = refl
-outcome_own label (b ∷ bs) (Failed None) = refl
-outcome_own label [] (Failed (Some m)) = refl
-outcome_own label (b ∷ bs) (Failed (Some m)) = refl
-outcome_own label [] Ignored = refl
-outcome_own label (b ∷ bs) Ignored = refl
-outcome_own label [] (Measured m) = refl
-outcome_own label (b ∷ bs) (Measured m) = refl
+-- keys that are apart with a kind before them are apart without one
+kind_own : (type name kind : List ℕ) (fs : List Field) → own_keys ((codes "type", text type) ∷ (codes "name", text name) ∷ (codes "kind", text kind) ∷ fs) ≡ true
+    → own_keys ((codes "type", text type) ∷ (codes "name", text name) ∷ (kind_fields kind ++ fs)) ≡ true
+kind_own type name [] fs h =
+    let types = and_parts (is_other_key (codes "type") fs) _ h in
+    let names = and_parts (is_other_key (codes "name") fs) _ types.1 in
+    let kinds = and_parts (is_other_key (codes "kind") fs) _ names.1 in
+    and_from _ _ types.0 (and_from _ _ names.0 kinds.1)
+kind_own type name (b ∷ bs) fs h = h
 
-kind_fit : (kind : List ℕ) (fs : List Field) → AllByRecursion (λ g. FitsScalar g.1) fs → AllByRecursion (λ g. FitsScalar g.1) (kind_fields kind ++ fs)
-kind_fit [] fs h = h
-kind_fit (b ∷ bs) fs h = (tt, h)
+event_own : (type name kind : List ℕ) (o : Outcome) (time : Option ℕ) → own_keys ((codes "type", text type) ∷ (codes "name", text name) ∷ (codes "kind", text kind) ∷ event_fields o time) ≡ true
+event_own type name kind Passed None = refl
+event_own type name kind Passed (Some nanos) = refl
+event_own type name kind (Failed None) None = refl
+event_own type name kind (Failed None) (Some nanos) = refl
+event_own type name kind (Failed (Some message)) None = refl
+event_own type name kind (Failed (Some message)) (Some nanos) = refl
+event_own type name kind Ignored None = refl
+event_own type name kind Ignored (Some nanos) = refl
+event_own type name kind (Measured m) None = refl
+event_own type name kind (Measured m) (Some nanos) = refl
 
-event_fits : (o : Outcome) → FitsTypes o → AllByRecursion (λ g. FitsScalar g.1) (event_fields o)
-event_fits Passed h = (tt, tt)
-event_fits (Failed None) h = (tt, tt)
-event_fits (Failed (Some message)) h = (tt, (tt, tt))
-event_fits Ignored h = (tt, tt)
-event_fits (Measured m) h = (h.0, (h.1, tt))
+outcome_own : (label : Label) (o : Outcome) (time : Option ℕ) → own_keys (outcome_fields label o time) ≡ true
+outcome_own label o time =
+    let type = type_of (is_measured o) in
+    kind_own type label.name label.kind (event_fields o time) (event_own type label.name label.kind o time)
+
+kind_fits : (kind : List ℕ) → AllByRecursion (λ g. FitsScalar g.1) (kind_fields kind)
+kind_fits [] = tt
+kind_fits (b ∷ bs) = (tt, tt)
+
+time_fits : (time : Option ℕ) → FitsTime time → AllByRecursion (λ g. FitsScalar g.1) (time_fields time)
+time_fits None h = tt
+time_fits (Some nanos) h = (h, tt)
+
+both_fit : (fs gs : List Field) → AllByRecursion (λ g. FitsScalar g.1) fs → AllByRecursion (λ g. FitsScalar g.1) gs → AllByRecursion (λ g. FitsScalar g.1) (fs ++ gs)
+both_fit [] gs h k = k
+both_fit (f ∷ fs) gs h k = (h.0, both_fit fs gs h.1 k)
+
+event_fits : (o : Outcome) (time : Option ℕ) → FitsTypes o → FitsTime time → AllByRecursion (λ g. FitsScalar g.1) (event_fields o time)
+event_fits Passed time h k = (tt, time_fits time k)
+event_fits (Failed None) time h k = (tt, time_fits time k)
+event_fits (Failed (Some message)) time h k = (tt, both_fit (time_fields time) _ (time_fits time k) (tt, tt))
+event_fits Ignored time h k = (tt, time_fits time k)
+event_fits (Measured m) time h k = (h.0, (h.1, time_fits time k))
 
 pub announcement_says : (label : Label) → IsReadAs (json_announcement label) (announcement_fields label)
 announcement_says label =
     let none = append-nil (kind_fields label.kind) in
     subst (λ (fs : List Field). IsReadAs (json_announcement label) ((codes "type", text (codes "test")) ∷ (codes "event", text (codes "started")) ∷ (codes "name", text label.name) ∷ fs)) none
-    (says (json_announcement label) ((codes "type", text (codes "test")) ∷ (codes "event", text (codes "started")) ∷ (codes "name", text label.name) ∷ (kind_fields label.kind ++ [])) (announcement_printed label) (tt, (tt, (tt, kind_fit label.kind [] tt))) (announcement_own label.name label.kind))
+    (says (json_announcement label) ((codes "type", text (codes "test")) ∷ (codes "event", text (codes "started")) ∷ (codes "name", text label.name) ∷ (kind_fields label.kind ++ [])) (announcement_printed label) (tt, (tt, (tt, both_fit (kind_fields label.kind) [] (kind_fits label.kind) tt))) (announcement_own label.name label.kind))
 
-pub outcome_says : (label : Label) (o : Outcome) → FitsTypes o → IsReadAs (json_outcome label o) (outcome_fields label o)
+pub outcome_says : (label : Label) (o : Outcome) (time : Option ℕ) → FitsTypes o → FitsTime time → IsReadAs (json_outcome label o time) (outcome_fields label o time)
 unfolding json_outcome
-outcome_says label o h = says (json_outcome label o) (outcome_fields label o) (outcome_printed label o (is_measured o)) (tt, (tt, kind_fit label.kind (event_fields o) (event_fits o h))) (outcome_own label label.kind o)
+outcome_says label o time h k =
+    says (json_outcome label o time) (outcome_fields label o time) (outcome_printed label o time (is_measured o))
+    (tt, (tt, both_fit (kind_fields label.kind) (event_fields o time) (kind_fits label.kind) (event_fits o time h k))) (outcome_own label o time)
 
 pub title_says : (n : ℕ) → n < 2 ^ 64 → IsReadAs (json_title n) (title_fields n)
 title_says n h = says (json_title n) (title_fields n) (title_printed n) (tt, (tt, (h, tt))) refl
@@ -163,7 +205,7 @@ say_append (l ∷ ls) ms (f ∷ fs) gs a b = (a.0, say_append ls ms fs gs a.1 b)
 
 entries_say : (es : List Entry) → AllByRecursion FitsEntry es → AreReadAs (flat_map entry_lines es) (flat_map entry_fields es)
 entries_say [] h = tt
-entries_say (e ∷ es) h = (announcement_says e.label, (outcome_says e.label e.outcome h.0.outcome, entries_say es h.1))
+entries_say (e ∷ es) h = (announcement_says e.label, (outcome_says e.label e.outcome e.nanos h.0.outcome h.0.nanos, entries_say es h.1))
 
 counts_fit : (os : List Outcome) (filtered_out : ℕ) → length os < 2 ^ 64 → filtered_out < 2 ^ 64 → FitsCounts (counts_of os filtered_out)
 counts_fit os filtered_out few h = record {

@@ -1,5 +1,5 @@
 -- What each line of a report in JSON is to another reader of JSON: the crate `serde_json`.
-use Rattle.std.specs.Prelude.{◌≡◌, ℕ, ◌<◌, ◌^◌, ◌==◌, Bool, true, false, if◌then◌else◌, List, [], ◌∷◌, ◌++◌, length, codes, None, Some, ⊤}
+use Rattle.std.specs.Prelude.{◌≡◌, ℕ, ◌<◌, ◌^◌, ◌==◌, Bool, true, false, if◌then◌else◌, List, [], ◌∷◌, ◌++◌, length, codes, Option, None, Some, ⊤}
 use Rattle.std.specs.List.{flat_map}
 use Rattle.mimic_trial.specs.declared.outcome.Outcome.{Outcome}
 use Rattle.mimic_trial.specs.declared.outcome.Outcome.TheVariants.{Passed, Failed, Ignored, Measured}
@@ -7,7 +7,7 @@ use Rattle.mimic_trial.specs.declared.outcome.conclusion.Conclusion.{Conclusion}
 use Rattle.mimic_trial.specs.Count.{is_measured}
 use Rattle.mimic_trial.specs.Promise.{FitsTypes}
 use Rattle.mimic_printer.specs.Row.{Label}
-use Rattle.mimic_printer.specs.Json.{Contents, Entry, IsJsonReport, conclusion_of, json_announcement, json_outcome, json_summary, json_title, json_verdict}
+use Rattle.mimic_printer.specs.Json.{Contents, Entry, FitsTime, IsJsonReport, conclusion_of, json_announcement, json_outcome, json_summary, json_title, json_verdict}
 use Rattle.json.specs.Json as json
 use Rattle.json.specs.Json.{document}
 use Rattle.serde_json.specs.Read.{read}
@@ -31,14 +31,19 @@ abbrev pub kind_fields : List ℕ → List Field
 kind_fields [] = []
 kind_fields (b ∷ bs) = (codes "kind", text (b ∷ bs)) ∷ []
 
--- an outcome: a word, with a failure's message, or what was measured
-abbrev pub event_fields : Outcome → List Field
-event_fields Passed = (codes "event", text (codes "ok")) ∷ []
-event_fields (Failed None) = (codes "event", text (codes "failed")) ∷ []
-event_fields (Failed (Some message)) = (codes "event", text (codes "failed"))
-    ∷ (codes "stdout", text (codes "Error: \"" ++ (message ++ codes "\"\n"))) ∷ []
-event_fields Ignored = (codes "event", text (codes "ignored")) ∷ []
-event_fields (Measured m) = (codes "median", count m.avg) ∷ (codes "deviation", count m.variance) ∷ []
+-- the time that a trial took, if there is one
+abbrev pub time_fields : Option ℕ → List Field
+time_fields None = []
+time_fields (Some nanos) = (codes "exec_time", seconds nanos) ∷ []
+
+-- an outcome: a word or what was measured, the time, and a failure's message
+abbrev pub event_fields : Outcome → Option ℕ → List Field
+event_fields Passed time = (codes "event", text (codes "ok")) ∷ time_fields time
+event_fields (Failed None) time = (codes "event", text (codes "failed")) ∷ time_fields time
+event_fields (Failed (Some message)) time = (codes "event", text (codes "failed"))
+    ∷ (time_fields time ++ (codes "stdout", text (codes "Error: \"" ++ (message ++ codes "\"\n"))) ∷ [])
+event_fields Ignored time = (codes "event", text (codes "ignored")) ∷ time_fields time
+event_fields (Measured m) time = (codes "median", count m.avg) ∷ (codes "deviation", count m.variance) ∷ time_fields time
 
 -- the type of a line: measurements have one of their own
 abbrev pub type_of : Bool → List ℕ
@@ -51,11 +56,11 @@ announcement_fields label =
     (codes "type", text (codes "test")) ∷ (codes "event", text (codes "started")) ∷ (codes "name", text label.name)
     ∷ kind_fields label.kind
 
--- the line of an outcome
-abbrev pub outcome_fields : Label → Outcome → List Field
-outcome_fields label outcome =
+-- the line of an outcome, with the nanoseconds that the trial took or without
+abbrev pub outcome_fields : Label → Outcome → Option ℕ → List Field
+outcome_fields label outcome time =
     (codes "type", text (type_of (is_measured outcome))) ∷ (codes "name", text label.name)
-    ∷ (kind_fields label.kind ++ event_fields outcome)
+    ∷ (kind_fields label.kind ++ event_fields outcome time)
 
 -- the line that begins a report of this number of trials
 abbrev pub title_fields : ℕ → List Field
@@ -80,7 +85,7 @@ pub record FitsCounts (c : Conclusion) : Type 0 where
 
 -- the two lines of an entry
 abbrev pub entry_fields : Entry → List (List Field)
-entry_fields entry = announcement_fields entry.label ∷ outcome_fields entry.label entry.outcome ∷ []
+entry_fields entry = announcement_fields entry.label ∷ outcome_fields entry.label entry.outcome entry.nanos ∷ []
 
 -- all lines of a report, in their order
 abbrev pub report_fields : Contents → List (List Field)
@@ -107,12 +112,12 @@ AreReadAs (l ∷ ls) (f ∷ fs) = IsReadAs l f × AreReadAs ls fs
 -- the law: each line of a report in JSON is an object in another reader's definition of JSON, with these members and no other, and a
 -- whole report, cut after each line end, is these objects in order. Numbers below 2^64 are all that is asked
 pub record LinesAreObjects : Type 0 where
-  -- the time of a summary is, as a float, the one nearest to its seconds
+  -- a time is, as a float, the one nearest to its seconds
   pub time : (nanos : ℕ) → to_float (seconds_number nanos) ≡ round binary64 false nanos (10 ^ 9)
   pub title : (n : ℕ) → n < 2 ^ 64 → IsReadAs (json_title n) (title_fields n)
   pub announcement : (label : Label) → IsReadAs (json_announcement label) (announcement_fields label)
-  pub outcome : (label : Label) (o : Outcome) → FitsTypes o
-      → IsReadAs (json_outcome label o) (outcome_fields label o)
+  pub outcome : (label : Label) (o : Outcome) (time : Option ℕ) → FitsTypes o → FitsTime time
+      → IsReadAs (json_outcome label o time) (outcome_fields label o time)
   pub summary : (c : Conclusion) (nanos : ℕ) → FitsCounts c → nanos < 2 ^ 64
       → IsReadAs (json_summary c nanos) (summary_fields c nanos)
   pub report : (bytes : List ℕ) (c : Contents) → IsJsonReport bytes c → length c.entries < 2 ^ 64

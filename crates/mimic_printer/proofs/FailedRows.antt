@@ -1,5 +1,5 @@
 -- The failures of a report: by place, and of the rows that failed alone.
-use Rattle.std.proofs.Common.{◌≡◌, ℕ, zero, suc, ◌+◌, ◌<◌, List, [], ◌∷◌, ◌++◌, Bool, true, false, cond, ◌||◌, Some, filter, map, length, get_or, slice_get, refl, sym, ap, ap₂, ◌∙◌, arith, add-one, append-nil, All}
+use Rattle.std.proofs.Common.{◌≡◌, ℕ, zero, suc, ◌+◌, ◌<◌, List, [], ◌∷◌, ◌++◌, Bool, true, false, cond, ◌||◌, None, Some, filter, map, length, get_or, slice_get, refl, sym, ap, ap₂, ◌∙◌, arith, add-one, append-nil, All}
 use Rattle.std.proofs.lemmas.List.{get_or-map, get_or_default}
 use Rattle.std.proofs.lemmas.List.Elements.{All-head, All-tail, filter-append}
 use Rattle.std.proofs.lemmas.Option.{slice_get_read}
@@ -40,7 +40,7 @@ row_is_at infos (p ∷ ps) os zero t o n all i =
     let j : p < length os = omega arith in
     let outcome = get_or os p o in
     ap (λ l. slice_get (rows_at (map label_of infos) l) 0) (placed-cons os p ps outcome j (sym (get_or_default os p outcome o j)))
-    ∙ ap (λ l. Some (record { label = l; outcome = outcome })) (get_or-map label_of infos p t _ w)
+    ∙ ap (λ l. Some (record { label = l; outcome = outcome; nanos = None })) (get_or-map label_of infos p t _ w)
 row_is_at infos (p ∷ ps) os (suc k) t o n all i =
     let w : p < length infos = All-head (λ q. q < length infos) p ps all in
     let j : p < length os = omega arith in

@@ -1,5 +1,5 @@
 -- Each line of a report in JSON ends once, at its end, and how many lines a report has.
-use Rattle.std.proofs.Common.{◌≡◌, ℕ, ◌+◌, ◌*◌, ◌<◌, ◌^◌, Bool, true, false, cond, eqb, ltb, not, ◌&&◌, List, [], ◌∷◌, ◌++◌, None, Some, length, map, codes, decimal, refl, sym, ap, ap₂, subst, ◌∙◌, append_assoc, arith, inl, inr}
+use Rattle.std.proofs.Common.{◌≡◌, ℕ, ◌+◌, ◌*◌, ◌<◌, ◌^◌, Bool, true, false, cond, eqb, ltb, not, ◌&&◌, List, [], ◌∷◌, ◌++◌, None, Option, Some, length, map, codes, decimal, refl, sym, ap, ap₂, subst, ◌∙◌, append_assoc, arith, inl, inr}
 use Rattle.std.specs.List.{concat, flat_map, AllByRecursion}
 use Rattle.std.specs.Str.Parse.{AllDigits}
 use Rattle.std.proofs.lemmas.Bool.{cases_lt, ne_eqb}
@@ -19,7 +19,7 @@ use Rattle.mimic_trial.proofs.Bounded.{all_below, one_below}
 use Rattle.mimic_trial.proofs.Escapes.{escape-high}
 use Rattle.mimic_trial.proofs.ExactSeconds.{seconds_exact}
 use Rattle.mimic_printer.specs.Row.{Label}
-use Rattle.mimic_printer.specs.Json.{Contents, Entry, FitsEntry, HasNoEnd, IsJsonReport, IsLine, announcement_front, conclusion_of, deviation_key, entry_lines, event_field, json_announcement, json_line, json_outcome, json_report, json_summary, json_title, json_trial, json_verdict, kind_field, kind_key, line_ends, report_lines, median_key, number_field, outcome_fields, outcome_front, stdout_key, summary_front, time_key, title_front}
+use Rattle.mimic_printer.specs.Json.{Contents, Entry, FitsEntry, FitsTime, HasNoEnd, IsJsonReport, IsLine, announcement_front, conclusion_of, deviation_key, entry_lines, event_field, json_announcement, json_line, json_outcome, json_report, json_summary, json_title, json_trial, json_verdict, kind_field, kind_key, line_ends, report_lines, median_key, number_field, outcome_fields, outcome_front, stdout_key, summary_front, time_field, time_key, title_front}
 
 -- ---- texts in which no line ends
 
@@ -103,16 +103,21 @@ front_no_end : (measured : Bool) → HasNoEnd (outcome_front measured)
 front_no_end true = by_test (outcome_front true) refl
 front_no_end false = by_test (outcome_front false) refl
 
-fields_no_end : (o : Outcome) → FitsTypes o → AllByRecursion HasNoEnd (outcome_fields o)
-fields_no_end Passed h = (by_test (event_field (codes "ok")) refl, tt)
-fields_no_end (Failed None) h = (by_test (event_field (codes "failed")) refl, tt)
-fields_no_end (Failed (Some message)) h = (by_test (event_field (codes "failed")) refl, (by_test stdout_key refl, (escaped_no_end message, (by_test (codes "\\\"\\n\"") refl, tt))))
-fields_no_end Ignored h = (by_test (event_field (codes "ignored")) refl, tt)
-fields_no_end (Measured m) h = (number_no_end median_key m.avg refl h.0, (number_no_end deviation_key m.variance refl h.1, tt))
+time_no_end : (time : Option ℕ) → FitsTime time → HasNoEnd (time_field time)
+time_no_end None h = tt
+time_no_end (Some nanos) h = no_end-append time_key (exact_seconds nanos) (by_test time_key refl) (seconds_no_end nanos h)
 
-outcome_line : (label : Label) (o : Outcome) → FitsTypes o → IsLine (json_outcome label o)
+fields_no_end : (o : Outcome) (time : Option ℕ) → FitsTypes o → FitsTime time → AllByRecursion HasNoEnd (outcome_fields o time)
+fields_no_end Passed time h t = (by_test (event_field (codes "ok")) refl, (time_no_end time t, tt))
+fields_no_end (Failed None) time h t = (by_test (event_field (codes "failed")) refl, (time_no_end time t, tt))
+fields_no_end (Failed (Some message)) time h t =
+    (by_test (event_field (codes "failed")) refl, (time_no_end time t, (by_test stdout_key refl, (escaped_no_end message, (by_test (codes "\\\"\\n\"") refl, tt)))))
+fields_no_end Ignored time h t = (by_test (event_field (codes "ignored")) refl, (time_no_end time t, tt))
+fields_no_end (Measured m) time h t = (number_no_end median_key m.avg refl h.0, (number_no_end deviation_key m.variance refl h.1, (time_no_end time t, tt)))
+
+outcome_line : (label : Label) (o : Outcome) (time : Option ℕ) → FitsTypes o → FitsTime time → IsLine (json_outcome label o time)
 unfolding json_outcome
-outcome_line label o h = trial_line (outcome_front (is_measured o)) label (outcome_fields o) (front_no_end (is_measured o)) (fields_no_end o h)
+outcome_line label o time h t = trial_line (outcome_front (is_measured o)) label (outcome_fields o time) (front_no_end (is_measured o)) (fields_no_end o time h t)
 
 summary_line : (os : List Outcome) (filtered_out nanos : ℕ) → length os < 2 ^ 64 → filtered_out < 2 ^ 64 → nanos < 2 ^ 64 → IsLine (json_summary (counts_of os filtered_out) nanos)
 unfolding json_summary
@@ -146,7 +151,7 @@ each_append (l ∷ p) q a b = (a.0, each_append p q a.1 b)
 
 pub rows_each : (es : List Entry) → AllByRecursion FitsEntry es → AllByRecursion IsLine (flat_map entry_lines es)
 rows_each [] h = tt
-rows_each (e ∷ es) h = (announcement_line e.label, (outcome_line e.label e.outcome h.0.outcome, rows_each es h.1))
+rows_each (e ∷ es) h = (announcement_line e.label, (outcome_line e.label e.outcome e.nanos h.0.outcome h.0.nanos, rows_each es h.1))
 
 -- each line of a report is one line
 pub lines_each : (bytes : List ℕ) (c : Contents) → IsJsonReport bytes c → length c.entries < 2 ^ 64 → AllByRecursion IsLine (report_lines c)

@@ -16,13 +16,13 @@ contents_of rows filtered_out nanos = record { entries = rows; filtered_out = fi
 
 -- the text of a row in a format
 abbrev row_in : FormatSetting → Printer → PrintedRow → List ℕ
-row_in f p row = announcement_in f p row.label ++ outcome_in f p row.label row.outcome
+row_in f p row = announcement_in f p row.label ++ outcome_in f p row.label row.outcome row.nanos
 
 rows_as_lines : (p : Printer) (rows : List PrintedRow) → flat_map (row_in Json p) rows ≡ concat (flat_map entry_lines rows)
 rows_as_lines p [] = refl
 rows_as_lines p (row ∷ rows) =
     let announced : List ℕ = announcement_in Json p row.label in
-    let ended : List ℕ = outcome_in Json p row.label row.outcome in
+    let ended : List ℕ = outcome_in Json p row.label row.outcome row.nanos in
     append_assoc announced ended (flat_map (row_in Json p) rows) ∙ ap (λ (l : List ℕ). announced ++ (ended ++ l)) (rows_as_lines p rows)
 
 -- the parts of a report in a format

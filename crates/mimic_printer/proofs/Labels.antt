@@ -1,7 +1,7 @@
 -- The name and the kind of a trial in JSON, and the lines that have them.
 use Rattle.std.proofs.Common.{◌≡◌, ◌≢◌, ℕ, List, [], ◌∷◌, ◌++◌, codes, take, drop, refl, sym, ap, ◌∙◌, append_assoc}
 use Rattle.mimic_trial.specs.Escape.{escaped}
-use Rattle.mimic_printer.specs.Json.{announcement_front, json_announcement, json_end, kind_field, kind_key}
+use Rattle.mimic_printer.specs.Json.{announcement_front, json_announcement, json_end, kind_field, kind_key, time_key}
 use Rattle.mimic_printer.specs.declared.place.Place.{Place}
 use Rattle.mimic_printer.specs.Escapes.{escaped as spelled}
 use Rattle.mimic_printer.specs.Piece.{bracketed, kind_text}
@@ -24,6 +24,10 @@ kind_joined front keyed kind key k e some =
     ap (λ (l : List ℕ). l ++ escaped kind) (k ∙ ap (λ (l : List ℕ). front ++ l) e)
     ∙ append_assoc front key_bytes (escaped kind)
     ∙ ap (λ (l : List ℕ). front ++ l) (sym (kind_text-some kind some))
+
+-- the key of a time and the time, one after another
+pub time_joined : (front keyed key time : List ℕ) → keyed ≡ front ++ key → key ≡ time_key → keyed ++ time ≡ front ++ (time_key ++ time)
+time_joined front keyed key time k e = ap (λ (l : List ℕ). l ++ time) (k ∙ ap (λ (l : List ℕ). front ++ l) e) ∙ append_assoc front time_key time
 
 -- three texts, one after another
 pub joined : (front first second text o k e left kind right : List ℕ) → first ≡ front ++ o → second ≡ first ++ k → o ≡ left → k ≡ kind → e ≡ right

@@ -1,6 +1,6 @@
 -- The report in JSON: one object on each line. Its lines, names and spaces are the Rust crate's, but for the field of a kind; the
 -- spelling of texts and of seconds is our own, so that each report has one text.
-use Rattle.std.specs.Prelude.{◌≡◌, ◌≢◌, ℕ, ◌<◌, ◌^◌, Bool, true, false, nat_lt, if◌then◌else◌, List, [], ◌∷◌, ◌++◌, length, map, codes, count_by, decimal, ◌==◌, None, Some, IsUtf8}
+use Rattle.std.specs.Prelude.{◌≡◌, ◌≢◌, ℕ, ◌<◌, ◌^◌, Bool, true, false, nat_lt, if◌then◌else◌, List, [], ◌∷◌, ◌++◌, length, map, codes, count_by, decimal, ◌==◌, Option, None, Some, IsUtf8}
 use Rattle.std.specs.List.{AllByRecursion, concat, flat_map}
 use Rattle.mimic_trial.specs.declared.outcome.Outcome.{Outcome}
 use Rattle.mimic_trial.specs.declared.outcome.Outcome.TheVariants.{Passed, Failed, Ignored, Measured}
@@ -66,6 +66,15 @@ median_key = codes ", \"median\": "
 abbrev pub deviation_key : List ℕ
 deviation_key = codes ", \"deviation\": "
 
+-- what comes before a time
+abbrev pub time_key : List ℕ
+time_key = codes ", \"exec_time\": "
+
+-- the field of the time that a trial took, in seconds, and nothing if there is none
+abbrev pub time_field : Option ℕ → List ℕ
+time_field None = []
+time_field (Some nanos) = time_key ++ exact_seconds nanos
+
 -- ---- the lines of a trial
 
 -- the line of a trial: its front up to the name, the name and the closing quote, the kind, and the other fields
@@ -81,22 +90,22 @@ abbrev pub outcome_front : Bool → List ℕ
 outcome_front false = codes "{ \"type\": \"test\", \"name\": \""
 outcome_front true = codes "{ \"type\": \"bench\", \"name\": \""
 
--- the fields of an outcome: a word, with a failure's message, or what was measured
-abbrev pub outcome_fields : Outcome → List (List ℕ)
-outcome_fields Passed = event_field (codes "ok") ∷ []
-outcome_fields (Failed None) = event_field (codes "failed") ∷ []
-outcome_fields (Failed (Some message)) = event_field (codes "failed") ∷ stdout_key ∷ escaped message
+-- the fields of an outcome: a word or what was measured, the time, and a failure's message
+abbrev pub outcome_fields : Outcome → Option ℕ → List (List ℕ)
+outcome_fields Passed time = event_field (codes "ok") ∷ time_field time ∷ []
+outcome_fields (Failed None) time = event_field (codes "failed") ∷ time_field time ∷ []
+outcome_fields (Failed (Some message)) time = event_field (codes "failed") ∷ time_field time ∷ stdout_key ∷ escaped message
     ∷ codes "\\\"\\n\"" ∷ []
-outcome_fields Ignored = event_field (codes "ignored") ∷ []
-outcome_fields (Measured m) = number_field median_key m.avg ∷ number_field deviation_key m.variance ∷ []
+outcome_fields Ignored time = event_field (codes "ignored") ∷ time_field time ∷ []
+outcome_fields (Measured m) time = number_field median_key m.avg ∷ number_field deviation_key m.variance ∷ time_field time ∷ []
 
 -- the line that announces a trial, by its name and its kind
 unfoldable pub json_announcement : Label → List ℕ
 json_announcement label = json_trial announcement_front label []
 
--- the line of an outcome
-unfoldable pub json_outcome : Label → Outcome → List ℕ
-json_outcome label outcome = json_trial (outcome_front (is_measured outcome)) label (outcome_fields outcome)
+-- the line of an outcome, with the nanoseconds that the trial took or without
+unfoldable pub json_outcome : Label → Outcome → Option ℕ → List ℕ
+json_outcome label outcome time = json_trial (outcome_front (is_measured outcome)) label (outcome_fields outcome time)
 
 -- ---- the lines around them
 
@@ -119,23 +128,19 @@ summary_front c = codes "{ \"type\": \"suite\", \"event\": \"" ∷ json_verdict 
     ∷ number_field (codes ", \"ignored\": ") c.num_ignored ∷ number_field (codes ", \"measured\": ") c.num_measured
     ∷ codes ", \"filtered_out\": " ∷ []
 
--- what comes before the time
-abbrev pub time_key : List ℕ
-time_key = codes ", \"exec_time\": "
-
 -- the line that ends a report: its counts, and the time in seconds
 unfoldable pub json_summary : Conclusion → ℕ → List ℕ
 json_summary c nanos = json_line (summary_front c ++ decimal c.num_filtered_out ∷ time_key ∷ exact_seconds nanos ∷ [])
 
 -- ---- the whole
 
--- what a report in JSON shows of a trial: its name, its kind and its outcome, all that a row has
+-- what a report in JSON shows of a trial: its name, its kind, its outcome and its time, all that a row has
 abbrev pub Entry : Type 0
 Entry = PrintedRow
 
 -- the two lines of an entry
 abbrev pub entry_lines : Entry → List (List ℕ)
-entry_lines entry = json_announcement entry.label ∷ json_outcome entry.label entry.outcome ∷ []
+entry_lines entry = json_announcement entry.label ∷ json_outcome entry.label entry.outcome entry.nanos ∷ []
 
 -- what a report in JSON says: its entries, how many trials were filtered out, and the nanoseconds that the run took
 pub record Contents : Type 0 where
@@ -165,10 +170,16 @@ pub record FitsLabel (label : Label) : Type 0 where
   pub name : IsUtf8 label.name
   pub kind : IsUtf8 label.kind
 
--- name and kind are texts, and the outcome fits its types
+-- the nanoseconds are below 2^64
+abbrev pub FitsTime : Option ℕ → Type 0
+FitsTime None = Unit {0}
+FitsTime (Some nanos) = nanos < 2 ^ 64
+
+-- name and kind are texts, the outcome fits its types, and the time its own
 pub record FitsEntry (entry : Entry) : Type 0 where
   pub label : FitsLabel entry.label
   pub outcome : FitsTypes entry.outcome
+  pub nanos : FitsTime entry.nanos
 
 -- the bytes are the JSON report of these contents: names, kinds and messages are texts, and numbers are below 2^64
 pub record IsJsonReport (bytes : List ℕ) (c : Contents) : Type 0 where

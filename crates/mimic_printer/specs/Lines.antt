@@ -1,5 +1,5 @@
 -- The lines of a trial as they are written in JSON, for the private functions that write them. No public clause names these words.
-use Rattle.std.specs.Prelude.{ℕ, Bool, if◌then◌else◌, List, [], ◌++◌}
+use Rattle.std.specs.Prelude.{ℕ, Bool, if◌then◌else◌, List, [], ◌++◌, Option}
 use Rattle.mimic_trial.specs.declared.outcome.Outcome.{Outcome}
 use Rattle.mimic_printer.specs.Json.{json_announcement, json_outcome}
 use Rattle.mimic_printer.specs.Row.{Label}
@@ -9,5 +9,5 @@ abbrev pub announced_before : Bool → Label → List ℕ
 announced_before both label = if both then json_announcement label else []
 
 -- the line of an outcome, and that line before it
-abbrev pub json_lines : Bool → Label → Outcome → List ℕ
-json_lines both label outcome = announced_before both label ++ json_outcome label outcome
+abbrev pub json_lines : Bool → Label → Outcome → Option ℕ → List ℕ
+json_lines both label outcome time = announced_before both label ++ json_outcome label outcome time

@@ -2,9 +2,10 @@
 use Rattle.std.specs.Prelude.{ℕ, ◌==◌, if◌then◌else◌, List, [], ◌∷◌, ◌++◌, codes, decimal}
 use Rattle.std.specs.List.{flat_map}
 use Rattle.mimic_printer.specs.declared.piece.Piece.{Piece}
-use Rattle.mimic_printer.specs.declared.piece.Piece.TheVariants.{Text, Number, Long, TwoDigits, Spaces, Grouped, Aligned, Seconds, Json, Kind, Escaped, FirstLine, Bracketed, PlainKind}
+use Rattle.mimic_printer.specs.declared.piece.Piece.TheVariants.{Text, Number, Long, TwoDigits, Spaces, Grouped, Aligned, Seconds, Time, Json, Kind, Escaped, FirstLine, Bracketed, PlainKind}
 use Rattle.mimic_printer.specs.declared.place.Place.{Place}
 use Rattle.mimic_printer.specs.Escapes.{escaped}
+use Rattle.mimic_printer.specs.Json.{time_field}
 use Rattle.mimic_trial.specs.Escape.{escaped as json_escaped}
 use Rattle.mimic_trial.specs.Seconds.{exact_seconds}
 use Rattle.mimic_trial.specs.Text.{spaces, two_digits, right_aligned, grouped, kind_part}
@@ -34,6 +35,7 @@ piece_text (Spaces n) = spaces n
 piece_text (Grouped n) = grouped (decimal n)
 piece_text (Aligned n width) = right_aligned width (grouped (decimal n))
 piece_text (Seconds n) = exact_seconds n
+piece_text (Time nanos) = time_field nanos
 piece_text (Json t) = json_escaped t.now
 piece_text (Kind k) = kind_text k.now
 piece_text (Escaped place t) = escaped place t.now

@@ -1,5 +1,5 @@
 -- The texts of a report, part by part. If no other source is named, a text is the Rust crate's.
-use Rattle.std.specs.Prelude.{ℕ, ◌/◌, ◌%◌, ◌==◌, nat_lt, if◌then◌else◌, List, [], ◌∷◌, ◌++◌, length, codes, decimal, Option, None, Some}
+use Rattle.std.specs.Prelude.{ℕ, ◌+◌, ◌/◌, ◌%◌, ◌==◌, nat_lt, if◌then◌else◌, List, [], ◌∷◌, ◌++◌, length, codes, decimal, Option, None, Some}
 use Rattle.std.specs.List.{concat, flat_map, list_any}
 use Rattle.mimic_trial.specs.declared.formats.FormatSetting.{FormatSetting}
 use Rattle.mimic_trial.specs.declared.formats.FormatSetting.TheVariants.{Pretty, Terse, Json}
@@ -73,33 +73,53 @@ outcome_tail (Measured m) = concat (codes ": " ∷ right_aligned 11 (grouped (de
     ∷ grouped (decimal m.variance) ∷ codes ")" ∷ [])
 outcome_tail o = []
 
+-- the number of thousandths of a second that is nearest to the nanoseconds, ties up (rustc's harness rounds so, but for its floats)
+abbrev pub nearest_thousandths : ℕ → ℕ
+nearest_thousandths nanos = (nanos + 500000) / 1000000
+
+-- the time that a trial took in seconds, with three decimals, and nothing if there is none (as rustc's harness shows it)
+abbrev pub time_mark : Option ℕ → List ℕ
+time_mark None = []
+time_mark (Some nanos) = let all = nearest_thousandths nanos in
+    concat (codes " <" ∷ decimal (all / 1000) ∷ codes "." ∷ decimal (all / 100 % 10) ∷ two_digits (all % 100) ∷ codes "s>" ∷ [])
+
 -- the word between its colour's sequences, and what was measured
-unfoldable pub outcome_line : Printer → Outcome → List ℕ
-outcome_line p o = concat (colour_start p o ∷ outcome_word o ∷ colour_end p ∷ outcome_tail o ∷ codes "\n" ∷ [])
+unfoldable pub untimed_line : Printer → Outcome → List ℕ
+untimed_line p o = concat (colour_start p o ∷ outcome_word o ∷ colour_end p ∷ outcome_tail o ∷ [])
+
+-- these, and the time
+unfoldable pub outcome_line : Printer → Outcome → Option ℕ → List ℕ
+outcome_line p o time = concat
+    (colour_start p o ∷ outcome_word o ∷ colour_end p ∷ outcome_tail o ∷ time_mark time ∷ codes "\n" ∷ [])
 
 -- the one character of an outcome in terse
 unfoldable pub outcome_mark : Printer → Outcome → List ℕ → List ℕ
 outcome_mark p o mark = concat (colour_start p o ∷ mark ∷ colour_end p ∷ [])
 
--- terse has one character for each outcome but a measurement, which has its whole line
+-- terse has one character for each outcome but a measurement, which has its whole line, and no times
 abbrev pub terse_outcome : Printer → Outcome → List ℕ
 terse_outcome p Passed = outcome_mark p Passed (codes ".")
 terse_outcome p (Failed f) = outcome_mark p (Failed f) (codes "F")
 terse_outcome p Ignored = outcome_mark p Ignored (codes "i")
-terse_outcome p (Measured m) = outcome_line p (Measured m)
+terse_outcome p (Measured m) = outcome_line p (Measured m) None
 
-abbrev pub outcome_in : FormatSetting → Printer → Label → Outcome → List ℕ
-outcome_in Pretty p l o = outcome_line p o
-outcome_in Terse p l o = terse_outcome p o
-outcome_in Json p l o = json_outcome l o
+abbrev pub outcome_in : FormatSetting → Printer → Label → Outcome → Option ℕ → List ℕ
+outcome_in Pretty p l o time = outcome_line p o time
+outcome_in Terse p l o time = terse_outcome p o
+outcome_in Json p l o time = json_outcome l o time
 
+-- an outcome with or without the time that the trial took
+abbrev pub timed_outcome_text : Printer → Label → Outcome → Option ℕ → List ℕ
+timed_outcome_text p l o time = outcome_in p.format p l o time
+
+-- an outcome without a time
 abbrev pub outcome_text : Printer → Label → Outcome → List ℕ
-outcome_text p l o = outcome_in p.format p l o
+outcome_text p l o = timed_outcome_text p l o None
 
 -- ---- rows
 
 abbrev pub row_text : Printer → PrintedRow → List ℕ
-row_text p row = announcement_text p row.label ++ outcome_text p row.label row.outcome
+row_text p row = announcement_text p row.label ++ timed_outcome_text p row.label row.outcome row.nanos
 
 abbrev pub rows_text : Printer → List PrintedRow → List ℕ
 rows_text p rows = flat_map (row_text p) rows

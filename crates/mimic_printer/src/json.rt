@@ -1,7 +1,7 @@
 //! Writes the lines of a report in JSON, of trials that need no `TestInfo`. With a fault a beginning of a line was written.
-ghost use Rattle.std.specs.Prelude.{◌≡◌, ◌∷◌, ◌++◌, [], Some, codes, drop, false, take};
+ghost use Rattle.std.specs.Prelude.{◌≡◌, ◌∷◌, ◌++◌, [], None, Some, codes, drop, false, take};
 ghost use Rattle.std.specs.List.{concat};
-ghost use Rattle.mimic_printer.specs.Json.{json_announcement, json_outcome, json_summary, json_title, json_verdict, kind_field, outcome_front};
+ghost use Rattle.mimic_printer.specs.Json.{json_announcement, json_end, json_outcome, json_summary, json_title, json_verdict, kind_field, outcome_front, time_field};
 ghost use Rattle.mimic_printer.specs.Lines.{announced_before, json_lines};
 ghost use Rattle.mimic_printer.specs.Sink.{HasFaultLeft, Puts};
 ghost use Rattle.mimic_trial.specs.Escape.{escaped};
@@ -68,18 +68,19 @@ pub fn put_announcement<'a, W: Write>(
     put_pieces(sink, &pieces)
 }
 
-/// Writes the line of a trial's outcome, with its kind if that isn't empty.
+/// Writes the line of a trial's outcome, with its kind if that isn't empty, and with the nanoseconds that it took if there are any.
 pub fn put_outcome<'a, W: Write>(
     sink: &mut Sink<W>,
     name: &'a str,
     kind: &'a str,
     outcome: &'a Outcome,
+    nanos: Option<u64>,
 ) -> Result<(), WriteFault>
     requires { HasFaultLeft sink.old }
     ensures { Puts W.contents sink.old sink.new
-        (json_outcome (record { kind = kind.now; name = name.now }) outcome.now) result }
+        (json_outcome (record { kind = kind.now; name = name.now }) outcome.now nanos) result }
 {
-    put_lines(sink, false, name, kind, outcome)
+    put_lines(sink, false, name, kind, outcome, nanos)
 }
 
 /// Writes both lines of a trial that has ended: the one that announces it, and the one of its outcome. No piece ends a line but
@@ -90,13 +91,14 @@ pub fn put_row<'a, W: Write>(
     name: &'a str,
     kind: &'a str,
     outcome: &'a Outcome,
+    nanos: Option<u64>,
 ) -> Result<(), WriteFault>
     requires { HasFaultLeft sink.old }
     ensures { Puts W.contents sink.old sink.new
         (json_announcement (record { kind = kind.now; name = name.now })
-        ++ json_outcome (record { kind = kind.now; name = name.now }) outcome.now) result }
+        ++ json_outcome (record { kind = kind.now; name = name.now }) outcome.now nanos) result }
 {
-    put_lines(sink, true, name, kind, outcome)
+    put_lines(sink, true, name, kind, outcome, nanos)
 }
 
 // Writes the line of an outcome, and before it the line that announces its trial if that was not written.
@@ -107,18 +109,65 @@ fn put_lines<'a, W: Write>(
     name: &'a str,
     kind: &'a str,
     outcome: &'a Outcome,
+    nanos: Option<u64>,
 ) -> Result<(), WriteFault>
     requires { HasFaultLeft sink.old }
     ensures { Puts W.contents sink.old sink.new (json_lines both
-        (record { kind = kind.now; name = name.now }) outcome.now) result }
+        (record { kind = kind.now; name = name.now }) outcome.now nanos) result }
+{
+    match nanos {
+        None => put_untimed(sink, both, name, kind, outcome),
+        Some(nanos) => put_timed(sink, both, name, kind, outcome, nanos),
+    }
+}
+
+#[inline(always)]
+fn put_untimed<'a, W: Write>(
+    sink: &mut Sink<W>,
+    both: bool,
+    name: &'a str,
+    kind: &'a str,
+    outcome: &'a Outcome,
+) -> Result<(), WriteFault>
+    requires { HasFaultLeft sink.old }
+    ensures { Puts W.contents sink.old sink.new (json_lines both
+        (record { kind = kind.now; name = name.now }) outcome.now None) result }
 {
     match outcome {
         Outcome::Passed => put_word(sink, both, name, kind, "\", \"event\": \"ok\" }\n"),
         Outcome::Ignored => put_word(sink, both, name, kind, "\", \"event\": \"ignored\" }\n"),
-        Outcome::Measured(measurement) => put_measurement(sink, both, name, kind, measurement),
+        Outcome::Measured(measurement) => {
+            put_measurement(sink, both, name, kind, measurement, None)
+        }
         Outcome::Failed(failed) => match failed.message() {
             None => put_word(sink, both, name, kind, "\", \"event\": \"failed\" }\n"),
-            Some(message) => put_failure(sink, both, name, kind, message),
+            Some(message) => put_failure(sink, both, name, kind, message, None),
+        },
+    }
+}
+
+#[inline(never)]
+fn put_timed<'a, W: Write>(
+    sink: &mut Sink<W>,
+    both: bool,
+    name: &'a str,
+    kind: &'a str,
+    outcome: &'a Outcome,
+    nanos: u64,
+) -> Result<(), WriteFault>
+    requires { HasFaultLeft sink.old }
+    ensures { Puts W.contents sink.old sink.new (json_lines both
+        (record { kind = kind.now; name = name.now }) outcome.now (Some nanos)) result }
+{
+    match outcome {
+        Outcome::Passed => put_timed_word(sink, both, name, kind, "ok", nanos),
+        Outcome::Ignored => put_timed_word(sink, both, name, kind, "ignored", nanos),
+        Outcome::Measured(measurement) => {
+            put_measurement(sink, both, name, kind, measurement, Some(nanos))
+        }
+        Outcome::Failed(failed) => match failed.message() {
+            None => put_timed_word(sink, both, name, kind, "failed", nanos),
+            Some(message) => put_failure(sink, both, name, kind, message, Some(nanos)),
         },
     }
 }
@@ -142,17 +191,20 @@ fn put_word<'a, W: Write>(
     put_trial!(sink, both, "test", name, kind, Piece::Text(end))
 }
 
-fn put_failure<'a, W: Write>(
+// The same of a word and a time. `word` has no quotes.
+fn put_timed_word<'a, W: Write>(
     sink: &mut Sink<W>,
     both: bool,
     name: &'a str,
     kind: &'a str,
-    message: &'a str,
+    word: &'a str,
+    nanos: u64,
 ) -> Result<(), WriteFault>
     requires { HasFaultLeft sink.old }
     ensures { Puts W.contents sink.old sink.new
-        (json_lines both (record { kind = kind.now; name = name.now })
-        (Failed (Some message.now))) result }
+        (announced_before both (record { kind = kind.now; name = name.now })
+        ++ concat (outcome_front false ∷ escaped name.now ∷ codes "\"" ∷ kind_field kind.now
+        ∷ codes ", \"event\": \"" ∷ word.now ∷ codes "\"" ∷ time_field (Some nanos) ∷ json_end ∷ [])) result }
 {
     put_trial!(
         sink,
@@ -160,7 +212,36 @@ fn put_failure<'a, W: Write>(
         "test",
         name,
         kind,
-        Piece::Text("\", \"event\": \"failed\", \"stdout\": \"Error: \\\""),
+        Piece::Text("\", \"event\": \""),
+        Piece::Text(word),
+        Piece::Text("\""),
+        Piece::Time(Some(nanos)),
+        Piece::Text(" }\n")
+    )
+}
+
+fn put_failure<'a, W: Write>(
+    sink: &mut Sink<W>,
+    both: bool,
+    name: &'a str,
+    kind: &'a str,
+    message: &'a str,
+    nanos: Option<u64>,
+) -> Result<(), WriteFault>
+    requires { HasFaultLeft sink.old }
+    ensures { Puts W.contents sink.old sink.new
+        (json_lines both (record { kind = kind.now; name = name.now })
+        (Failed (Some message.now)) nanos) result }
+{
+    put_trial!(
+        sink,
+        both,
+        "test",
+        name,
+        kind,
+        Piece::Text("\", \"event\": \"failed\""),
+        Piece::Time(nanos),
+        Piece::Text(", \"stdout\": \"Error: \\\""),
         Piece::Json(message),
         Piece::Text("\\\"\\n\" }\n")
     )
@@ -172,11 +253,12 @@ fn put_measurement<'a, W: Write>(
     name: &'a str,
     kind: &'a str,
     measurement: &Measurement,
+    nanos: Option<u64>,
 ) -> Result<(), WriteFault>
     requires { HasFaultLeft sink.old }
     ensures { Puts W.contents sink.old sink.new
         (json_lines both (record { kind = kind.now; name = name.now })
-        (Measured measurement.now)) result }
+        (Measured measurement.now) nanos) result }
 {
     put_trial!(
         sink,
@@ -188,6 +270,7 @@ fn put_measurement<'a, W: Write>(
         Piece::Number(measurement.avg),
         Piece::Text(", \"deviation\": "),
         Piece::Number(measurement.variance),
+        Piece::Time(nanos),
         Piece::Text(" }\n")
     )
 }

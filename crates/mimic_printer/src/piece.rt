@@ -3,8 +3,10 @@ ghost use Rattle.std.specs.Prelude.{◌≡◌, ◌≤◌, ◌++◌, IfSome, deci
 ghost use Rattle.std.specs.Option.{MatchOption};
 ghost use Rattle.mimic_printer.specs.Sink.{HasFaultLeft, Puts};
 ghost use Rattle.mimic_trial.specs.Escape.{escaped as json_escaped};
+ghost use Rattle.mimic_trial.specs.Seconds.{exact_seconds};
 ghost use Rattle.mimic_trial.specs.Text.{spaces, right_aligned, grouped, kind_part};
 ghost use Rattle.mimic_printer.specs.Escapes.{escaped};
+ghost use Rattle.mimic_printer.specs.Json.{time_field};
 ghost use Rattle.mimic_printer.specs.Piece.{bracketed, first_line, kind_text, piece_text, pieces_text};
 
 use crate::escape::{first_escape, put_escaped};
@@ -38,6 +40,8 @@ pub enum Piece<'a> {
     },
     /// Nanoseconds, as seconds in exact decimal.
     Seconds(u64),
+    /// The key of a time in JSON and the nanoseconds, as seconds in exact decimal; nothing without a time.
+    Time(Option<u64>),
     /// The text as it is between the quotes of a JSON string.
     Json(&'a str),
     /// What follows a trial's name in JSON: the key of a kind and the kind, up to its last quote, and nothing for an empty kind.
@@ -179,6 +183,32 @@ fn append_plain_kind(row: &mut [u8; ROW], len: usize, kind: &str) -> Option<usiz
 // What comes between a name and a kind.
 const KIND_KEY: &str = "\", \"kind\": \"";
 
+// The same of nanoseconds, as seconds in exact decimal.
+fn append_seconds(row: &mut [u8; ROW], len: usize, nanos: u64) -> Option<usize>
+    requires { len ≤ 256 }
+    ensures { IfSome result
+        (λ end. (end ≤ 256) × (take end row.new ≡ take len row.old ++ exact_seconds nanos)) }
+{
+    append(row, len, exact_seconds(nanos, &mut [0; 32]).as_bytes())
+}
+
+fn append_time(row: &mut [u8; ROW], len: usize, nanos: Option<u64>) -> Option<usize>
+    requires { len ≤ 256 }
+    ensures { IfSome result
+        (λ end. (end ≤ 256) × (take end row.new ≡ take len row.old ++ time_field nanos)) }
+{
+    match nanos {
+        None => Some(len),
+        Some(nanos) => {
+            let end = append(row, len, TIME_KEY.as_bytes())?;
+            append_seconds(row, end, nanos)
+        }
+    }
+}
+
+// What comes before the time that a trial took.
+const TIME_KEY: &str = ", \"exec_time\": ";
+
 impl Piece<'_> {
     ghost use Rattle.std.specs.Prelude.{◌≡◌, ◌≤◌, ◌++◌, IfSome, take};
     ghost use Rattle.mimic_printer.specs.Sink.{HasFaultLeft, Puts};
@@ -198,9 +228,8 @@ impl Piece<'_> {
             Piece::TwoDigits(number) => {
                 append(row, len, &[b'0' + number / 10, b'0' + number % 10])
             }
-            Piece::Seconds(nanos) => {
-                append(row, len, exact_seconds(nanos, &mut [0; 32]).as_bytes())
-            }
+            Piece::Seconds(nanos) => append_seconds(row, len, nanos),
+            Piece::Time(nanos) => append_time(row, len, nanos),
             Piece::Grouped(number) => {
                 append(row, len, thousands(number, &mut [0; 26]).as_bytes())
             }
@@ -229,7 +258,8 @@ impl Piece<'_> {
             Piece::Spaces(count) => put_spaces(sink, count),
             Piece::Grouped(number) => sink.put(thousands(number, &mut [0; 26]).as_bytes()),
             Piece::Aligned { number, width } => put_aligned(sink, number, width),
-            Piece::Seconds(nanos) => sink.put(exact_seconds(nanos, &mut [0; 32]).as_bytes()),
+            Piece::Seconds(nanos) => put_seconds(sink, nanos),
+            Piece::Time(nanos) => put_time(sink, nanos),
             Piece::Json(text) => put_json(sink, text.as_bytes()),
             Piece::Kind(kind) => put_kind(sink, kind),
             Piece::Escaped(place, text) => put_escaped(sink, text.as_bytes(), place),
@@ -292,6 +322,26 @@ fn put_kind<W: Write>(sink: &mut Sink<W>, kind: &str) -> Result<(), WriteFault>
     }
     sink.put(KIND_KEY.as_bytes())?;
     put_json(sink, kind.as_bytes())
+}
+
+fn put_time<W: Write>(sink: &mut Sink<W>, nanos: Option<u64>) -> Result<(), WriteFault>
+    requires { HasFaultLeft sink.old }
+    ensures { Puts W.contents sink.old sink.new (time_field nanos) result }
+{
+    match nanos {
+        None => Ok(()),
+        Some(nanos) => {
+            sink.put(TIME_KEY.as_bytes())?;
+            put_seconds(sink, nanos)
+        }
+    }
+}
+
+fn put_seconds<W: Write>(sink: &mut Sink<W>, nanos: u64) -> Result<(), WriteFault>
+    requires { HasFaultLeft sink.old }
+    ensures { Puts W.contents sink.old sink.new (exact_seconds nanos) result }
+{
+    sink.put(exact_seconds(nanos, &mut [0; 32]).as_bytes())
 }
 
 fn put_bracketed<W: Write>(sink: &mut Sink<W>, kind: &str, place: Place) -> Result<(), WriteFault>

@@ -1,6 +1,6 @@
 //! Writes the parts of a report in pretty. Its title, its measurements and its summary are those of terse too.
-ghost use Rattle.std.specs.Prelude.{◌≡◌};
-ghost use Rattle.mimic_printer.specs.Report.{noun_text, outcome_line, outcome_word, pretty_announcement, result_summary, running_title, verdict_of};
+ghost use Rattle.std.specs.Prelude.{◌≡◌, ◌++◌, Some, codes};
+ghost use Rattle.mimic_printer.specs.Report.{noun_text, outcome_line, outcome_word, pretty_announcement, result_summary, running_title, time_mark, untimed_line, verdict_of};
 ghost use Rattle.mimic_printer.specs.Sink.{HasFaultLeft, Puts};
 ghost use Rattle.mimic_printer.specs.Row.{label_of};
 
@@ -56,16 +56,50 @@ pub(super) fn put_announcement<W: Write>(
     Ok(())
 }
 
-// Writes an outcome's word, what was measured, and a line end.
+// Writes an outcome's word, what was measured, the time that the trial took if there is one, and a line end.
 #[tactic(auto, unfolding(crate::specs::Report::outcome_line))]
 #[inline(always)]
 pub(super) fn put_outcome<W: Write>(
     sink: &mut Sink<W>,
     printer: &Printer,
     outcome: &Outcome,
+    nanos: Option<u64>,
 ) -> Result<(), WriteFault>
     requires { HasFaultLeft sink.old }
-    ensures { Puts W.contents sink.old sink.new (outcome_line printer.now outcome.now) result }
+    ensures { Puts W.contents sink.old sink.new (outcome_line printer.now outcome.now nanos) result }
+{
+    match outcome {
+        // Most rows end so, and need not be gathered.
+        Outcome::Passed if !printer.colour && nanos.is_none() => sink.put(b"ok\n")?,
+        _ => put_parts(sink, printer, outcome, nanos)?,
+    }
+    Ok(())
+}
+
+// The same of any outcome, part by part.
+#[inline(never)]
+fn put_parts<W: Write>(
+    sink: &mut Sink<W>,
+    printer: &Printer,
+    outcome: &Outcome,
+    nanos: Option<u64>,
+) -> Result<(), WriteFault>
+    requires { HasFaultLeft sink.old }
+    ensures { Puts W.contents sink.old sink.new (outcome_line printer.now outcome.now nanos) result }
+{
+    put_word(sink, printer, outcome)?;
+    put_end(sink, nanos)
+}
+
+// Writes an outcome's word, and what was measured.
+#[tactic(auto, unfolding(crate::specs::Report::untimed_line))]
+fn put_word<W: Write>(
+    sink: &mut Sink<W>,
+    printer: &Printer,
+    outcome: &Outcome,
+) -> Result<(), WriteFault>
+    requires { HasFaultLeft sink.old }
+    ensures { Puts W.contents sink.old sink.new (untimed_line printer.now outcome.now) result }
 {
     let start = Piece::Text(colour_start(printer, outcome));
     let word = Piece::Text(word(outcome));
@@ -83,15 +117,40 @@ pub(super) fn put_outcome<W: Write>(
                 },
                 Piece::Text(" ns/iter (+/- "),
                 Piece::Grouped(measurement.variance),
-                Piece::Text(")\n"),
+                Piece::Text(")"),
             ];
-            put_pieces(sink, &pieces)?;
+            put_pieces(sink, &pieces)
         }
-        // Most rows end so, and need not be gathered.
-        Outcome::Passed if !printer.colour => sink.put(b"ok\n")?,
-        _ => put_pieces(sink, &[start, word, end, Piece::Text("\n")])?,
+        _ => put_pieces(sink, &[start, word, end]),
     }
-    Ok(())
+}
+
+// Writes the time that a trial took, if there is one, and a line end.
+fn put_end<W: Write>(sink: &mut Sink<W>, nanos: Option<u64>) -> Result<(), WriteFault>
+    requires { HasFaultLeft sink.old }
+    ensures { Puts W.contents sink.old sink.new (time_mark nanos ++ codes "\n") result }
+{
+    match nanos {
+        None => sink.put(b"\n"),
+        Some(nanos) => put_time(sink, nanos),
+    }
+}
+
+// Writes the time that a trial took, in seconds to the nearest thousandth, and a line end.
+fn put_time<W: Write>(sink: &mut Sink<W>, nanos: u64) -> Result<(), WriteFault>
+    requires { HasFaultLeft sink.old }
+    ensures { Puts W.contents sink.old sink.new (time_mark (Some nanos) ++ codes "\n") result }
+{
+    let all = (u128::from(nanos) + 500_000) / 1_000_000;
+    let pieces = [
+        Piece::Text(" <"),
+        Piece::Number((all / 1000) as u64),
+        Piece::Text("."),
+        Piece::Number((all / 100 % 10) as u64),
+        Piece::TwoDigits((all % 100) as u8),
+        Piece::Text("s>\n"),
+    ];
+    put_pieces(sink, &pieces)
 }
 
 fn word(outcome: &Outcome) -> &'static str

@@ -1,5 +1,5 @@
 //! Writes outcomes in terse: each has a mark and no announcement. All else is as in pretty.
-ghost use Rattle.std.specs.Prelude.{◌≡◌, IfNone, IfSome};
+ghost use Rattle.std.specs.Prelude.{◌≡◌, IfNone, IfSome, None};
 ghost use Rattle.mimic_printer.specs.declared.Printer.{Printer};
 ghost use Rattle.mimic_printer.specs.Report.{outcome_line, outcome_mark, terse_outcome};
 ghost use Rattle.mimic_printer.specs.Sink.{HasFaultLeft, Puts};
@@ -41,7 +41,7 @@ fn put_coloured_or_measured<W: Write>(
 {
     match mark(outcome) {
         Some(mark) => put_mark(sink, printer, outcome, mark),
-        None => pretty::put_outcome(sink, printer, outcome),
+        None => pretty::put_outcome(sink, printer, outcome, None),
     }
 }
 
@@ -50,7 +50,7 @@ fn mark(outcome: &Outcome) -> Option<&'static str>
     ensures mark { IfSome result (λ mark. (p : Printer)
         → terse_outcome p outcome.now ≡ outcome_mark p outcome.now mark.now) }
     ensures line { IfNone result
-        ((p : Printer) → terse_outcome p outcome.now ≡ outcome_line p outcome.now) }
+        ((p : Printer) → terse_outcome p outcome.now ≡ outcome_line p outcome.now None) }
 {
     match outcome {
         Outcome::Passed => Some("."),

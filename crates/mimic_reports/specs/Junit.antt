@@ -1,6 +1,6 @@
 -- Reports in the XML that readers of JUnit's reports take. No standard fixes it: the elements and attributes are those that
 -- Jenkins, GitLab, Surefire and junitparser read; the texts of messages are our own.
-use Rattle.std.specs.Prelude.{ℕ, ◌+◌, List, [], ◌∷◌, length, map, count_by, codes, decimal, Option, Some, None, string_bytes}
+use Rattle.std.specs.Prelude.{ℕ, ◌+◌, List, [], ◌∷◌, ◌++◌, length, map, count_by, codes, decimal, Option, Some, None, string_bytes}
 use Rattle.std.specs.List.{concat, flat_map}
 use Rattle.mimic_trial.specs.declared.outcome.Outcome.{Outcome}
 use Rattle.mimic_trial.specs.declared.outcome.Outcome.TheVariants.{Passed, Failed, Ignored, Measured}
@@ -82,7 +82,13 @@ abbrev pub class_point : List ℕ → List ℕ
 class_point [] = []
 class_point (b ∷ kind) = codes "."
 
--- what follows the name of a row: a failure has its message, the first line as an attribute and the whole as a text
+-- the quote behind the name, and the attribute of the time that the trial took, in seconds, without its last quote; nothing if there
+-- is no time
+abbrev pub time_part : Option ℕ → List ℕ
+time_part None = []
+time_part (Some nanos) = codes "\" time=\"" ++ exact_seconds nanos
+
+-- what follows them in a row, from the last quote on: a failure has its message, the first line as an attribute and the whole as a text
 abbrev pub outcome_part : Outcome → List (List ℕ)
 outcome_part Passed = codes "\"/>\n" ∷ []
 outcome_part Ignored = codes "\"><skipped/></testcase>\n" ∷ []
@@ -95,7 +101,8 @@ outcome_part (Measured m) = codes "\"><properties><property name=\"ns_per_iter\"
 -- the line, or with a message the lines, of a row
 unfoldable pub case_text : List ℕ → Entry → List ℕ
 case_text program entry = concat (codes "    <testcase classname=\"" ∷ escaped Value program ∷ class_point entry.label.kind
-    ∷ escaped Value entry.label.kind ∷ codes "\" name=\"" ∷ escaped Value entry.label.name ∷ outcome_part entry.outcome)
+    ∷ escaped Value entry.label.kind ∷ codes "\" name=\"" ∷ escaped Value entry.label.name ∷ time_part entry.nanos
+    ∷ outcome_part entry.outcome)
 
 -- ---- a report without its end
 

@@ -1,4 +1,5 @@
 pub mod Junit
 pub mod Page
 pub mod Show
+pub mod Slowest
 pub mod Suites

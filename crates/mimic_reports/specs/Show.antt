@@ -3,16 +3,18 @@ use Rattle.std.specs.Prelude.{ℕ, Bool, List, map, string_bytes}
 use Rattle.mimic_trial.specs.declared.formats.FormatSetting.TheVariants.{Pretty}
 use Rattle.mimic_printer.specs.declared.Printer.{Printer}
 use Rattle.mimic_printer.specs.Report.{failures_if_any, report_text}
-use Rattle.mimic_printer.specs.Row.{Label, PrintedRow}
+use Rattle.mimic_printer.specs.Row.{Label, PrintedRow, timed_row}
 use Rattle.mimic_printer.specs.Widths.{kind_width_of, name_width_of}
 use Rattle.mimic_events.specs.declared.report.Report.{Report}
 use Rattle.mimic_events.specs.declared.report.Row.{Row}
+use Rattle.mimic_reports.specs.declared.show.KeptRow.{KeptRow}
 
--- what is printed of a row that was read: its kind, its name and its outcome
+-- what is printed of a row that was read: its kind, its name, its outcome and its time
 abbrev pub printed_row : Row → PrintedRow
 printed_row row = record {
   label = record { kind = string_bytes row.kind; name = string_bytes row.name };
   outcome = row.outcome;
+  nanos = row.nanos;
 }
 
 -- the rows of a report, in their order
@@ -39,3 +41,11 @@ pretty_report colours report = report_text (pretty_printer colours (printed_rows
 -- and what it prints of the failures alone
 abbrev pub pretty_failures : Report → List ℕ
 pretty_failures report = failures_if_any (printed_rows report)
+
+-- ---- rows as a printer takes them. No public clause names these words
+
+abbrev pub kept_row : KeptRow → PrintedRow
+kept_row row = timed_row row.info row.outcome row.nanos
+
+abbrev pub kept_rows : List KeptRow → List PrintedRow
+kept_rows rows = map kept_row rows

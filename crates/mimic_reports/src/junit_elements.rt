@@ -1,8 +1,9 @@
 //! Writes the elements of JUnit's XML.
-ghost use Rattle.std.specs.Prelude.{◌≡◌};
+ghost use Rattle.std.specs.Prelude.{◌≡◌, ◌++◌};
+ghost use Rattle.mimic_printer.specs.Piece.{piece_text};
 ghost use Rattle.mimic_printer.specs.Sink.{HasFaultLeft, Puts};
 ghost use Rattle.mimic_events.specs.Contents.{entry_read};
-ghost use Rattle.mimic_reports.specs.Junit.{case_text, class_point, root_start, running_part, stop_text, suite_start};
+ghost use Rattle.mimic_reports.specs.Junit.{case_text, class_point, root_start, running_part, stop_text, suite_start, time_part};
 
 use mimic_events::{Row, Stop};
 use mimic_printer::{Piece, Place, Sink, WriteFault, put_pieces};
@@ -40,10 +41,11 @@ macro_rules! put_start {
     }};
 }
 
-// Writes the line of a row: its program, its kind, its name, and its end, which begins with the quote after the name.
+// Writes the line of a row: its program, its kind, its name, its time, and its end, which begins with the last quote of these.
 macro_rules! put_row {
     ($sink:expr, $program:expr, $row:expr, $($end:expr),+) => {{
         let kind = $row.kind.as_str();
+        let (time_start, time) = time_pieces($row.nanos);
         let pieces = [
             Piece::Text("    <testcase classname=\""),
             Piece::Escaped(Place::Value, $program),
@@ -51,6 +53,8 @@ macro_rules! put_row {
             Piece::Escaped(Place::Value, kind),
             Piece::Text("\" name=\""),
             Piece::Escaped(Place::Value, $row.name.as_str()),
+            time_start,
+            time,
             $($end),+
         ];
         put_pieces($sink, &pieces)
@@ -96,6 +100,16 @@ fn point(kind: &str) -> &'static str
     ensures { result.now ≡ class_point kind.now }
 {
     if kind.is_empty() { "" } else { "." }
+}
+
+// Returns the pieces of a time. Without one their texts are empty, so that each row has as many pieces.
+fn time_pieces<'a>(nanos: Option<u64>) -> (Piece<'a>, Piece<'a>)
+    ensures { piece_text result.0 ++ piece_text result.1 ≡ time_part nanos }
+{
+    match nanos {
+        None => (Piece::Text(""), Piece::Text("")),
+        Some(nanos) => (Piece::Text("\" time=\""), Piece::Seconds(nanos)),
+    }
 }
 
 // Writes a row.

@@ -1,4 +1,5 @@
-//! Shows reports: as JUnit's XML, as a page of HTML that needs nothing from outside, or as the harness prints them.
+//! Shows reports: as JUnit's XML, as a page of HTML that needs nothing from outside, or as the harness prints them; and shows their
+//! slowest trials.
 //!
 //! ```rust
 //! use mimic_events::{read_from, read_rows};
@@ -19,10 +20,12 @@ mod page;
 mod page_elements;
 mod script;
 mod show;
+mod slowest;
 mod style;
 mod suite;
 
 pub use junit::{JunitFault, write_junit};
 pub use page::write_page;
 pub use show::{show_failures, show_report};
+pub use slowest::write_slowest;
 pub use suite::Suite;

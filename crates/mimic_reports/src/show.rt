@@ -3,20 +3,20 @@ ghost use Rattle.std.specs.Prelude.{◌≡◌, IfOk, map, max};
 ghost use Rattle.std.specs.List.{flat_map};
 ghost use Rattle.mimic_trial.specs.Count.{counts_of};
 ghost use Rattle.mimic_printer.specs.Report.{failures_if_any, report_text, row_text};
-ghost use Rattle.mimic_printer.specs.Row.{label_of, outcomes_of, row_of, rows_from};
+ghost use Rattle.mimic_printer.specs.Row.{label_of, outcomes_of};
 ghost use Rattle.mimic_printer.specs.Sink.{HasFaultLeft, LeavesText, Puts, shown};
 ghost use Rattle.mimic_printer.specs.Widths.{kind_chars, kind_width_of, name_chars, name_width_of};
-ghost use Rattle.mimic_reports.specs.Show.{pretty_failures, pretty_printer, pretty_report, printed_row};
+ghost use Rattle.mimic_reports.specs.Show.{kept_row, kept_rows, pretty_failures, pretty_printer, pretty_report, printed_row};
 
 use mimic_events::{Report, Row};
-use mimic_printer::{OutputFault, Printer, Sink, WriteFault, widths};
+use mimic_printer::{OutputFault, Printer, ShownRows, Sink, WriteFault, widths};
 use mimic_trial::{Conclusion, FormatSetting, Outcome, TestInfo};
 use std::alloc::{AllocError, Global};
 use std::io::Write;
 use std::slice;
 
 /// Prints the report as the harness prints a run in pretty, with or without colours, and flushes it: the title, each row once
-/// in its order, the failures and the summary.
+/// in its order with the time that its trial took, if the report says so, the failures and the summary.
 ///
 /// Memory is taken for the list of the rows, and none for their texts.
 pub fn show_report<W: Write>(
@@ -51,10 +51,40 @@ pub fn show_failures<W: Write>(
     Ok(())
 }
 
+// A row as a printer takes it.
+#[derive(Debug, Drop)]
+struct KeptRow {
+    info: TestInfo,
+    outcome: Outcome,
+    nanos: Option<u64>,
+}
+
+// Rows of which the failures are shown. Failures have no times.
+#[derive(Clone, Copy)]
+struct KeptRows<'a> {
+    rows: &'a [KeptRow],
+}
+
+impl<'a> ShownRows for KeptRows<'a> {
+    ghost use Rattle.std.specs.Prelude.{map};
+    ghost use Rattle.mimic_printer.specs.Row.{row_of};
+
+    ghost rows_of = { λ kept. map (λ row. row_of row.info row.outcome) kept.rows.now };
+
+    fn len(&self) -> usize {
+        self.rows.len()
+    }
+
+    fn row(&self, number: usize) -> (&TestInfo, &Outcome) {
+        let row = &self.rows[number];
+        (&row.info, &row.outcome)
+    }
+}
+
 // Returns the rows as a printer takes them. Their texts stay where they are. A printer looks at neither flag.
-fn rows_to_print(alloc: Global, rows: Vec<Row>) -> Result<Vec<(TestInfo, Outcome)>, AllocError>
+fn rows_to_print(alloc: Global, rows: Vec<Row>) -> Result<Vec<KeptRow>, AllocError>
     ensures { IfOk result
-        (λ printed. rows_from printed.items ≡ map printed_row rows.items) }
+        (λ printed. kept_rows printed.items ≡ map printed_row rows.items) }
 {
     let mut printed = Vec::with_capacity(alloc, rows.len())?;
     for row in rows {
@@ -62,6 +92,7 @@ fn rows_to_print(alloc: Global, rows: Vec<Row>) -> Result<Vec<(TestInfo, Outcome
             name,
             kind,
             outcome,
+            nanos,
         } = row;
         let info = TestInfo {
             name,
@@ -69,14 +100,18 @@ fn rows_to_print(alloc: Global, rows: Vec<Row>) -> Result<Vec<(TestInfo, Outcome
             is_ignored: false,
             is_bench: false,
         };
-        printed.push((info, outcome))?;
+        printed.push(KeptRow {
+            info,
+            outcome,
+            nanos,
+        })?;
     }
     Ok(printed)
 }
 
 // Returns the printer of a run with these rows.
-fn printer_for(rows: &[(TestInfo, Outcome)], colours: bool) -> Printer
-    ensures { result ≡ pretty_printer colours (rows_from rows.now) }
+fn printer_for(rows: &[KeptRow], colours: bool) -> Printer
+    ensures { result ≡ pretty_printer colours (kept_rows rows.now) }
 {
     let (name_width, kind_width) = columns_for(rows);
     Printer {
@@ -87,12 +122,12 @@ fn printer_for(rows: &[(TestInfo, Outcome)], colours: bool) -> Printer
     }
 }
 
-fn columns_for(rows: &[(TestInfo, Outcome)]) -> (usize, usize)
-    ensures names { result.0 ≡ name_width_of (map (λ row. label_of row.0) rows.now) }
-    ensures kinds { result.1 ≡ kind_width_of (map (λ row. label_of row.0) rows.now) }
+fn columns_for(rows: &[KeptRow]) -> (usize, usize)
+    ensures names { result.0 ≡ name_width_of (map (λ row. label_of row.info) rows.now) }
+    ensures kinds { result.1 ≡ kind_width_of (map (λ row. label_of row.info) rows.now) }
 {
     rows.iter()
-        .fold((0, 0), |columns, row| wide_enough(columns, &row.0))
+        .fold((0, 0), |columns, row| wide_enough(columns, &row.info))
 }
 
 // Widens the columns to what the trial takes, if that is more.
@@ -108,19 +143,19 @@ fn wide_enough(columns: (usize, usize), info: &TestInfo) -> (usize, usize)
 fn put_report<W: Write>(
     sink: &mut Sink<W>,
     printer: &Printer,
-    rows: &[(TestInfo, Outcome)],
+    rows: &[KeptRow],
     counts: &Conclusion,
     nanos: u64,
 ) -> Result<(), WriteFault>
     requires room { HasFaultLeft sink.old }
     requires counts { counts.now
-        ≡ counts_of (outcomes_of (rows_from rows.now)) counts.now.num_filtered_out }
+        ≡ counts_of (outcomes_of (kept_rows rows.now)) counts.now.num_filtered_out }
     ensures { Puts W.contents sink.old sink.new
-        (report_text printer.now (rows_from rows.now) counts.now.num_filtered_out nanos) result }
+        (report_text printer.now (kept_rows rows.now) counts.now.num_filtered_out nanos) result }
 {
     printer.print_title(sink, rows.len() as u64)?;
     put_rows(sink, printer, rows)?;
-    printer.print_failures_of(sink, rows)?;
+    printer.print_failures_in(sink, &KeptRows { rows })?;
     printer.print_summary(sink, counts, nanos)?;
     sink.flush()
 }
@@ -128,25 +163,22 @@ fn put_report<W: Write>(
 fn put_rows<W: Write>(
     sink: &mut Sink<W>,
     printer: &Printer,
-    rows: &[(TestInfo, Outcome)],
+    rows: &[KeptRow],
 ) -> Result<(), WriteFault>
     requires { HasFaultLeft sink.old }
     ensures { Puts W.contents sink.old sink.new
-        (flat_map (λ row. row_text printer.now (row_of row.0 row.1)) rows.now) result }
+        (flat_map (λ row. row_text printer.now (kept_row row)) rows.now) result }
 {
     for row in rows {
-        printer.print_row(sink, &row.0, &row.1)?;
+        printer.print_timed_row(sink, &row.info, &row.outcome, row.nanos)?;
     }
     Ok(())
 }
 
-fn put_failures<W: Write>(
-    sink: &mut Sink<W>,
-    rows: &[(TestInfo, Outcome)],
-) -> Result<(), WriteFault>
+fn put_failures<W: Write>(sink: &mut Sink<W>, rows: &[KeptRow]) -> Result<(), WriteFault>
     requires { HasFaultLeft sink.old }
-    ensures { Puts W.contents sink.old sink.new (failures_if_any (rows_from rows.now)) result }
+    ensures { Puts W.contents sink.old sink.new (failures_if_any (kept_rows rows.now)) result }
 {
-    Printer::new(FormatSetting::Pretty, false, 0, 0).print_failures_of(sink, rows)?;
+    Printer::new(FormatSetting::Pretty, false, 0, 0).print_failures_in(sink, &KeptRows { rows })?;
     sink.flush()
 }

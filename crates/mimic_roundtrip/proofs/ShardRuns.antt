@@ -1,5 +1,5 @@
 -- What a run writes, in whatever order, is a report of the trials that it was given.
-use Rattle.std.proofs.Common.{All, ◌≡◌, ℕ, ◌+◌, ◌%◌, cond, eqb, true, false, Bool, List, [], ◌∷◌, ◌++◌, Some, get_or, map, length, length-append, refl, set, sym, ap, ap₂, subst, ◌∙◌, arith, append_assoc}
+use Rattle.std.proofs.Common.{All, ◌≡◌, ℕ, ◌+◌, ◌%◌, cond, eqb, true, false, Bool, List, [], ◌∷◌, ◌++◌, None, Some, get_or, map, length, length-append, refl, set, sym, ap, ap₂, subst, ◌∙◌, arith, append_assoc}
 use Rattle.std.specs.Prelude.{IsPermutation, IsSomeAnd, slice_get, swap}
 use Rattle.std.specs.List.{AllZip, range_with_len}
 use Rattle.std.proofs.Math.ListN.{get_or-map}
@@ -77,7 +77,7 @@ runs_report gives args trials selected placed report selection arranged rows fil
     let sorted = lifted (λ (p : Placed). p.0) placed (range_with_len 0 (length selected)) arranged.places in
     let own : All (IsOwnAt gives args selected) sorted.0 = All-permutation (IsOwnAt gives args selected) placed sorted.0 sorted.1 arranged.own in
     let labels = labels_of selected in
-    let same : IsPermutation (rows_at labels placed) (rows_at labels sorted.0) = IsPermutation-map (λ (p : Placed). record { label = label_at labels p.0; outcome = p.1 }) placed sorted.0 sorted.1 in
+    let same : IsPermutation (rows_at labels placed) (rows_at labels sorted.0) = IsPermutation-map (λ (p : Placed). record { label = label_at labels p.0; outcome = p.1; nanos = None }) placed sorted.0 sorted.1 in
     record {
       selected = selected;
       selection = selection;

@@ -9,6 +9,9 @@ use thiserror::Error;
 // What `--color` takes.
 static COLOURS: [&str; 3] = ["auto", "always", "never"];
 
+// How many of the slowest trials are printed if the line doesn't say it.
+const SLOWEST: usize = 20;
+
 /// The reports in these files are to be joined, as those of `shards` shards.
 #[derive(Debug, Drop)]
 pub(crate) struct Join {
@@ -64,6 +67,14 @@ pub(crate) struct Page {
     pub(crate) file: String,
 }
 
+/// The slowest trials of the reports in these files are to be printed.
+#[derive(Debug, Drop)]
+pub(crate) struct Slowest {
+    /// How many are printed at most.
+    pub(crate) count: usize,
+    pub(crate) files: Vec<String>,
+}
+
 /// What a line asks for.
 #[derive(Debug, Drop)]
 pub(crate) enum Line {
@@ -73,6 +84,7 @@ pub(crate) enum Line {
     Expect(Expect),
     Compare(Compare),
     Page(Page),
+    Slowest(Slowest),
     Watch,
 }
 
@@ -113,6 +125,7 @@ impl Line {
             Some(("expect", expect)) => Line::Expect(Expect::from_matches(alloc, expect)?),
             Some(("compare", compare)) => Line::Compare(Compare::from_matches(alloc, compare)?),
             Some(("page", page)) => Line::Page(Page::from_matches(alloc, page)?),
+            Some(("slowest", slowest)) => Line::Slowest(Slowest::from_matches(alloc, slowest)?),
             Some(("watch", _)) => Line::Watch,
             // `clap` has refused a line with no subcommand or with another one.
             _ => return Err(LineError::NoSubcommand),
@@ -199,6 +212,15 @@ impl Page {
     }
 }
 
+impl Slowest {
+    fn from_matches(alloc: Global, matches: &ArgMatches<'_>) -> Result<Slowest, LineError> {
+        Ok(Slowest {
+            count: matches.get_one::<usize>("count").unwrap_or(SLOWEST),
+            files: files_of(alloc, matches)?,
+        })
+    }
+}
+
 // Returns the names of the files. At most one of them is standard input.
 fn files_of(alloc: Global, matches: &ArgMatches<'_>) -> Result<Vec<String>, LineError> {
     let mut files = Vec::new(alloc);
@@ -224,16 +246,18 @@ enum Subcommand {
     Expect,
     Compare,
     Page,
+    Slowest,
     Watch,
 }
 
-static SUBCOMMANDS: [Subcommand; 7] = [
+static SUBCOMMANDS: [Subcommand; 8] = [
     Subcommand::Join,
     Subcommand::Junit,
     Subcommand::Show,
     Subcommand::Expect,
     Subcommand::Compare,
     Subcommand::Page,
+    Subcommand::Slowest,
     Subcommand::Watch,
 ];
 
@@ -256,6 +280,7 @@ impl Subcommand {
             Subcommand::Expect => expect_command(alloc),
             Subcommand::Compare => compare_command(alloc),
             Subcommand::Page => page_command(alloc),
+            Subcommand::Slowest => slowest_command(alloc),
             Subcommand::Watch => watch_command(alloc),
         }
     }
@@ -336,6 +361,18 @@ fn page_command<'a>(alloc: Global) -> Result<Command<'a>, AllocError> {
     Command::new(alloc, "page")
         .about("Print a report as a page of HTML")
         .arg(file(alloc, "FILE", "A report in JSON; - is standard input"))
+}
+
+fn slowest_command<'a>(alloc: Global) -> Result<Command<'a>, AllocError> {
+    let count = Arg::new(alloc, "count")
+        .short('n')
+        .value_name("COUNT")
+        .value_parser(value_parser!(usize))
+        .help("How many trials are printed at most; else 20");
+    let files = files(alloc, "Reports in JSON; - is standard input");
+    Command::new(alloc, "slowest")
+        .about("Print the slowest trials of reports")
+        .args(vec![in alloc; count, files]?)
 }
 
 fn watch_command<'a>(alloc: Global) -> Result<Command<'a>, AllocError> {

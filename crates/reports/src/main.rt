@@ -11,6 +11,7 @@ mod line;
 mod page;
 mod pump;
 mod show;
+mod slowest;
 mod watch;
 
 use faults::refuse_all;
@@ -39,6 +40,7 @@ fn main(rt: HostRuntime) -> ExitCode {
         Ok(Line::Expect(expect)) => expect::run(&rt, alloc, &expect),
         Ok(Line::Compare(compare)) => compare::run(&rt, alloc, &compare),
         Ok(Line::Page(page)) => page::run(&rt, alloc, &page),
+        Ok(Line::Slowest(slowest)) => slowest::run(&rt, alloc, &slowest),
         Ok(Line::Watch) => watch::run(&rt, alloc, rt.stdin(), rt.stdout()),
         Err(error) => refuse(&rt, &error),
     };

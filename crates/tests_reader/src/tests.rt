@@ -5,4 +5,5 @@ mod questions;
 mod readreport;
 mod reports;
 mod runs_read_back;
+mod times;
 mod writing;

@@ -149,3 +149,131 @@ fn prints_outcomes(rt: HostRuntime) -> Result<(), Fail> {
     }
     Ok(())
 }
+
+// The time of a trial, and what is printed of it in pretty, in seconds to the nearest thousandth, ties up.
+static TIMES: [(u64, &str); 7] = [
+    (0, "ok <0.000s>\n"),
+    (499_999, "ok <0.000s>\n"),
+    (500_000, "ok <0.001s>\n"),
+    (5_499_999, "ok <0.005s>\n"),
+    (350_000_000, "ok <0.350s>\n"),
+    (59_999_500_000, "ok <60.000s>\n"),
+    (u64::MAX, "ok <18446744073.710s>\n"),
+];
+
+// An outcome with a time in a format, with or without colour, printed after its announcement and in a row.
+fn timed_printed(
+    alloc: Global,
+    format: FormatSetting,
+    colour: bool,
+    outcome: &Outcome,
+    nanos: u64,
+) -> Result<(Vec<u8>, Vec<u8>), Fail> {
+    let info = info(alloc, "a", "", false)?;
+    let printer = Printer::new(format, colour, 0, 0);
+    let mut sink = Sink::new(Vec::new(alloc));
+    printer.print_test(&mut sink, &info)?;
+    printer.print_timed_outcome(&mut sink, &info, outcome, Some(nanos))?;
+    let mut row = Sink::new(Vec::new(alloc));
+    printer.print_timed_row(&mut row, &info, outcome, Some(nanos))?;
+    Ok((sink.into_inner(), row.into_inner()))
+}
+
+#[test]
+fn prints_rounded_times(rt: HostRuntime) -> Result<(), Fail> {
+    for (nanos, want) in &TIMES {
+        let (bytes, row) = timed_printed(
+            rt.alloc(),
+            FormatSetting::Pretty,
+            false,
+            &Outcome::Passed,
+            *nanos,
+        )?;
+        assert!(rt;
+            bytes.as_slice() == row.as_slice() && bytes.ends_with(want.as_bytes()),
+            "{nanos}"
+        );
+    }
+    Ok(())
+}
+
+// What is printed of outcomes that took 350 milliseconds: the format, whether in colour, the outcome, and the row.
+static TIMED: [(FormatSetting, bool, Plain, &str); 8] = [
+    (
+        FormatSetting::Pretty,
+        false,
+        Plain::Passed,
+        "test a ... ok <0.350s>\n",
+    ),
+    (
+        FormatSetting::Pretty,
+        true,
+        Plain::Passed,
+        "test a ... \x1b[32mok\x1b[0m <0.350s>\n",
+    ),
+    (
+        FormatSetting::Pretty,
+        false,
+        Plain::Ignored,
+        "test a ... ignored <0.350s>\n",
+    ),
+    (
+        FormatSetting::Pretty,
+        false,
+        Plain::Measured(1_234_567, 89),
+        "test a ... bench:   1,234,567 ns/iter (+/- 89) <0.350s>\n",
+    ),
+    (FormatSetting::Terse, false, Plain::Passed, "."),
+    (
+        FormatSetting::Terse,
+        false,
+        Plain::Measured(1_234_567, 89),
+        "bench:   1,234,567 ns/iter (+/- 89)\n",
+    ),
+    (
+        FormatSetting::Json,
+        false,
+        Plain::Passed,
+        "{ \"type\": \"test\", \"event\": \"started\", \"name\": \"a\" }\n{ \"type\": \"test\", \"name\": \"a\", \"event\": \"ok\", \"exec_time\": 0.35 }\n",
+    ),
+    (
+        FormatSetting::Json,
+        false,
+        Plain::Measured(7, 8),
+        "{ \"type\": \"test\", \"event\": \"started\", \"name\": \"a\" }\n{ \"type\": \"bench\", \"name\": \"a\", \"median\": 7, \"deviation\": 8, \"exec_time\": 0.35 }\n",
+    ),
+];
+
+#[test]
+fn prints_times(rt: HostRuntime) -> Result<(), Fail> {
+    for (format, colour, plain, want) in &TIMED {
+        let (bytes, row) = timed_printed(
+            rt.alloc(),
+            *format,
+            *colour,
+            &outcome_of(*plain),
+            350_000_000,
+        )?;
+        assert!(rt;
+            bytes.as_slice() == row.as_slice() && bytes.as_slice() == want.as_bytes(),
+            "{plain:?}"
+        );
+    }
+    Ok(())
+}
+
+// A failure with a message: in JSON the time comes before the message.
+#[test]
+fn prints_the_time_of_a_failure(rt: HostRuntime) -> Result<(), Fail> {
+    let alloc = rt.alloc();
+    let failed = Outcome::Failed(Failed::with_message(String::from_str(alloc, "Woops")?));
+    let (bytes, _) = timed_printed(alloc, FormatSetting::Json, false, &failed, 1)?;
+    assert!(rt;
+        bytes.ends_with(
+            b"\"event\": \"failed\", \"exec_time\": 0.000000001, \"stdout\": \"Error: \\\"Woops\\\"\\n\" }\n"
+        )
+    );
+    let (bytes, _) = timed_printed(alloc, FormatSetting::Pretty, false, &failed, 1_500_000_000)?;
+    assert!(rt; bytes.ends_with(b"FAILED <1.500s>\n"));
+    Ok(())
+}

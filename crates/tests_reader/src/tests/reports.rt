@@ -24,7 +24,7 @@ pub(super) const ALL_SORTS: &str = r#"{ "type": "suite", "event": "started", "te
 
 // What is known of an outcome.
 #[derive(Clone, Copy)]
-enum Known {
+pub(super) enum Known {
     Passed,
     // With this message, or without any.
     Failed(Option<&'static str>),
@@ -32,7 +32,7 @@ enum Known {
     Measured(u64, u64),
 }
 
-fn outcome_of(alloc: Global, known: Known) -> Result<Outcome, AllocError> {
+pub(super) fn outcome_of(alloc: Global, known: Known) -> Result<Outcome, AllocError> {
     Ok(match known {
         Known::Passed => Outcome::Passed,
         Known::Failed(None) => Outcome::Failed(Failed::without_message()),
@@ -50,6 +50,7 @@ fn row(alloc: Global, name: &str, known: Known) -> Result<Row, AllocError> {
         name: String::from_str(alloc, name)?,
         kind: String::new(alloc),
         outcome: outcome_of(alloc, known)?,
+        nanos: None,
     })
 }
 
@@ -150,7 +151,7 @@ fn displays<T: Debug>(alloc: Global, value: &T, text: &str) -> Result<bool, Allo
 }
 
 const REPORT_SHOWN: &str =
-    "Report { rows: [Row { name: \"succeeding_test\", kind: \"\", outcome: Passed }, Row { name: \"failing_test\", kind: \"\", outcome: Failed(Failed { msg: Some(\"Woops\") }) }], filtered_out: 0, nanos: 0 }";
+    "Report { rows: [Row { name: \"succeeding_test\", kind: \"\", outcome: Passed, nanos: None }, Row { name: \"failing_test\", kind: \"\", outcome: Failed(Failed { msg: Some(\"Woops\") }), nanos: None }], filtered_out: 0, nanos: 0 }";
 
 const TOTALS_SHOWN: &str =
     "Totals { rows: 2, counts: Conclusion { num_filtered_out: 0, num_passed: 1, num_failed: 1, num_ignored: 0, num_measured: 0 }, nanos: 0 }";
@@ -177,7 +178,7 @@ fn are_taken(
 }
 
 // Whether neither a feed nor a tally takes these pieces.
-fn are_refused(alloc: Global, pieces: &[&[u8]]) -> Result<bool, AllocError> {
+pub(super) fn are_refused(alloc: Global, pieces: &[&[u8]]) -> Result<bool, AllocError> {
     let is_fed = fed(alloc, pieces)?.is_some();
     let is_tallied = tallied(alloc, pieces)?.is_some();
     Ok(!is_fed && !is_tallied)
@@ -202,7 +203,7 @@ fn are_this_report(
 }
 
 // The report is read at once, and cut in two at each place, so also within numbers, escapes and characters.
-fn check_two_pieces(
+pub(super) fn check_two_pieces(
     rt: &impl Abort,
     alloc: Global,
     text: &str,

@@ -24,7 +24,7 @@ fn writes_built_reports(rt: HostRuntime) -> Result<(), Fail> {
 }
 
 // Whether the text is read, and then written as it was.
-fn is_written_back(alloc: Global, text: &str) -> Result<bool, AllocError> {
+pub(super) fn is_written_back(alloc: Global, text: &str) -> Result<bool, AllocError> {
     Ok(match &read_report(alloc, text.as_bytes())? {
         Some(report) => is_written_as(alloc, report, text),
         None => false,

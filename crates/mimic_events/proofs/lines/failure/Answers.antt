@@ -1,16 +1,14 @@
-use Rattle.std.proofs.Common.{string_bytes, sym, ◌∙◌}
-use Rattle.mimic_events.proofs.NamedLines.{failure_is, failure_some, mapped, said}
+use Rattle.std.proofs.Common.{◌≢◌, None, Some, rules, string_bytes}
+use Rattle.mimic_printer.specs.Json.{json_end}
+use Rattle.mimic_events.proofs.EndedLines.{some_message}
 use Rattle.mimic_events.proofs.lines.failure.Goals as goal
 
-pub returns-in_default : goal.returns-in_default
-returns-in_default c = λ v h. let read = rw c.in_default.is at c.in_ok-text.ensures in read (said v) (h.1 ∙ failure_is v)
+pub returns-in-Some : goal.returns-in-Some
+returns-in-Some c =
+    let more : c.args.rest.now ≢ json_end = search rules in
+    rw c.with_message.ensures (some_message c.args.rest.now (Some (string_bytes c.in-Some.message)) more (rw c.in-Some.is at c.in_ok-message.ensures))
 
 pub returns-in-None : goal.returns-in-None
-returns-in-None c = λ v h.
-    let read = rw c.in-Some.is at c.in_ok-text.ensures in
-    c.in-None.ensures v (sym (read.1 (said v) (h.1 ∙ failure_is v)))
-
-pub returns-in-Some-before_quote : goal.returns-in-Some-before_quote
-returns-in-Some-before_quote c =
-    failure_some c.args.rest.now c.in-Some.text.items _ c.in-Some-before_quote.message.items (rw c.in-Some.is at c.in_ok-text.ensures) c.in-Some-before_quote.ensures
-    (mapped c.text_of.result string_bytes c.in-Some-before_quote.message.items c.text_of.ensures)
+returns-in-None c =
+    let more : c.args.rest.now ≢ json_end = search rules in
+    some_message c.args.rest.now None more (rw c.in-None.is at c.in_ok-message.ensures)

@@ -13,20 +13,20 @@ returns-in_err-put_rows g c =
     let parts = text-parts c.args.printer.now c.args.rows.now _ c.args.counts.now c.args.nanos refl c.requires.counts in
     Puts-stopped _ _ c.from_residual-in_err-put_rows.ensures.0 (rw parts (stop2 _ _ _ c.in_ok-print_title.ensures c.in_err-put_rows.ensures))
 
-pub returns-in_err-print_failures_of : goal.returns-in_err-print_failures_of
-returns-in_err-print_failures_of g c =
+pub returns-in_err-print_failures_in : goal.returns-in_err-print_failures_in
+returns-in_err-print_failures_in g c =
     let parts = text-parts c.args.printer.now c.args.rows.now _ c.args.counts.now c.args.nanos refl c.requires.counts in
-    Puts-stopped _ _ c.from_residual-in_err-print_failures_of.ensures.0
-    (rw parts (stop3 _ _ _ _ c.in_ok-print_title.ensures c.in_ok-put_rows.ensures c.in_err-print_failures_of.ensures))
+    Puts-stopped _ _ c.from_residual-in_err-print_failures_in.ensures.0
+    (rw parts (stop3 _ _ _ _ c.in_ok-print_title.ensures c.in_ok-put_rows.ensures c.in_err-print_failures_in.ensures))
 
 pub returns-in_err-print_summary : goal.returns-in_err-print_summary
 returns-in_err-print_summary g c =
     let parts = text-parts c.args.printer.now c.args.rows.now _ c.args.counts.now c.args.nanos refl c.requires.counts in
     Puts-stopped _ _ c.from_residual-in_err-print_summary.ensures.0
-    (rw parts (stop4 _ _ _ _ _ c.in_ok-print_title.ensures c.in_ok-put_rows.ensures c.in_ok-print_failures_of.ensures c.in_err-print_summary.ensures))
+    (rw parts (stop4 _ _ _ _ _ c.in_ok-print_title.ensures c.in_ok-put_rows.ensures c.in_ok-print_failures_in.ensures c.in_err-print_summary.ensures))
 
 pub returns : goal.returns
 returns g c =
     let parts = text-parts c.args.printer.now c.args.rows.now _ c.args.counts.now c.args.nanos refl c.requires.counts in
     Puts_after _ _ _ _ c.flush.result
-    (rw parts (put4 _ _ _ _ c.in_ok-print_title.ensures c.in_ok-put_rows.ensures c.in_ok-print_failures_of.ensures c.in_ok-print_summary.ensures)) c.flush.ensures
+    (rw parts (put4 _ _ _ _ c.in_ok-print_title.ensures c.in_ok-put_rows.ensures c.in_ok-print_failures_in.ensures c.in_ok-print_summary.ensures)) c.flush.ensures

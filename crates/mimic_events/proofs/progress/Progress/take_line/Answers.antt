@@ -27,10 +27,10 @@ returns c = λ entries h. elim c.match-self.branch [
       )
   | in-Outcome+in_ok-outcome-in-Outcome+in-Some-3 w ↦
       let outcome = rw w.in-Some-3.is at w.in_ok-outcome-in-Outcome.ensures in
-      let one : Entry = record { label = label_read w.in-Outcome.label; outcome = w.in-Some-3.outcome } in
+      let one : Entry = record { label = label_read w.in-Outcome.label; outcome = w.in-Some-3.outcome; nanos = w.in-Some-3.nanos } in
       let more = counts_more entries c.args.self.now.counts one h.1 in
       rw (w.row-is, w.self-is, w.count.ensures, w.replace-name.ensures.value, w.replace-kind.ensures.value) (
         (omega (arith, h.0, length-append entries (one ∷ [])), more),
-        takes_outcome (state_with c.args.self.now entries) c.args.line.now (label_read w.in-Outcome.label) w.in-Some-3.outcome (ap next_of w.in-Outcome.is) outcome,
+        takes_outcome (state_with c.args.self.now entries) c.args.line.now (label_read w.in-Outcome.label) (w.in-Some-3.outcome, w.in-Some-3.nanos) (ap next_of w.in-Outcome.is) outcome,
       )
 ]

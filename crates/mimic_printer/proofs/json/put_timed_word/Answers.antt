@@ -1,0 +1,15 @@
+use Rattle.std.proofs.Common.{◌++◌, List, ℕ, false, subst}
+use Rattle.mimic_printer.specs.Json.{outcome_front}
+use Rattle.mimic_printer.specs.Sink.{Puts}
+use Rattle.mimic_printer.proofs.Labels.{both_lines, label_then}
+use Rattle.mimic_printer.proofs.json.put_timed_word.Goals as goal
+
+pub returns-then-both : goal.returns-then-both
+returns-then-both g c =
+    let P : List ℕ → Type 0 = λ l. Puts g.W.Write.contents c.args.sink.now c.put_pieces.new.sink l c.put_pieces.result in
+    rw c.if-both.true (subst P (both_lines (outcome_front false) _ c.args.name.now c.args.kind.now _ c.name_piece-name.ensures) c.put_pieces.ensures)
+
+pub returns-else-both : goal.returns-else-both
+returns-else-both g c =
+    let P : List ℕ → Type 0 = λ l. Puts g.W.Write.contents c.args.sink.now c.put_pieces-else-both.new.sink (outcome_front false ++ l) c.put_pieces-else-both.result in
+    rw c.if-both.false (subst P (label_then _ c.args.name.now c.args.kind.now _ c.name_piece-name.ensures) c.put_pieces-else-both.ensures)
