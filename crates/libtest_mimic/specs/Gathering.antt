@@ -11,12 +11,13 @@ use Rattle.mimic_pool.specs.Joined.{AreJoined, AreOutcomes, put_each}
 use Rattle.mimic_pool.specs.declared.share.Assigned.{Assigned}
 use Rattle.mimic_printer.specs.declared.Printer.{Printer}
 use Rattle.mimic_printer.specs.Report.{rows_text}
-use Rattle.mimic_printer.specs.Row.{label_of, rows_at}
+use Rattle.mimic_printer.specs.Row.{PrintedRow, label_of, rows_at}
 use Rattle.mimic_printer.specs.Sink.{Put, Shown, Stopped}
 use Rattle.libtest_mimic.specs.declared.running.RunError.{RunError}
 use Rattle.libtest_mimic.specs.declared.running.RunError.TheVariants.{OutOfMemory, Write, ZeroThreads, Spawn, Arrival}
 use Rattle.libtest_mimic.specs.declared.running.gathering.Started.{Started}
 use Rattle.libtest_mimic.specs.Run.{Follows}
+use Rattle.libtest_mimic.specs.Suite.{AreTimed}
 
 -- nothing has arrived, and there is a place and room for an outcome of each of `count` trials
 pub record IsReadyFor {R : Type 0} (started : Started R) (count : ℕ) : Type 0 where
@@ -104,24 +105,27 @@ module _ {R : Type 0} (gives : Gives R) (test_mode : Bool) (items : List (Assign
       (Put old new text × AreJoined gives test_mode items true returned)
       ⊎ (Stopped old new text × AreJoined gives test_mode items all returned)
 
-  -- rows arrived, each at a place of its own, and were written, or a beginning of them was; the workers returned rows; and the place is
+  -- rows arrived, each at a place of its own, and were written with times as asked, or a beginning of them was; the workers returned
+  -- rows; and the place is
   -- the least one at which these differ
-  pub record NamesLeast (all : Bool) (p : Printer) (infos : List TestInfo) (old new : Shown) (place : ℕ) : Type 0 where
+  pub record NamesLeast (all asked : Bool) (p : Printer) (infos : List TestInfo) (old new : Shown) (place : ℕ) : Type 0 where
     pub arrived : List Placed
     pub missing : List ℕ
     pub once : IsPermutation (places_of arrived ++ missing) (range_with_len 0 (length infos))
     pub returned : List (List Placed)
-    pub written : WrittenAndReturned all (rows_text p (rows_at (map label_of infos) arrived)) old new returned
+    pub rows : List PrintedRow
+    pub timed : AreTimed asked (rows_at (map label_of infos) arrived) rows
+    pub written : WrittenAndReturned all (rows_text p rows) old new returned
     pub least : IsLeastDifference arrived returned place
 
   -- what was written if rows were refused: if a write failed, a beginning of rows of what the workers returned, and no item is left
   -- if these run all; if an outcome that arrived isn't the one that its worker returned, what had arrived, and its place is the least
-  abbrev pub GatheringRefused : Bool → Printer → List TestInfo → Shown → Shown → RunError → Type 0
-  GatheringRefused all p infos old new OutOfMemory = ⊥
-  GatheringRefused all p infos old new (Write fault) =
-      (placed : List Placed) × (left : List ℕ) × GatheredSome placed left × (all ≡ true → left ≡ [])
-      × Stopped old new (rows_text p (rows_at (map label_of infos) placed))
-  GatheringRefused all p infos old new ZeroThreads = ⊥
-  GatheringRefused all p infos old new Spawn = ⊥
-  GatheringRefused all p infos old new (Arrival place) =
-      (place < length infos) × Follows old new × NamesLeast all p infos old new place
+  abbrev pub GatheringRefused : Bool → Bool → Printer → List TestInfo → Shown → Shown → RunError → Type 0
+  GatheringRefused all asked p infos old new OutOfMemory = ⊥
+  GatheringRefused all asked p infos old new (Write fault) =
+      (placed : List Placed) × (left : List ℕ) × (rows : List PrintedRow) × GatheredSome placed left × (all ≡ true → left ≡ [])
+      × AreTimed asked (rows_at (map label_of infos) placed) rows × Stopped old new (rows_text p rows)
+  GatheringRefused all asked p infos old new ZeroThreads = ⊥
+  GatheringRefused all asked p infos old new Spawn = ⊥
+  GatheringRefused all asked p infos old new (Arrival place) =
+      (place < length infos) × Follows old new × NamesLeast all asked p infos old new place

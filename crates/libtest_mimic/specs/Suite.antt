@@ -1,9 +1,11 @@
 -- The suite that a run goes through: the trials that are selected of those handed in, and how their report is printed.
-use Rattle.std.specs.Prelude.{ℕ, ◌-◌, Bool, List, length}
+use Rattle.std.specs.Prelude.{◌≡◌, ℕ, ◌-◌, ◌^◌, ◌<◌, ◌&&◌, Bool, true, false, IsSomeAnd, List, [], ◌∷◌, length, None, Option}
 use Rattle.std.specs.List.{range_with_len}
 use Rattle.mimic_args.specs.declared.Arguments.{Arguments}
 use Rattle.mimic_args.specs.Arguments.{colours_of, format_of}
 use Rattle.mimic_printer.specs.declared.Printer.{Printer}
+use Rattle.mimic_trial.specs.declared.outcome.Outcome.{Outcome}
+use Rattle.mimic_trial.specs.declared.outcome.Outcome.TheVariants.{Passed, Failed, Ignored, Measured}
 use Rattle.mimic_printer.specs.Widths.{kind_width_of, name_width_of}
 use Rattle.mimic_trial.specs.declared.trial.Trial.{Trial}
 use Rattle.mimic_trial.specs.Places.{Placed}
@@ -74,6 +76,34 @@ OfAsked asked P = OfSuite asked.args asked.auto_colours asked.trials P
 abbrev pub in_order : {R : Type 0} → Suite R → List ℕ
 in_order suite = range_with_len 0 (length suite.trials)
 
--- the rows of outcomes at places of the suite
+-- the rows of outcomes at places of the suite, without times
 abbrev pub rows_of : {R : Type 0} → Suite R → List Placed → List PrintedRow
 rows_of suite placed = rows_at (labels_of suite.trials) placed
+
+-- ---- times
+
+-- whether the row of such an outcome says how long its trial ran, if times are asked for: those that passed or failed do (as in
+-- rustc's harness)
+abbrev pub has_time : Outcome → Bool
+has_time Passed = true
+has_time (Failed f) = true
+has_time Ignored = false
+has_time (Measured m) = false
+
+-- there is a time, below 2^64 nanoseconds, if there is to be one, and else there is none
+abbrev pub IsTime : Bool → Option ℕ → Type 0
+IsTime true time = IsSomeAnd time (λ nanos. nanos < 2 ^ 64)
+IsTime false time = time ≡ None
+
+-- the row is this one without a time, but for a time if times are asked for and its outcome has one
+pub record IsTimed (asked : Bool) (plain row : PrintedRow) : Type 0 where
+  pub label : row.label ≡ plain.label
+  pub outcome : row.outcome ≡ plain.outcome
+  pub time : IsTime (asked && has_time plain.outcome) row.nanos
+
+-- the rows are these, one after another, each with a time as asked
+abbrev pub AreTimed : Bool → List PrintedRow → List PrintedRow → Type 0
+AreTimed asked [] [] = Unit {0}
+AreTimed asked [] (row ∷ rows) = ⊥
+AreTimed asked (plain ∷ plains) [] = ⊥
+AreTimed asked (plain ∷ plains) (row ∷ rows) = IsTimed asked plain row × AreTimed asked plains rows

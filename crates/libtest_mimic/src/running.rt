@@ -18,6 +18,7 @@ mod list;
 mod selection;
 mod summary;
 pub(crate) mod tally;
+mod timing;
 
 use crate::stopwatch::{Clock, Stopwatch};
 use in_order::run_in_order;

@@ -66,6 +66,13 @@ impl<C: Clock> Stopwatch<C> {
         }
     }
 
+    // Reads the clock in between. The two readings that are kept stay.
+    pub(crate) fn read(&mut self) -> u64
+        ensures { self.new ≡ self.old }
+    {
+        self.clock.now()
+    }
+
     /// Whether the watch was not started yet.
     pub fn is_fresh(&self) -> bool
         ensures { IsTrue result ↔ IsFresh self.now }

@@ -4,8 +4,10 @@ ghost use Rattle.mimic_pool.specs.Reports.{HasCountedAll, refused_to, told_to};
 
 use crate::reports::{Counts, Reports, Untold};
 use crate::shared_board::SharedBoard;
+use crate::timer::Timer;
 use mimic_trial::Outcome;
 use std::alloc::Global;
+use std::rt::Clock;
 use std::sync::{Arc, Wait};
 
 /// Rows of which copies are reported to the board that all workers share. The worker closes when this is dropped, whether or
@@ -32,6 +34,14 @@ impl<R: Wait + Drop> BoardReports<R> {
             counts: Counts::new(),
         }
     }
+
+    // Times the worker's trials.
+    fn timer(&self) -> Timer<'_, R> {
+        Timer {
+            rt: &self.rt,
+            board: &self.board,
+        }
+    }
 }
 
 impl<R: Wait + Drop> Drop for BoardReports<R> {
@@ -46,7 +56,7 @@ impl<R: Wait + Drop> Drop for BoardReports<R> {
     }
 }
 
-impl<R: Wait + Drop> Reports for BoardReports<R> {
+impl<R: Wait + Clock + Drop> Reports for BoardReports<R> {
     ghost told_of = { told_to };
 
     ghost refused_by = { refused_to };
@@ -60,6 +70,14 @@ impl<R: Wait + Drop> Reports for BoardReports<R> {
             Err(_) => false,
         };
         self.counts.count(is_told)
+    }
+
+    fn read_clock(&self) -> Option<u64> {
+        self.timer().start()
+    }
+
+    fn note_time(&self, place: usize, started: Option<u64>) {
+        self.timer().note(place, started);
     }
 
     fn refusals(&self) -> u64 {

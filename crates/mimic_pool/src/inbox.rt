@@ -1,12 +1,12 @@
 //! What workers have reported, for the one thread that takes it.
-ghost use Rattle.std.specs.Prelude.{◌≡◌, IfOk};
+ghost use Rattle.std.specs.Prelude.{◌≡◌, IfOk, false, is_some};
 ghost use Rattle.mimic_pool.specs.Board.{empty_board};
-ghost use Rattle.mimic_pool.specs.Inbox.{board_of};
+ghost use Rattle.mimic_pool.specs.Inbox.{board_of, is_timed};
 ghost use Rattle.mimic_pool.specs.Reports.{refused_to, told_to};
 
 use crate::board::Board;
 use crate::board_reports::BoardReports;
-use crate::shared_board::SharedBoard;
+use crate::shared_board::{SharedBoard, no_times};
 use mimic_trial::Outcome;
 use std::alloc::{AllocError, Global};
 use std::collections::VecDeque;
@@ -31,6 +31,7 @@ pub struct Inbox {
     batch: VecDeque<(usize, Outcome)>,
     // How often the taking thread lets workers run before it takes the next batch.
     turns: usize,
+    timed: bool,
     // The board before anything was reported.
     empty: Snapshot<Board>,
 }
@@ -38,16 +39,32 @@ pub struct Inbox {
 impl Inbox {
     /// An inbox of `n` places for `workers`, none of which has reported.
     pub fn new(alloc: Global, n: usize, workers: usize) -> Result<Inbox, AllocError>
-        ensures { IfOk result (λ inbox. board_of inbox ≡ empty_board n workers) }
+        ensures board { IfOk result (λ inbox. board_of inbox ≡ empty_board n workers) }
+        ensures timed { IfOk result (λ inbox. is_timed inbox ≡ false) }
+    {
+        Inbox::with_times(alloc, n, workers, false)
+    }
+
+    /// An inbox as `new` makes it. If it is timed, workers note there for how many nanoseconds the trial at each place ran.
+    pub fn with_times(
+        alloc: Global,
+        n: usize,
+        workers: usize,
+        timed: bool,
+    ) -> Result<Inbox, AllocError>
+        ensures board { IfOk result (λ inbox. board_of inbox ≡ empty_board n workers) }
+        ensures timed { IfOk result (λ inbox. is_timed inbox ≡ timed) }
     {
         let board = Board::new(alloc, n, workers)?;
         let empty = Snapshot::of(&board);
-        let board = Arc::new(alloc, SharedBoard::new(board))?;
+        let times = no_times(alloc, if timed { n } else { 0 })?;
+        let board = Arc::new(alloc, SharedBoard::new(board, times))?;
         let batch = VecDeque::with_capacity(alloc, n.min(BATCH))?;
         Ok(Inbox {
             board,
             batch,
             turns: 0,
+            timed,
             empty,
         })
     }
@@ -72,7 +89,9 @@ impl Inbox {
 
     /// Takes the next row, and waits while there is none and a worker is still to close. `None` says that all have closed
     /// and every row was taken. No contract promises which row it is, nor that there is one: the rows are behind a lock.
-    pub fn next<R: Wait>(&mut self, rt: &R) -> Option<(usize, Outcome)> {
+    pub fn next<R: Wait>(&mut self, rt: &R) -> Option<(usize, Outcome)>
+        ensures timed { is_timed self.new ≡ is_timed self.old }
+    {
         if self.batch.is_empty() {
             // Whoever asks for the lock keeps a worker from it. So if many rows came and none was left, workers run first, and
             // more come under one lock.
@@ -87,6 +106,18 @@ impl Inbox {
             };
         }
         self.batch.pop_front()
+    }
+
+    /// For how many nanoseconds the trial at the place ran, as the worker that ran it noted before it reported the row; 0 if none did.
+    /// `None` if the inbox isn't timed. No contract promises which number it is: others write it.
+    pub fn time(&self, place: usize) -> Option<u64>
+        ensures { is_some result ≡ is_timed self.now }
+    {
+        if self.timed {
+            Some(self.board.time(place))
+        } else {
+            None
+        }
     }
 }
 

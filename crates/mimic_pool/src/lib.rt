@@ -36,6 +36,7 @@ mod source;
 mod spawner;
 mod supply;
 mod taker;
+mod timer;
 mod worker;
 
 pub use board::Board;

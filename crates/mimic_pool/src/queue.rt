@@ -7,7 +7,7 @@ ghost use Rattle.crossbeam_queue.specs.SegTies.{IsSegPassOf};
 ghost use Rattle.mimic_trial.specs.Places.{Placed};
 ghost use Rattle.mimic_pool.specs.Balance.{all_parts};
 ghost use Rattle.mimic_pool.specs.Board.{empty_board};
-ghost use Rattle.mimic_pool.specs.Inbox.{board_of};
+ghost use Rattle.mimic_pool.specs.Inbox.{board_of, is_timed};
 ghost use Rattle.mimic_pool.specs.Joined.{AnswersSome, AreJoined};
 ghost use Rattle.mimic_pool.specs.Passes.{account_of};
 ghost use Rattle.mimic_pool.specs.Queue.{AreReadyTakers, HasTaken, HoldsQueue, IsFilling, IsFresh, IsJob, RunsQueue};
@@ -19,12 +19,15 @@ use crate::inbox::Inbox;
 use crate::reports::Unheard;
 use crate::rows::Rows;
 use crate::share::{Assigned, Share};
+use crate::shared_board::SharedBoard;
 use crate::shared_queue::{MOST_IN_BATCH, QueuePass, SharedQueue};
 use crate::spawner::Spawner;
 use crate::taker::{AnswersTaken, Taken, TakerStart, take_and_work};
+use crate::timer::Timer;
 use crate::worker::work_from;
 use mimic_trial::Task;
 use std::alloc::{AllocError, Global};
+use std::rt::Clock;
 use std::snapshot::Snapshot;
 use std::sync::{Arc, Wait};
 use std::thread::PromisedHandle;
@@ -55,8 +58,9 @@ pub struct QueueStarts<T: Task> {
     pub(crate) starts: Vec<TakerStart<T>>,
     pub(crate) handles: Vec<TakerHandle<T>>,
     pub(crate) joined: Vec<Rows>,
-    // Room for the rows of trials that no worker took.
+    // Room for the rows of trials that no worker took, and the board that has room for their times.
     pub(crate) spare: Rows,
+    pub(crate) board: Arc<SharedBoard>,
 }
 
 /// Workers that were started, and what the others returned, which could not be started.
@@ -66,6 +70,7 @@ pub struct QueueCrew<T: Task> {
     pub(crate) handles: Vec<TakerHandle<T>>,
     pub(crate) joined: Vec<Rows>,
     pub(crate) spare: Rows,
+    pub(crate) board: Arc<SharedBoard>,
     pub(crate) test_mode: bool,
 }
 
@@ -125,21 +130,24 @@ impl<T: Task> Queue<T> {
     }
 }
 
-// Makes the workers of the queue ready to run its trials, of which there are `count`, and an inbox to which they will report.
+// Makes the workers of the queue ready to run its trials, of which there are `count`, and an inbox to which they will report, and if
+// it is timed the times of the trials.
 pub(crate) fn prepare_takers<T: Task, R: Wait>(
     rt: &R,
     alloc: Global,
     queue: Queue<T>,
     count: usize,
+    timed: bool,
 ) -> Result<(Inbox, QueueStarts<T>), AllocError>
     requires held { (trials : List (Assigned T)) × HoldsQueue T.can_run queue trials }
     ensures inbox { IfOk result (λ made. board_of made.0 ≡ empty_board count (vec_len made.1.starts)) }
+    ensures timed { IfOk result (λ made. is_timed made.0 ≡ timed) }
     ensures ready { IfOk result (λ made. (trials : List (Assigned T)) → length trials ≤ count
         → HoldsQueue T.can_run queue trials → AreReadyTakers made.1 trials) }
 {
     let mut queue = queue;
     queue.flush(rt)?;
-    let inbox = Inbox::new(alloc, count, queue.workers)?;
+    let inbox = Inbox::with_times(alloc, count, queue.workers, timed)?;
     let starts = takers_of(alloc, queue, count, &inbox)?;
     Ok((inbox, starts))
 }
@@ -168,6 +176,7 @@ fn takers_of<T: Task>(
     let handles = Vec::with_capacity(alloc, starts.len())?;
     let joined = Vec::with_capacity(alloc, starts.len() + 1)?;
     let spare = Rows::with_capacity(alloc, count)?;
+    let board = inbox.board()?;
     Ok(QueueStarts {
         queue,
         pass,
@@ -175,6 +184,7 @@ fn takers_of<T: Task>(
         handles,
         joined,
         spare,
+        board,
     })
 }
 
@@ -236,6 +246,7 @@ pub(crate) fn start_takers<T: Task + Send + 'static, R: Spawner + 'static>(
         mut handles,
         mut joined,
         spare,
+        board,
     } = starts;
     for start in starts {
         match start_taker(rt, alloc, &queue, start, test_mode) {
@@ -256,6 +267,7 @@ pub(crate) fn start_takers<T: Task + Send + 'static, R: Spawner + 'static>(
         handles,
         joined,
         spare,
+        board,
         test_mode,
     })
 }
@@ -314,6 +326,7 @@ pub(crate) fn join_takers<T: Task + Send + 'static, R: Spawner>(
         handles,
         mut joined,
         spare,
+        board,
         test_mode,
     } = crew;
     if !whole {
@@ -324,15 +337,16 @@ pub(crate) fn join_takers<T: Task + Send + 'static, R: Spawner>(
         queue.absorb(&mut pass, other);
         joined.push_reserved(rows);
     }
-    let rows = take_left(rt, &queue, &mut pass, test_mode, whole, spare);
+    let timer = Timer { rt, board: &board };
+    let rows = take_left(timer, &queue, &mut pass, test_mode, whole, spare);
     joined.push_reserved(rows);
     joined
 }
 
 // Takes all trials that are left, by the pass that has all parts, and runs them, or drops them if not all are to be run. Then what
 // was taken is what was put.
-fn take_left<T: Task, R: Wait>(
-    rt: &R,
+fn take_left<T: Task, R: Wait + Clock + Copy>(
+    timer: Timer<'_, R>,
     queue: &SharedQueue<T>,
     pass: &mut QueuePass<T>,
     test_mode: bool,
@@ -348,17 +362,23 @@ fn take_left<T: Task, R: Wait>(
     ensures answers { (before : List Placed) → AnswersSome T.gives test_mode whole (account_of pass.old).taken before
         → AnswersSome T.gives test_mode whole (account_of pass.new).taken (before ++ result.items) }
 {
-    for _ in rt.forever() {
-        let Some(batch) = queue.take(rt, pass) else {
+    for _ in timer.rt.forever() {
+        let Some(batch) = queue.take(timer.rt, pass) else {
             return rows;
         };
-        rows = end_batch(batch, test_mode, whole, rows);
+        rows = end_batch(timer, batch, test_mode, whole, rows);
     }
     unreachable!()
 }
 
 // Runs the batch, or drops it if not all trials are to be run.
-fn end_batch<T: Task>(batch: Share<T>, test_mode: bool, whole: bool, rows: Rows) -> Rows
+fn end_batch<T: Task, R: Clock + Copy>(
+    timer: Timer<'_, R>,
+    batch: Share<T>,
+    test_mode: bool,
+    whole: bool,
+    rows: Rows,
+) -> Rows
     requires runnable { AllRunners T.can_run batch }
     requires fits { length (items_of batch) ≤ rows.room }
     ensures room { rows.room ≤ result.room + length (items_of batch) }
@@ -369,6 +389,7 @@ fn end_batch<T: Task>(batch: Share<T>, test_mode: bool, whole: bool, rows: Rows)
     if !whole {
         return rows;
     }
-    let (_, rows) = work_from(batch.into_remaining(), test_mode, &mut Unheard::new(), rows);
+    let mut reports = Unheard::new(timer);
+    let (_, rows) = work_from(batch.into_remaining(), test_mode, &mut reports, rows);
     rows
 }

@@ -2,7 +2,9 @@
 ghost use Rattle.std.specs.Prelude.{◌≡◌, ◌↔◌, ◌++◌, ◌∷◌, ◌+◌, ◌<◌, [], ℕ, IsOk, IsTrue, List, OnErr, OnOk, ⊤};
 ghost use Rattle.mimic_trial.specs.Places.{Placed};
 
+use crate::timer::Timer;
 use mimic_trial::Outcome;
+use std::rt::Clock;
 
 /// A row could not be reported.
 #[derive(Clone, Copy, Debug, PartialEq, Eq)]
@@ -31,6 +33,14 @@ pub trait Reports {
         ensures heard { (rows : List Placed) → heard self.old rows
             → heard self.new (rows ++ (place, outcome.now) ∷ []) };
 
+    /// What a worker calls directly before it calls a runner: reads the clock, if somebody asks how long trials run.
+    fn read_clock(&self) -> Option<u64> {
+        None
+    }
+
+    /// What a worker calls directly after a runner has returned: notes how long the trial at the place ran since the reading.
+    fn note_time(&self, _place: usize, _started: Option<u64>) {}
+
     /// How many rows could not be reported.
     fn refusals(&self) -> u64
         ensures { result ≡ refused_by self.now };
@@ -40,25 +50,27 @@ pub trait Reports {
         ensures { result ≡ told_of self.now };
 }
 
-// Reports to nobody, of trials that no worker took.
+// Reports to nobody, of trials that no worker took. Their times are noted.
 #[derive(Drop)]
-pub(crate) struct Unheard {
+pub(crate) struct Unheard<'a, R> {
+    timer: Timer<'a, R>,
     counts: Counts,
 }
 
-impl Unheard {
+impl<'a, R: Clock> Unheard<'a, R> {
     // Nothing was reported yet.
-    pub(crate) fn new() -> Self
+    pub(crate) fn new(timer: Timer<'a, R>) -> Self
         ensures told { result.counts.told ≡ 0 }
         ensures refusals { result.counts.refusals ≡ 0 }
     {
         Unheard {
+            timer,
             counts: Counts::new(),
         }
     }
 }
 
-impl Reports for Unheard {
+impl<'a, R: Clock> Reports for Unheard<'a, R> {
     ghost told_of = { λ reports. reports.counts.told };
 
     ghost refused_by = { λ reports. reports.counts.refusals };
@@ -67,6 +79,14 @@ impl Reports for Unheard {
 
     fn tell(&mut self, _place: usize, _outcome: &Outcome) -> Result<(), Untold> {
         self.counts.count(true)
+    }
+
+    fn read_clock(&self) -> Option<u64> {
+        self.timer.start()
+    }
+
+    fn note_time(&self, place: usize, started: Option<u64>) {
+        self.timer.note(place, started);
     }
 
     fn refusals(&self) -> u64 {

@@ -4,7 +4,9 @@ ghost use Rattle.std.specs.VecDeque.{deque_capacity, deque_len};
 
 use crate::board::Board;
 use mimic_trial::Outcome;
+use std::alloc::{AllocError, Global};
 use std::collections::VecDeque;
+use std::sync::atomic::{AtomicU64, Ordering};
 use std::sync::{Condvar, Mutex, MutexGuard, Wait};
 use std::thread::yield_now;
 
@@ -17,13 +19,37 @@ const YIELDS: u64 = 8;
 pub(crate) struct SharedBoard {
     board: Mutex<Board>,
     has_changed: Condvar,
+    // How many nanoseconds each trial ran, by its place; empty if nobody asks. A worker notes a time before it reports the row, so
+    // whoever has taken the row reads that time.
+    times: Vec<AtomicU64>,
 }
 
 impl SharedBoard {
-    pub(crate) fn new(board: Board) -> Self {
+    pub(crate) fn new(board: Board, times: Vec<AtomicU64>) -> Self {
         SharedBoard {
             board: Mutex::new(board),
             has_changed: Condvar::new(),
+            times,
+        }
+    }
+
+    // Whether there is room for the trials' times.
+    pub(crate) fn is_timed(&self) -> bool {
+        !self.times.is_empty()
+    }
+
+    // Notes how many nanoseconds the trial at the place ran.
+    pub(crate) fn note(&self, place: usize, nanos: u64) {
+        if let Some(time) = self.times.get(place) {
+            time.store(nanos, Ordering::Relaxed);
+        }
+    }
+
+    // How many nanoseconds the trial at the place ran, 0 if no time was noted there.
+    pub(crate) fn time(&self, place: usize) -> u64 {
+        match self.times.get(place) {
+            Some(time) => time.load(Ordering::Relaxed),
+            None => 0,
         }
     }
 
@@ -93,4 +119,13 @@ impl SharedBoard {
             rows.push_back_reserved(row);
         }
     }
+}
+
+// Room for a time of each of `count` trials.
+pub(crate) fn no_times(alloc: Global, count: usize) -> Result<Vec<AtomicU64>, AllocError> {
+    let mut times = Vec::with_capacity(alloc, count)?;
+    for _ in 0..count {
+        times.push(AtomicU64::new(0))?;
+    }
+    Ok(times)
 }

@@ -2,7 +2,7 @@
 ghost use Rattle.std.specs.Prelude.{◌≡◌, ◌≤◌, [], All, Bool, IfOk, IfSome, List, MatchResult, length, map, take, true, vec_capacity, vec_len};
 ghost use Rattle.mimic_pool.specs.Answers.{Answers};
 ghost use Rattle.mimic_pool.specs.Board.{empty_board};
-ghost use Rattle.mimic_pool.specs.Inbox.{board_of};
+ghost use Rattle.mimic_pool.specs.Inbox.{board_of, is_timed};
 ghost use Rattle.mimic_pool.specs.Rows.{rows_in};
 ghost use Rattle.mimic_pool.specs.Share.{AllRunners, assigned_from, items_of};
 ghost use Rattle.mimic_pool.specs.Joined.{AreJoined};
@@ -39,18 +39,21 @@ pub struct ShareCrew<T: Task> {
     pub(crate) joined: Vec<Rows>,
 }
 
-// Makes a worker ready for each share, and an inbox to which they will report their rows, of which there are `count`.
+// Makes a worker ready for each share, and an inbox to which they will report their rows, of which there are `count`, and if it is
+// timed the times of their trials.
 pub(crate) fn prepare_shares<T: Task>(
     alloc: Global,
     shares: Vec<Share<T>>,
     count: usize,
+    timed: bool,
 ) -> Result<(Inbox, ShareStarts<T>), AllocError>
     ensures inbox { IfOk result (λ made. board_of made.0 ≡ empty_board count (vec_len made.1.starts)) }
+    ensures timed { IfOk result (λ made. is_timed made.0 ≡ timed) }
     ensures ready { IfOk result (λ made. (trials : List (Assigned T)) → AreDealt T.can_run shares.items trials
         → AreReadyShares T.can_run made.1 trials) }
 {
     let workers = shares.len();
-    let inbox = Inbox::new(alloc, count, workers)?;
+    let inbox = Inbox::with_times(alloc, count, workers, timed)?;
     let starts = starts_on(alloc, shares, &inbox)?;
     let starts = ShareStarts {
         starts,

@@ -2,7 +2,7 @@
 ghost use Rattle.std.specs.Prelude.{◌≡◌, ◌++◌, ◌∷◌, ◌≤◌, ◌||◌, [], Bool, IfOk, IfSome, List, OnOk, length, map, min, true};
 ghost use Rattle.mimic_trial.specs.declared.outcome.Outcome.{Outcome as AnOutcome};
 ghost use Rattle.mimic_pool.specs.Board.{empty_board};
-ghost use Rattle.mimic_pool.specs.Inbox.{board_of};
+ghost use Rattle.mimic_pool.specs.Inbox.{board_of, is_timed};
 ghost use Rattle.mimic_pool.specs.Joined.{AreJoined, AreOutcomes, HavePlaces, put_each};
 ghost use Rattle.mimic_pool.specs.Rows.{rows_in};
 ghost use Rattle.mimic_pool.specs.Share.{assigned_from};
@@ -109,24 +109,27 @@ impl<T: Task> Supply<T> {
     }
 
     /// Makes the workers ready to run the trials, of which there are `count`, and an inbox to which they, and no others, will report.
+    /// If it is timed, they note there how long each trial ran.
     pub fn prepare<R: Wait>(
         self,
         rt: &R,
         alloc: Global,
         count: usize,
+        timed: bool,
     ) -> Result<(Inbox, Starts<T>), AllocError>
         requires held { (trials : List (Assigned T)) × Holds T.can_run self trials }
         ensures inbox { IfOk result (λ made. board_of made.0 ≡ empty_board count (workers_of made.1)) }
+        ensures timed { IfOk result (λ made. is_timed made.0 ≡ timed) }
         ensures ready { IfOk result (λ made. (trials : List (Assigned T)) → length trials ≤ count
             → Holds T.can_run self trials → AreReady T.can_run made.1 trials) }
     {
         match self {
             Supply::Shares(shares) => {
-                let (inbox, starts) = prepare_shares(alloc, shares, count)?;
+                let (inbox, starts) = prepare_shares(alloc, shares, count, timed)?;
                 Ok((inbox, Starts::Shares(starts)))
             }
             Supply::Queue(queue) => {
-                let (inbox, starts) = prepare_takers(rt, alloc, queue, count)?;
+                let (inbox, starts) = prepare_takers(rt, alloc, queue, count, timed)?;
                 Ok((inbox, Starts::Queue(starts)))
             }
         }

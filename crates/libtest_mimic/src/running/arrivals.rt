@@ -4,8 +4,10 @@ ghost use Rattle.mimic_printer.specs.Report.{rows_text};
 ghost use Rattle.mimic_printer.specs.Row.{label_of, rows_at};
 ghost use Rattle.mimic_printer.specs.Sink.{HasFaultLeft, Put, Puts, Shown, Writes, faults_of, shown};
 ghost use Rattle.mimic_trial.specs.Places.{places_of};
-ghost use Rattle.libtest_mimic.specs.Steps.{arrived_text};
+ghost use Rattle.mimic_pool.specs.Inbox.{is_timed};
+ghost use Rattle.libtest_mimic.specs.Steps.{PutsArrived, WritesArrived, WritesFrom};
 
+use crate::running::timing::time_shown;
 use mimic_pool::{Arrival, Desk, Inbox};
 use mimic_printer::{Printer, Sink, WriteFault};
 use mimic_trial::{Outcome, TestInfo};
@@ -17,22 +19,23 @@ pub(super) fn write_arrivals<W: Write, T: Wait>(
     rt: &T,
     printer: &Printer,
     infos: &[TestInfo],
-    mut inbox: Inbox,
+    inbox: &mut Inbox,
     desk: &mut Desk,
     sink: &mut Sink<W>,
 ) -> Result<(), WriteFault>
     requires room { HasFaultLeft sink.old }
     requires places { desk.old.places ≡ length infos.now }
     ensures places { desk.new.places ≡ desk.old.places }
+    ensures timed { is_timed inbox.new ≡ is_timed inbox.old }
     ensures arrived { (base : Shown)
-        → Put base (shown W.contents sink.old) (arrived_text printer.now infos.now desk.old)
-        → Writes base (shown W.contents sink.new) (arrived_text printer.now infos.now desk.new) result }
+        → PutsArrived (is_timed inbox.old) printer.now infos.now desk.old base (shown W.contents sink.old)
+        → WritesArrived (is_timed inbox.old) printer.now infos.now desk.new base (shown W.contents sink.new) result }
 {
     for _ in rt.forever() {
-        let Some((place, outcome)) = inbox.next(rt) else {
+        let Some(row) = inbox.next(rt) else {
             break;
         };
-        write_arrival(printer, infos, desk, place, outcome, sink)?;
+        write_arrival(printer, infos, inbox, desk, row, sink)?;
     }
     Ok(())
 }
@@ -41,9 +44,9 @@ pub(super) fn write_arrivals<W: Write, T: Wait>(
 fn write_arrival<W: Write>(
     printer: &Printer,
     infos: &[TestInfo],
+    inbox: &Inbox,
     desk: &mut Desk,
-    place: usize,
-    outcome: Outcome,
+    row: (usize, Outcome),
     sink: &mut Sink<W>,
 ) -> Result<(), WriteFault>
     requires room { HasFaultLeft sink.old }
@@ -51,14 +54,16 @@ fn write_arrival<W: Write>(
     ensures places { desk.new.places ≡ desk.old.places }
     ensures faults { OnOk result (faults_of sink.new ≡ faults_of sink.old) }
     ensures arrived { (base : Shown)
-        → Put base (shown W.contents sink.old) (arrived_text printer.now infos.now desk.old)
-        → Writes base (shown W.contents sink.new) (arrived_text printer.now infos.now desk.new) result }
+        → PutsArrived (is_timed inbox.now) printer.now infos.now desk.old base (shown W.contents sink.old)
+        → WritesArrived (is_timed inbox.now) printer.now infos.now desk.new base (shown W.contents sink.new) result }
 {
     let number = desk.order().len();
+    let (place, outcome) = row;
     match desk.arrive(place, outcome) {
         Arrival::First => {
             let (_, outcome) = desk.row(number);
-            printer.print_row(sink, &infos[place], outcome)
+            let nanos = time_shown(outcome, inbox.time(place));
+            printer.print_timed_row(sink, &infos[place], outcome, nanos)
         }
         Arrival::Again | Arrival::Stranger => Ok(()),
     }
@@ -68,6 +73,7 @@ fn write_arrival<W: Write>(
 pub(super) fn write_missing<W: Write>(
     printer: &Printer,
     infos: &[TestInfo],
+    inbox: &Inbox,
     desk: &Desk,
     first: usize,
     sink: &mut Sink<W>,
@@ -75,12 +81,13 @@ pub(super) fn write_missing<W: Write>(
     requires places { All (λ place. place < length infos.now) (places_of desk.now.rows) }
     requires first { first ≤ length desk.now.rows }
     requires room { HasFaultLeft sink.old }
-    ensures { Puts W.contents sink.old sink.new
-        (rows_text printer.now (drop first (rows_at (map label_of infos.now) desk.now.rows))) result }
+    ensures { WritesFrom first (is_timed inbox.now) printer.now infos.now desk.now
+        (shown W.contents sink.old) (shown W.contents sink.new) result }
 {
     for number in first..desk.order().len() {
         let (place, returned) = desk.row(number);
-        printer.print_row(sink, &infos[place], returned)?;
+        let nanos = time_shown(returned, inbox.time(place));
+        printer.print_timed_row(sink, &infos[place], returned, nanos)?;
     }
     Ok(())
 }

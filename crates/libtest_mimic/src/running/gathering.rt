@@ -9,7 +9,8 @@ ghost use Rattle.mimic_pool.specs.Share.{assigned_from};
 ghost use Rattle.mimic_pool.specs.Supply.{Runs, runs_all};
 ghost use Rattle.mimic_pool.specs.declared.share.Assigned.{Assigned};
 ghost use Rattle.libtest_mimic.specs.Gathering.{IsGathered, IsOfRows, IsReadyFor, Completes, GatheringRefused};
-ghost use Rattle.libtest_mimic.specs.Steps.{arrived_text};
+ghost use Rattle.mimic_pool.specs.Inbox.{is_timed};
+ghost use Rattle.libtest_mimic.specs.Steps.{PutsArrived};
 
 use crate::running::RunError;
 use crate::running::arrivals::{write_arrivals, write_missing};
@@ -32,6 +33,7 @@ pub struct Started<R: Task> {
 
 /// Writes the rows of workers that were started, as `run` does after the title: those that arrive, each when it does, and
 /// after the workers have been joined those that did not. Returns the desk, at which an outcome of each trial has arrived then.
+/// If the inbox is timed, each row of a trial that passed or failed has the time that is noted there.
 ///
 /// `infos` are by place, counted from 0. It is refused for a write fault, or with `Arrival` for the least place at which
 /// the first arrival differs from what its worker returned, also after a write fault. After a write fault, workers take no more
@@ -51,25 +53,25 @@ pub fn gather_rows<R: Task + Send + 'static, W: Write, T: Spawner + 'static>(
         → Runs R.gives started.crew test_mode (assigned_from 0 runners flags)
         → MatchResult result
         (λ desk. IsGathered R.gives test_mode (assigned_from 0 runners flags) desk
-        × Put (shown W.contents sink.old) (shown W.contents sink.new) (arrived_text printer.now infos.now desk))
-        (λ e. GatheringRefused R.gives test_mode (assigned_from 0 runners flags) (runs_all started.crew)
+        × PutsArrived (is_timed started.inbox) printer.now infos.now desk (shown W.contents sink.old) (shown W.contents sink.new))
+        (λ e. GatheringRefused R.gives test_mode (assigned_from 0 runners flags) (runs_all started.crew) (is_timed started.inbox)
         printer.now infos.now (shown W.contents sink.old) (shown W.contents sink.new) e) }
     ensures refused { IfErr result IsOfRows }
 {
     let Started {
-        inbox,
+        mut inbox,
         crew,
         mut desk,
         room,
     } = started;
-    let written = write_arrivals(rt, printer, infos, inbox, &mut desk, sink);
+    let written = write_arrivals(rt, printer, infos, &mut inbox, &mut desk, sink);
     let whole = written.is_ok();
     let joined = join_all(rt, crew, whole);
     let arrived = desk.order().len();
     complete(&mut desk, joined, infos.len(), room, whole)?;
     // A write fault waits until here, since an outcome that differs is reported in its place.
     written?;
-    write_missing(printer, infos, &desk, arrived, sink)?;
+    write_missing(printer, infos, &inbox, &desk, arrived, sink)?;
     Ok(desk)
 }
 

@@ -10,6 +10,7 @@ use crate::running::RunError;
 use crate::running::selection::Selection;
 use crate::running::summary::write_summary;
 use crate::running::tally::Tally;
+use crate::running::timing::{elapsed, start, time_shown};
 use crate::select::is_ignored;
 use crate::stopwatch::{Clock, Stopwatch};
 use mimic_args::Arguments;
@@ -60,33 +61,37 @@ fn write_report<R: Task, W: Write, C: Clock>(
         ..
     } = selected;
     printer.print_title(sink, trials.len() as u64)?;
-    run_rows(&printer, args, trials, &mut tally, sink)?;
+    run_rows(&printer, args, trials, &mut tally, sink, watch)?;
     tally.print_failures(&printer, sink)?;
     write_summary(&printer, tally.conclusion(), sink, watch)?;
     Ok(tally.into_conclusion())
 }
 
 // Runs the trials in their order, and writes the row of each: its announcement before it runs.
-fn run_rows<R: Task, W: Write>(
+fn run_rows<R: Task, W: Write, C: Clock>(
     printer: &Printer,
     args: &Arguments,
     trials: Vec<Trial<R>>,
     tally: &mut Tally,
     sink: &mut Sink<W>,
+    watch: &mut Stopwatch<C>,
 ) -> Result<(), WriteFault>
     requires room { HasFaultLeft sink.old }
     requires empty { HasCounted tally.old tally.old.conclusion.num_filtered_out [] }
     requires runnable { AllCanRun R.can_run trials.items }
     requires capacity { HasRoomFor tally.old (vec_len trials) }
-    ensures { RowsRun R.gives (suite_with args.now trials.items printer.now tally.old)
+    ensures rows { RowsRun R.gives (suite_with args.now trials.items printer.now tally.old)
         (shown W.contents sink.old) (shown W.contents sink.new) tally.new result }
+    ensures readings { watch.new ≡ watch.old }
 {
     for trial in trials {
         let ignored = is_ignored(args, &trial);
         let (info, runner) = trial.into_parts();
         printer.print_test(sink, &info)?;
+        let started = start(watch, args.report_time);
         let outcome = run_unless(ignored, runner, !args.bench);
-        printer.print_single_outcome(sink, &info, &outcome)?;
+        let nanos = time_shown(&outcome, elapsed(watch, started));
+        printer.print_timed_outcome(sink, &info, &outcome, nanos)?;
         tally.record(info, outcome);
     }
     Ok(())

@@ -6,7 +6,7 @@ ghost use Rattle.mimic_pool.specs.Share.{assigned_from};
 ghost use Rattle.mimic_pool.specs.Supply.{Holds};
 ghost use Rattle.libtest_mimic.specs.Gathering.{IsGathered};
 ghost use Rattle.libtest_mimic.specs.Run.{OnNothingWritten, Reports};
-ghost use Rattle.libtest_mimic.specs.Steps.{AreSupplied, RowsRefused, selected_suite, titled_arrived};
+ghost use Rattle.libtest_mimic.specs.Steps.{AreSupplied, PutsTitled, RowsRefused, selected_suite};
 ghost use Rattle.libtest_mimic.specs.Stopwatch.{IsRunning};
 
 use crate::running::RunError;
@@ -67,11 +67,12 @@ pub(super) fn run_in_workers<R: Task + Send + 'static, W: Write, C: Clock, T: Sp
     Ok(conclusion)
 }
 
-// Runners on their way to workers.
+// Runners on their way to workers, and whether these are to note how long each trial runs.
 #[derive(Drop)]
 struct Supplied<R: Task> {
     alloc: Global,
     supply: Supply<R>,
+    timed: bool,
 }
 
 // What is known of each trial, and the runners, which were put into the supply.
@@ -84,8 +85,9 @@ fn take_apart<R: Task, T: Wait>(
 ) -> Result<(Vec<TestInfo>, Supplied<R>), AllocError>
     requires empty { Holds R.can_run supply [] }
     requires runnable { AllCanRun R.can_run trials.items }
-    ensures { IfOk result
+    ensures parts { IfOk result
         (λ parts. AreSupplied R.can_run args.now trials.items parts.0.items parts.1.supply) }
+    ensures timed { IfOk result (λ parts. parts.1.timed ≡ args.now.report_time) }
 {
     let mut supply = supply;
     let mut infos = Vec::with_capacity(alloc, trials.len())?;
@@ -96,7 +98,12 @@ fn take_apart<R: Task, T: Wait>(
         supply.put(rt, infos.len(), runner, is_ignored)?;
         infos.push(info)?;
     }
-    Ok((infos, Supplied { alloc, supply }))
+    let supplied = Supplied {
+        alloc,
+        supply,
+        timed: args.report_time,
+    };
+    Ok((infos, supplied))
 }
 
 // Runs the trials in workers, and writes the title and the rows. Returns the desk where they arrived.
@@ -118,14 +125,18 @@ fn write_rows<R: Task + Send + 'static, W: Write, T: Spawner + 'static>(
         → Holds R.can_run supplied.supply (assigned_from 0 runners flags)
         → MatchResult result
         (λ desk. IsGathered R.gives test_mode (assigned_from 0 runners flags) desk
-        × Put (shown W.contents sink.old) (shown W.contents sink.new) (titled_arrived printer.now infos.now desk))
-        (λ e. RowsRefused R.gives test_mode (assigned_from 0 runners flags) printer.now infos.now
+        × PutsTitled supplied.timed printer.now infos.now desk (shown W.contents sink.old) (shown W.contents sink.new))
+        (λ e. RowsRefused R.gives test_mode (assigned_from 0 runners flags) supplied.timed printer.now infos.now
         (shown W.contents sink.old) (shown W.contents sink.new) e) }
     ensures unwritten { OnNothingWritten result (sink.new ≡ sink.old) }
 {
-    let Supplied { alloc, supply } = supplied;
+    let Supplied {
+        alloc,
+        supply,
+        timed,
+    } = supplied;
     let count = infos.len();
-    let (inbox, starts) = supply.prepare(rt, alloc, count)?;
+    let (inbox, starts) = supply.prepare(rt, alloc, count, timed)?;
     let desk = Desk::new(alloc, count)?;
     let room = Vec::with_capacity(alloc, count)?;
     printer.print_title(sink, count as u64)?;
