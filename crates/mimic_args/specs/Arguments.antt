@@ -34,6 +34,7 @@ pub record AsksNothing (args : Arguments) : Type 0 where
   pub list : args.list ≡ false
   pub nocapture : args.nocapture ≡ false
   pub show_output : args.show_output ≡ false
+  pub report_time : args.report_time ≡ false
   pub unstable_flags : args.unstable_flags ≡ None
   pub exact : args.exact ≡ false
   pub quiet : args.quiet ≡ false
@@ -53,6 +54,7 @@ pub record HasSameFields (old new : Arguments) : Type 0 where
   pub list : new.list ≡ old.list
   pub nocapture : new.nocapture ≡ old.nocapture
   pub show_output : new.show_output ≡ old.show_output
+  pub report_time : new.report_time ≡ old.report_time
   pub unstable_flags : new.unstable_flags ≡ old.unstable_flags
   pub exact : new.exact ≡ old.exact
   pub quiet : new.quiet ≡ old.quiet

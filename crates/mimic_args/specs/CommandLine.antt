@@ -94,9 +94,9 @@ colour_rule = option_rule (codes "color")
 abbrev pub format_rule : Rule
 format_rule = option_rule (codes "format")
 
--- all flags, with these declarations of `--test` and `--quiet`
+-- all flags, with these declarations of `--test` and `--quiet` (the Rust crate's, and `--report-time`, which rustc's harness has)
 abbrev pub flag_options : Declared → Declared → Options
-flag_options test quiet = plus (plus (plus (plus (plus (plus (plus (plus (plus (new_app (codes "harness"), [])
+flag_options test quiet = plus (plus (plus (plus (plus (plus (plus (plus (plus (plus (new_app (codes "harness"), [])
     (alone (flag_rule (codes "include-ignored"))))
     (alone (flag_rule (codes "ignored"))))
     test)
@@ -104,11 +104,12 @@ flag_options test quiet = plus (plus (plus (plus (plus (plus (plus (plus (plus (
     (alone (flag_rule (codes "list"))))
     (alone (flag_rule (codes "nocapture"))))
     (alone (flag_rule (codes "show-output"))))
+    (alone (flag_rule (codes "report-time"))))
     (alone (flag_rule (codes "exact"))))
     quiet
 
 -- all options, with these two flags and readers of the values of `-Z`, `--color` and `--format` (the Rust crate's, but for
--- several filters)
+-- `--report-time` and several filters)
 abbrev pub options_with : Declared → Declared → ValueParser → ValueParser → ValueParser → Options
 options_with test quiet unstable color format = plus (plus (plus (plus (plus (plus (plus (flag_options test quiet)
     (read_by unstable (alone unstable_rule)))

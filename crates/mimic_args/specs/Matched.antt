@@ -65,6 +65,7 @@ pub record IsReadFrom (f : List Row) (a : Arguments) : Type 0 where
   pub list : a.list ≡ is_set f (codes "list")
   pub nocapture : a.nocapture ≡ is_set f (codes "nocapture")
   pub show_output : a.show_output ≡ is_set f (codes "show-output")
+  pub report_time : a.report_time ≡ is_set f (codes "report-time")
   pub exact : a.exact ≡ is_set f (codes "exact")
   pub quiet : a.quiet ≡ is_set f (codes "quiet")
   pub unstable_flags : a.unstable_flags

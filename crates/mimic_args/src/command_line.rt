@@ -52,6 +52,7 @@ impl Arguments {
             list: is_set(matches, "list"),
             nocapture: is_set(matches, "nocapture"),
             show_output: is_set(matches, "show-output"),
+            report_time: is_set(matches, "report-time"),
             unstable_flags: unstable_of(matches),
             exact: is_set(matches, "exact"),
             quiet: is_set(matches, "quiet"),

@@ -65,6 +65,9 @@ pub struct Arguments {
     pub nocapture: bool,
     /// Has no effect: output isn't captured.
     pub show_output: bool,
+    /// Say of each trial that passed or failed how long it ran, in its row of the report, as rustc's harness does. Terse
+    /// has no times.
+    pub report_time: bool,
     /// Has no effect.
     pub unstable_flags: Option<UnstableFlags>,
     /// Filters and skip patterns match only if they are the name or the full name, not if they are a part of it.
@@ -100,6 +103,7 @@ impl Arguments {
             list: false,
             nocapture: false,
             show_output: false,
+            report_time: false,
             unstable_flags: None,
             exact: false,
             quiet: false,
@@ -124,6 +128,7 @@ impl Arguments {
             list: self.list,
             nocapture: self.nocapture,
             show_output: self.show_output,
+            report_time: self.report_time,
             unstable_flags: self.unstable_flags,
             exact: self.exact,
             quiet: self.quiet,

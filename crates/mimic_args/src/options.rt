@@ -39,6 +39,7 @@ pub(super) fn with_flags<'a>(
         flag(alloc, "list", "List tests and benchmarks, and run none"),
         flag(alloc, "nocapture", nocapture),
         flag(alloc, "show-output", show_output),
+        flag(alloc, "report-time", "Show how long each test ran"),
         flag(alloc, "exact", exact),
         quiet,
     ]?;

@@ -22,6 +22,7 @@ Options:
       --list                    List tests and benchmarks, and run none
       --nocapture               Print output of tests at once (no effect: it is never held back)
       --show-output             Print output of tests that pass (no effect: it is never held back)
+      --report-time             Show how long each test ran
       --exact                   Match each FILTER exactly, not as a part of a full name
   -q, --quiet                   Use the terse format
   -Z <FLAG>                     Unstable options (no effect) [possible values: unstable-options]
@@ -34,7 +35,7 @@ Options:
 ";
 
 // One word for each option, and one for the filter.
-static WORDS: [&str; 17] = [
+static WORDS: [&str; 18] = [
     "--include-ignored",
     "--ignored",
     "--test",
@@ -42,6 +43,7 @@ static WORDS: [&str; 17] = [
     "--list",
     "--nocapture",
     "--show-output",
+    "--report-time",
     "--exact",
     "--quiet",
     "-q",
@@ -55,34 +57,42 @@ static WORDS: [&str; 17] = [
 ];
 
 // Lines, and their arguments as `Debug` shows them.
-static LINES_READ: [(&str, &str); 7] = [
+static LINES_READ: [(&str, &str); 9] = [
     (
         "harness",
-        "Arguments { include_ignored: false, ignored: false, test: false, bench: false, list: false, nocapture: false, show_output: false, unstable_flags: None, exact: false, quiet: false, test_threads: None, logfile: None, skip: [], color: None, format: None, filter: [] }",
+        "Arguments { include_ignored: false, ignored: false, test: false, bench: false, list: false, nocapture: false, show_output: false, report_time: false, unstable_flags: None, exact: false, quiet: false, test_threads: None, logfile: None, skip: [], color: None, format: None, filter: [] }",
     ),
     (
         "harness d --skip a --include-ignored --skip b -Z unstable-options --test-threads 3 --logfile=log --color never --format terse --bench c",
-        r#"Arguments { include_ignored: true, ignored: false, test: false, bench: true, list: false, nocapture: false, show_output: false, unstable_flags: Some(UnstableOptions), exact: false, quiet: false, test_threads: Some(3), logfile: Some("log"), skip: ["a", "b"], color: Some(Never), format: Some(Terse), filter: ["d", "c"] }"#,
+        r#"Arguments { include_ignored: true, ignored: false, test: false, bench: true, list: false, nocapture: false, show_output: false, report_time: false, unstable_flags: Some(UnstableOptions), exact: false, quiet: false, test_threads: Some(3), logfile: Some("log"), skip: ["a", "b"], color: Some(Never), format: Some(Terse), filter: ["d", "c"] }"#,
     ),
     (
-        "harness -q --test --ignored --list --nocapture --show-output --exact",
-        "Arguments { include_ignored: false, ignored: true, test: true, bench: false, list: true, nocapture: true, show_output: true, unstable_flags: None, exact: true, quiet: true, test_threads: None, logfile: None, skip: [], color: None, format: None, filter: [] }",
+        "harness -q --test --ignored --list --nocapture --show-output --report-time --exact",
+        "Arguments { include_ignored: false, ignored: true, test: true, bench: false, list: true, nocapture: true, show_output: true, report_time: true, unstable_flags: None, exact: true, quiet: true, test_threads: None, logfile: None, skip: [], color: None, format: None, filter: [] }",
+    ),
+    (
+        "harness --report-time",
+        "Arguments { include_ignored: false, ignored: false, test: false, bench: false, list: false, nocapture: false, show_output: false, report_time: true, unstable_flags: None, exact: false, quiet: false, test_threads: None, logfile: None, skip: [], color: None, format: None, filter: [] }",
+    ),
+    (
+        "harness --report-time --list --format json",
+        "Arguments { include_ignored: false, ignored: false, test: false, bench: false, list: true, nocapture: false, show_output: false, report_time: true, unstable_flags: None, exact: false, quiet: false, test_threads: None, logfile: None, skip: [], color: None, format: Some(Json), filter: [] }",
     ),
     (
         "harness --color=auto --format pretty --test-threads 0",
-        "Arguments { include_ignored: false, ignored: false, test: false, bench: false, list: false, nocapture: false, show_output: false, unstable_flags: None, exact: false, quiet: false, test_threads: Some(0), logfile: None, skip: [], color: Some(Auto), format: Some(Pretty), filter: [] }",
+        "Arguments { include_ignored: false, ignored: false, test: false, bench: false, list: false, nocapture: false, show_output: false, report_time: false, unstable_flags: None, exact: false, quiet: false, test_threads: Some(0), logfile: None, skip: [], color: Some(Auto), format: Some(Pretty), filter: [] }",
     ),
     (
         "harness --color=always --format json --test-threads 1",
-        "Arguments { include_ignored: false, ignored: false, test: false, bench: false, list: false, nocapture: false, show_output: false, unstable_flags: None, exact: false, quiet: false, test_threads: Some(1), logfile: None, skip: [], color: Some(Always), format: Some(Json), filter: [] }",
+        "Arguments { include_ignored: false, ignored: false, test: false, bench: false, list: false, nocapture: false, show_output: false, report_time: false, unstable_flags: None, exact: false, quiet: false, test_threads: Some(1), logfile: None, skip: [], color: Some(Always), format: Some(Json), filter: [] }",
     ),
     (
         "harness --test-threads +5",
-        "Arguments { include_ignored: false, ignored: false, test: false, bench: false, list: false, nocapture: false, show_output: false, unstable_flags: None, exact: false, quiet: false, test_threads: Some(5), logfile: None, skip: [], color: None, format: None, filter: [] }",
+        "Arguments { include_ignored: false, ignored: false, test: false, bench: false, list: false, nocapture: false, show_output: false, report_time: false, unstable_flags: None, exact: false, quiet: false, test_threads: Some(5), logfile: None, skip: [], color: None, format: None, filter: [] }",
     ),
     (
         "harness --test-threads 18446744073709551615 -Zunstable-options --skip=-x",
-        r#"Arguments { include_ignored: false, ignored: false, test: false, bench: false, list: false, nocapture: false, show_output: false, unstable_flags: Some(UnstableOptions), exact: false, quiet: false, test_threads: Some(18446744073709551615), logfile: None, skip: ["-x"], color: None, format: None, filter: [] }"#,
+        r#"Arguments { include_ignored: false, ignored: false, test: false, bench: false, list: false, nocapture: false, show_output: false, report_time: false, unstable_flags: Some(UnstableOptions), exact: false, quiet: false, test_threads: Some(18446744073709551615), logfile: None, skip: ["-x"], color: None, format: None, filter: [] }"#,
     ),
 ];
 
@@ -161,6 +171,7 @@ harness --skip=a --skip=a => taken
 harness --color=auto --color=never => error: the argument '--color <WHEN>' cannot be used multiple times
 harness --format=pretty --format=json => error: the argument '--format <FORMAT>' cannot be used multiple times
 harness --list --list => error: the argument '--list' cannot be used multiple times
+harness --report-time --report-time => error: the argument '--report-time' cannot be used multiple times
 harness -qq => error: the argument '--quiet' cannot be used multiple times
 harness -Z= => error: a value is required for '-Z <FLAG>' but none was supplied
 harness --test-threads= => error: invalid value '' for '--test-threads <THREADS>': cannot parse integer from empty string
@@ -177,6 +188,8 @@ harness --skip -x => error: unexpected argument '-x' found
 harness --color=Auto => error: invalid value 'Auto' for '--color <WHEN>'
 harness --format=xml => error: invalid value 'xml' for '--format <FORMAT>'
 harness --list=true => error: unexpected value 'true' for '--list' found; no more were expected
+harness --report-time=x => error: unexpected value 'x' for '--report-time' found; no more were expected
+harness --report-time x => taken
 harness --test --bench => error: the argument '--test' cannot be used with '--bench'
 harness --bench a --test => error: the argument '--bench' cannot be used with '--test'
 harness -q --format json => error: the argument '--quiet' cannot be used with '--format <FORMAT>'

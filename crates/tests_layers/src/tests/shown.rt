@@ -118,7 +118,7 @@ fn shows_failures(rt: HostRuntime) -> Result<(), Fail> {
 }
 
 const NO_ARGUMENTS: &str =
-    "Arguments { include_ignored: false, ignored: false, test: false, bench: false, list: false, nocapture: false, show_output: false, unstable_flags: None, exact: false, quiet: false, test_threads: None, logfile: None, skip: [], color: None, format: None, filter: [] }";
+    "Arguments { include_ignored: false, ignored: false, test: false, bench: false, list: false, nocapture: false, show_output: false, report_time: false, unstable_flags: None, exact: false, quiet: false, test_threads: None, logfile: None, skip: [], color: None, format: None, filter: [] }";
 
 #[test]
 fn shows_lines(rt: HostRuntime) -> Result<(), Fail> {

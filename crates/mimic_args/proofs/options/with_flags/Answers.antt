@@ -8,9 +8,9 @@ pub returns : goal.returns
 returns c =
     let start = c.new.result in
     let flags = c.flag.result ∷ c.flag-2.result ∷ c.args.test ∷ c.flag-3.result ∷ c.flag-4.result ∷ c.flag-5.result ∷ c.flag-6.result
-    ∷ c.flag-7.result ∷ c.args.quiet ∷ [] in
+    ∷ c.flag-7.result ∷ c.flag-8.result ∷ c.args.quiet ∷ [] in
     let none = options-none start _ c.new.ensures.app c.new.ensures.empty.0 in
-    let local : AreLocal flags = (c.flag.ensures.local, (c.flag-2.ensures.local, (c.requires.0, (c.flag-3.ensures.local, (c.flag-4.ensures.local, (c.flag-5.ensures.local, (c.flag-6.ensures.local, (c.flag-7.ensures.local, (c.requires.1, tt))))))))) in
+    let local : AreLocal flags = (c.flag.ensures.local, (c.flag-2.ensures.local, (c.requires.0, (c.flag-3.ensures.local, (c.flag-4.ensures.local, (c.flag-5.ensures.local, (c.flag-6.ensures.local, (c.flag-7.ensures.local, (c.flag-8.ensures.local, (c.requires.1, tt)))))))))) in
     IfOk-weaker c.args-2.result _ _
     (λ r h. options-in_turn flags start r (subst (λ all. AddsInTurn AddsArg start all r) c.in_ok-flags.ensures.items h) local ∙ cc none)
     c.args-2.ensures
