@@ -1,5 +1,6 @@
 //! Measures a run of many trivial tests:
-//! `bench_suite N FORMAT THREADS [fail_every K] [captures 1] [work K] [wait MS] [uneven HOW] [dealt 1] [logfile PATH]`
+//! `bench_suite N FORMAT THREADS [fail_every K] [captures 1] [work K] [wait MS] [uneven HOW] [dealt 1] [report_time 1]
+//! [clock real] [logfile PATH]`
 //!
 //! The tests are `test_000000` and so on; every K-th fails. Each is a boxed closure: with `captures 1` one that holds
 //! its test's number, as a closure over a path would, and with `work K` it goes through K thousand rounds from it. With
@@ -10,8 +11,10 @@
 //!
 //! A worker takes the next test when it is free. With `dealt 1` tests are dealt out to workers beforehand.
 //!
-//! The report goes to standard output or the logfile. Its own time is that of a clock that never moves, so that the
-//! same words always give the same report. What was measured goes to standard error: how long making the tests and
+//! With `report_time 1` rows say how long their tests ran.
+//!
+//! The report goes to standard output or the logfile. Its clock never moves, so that the same words always give the same report on
+//! one thread; with `clock real` it is the machine's. What was measured goes to standard error: how long making the tests and
 //! running them took, and the peak of memory. A failing test that finds no memory for its message fails without one.
 #![tactic(auto)]
 
@@ -158,12 +161,36 @@ fn run_tests<M: Machine + Files + Eprint, R: Task + Send + 'static>(
 ) -> Result<Status, RunError>
     requires { AllCanRun R.can_run tests.items }
 {
+    let mut clock = MonotonicClock::new(rt);
+    let start = clock.now();
+    let status = if asked.real_clock {
+        run_over(rt, asked, tests, MonotonicClock::new(rt))?
+    } else {
+        run_over(rt, asked, tests, StillClock)?
+    };
+    let measured = Measured {
+        asked,
+        made,
+        ran: since(start, clock),
+        peak: measured::peak(rt),
+    };
+    let _ = eprintln!(rt; "{measured}");
+    Ok(status)
+}
+
+// Runs the tests over this clock.
+fn run_over<M: Machine + Files + Eprint, R: Task + Send + 'static, C: Clock>(
+    rt: &M,
+    asked: &Asked,
+    tests: Vec<Trial<R>>,
+    clock: C,
+) -> Result<Status, RunError>
+    requires { AllCanRun R.can_run tests.items }
+{
     let alloc = rt.alloc();
     let args = asked.arguments(alloc)?;
     let host = rt.host();
     let mut err = rt.stderr();
-    let mut clock = MonotonicClock::new(rt);
-    let start = clock.now();
     let out = rt.stdout();
     let program = bench_suite()
         .with_schedule(asked.schedule)
@@ -176,15 +203,8 @@ fn run_tests<M: Machine + Files + Eprint, R: Task + Send + 'static>(
         tests,
         out,
         &mut err,
-        StillClock,
+        clock,
     );
-    let measured = Measured {
-        asked,
-        made,
-        ran: since(start, clock),
-        peak: measured::peak(rt),
-    };
-    let _ = eprintln!(rt; "{measured}");
     Ok(status)
 }
 

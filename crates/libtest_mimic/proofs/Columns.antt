@@ -8,7 +8,6 @@ use Rattle.mimic_trial.specs.declared.outcome.Outcome.{Outcome}
 use Rattle.mimic_trial.specs.declared.outcome.Outcome.TheVariants.{Passed, Failed, Ignored, Measured}
 use Rattle.mimic_trial.specs.declared.outcome.conclusion.Conclusion.{Conclusion}
 use Rattle.mimic_trial.specs.Count.{counts_of}
-use Rattle.mimic_trial.specs.Places.{Placed}
 use Rattle.mimic_trial.specs.Promise.{Gives}
 use Rattle.mimic_printer.specs.Row.{Label, PrintedRow, outcomes_of}
 use Rattle.mimic_printer.specs.declared.Printer.{Printer}
@@ -19,7 +18,7 @@ use Rattle.libtest_mimic.specs.declared.running.RunError.TheVariants.{OutOfMemor
 use Rattle.libtest_mimic.specs.Run.{ReportedBy, Reports, StartsReport, next_text, start_text}
 use Rattle.libtest_mimic.specs.Steps.{PrintsAs}
 use Rattle.libtest_mimic.specs.Stopwatch.{Watched, elapsed_of}
-use Rattle.libtest_mimic.specs.Suite.{Suite, rows_of}
+use Rattle.libtest_mimic.specs.Suite.{Suite}
 
 -- a printer is its fields
 pub Printer-is : (p : Printer) (f : FormatSetting) (c : Bool) (n k : ℕ) → p.format ≡ f → p.colour ≡ c → p.name_width ≡ n → p.kind_width ≡ k
@@ -102,14 +101,14 @@ MatchOption-weaker None P P' Q Q' none some h = none h
 MatchOption-weaker (Some x) P P' Q Q' none some h = some x h
 
 module _ {R : Type 0} (gives : Gives R) (suite : Suite R) (q : Printer) (same : PrintsAs suite.printer q) where
-  next_same : (placed : List Placed) (left : List ℕ) → next_text suite placed left ≡ next_text (record suite { printer = q }) placed left
-  next_same placed [] = failures_same suite.printer q same (rows_of suite placed)
-  next_same placed (place ∷ left) = announcement_same suite.printer q same _
+  next_same : (rows : List PrintedRow) (left : List ℕ) → next_text suite rows left ≡ next_text (record suite { printer = q }) rows left
+  next_same rows [] = failures_same suite.printer q same rows
+  next_same rows (place ∷ left) = announcement_same suite.printer q same _
 
-  start_same : (placed : List Placed) (left : List ℕ) → start_text suite placed left ≡ start_text (record suite { printer = q }) placed left
-  start_same placed left =
+  start_same : (rows : List PrintedRow) (left : List ℕ) → start_text suite rows left ≡ start_text (record suite { printer = q }) rows left
+  start_same rows left =
       ap₂ (λ x y. x ++ y) (title_same suite.printer q same (length suite.trials))
-      (ap₂ (λ x y. x ++ y) (rows_same suite.printer q same (rows_of suite placed)) (next_same placed left))
+      (ap₂ (λ x y. x ++ y) (rows_same suite.printer q same rows) (next_same rows left))
 
   -- a whole report
   pub reported_same : (threads : ℕ) (old new : Shown) (watch : Watched) (c : Conclusion) → ReportedBy gives threads suite old new watch c → ReportedBy gives threads (record suite { printer = q }) old new watch c
@@ -119,6 +118,8 @@ module _ {R : Type 0} (gives : Gives R) (suite : Suite R) (q : Printer) (same : 
     some,
     record {
       arranged = r.arranged;
+      rows = r.rows;
+      timed = r.timed;
       nanos = r.nanos;
       elapsed = r.elapsed;
       fits = r.fits;
@@ -136,12 +137,14 @@ module _ {R : Type 0} (gives : Gives R) (suite : Suite R) (q : Printer) (same : 
         left = s.left;
         places = s.places;
         own = s.own;
+        rows = s.rows;
+        timed = s.timed;
         begun = MatchOption-weaker (elapsed_of watch) _ _ _ _
-            (λ h. (h.0, subst P (start_same s.placed s.left) h.1))
+            (λ h. (h.0, subst P (start_same s.rows s.left) h.1))
             (λ nanos h. (
               h.0,
               h.1,
-              subst (λ t. Put old h.1 t) (start_same s.placed []) h.2,
+              subst (λ t. Put old h.1 t) (start_same s.rows []) h.2,
               subst (λ t. Stopped h.1 new t) (summary_same suite.printer q same _ nanos) h.3,
             )) s.begun;
       }

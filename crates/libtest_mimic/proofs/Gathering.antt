@@ -17,7 +17,7 @@ use Rattle.mimic_pool.proofs.Placing.{have_places, put_or, row_put}
 use Rattle.mimic_trial.specs.Promise.{Gives}
 use Rattle.mimic_printer.specs.declared.Printer.{Printer}
 use Rattle.mimic_printer.specs.Report.{rows_text, title_text}
-use Rattle.mimic_printer.specs.Row.{Label, label_at, label_of, rows_at}
+use Rattle.mimic_printer.specs.Row.{Label, PrintedRow, label_at, label_of, rows_at}
 use Rattle.mimic_printer.specs.Sink.{Put, Shown, Stopped, Writes}
 use Rattle.std.proofs.KnownBytes.{Appends-trans}
 use Rattle.mimic_printer.proofs.Appending.{Put-Stopped, Put-refl, Put-trans, Stopped-more}
@@ -25,12 +25,14 @@ use Rattle.libtest_mimic.specs.Run.{Follows, OnNothingWritten}
 use Rattle.libtest_mimic.specs.declared.running.RunError.{RunError}
 use Rattle.libtest_mimic.specs.declared.running.RunError.TheVariants.{OutOfMemory, Write, ZeroThreads, Spawn, Arrival}
 use Rattle.libtest_mimic.specs.Gathering.{Gathered, GatheredSome, GatheringRefused, IsCompleted, IsDifference, IsGathered, IsLeastDifference, IsOfRows, IsReturned, WrittenAndReturned}
-use Rattle.libtest_mimic.specs.Steps.{RowsRefused, titled_arrived, arrived_text}
+use Rattle.libtest_mimic.specs.Steps.{AreArrived, PutsArrived, PutsTitled, RowsRefused, WritesArrived}
+use Rattle.libtest_mimic.specs.Suite.{AreTimed}
 use Rattle.libtest_mimic.proofs.Arranged.{length_assigned}
 use Rattle.std.proofs.lemmas.Bool.{false≢true}
 use Rattle.std.proofs.lemmas.List.{map-append}
 use Rattle.libtest_mimic.proofs.Returned.{all_gathered, some_gathered}
-use Rattle.libtest_mimic.proofs.ArrivedRows.{count_rows_at, rows_joined}
+use Rattle.libtest_mimic.proofs.ArrivedRows.{count_rows_at, rows_text-append, timed_joined}
+use Rattle.libtest_mimic.proofs.Timed.{any_times, are_any_times}
 
 -- an answer that is this error
 pub on_error : {T E : Type 0} (r : Result T E) (error : E) (P : T → Type 0) (Q : E → Type 0) → IsErrAnd r (λ e. e ≡ error) → Q error → MatchResult r P Q
@@ -109,53 +111,69 @@ rest_of labels xs ys k e =
 -- ---- the texts
 
 -- an empty desk has no rows to write
-pub nothing_arrived : (p : Printer) (infos : List TestInfo) (desk : Arrived) (n : ℕ) → desk ≡ record { places = n; rows = [] } → (s : Shown) → Put s s (arrived_text p infos desk)
-nothing_arrived p infos desk n e s = subst (λ t. Put s s t) (sym (ap (arrived_text p infos) e)) (Put-refl s)
+pub nothing_arrived : (asked : Bool) (p : Printer) (infos : List TestInfo) (desk : Arrived) (n : ℕ) → desk ≡ record { places = n; rows = [] } → (s : Shown) → PutsArrived asked p infos desk s s
+nothing_arrived asked p infos desk n e s = ([], subst (λ (d : Arrived). AreArrived asked infos d []) (sym e) tt, Put-refl s)
 
-module _ (p : Printer) (infos : List TestInfo) (whole : Bool) (old new : Arrived) (joined : List (List Placed)) (done : IsCompleted whole old joined new) where
-  abbrev missing_text : List ℕ
-  missing_text = rows_text p (rows_at (map label_of infos) done.missing)
+-- a beginning of the rows that arrived was appended
+abbrev pub StopsArrived : Bool → Printer → List TestInfo → Arrived → Shown → Shown → Type 0
+StopsArrived asked p infos desk a b = (rows : List PrintedRow) × AreArrived asked infos desk rows × Stopped a b (rows_text p rows)
 
+module _ (asked : Bool) (p : Printer) (infos : List TestInfo) (whole : Bool) (old new : Arrived) (joined : List (List Placed)) (done : IsCompleted whole old joined new) where
   -- the rows that were reported, and then those that were missing
-  split : arrived_text p infos new ≡ arrived_text p infos old ++ missing_text
-  split = ap (λ l. rows_text p (rows_at (map label_of infos) l)) done.rows ∙ rows_joined p (map label_of infos) old.rows done.missing
+  split : (us vs : List PrintedRow) → AreArrived asked infos old us → AreTimed asked (rows_at (map label_of infos) done.missing) vs → AreArrived asked infos new (us ++ vs)
+  split us vs before behind =
+      let P : List Placed → Type 0 = λ l. AreTimed asked (rows_at (map label_of infos) l) (us ++ vs) in
+      subst P (sym done.rows) (timed_joined asked (map label_of infos) old.rows done.missing us vs before behind)
 
   module _ (a b : Shown) where
     -- a fault in a row that was reported
-    pub stopped_arrived : Stopped a b (arrived_text p infos old) → Stopped a b (arrived_text p infos new)
-    stopped_arrived s = subst (λ t. Stopped a b t) (sym split) (Stopped-more _ missing_text s)
+    pub stopped_arrived : StopsArrived asked p infos old a b → StopsArrived asked p infos new a b
+    stopped_arrived (us, timed, s) =
+        let missing = rows_at (map label_of infos) done.missing in
+        let vs = any_times asked missing in
+        (us ++ vs, split us vs timed (are_any_times asked missing), subst (λ t. Stopped a b t) (sym (rows_text-append p us vs)) (Stopped-more _ (rows_text p vs) s))
 
-    module _ (c : Shown) (arrived : Put a b (arrived_text p infos old)) (k : ℕ) (count : k ≡ length old.rows) where
-      abbrev pub text_from : List ℕ
-      text_from = rows_text p (drop k (rows_at (map label_of infos) new.rows))
+    module _ (c : Shown) (arrived : PutsArrived asked p infos old a b) (k : ℕ) (count : k ≡ length old.rows) where
+      abbrev AreFrom : List PrintedRow → Type 0
+      AreFrom vs = AreTimed asked (drop k (rows_at (map label_of infos) new.rows)) vs
 
-      is_missing : text_from ≡ missing_text
-      is_missing = ap (rows_text p) (ap (λ l. drop k (rows_at (map label_of infos) l)) done.rows ∙ rest_of (map label_of infos) old.rows done.missing k count)
+      are_missing : (vs : List PrintedRow) → AreFrom vs → AreTimed asked (rows_at (map label_of infos) done.missing) vs
+      are_missing vs timed =
+          subst (λ l. AreTimed asked l vs) (ap (λ l. drop k (rows_at (map label_of infos) l)) done.rows ∙ rest_of (map label_of infos) old.rows done.missing k count) timed
 
       -- a fault in a row that was missing
-      pub stopped_missing : Stopped b c text_from → Stopped a c (arrived_text p infos new)
-      stopped_missing s = subst (λ t. Stopped a c t) (sym split) (Put-Stopped _ _ arrived (subst (λ t. Stopped b c t) is_missing s))
+      pub stopped_missing : (vs : List PrintedRow) × AreFrom vs × Stopped b c (rows_text p vs) → StopsArrived asked p infos new a c
+      stopped_missing (vs, timed, s) =
+          let us = arrived.0 in
+          (us ++ vs, split us vs arrived.1 (are_missing vs timed), subst (λ t. Stopped a c t) (sym (rows_text-append p us vs)) (Put-Stopped _ _ arrived.2 s))
 
-      pub put_all : Put b c text_from → Put a c (arrived_text p infos new)
-      put_all s = subst (λ t. Put a c t) (sym split) (Put-trans _ _ arrived (subst (λ t. Put b c t) is_missing s))
+      pub put_all : (vs : List PrintedRow) × AreFrom vs × Put b c (rows_text p vs) → PutsArrived asked p infos new a c
+      put_all (vs, timed, s) =
+          let us = arrived.0 in
+          (us ++ vs, split us vs arrived.1 (are_missing vs timed), subst (λ t. Put a c t) (sym (rows_text-append p us vs)) (Put-trans _ _ arrived.2 s))
 
 -- a write fault in rows that were reported. If the workers ran all trials, all rows are theirs, else those that were reported are
-pub arrival_refused : {R : Type 0} (gives : Gives R) (mode : Bool) (rs : List R) (bs : List Bool) (same : length rs ≡ length bs) (p : Printer) (infos : List TestInfo) (runs whole : Bool) (old new : Arrived) (joined : List (List Placed))
-    (done : IsCompleted whole old joined new) → whole ≡ false → AreJoined gives mode (assigned_from 0 rs bs) (runs || whole) joined → old.places ≡ length rs → (a b : Shown) → Stopped a b (arrived_text p infos old)
-    → (placed : List Placed) × (left : List ℕ) × GatheredSome gives mode (assigned_from 0 rs bs) placed left × (runs ≡ true → left ≡ []) × Stopped a b (rows_text p (rows_at (map label_of infos) placed))
-arrival_refused gives mode rs bs same p infos true whole old new joined done part are places a b stopped = (
+pub arrival_refused : {R : Type 0} (gives : Gives R) (mode : Bool) (rs : List R) (bs : List Bool) (same : length rs ≡ length bs) (asked : Bool) (p : Printer) (infos : List TestInfo) (runs whole : Bool) (old new : Arrived) (joined : List (List Placed))
+    (done : IsCompleted whole old joined new) → whole ≡ false → AreJoined gives mode (assigned_from 0 rs bs) (runs || whole) joined → old.places ≡ length rs → (a b : Shown) → StopsArrived asked p infos old a b
+    → (placed : List Placed) × (left : List ℕ) × (rows : List PrintedRow) × GatheredSome gives mode (assigned_from 0 rs bs) placed left × (runs ≡ true → left ≡ []) × AreTimed asked (rows_at (map label_of infos) placed) rows × Stopped a b (rows_text p rows)
+arrival_refused gives mode rs bs same asked p infos true whole old new joined done part are places a b stopped =
+let all = stopped_arrived asked p infos whole old new joined done a b stopped in (
   new.rows,
   [],
+  all.0,
   all_gathered gives mode (assigned_from 0 rs bs) new.rows (put_each joined done.outcomes) done.returned (completed_gathered gives mode rs bs same whole joined old new done (joined_whole gives mode rs bs true joined are refl done.outcomes (outcomes_count gives mode rs bs same whole joined old new done places)) places),
   λ _. refl,
-  stopped_arrived p infos whole old new joined done a b stopped,
+  all.1,
+  all.2,
 )
-arrival_refused gives mode rs bs same p infos false whole old new joined done part are places a b stopped = (
+arrival_refused gives mode rs bs same asked p infos false whole old new joined done part are places a b stopped = (
   old.rows,
   places_of done.missing,
+  stopped.0,
   some_gathered gives mode rs bs same old new joined places whole are.dropped done part are.answered,
   λ runs. absurd (false≢true runs),
-  stopped,
+  stopped.1,
+  stopped.2,
 )
 
 -- ---- the title and the rows
@@ -166,17 +184,17 @@ module _ {R : Type 0} (gives : Gives R) (mode : Bool) (items : List (Assigned R)
   titled = subst (λ (k : ℕ). Put a b (title_text p k)) count title
 
   -- what was written if rows were refused that came after the title
-  pub after_title : (all : Bool) (e : RunError) → GatheringRefused gives mode items all p infos b c e → RowsRefused gives mode items p infos a c e
-  after_title all OutOfMemory h = absurd h
-  after_title all (Write fault) (placed, left, rows, none, s) = inr (placed, left, rows, Put-Stopped _ _ titled s)
-  after_title all ZeroThreads h = absurd h
-  after_title all Spawn h = absurd h
-  after_title all (Arrival place) (low, h, named) =
+  pub after_title : (all asked : Bool) (e : RunError) → GatheringRefused gives mode items all asked p infos b c e → RowsRefused gives mode items asked p infos a c e
+  after_title all asked OutOfMemory h = absurd h
+  after_title all asked (Write fault) (placed, left, rows, some, none, timed, s) = inr (placed, left, rows, some, timed, Put-Stopped _ _ titled s)
+  after_title all asked ZeroThreads h = absurd h
+  after_title all asked Spawn h = absurd h
+  after_title all asked (Arrival place) (low, h, named) =
       (low, record { text = title_text p (length infos) ++ h.text; appended = Appends-trans a.bytes b.bytes c.bytes (title_text p (length infos)) h.text titled.appended h.appended; kept = omega (arith, titled.faults, h.kept); one = omega (arith, titled.faults, h.one) })
 
   -- and what was written if they were not
-  pub titled_all : (desk : Arrived) → IsGathered gives mode items desk × Put b c (arrived_text p infos desk) → IsGathered gives mode items desk × Put a c (titled_arrived p infos desk)
-  titled_all desk rows = (rows.0, Put-trans _ _ titled rows.1)
+  pub titled_all : (asked : Bool) (desk : Arrived) → IsGathered gives mode items desk × PutsArrived asked p infos desk b c → IsGathered gives mode items desk × PutsTitled asked p infos desk a c
+  titled_all asked desk (gathered, rows, timed, put) = (gathered, rows, timed, Put-trans _ _ titled put)
 
 -- ---- a difference
 
@@ -220,20 +238,22 @@ module _ {R : Type 0} (gives : Gives R) (mode : Bool) (rs : List R) (bs : List B
   was_written all whole (Err x) text a b joined is stopped are = inr (stopped, subst (λ (w : Bool). AreJoined gives mode trials w joined) (or_false all whole is) are)
 
   -- a difference that is named
-  pub differs_refused : {E T : Type 0} (all whole : Bool) (r : Result T E) (p : Printer) (infos : List TestInfo) (a b : Shown) (desk : Arrived) (joined : List (List Placed)) → desk.places ≡ length infos → whole ≡ is_ok r
+  pub differs_refused : {E T : Type 0} (all whole asked : Bool) (r : Result T E) (p : Printer) (infos : List TestInfo) (a b : Shown) (desk : Arrived) (joined : List (List Placed)) → desk.places ≡ length infos → whole ≡ is_ok r
       → IsPermutation (places_of desk.rows ++ missing_of desk) (range_with_len 0 desk.places)
-      → Writes a b (arrived_text p infos desk) r → AreJoined gives mode trials (all || whole) joined → (e : RunError) → IsDifference desk joined e → GatheringRefused gives mode trials all p infos a b e
-  differs_refused all whole r p infos a b desk joined places is once written are e difference =
+      → WritesArrived asked p infos desk a b r → AreJoined gives mode trials (all || whole) joined → (e : RunError) → IsDifference desk joined e → GatheringRefused gives mode trials all asked p infos a b e
+  differs_refused all whole asked r p infos a b desk joined places is once (rows, timed, written) are e difference =
       let named = difference.named in
-      subst (GatheringRefused gives mode trials all p infos a b) (sym named.named) (
+      subst (GatheringRefused gives mode trials all asked p infos a b) (sym named.named) (
         subst (λ (n : ℕ). named.place < n) places named.below,
-        follows a a b [] (arrived_text p infos desk) r (Put-refl a) written,
+        follows a a b [] (rows_text p rows) r (Put-refl a) written,
         record {
           arrived = desk.rows;
           missing = missing_of desk;
           once = subst (λ (n : ℕ). IsPermutation (places_of desk.rows ++ missing_of desk) (range_with_len 0 n)) places once;
           returned = joined;
-          written = was_written all whole r (arrived_text p infos desk) a b joined is written are;
+          rows = rows;
+          timed = timed;
+          written = was_written all whole r (rows_text p rows) a b joined is written are;
           least = least_difference (all || whole) desk joined e difference are;
         },
       )

@@ -27,9 +27,9 @@ use Rattle.libtest_mimic.specs.declared.running.RunError.TheVariants.{OutOfMemor
 use Rattle.libtest_mimic.specs.Arrangement.{IsArrangement, IsOwnAt}
 use Rattle.libtest_mimic.specs.Run.{ReportRefused, ReportedBy}
 use Rattle.libtest_mimic.specs.Gathering.{Gathered, IsGathered, IsRowOf}
-use Rattle.libtest_mimic.specs.Steps.{AreParts, AreSupplied, RowsRefused, titled_arrived}
+use Rattle.libtest_mimic.specs.Steps.{AreParts, AreSupplied, PutsTitled, RowsRefused}
 use Rattle.libtest_mimic.specs.Stopwatch.{Watched, IsRunning, elapsed_of}
-use Rattle.libtest_mimic.specs.Suite.{Suite, in_order, rows_of}
+use Rattle.libtest_mimic.specs.Suite.{AreTimed, Suite, in_order, rows_of}
 use Rattle.libtest_mimic.proofs.Arranged.{arranged, flags_length, labels_apart, length_assigned, length_gathered, order_below, rows_own, whole_gathered}
 use Rattle.libtest_mimic.proofs.OnlyOutcomes.{outcomes_of-rows_at}
 use Rattle.libtest_mimic.proofs.WholeReport.{reported, starts_failures, starts_some, starts_summary, starts_title, titled}
@@ -87,12 +87,16 @@ module _ {R : Type 0} (gives : Gives R) (suite : Suite R) (can_run : R → Type 
       rows_own gives suite.args suite.trials bs placed parts.each_flag (subst (λ l. length (assigned_from 0 l bs) ≡ length suite.trials) runners as_many_put)
       (subst (λ l. All (IsRowOf gives (not suite.args.bench) (assigned_from 0 l bs)) placed) runners own)
 
-  -- title and rows of the infos are those of the trials
-  titled_same : (placed : List Placed) → title_text suite.printer (length infos) ++ rows_text suite.printer (rows_at (map label_of infos) placed)
-      ≡ title_text suite.printer (length suite.trials) ++ rows_text suite.printer (rows_of suite placed)
-  titled_same placed =
-      ap (λ l. title_text suite.printer (length l) ++ rows_text suite.printer (rows_at (map label_of l) placed)) parts.each_info
-      ∙ ap₂ (λ n labels. title_text suite.printer n ++ rows_text suite.printer (rows_at labels placed)) (length-map suite.trials info_of) (labels_apart suite.trials)
+  -- what rows of the infos show is what rows of the trials do
+  rows_same : (placed : List Placed) → rows_at (map label_of infos) placed ≡ rows_of suite placed
+  rows_same placed = ap (λ l. rows_at (map label_of l) placed) parts.each_info ∙ ap (λ l. rows_at l placed) (labels_apart suite.trials)
+
+  timed_same : (asked : Bool) → asked ≡ suite.args.report_time → (placed : List Placed) (rows : List PrintedRow) → AreTimed asked (rows_at (map label_of infos) placed) rows → AreTimed suite.args.report_time (rows_of suite placed) rows
+  timed_same asked e placed rows timed = subst (λ (b : Bool). AreTimed b (rows_of suite placed) rows) e (subst (λ l. AreTimed asked l rows) (rows_same placed) timed)
+
+  -- the title of the infos is that of the trials
+  titled_same : (text : List ℕ) → title_text suite.printer (length infos) ++ text ≡ title_text suite.printer (length suite.trials) ++ text
+  titled_same text = ap (λ (n : ℕ). title_text suite.printer n ++ text) count
 
   -- ---- the failures
 
@@ -107,10 +111,6 @@ module _ {R : Type 0} (gives : Gives R) (suite : Suite R) (can_run : R → Type 
     pub below : All (λ p. p < length infos) order
     below = subst (λ (n : ℕ). All (λ p. p < n) order) (sym as_many_infos) (order_below (length outs) order whole)
 
-    -- and what the rows show
-    shown_rows : rows_at (map label_of infos) (placed_at order outs) ≡ rows_of suite (placed_at order outs)
-    shown_rows = ap (λ l. rows_at (map label_of l) (placed_at order outs)) parts.each_info ∙ ap (λ l. rows_at l (placed_at order outs)) (labels_apart suite.trials)
-
   -- ---- the report of some threads
 
   module _ (threads : ℕ) (several : 2 ≤ threads) (some : suite.trials ≢ []) where
@@ -121,43 +121,48 @@ module _ {R : Type 0} (gives : Gives R) (suite : Suite R) (can_run : R → Type 
     some_thread none = absurd (omega (arith, none, several))
 
     -- what is left if title and rows were refused
-    pub rows_refused : (a b : Shown) (w : Watched) (e : RunError) → IsRunning w
-        → RowsRefused gives (not suite.args.bench) (assigned_from 0 rs bs) suite.printer infos a b e → ReportRefused gives threads suite a b w e
-    rows_refused a b w OutOfMemory r h = (some, h, r)
-    rows_refused a b w (Write fault) r (inl s) =
+    pub rows_refused : (asked : Bool) → asked ≡ suite.args.report_time → (a b : Shown) (w : Watched) (e : RunError) → IsRunning w
+        → RowsRefused gives (not suite.args.bench) (assigned_from 0 rs bs) asked suite.printer infos a b e → ReportRefused gives threads suite a b w e
+    rows_refused asked is a b w OutOfMemory r h = (some, h, r)
+    rows_refused asked is a b w (Write fault) r (inl s) =
         (in_order suite, IsPermutation-refl (in_order suite), (λ one. refl), some_thread, starts_title gives suite (in_order suite) a b w (length infos) count r s)
-    rows_refused a b w (Write fault) r (inr (placed, left, rows, s)) =
+    rows_refused asked is a b w (Write fault) r (inr (placed, left, rows, gathered, timed, s)) =
         let P : List ℕ → Type 0 = λ t. Stopped a b t in
-        let order = subst (λ (n : ℕ). IsPermutation (places_of placed ++ left) (range_with_len 0 n)) as_many_put rows.places in
-        (places_of placed ++ left, order, in_some_order, some_thread, starts_some gives suite placed left (placed_own placed rows.own) a b w r (subst P (titled_same placed) s))
-    rows_refused a b w ZeroThreads r h = absurd h
-    rows_refused a b w Spawn r h = (several, some, subst (λ (n : ℕ). Put a b (title_text suite.printer n)) count h, r)
-    rows_refused a b w (Arrival place) r (low, h) = (several, subst (λ (n : ℕ). place < n) count low, h, r)
+        let order = subst (λ (n : ℕ). IsPermutation (places_of placed ++ left) (range_with_len 0 n)) as_many_put gathered.places in
+        let start = starts_some gives suite placed left rows (placed_own placed gathered.own) (timed_same asked is placed rows timed) a b w r (subst P (titled_same (rows_text suite.printer rows)) s) in
+        (places_of placed ++ left, order, in_some_order, some_thread, start)
+    rows_refused asked is a b w ZeroThreads r h = absurd h
+    rows_refused asked is a b w Spawn r h = (several, some, subst (λ (n : ℕ). Put a b (title_text suite.printer n)) count h, r)
+    rows_refused asked is a b w (Arrival place) r (low, h) = (several, subst (λ (n : ℕ). place < n) count low, h, r)
 
-    module _ (desk : Arrived) (gathered : IsGathered gives (not suite.args.bench) (assigned_from 0 rs bs) desk) (a c : Shown) (rows : Put a c (titled_arrived suite.printer infos desk)) where
+    module _ (asked : Bool) (is : asked ≡ suite.args.report_time) (desk : Arrived) (gathered : IsGathered gives (not suite.args.bench) (assigned_from 0 rs bs) desk) (a c : Shown)
+        (put : PutsTitled asked suite.printer infos desk a c) where
       abbrev placed : List Placed
       placed = placed_at (places_of desk.rows) gathered.outcomes
 
       all : IsArrangement gives suite.args suite.trials placed
       all = arrangement (places_of desk.rows) gathered.outcomes gathered.gathered
 
-      written : Put a c (titled gives suite placed all)
-      written =
-          let P : List ℕ → Type 0 = λ t. Put a c t in
-          let told = ap (λ l. title_text suite.printer (length infos) ++ rows_text suite.printer (rows_at (map label_of infos) l)) gathered.rows in
-          subst P (told ∙ titled_same placed) rows
+      abbrev rows : List PrintedRow
+      rows = put.0
+
+      timed : AreTimed suite.args.report_time (rows_of suite placed) rows
+      timed = timed_same asked is placed rows (subst (λ (l : List Placed). AreTimed asked (rows_at (map label_of infos) l) rows) gathered.rows put.1)
+
+      written : Put a c (titled gives suite placed all rows timed)
+      written = let P : List ℕ → Type 0 = λ t. Put a c t in subst P (titled_same (rows_text suite.printer rows)) put.2
 
       abbrev shows : List PrintedRow
       shows = rows_at (map label_of infos) desk.rows
 
       same : shows ≡ rows_of suite placed
-      same = ap (rows_at (map label_of infos)) gathered.rows ∙ shown_rows (places_of desk.rows) gathered.outcomes gathered.gathered
+      same = ap (rows_at (map label_of infos)) gathered.rows ∙ rows_same placed
 
       module _ (d : Shown) where
         pub failures_refused : (w : Watched) (fault : WriteFault) → IsRunning w → Stopped c d (failures_text suite.printer shows) → ReportRefused gives threads suite a d w (Write fault)
         failures_refused w fault r s =
             let P : List PrintedRow → Type 0 = λ l. Stopped c d (failures_text suite.printer l) in
-            (places_of placed, all.places, in_some_order, some_thread, starts_failures gives suite placed all a c d written w r (subst P same s))
+            (places_of placed, all.places, in_some_order, some_thread, starts_failures gives suite placed all rows timed a c d written w r (subst P same s))
 
         module _ (failures : Put c d (failures_text suite.printer shows)) (x : Conclusion) (counted : x ≡ counts_of (map (λ (row : Placed). row.1) desk.rows) suite.filtered_out)
             (f : Shown) (w : Watched) (nanos : ℕ) (time : elapsed_of w ≡ Some nanos) where
@@ -171,7 +176,7 @@ module _ {R : Type 0} (gives : Gives R) (suite : Suite R) (can_run : R → Type 
 
           pub summary_refused : (fault : WriteFault) → Stopped d f (summary_text suite.printer x nanos) → ReportRefused gives threads suite a f w (Write fault)
           summary_refused fault s =
-              (places_of placed, all.places, in_some_order, some_thread, starts_summary gives suite placed all a c d written failed f w nanos x counts time s)
+              (places_of placed, all.places, in_some_order, some_thread, starts_summary gives suite placed all rows timed a c d written failed f w nanos x counts time s)
 
           pub reported_by : nanos < 2 ^ 64 → Put d f (summary_text suite.printer x nanos) → ReportedBy gives threads suite a f w x
-          reported_by fits s = (placed, in_some_order, some_thread, reported gives suite placed all a c d written failed f w nanos x counts time fits s)
+          reported_by fits s = (placed, in_some_order, some_thread, reported gives suite placed all rows timed a c d written failed f w nanos x counts time fits s)

@@ -3,6 +3,7 @@ pub mod Arranged
 pub mod ArrivedRows
 pub mod Columns
 pub mod Supplying
+pub mod Timed
 pub mod FullName
 pub mod Gathering
 pub mod InWorkers

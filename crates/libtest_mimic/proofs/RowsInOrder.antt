@@ -1,5 +1,5 @@
 -- Rows of trials that run one after another.
-use Rattle.std.proofs.Common.{All, ◌≡◌, ℕ, zero, suc, ◌+◌, ◌-◌, ◌^◌, ◌<◌, ◌≤◌, List, [], ◌∷◌, ◌++◌, Option, None, Some, Bool, not, filter, length, refl, sym, ap, ap₂, ◌∙◌, subst, arith, add-zero, zero-add, append-nil, length-append, vec_len}
+use Rattle.std.proofs.Common.{All, ◌≡◌, ℕ, zero, suc, ◌+◌, ◌-◌, ◌^◌, ◌<◌, ◌≤◌, List, [], ◌∷◌, ◌++◌, Option, None, Some, Bool, ◌&&◌, not, filter, length, refl, sym, ap, ap₂, ◌∙◌, subst, arith, add-zero, zero-add, append-nil, length-append, vec_len}
 use Rattle.std.proofs.lemmas.Result.{MatchResult-from_err}
 use Rattle.std.specs.Result.{IsErr}
 use Rattle.std.specs.Prelude.{Result}
@@ -15,12 +15,12 @@ use Rattle.mimic_trial.specs.declared.trial.TestInfo.{TestInfo}
 use Rattle.mimic_trial.specs.declared.trial.Trial.{Trial}
 use Rattle.mimic_trial.specs.Count.{HasRoom, counted, counts_of, is_failed}
 use Rattle.mimic_trial.specs.Places.{InOrder, Placed, places_of}
-use Rattle.mimic_printer.specs.Row.{label_at, rows_at, Label, PrintedRow, label_of, outcomes_of, row_of, labels_of}
+use Rattle.mimic_printer.specs.Row.{label_at, rows_at, Label, PrintedRow, label_of, outcomes_of, row_of, labels_of, timed_row}
 use Rattle.mimic_trial.specs.Promise.{Gives, IsOutcomeOf}
 use Rattle.mimic_trial.specs.Trial.{info_of, runner_of}
 use Rattle.mimic_trial.proofs.Counting.{HasRoom-counts, counts-push}
 use Rattle.mimic_printer.specs.declared.Printer.{Printer}
-use Rattle.mimic_printer.specs.Report.{announcement_text, outcome_text, row_text, rows_text}
+use Rattle.mimic_printer.specs.Report.{announcement_text, row_text, rows_text, timed_outcome_text}
 use Rattle.mimic_printer.specs.Sink.{Shown, Put, Stopped}
 use Rattle.mimic_printer.proofs.Appending.{Put-trans, Put-Stopped, Stopped-more}
 use Rattle.mimic_printer.proofs.FailedRows.{range-push}
@@ -28,7 +28,8 @@ use Rattle.libtest_mimic.specs.declared.running.tally.Tally.{Tally}
 use Rattle.libtest_mimic.specs.Arrangement.{IsOwn, IsOwnAt}
 use Rattle.libtest_mimic.specs.Selection.{IsIgnored}
 use Rattle.libtest_mimic.specs.Steps.{HasCounted, HasRoomFor, RowsRun, RowsStopped, RowsWritten}
-use Rattle.libtest_mimic.specs.Suite.{Suite, rows_of}
+use Rattle.libtest_mimic.specs.Suite.{AreTimed, IsTime, Suite, has_time, rows_of}
+use Rattle.libtest_mimic.proofs.Timed.{timed-append}
 
 -- ---- the next element of a list
 
@@ -109,16 +110,24 @@ rows_at-push labels placed info o e =
     ap (λ (l : Label). rows_at labels placed ++ record { label = l; outcome = o; nanos = None } ∷ []) e
     ∙ sym (map-append (λ (p : Placed). record { label = label_at labels p.0; outcome = p.1; nanos = None }) placed ((length placed, o) ∷ []))
 
-module _ (p : Printer) (rows : List PrintedRow) (info : TestInfo) (o : Outcome) (a b c d : Shown) where
-  Put-row : Put a b (rows_text p rows) → Put b c (announcement_text p (label_of info)) → Put c d (outcome_text p (label_of info) o) → Put a d (rows_text p (rows ++ row_of info o ∷ []))
+-- the same with a time
+timed-push : (asked : Bool) (labels : List Label) (placed : List Placed) (info : TestInfo) (o : Outcome) (time : Option ℕ) (rows : List PrintedRow) → label_of info ≡ label_at labels (length placed)
+    → AreTimed asked (rows_at labels placed) rows → IsTime (asked && has_time o) time → AreTimed asked (rows_at labels (placed ++ (length placed, o) ∷ [])) (rows ++ timed_row info o time ∷ [])
+timed-push asked labels placed info o time rows e timed fits =
+    let P : List PrintedRow → Type 0 = λ l. AreTimed asked l (rows ++ timed_row info o time ∷ []) in
+    subst P (rows_at-push labels placed info o e)
+    (timed-append asked (rows_at labels placed) rows (row_of info o ∷ []) (timed_row info o time ∷ []) timed (record { label = refl; outcome = refl; time = fits }, tt))
+
+module _ (p : Printer) (rows : List PrintedRow) (info : TestInfo) (o : Outcome) (time : Option ℕ) (a b c d : Shown) where
+  Put-row : Put a b (rows_text p rows) → Put b c (announcement_text p (label_of info)) → Put c d (timed_outcome_text p (label_of info) o time) → Put a d (rows_text p (rows ++ timed_row info o time ∷ []))
   Put-row u v w =
       let P : List ℕ → Type 0 = λ t. Put a d t in
-      subst P (sym (rows_text-push p rows (row_of info o))) (Put-trans _ _ u (Put-trans _ _ v w))
+      subst P (sym (rows_text-push p rows (timed_row info o time))) (Put-trans _ _ u (Put-trans _ _ v w))
 
-  Stopped-row : Put a b (rows_text p rows) → Put b c (announcement_text p (label_of info)) → Stopped c d (outcome_text p (label_of info) o) → Stopped a d (rows_text p (rows ++ row_of info o ∷ []))
+  Stopped-row : Put a b (rows_text p rows) → Put b c (announcement_text p (label_of info)) → Stopped c d (timed_outcome_text p (label_of info) o time) → Stopped a d (rows_text p (rows ++ timed_row info o time ∷ []))
   Stopped-row u v w =
       let P : List ℕ → Type 0 = λ t. Stopped a d t in
-      subst P (sym (rows_text-push p rows (row_of info o))) (Put-Stopped _ _ u (Put-Stopped _ _ v w))
+      subst P (sym (rows_text-push p rows (timed_row info o time))) (Put-Stopped _ _ u (Put-Stopped _ _ v w))
 
 -- ---- what a tally has room for
 
@@ -157,11 +166,13 @@ module _ {R : Type 0} (gives : Gives R) where
     pub ordered : InOrder placed
     pub all : length placed ≡ count
     pub own : All (IsOwnAt gives suite.args suite.trials) placed
-    pub text : Put old new (rows_text suite.printer (rows_of suite placed))
+    pub rows : List PrintedRow
+    pub timed : AreTimed suite.args.report_time (rows_of suite placed) rows
+    pub text : Put old new (rows_text suite.printer rows)
     pub tally : HasCounted t suite.filtered_out (rows_of suite placed)
 
-  module _ (suite : Suite R) (count : ℕ) (a b c d : Shown) (t : Tally) (so_far : RowsSoFar suite count a b t) (info : TestInfo) (o : Outcome)
-      (label : label_of info ≡ label_at (labels_of suite.trials) count) (own : IsOwnAt gives suite.args suite.trials (count, o)) where
+  module _ (suite : Suite R) (count : ℕ) (a b c d : Shown) (t : Tally) (so_far : RowsSoFar suite count a b t) (info : TestInfo) (o : Outcome) (time : Option ℕ)
+      (label : label_of info ≡ label_at (labels_of suite.trials) count) (own : IsOwnAt gives suite.args suite.trials (count, o)) (fits : IsTime (suite.args.report_time && has_time o) time) where
     here : label_of info ≡ label_at (labels_of suite.trials) (length so_far.placed)
     here = label ∙ ap (label_at (labels_of suite.trials)) (sym so_far.all)
 
@@ -174,36 +185,38 @@ module _ {R : Type 0} (gives : Gives R) where
     one_more : length (so_far.placed ++ (length so_far.placed, o) ∷ []) ≡ count + 1
     one_more = length-append so_far.placed ((length so_far.placed, o) ∷ []) ∙ ap (λ n. n + 1) so_far.all
 
+    all_timed : AreTimed suite.args.report_time (rows_of suite (so_far.placed ++ (length so_far.placed, o) ∷ [])) (so_far.rows ++ timed_row info o time ∷ [])
+    all_timed = timed-push suite.args.report_time (labels_of suite.trials) so_far.placed info o time so_far.rows here so_far.timed fits
+
     -- one more trial ran
-    pub RowsSoFar-push : (u : Tally) → Put b c (announcement_text suite.printer (label_of info)) → Put c d (outcome_text suite.printer (label_of info) o)
+    pub RowsSoFar-push : (u : Tally) → Put b c (announcement_text suite.printer (label_of info)) → Put c d (timed_outcome_text suite.printer (label_of info) o time)
         → ((filtered_out : ℕ) (rows : List PrintedRow) → HasCounted t filtered_out rows → HasCounted u filtered_out (rows ++ row_of info o ∷ [])) → RowsSoFar suite (count + 1) a d u
     RowsSoFar-push u announced ended counted =
-        let rows = rows_of suite so_far.placed in
-        let P : List PrintedRow → Type 0 = λ l. Put a d (rows_text suite.printer l) in
         let Q : List PrintedRow → Type 0 = λ l. HasCounted u suite.filtered_out l in
-        let push = rows_at-push (labels_of suite.trials) so_far.placed info o here in
         record {
           placed = so_far.placed ++ (length so_far.placed, o) ∷ [];
           ordered = InOrder-push so_far.placed o so_far.ordered;
           all = one_more;
           own = all_own;
-          text = subst P push (Put-row suite.printer rows info o a b c d so_far.text announced ended);
-          tally = subst Q push (counted suite.filtered_out rows so_far.tally);
+          rows = so_far.rows ++ timed_row info o time ∷ [];
+          timed = all_timed;
+          text = Put-row suite.printer so_far.rows info o time a b c d so_far.text announced ended;
+          tally = subst Q (rows_at-push (labels_of suite.trials) so_far.placed info o here) (counted suite.filtered_out (rows_of suite so_far.placed) so_far.tally);
         }
 
     -- a fault in its outcome, with `m` trials left behind it
-    pub stopped_outcome : (m : ℕ) → length suite.trials ≡ count + suc m → Put b c (announcement_text suite.printer (label_of info)) → Stopped c d (outcome_text suite.printer (label_of info) o)
+    pub stopped_outcome : (m : ℕ) → length suite.trials ≡ count + suc m → Put b c (announcement_text suite.printer (label_of info)) → Stopped c d (timed_outcome_text suite.printer (label_of info) o time)
         → RowsStopped gives suite a d
     stopped_outcome m more announced ended =
-        let rows = rows_of suite so_far.placed in
-        let P : List PrintedRow → Type 0 = λ l. Stopped a d (rows_text suite.printer l) in
         let placed : List Placed = so_far.placed ++ (length so_far.placed, o) ∷ [] in
         record {
           placed = placed;
           left = range_with_len (length placed) m;
           places = places-left placed (length suite.trials) m (InOrder-push so_far.placed o so_far.ordered) (omega (arith, more, one_more));
           own = all_own;
-          text = Stopped-more _ _ (subst P (rows_at-push (labels_of suite.trials) so_far.placed info o here) (Stopped-row suite.printer rows info o a b c d so_far.text announced ended));
+          rows = so_far.rows ++ timed_row info o time ∷ [];
+          timed = all_timed;
+          text = Stopped-more _ _ (Stopped-row suite.printer so_far.rows info o time a b c d so_far.text announced ended);
         }
 
   -- a fault in the announcement of the next trial
@@ -216,6 +229,8 @@ module _ {R : Type 0} (gives : Gives R) where
         left = range_with_len (length so_far.placed) (suc m);
         places = places-left so_far.placed (length suite.trials) (suc m) so_far.ordered (omega (arith, more, so_far.all));
         own = so_far.own;
+        rows = so_far.rows;
+        timed = so_far.timed;
         text = Put-Stopped _ _ so_far.text (subst P (label ∙ ap (label_at (labels_of suite.trials)) (sym so_far.all)) announced);
       }
 

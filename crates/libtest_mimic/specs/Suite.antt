@@ -1,6 +1,6 @@
 -- The suite that a run goes through: the trials that are selected of those handed in, and how their report is printed.
-use Rattle.std.specs.Prelude.{◌≡◌, ℕ, ◌-◌, ◌^◌, ◌<◌, ◌&&◌, Bool, true, false, IsSomeAnd, List, [], ◌∷◌, length, None, Option}
-use Rattle.std.specs.List.{range_with_len}
+use Rattle.std.specs.Prelude.{◌≡◌, ℕ, ◌-◌, ◌^◌, ◌<◌, ◌&&◌, Bool, true, false, IsSomeAnd, List, length, None, Option}
+use Rattle.std.specs.List.{AllZip, range_with_len}
 use Rattle.mimic_args.specs.declared.Arguments.{Arguments}
 use Rattle.mimic_args.specs.Arguments.{colours_of, format_of}
 use Rattle.mimic_printer.specs.declared.Printer.{Printer}
@@ -103,7 +103,4 @@ pub record IsTimed (asked : Bool) (plain row : PrintedRow) : Type 0 where
 
 -- the rows are these, one after another, each with a time as asked
 abbrev pub AreTimed : Bool → List PrintedRow → List PrintedRow → Type 0
-AreTimed asked [] [] = Unit {0}
-AreTimed asked [] (row ∷ rows) = ⊥
-AreTimed asked (plain ∷ plains) [] = ⊥
-AreTimed asked (plain ∷ plains) (row ∷ rows) = IsTimed asked plain row × AreTimed asked plains rows
+AreTimed asked plains rows = AllZip (IsTimed asked) plains rows

@@ -50,9 +50,9 @@ module _ {R : Type 0} (gives : Gives R) where
       → old.bytes ≡ Some [] → new.bytes ≡ Some bytes → OfSuite args false trials (λ suite. ReportedBy gives 1 suite old new watch c) → IsRead gives args trials watch c bytes
   run_is_read args trials old new watch c bytes format few empty full (selected, selection, (placed, ordered, some, report)) =
       let suite = suite_of args false selected (length trials - length selected) in
-      let rows : List PrintedRow = rows_of suite placed in
+      let rows : List PrintedRow = report.rows in
       let x = suite.filtered_out in
-      let spelled = run_json gives args selected suite.printer placed x report.nanos format report.arranged.own (omega arith) report.fits in
+      let spelled = run_json gives args selected suite.printer placed rows x report.nanos format report.arranged.own report.timed (omega arith) report.fits in
       let same : bytes ≡ report_text suite.printer rows x report.nanos = appended bytes _ old.bytes new.bytes empty full report.appended.appended in
       record {
         report = contents_of_rows rows x report.nanos;
@@ -63,7 +63,7 @@ module _ {R : Type 0} (gives : Gives R) where
           placed = placed;
           in_order = ordered refl;
           arranged = report.arranged;
-          rows = refl;
+          rows = report.timed;
           filtered_out = refl;
           elapsed = report.elapsed;
           counts = report.counts;

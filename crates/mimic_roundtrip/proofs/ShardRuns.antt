@@ -1,10 +1,10 @@
 -- What a run writes, in whatever order, is a report of the trials that it was given.
-use Rattle.std.proofs.Common.{All, ◌≡◌, ℕ, ◌+◌, ◌%◌, cond, eqb, true, false, Bool, List, [], ◌∷◌, ◌++◌, None, Some, get_or, map, length, length-append, refl, set, sym, ap, ap₂, subst, ◌∙◌, arith, append_assoc}
+use Rattle.std.proofs.Common.{All, ◌≡◌, ◌&&◌, ℕ, ◌+◌, ◌%◌, cond, eqb, true, false, Bool, List, [], ◌∷◌, ◌++◌, None, Some, get_or, map, length, length-append, refl, set, sym, ap, ap₂, subst, ◌∙◌, arith, append_assoc}
 use Rattle.std.specs.Prelude.{IsPermutation, IsSomeAnd, slice_get, swap}
 use Rattle.std.specs.List.{AllZip, range_with_len}
 use Rattle.std.proofs.Math.ListN.{get_or-map}
 use Rattle.std.proofs.lemmas.List.{length-map, map-set}
-use Rattle.std.proofs.lemmas.List.Elements.{All-cons, All-head, All-tail}
+use Rattle.std.proofs.lemmas.List.Elements.{All-cons, All-head, All-nil, All-tail}
 use Rattle.std.proofs.lemmas.List.Sorted.{All-permutation, IsPermutation-keeps, IsPermutation-map, IsPermutation-refl, IsPermutation-swap, IsPermutation-trans}
 use Rattle.libtest_mimic.specs.Arrangement.{IsOwn, IsOwnAt}
 use Rattle.mimic_args.specs.declared.Arguments.{Arguments}
@@ -13,7 +13,8 @@ use Rattle.mimic_trial.specs.declared.trial.Trial.{Trial}
 use Rattle.mimic_trial.specs.Places.{Placed, places_of}
 use Rattle.mimic_trial.specs.Promise.{Gives}
 use Rattle.mimic_trial.specs.Trial.{info_of}
-use Rattle.mimic_printer.specs.Row.{label_at, label_of, labels_of, rows_at}
+use Rattle.mimic_printer.specs.Row.{Label, PrintedRow, label_at, label_of, labels_of, rows_at}
+use Rattle.libtest_mimic.specs.Suite.{AreTimed, IsTime, IsTimed, has_time}
 use Rattle.mimic_trial.specs.Shard.{shard_from, shard_of}
 use Rattle.std.specs.Prelude.{Err, IfOk, Ok, Result}
 use Rattle.libtest_mimic.specs.Stopwatch.{Watched}
@@ -56,34 +57,68 @@ module _ {R : Type 0} (gives : Gives R) (args : Arguments) where
   own-seam : (front rest : List (Trial R)) (t : Trial R) (o : Outcome) → IsOwnAt gives args (front ++ (t ∷ rest)) (length front, o) → IsOwn gives args t o
   own-seam front rest t o own = subst (λ s. IsSomeAnd s (λ x. IsOwn gives args x o)) (slice_get-seam front rest t) own
 
-  rows_in_order : (front rest all : List (Trial R)) (placed : List Placed) → front ++ rest ≡ all → places_of placed ≡ range_with_len (length front) (length rest) → All (IsOwnAt gives args all) placed
-      → AllZip (IsEntryOf gives args) rest (rows_at (labels_of all) placed)
-  rows_in_order front [] all [] e p own = tt
-  rows_in_order front [] all (q ∷ placed) e p own = absurd (cc)
-  rows_in_order front (t ∷ rest) all [] e p own = absurd (cc)
-  rows_in_order front (t ∷ rest) all ((n, o) ∷ placed) e p own =
+  -- a row that was printed of an outcome at a place
+  abbrev Printed : Type 0
+  Printed = Placed × PrintedRow
+
+  -- which is own there
+  abbrev IsPrinted : List (Trial R) → Printed → Type 0
+  IsPrinted all p = IsOwnAt gives args all p.0 × IsTimed args.report_time (record { label = label_at (labels_of all) p.0.0; outcome = p.0.1; nanos = None }) p.1
+
+  abbrev places_printed : List Printed → List ℕ
+  places_printed printed = map (λ p. p.0.0) printed
+
+  -- rows and what they are printed of, in pairs
+  paired : (all : List (Trial R)) (placed : List Placed) (rows : List PrintedRow) → All (IsOwnAt gives args all) placed → AreTimed args.report_time (rows_at (labels_of all) placed) rows
+      → (printed : List Printed) × All (IsPrinted all) printed × (places_printed printed ≡ places_of placed) × (map (λ p. p.1) printed ≡ rows)
+  paired all [] [] own timed = ([], All-nil (IsPrinted all), refl, refl)
+  paired all [] (row ∷ rows) own timed = absurd timed
+  paired all (q ∷ placed) [] own timed = absurd timed
+  paired all (q ∷ placed) (row ∷ rows) own timed =
+      let rest = paired all placed rows (All-tail (IsOwnAt gives args all) q placed own) timed.1 in (
+        (q, row) ∷ rest.0,
+        All-cons (IsPrinted all) (q, row) rest.0 (All-head (IsOwnAt gives args all) q placed own, timed.0) rest.1,
+        ap (λ l. q.0 ∷ l) rest.2,
+        ap (λ l. row ∷ l) rest.3,
+      )
+
+  entry_of : (t : Trial R) (o : Outcome) (label : Label) (row : PrintedRow) → label ≡ label_of (info_of t) → IsOwn gives args t o → IsTimed args.report_time (record { label = label; outcome = o; nanos = None }) row → IsEntryOf gives args t row
+  entry_of t o label row e own timed = (
+    timed.label ∙ e,
+    subst (IsOwn gives args t) (sym timed.outcome) own,
+    subst (λ (x : Outcome). IsTime (args.report_time && has_time x) row.nanos) (sym timed.outcome) timed.time,
+  )
+
+  rows_in_order : (front rest all : List (Trial R)) (printed : List Printed) → front ++ rest ≡ all → places_printed printed ≡ range_with_len (length front) (length rest) → All (IsPrinted all) printed
+      → AllZip (IsEntryOf gives args) rest (map (λ p. p.1) printed)
+  rows_in_order front [] all [] e p are = tt
+  rows_in_order front [] all (q ∷ printed) e p are = absurd (cc)
+  rows_in_order front (t ∷ rest) all [] e p are = absurd (cc)
+  rows_in_order front (t ∷ rest) all (((n, o), row) ∷ printed) e p are =
       let at : length front ≡ n = cc in
-      let more : places_of placed ≡ range_with_len (length front + 1) (length rest) = cc in
+      let more : places_printed printed ≡ range_with_len (length front + 1) (length rest) = cc in
+      let first : IsPrinted all ((n, o), row) = All-head (IsPrinted all) ((n, o), row) printed are in
       let label : label_at (labels_of all) n ≡ label_of (info_of t) = subst (λ l. label_at (labels_of l) n ≡ label_of (info_of t)) e (subst (λ k. label_at (labels_of (front ++ (t ∷ rest))) k ≡ label_of (info_of t)) at (label_at-seam front rest t)) in
       let here : IsOwnAt gives args (front ++ (t ∷ rest)) (length front, o) =
-      subst (λ l. IsOwnAt gives args l (length front, o)) (sym e) (subst (λ k. IsOwnAt gives args all (k, o)) (sym at) (All-head (IsOwnAt gives args all) (n, o) placed own)) in
+      subst (λ l. IsOwnAt gives args l (length front, o)) (sym e) (subst (λ k. IsOwnAt gives args all (k, o)) (sym at) first.0) in
       let next : length (front ++ t ∷ []) ≡ length front + 1 = length-append front (t ∷ []) in (
-        (label, own-seam front rest t o here),
-        rows_in_order (front ++ t ∷ []) rest all placed (append_assoc front (t ∷ []) rest ∙ e) (more ∙ ap (λ k. range_with_len k (length rest)) (sym next)) (All-tail (IsOwnAt gives args all) (n, o) placed own),
+        entry_of t o _ row label (own-seam front rest t o here) first.1,
+        rows_in_order (front ++ t ∷ []) rest all printed (append_assoc front (t ∷ []) rest ∙ e) (more ∙ ap (λ k. range_with_len k (length rest)) (sym next)) (All-tail (IsPrinted all) ((n, o), row) printed are),
       )
 
 pub runs_report : {R : Type 0} (gives : Gives R) → RunsReport gives
 runs_report gives args trials selected placed report selection arranged rows filtered_out =
-    let sorted = lifted (λ (p : Placed). p.0) placed (range_with_len 0 (length selected)) arranged.places in
-    let own : All (IsOwnAt gives args selected) sorted.0 = All-permutation (IsOwnAt gives args selected) placed sorted.0 sorted.1 arranged.own in
-    let labels = labels_of selected in
-    let same : IsPermutation (rows_at labels placed) (rows_at labels sorted.0) = IsPermutation-map (λ (p : Placed). record { label = label_at labels p.0; outcome = p.1; nanos = None }) placed sorted.0 sorted.1 in
+    let printed = paired gives args selected placed report.entries arranged.own rows in
+    let places : IsPermutation (places_printed printed.0) (range_with_len 0 (length selected)) = subst (λ l. IsPermutation l (range_with_len 0 (length selected))) (sym printed.2) arranged.places in
+    let sorted = lifted (λ (p : Printed). p.0.0) printed.0 (range_with_len 0 (length selected)) places in
+    let are : All (IsPrinted gives args selected) sorted.0 = All-permutation (IsPrinted gives args selected) printed.0 sorted.0 sorted.1 printed.1 in
+    let row_of_pair : Printed → PrintedRow = λ p. p.1 in
     record {
       selected = selected;
       selection = selection;
-      entries = rows_at labels sorted.0;
-      own = rows_in_order gives args [] selected selected sorted.0 refl sorted.2 own;
-      order = subst (λ l. IsPermutation l (rows_at labels sorted.0)) (sym rows) same;
+      entries = map row_of_pair sorted.0;
+      own = rows_in_order gives args [] selected selected sorted.0 refl sorted.2 are;
+      order = subst (λ l. IsPermutation l (map row_of_pair sorted.0)) printed.3 (IsPermutation-map row_of_pair printed.0 sorted.0 sorted.1);
       filtered_out = filtered_out;
     }
 

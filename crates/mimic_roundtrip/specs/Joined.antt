@@ -1,7 +1,7 @@
 -- What the runs of all shards report of the whole list of trials, and their joined report.
-use Rattle.std.specs.Prelude.{◌≡◌, ℕ, ◌<◌, List, map, IsPermutation}
+use Rattle.std.specs.Prelude.{◌≡◌, ◌&&◌, ℕ, ◌<◌, List, map, IsPermutation}
 use Rattle.std.specs.List.{AllZip, range_with_len}
-use Rattle.libtest_mimic.specs.Suite.{filtered_out_of}
+use Rattle.libtest_mimic.specs.Suite.{AreTimed, IsTime, filtered_out_of, has_time}
 use Rattle.libtest_mimic.specs.Arrangement.{IsArrangement, IsOwn}
 use Rattle.libtest_mimic.specs.Selection.{IsSelection}
 use Rattle.mimic_args.specs.declared.Arguments.{Arguments}
@@ -28,9 +28,10 @@ SelectsShards R = (args : Arguments) (count : ℕ) (trials selected : List (Tria
     → IsSelection args trials selected → IsPermutation (all_of selections) selected
 
 module _ {R : Type 0} (gives : Gives R) where
-  -- the entry has the trial's name and kind, and an own outcome of it
+  -- the entry has the trial's name and kind, an own outcome of it, and a time if times are asked for and the outcome has one
   abbrev pub IsEntryOf : Arguments → Trial R → Entry → Type 0
   IsEntryOf args trial entry = (entry.label ≡ label_of (info_of trial)) × IsOwn gives args trial entry.outcome
+      × IsTime (args.report_time && has_time entry.outcome) entry.nanos
 
   -- a report of these trials: in some order an entry of each selected trial, each once, and the number of the others
   pub record ReportsTrials (args : Arguments) (trials : List (Trial R)) (report : Contents) : Type 0 where
@@ -45,7 +46,7 @@ module _ {R : Type 0} (gives : Gives R) where
   abbrev pub RunsReport : Type 0
   RunsReport = (args : Arguments) (trials selected : List (Trial R)) (placed : List Placed) (report : Contents)
       → IsSelection args trials selected → IsArrangement gives args selected placed
-      → report.entries ≡ rows_at (labels_of selected) placed → report.filtered_out ≡ filtered_out_of trials selected
+      → AreTimed args.report_time (rows_at (labels_of selected) placed) report.entries → report.filtered_out ≡ filtered_out_of trials selected
       → ReportsTrials args trials report
 
   -- The law from end to end: if for each shard there is a report of its trials, the joined report is one of all trials.

@@ -9,7 +9,8 @@ takers_of-requires-clause-held g c =
 
 pub returns : goal.returns
 returns g c = record {
-  inbox = c.in_ok-inbox.ensures ∙ ap (empty_board c.args.count) (sym c.in_ok-starts.ensures.len);
+  inbox = c.in_ok-inbox.ensures.board ∙ ap (empty_board c.args.count) (sym c.in_ok-starts.ensures.len);
+  timed = c.in_ok-inbox.ensures.timed;
   ready = λ trials fits held. c.in_ok-starts.ensures.ready trials fits
       (c.in_ok-flush.ensures.put trials held.filling).filling;
 }

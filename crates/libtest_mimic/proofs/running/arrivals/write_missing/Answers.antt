@@ -1,12 +1,19 @@
-use Rattle.std.proofs.Common.{◌≡◌, ◌+◌, ◌-◌, ◌<◌, ℕ, List, ap, arith, drop, length, map, rules, subst, take}
+use Rattle.std.proofs.Common.{[], ◌≡◌, ◌+◌, ◌-◌, ◌<◌, ℕ, ap, arith, drop, length, map, refl, rules, subst, take}
 use Rattle.std.proofs.lemmas.List.{length-drop, length-map, take_all}
 use Rattle.mimic_trial.specs.Places.{Placed}
-use Rattle.mimic_printer.specs.Report.{row_text, rows_text}
-use Rattle.mimic_printer.specs.Row.{label_of, row_of, rows_at}
-use Rattle.mimic_printer.specs.Sink.{Put, Stopped, shown}
-use Rattle.mimic_printer.proofs.Appending.{Put-next, Puts-stopped, Stopped-next}
-use Rattle.libtest_mimic.proofs.ArrivedRows.{count_rows_at, place_below, row_from}
+use Rattle.mimic_printer.specs.Row.{PrintedRow, label_of, row_of, rows_at, timed_row}
+use Rattle.mimic_printer.specs.Sink.{Put, shown}
+use Rattle.mimic_printer.proofs.Appending.{Put-refl}
+use Rattle.mimic_pool.specs.Inbox.{is_timed}
+use Rattle.libtest_mimic.specs.Suite.{AreTimed, IsTimed}
+use Rattle.libtest_mimic.proofs.ArrivedRows.{AreWritten, count_rows_at, next_stopped, next_written, on_fault, place_below, row_from, shown_time}
 use Rattle.libtest_mimic.proofs.running.arrivals.write_missing.Goals as goal
+
+pub loop-number-init : goal.loop-number-init
+loop-number-init g c = record {
+  from = search rules;
+  written = ([], tt, Put-refl (shown g.W.Write.contents c.args.sink.now));
+}
 
 pub offset_bounds-infos-place : goal.offset_bounds-infos-place
 offset_bounds-infos-place g c =
@@ -15,33 +22,42 @@ offset_bounds-infos-place g c =
 pub bounds-infos-place : goal.bounds-infos-place
 bounds-infos-place g c = place_below _ _ c.loop-number.number _ c.requires.places c.row-place.ensures
 
-pub returns-in_err-print_row : goal.returns-in_err-print_row
-returns-in_err-print_row g c =
+pub returns-in_err-print_timed_row : goal.returns-in_err-print_timed_row
+returns-in_err-print_timed_row g c =
+    let asked = is_timed c.args.inbox.now in
     let rows = rows_at (map label_of c.args.infos.now) c.args.desk.now.rows in
     let info = c.index-infos-place.result in
+    let o = c.row-place.result.1.now in
     let low = place_below _ _ c.loop-number.number _ c.requires.places c.row-place.ensures in
-    let row = row_from c.args.infos.now c.args.desk.now.rows c.loop-number.number _ _ info c.row-place.ensures low c.index-infos-place.is c.args.first (row_of info c.row-place.result.1.now) c.loop-number.invariant.from in
+    let row = row_from c.args.infos.now c.args.desk.now.rows c.loop-number.number _ _ info c.row-place.ensures low c.index-infos-place.is c.args.first (row_of info o) c.loop-number.invariant.from in
     let within : c.loop-number.number - c.args.first < length (drop c.args.first rows) = omega (arith, c.loop-number.invariant.from, c.loop-number-test.true, ap length c.order-number-end.ensures.places, length-map c.args.desk.now.rows (λ (r : Placed). r.0), length-drop c.args.first rows, count_rows_at (map label_of c.args.infos.now) c.args.desk.now.rows) in
-    let P : List ℕ → Type 0 = λ l. Stopped (shown g.W.Write.contents c.loop-number.sink) (shown g.W.Write.contents c.print_row.new.sink) l in
-    Puts-stopped _ c.from_residual.result c.from_residual.ensures.0
-    (Stopped-next (row_text c.args.printer.now) (drop c.args.first rows) (c.loop-number.number - c.args.first) _ within c.loop-number.invariant.text (subst P (ap (row_text c.args.printer.now) row) c.in_err-print_row.ensures))
+    let fits = shown_time asked _ _ o c.time_shown-nanos.result c.time.ensures refl c.time_shown-nanos.ensures in
+    let printed : PrintedRow = timed_row info o c.time_shown-nanos.result in
+    let P : PrintedRow → Type 0 = λ plain. IsTimed asked plain printed in
+    on_fault c.args.printer.now (λ l. AreTimed asked (drop c.args.first rows) l) _ _ c.from_residual.result c.from_residual.ensures.0
+    (next_stopped asked c.args.printer.now (drop c.args.first rows) (c.loop-number.number - c.args.first) (row_of info o) printed within (subst P row (record { label = refl; outcome = refl; time = fits })) _ _ _ c.loop-number.invariant.written c.in_err-print_timed_row.ensures)
 
 pub loop-number-preserved : goal.loop-number-preserved
 loop-number-preserved g c =
+    let asked = is_timed c.args.inbox.now in
     let rows = rows_at (map label_of c.args.infos.now) c.args.desk.now.rows in
     let info = c.index-infos-place.result in
+    let o = c.row-place.result.1.now in
     let low = place_below _ _ c.loop-number.number _ c.requires.places c.row-place.ensures in
-    let row = row_from c.args.infos.now c.args.desk.now.rows c.loop-number.number _ _ info c.row-place.ensures low c.index-infos-place.is c.args.first (row_of info c.row-place.result.1.now) c.loop-number.invariant.from in
+    let row = row_from c.args.infos.now c.args.desk.now.rows c.loop-number.number _ _ info c.row-place.ensures low c.index-infos-place.is c.args.first (row_of info o) c.loop-number.invariant.from in
     let within : c.loop-number.number - c.args.first < length (drop c.args.first rows) = omega (arith, c.loop-number.invariant.from, c.loop-number-test.true, ap length c.order-number-end.ensures.places, length-map c.args.desk.now.rows (λ (r : Placed). r.0), length-drop c.args.first rows, count_rows_at (map label_of c.args.infos.now) c.args.desk.now.rows) in
-    let P : List ℕ → Type 0 = λ l. Put (shown g.W.Write.contents c.loop-number.sink) (shown g.W.Write.contents c.print_row.new.sink) l in
-    let next = Put-next (row_text c.args.printer.now) (drop c.args.first rows) (c.loop-number.number - c.args.first) _ within c.loop-number.invariant.text (subst P (ap (row_text c.args.printer.now) row) c.in_ok-print_row.ensures) in
+    let fits = shown_time asked _ _ o c.time_shown-nanos.result c.time.ensures refl c.time_shown-nanos.ensures in
+    let printed : PrintedRow = timed_row info o c.time_shown-nanos.result in
+    let P : PrintedRow → Type 0 = λ plain. IsTimed asked plain printed in
+    let next = next_written asked c.args.printer.now (drop c.args.first rows) (c.loop-number.number - c.args.first) (row_of info o) printed within (subst P row (record { label = refl; outcome = refl; time = fits })) _ _ _ c.loop-number.invariant.written c.in_ok-print_timed_row.ensures in
     let more : c.loop-number.number - c.args.first + 1 ≡ c.loop-number.number + 1 - c.args.first = omega (arith, c.loop-number.invariant.from) in
-    let Q : ℕ → Type 0 = λ n. Put (shown g.W.Write.contents c.args.sink.now) (shown g.W.Write.contents c.print_row.new.sink) (rows_text c.args.printer.now (take n (drop c.args.first rows))) in
-    record { from = omega (arith, c.loop-number.invariant.from); text = subst Q more next }
+    let Q : ℕ → Type 0 = λ n. AreWritten asked c.args.printer.now (drop c.args.first rows) n (shown g.W.Write.contents c.args.sink.now) (shown g.W.Write.contents c.print_timed_row.new.sink) in
+    record { from = omega (arith, c.loop-number.invariant.from); written = subst Q more next }
 
 pub returns : goal.returns
 returns g c =
+    let asked = is_timed c.args.inbox.now in
     let rows = rows_at (map label_of c.args.infos.now) c.args.desk.now.rows in
+    let written = c.loop-number.invariant.written in
     let all = take_all (c.loop-number.number - c.args.first) (drop c.args.first rows) (omega (arith, c.loop-number-test.false, ap length c.order-number-end.ensures.places, length-map c.args.desk.now.rows (λ (r : Placed). r.0), length-drop c.args.first rows, count_rows_at (map label_of c.args.infos.now) c.args.desk.now.rows)) in
-    let P : List ℕ → Type 0 = λ l. Put (shown g.W.Write.contents c.args.sink.now) (shown g.W.Write.contents c.loop-number.sink) l in
-    subst P (ap (rows_text c.args.printer.now) all) c.loop-number.invariant.text
+    (written.0, subst (λ l. AreTimed asked l written.0) all written.1, written.2)

@@ -6,9 +6,12 @@ use Rattle.mimic_pool.specs.Joined.{put_each}
 use Rattle.mimic_pool.specs.Rows.{rows_in}
 use Rattle.mimic_pool.specs.Share.{assigned_from}
 use Rattle.mimic_pool.specs.Supply.{Runs, runs_all}
-use Rattle.mimic_printer.specs.Sink.{Put, Writes, shown}
+use Rattle.mimic_printer.specs.Report.{rows_text}
+use Rattle.mimic_printer.specs.Row.{PrintedRow}
+use Rattle.mimic_printer.specs.Sink.{Writes, shown}
 use Rattle.libtest_mimic.specs.Gathering.{Gathered}
-use Rattle.libtest_mimic.specs.Steps.{arrived_text}
+use Rattle.mimic_pool.specs.Inbox.{is_timed}
+use Rattle.libtest_mimic.specs.Steps.{AreArrived, PutsArrived, WritesArrived, WritesFrom}
 use Rattle.libtest_mimic.proofs.Arranged.{order_below}
 use Rattle.libtest_mimic.proofs.Gathering.{completed_gathered, differs_refused, nothing_arrived, on_error, or_true, outcomes_count, put_all, stopped_missing, arrival_refused}
 use Rattle.libtest_mimic.proofs.Returned.{all_gathered}
@@ -22,18 +25,20 @@ places g c = c.write_arrivals-written.ensures.places ∙ ap (λ d. d.places) c.r
 
 -- the rows that arrived were written, or a beginning of them
 arrived : (g : Over) (c : After-write_arrivals-written g)
-    → Writes (shown g.W.Write.contents c.args.sink.now) (shown g.W.Write.contents c.write_arrivals-written.new.sink) (arrived_text c.args.printer.now c.args.infos.now c.write_arrivals-written.new.desk) c.write_arrivals-written.result
+    → WritesArrived (is_timed c.args.started.inbox) c.args.printer.now c.args.infos.now c.write_arrivals-written.new.desk (shown g.W.Write.contents c.args.sink.now) (shown g.W.Write.contents c.write_arrivals-written.new.sink) c.write_arrivals-written.result
 arrived g c =
     let before = shown g.W.Write.contents c.args.sink.now in
-    c.write_arrivals-written.ensures.arrived before (nothing_arrived c.args.printer.now c.args.infos.now _ _ c.requires.ready.desk before)
+    c.write_arrivals-written.ensures.arrived before (nothing_arrived (is_timed c.args.started.inbox) c.args.printer.now c.args.infos.now _ _ c.requires.ready.desk before)
 
 -- if no write failed, they were written
 all_arrived : (g : Over) (c : In_ok-written g)
-    → Put (shown g.W.Write.contents c.args.sink.now) (shown g.W.Write.contents c.write_arrivals-written.new.sink) (arrived_text c.args.printer.now c.args.infos.now c.write_arrivals-written.new.desk)
+    → PutsArrived (is_timed c.args.started.inbox) c.args.printer.now c.args.infos.now c.write_arrivals-written.new.desk (shown g.W.Write.contents c.args.sink.now) (shown g.W.Write.contents c.write_arrivals-written.new.sink)
 all_arrived g c =
     let before = shown g.W.Write.contents c.args.sink.now in
-    subst (λ r. Writes before (shown g.W.Write.contents c.write_arrivals-written.new.sink) (arrived_text c.args.printer.now c.args.infos.now c.write_arrivals-written.new.desk) r)
-    c.in_ok-written.was (c.write_arrivals-written.ensures.arrived before (nothing_arrived c.args.printer.now c.args.infos.now _ _ c.requires.ready.desk before))
+    let after = shown g.W.Write.contents c.write_arrivals-written.new.sink in
+    let asked = is_timed c.args.started.inbox in
+    subst (λ r. WritesArrived asked c.args.printer.now c.args.infos.now c.write_arrivals-written.new.desk before after r)
+    c.in_ok-written.was (c.write_arrivals-written.ensures.arrived before (nothing_arrived asked c.args.printer.now c.args.infos.now _ _ c.requires.ready.desk before))
 
 -- then each trial has an outcome
 gathered : (g : Over) (c : In_ok-written g) (mode : Bool) (rs : List _) (bs : List Bool) → length rs ≡ length c.args.infos.now → length bs ≡ length c.args.infos.now
@@ -51,23 +56,25 @@ pub returns-in_err-complete-clause-rows : goal.returns-in_err-complete-clause-ro
 returns-in_err-complete-clause-rows g c = λ rs bs mode runners flags runs.
     let arrivals = (goal.at.returns-in_err-complete-clause-rows g c).After-write_arrivals-written in
     on_error c.from_residual.result _ _ _ c.from_residual.ensures.1
-    (differs_refused g.R.Task.gives mode rs bs (runs_all c.args.started.crew) c.is_ok-whole.result c.write_arrivals-written.result c.args.printer.now c.args.infos.now _ _ _ _ (places g arrivals)
+    (differs_refused g.R.Task.gives mode rs bs (runs_all c.args.started.crew) c.is_ok-whole.result (is_timed c.args.started.inbox) c.write_arrivals-written.result c.args.printer.now c.args.infos.now _ _ _ _ (places g arrivals)
     c.is_ok-whole.ensures.value c.order-arrived.ensures.whole (arrived g arrivals) (c.join_all-joined.ensures.joined mode _ runs) _ c.in_err-complete.ensures.completed)
 
 pub returns-in_err-written-clause-rows : goal.returns-in_err-written-clause-rows
 returns-in_err-written-clause-rows g c = λ rs bs mode runners flags runs.
     let arrivals = (goal.at.returns-in_err-written-clause-rows g c).After-write_arrivals-written in
     let before = shown g.W.Write.contents c.args.sink.now in
-    let stopped = subst (λ r. Writes before (shown g.W.Write.contents c.write_arrivals-written.new.sink) (arrived_text c.args.printer.now c.args.infos.now c.write_arrivals-written.new.desk) r) c.in_err-written.was (arrived g arrivals) in
+    let after = shown g.W.Write.contents c.write_arrivals-written.new.sink in
+    let asked = is_timed c.args.started.inbox in
+    let stopped = subst (λ r. WritesArrived asked c.args.printer.now c.args.infos.now c.write_arrivals-written.new.desk before after r) c.in_err-written.was (arrived g arrivals) in
     let part : c.is_ok-whole.result ≡ false = c.is_ok-whole.ensures.value ∙ ap is_ok c.in_err-written.was in
     on_error c.from_residual-in_err-written.result _ _ _ c.from_residual-in_err-written.ensures.1
-    (arrival_refused g.R.Task.gives mode rs bs (runners ∙ sym flags) c.args.printer.now c.args.infos.now (runs_all c.args.started.crew) c.is_ok-whole.result _ _ _ c.in_ok-complete.ensures.completed part
+    (arrival_refused g.R.Task.gives mode rs bs (runners ∙ sym flags) asked c.args.printer.now c.args.infos.now (runs_all c.args.started.crew) c.is_ok-whole.result _ _ _ c.in_ok-complete.ensures.completed part
     (c.join_all-joined.ensures.joined mode _ runs) (places g arrivals ∙ sym runners) before _ stopped)
 
 pub write_missing-requires-clause-room : goal.write_missing-requires-clause-room
 write_missing-requires-clause-room g c =
     let put = all_arrived g (goal.at.write_missing-requires-clause-room g c).In_ok-written in
-    omega (arith, put.faults, c.requires.room)
+    omega (arith, put.2.faults, c.requires.room)
 
 pub write_missing-requires-clause-places : goal.write_missing-requires-clause-places
 write_missing-requires-clause-places g c =
@@ -85,12 +92,18 @@ returns-in_err-write_missing-clause-rows g c = λ rs bs mode runners flags runs.
     let whole = (goal.at.returns-in_err-write_missing-clause-rows g c).In_ok-written in
     let done = c.in_ok-complete.ensures.completed in
     let count = ap length c.order-arrived.ensures.places ∙ length-map c.write_arrivals-written.new.desk.rows (λ r. r.0) in
+    let asked = is_timed c.args.started.inbox in
+    let same = c.write_arrivals-written.ensures.timed in
+    let missing = subst (λ b. WritesFrom c.len-arrived.result b c.args.printer.now c.args.infos.now c.complete.new.desk (shown g.W.Write.contents c.write_arrivals-written.new.sink) (shown g.W.Write.contents c.write_missing.new.sink) c.write_missing.result) same c.in_err-write_missing.ensures in
+    let stopped = stopped_missing asked c.args.printer.now c.args.infos.now _ _ _ _ done _ _ _ (all_arrived g whole) _ count missing in
     on_error c.from_residual-in_err-write_missing.result _ _ _ c.from_residual-in_err-write_missing.ensures.1 (
       c.complete.new.desk.rows,
       [],
+      stopped.0,
       all_gathered g.R.Task.gives mode (assigned_from 0 rs bs) c.complete.new.desk.rows _ done.returned (gathered g whole mode rs bs runners flags runs),
       (λ _. refl),
-      stopped_missing c.args.printer.now c.args.infos.now _ _ _ _ done _ _ _ (all_arrived g whole) _ count c.in_err-write_missing.ensures,
+      stopped.1,
+      stopped.2,
     )
 
 pub returns-clause-rows : goal.returns-clause-rows
@@ -103,5 +116,5 @@ returns-clause-rows g c = λ rs bs mode runners flags runs.
         gathered = gathered g whole mode rs bs runners flags runs;
         rows = done.returned;
       },
-      put_all c.args.printer.now c.args.infos.now _ _ _ _ done _ _ _ (all_arrived g whole) _ count c.in_ok-write_missing.ensures,
+      put_all (is_timed c.args.started.inbox) c.args.printer.now c.args.infos.now _ _ _ _ done _ _ _ (all_arrived g whole) _ count (rw c.write_arrivals-written.ensures.timed at c.in_ok-write_missing.ensures),
     )

@@ -1,4 +1,4 @@
-use Rattle.std.proofs.Common.{◌≡◌, ◌∙◌, ◌++◌, ◌∷◌, [], refl, rules, ap, append_assoc, arith, length, length-append, subst, sym, vec_len}
+use Rattle.std.proofs.Common.{◌≡◌, ◌&&◌, ℕ, Bool, Option, ◌∙◌, ◌++◌, ◌∷◌, [], refl, rules, ap, append_assoc, arith, length, length-append, subst, sym, vec_len}
 use Rattle.std.proofs.lemmas.List.Elements.{All-nil}
 use Rattle.std.specs.Vec.Iter.{into_iter_items}
 use Rattle.mimic_printer.specs.Row.{label_of, labels_of}
@@ -7,7 +7,8 @@ use Rattle.mimic_printer.specs.Sink.{shown}
 use Rattle.mimic_printer.proofs.Appending.{Put-refl}
 use Rattle.libtest_mimic.specs.Arrangement.{IsOwnAt}
 use Rattle.libtest_mimic.specs.Steps.{suite_with}
-use Rattle.libtest_mimic.specs.Suite.{Suite}
+use Rattle.mimic_trial.specs.declared.outcome.Outcome.{Outcome}
+use Rattle.libtest_mimic.specs.Suite.{IsTime, Suite, has_time}
 use Rattle.libtest_mimic.proofs.RowsInOrder.{All-next, HasRoom-tally, HasRoomFor-tally, RowsRun-stopped, RowsSoFar-push, count_rows, label_at-next, longer, ran-next, stopped_announcement, stopped_outcome}
 use Rattle.libtest_mimic.proofs.running.in_order.run_rows.Goals as goal
 
@@ -23,26 +24,35 @@ loop-trial-init g c =
         ordered = refl;
         all = refl;
         own = All-nil (IsOwnAt g.R.Task.gives suite.args suite.trials);
+        rows = [];
+        timed = tt;
         text = Put-refl (shown g.W.Write.contents c.args.sink.now);
         tally = c.requires.empty;
       };
+      readings = refl;
     }
+
+-- a row has a time exactly if it is to have one
+fits : (here there : Bool) (o : Outcome) (time : Option ℕ) → there ≡ here → IsTime (there && has_time o) time → IsTime (here && has_time o) time
+fits here there o time e = subst (λ (b : Bool). IsTime (b && has_time o) time) e
 
 pub loop-trial-preserved : goal.loop-trial-preserved
 loop-trial-preserved g c =
     let seen = c.loop-trial.yielded in
     let suite : Suite _ = suite_with c.args.args.now c.args.trials.items c.args.printer.now c.args.tally.now in
     let ran = ran-next g.R.Task.gives suite.args seen _ _ suite.trials c.in-Some.trial c.in-Some.ensures.steps.0 c.loop-trial.invariant.seen _ _ _ _ c.into_parts-info.ensures.info c.into_parts-info.ensures.runner c.is_ignored-ignored.ensures c.run_unless-outcome.ensures in
-    let next = RowsSoFar-push g.R.Task.gives suite (length seen) _ _ _ (shown g.W.Write.contents c.print_single_outcome.new.sink) c.loop-trial.tally c.loop-trial.invariant.so_far c.into_parts-info.result.0 _ ran.0 ran.1
-    c.record.new.self c.in_ok-print_test.ensures c.in_ok-print_single_outcome.ensures c.record.ensures.counted in
+    let time = fits _ _ _ _ (c.elapsed.ensures.asked ∙ c.start-started.ensures.asked) c.time_shown-nanos.ensures in
+    let next = RowsSoFar-push g.R.Task.gives suite (length seen) _ _ _ (shown g.W.Write.contents c.print_timed_outcome.new.sink) c.loop-trial.tally c.loop-trial.invariant.so_far c.into_parts-info.result.0 _ c.time_shown-nanos.result ran.0 ran.1 time
+    c.record.new.self c.in_ok-print_test.ensures c.in_ok-print_timed_outcome.ensures c.record.ensures.counted in
     record {
       seen = append_assoc seen (c.in-Some.trial ∷ []) _ ∙ (ap (λ l. seen ++ l) (sym c.in-Some.ensures.steps.0) ∙ c.loop-trial.invariant.seen);
       room = c.record.ensures.room _ c.loop-trial.invariant.room;
       so_far = rw (length-append seen (c.in-Some.trial ∷ [])) next;
+      readings = c.elapsed.ensures.readings ∙ c.start-started.ensures.readings ∙ c.loop-trial.invariant.readings;
     }
 
-pub returns-in_err-print_test : goal.returns-in_err-print_test
-returns-in_err-print_test g c =
+pub returns-in_err-print_test-clause-rows : goal.returns-in_err-print_test-clause-rows
+returns-in_err-print_test-clause-rows g c =
     let told = shown g.W.Write.contents in
     let seen = c.loop-trial.yielded in
     let suite : Suite _ = suite_with c.args.args.now c.args.trials.items c.args.printer.now c.args.tally.now in
@@ -52,14 +62,15 @@ returns-in_err-print_test g c =
     (stopped_announcement g.R.Task.gives suite (length seen) _ _ (told c.print_test.new.sink) c.loop-trial.tally c.loop-trial.invariant.so_far c.into_parts-info.result.0 _
     label (longer seen _ suite.trials c.in-Some.trial split) c.in_err-print_test.ensures)
 
-pub returns-in_err-print_single_outcome : goal.returns-in_err-print_single_outcome
-returns-in_err-print_single_outcome g c =
+pub returns-in_err-print_timed_outcome-clause-rows : goal.returns-in_err-print_timed_outcome-clause-rows
+returns-in_err-print_timed_outcome-clause-rows g c =
     let seen = c.loop-trial.yielded in
     let suite : Suite _ = suite_with c.args.args.now c.args.trials.items c.args.printer.now c.args.tally.now in
     let ran = ran-next g.R.Task.gives suite.args seen _ _ suite.trials c.in-Some.trial c.in-Some.ensures.steps.0 c.loop-trial.invariant.seen _ _ _ _ c.into_parts-info.ensures.info c.into_parts-info.ensures.runner c.is_ignored-ignored.ensures c.run_unless-outcome.ensures in
-    RowsRun-stopped g.R.Task.gives suite _ _ _ c.from_residual-in_err-print_single_outcome.result c.from_residual-in_err-print_single_outcome.ensures.0
-    (stopped_outcome g.R.Task.gives suite (length seen) _ _ _ (shown g.W.Write.contents c.print_single_outcome.new.sink) c.loop-trial.tally c.loop-trial.invariant.so_far c.into_parts-info.result.0 _ ran.0 ran.1 _
-    (longer seen _ suite.trials c.in-Some.trial (ap (λ l. seen ++ l) (sym c.in-Some.ensures.steps.0) ∙ c.loop-trial.invariant.seen)) c.in_ok-print_test.ensures c.in_err-print_single_outcome.ensures)
+    let time = fits _ _ _ _ (c.elapsed.ensures.asked ∙ c.start-started.ensures.asked) c.time_shown-nanos.ensures in
+    RowsRun-stopped g.R.Task.gives suite _ _ _ c.from_residual-in_err-print_timed_outcome.result c.from_residual-in_err-print_timed_outcome.ensures.0
+    (stopped_outcome g.R.Task.gives suite (length seen) _ _ _ (shown g.W.Write.contents c.print_timed_outcome.new.sink) c.loop-trial.tally c.loop-trial.invariant.so_far c.into_parts-info.result.0 _ c.time_shown-nanos.result ran.0 ran.1 time _
+    (longer seen _ suite.trials c.in-Some.trial (ap (λ l. seen ++ l) (sym c.in-Some.ensures.steps.0) ∙ c.loop-trial.invariant.seen)) c.in_ok-print_test.ensures c.in_err-print_timed_outcome.ensures)
 
 pub run_unless-outcome-requires : goal.run_unless-outcome-requires
 run_unless-outcome-requires g c =
@@ -80,8 +91,8 @@ record-requires-clause-room g c =
     HasRoomFor-tally c.loop-trial.tally _ _ (vec_len c.args.trials) so_far.tally c.loop-trial.invariant.room
     (omega (arith, count_rows (labels_of c.args.trials.items) so_far.placed, so_far.all, longer c.loop-trial.yielded _ c.args.trials.items c.in-Some.trial split, c.args.trials.ok.0))
 
-pub returns : goal.returns
-returns g c =
+pub returns-clause-rows : goal.returns-clause-rows
+returns-clause-rows g c =
     let so_far = c.loop-trial.invariant.so_far in
     let none : length (into_iter_items c.loop-trial.trial-iterator) ≡ 0 = sym c.loop-trial.trial-iterator.rest.ok.0 ∙ c.in-None.ensures.steps.0 in
     record {
@@ -89,6 +100,8 @@ returns g c =
       ordered = so_far.ordered;
       all = omega (arith, so_far.all, none, length-append c.loop-trial.yielded (into_iter_items c.loop-trial.trial-iterator), ap length c.loop-trial.invariant.seen);
       own = so_far.own;
+      rows = so_far.rows;
+      timed = so_far.timed;
       text = so_far.text;
       tally = so_far.tally;
     }

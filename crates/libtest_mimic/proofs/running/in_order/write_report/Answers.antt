@@ -26,7 +26,7 @@ returns-in_err-print_failures g c =
     let titled = titled_written _ suite _ _ _ written _ _ (c.len.ensures ∙ c.args.selected.trials.ok.0) c.in_ok-print_title.ensures in
     WritesReport-stopped g.R.Task.gives suite _ _ _ c.from_residual-in_err-print_failures.result c.from_residual-in_err-print_failures.ensures.0
     (starts_in_order _ suite _ _ _ written _ _ _
-    (starts_failures _ suite written.placed (arranged_written _ suite _ _ _ written) _ _ _ titled _ c.requires.running
+    (starts_failures _ suite written.placed (arranged_written _ suite _ _ _ written) written.rows written.timed _ _ _ titled _ c.requires.running
     (c.in_err-print_failures.ensures _ (rows_of suite written.placed) written.tally)))
 
 pub write_summary-requires-clause-room : goal.write_summary-requires-clause-room
@@ -43,7 +43,7 @@ returns-in_err-write_summary g c =
     let summary = c.in_err-write_summary.ensures in
     WritesReport-stopped g.R.Task.gives suite _ _ _ c.from_residual-in_err-write_summary.result c.from_residual-in_err-write_summary.ensures.0
     (starts_in_order _ suite _ _ _ written _ _ _
-    (starts_summary _ suite written.placed (arranged_written _ suite _ _ _ written) _ _ _ titled (c.in_ok-print_failures.ensures _ _ written.tally)
+    (starts_summary _ suite written.placed (arranged_written _ suite _ _ _ written) written.rows written.timed _ _ _ titled (c.in_ok-print_failures.ensures _ _ written.tally)
     _ _ summary.nanos _ (c.conclusion.ensures ∙ written.tally.counts) summary.elapsed summary.text))
 
 pub returns : goal.returns
@@ -57,6 +57,6 @@ returns g c =
       (λ one. written.ordered),
       (λ none. absurd (omega (arith, none))),
       subst P (c.conclusion.ensures ∙ sym c.into_conclusion.ensures)
-          (reported _ suite written.placed (arranged_written _ suite _ _ _ written) _ _ _ titled (c.in_ok-print_failures.ensures _ _ written.tally)
+          (reported _ suite written.placed (arranged_written _ suite _ _ _ written) written.rows written.timed _ _ _ titled (c.in_ok-print_failures.ensures _ _ written.tally)
           _ _ summary.nanos _ (c.conclusion.ensures ∙ written.tally.counts) summary.elapsed summary.fits summary.text),
     )

@@ -1,4 +1,5 @@
 use Rattle.std.proofs.Common.{◌≡◌, ◌≤◌, ◌∙◌, ℕ, Bool, List, arith, length, refl, sym}
+use Rattle.mimic_pool.specs.Inbox.{is_timed}
 use Rattle.mimic_pool.specs.Share.{assigned_from}
 use Rattle.mimic_pool.specs.Supply.{runs_all}
 use Rattle.libtest_mimic.proofs.Arranged.{length_assigned}
@@ -21,10 +22,11 @@ gather_rows-requires-clause-running g c κs within =
 pub returns-clause-rows : goal.returns-clause-rows
 returns-clause-rows g c = λ rs bs runners flags held.
     let runs = c.in-Some.ensures.started _ (c.in_ok-inbox.ensures.ready _ (put_fits rs bs _ runners flags) held) in
+    let asked = c.in_ok-inbox.ensures.timed in
     match_more c.gather_rows.result _ _ _ _
     (c.gather_rows.ensures.rows rs bs c.args.test_mode runners flags runs)
-    (λ desk rows. titled_all g.R.Task.gives c.args.test_mode (assigned_from 0 rs bs) c.args.printer.now c.args.infos.now _ _ _ _ refl c.in_ok-print_title.ensures desk rows)
-    (λ e refused. after_title g.R.Task.gives c.args.test_mode (assigned_from 0 rs bs) c.args.printer.now c.args.infos.now _ _ _ _ refl c.in_ok-print_title.ensures (runs_all c.in-Some.crew) e refused)
+    (λ desk rows. rw asked at (titled_all g.R.Task.gives c.args.test_mode (assigned_from 0 rs bs) c.args.printer.now c.args.infos.now _ _ _ _ refl c.in_ok-print_title.ensures (is_timed c.in_ok-inbox.inbox) desk rows))
+    (λ e refused. rw asked at (after_title g.R.Task.gives c.args.test_mode (assigned_from 0 rs bs) c.args.printer.now c.args.infos.now _ _ _ _ refl c.in_ok-print_title.ensures (runs_all c.in-Some.crew) (is_timed c.in_ok-inbox.inbox) e refused))
 
 pub returns-clause-unwritten : goal.returns-clause-unwritten
 returns-clause-unwritten g c = written_before _ _ c.gather_rows.ensures.refused

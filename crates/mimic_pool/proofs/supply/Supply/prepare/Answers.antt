@@ -5,11 +5,13 @@ use Rattle.mimic_pool.proofs.supply.Supply.prepare.Goals as goal
 pub returns-in_ok-inbox-in-Shares : goal.returns-in_ok-inbox-in-Shares
 returns-in_ok-inbox-in-Shares g c = record {
   inbox = c.in_ok-inbox-in-Shares.ensures.inbox;
+  timed = c.in_ok-inbox-in-Shares.ensures.timed;
   ready = λ trials fits held. c.in_ok-inbox-in-Shares.ensures.ready trials (subst (λ supply. Holds g.T.Task.can_run supply trials) c.in-Shares.is held);
 }
 
 pub returns-in_ok-inbox-in-Queue : goal.returns-in_ok-inbox-in-Queue
 returns-in_ok-inbox-in-Queue g c = record {
   inbox = c.in_ok-inbox-in-Queue.ensures.inbox;
+  timed = c.in_ok-inbox-in-Queue.ensures.timed;
   ready = λ trials fits held. c.in_ok-inbox-in-Queue.ensures.ready trials fits (subst (λ supply. Holds g.T.Task.can_run supply trials) c.in-Queue.is held);
 }
