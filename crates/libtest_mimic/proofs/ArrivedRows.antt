@@ -17,7 +17,7 @@ use Rattle.mimic_printer.specs.Sink.{Put, Shown, Stopped, Writes}
 use Rattle.mimic_printer.proofs.Appending.{Put-Stopped, Put-trans, Puts-stopped, Puts_then, Stopped-more}
 use Rattle.std.specs.Result.{IsErr}
 use Rattle.std.specs.Prelude.{Result}
-use Rattle.libtest_mimic.specs.Steps.{AreArrived, PutsArrived, WritesArrived}
+use Rattle.libtest_mimic.specs.Steps.{PutsArrived, WritesArrived}
 use Rattle.libtest_mimic.specs.Suite.{AreTimed, IsTime, IsTimed, has_time}
 use Rattle.libtest_mimic.proofs.Timed.{any_times, are_any_times, timed-append}
 

@@ -157,15 +157,15 @@ pub arrival_refused : {R : Type 0} (gives : Gives R) (mode : Bool) (rs : List R)
     (done : IsCompleted whole old joined new) → whole ≡ false → AreJoined gives mode (assigned_from 0 rs bs) (runs || whole) joined → old.places ≡ length rs → (a b : Shown) → StopsArrived asked p infos old a b
     → (placed : List Placed) × (left : List ℕ) × (rows : List PrintedRow) × GatheredSome gives mode (assigned_from 0 rs bs) placed left × (runs ≡ true → left ≡ []) × AreTimed asked (rows_at (map label_of infos) placed) rows × Stopped a b (rows_text p rows)
 arrival_refused gives mode rs bs same asked p infos true whole old new joined done part are places a b stopped =
-let all = stopped_arrived asked p infos whole old new joined done a b stopped in (
-  new.rows,
-  [],
-  all.0,
-  all_gathered gives mode (assigned_from 0 rs bs) new.rows (put_each joined done.outcomes) done.returned (completed_gathered gives mode rs bs same whole joined old new done (joined_whole gives mode rs bs true joined are refl done.outcomes (outcomes_count gives mode rs bs same whole joined old new done places)) places),
-  λ _. refl,
-  all.1,
-  all.2,
-)
+    let all = stopped_arrived asked p infos whole old new joined done a b stopped in (
+      new.rows,
+      [],
+      all.0,
+      all_gathered gives mode (assigned_from 0 rs bs) new.rows (put_each joined done.outcomes) done.returned (completed_gathered gives mode rs bs same whole joined old new done (joined_whole gives mode rs bs true joined are refl done.outcomes (outcomes_count gives mode rs bs same whole joined old new done places)) places),
+      λ _. refl,
+      all.1,
+      all.2,
+    )
 arrival_refused gives mode rs bs same asked p infos false whole old new joined done part are places a b stopped = (
   old.rows,
   places_of done.missing,
@@ -194,7 +194,7 @@ module _ {R : Type 0} (gives : Gives R) (mode : Bool) (items : List (Assigned R)
 
   -- and what was written if they were not
   pub titled_all : (asked : Bool) (desk : Arrived) → IsGathered gives mode items desk × PutsArrived asked p infos desk b c → IsGathered gives mode items desk × PutsTitled asked p infos desk a c
-  titled_all asked desk (gathered, rows, timed, put) = (gathered, rows, timed, Put-trans _ _ titled put)
+  titled_all asked desk (gathered, put) = (gathered, (put.0, put.1, Put-trans _ _ titled put.2))
 
 -- ---- a difference
 

@@ -1,16 +1,15 @@
 -- Rows with times are like those without, but for their times.
-use Rattle.std.proofs.Common.{◌≡◌, ◌∙◌, ℕ, suc, ◌&&◌, ◌<◌, Bool, true, false, List, [], ◌∷◌, ◌++◌, Option, None, Some, length, map, refl, sym, ap, ap₂, subst, arith}
-use Rattle.std.specs.List.{AllByRecursion, flat_map, list_any}
+use Rattle.std.proofs.Common.{◌≡◌, ℕ, suc, ◌&&◌, Bool, true, false, List, [], ◌∷◌, ◌++◌, Option, None, Some, length, map, refl, sym, ap, ap₂, subst, arith}
+use Rattle.std.specs.List.{AllByRecursion, flat_map}
 use Rattle.mimic_trial.specs.declared.formats.FormatSetting.{FormatSetting}
 use Rattle.mimic_trial.specs.declared.formats.FormatSetting.TheVariants.{Pretty, Terse, Json}
 use Rattle.mimic_trial.specs.declared.outcome.Outcome.{Outcome}
-use Rattle.mimic_trial.specs.Count.{is_failed}
 use Rattle.mimic_trial.specs.Promise.{FitsTypes}
 use Rattle.mimic_printer.specs.Json.{FitsEntry, FitsLabel, FitsTime}
-use Rattle.mimic_printer.specs.Report.{failed_name, failure_text, failures_if_any, failures_in, failures_of, failures_text, row_failed_name, row_failure}
-use Rattle.mimic_printer.specs.Row.{Label, PrintedRow, outcomes_of}
+use Rattle.mimic_printer.specs.Report.{failed_name, failure_text, failures_if_any, failures_in, failures_text, row_failed_name, row_failure}
+use Rattle.mimic_printer.specs.Row.{PrintedRow, outcomes_of}
 use Rattle.mimic_printer.specs.declared.Printer.{Printer}
-use Rattle.libtest_mimic.specs.Suite.{AreTimed, IsTime, IsTimed, has_time}
+use Rattle.libtest_mimic.specs.Suite.{AreTimed, IsTime, has_time}
 
 module _ (asked : Bool) where
   pub timed-append : (xs us ys vs : List PrintedRow) → AreTimed asked xs us → AreTimed asked ys vs → AreTimed asked (xs ++ ys) (us ++ vs)
@@ -76,7 +75,7 @@ module _ (asked : Bool) where
 
 -- ---- rows that were not written
 
-zero_if : Bool → Option ℕ
+abbrev zero_if : Bool → Option ℕ
 zero_if true = Some 0
 zero_if false = None
 
@@ -85,7 +84,7 @@ zero_is true = omega arith
 zero_is false = refl
 
 -- some times, which nothing shows
-pub any_times : Bool → List PrintedRow → List PrintedRow
+abbrev pub any_times : Bool → List PrintedRow → List PrintedRow
 any_times asked xs = map (λ (x : PrintedRow). record x { nanos = zero_if (asked && has_time x.outcome) }) xs
 
 pub are_any_times : (asked : Bool) (xs : List PrintedRow) → AreTimed asked xs (any_times asked xs)

@@ -1,4 +1,4 @@
-use Rattle.std.proofs.Common.{◌≡◌, ◌∙◌, ◌<◌, ◌∷◌, ℕ, List, Some, [], ap, arith, length, length-append, sym, subst}
+use Rattle.std.proofs.Common.{◌≡◌, ◌∙◌, ◌<◌, ◌∷◌, ℕ, Some, [], ap, arith, length, length-append, sym, subst}
 use Rattle.std.specs.Prelude.{slice_get}
 use Rattle.std.proofs.lemmas.List.{length-map}
 use Rattle.mimic_trial.specs.declared.outcome.Outcome.{Outcome}
@@ -7,7 +7,6 @@ use Rattle.mimic_printer.specs.Report.{row_text}
 use Rattle.mimic_printer.specs.Row.{timed_row}
 use Rattle.mimic_printer.specs.Sink.{Puts, shown}
 use Rattle.mimic_pool.specs.Inbox.{is_timed}
-use Rattle.libtest_mimic.specs.Suite.{has_time}
 use Rattle.libtest_mimic.proofs.ArrivedRows.{arrived_more, first_row, label_at-info, row_last, shown_time}
 use Rattle.libtest_mimic.proofs.running.arrivals.write_arrival.Goals as goal
 

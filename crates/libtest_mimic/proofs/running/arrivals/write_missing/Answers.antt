@@ -1,8 +1,8 @@
-use Rattle.std.proofs.Common.{[], ◌≡◌, ◌+◌, ◌-◌, ◌<◌, ℕ, ap, arith, drop, length, map, refl, rules, subst, take}
+use Rattle.std.proofs.Common.{[], ◌≡◌, ◌+◌, ◌-◌, ◌<◌, ℕ, ap, arith, drop, length, map, refl, rules, subst, sym}
 use Rattle.std.proofs.lemmas.List.{length-drop, length-map, take_all}
 use Rattle.mimic_trial.specs.Places.{Placed}
 use Rattle.mimic_printer.specs.Row.{PrintedRow, label_of, row_of, rows_at, timed_row}
-use Rattle.mimic_printer.specs.Sink.{Put, shown}
+use Rattle.mimic_printer.specs.Sink.{shown}
 use Rattle.mimic_printer.proofs.Appending.{Put-refl}
 use Rattle.mimic_pool.specs.Inbox.{is_timed}
 use Rattle.libtest_mimic.specs.Suite.{AreTimed, IsTimed}
@@ -10,10 +10,11 @@ use Rattle.libtest_mimic.proofs.ArrivedRows.{AreWritten, count_rows_at, next_sto
 use Rattle.libtest_mimic.proofs.running.arrivals.write_missing.Goals as goal
 
 pub loop-number-init : goal.loop-number-init
-loop-number-init g c = record {
-  from = search rules;
-  written = ([], tt, Put-refl (shown g.W.Write.contents c.args.sink.now));
-}
+loop-number-init g c =
+    let before = shown g.W.Write.contents c.args.sink.now in
+    let none : c.args.first - c.args.first ≡ 0 = omega arith in
+    let P : ℕ → Type 0 = λ n. AreWritten (is_timed c.args.inbox.now) c.args.printer.now (drop c.args.first (rows_at (map label_of c.args.infos.now) c.args.desk.now.rows)) n before before in
+    record { from = search rules; written = subst P (sym none) ([], tt, Put-refl before) }
 
 pub offset_bounds-infos-place : goal.offset_bounds-infos-place
 offset_bounds-infos-place g c =

@@ -6,12 +6,10 @@ use Rattle.mimic_pool.specs.Joined.{put_each}
 use Rattle.mimic_pool.specs.Rows.{rows_in}
 use Rattle.mimic_pool.specs.Share.{assigned_from}
 use Rattle.mimic_pool.specs.Supply.{Runs, runs_all}
-use Rattle.mimic_printer.specs.Report.{rows_text}
-use Rattle.mimic_printer.specs.Row.{PrintedRow}
-use Rattle.mimic_printer.specs.Sink.{Writes, shown}
+use Rattle.mimic_printer.specs.Sink.{shown}
 use Rattle.libtest_mimic.specs.Gathering.{Gathered}
 use Rattle.mimic_pool.specs.Inbox.{is_timed}
-use Rattle.libtest_mimic.specs.Steps.{AreArrived, PutsArrived, WritesArrived, WritesFrom}
+use Rattle.libtest_mimic.specs.Steps.{PutsArrived, WritesArrived}
 use Rattle.libtest_mimic.proofs.Arranged.{order_below}
 use Rattle.libtest_mimic.proofs.Gathering.{completed_gathered, differs_refused, nothing_arrived, on_error, or_true, outcomes_count, put_all, stopped_missing, arrival_refused}
 use Rattle.libtest_mimic.proofs.Returned.{all_gathered}
@@ -93,9 +91,7 @@ returns-in_err-write_missing-clause-rows g c = λ rs bs mode runners flags runs.
     let done = c.in_ok-complete.ensures.completed in
     let count = ap length c.order-arrived.ensures.places ∙ length-map c.write_arrivals-written.new.desk.rows (λ r. r.0) in
     let asked = is_timed c.args.started.inbox in
-    let same = c.write_arrivals-written.ensures.timed in
-    let missing = subst (λ b. WritesFrom c.len-arrived.result b c.args.printer.now c.args.infos.now c.complete.new.desk (shown g.W.Write.contents c.write_arrivals-written.new.sink) (shown g.W.Write.contents c.write_missing.new.sink) c.write_missing.result) same c.in_err-write_missing.ensures in
-    let stopped = stopped_missing asked c.args.printer.now c.args.infos.now _ _ _ _ done _ _ _ (all_arrived g whole) _ count missing in
+    let stopped = stopped_missing asked c.args.printer.now c.args.infos.now _ _ _ _ done _ _ _ (all_arrived g whole) _ count (rw c.write_arrivals-written.ensures.timed at c.in_err-write_missing.ensures) in
     on_error c.from_residual-in_err-write_missing.result _ _ _ c.from_residual-in_err-write_missing.ensures.1 (
       c.complete.new.desk.rows,
       [],

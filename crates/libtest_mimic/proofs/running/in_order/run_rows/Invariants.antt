@@ -12,5 +12,5 @@ invariant-loop-trial g l = record {
   so_far : RowsSoFar g.R.Task.gives
       (record { args = l.args; trials = l.fn.trials.items; printer = l.printer; filtered_out = l.initial.tally.conclusion.num_filtered_out })
       (length l.yielded) (shown g.W.Write.contents l.initial.sink) (shown g.W.Write.contents l.sink) l.tally;
-  readings : watched l.watch.readings ≡ watched l.initial.watch.readings;
+  readings : l.watch ≡ l.initial.watch;
 }
