@@ -64,6 +64,9 @@ pub enum RunError {
 /// worker whose number is p modulo the number of workers. Rows are written as they arrive, each when its trial has ended, and a row
 /// that could not be reported comes after the others. With no thread, a run of a selected trial is refused.
 ///
+/// With `report_time` of the arguments, workers read the clock of `rt` directly before they call a runner and directly after it has
+/// returned, and the row of a trial that passed or failed shows the difference. A clock that went back, or can't be read, gives 0.
+///
 /// The counts that it returns, the watch, `auto_colours` and ignored trials are as with `run_here`. After a write fault the
 /// workers end their shares, and are joined.
 pub fn run<R: Task + Send + 'static, W: Write, C: Clock, T: Spawner + 'static>(
@@ -232,6 +235,9 @@ fn run_with_threads<R: Task + Send + 'static, W: Write, C: Clock, T: Spawner + '
 /// a list, or a refusal that came before the summary, it is running. `auto_colours` says whether the
 /// report has colours if the arguments leave it open. An ignored trial's runner is not called, and
 /// after a write fault no further one is.
+///
+/// With `report_time` of the arguments, the watch's clock is also read directly before each trial and directly after it, and the row of
+/// one that passed or failed shows how many nanoseconds it took (as in rustc's harness): 0 if the clock went back.
 pub fn run_here<R: Task, W: Write, C: Clock>(
     alloc: Global,
     args: &Arguments,
