@@ -67,6 +67,8 @@ module _ {R : Type 0} (asked : Asked R) (watch : Watched) where
             o.2.2,
             record {
               arranged = r.arranged;
+              rows = r.rows;
+              timed = r.timed;
               nanos = r.nanos;
               elapsed = r.elapsed;
               fits = r.fits;
