@@ -5,16 +5,19 @@ ghost use Rattle.mimic_pool.specs.declared.share.Assigned.{Assigned};
 
 use super::{Plain, numbered};
 use mimic_pool::{
-    Desk, Inbox, Reports, Rows, Schedule, Supply, Untold, join_all, put_joined, start_all,
+    Desk, Inbox, Reports, Rows, Schedule, Spawner, Supply, Untold, join_all, put_joined, start_all,
 };
 use mimic_trial::{Failed, Outcome, Task};
 use std::alloc::{AllocError, Global};
+use std::cell::Cell;
+use std::io::ErrorKind;
 use std::process::Abort;
+use std::rt::Clock;
 use std::sync::atomic::{AtomicU64, Ordering};
 use std::sync::{Arc, Wait};
 use std::test::Fail;
-use std::thread;
-use std::thread::Threads;
+use std::time::Duration;
+use std::{io, thread};
 
 // Whether this row comes next.
 fn gives<R: Wait>(rt: &R, inbox: &mut Inbox, place: usize, row: Plain) -> bool {
@@ -41,6 +44,72 @@ fn refuses_what_the_board_hands_back(rt: HostRuntime) -> Result<(), Fail> {
     assert!(rt; gives(&rt, &mut inbox, 1, Plain::Passed));
     drop(reports);
     assert!(rt; is_at_end(&rt, &mut inbox));
+    Ok(())
+}
+
+// A machine whose clock reads these nanoseconds, first the one and then the other. `None` is a reading that fails.
+#[derive(Drop)]
+struct KnownClock<R> {
+    rt: R,
+    readings: [Option<u64>; 2],
+    is_second: Cell<bool>,
+}
+
+impl<R: Wait> Wait for KnownClock<R> {}
+
+impl<R> Clock for KnownClock<R> {
+    fn monotonic(&self) -> io::Result<Duration> {
+        let [first, second] = self.readings;
+        let reading = if self.is_second.get() { second } else { first };
+        self.is_second.set(true);
+        match reading {
+            Some(nanos) => Ok(Duration::from_nanos(nanos)),
+            None => Err(io::Error::from(ErrorKind::Unsupported)),
+        }
+    }
+
+    fn since_1970(&self) -> io::Result<Duration> {
+        Err(io::Error::from(ErrorKind::Unsupported))
+    }
+}
+
+// What the clock reads before and after a trial, and the time that is noted: 0 if it went back or couldn't be read.
+static TIMES: [(Option<u64>, Option<u64>, u64); 5] = [
+    (Some(5), Some(12), 7),
+    (Some(0), Some(u64::MAX), u64::MAX),
+    (Some(12), Some(5), 0),
+    (None, Some(12), 0),
+    (Some(5), None, 0),
+];
+
+// A worker notes how long a trial ran at its place, and nowhere else.
+#[test]
+fn notes_times(rt: HostRuntime) -> Result<(), Fail> {
+    for (first, second, time) in &TIMES {
+        let clock = KnownClock {
+            rt,
+            readings: [*first, *second],
+            is_second: Cell::new(false),
+        };
+        let inbox = Inbox::with_times(rt.alloc(), 3, 1, true)?;
+        let reports = inbox.reports(clock, rt.alloc())?;
+        let started = reports.read_clock();
+        reports.note_time(1, started);
+        reports.note_time(3, started);
+        assert!(rt; inbox.time(1) == Some(*time), "{first:?} {second:?}");
+        assert!(rt; inbox.time(0) == Some(0) && inbox.time(2) == Some(0));
+    }
+    Ok(())
+}
+
+// An inbox that isn't timed has no times, and its workers read no clock.
+#[test]
+fn notes_no_times(rt: HostRuntime) -> Result<(), Fail> {
+    let inbox = Inbox::new(rt.alloc(), 1, 1)?;
+    let reports = inbox.reports(rt, rt.alloc())?;
+    assert!(rt; reports.read_clock().is_none());
+    reports.note_time(0, Some(0));
+    assert!(rt; inbox.time(0).is_none());
     Ok(())
 }
 
@@ -143,7 +212,7 @@ fn supply_of<T: Task, R: Wait, F: Fn(usize) -> Result<T, AllocError>>(
 // returned. `taken` counts the rows.
 fn rows_taken<
     T: Task + Send + 'static,
-    R: Threads + Wait + Copy + Drop + Send + 'static,
+    R: Spawner + 'static,
     F: Fn(usize) -> Result<T, AllocError>,
 >(
     rt: &R,
@@ -158,7 +227,7 @@ fn rows_taken<
 {
     let mut rows = Vec::with_capacity(alloc, trials)?;
     let supply = supply_of(rt, alloc, schedule, trials, task)?;
-    let (mut inbox, starts) = supply.prepare(rt, alloc, trials)?;
+    let (mut inbox, starts) = supply.prepare(rt, alloc, trials, false)?;
     let Some(crew) = start_all(rt, alloc, starts, true) else {
         return Err(Fail::new("a worker could not be started"));
     };
@@ -254,7 +323,7 @@ fn are_numbered(alloc: Global, joined: Vec<Rows>, trials: usize) -> Result<bool,
 }
 
 // Each row comes once, with its own outcome, and those of a share in order, and the workers return the same.
-fn check_rows<R: Threads + Wait + Abort + Copy + Drop + Send + 'static>(
+fn check_rows<R: Spawner + Abort + 'static>(
     rt: &R,
     alloc: Global,
     asked: Asked,
