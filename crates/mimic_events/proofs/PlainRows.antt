@@ -1,5 +1,5 @@
 -- The two lines of a row, read at once.
-use Rattle.std.proofs.Common.{◌≡◌, ◌≢◌, ℕ, ◌-◌, ◌<◌, List, [], ◌∷◌, ◌++◌, true, false, length, take, take_all, get_or, Bool, Option, Some, None, IfSome, Bor, refl, sym, ap, ap₂, subst, ◌∙◌, append_assoc, arith}
+use Rattle.std.proofs.Common.{◌≡◌, ◌≢◌, ℕ, ◌-◌, ◌<◌, List, [], ◌∷◌, ◌++◌, true, false, length, take, take_all, get_or, Bool, Option, Some, None, IfSome, MatchOption, Bor, refl, sym, ap, ap₂, subst, ◌∙◌, append_assoc, arith}
 use Rattle.std.proofs.lemmas.Bool.{eqb-false}
 use Rattle.std.proofs.lemmas.List.{append_cancel_left, length-append, take-append-le}
 use Rattle.std.proofs.lemmas.Str.{IsUtf8-nil}
@@ -9,7 +9,7 @@ use Rattle.mimic_trial.specs.Escape.{escape, escaped}
 use Rattle.mimic_trial.proofs.Escapes.{escaped-plain}
 use Rattle.mimic_printer.specs.Row.{Label}
 use Rattle.mimic_printer.specs.Json.{FitsLabel, FitsTime, IsLine, announcement_front, json_announcement, json_end, json_outcome, kind_field, kind_key, outcome_front, time_field}
-use Rattle.mimic_events.specs.LineParts.{BeginsEvent, BeginsRow, BeginsTail, IsPlainText, IsWord, SpellsLabel, tail}
+use Rattle.mimic_events.specs.LineParts.{BeginsEnd, BeginsEvent, BeginsRow, BeginsTail, IsPlainText, IsWord, SpellsLabel, tail}
 use Rattle.mimic_printer.proofs.JsonLines.{announcement_line}
 use Rattle.mimic_events.specs.declared.progress.Progress.{Progress}
 use Rattle.mimic_events.specs.declared.row_reader.RowReader.{RowReader}
@@ -98,15 +98,17 @@ row_some text label a b c d left (Some x) e s f g h i (word, (time, lasts, j)) =
   parts = row_text text label a b c d left x.1.now s.label x.0 time s.spelled word e f g h i j;
 }
 
--- a tail without a time
-pub untimed : (text rest : List ℕ) (w : Outcome) → IsWord w → text ≡ tail w None ++ rest → BeginsTail text w rest
-untimed text rest w word e = (word, (None, tt, e))
+-- a time, or none, by what follows it
+pub ends_after : (text last : List ℕ) (time : Option ℕ) (o : Option (Bor (List ℕ))) → FitsTime time → text ≡ time_field time ++ last
+    → MatchOption o ((rest : List ℕ) → last ≢ json_end ++ rest) (λ rest. last ≡ json_end ++ rest.now) → IfSome o (λ rest. BeginsEnd text rest.now)
+ends_after text last time None lasts e f = tt
+ends_after text last time (Some rest) lasts e f = (time, lasts, e ∙ ap (λ (x : List ℕ). time_field time ++ x) f)
 
--- a tail by its word, its time and its end
-pub timed : (text behind last rest : List ℕ) (w : Outcome) (time : Option ℕ) → BeginsEvent text w behind → FitsTime time → behind ≡ time_field time ++ last → last ≡ json_end ++ rest → BeginsTail text w rest
-timed text behind last rest w time (word, e) lasts f g =
+-- a tail by its word and what follows it
+pub word_then : (text behind rest : List ℕ) (w : Outcome) → BeginsEvent text w behind → BeginsEnd behind rest → BeginsTail text w rest
+word_then text behind rest w (word, e) (time, lasts, f) =
     let parts = word_parts w word in
-    (word, (time, lasts, rw (e, f, g, tail_parts w time parts.0, parts.2) (simp append_assoc)))
+    (word, (time, lasts, rw (e, f, tail_parts w time parts.0, parts.2) (simp append_assoc)))
 
 -- ---- each of the two lines is one thing only
 

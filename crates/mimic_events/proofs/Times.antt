@@ -1,5 +1,5 @@
 -- Times in the lines of outcomes: where the time at the front of a text ends.
-use Rattle.std.proofs.Common.{◌≡◌, ◌≢◌, zero, suc, inl, inr, ℕ, ◌<◌, ◌≤◌, ◌^◌, List, [], ◌∷◌, ◌++◌, Option, None, Some, decimal, length, take, get_or, refl, sym, ap, subst, ◌∙◌, append_assoc, arith}
+use Rattle.std.proofs.Common.{◌≡◌, ◌≢◌, inl, inr, ℕ, ◌<◌, ◌^◌, List, [], ◌∷◌, ◌++◌, Option, None, Some, decimal, get_or, refl, sym, ap, subst, ◌∙◌, append_assoc, arith}
 use Rattle.std.specs.List.{AllByRecursion}
 use Rattle.std.specs.Str.Parse.{AllDigits}
 use Rattle.std.proofs.lemmas.Bool.{eqb-false}
@@ -8,8 +8,7 @@ use Rattle.std.proofs.lemmas.Str.Parse.{digit_from_value}
 use Rattle.mimic_trial.specs.Seconds.{IsRest, exact_seconds}
 use Rattle.mimic_trial.proofs.ExactSeconds.{seconds_exact}
 use Rattle.mimic_printer.specs.Json.{FitsTime, time_field, time_key}
-use Rattle.mimic_events.specs.LineParts.{EndsSeconds, FollowsTime, IsOfSeconds, ReadsTime, SplitsSeconds}
-use Rattle.mimic_events.specs.Reading.{Decodes, IsSeconds}
+use Rattle.mimic_events.specs.LineParts.{EndsSeconds, FollowsTime, IsOfSeconds, ReadsSeconds, ReadsTime}
 use Rattle.mimic_events.proofs.Digits.{decimal_digits, one_seconds}
 
 -- ---- digits and points
@@ -42,18 +41,9 @@ one_split (x ∷ a) (y ∷ b) r s ha hb er es e =
     let head : x ≡ y = cc in
     (rw (head, rec.0) refl, rec.1)
 
-pub front_of : (bytes : List ℕ) (len : ℕ) → len ≤ length bytes → ((i : ℕ) → i < len → IsOfSeconds (get_or bytes i 0)) → AllByRecursion IsOfSeconds (take len bytes)
-front_of bytes zero le h = tt
-front_of [] (suc len) le h = absurd (omega arith)
-front_of (b ∷ bytes) (suc len) le h = (h 0 (omega arith), front_of bytes len (omega arith) (λ i lt. h (suc i) (omega (arith, lt))))
-
-pub ends_of : (rest : List ℕ) → (IsOfSeconds (get_or rest 0 0) → ⊥) → EndsSeconds rest
-ends_of [] h = tt
-ends_of (b ∷ rest) h = h
-
 -- ---- what follows a time
 
-pub of_none : (b : ℕ) → b ≢ 46 → b < 48 → IsOfSeconds b → ⊥
+of_none : (b : ℕ) → b ≢ 46 → b < 48 → IsOfSeconds b → ⊥
 of_none b point low (inl e) = point e
 of_none b point low (inr h) = omega (arith, low, h.0)
 
@@ -87,24 +77,22 @@ no_time text none = (tt, refl, only)
     only None rest f p e = (refl, sym e)
     only (Some n) rest f p e = absurd (none (exact_seconds n ++ rest) (e ∙ append_assoc time_key (exact_seconds n) rest))
 
-module _ (text more front rest : List ℕ) (key : text ≡ time_key ++ more) (s : SplitsSeconds more front rest) where
-  -- a time there is the seconds at the front
-  is_front : (n : ℕ) (other : List ℕ) → n < 2 ^ 64 → FollowsTime other → text ≡ time_field (Some n) ++ other → (exact_seconds n ≡ front) × (other ≡ rest)
-  is_front n other f p e =
-      let behind = append_cancel_left time_key more (exact_seconds n ++ other) (sym key ∙ e ∙ append_assoc time_key (exact_seconds n) other) in
-      one_split (exact_seconds n) front other rest (seconds_of n f) s.seconds (follows_ends other p) s.stop (sym behind ∙ s.parts)
+module _ (text more : List ℕ) (key : text ≡ time_key ++ more) where
+  -- a time there is the seconds behind the key
+  behind_key : (n : ℕ) (rest : List ℕ) → text ≡ time_field (Some n) ++ rest → more ≡ exact_seconds n ++ rest
+  behind_key n rest e = append_cancel_left time_key more (exact_seconds n ++ rest) (sym key ∙ e ∙ append_assoc time_key (exact_seconds n) rest)
 
-  pub time_missing : Decodes IsSeconds front None → ReadsTime text None
-  time_missing d None other f p e = no_key other more p (sym e ∙ key)
-  time_missing d (Some n) other f p e = d n (f, sym (is_front n other f p e).0)
+  pub time_missing : ReadsSeconds more None → ReadsTime text None
+  time_missing read None rest f p e = no_key rest more p (sym e ∙ key)
+  time_missing read (Some n) rest f p e = read n rest f (follows_ends rest p) (behind_key n rest e)
 
-  pub time_found : (nanos : ℕ) → Decodes IsSeconds front (Some nanos) → ReadsTime text (Some (Some nanos, rest))
-  time_found nanos d = (
-    d.0.0,
-    key ∙ ap (λ (l : List ℕ). time_key ++ l) (s.parts ∙ ap (λ (l : List ℕ). l ++ rest) d.0.1) ∙ sym (append_assoc time_key (exact_seconds nanos) rest),
+  pub time_found : (nanos : ℕ) (after : List ℕ) → ReadsSeconds more (Some (nanos, after)) → ReadsTime text (Some (Some nanos, after))
+  time_found nanos after read = (
+    read.0,
+    key ∙ ap (λ (l : List ℕ). time_key ++ l) read.1 ∙ sym (append_assoc time_key (exact_seconds nanos) after),
     only,
   )
     where
-      only : (time : Option ℕ) (other : List ℕ) → FitsTime time → FollowsTime other → text ≡ time_field time ++ other → (time ≡ Some nanos) × (other ≡ rest)
-      only None other f p e = absurd (no_key other more p (sym e ∙ key))
-      only (Some n) other f p e = let same = is_front n other f p e in (ap Some (d.1 n (f, sym same.0)), same.1)
+      only : (time : Option ℕ) (rest : List ℕ) → FitsTime time → FollowsTime rest → text ≡ time_field time ++ rest → (time ≡ Some nanos) × (rest ≡ after)
+      only None rest f p e = absurd (no_key rest more p (sym e ∙ key))
+      only (Some n) rest f p e = let same = read.2 n rest f (follows_ends rest p) (behind_key n rest e) in (ap Some same.0, same.1)

@@ -1,15 +1,14 @@
 -- What the private readers of parts of a line promise one another. No public clause names these words.
 use Rattle.std.specs.Prelude.{◌≡◌, ◌≢◌, ℕ, ◌+◌, ◌-◌, ◌<◌, ◌≤◌, ◌^◌, ◌==◌, nat_lt, if◌then◌else◌, Bool, true, List, [], ◌∷◌, ◌++◌, decimal, Option, Some, None, IsUtf8, codes, ◌⊎◌}
 use Rattle.std.specs.Borrow.{Bor}
-use Rattle.std.specs.List.{AllByRecursion}
-use Rattle.std.specs.Str.Parse.{AllDigits}
+use Rattle.std.specs.Str.Parse.{AllDigits, digits_value}
 use Rattle.mimic_trial.specs.declared.outcome.Outcome.{Outcome}
 use Rattle.mimic_trial.specs.declared.outcome.Outcome.TheVariants.{Passed, Failed, Ignored, Measured}
 use Rattle.mimic_trial.specs.Count.{is_failed, is_measured}
 use Rattle.mimic_trial.specs.Escape.{ArePlain, escape, escaped}
 use Rattle.mimic_printer.specs.Row.{Label}
 use Rattle.mimic_printer.specs.Json.{Entry, FitsLabel, FitsTime, event_field, json_announcement, json_end, json_line, json_outcome, kind_field, outcome_fields, stdout_key, time_field, time_key}
-use Rattle.mimic_trial.specs.Seconds.{exact_seconds}
+use Rattle.mimic_trial.specs.Seconds.{IsRest, exact_seconds}
 use Rattle.mimic_trial.specs.Promise.{FitsTypes}
 use Rattle.mimic_events.specs.Reading.{End, IsFailedLine}
 
@@ -95,6 +94,11 @@ pub record SplitsDigits (bytes front rest : List ℕ) : Type 0 where
   pub digits : AllDigits 10 front
   pub stop : EndsNumber rest
 
+-- what was found are all digits at the front, the number that they write, and the rest; if nothing was found, it is too large
+abbrev pub ReadsDigits : List ℕ → Option (List ℕ × ℕ × List ℕ) → Type 0
+ReadsDigits bytes None = (front rest : List ℕ) → SplitsDigits bytes front rest → 2 ^ 64 ≤ digits_value 10 front
+ReadsDigits bytes (Some found) = (found.1 < 2 ^ 64) × (found.1 ≡ digits_value 10 found.0) × SplitsDigits bytes found.0 found.2
+
 -- what was found is the number at the front, before the rest, and no other number ends there; else none does
 abbrev pub ReadsNumber : List ℕ → Option (ℕ × List ℕ) → Type 0
 ReadsNumber bytes None = (n : ℕ) (rest : List ℕ) → n < 2 ^ 64 → EndsNumber rest → bytes ≡ decimal n ++ rest → ⊥
@@ -151,11 +155,19 @@ abbrev pub EndsSeconds : List ℕ → Type 0
 EndsSeconds [] = Unit {0}
 EndsSeconds (b ∷ bytes) = IsOfSeconds b → ⊥
 
--- the digits and points at the front, all of them, and the rest
-pub record SplitsSeconds (bytes front rest : List ℕ) : Type 0 where
-  pub parts : bytes ≡ front ++ rest
-  pub seconds : AllByRecursion IsOfSeconds front
-  pub stop : EndsSeconds rest
+-- what was found are the nanoseconds of what follows the whole seconds, and the rest, and no others are; else none are
+abbrev pub ReadsFraction : List ℕ → Option (ℕ × List ℕ) → Type 0
+ReadsFraction bytes None = (n : ℕ) (text rest : List ℕ) → IsRest n text → EndsSeconds rest → bytes ≡ text ++ rest → ⊥
+ReadsFraction bytes (Some found) = ((text : List ℕ) × IsRest found.0 text × (bytes ≡ text ++ found.1))
+    × ((n : ℕ) (text rest : List ℕ) → IsRest n text → EndsSeconds rest → bytes ≡ text ++ rest
+    → (n ≡ found.0) × (rest ≡ found.1))
+
+-- what was found are the nanoseconds of the seconds at the front, and the rest, and no others are; else none are
+abbrev pub ReadsSeconds : List ℕ → Option (ℕ × List ℕ) → Type 0
+ReadsSeconds bytes None = (n : ℕ) (rest : List ℕ) → n < 2 ^ 64 → EndsSeconds rest → bytes ≡ exact_seconds n ++ rest → ⊥
+ReadsSeconds bytes (Some found) = (found.0 < 2 ^ 64) × (bytes ≡ exact_seconds found.0 ++ found.1)
+    × ((n : ℕ) (rest : List ℕ) → n < 2 ^ 64 → EndsSeconds rest → bytes ≡ exact_seconds n ++ rest
+    → (n ≡ found.0) × (rest ≡ found.1))
 
 -- what can follow a time in a line: its end, or a failure's message
 abbrev pub FollowsTime : List ℕ → Type 0
@@ -206,6 +218,10 @@ pub record SpellsLabel (bytes : List ℕ) : Type 0 where
 -- the text begins with the field of this outcome, which is said in a word, and the rest follows
 abbrev pub BeginsEvent : List ℕ → Outcome → List ℕ → Type 0
 BeginsEvent text outcome rest = IsWord outcome × (text ≡ word_field outcome ++ rest)
+
+-- the text begins with some time, or none, and the end of the line, and the rest follows
+abbrev pub BeginsEnd : List ℕ → List ℕ → Type 0
+BeginsEnd text rest = (time : Option ℕ) × FitsTime time × (text ≡ time_field time ++ (json_end ++ rest))
 
 -- the text begins with the tail of this outcome, which is said in a word, with some time, and the rest follows
 abbrev pub BeginsTail : List ℕ → Outcome → List ℕ → Type 0

@@ -1,21 +1,19 @@
-use Rattle.std.proofs.Common.{rules, ◌≡◌, ◌≤◌, get_or, drop, arith, add-zero}
-use Rattle.std.proofs.lemmas.List.{get_or-drop, get_or_past}
-use Rattle.mimic_events.specs.LineParts.{IsOfSeconds}
-use Rattle.mimic_events.proofs.Times.{ends_of, front_of, of_none}
+use Rattle.std.proofs.Common.{arith}
+use Rattle.mimic_events.proofs.Digits.{no_rest, no_whole, same_parts, seconds_read}
 use Rattle.mimic_events.proofs.numbers.seconds_at.Goals as goal
-use Rattle.mimic_events.proofs.numbers.seconds_at.Goals.{then-loop-len-test+else-is_of_seconds, else-loop-len-test}
+
+pub returns-in_err-whole : goal.returns-in_err-whole
+returns-in_err-whole c = rw c.from_residual.ensures (λ n rest fits ends e. no_whole c.args.bytes.now n rest fits ends e c.in_err-whole.ensures)
+
+pub returns-in_err-fraction : goal.returns-in_err-fraction
+returns-in_err-fraction c = rw c.from_residual-in_err-fraction.ensures (λ n rest fits ends e.
+    no_rest c.args.bytes.now n rest fits ends e c.in_ok-whole.whole c.in_ok-whole.rest.now c.in_ok-whole.ensures c.in_err-fraction.ensures)
+
+pub returns-in_err-nanos : goal.returns-in_err-nanos
+returns-in_err-nanos c = rw c.from_residual-in_err-nanos.ensures (λ n rest fits ends e.
+    let same = same_parts c.args.bytes.now n rest fits ends e c.in_ok-whole.whole c.in_ok-whole.rest.now c.in_ok-whole.ensures c.in_ok-fraction.fraction c.in_ok-fraction.rest.now c.in_ok-fraction.ensures in
+    c.in_err-nanos.ensures (omega (arith, same.0, fits)))
 
 pub returns : goal.returns
-returns c =
-    let stop : IsOfSeconds (get_or c.args.bytes.now c.loop-len.len 0) → ⊥ =
-    elim c.loop-len-test.branch [
-      | then-loop-len-test+else-is_of_seconds w ↦ λ h. search rules
-      | else-loop-len-test w ↦
-          let past : get_or c.args.bytes.now c.loop-len.len 0 ≡ 0 = get_or_past c.args.bytes.now c.loop-len.len 0 (omega arith) in
-          of_none (get_or c.args.bytes.now c.loop-len.len 0) (λ e. omega (arith, past, e)) (omega (arith, past))
-    ] in
-    rw (c.split_at.ensures.front, c.split_at.ensures.back) (record {
-      parts = search rules;
-      seconds = front_of c.args.bytes.now c.loop-len.len c.loop-len.invariant.within c.loop-len.invariant.seconds;
-      stop = ends_of (drop c.loop-len.len c.args.bytes.now) (rw (get_or-drop c.loop-len.len c.args.bytes.now 0 0, add-zero) stop);
-    })
+returns c = seconds_read c.args.bytes.now c.in_ok-whole.whole c.in_ok-whole.rest.now c.in_ok-fraction.fraction c.in_ok-fraction.rest.now c.in_ok-nanos.nanos
+    c.in_ok-whole.ensures c.in_ok-fraction.ensures (omega (arith, c.in_ok-nanos.ensures)) c.in_ok-nanos.ensures.1
