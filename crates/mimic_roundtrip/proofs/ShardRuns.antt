@@ -49,6 +49,13 @@ slice_get-seam : {A : Type 0} (front rest : List A) (x : A) → slice_get (front
 slice_get-seam [] rest x = refl
 slice_get-seam (y ∷ front) rest x = slice_get-seam front rest x
 
+-- a row that was printed of an outcome at a place
+abbrev Printed : Type 0
+Printed = Placed × PrintedRow
+
+abbrev places_printed : List Printed → List ℕ
+places_printed printed = map (λ p. p.0.0) printed
+
 module _ {R : Type 0} (gives : Gives R) (args : Arguments) where
   label_at-seam : (front rest : List (Trial R)) (t : Trial R) → label_at (labels_of (front ++ (t ∷ rest))) (length front) ≡ label_of (info_of t)
   label_at-seam [] rest t = refl
@@ -57,16 +64,9 @@ module _ {R : Type 0} (gives : Gives R) (args : Arguments) where
   own-seam : (front rest : List (Trial R)) (t : Trial R) (o : Outcome) → IsOwnAt gives args (front ++ (t ∷ rest)) (length front, o) → IsOwn gives args t o
   own-seam front rest t o own = subst (λ s. IsSomeAnd s (λ x. IsOwn gives args x o)) (slice_get-seam front rest t) own
 
-  -- a row that was printed of an outcome at a place
-  abbrev Printed : Type 0
-  Printed = Placed × PrintedRow
-
   -- which is own there
   abbrev IsPrinted : List (Trial R) → Printed → Type 0
   IsPrinted all p = IsOwnAt gives args all p.0 × IsTimed args.report_time (record { label = label_at (labels_of all) p.0.0; outcome = p.0.1; nanos = None }) p.1
-
-  abbrev places_printed : List Printed → List ℕ
-  places_printed printed = map (λ p. p.0.0) printed
 
   -- rows and what they are printed of, in pairs
   paired : (all : List (Trial R)) (placed : List Placed) (rows : List PrintedRow) → All (IsOwnAt gives args all) placed → AreTimed args.report_time (rows_at (labels_of all) placed) rows
