@@ -6,6 +6,7 @@ mod reports;
 mod runners;
 mod runs;
 mod selection;
+mod times;
 
 // A test of this name over the closure.
 macro_rules! test_trial {

@@ -20,6 +20,7 @@ pub(super) struct Asked {
     pub(super) list: bool,
     pub(super) exact: bool,
     pub(super) quiet: bool,
+    pub(super) report_time: bool,
     pub(super) threads: Option<usize>,
     pub(super) color: Option<ColorSetting>,
     pub(super) format: Option<FormatSetting>,
@@ -36,6 +37,7 @@ pub(super) const NOTHING: Asked = Asked {
     list: false,
     exact: false,
     quiet: false,
+    report_time: false,
     threads: None,
     color: None,
     format: None,
@@ -62,6 +64,7 @@ pub(super) fn asking(alloc: Global, asked: &Asked) -> Result<Arguments, AllocErr
     args.list = asked.list;
     args.exact = asked.exact;
     args.quiet = asked.quiet;
+    args.report_time = asked.report_time;
     args.test_threads = asked.threads;
     args.color = asked.color;
     args.format = asked.format;
