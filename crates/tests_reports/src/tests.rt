@@ -7,5 +7,6 @@ mod lines;
 mod page;
 mod reading;
 mod suites;
+mod times;
 mod watching;
 mod write_faults;

@@ -14,7 +14,7 @@ use std::test::Fail;
 
 // Compares what was read, and returns the writer, and the verdict. This is the one place that calls `write_comparison`, and it
 // promises nothing, so that no test carries that contract.
-fn compare<W: Write>(
+pub(super) fn compare<W: Write>(
     alloc: Global,
     old: &RowsRead,
     new: &RowsRead,

@@ -33,6 +33,8 @@ macro_rules! numbers {
     };
 }
 
+pub(super) use numbers;
+
 // Judges what the readers give, and returns the writer, and the verdict. This is the one place that calls `write_unexpected`,
 // and it promises nothing, so that no test carries that contract.
 fn judge<I: Read + Drop, W: Write>(
@@ -54,7 +56,7 @@ fn known_in(alloc: Global, lines: &[&str]) -> Result<Result<Vec<Expectation>, Kn
 }
 
 // An input: its lines, and the error after them, if it fails.
-type Input = (&'static [&'static str], Option<ErrorKind>);
+pub(super) type Input = (&'static [&'static str], Option<ErrorKind>);
 
 fn readers_of<'a>(
     alloc: Global,
@@ -79,7 +81,7 @@ fn texts_of(alloc: Global, inputs: &[Input]) -> Result<Vec<String>, AllocError> 
 }
 
 // Judges the inputs by known failures, and returns the verdict, and what is printed.
-fn judged(
+pub(super) fn judged(
     alloc: Global,
     known: &[&str],
     inputs: &[Input],

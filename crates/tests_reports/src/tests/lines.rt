@@ -27,14 +27,16 @@ macro_rules! announced {
     };
 }
 
-// The outcome of a trial that passed.
+// The outcome of a trial that passed, with its seconds if it has them.
 macro_rules! passed {
-    ($([$kind:literal])? $name:literal) => {
+    ($([$kind:literal])? $name:literal $(@ $seconds:literal)?) => {
         concat!(
             "{ \"type\": \"test\", \"name\": \"",
             $name,
             $("\", \"kind\": \"", $kind,)?
-            "\", \"event\": \"ok\" }\n"
+            "\", \"event\": \"ok\"",
+            $(", \"exec_time\": ", $seconds,)?
+            " }\n"
         )
     };
 }
@@ -51,23 +53,24 @@ macro_rules! ignored {
     };
 }
 
-// The outcome of a trial that failed, with its message if it has one.
+// The outcome of a trial that failed, with its seconds and its message if it has them.
 macro_rules! failed {
-    ($([$kind:literal])? $name:literal $(, $message:literal)?) => {
+    ($([$kind:literal])? $name:literal $(@ $seconds:literal)? $(, $message:literal)?) => {
         concat!(
             "{ \"type\": \"test\", \"name\": \"",
             $name,
             $("\", \"kind\": \"", $kind,)?
             "\", \"event\": \"failed\"",
+            $(", \"exec_time\": ", $seconds,)?
             $(", \"stdout\": \"Error: \\\"", $message, "\\\"\\n\"",)?
             " }\n"
         )
     };
 }
 
-// The outcome of a benchmark, with its average and variance.
+// The outcome of a benchmark, with its average and variance, and with its seconds if it has them.
 macro_rules! measured {
-    ($([$kind:literal])? $name:literal, $average:literal, $variance:literal) => {
+    ($([$kind:literal])? $name:literal $(@ $seconds:literal)?, $average:literal, $variance:literal) => {
         concat!(
             "{ \"type\": \"bench\", \"name\": \"",
             $name,
@@ -76,6 +79,7 @@ macro_rules! measured {
             $average,
             ", \"deviation\": ",
             $variance,
+            $(", \"exec_time\": ", $seconds,)?
             " }\n"
         )
     };

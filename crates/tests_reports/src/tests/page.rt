@@ -19,7 +19,7 @@ fn write_into<W: Write>(read: &RowsRead, writer: W) -> (W, Result<(), WriteFault
 }
 
 // Returns the page of these lines.
-fn page_of(alloc: Global, lines: &[&str]) -> Result<String, Fail> {
+pub(super) fn page_of(alloc: Global, lines: &[&str]) -> Result<String, Fail> {
     let (bytes, written) = write_into(&read(alloc, lines)?, Vec::new(alloc));
     written?;
     Ok(String::from_utf8(bytes)?)

@@ -76,7 +76,7 @@ fn watched<I: Read>(
 }
 
 // Watches these pieces.
-fn watched_pieces(
+pub(super) fn watched_pieces(
     alloc: Global,
     pieces: &[&str],
     step: u64,

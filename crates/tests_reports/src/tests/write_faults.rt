@@ -3,12 +3,13 @@
 use super::compare::{AFTER, BEFORE};
 use super::lines::{read, text_of};
 use super::reading::Slow;
+use super::times::TIMED;
 use mimic_compare::write_comparison;
 use mimic_events::{Ending, Report, RowsRead, read_from, write_report};
 use mimic_expect::write_unexpected;
 use mimic_join::join_reports;
 use mimic_printer::{Piece, Place, Sink, put_escaped, put_pieces};
-use mimic_reports::{Suite, show_failures, show_report, write_junit, write_page};
+use mimic_reports::{Suite, show_failures, show_report, write_junit, write_page, write_slowest};
 use mimic_testkit::{Fault, FaultPlace, FaultyWriter};
 use mimic_watch::watch;
 use std::alloc::Global;
@@ -33,13 +34,14 @@ enum Call {
     Page,
     Junit,
     JunitAgain,
+    Slowest,
     Comparison,
     Unexpected,
     Watch,
     LiveWatch,
 }
 
-static CALLS: [Call; 15] = [
+static CALLS: [Call; 16] = [
     Call::Pieces,
     Call::LongPieces,
     Call::Escaped,
@@ -51,6 +53,7 @@ static CALLS: [Call; 15] = [
     Call::Page,
     Call::Junit,
     Call::JunitAgain,
+    Call::Slowest,
     Call::Comparison,
     Call::Unexpected,
     Call::Watch,
@@ -151,6 +154,11 @@ fn junit(alloc: Global, text: &str, again: bool, writer: FaultyWriter) -> Writte
     written!(alloc, writer, sink => write_junit(alloc, suites, &mut sink))
 }
 
+fn slowest(alloc: Global, writer: FaultyWriter) -> Written {
+    let reports = vec![in alloc; read(alloc, TIMED)?]?;
+    written!(alloc, writer, sink => write_slowest(alloc, &reports, 3, &mut sink))
+}
+
 fn comparison(alloc: Global, writer: FaultyWriter) -> Written {
     let (old, new) = (read(alloc, BEFORE)?, read(alloc, AFTER)?);
     written!(alloc, writer, sink => write_comparison(alloc, &old, &new, &mut sink))
@@ -182,6 +190,7 @@ fn write(alloc: Global, call: Call, writer: FaultyWriter) -> Written {
         Call::Page => page(alloc, writer),
         Call::Junit => junit(alloc, text, false, writer),
         Call::JunitAgain => junit(alloc, text, true, writer),
+        Call::Slowest => slowest(alloc, writer),
         Call::Comparison => comparison(alloc, writer),
         Call::Unexpected => unexpected(alloc, text, writer),
         Call::Watch => watched(alloc, text, false, writer),
