@@ -11,6 +11,7 @@ mod refused_workers;
 mod runs;
 mod texts;
 mod threads;
+mod times;
 mod writers;
 
 // A text of four parts, and the same with the second and the third the other way round.

@@ -101,7 +101,7 @@ fn gather_with_lies<T: Task + Send + 'static, R: Spawner + 'static, F: Fn(usize)
     let room = Vec::with_capacity(alloc, infos.len())?;
     let desk = Desk::new(alloc, infos.len())?;
     let supply = supply_of(rt, alloc, schedule, infos.len(), task)?;
-    let (inbox, starts) = supply.prepare(rt, alloc, infos.len())?;
+    let (inbox, starts) = supply.prepare(rt, alloc, infos.len(), false)?;
     let mut lies = inbox.reports(*rt, alloc)?;
     let _ = lies.tell(3, &Outcome::Ignored);
     let _ = lies.tell(1, &Outcome::Ignored);

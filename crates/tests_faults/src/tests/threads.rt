@@ -225,9 +225,9 @@ fn writes_a_row_when_its_trial_has_ended(rt: HostRuntime) -> Result<(), Fail> {
 
 // Sleeps for `millis` milliseconds.
 #[derive(Drop)]
-struct Sleeps<M> {
-    machine: M,
-    millis: u64,
+pub(super) struct Sleeps<M> {
+    pub(super) machine: M,
+    pub(super) millis: u64,
 }
 
 impl<M: Clock + Drop> Task for Sleeps<M> {
@@ -316,9 +316,9 @@ fn keeps_pairs_of_lines_together(rt: HostRuntime) -> Result<(), Fail> {
 }
 
 // How trials come to workers, the numbers of both, and how many trials pass, fail, are ignored and are measured.
-type Many = (Schedule, u64, usize, [u64; 4]);
+pub(super) type Many = (Schedule, u64, usize, [u64; 4]);
 
-const QUARTERS: [u64; 4] = [2_500, 2_500, 2_500, 2_500];
+pub(super) const QUARTERS: [u64; 4] = [2_500, 2_500, 2_500, 2_500];
 
 static MANY: [Many; 10] = [
     (Schedule::Shares, 10_000, 1, QUARTERS),
@@ -355,14 +355,16 @@ fn many_trials(alloc: Global, count: u64) -> Result<Vec<Trial<Becomes>>, AllocEr
     Ok(trials)
 }
 
-// What a run of many trials leaves.
-fn run_many<T: Spawner + 'static>(
+// What a run of many trials leaves, whose rows have times or not.
+pub(super) fn run_many<T: Spawner + 'static>(
     rt: &T,
     alloc: Global,
     many: &Many,
+    report_time: bool,
 ) -> Result<Left<Vec<u8>>, AllocError> {
     let (schedule, count, threads, _) = *many;
-    let args = asking(alloc, FormatSetting::Json, Some(threads));
+    let mut args = asking(alloc, FormatSetting::Json, Some(threads));
+    args.report_time = report_time;
     let tests = many_trials(alloc, count)?;
     let (bytes, workers) = (Vec::new(alloc), Workers { schedule, count: 1 });
     Ok(run_in_workers(rt, alloc, &args, tests, bytes, workers))
@@ -390,7 +392,7 @@ fn lines_of(alloc: Global, number: u64) -> Result<String, AllocError> {
 }
 
 // The report of many trials, in their order.
-fn report_of(alloc: Global, many: &Many) -> Result<String, AllocError> {
+pub(super) fn report_of(alloc: Global, many: &Many) -> Result<String, AllocError> {
     let (_, count, _, [passed, failed, ignored, measured]) = many;
     let mut report = format!(in alloc;
         r#"{{ "type": "suite", "event": "started", "test_count": {count} }}
@@ -418,7 +420,7 @@ fn sorted_lines(alloc: Global, report: &str) -> Result<Vec<&str>, AllocError> {
 }
 
 // Whether the bytes have the lines of the report, in any order.
-fn has_lines_of(alloc: Global, bytes: &[u8], report: &str) -> Result<bool, Fail> {
+pub(super) fn has_lines_of(alloc: Global, bytes: &[u8], report: &str) -> Result<bool, Fail> {
     let lines = sorted_lines(alloc, str::from_utf8(bytes)?)?;
     let expected = sorted_lines(alloc, report)?;
     Ok(lines == expected)
@@ -429,7 +431,7 @@ fn has_lines_of(alloc: Global, bytes: &[u8], report: &str) -> Result<bool, Fail>
 fn runs_each_of_many_once(rt: HostRuntime) -> Result<(), Fail> {
     let alloc = rt.alloc();
     for many in &MANY {
-        let left = run_many(&rt, alloc, many)?;
+        let left = run_many(&rt, alloc, many, false)?;
         let expected = report_of(alloc, many)?;
         let is_same = has_lines_of(alloc, &left.writer, expected.as_str())?;
         assert!(rt; is_same, "{many:?}");

@@ -1,0 +1,402 @@
+//! How long trials ran, as the rows of workers say it. With workers it is the clock of the handle that starts their threads that is
+//! read, and not the run's.
+use super::runs::{
+    SCHEDULES, Workers, asking, becoming, outcome_with, roomy, run_by, run_in_workers,
+};
+use super::threads::{Many, QUARTERS, Sleeps, has_lines_of, report_of, run_many};
+use libtest_mimic::{Arguments, FormatSetting, Outcome, Schedule, Sink, Spawner, Task, Trial};
+use mimic_events::{Report, Row, read_report, write_report};
+use mimic_testkit::FaultyWriter;
+use std::alloc::{AllocError, Global};
+use std::io;
+use std::io::ErrorKind;
+use std::process::Abort;
+use std::rt::Clock;
+use std::sync::Wait;
+use std::sync::atomic::{AtomicU64, Ordering};
+use std::test::Fail;
+use std::thread::Threads;
+use std::time::Duration;
+
+// What asks for a report in JSON whose rows have times.
+fn timed(alloc: Global, threads: Option<usize>) -> Arguments {
+    let mut args = asking(alloc, FormatSetting::Json, threads);
+    args.report_time = true;
+    args
+}
+
+fn read_back(alloc: Global, bytes: &[u8]) -> Result<Report, Fail> {
+    Ok(read_report(alloc, bytes)?.ok_or("no report")?)
+}
+
+// The names of trials, and how many milliseconds each waits.
+static WAITS: [(&str, u64); 3] = [("a", 20), ("b", 40), ("c", 80)];
+
+fn that_wait<M: Clock + Copy + Drop>(
+    machine: M,
+    alloc: Global,
+) -> Result<Vec<Trial<Sleeps<M>>>, AllocError> {
+    let mut trials = Vec::new(alloc);
+    for (name, millis) in &WAITS {
+        let sleeps = Sleeps {
+            machine,
+            millis: *millis,
+        };
+        trials.push(Trial::new(String::from_str(alloc, name)?, sleeps))?;
+    }
+    Ok(trials)
+}
+
+// The report of a run of trials that wait, and how many nanoseconds the whole run took.
+fn run_waiting<T: Spawner + 'static>(
+    rt: &T,
+    alloc: Global,
+    threads: usize,
+    schedule: Schedule,
+) -> Result<(Report, u128), Fail> {
+    let args = timed(alloc, Some(threads));
+    let tests = that_wait(*rt, alloc)?;
+    let (bytes, workers) = (Vec::new(alloc), Workers { schedule, count: 1 });
+    let before = rt.monotonic()?.as_nanos();
+    let left = run_in_workers(rt, alloc, &args, tests, bytes, workers);
+    let after = rt.monotonic()?.as_nanos();
+    left.answer?;
+    Ok((
+        read_back(alloc, &left.writer)?,
+        after.saturating_sub(before),
+    ))
+}
+
+// The time of the row of this name, which is there once.
+fn time_of(report: &Report, name: &str) -> Option<u64> {
+    let mut rows = report.rows.iter().filter(|row| row.name.as_str() == name);
+    let row = rows.next()?;
+    if rows.next().is_some() {
+        return None;
+    }
+    row.nanos
+}
+
+// The row of a trial has the time of that trial: it is at least what it waits, and the run takes no less. The run's own clock stands.
+#[test]
+fn times_trials_that_wait(rt: HostRuntime) -> Result<(), Fail> {
+    for schedule in SCHEDULES {
+        for threads in [2, 4] {
+            let (report, took) = run_waiting(&rt, rt.alloc(), threads, schedule)?;
+            assert!(rt; report.rows.len() == WAITS.len() && report.nanos == 0);
+            for (name, millis) in &WAITS {
+                let nanos = time_of(&report, name).ok_or("no time")?;
+                assert!(rt;
+                    millis.saturating_mul(1_000_000) <= nanos && u128::from(nanos) <= took,
+                    "{schedule:?} {threads} {name} {nanos} {took}"
+                );
+            }
+        }
+    }
+    Ok(())
+}
+
+static NUMBERS: [usize; 4] = [1, 2, 4, 16];
+
+// Whether a trial with this outcome was run as a test, so that its row may have a time.
+fn has_time(outcome: &Outcome) -> bool {
+    matches!(outcome, Outcome::Passed | Outcome::Failed(_))
+}
+
+// Runs many trials, checks which rows have times, and returns the report.
+fn check_many<T: Spawner + Abort + 'static>(
+    rt: &T,
+    alloc: Global,
+    many: &Many,
+    report_time: bool,
+) -> Result<Report, Fail> {
+    let (_, count, threads, [passed, failed, ignored, measured]) = *many;
+    let left = run_many(rt, alloc, many, report_time)?;
+    assert!(rt;
+        left.counts() == Some([passed, failed, ignored, measured, 0]),
+        "{many:?}"
+    );
+    let report = read_back(alloc, &left.writer)?;
+    assert!(rt; report.rows.len() as u64 == count, "{many:?}");
+    for row in &report.rows {
+        let is_timed = report_time && has_time(&row.outcome);
+        assert!(rt; row.nanos.is_some() == is_timed, "{many:?} {}", row.name);
+        // One thread reads the run's clock, which stands.
+        assert!(rt;
+            threads > 1 || row.nanos.unwrap_or(0) == 0,
+            "{many:?} {}",
+            row.name
+        );
+    }
+    Ok(report)
+}
+
+// Takes the times out of the rows, and returns what is written then.
+fn without_times(alloc: Global, mut report: Report) -> Result<Vec<u8>, Fail> {
+    for row in report.rows.iter_mut() {
+        row.nanos = None;
+    }
+    let mut sink = Sink::new(Vec::new(alloc));
+    write_report(&report, &mut sink)?;
+    Ok(sink.into_inner())
+}
+
+// Of many trials each that passed or failed has a time, and no other has, whatever the number of threads. All else is as without
+// times: the report has the lines of each trial once, with its own outcome.
+#[test]
+fn times_each_of_many(rt: HostRuntime) -> Result<(), Fail> {
+    let alloc = rt.alloc();
+    for schedule in SCHEDULES {
+        for threads in NUMBERS {
+            let many = (schedule, 10_000, threads, QUARTERS);
+            let report = check_many(&rt, alloc, &many, true)?;
+            let bytes = without_times(alloc, report)?;
+            let expected = report_of(alloc, &many)?;
+            let is_same = has_lines_of(alloc, &bytes, expected.as_str())?;
+            assert!(rt; is_same, "{many:?}");
+        }
+    }
+    Ok(())
+}
+
+// Without the option none has.
+#[test]
+fn times_none_unasked(rt: HostRuntime) -> Result<(), Fail> {
+    for schedule in SCHEDULES {
+        for threads in NUMBERS {
+            let many = (schedule, 10_000, threads, QUARTERS);
+            check_many(&rt, rt.alloc(), &many, false)?;
+        }
+    }
+    Ok(())
+}
+
+// The name and kind of a trial, and the message if it fails. Each looks like a time or a part of a line around one.
+type Hostile = (&'static str, &'static str, Option<&'static str>);
+
+static HOSTILE: [Hostile; 10] = [
+    ("\"", "\"", None),
+    ("\"", "\\", Some("\"")),
+    ("a\nb", "\n", Some("\n")),
+    ("\"exec_time\": 1", "", None),
+    ("\", \"exec_time\": 1", "\"exec_time\": 1", None),
+    (
+        ", \"event\": \"ok\"",
+        ", \"event\": \"ok\"",
+        Some("\"exec_time\": 1"),
+    ),
+    (
+        "\", \"event\": \"ok\", \"exec_time\": 1 }\n",
+        "\", \"event\": \"ok\", \"exec_time\": 1 }\n",
+        Some("\", \"exec_time\": 1 }\n"),
+    ),
+    ("0.35", "exec_time", Some("")),
+    ("a <0.350s>\n", "\0\u{1}\u{8}\u{b}\u{1f}", None),
+    (
+        "\u{1b}[2J\r\t\u{7f}\u{85}\u{2028}\u{1f600}",
+        "",
+        Some("\0\u{1}\u{8}\u{b}\u{1f}"),
+    ),
+];
+
+// Whether the row is of this trial, and has a time.
+fn is_of(alloc: Global, row: &Row, hostile: &Hostile) -> Result<bool, AllocError> {
+    let (name, kind, message) = hostile;
+    let outcome = outcome_with(alloc, *message)?;
+    Ok(
+        row.name.as_str() == *name
+            && row.kind.as_str() == *kind
+            && row.outcome == outcome
+            && row.nanos.is_some(),
+    )
+}
+
+// How many of the rows are of this trial and have a time.
+fn count_of(alloc: Global, report: &Report, hostile: &Hostile) -> Result<u64, AllocError> {
+    let mut count = 0_u64;
+    for row in &report.rows {
+        if is_of(alloc, row, hostile)? {
+            count = count.saturating_add(1);
+        }
+    }
+    Ok(count)
+}
+
+// The report of a run of these trials, by the calling thread or by two workers.
+fn run_hostile<T: Spawner + 'static>(
+    rt: &T,
+    alloc: Global,
+    threads: Option<usize>,
+    schedule: Schedule,
+) -> Result<Report, Fail> {
+    let mut tests = Vec::new(alloc);
+    for (name, kind, message) in &HOSTILE {
+        let kind = String::from_str(alloc, kind)?;
+        tests.push(becoming(alloc, name, *message)?.with_kind(kind))?;
+    }
+    let args = timed(alloc, threads);
+    let left = run_by(rt, alloc, &args, tests, FaultyWriter::new(alloc), schedule);
+    left.answer?;
+    read_back(alloc, &left.writer.bytes)
+}
+
+// Texts beside times are read back as they are, and are no times.
+#[test]
+fn reads_back_hostile_texts_beside_times(rt: HostRuntime) -> Result<(), Fail> {
+    let alloc = rt.alloc();
+    for schedule in SCHEDULES {
+        for threads in [None, Some(1), Some(2)] {
+            let report = run_hostile(&rt, alloc, threads, schedule)?;
+            assert!(rt; report.rows.len() == HOSTILE.len());
+            for hostile in &HOSTILE {
+                let count = count_of(alloc, &report, hostile)?;
+                assert!(rt; count == 1, "{hostile:?} {threads:?} {schedule:?}");
+            }
+        }
+    }
+    Ok(())
+}
+
+// The machine's threads, and a clock that always reads this, if it can be read.
+#[derive(Clone, Copy, Drop)]
+struct Standing<R> {
+    rt: R,
+    reading: Option<Duration>,
+}
+
+impl<R: Wait> Wait for Standing<R> {}
+
+impl<R: Threads> Threads for Standing<R> {}
+
+impl<R> Clock for Standing<R> {
+    fn monotonic(&self) -> io::Result<Duration> {
+        match self.reading {
+            Some(reading) => Ok(reading),
+            None => Err(io::Error::from(ErrorKind::Unsupported)),
+        }
+    }
+
+    fn since_1970(&self) -> io::Result<Duration> {
+        Err(io::Error::from(ErrorKind::Unsupported))
+    }
+}
+
+// By a clock that stands the time is 0, and also if it can't be read, or reads more nanoseconds than are counted.
+#[test]
+fn times_by_a_clock_that_stands(rt: HostRuntime) -> Result<(), Fail> {
+    let alloc = rt.alloc();
+    let second = Duration::from_secs(1);
+    for schedule in SCHEDULES {
+        for reading in [Some(second), None, Some(Duration::MAX)] {
+            let machine = Standing { rt, reading };
+            let left = run_many(&machine, alloc, &(schedule, 8, 2, [2, 2, 2, 2]), true)?;
+            let report = read_back(alloc, &left.writer)?;
+            assert!(rt; report.rows.len() == 8);
+            for row in &report.rows {
+                let time = has_time(&row.outcome).then_some(0);
+                assert!(rt; row.nanos == time, "{schedule:?} {reading:?} {}", row.name);
+            }
+        }
+    }
+    Ok(())
+}
+
+// The machine's threads, and a clock that a trial sets.
+#[derive(Drop)]
+struct Settable<R> {
+    rt: R,
+    nanos: AtomicU64,
+}
+
+impl<R: Wait> Wait for Settable<R> {}
+
+impl<R: Threads> Threads for Settable<R> {}
+
+impl<R> Clock for Settable<R> {
+    fn monotonic(&self) -> io::Result<Duration> {
+        Ok(Duration::from_nanos(self.nanos.load(Ordering::SeqCst)))
+    }
+
+    fn since_1970(&self) -> io::Result<Duration> {
+        Err(io::Error::from(ErrorKind::Unsupported))
+    }
+}
+
+// Sets the clock, and becomes the outcome.
+#[derive(Drop)]
+struct Sets<R: 'static> {
+    machine: &'static Settable<R>,
+    nanos: u64,
+    outcome: Outcome,
+}
+
+impl<R: Sync> Task for Sets<R> {
+    fn run(self, _test_mode: bool) -> Outcome {
+        self.machine.nanos.store(self.nanos, Ordering::SeqCst);
+        self.outcome
+    }
+}
+
+// What the clock reads before and after the trial, and the time in its row.
+static SET: [(u64, u64, &str); 6] = [
+    (7, 7, "0"),
+    (0, 5_000_000, "0.005"),
+    (1, 5_500_000, "0.005499999"),
+    (7, 5_500_007, "0.0055"),
+    (5, 4, "0"),
+    (0, u64::MAX, "18446744073.709551615"),
+];
+
+// The report of a trial that fails, with this time.
+fn woops(alloc: Global, time: &str) -> Result<String, AllocError> {
+    format!(in alloc;
+        r#"{{ "type": "suite", "event": "started", "test_count": 1 }}
+{{ "type": "test", "event": "started", "name": "a" }}
+{{ "type": "test", "name": "a", "event": "failed", "exec_time": {time}, "stdout": "Error: \"Woops\"\n" }}
+{{ "type": "suite", "event": "failed", "passed": 0, "failed": 1, "ignored": 0, "measured": 0, "filtered_out": 0, "exec_time": 0 }}
+"#
+    )
+}
+
+// What a run by one worker writes of a trial that fails, and between whose readings the clock goes from `before` to `after`.
+fn run_setting<R: Threads + Wait + Drop + Send + Sync + 'static>(
+    rt: R,
+    alloc: Global,
+    schedule: Schedule,
+    before: u64,
+    after: u64,
+) -> Result<Vec<u8>, Fail> {
+    let machine = Settable {
+        rt,
+        nanos: AtomicU64::new(before),
+    };
+    // What workers share has to stay.
+    let machine: &'static Settable<R> = Box::leak(Box::new(alloc, machine)?);
+    let sets = Sets {
+        machine,
+        nanos: after,
+        outcome: outcome_with(alloc, Some("Woops"))?,
+    };
+    let tests = vec![in alloc; Trial::new(String::from_str(alloc, "a")?, sets)]?;
+    let args = timed(alloc, Some(2));
+    let left = run_by(&machine, alloc, &args, tests, roomy(alloc)?, schedule);
+    left.answer?;
+    Ok(left.writer.bytes)
+}
+
+// The time is what lies between the readings before and after the runner, and 0 if the clock goes back. The row has it also if no
+// copy of its message could be made, so that it is written once its worker was joined.
+#[test]
+fn writes_a_row_that_could_not_be_copied_with_its_time(rt: HostRuntime) -> Result<(), Fail> {
+    let alloc = rt.alloc();
+    for schedule in SCHEDULES {
+        for (before, after, time) in &SET {
+            let bytes = run_setting(rt, alloc, schedule, *before, *after)?;
+            assert!(rt;
+                bytes.as_slice() == woops(alloc, time)?.as_str().as_bytes(),
+                "{schedule:?} {time}"
+            );
+        }
+    }
+    Ok(())
+}
