@@ -1,5 +1,5 @@
 -- The text of a joined report, by its parts.
-use Rattle.std.proofs.Common.{◌≡◌, ℕ, Bool, List, [], ◌∷◌, ◌++◌, Option, Result, Ok, length, map, refl, sym, ap, ◌∙◌, append-nil}
+use Rattle.std.proofs.Common.{◌≡◌, ◌<◌, ◌^◌, ℕ, Bool, subst, List, [], ◌∷◌, ◌++◌, Option, Result, Ok, length, map, refl, sym, ap, ◌∙◌, append-nil}
 use Rattle.std.specs.Prelude.{MatchResult}
 use Rattle.std.specs.List.{concat, flat_map}
 use Rattle.std.proofs.lemmas.List.{length-map}
@@ -38,19 +38,19 @@ whole rows filtered_out nanos counts e = sym (simp (length-map, concat-append, r
 
 -- reports that were read and are joined to the lines of these rows
 pub read_joined : (inputs : List (Option (List ℕ))) (shards : ℕ) (equal_names : Bool) (reports slice : List Report) (answer : Result (ℕ × ℕ) Refusal) (totals : ℕ × ℕ)
-    (rows : List (Bor Row)) (counts : Conclusion) → AreReportsIn inputs reports → slice ≡ reports
+    (rows : List (Bor Row)) (counts : Conclusion) → totals.0 < 2 ^ 64 → AreReportsIn inputs reports → slice ≡ reports
     → MatchResult answer (λ x. CanBeShards shards equal_names slice × (x.0 ≡ filtered_out_of slice) × (x.1 ≡ greatest (map time_of slice)))
     (IsRefused shards equal_names slice)
     → answer ≡ Ok totals → map (λ row. row.now) rows ≡ in_turn (map rows_in slice) → counts ≡ counts_of (map (λ row. row.now.outcome) rows) totals.0
     → (read : AreShards inputs shards equal_names) × (lines_of rows counts totals.1 ≡ json_report (joined_contents read.reports))
     × (counts ≡ conclusion_of (joined_contents read.reports))
-read_joined inputs shards equal_names reports slice answer totals rows counts read same fits is turned counted =
+read_joined inputs shards equal_names reports slice answer totals rows counts small read same fits is turned counted =
     let fit = rw is at fits in
     let entries : map (λ row. entry_read row.now) rows ≡ map entry_read (in_turn (map rows_in slice)) =
     sym (map-map entry_read (λ (row : Bor Row). row.now) rows) ∙ ap (map entry_read) turned in
     let contents : contents_of rows totals.0 totals.1 ≡ joined_contents slice = rw (entries, fit.1, fit.2) refl in
     let counts_are : counts ≡ conclusion_of (contents_of rows totals.0 totals.1) = counted ∙ sym (simp map-map) in (
-      record { reports = slice; read = rw same read; fit = fit.0 },
+      record { reports = slice; read = rw same read; fit = fit.0; sum = subst (λ (n : ℕ). n < 2 ^ 64) fit.1 small },
       whole rows totals.0 totals.1 counts counts_are ∙ ap json_report contents,
       counts_are ∙ ap conclusion_of contents,
     )

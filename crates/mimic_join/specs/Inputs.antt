@@ -1,5 +1,5 @@
 -- What inputs are that reports are read from, and what a join of them leaves.
-use Rattle.std.specs.Prelude.{◌≡◌, ℕ, ◌<◌, Bool, List, length, slice_index_or, take, Option, None, Result, Ok, Err, ⊤}
+use Rattle.std.specs.Prelude.{◌≡◌, ℕ, ◌^◌, ◌<◌, Bool, List, length, slice_index_or, take, Option, None, Result, Ok, Err, ⊤}
 use Rattle.std.specs.List.{AllZip}
 use Rattle.mimic_trial.specs.declared.outcome.conclusion.Conclusion.{Conclusion}
 use Rattle.mimic_printer.specs.Json.{conclusion_of, json_report}
@@ -7,7 +7,7 @@ use Rattle.mimic_printer.specs.Sink.{Put, Shown, Stopped}
 use Rattle.mimic_events.specs.declared.report.Report.{Report}
 use Rattle.mimic_events.specs.Inputs.{GivesNone, IsReportIn}
 use Rattle.mimic_events.specs.declared.fault.ReadFault.{ReadFault}
-use Rattle.mimic_join.specs.Joined.{CanBeShards, IsRefused, joined_contents}
+use Rattle.mimic_join.specs.Joined.{CanBeShards, IsRefused, filtered_out_of, joined_contents}
 use Rattle.mimic_join.specs.declared.join.Refusal.{Refusal}
 use Rattle.mimic_join.specs.declared.faults.JoinFault.{JoinFault}
 use Rattle.mimic_join.specs.declared.faults.JoinFault.TheVariants as join
@@ -25,11 +25,12 @@ pub record FailsAt (inputs : List (Option (List ℕ))) (place : ℕ) (fault : Re
   pub before : AreReportsIn (take place inputs) reports
   pub none : GivesNone (slice_index_or inputs place None) fault
 
--- the inputs are reports of the shards
+-- the inputs are reports of the shards, and what was filtered out of all of them is below 2^64
 pub record AreShards (inputs : List (Option (List ℕ))) (shards : ℕ) (equal_names : Bool) : Type 0 where
   pub reports : List Report
   pub read : AreReportsIn inputs reports
   pub fit : CanBeShards shards equal_names reports
+  pub sum : filtered_out_of reports < 2 ^ 64
 
 -- the inputs are reports that are refused
 pub record AreRefused (inputs : List (Option (List ℕ))) (shards : ℕ) (equal_names : Bool) (refusal : Refusal) : Type 0 where

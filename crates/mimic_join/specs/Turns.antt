@@ -1,5 +1,5 @@
 -- Lists in turn: the first items of all lists, then their second items, and so on.
-use Rattle.std.specs.Prelude.{◌≡◌, ℕ, ◌<◌, List, [], ◌∷◌, map, IsPermutation, ⊤}
+use Rattle.std.specs.Prelude.{◌≡◌, ℕ, ◌<◌, List, [], ◌∷◌, map, IsPermutation}
 use Rattle.std.specs.List.{flat_map, range_with_len}
 use Rattle.mimic_trial.specs.Shard.{shard_of}
 

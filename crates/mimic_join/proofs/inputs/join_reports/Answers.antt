@@ -1,3 +1,4 @@
+use Rattle.std.proofs.Common.{arith}
 use Rattle.mimic_join.proofs.JoinedText.{read_joined}
 use Rattle.mimic_events.proofs.Results.{at_fault}
 use Rattle.mimic_join.specs.Inputs.{Leaves}
@@ -6,7 +7,7 @@ use Rattle.mimic_join.proofs.inputs.join_reports.Goals as goal
 
 pub returns-in_err-put_joined : goal.returns-in_err-put_joined
 returns-in_err-put_joined g c =
-    let j = read_joined _ c.args.shards c.args.equal_names _ _ _ _ c.as_slice-rows.result.now _ c.in_ok-reports.ensures c.as_slice-reports.ensures.value
+    let j = read_joined _ c.args.shards c.args.equal_names _ _ _ _ c.as_slice-rows.result.now _ (omega arith) c.in_ok-reports.ensures c.as_slice-reports.ensures.value
     c.in_ok-totals.ensures c.in-Ok.is (rw c.as_slice-rows.ensures.value c.in_ok-rows.ensures) c.counts_of_refs-counts.ensures in
     at_fault (Leaves _ c.args.shards c.args.equal_names _ _) _ (Write c.in_err-put_joined.field-0.0)
     c.from_residual-in_err-put_joined.ensures.1
@@ -14,6 +15,6 @@ returns-in_err-put_joined g c =
 
 pub returns : goal.returns
 returns g c =
-    let j = read_joined _ c.args.shards c.args.equal_names _ _ _ _ c.as_slice-rows.result.now _ c.in_ok-reports.ensures c.as_slice-reports.ensures.value
+    let j = read_joined _ c.args.shards c.args.equal_names _ _ _ _ c.as_slice-rows.result.now _ (omega arith) c.in_ok-reports.ensures c.as_slice-reports.ensures.value
     c.in_ok-totals.ensures c.in-Ok.is (rw c.as_slice-rows.ensures.value c.in_ok-rows.ensures) c.counts_of_refs-counts.ensures in
     (j.0, rw j.1 at c.in_ok-put_joined.ensures, j.2)
