@@ -1,7 +1,8 @@
 //! How long trials ran, as their rows say it, by clocks whose readings are known.
 use super::in_memory::{Asked, NOTHING, asking, run_by_clock, run_in_workers};
 use libtest_mimic::{
-    Clock, FormatSetting, Outcome, Schedule, Sink, Spawner, Stopwatch, Task, Trial, run_here,
+    Clock, ColorSetting, FormatSetting, Outcome, Schedule, Sink, Spawner, Stopwatch, Task, Trial,
+    run_here,
 };
 use mimic_testkit::Answer::{Benchmark, Test};
 use mimic_testkit::{Entry, MIXED_BAG, RaisedClock, known_trials};
@@ -124,7 +125,7 @@ struct Row {
     report: &'static str,
 }
 
-static ROWS: [Row; 8] = [
+static ROWS: [Row; 9] = [
     Row {
         asked: TIMED,
         table: TRIALS,
@@ -200,6 +201,15 @@ static ROWS: [Row; 8] = [
 { "type": "test", "name": "f", "event": "failed", "exec_time": 0.35, "stdout": "Error: \"Woops\"\n" }
 { "type": "suite", "event": "failed", "passed": 0, "failed": 1, "ignored": 1, "measured": 1, "filtered_out": 0, "exec_time": 0 }
 "#,
+    },
+    Row {
+        asked: Asked {
+            color: Some(ColorSetting::Always),
+            ..TIMED
+        },
+        table: TWO,
+        readings: &[0, 0, 5_000_000, 0, 1_500_000_000, 0],
+        report: "\nrunning 2 tests\ntest a ... \x1b[32mok\x1b[0m <0.005s>\ntest b ... \x1b[31mFAILED\x1b[0m <1.500s>\n\nfailures:\n\n---- b ----\nWoops\n\n\nfailures:\n    b\n\ntest result: \x1b[31mFAILED\x1b[0m. 1 passed; 1 failed; 0 ignored; 0 measured; 0 filtered out; finished in 0.00s\n\n",
     },
     // Without the option the second reading is that at the end.
     Row {
