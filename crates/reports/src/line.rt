@@ -10,7 +10,7 @@ use thiserror::Error;
 static COLOURS: [&str; 3] = ["auto", "always", "never"];
 
 // How many of the slowest trials are printed if the line doesn't say it.
-const SLOWEST: usize = 20;
+const SLOWEST: &str = "20";
 
 /// The reports in these files are to be joined, as those of `shards` shards.
 #[derive(Debug, Drop)]
@@ -215,7 +215,8 @@ impl Page {
 impl Slowest {
     fn from_matches(alloc: Global, matches: &ArgMatches<'_>) -> Result<Slowest, LineError> {
         Ok(Slowest {
-            count: matches.get_one::<usize>("count").unwrap_or(SLOWEST),
+            // `-n` has a default.
+            count: matches.get_one::<usize>("count").unwrap_or(0),
             files: files_of(alloc, matches)?,
         })
     }
@@ -368,8 +369,12 @@ fn slowest_command<'a>(alloc: Global) -> Result<Command<'a>, AllocError> {
         .short('n')
         .value_name("COUNT")
         .value_parser(value_parser!(usize))
-        .help("How many trials are printed at most; else 20");
-    let files = files(alloc, "Reports in JSON; - is standard input");
+        .default_value(SLOWEST)
+        .help("How many trials to print at most");
+    let files = files(
+        alloc,
+        "Reports in JSON, of runs with --report-time; - is standard input",
+    );
     Command::new(alloc, "slowest")
         .about("Print the slowest trials of reports")
         .args(vec![in alloc; count, files]?)
