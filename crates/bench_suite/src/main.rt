@@ -179,7 +179,7 @@ fn run_tests<M: Machine + Files + Eprint, R: Task + Send + 'static>(
 }
 
 // Runs the tests over this clock.
-fn run_over<M: Machine + Files + Eprint, R: Task + Send + 'static, C: Clock>(
+fn run_over<M: Machine + Files + Eprint, R: Task + Send + 'static, C: Clock + Drop>(
     rt: &M,
     asked: &Asked,
     tests: Vec<Trial<R>>,
