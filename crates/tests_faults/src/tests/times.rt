@@ -1,10 +1,8 @@
 //! How long trials ran, as the rows of workers say it. With workers it is the clock of the handle that starts their threads that is
 //! read, and not the run's.
-use super::runs::{
-    SCHEDULES, Workers, asking, becoming, outcome_with, roomy, run_by, run_in_workers,
-};
+use super::runs::{SCHEDULES, Workers, asking, becoming, outcome_with, run_by, run_in_workers};
 use super::threads::{Many, QUARTERS, Sleeps, has_lines_of, report_of, run_many};
-use libtest_mimic::{Arguments, FormatSetting, Outcome, Schedule, Sink, Spawner, Task, Trial};
+use libtest_mimic::{Arguments, FormatSetting, Outcome, Schedule, Sink, Spawner, Trial};
 use mimic_events::{Report, Row, read_report, write_report};
 use mimic_testkit::FaultyWriter;
 use std::alloc::{AllocError, Global};
@@ -13,7 +11,6 @@ use std::io::ErrorKind;
 use std::process::Abort;
 use std::rt::Clock;
 use std::sync::Wait;
-use std::sync::atomic::{AtomicU64, Ordering};
 use std::test::Fail;
 use std::thread::Threads;
 use std::time::Duration;
@@ -296,106 +293,6 @@ fn times_by_a_clock_that_stands(rt: HostRuntime) -> Result<(), Fail> {
                 let time = has_time(&row.outcome).then_some(0);
                 assert!(rt; row.nanos == time, "{schedule:?} {reading:?} {}", row.name);
             }
-        }
-    }
-    Ok(())
-}
-
-// The machine's threads, and a clock that a trial sets.
-#[derive(Drop)]
-struct Settable<R> {
-    rt: R,
-    nanos: AtomicU64,
-}
-
-impl<R: Wait> Wait for Settable<R> {}
-
-impl<R: Threads> Threads for Settable<R> {}
-
-impl<R> Clock for Settable<R> {
-    fn monotonic(&self) -> io::Result<Duration> {
-        Ok(Duration::from_nanos(self.nanos.load(Ordering::SeqCst)))
-    }
-
-    fn since_1970(&self) -> io::Result<Duration> {
-        Err(io::Error::from(ErrorKind::Unsupported))
-    }
-}
-
-// Sets the clock, and becomes the outcome.
-#[derive(Drop)]
-struct Sets<R: 'static> {
-    machine: &'static Settable<R>,
-    nanos: u64,
-    outcome: Outcome,
-}
-
-impl<R: Sync> Task for Sets<R> {
-    fn run(self, _test_mode: bool) -> Outcome {
-        self.machine.nanos.store(self.nanos, Ordering::SeqCst);
-        self.outcome
-    }
-}
-
-// What the clock reads before and after the trial, and the time in its row.
-static SET: [(u64, u64, &str); 6] = [
-    (7, 7, "0"),
-    (0, 5_000_000, "0.005"),
-    (1, 5_500_000, "0.005499999"),
-    (7, 5_500_007, "0.0055"),
-    (5, 4, "0"),
-    (0, u64::MAX, "18446744073.709551615"),
-];
-
-// The report of a trial that fails, with this time.
-fn woops(alloc: Global, time: &str) -> Result<String, AllocError> {
-    format!(in alloc;
-        r#"{{ "type": "suite", "event": "started", "test_count": 1 }}
-{{ "type": "test", "event": "started", "name": "a" }}
-{{ "type": "test", "name": "a", "event": "failed", "exec_time": {time}, "stdout": "Error: \"Woops\"\n" }}
-{{ "type": "suite", "event": "failed", "passed": 0, "failed": 1, "ignored": 0, "measured": 0, "filtered_out": 0, "exec_time": 0 }}
-"#
-    )
-}
-
-// What a run by one worker writes of a trial that fails, and between whose readings the clock goes from `before` to `after`.
-fn run_setting<R: Threads + Wait + Drop + Send + Sync + 'static>(
-    rt: R,
-    alloc: Global,
-    schedule: Schedule,
-    before: u64,
-    after: u64,
-) -> Result<Vec<u8>, Fail> {
-    let machine = Settable {
-        rt,
-        nanos: AtomicU64::new(before),
-    };
-    // What workers share has to stay.
-    let machine: &'static Settable<R> = Box::leak(Box::new(alloc, machine)?);
-    let sets = Sets {
-        machine,
-        nanos: after,
-        outcome: outcome_with(alloc, Some("Woops"))?,
-    };
-    let tests = vec![in alloc; Trial::new(String::from_str(alloc, "a")?, sets)]?;
-    let args = timed(alloc, Some(2));
-    let left = run_by(&machine, alloc, &args, tests, roomy(alloc)?, schedule);
-    left.answer?;
-    Ok(left.writer.bytes)
-}
-
-// The time is what lies between the readings before and after the runner, and 0 if the clock goes back. The row has it also if no
-// copy of its message could be made, so that it is written once its worker was joined.
-#[test]
-fn writes_a_row_that_could_not_be_copied_with_its_time(rt: HostRuntime) -> Result<(), Fail> {
-    let alloc = rt.alloc();
-    for schedule in SCHEDULES {
-        for (before, after, time) in &SET {
-            let bytes = run_setting(rt, alloc, schedule, *before, *after)?;
-            assert!(rt;
-                bytes.as_slice() == woops(alloc, time)?.as_str().as_bytes(),
-                "{schedule:?} {time}"
-            );
         }
     }
     Ok(())

@@ -1,17 +1,16 @@
 //! Writers that fail once and then are well: a report is whole, or a beginning of it is written and nothing is done any more.
 use libtest_mimic::{
-    Arguments, Conclusion, Failed, FormatSetting, Outcome, RunError, Schedule, Sink, Task, Trial,
-    WriteFault,
+    Arguments, Conclusion, Failed, FormatSetting, Outcome, RunError, Schedule, Sink, Spawner, Task,
+    Trial, WriteFault,
 };
 use mimic_main::{FlushPolicy, Job, Output, StillClock, run_into};
 use mimic_testkit::{Fault, FaultPlace, FaultyWriter};
 use std::alloc::{AllocError, Global};
 use std::io;
 use std::io::{ErrorKind, Write};
+use std::sync::Arc;
 use std::sync::atomic::{AtomicBool, AtomicU64, Ordering};
-use std::sync::{Arc, Wait};
 use std::test::Fail;
-use std::thread::Threads;
 
 // Whether the writer has failed, and how many tests ran after that.
 #[derive(Drop)]
@@ -95,7 +94,7 @@ fn three_tests(alloc: Global, seen: &Arc<Seen>) -> Result<Vec<Trial<Watched>>, A
 }
 
 // Runs the three tests in one thread.
-fn run_three<T: Threads + Wait + Copy + Drop + Send + 'static>(
+fn run_three<T: Spawner + 'static>(
     rt: &T,
     alloc: Global,
     args: &Arguments,
@@ -145,7 +144,7 @@ impl Left {
 }
 
 // The first place, and the fault there, that leads to a run that isn't right. The faults come in turn.
-fn first_wrong_place<T: Threads + Wait + Copy + Drop + Send + 'static>(
+fn first_wrong_place<T: Spawner + 'static>(
     rt: &T,
     alloc: Global,
     args: &Arguments,
@@ -165,7 +164,7 @@ fn first_wrong_place<T: Threads + Wait + Copy + Drop + Send + 'static>(
 }
 
 // The same of a report in this format by each of the policies, and then of a list.
-fn first_wrong_in<T: Threads + Wait + Copy + Drop + Send + 'static>(
+fn first_wrong_in<T: Spawner + 'static>(
     rt: &T,
     alloc: Global,
     format: FormatSetting,
