@@ -4,7 +4,6 @@ use std::io;
 use std::io::{ErrorKind, Read};
 use std::rt::Clock;
 use std::sync::{Condvar, Mutex, Wait};
-use std::thread;
 use std::time::Duration;
 
 // The most bytes that are read at once.
@@ -16,17 +15,12 @@ const FULL: usize = 1 << 20;
 // How long the showing thread waits for bytes.
 const TICK_MILLIS: u64 = 100;
 
-// How long the reading thread waits if an input that doesn't block has nothing yet.
-const PAUSE_MILLIS: u64 = 10;
-
-// What was read and not taken yet, whether a piece was lost and whether the input is over, and the fault if there was one, until
-// it is told.
+// What was read and not taken yet, whether the input is over, and the fault if there was one.
 #[derive(Drop)]
 struct Held {
     bytes: Vec<u8>,
-    is_lost: bool,
     is_over: bool,
-    fault: Option<io::Error>,
+    fault: Option<ErrorKind>,
 }
 
 /// What both threads share.
@@ -43,7 +37,6 @@ impl Pipe {
         Ok(Pipe {
             held: Mutex::new(Held {
                 bytes: Vec::with_capacity(alloc, FULL + PIECE)?,
-                is_lost: false,
                 is_over: false,
                 fault: None,
             }),
@@ -60,9 +53,8 @@ impl Pipe {
             .wait_while(rt, held, |held| held.bytes.len() >= FULL);
         let was_empty = held.bytes.is_empty();
         // After a piece that was lost, nothing more is appended.
-        if !held.is_lost && held.bytes.extend_from_slice(piece).is_err() {
-            held.is_lost = true;
-            held.fault = Some(io::Error::from(ErrorKind::OutOfMemory));
+        if held.fault.is_none() && held.bytes.extend_from_slice(piece).is_err() {
+            held.fault = Some(ErrorKind::OutOfMemory);
         }
         drop(held);
         if was_empty {
@@ -70,10 +62,10 @@ impl Pipe {
         }
     }
 
-    fn end<R: Wait>(&self, rt: &R, fault: Option<io::Error>) {
+    fn end<R: Wait>(&self, rt: &R, fault: Option<ErrorKind>) {
         let mut held = self.held.lock(rt);
         held.is_over = true;
-        if !held.is_lost {
+        if held.fault.is_none() {
             held.fault = fault;
         }
         drop(held);
@@ -81,9 +73,8 @@ impl Pipe {
     }
 }
 
-/// Reads the input to its end, and puts it into the pipe for the other thread. An input that says that it would block, or that it
-/// timed out, is asked again after a pause.
-pub(crate) fn pump<R: Wait + Clock, I: Read>(rt: &R, input: &mut I, pipe: &Pipe) {
+/// Reads the input to its end, and puts it into the pipe for the other thread.
+pub(crate) fn pump<R: Wait, I: Read>(rt: &R, input: &mut I, pipe: &Pipe) {
     let mut piece = [0; PIECE];
     let mut fault = None;
     for _ in 0..u64::MAX {
@@ -92,11 +83,8 @@ pub(crate) fn pump<R: Wait + Clock, I: Read>(rt: &R, input: &mut I, pipe: &Pipe)
             Ok(count) => pipe.put(rt, &piece[..count]),
             Err(error) => match error.kind() {
                 ErrorKind::Interrupted => {}
-                ErrorKind::WouldBlock | ErrorKind::TimedOut => {
-                    thread::sleep(rt, Duration::from_millis(PAUSE_MILLIS));
-                }
-                _ => {
-                    fault = Some(error);
+                kind => {
+                    fault = Some(kind);
                     break;
                 }
             },
@@ -152,8 +140,8 @@ impl<'a, R: Wait + Clock> Incoming<'a, R> {
             self.pipe.taken.notify_one();
             return Ok(true);
         }
-        match state.fault.take() {
-            Some(error) => Err(error),
+        match state.fault {
+            Some(kind) => Err(io::Error::from(kind)),
             None if state.is_over => Ok(false),
             None => Err(io::Error::from(ErrorKind::TimedOut)),
         }
