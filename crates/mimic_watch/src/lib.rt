@@ -3,11 +3,10 @@
 //! ```rust
 //! use mimic_events::Ending;
 //! use mimic_printer::Sink;
-//! use mimic_watch::{Screen, watch};
+//! use mimic_watch::watch;
 //!
 //! let mut sink = Sink::new(stdout);
-//! let screen = Screen { live: is_terminal, columns: 79 };
-//! let verdict = watch(alloc, &mut input, &mut sink, &clock, screen)?;
+//! let verdict = watch(alloc, &mut input, &mut sink, &clock, is_terminal)?;
 //! match verdict.ending {
 //!     Ending::Whole { filtered_out, nanos } => {}
 //!     Ending::Cut(stop) => {}
@@ -21,6 +20,6 @@ mod row;
 mod verdict;
 mod viewer;
 
-pub use frame::{ERASE, Screen};
+pub use frame::ERASE;
 pub use verdict::{WatchFault, WatchVerdict};
 pub use viewer::watch;
