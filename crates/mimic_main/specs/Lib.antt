@@ -1,4 +1,5 @@
 pub mod Ended
+pub mod Marked
 pub mod Output
 pub mod Policy
 pub mod Run

@@ -11,6 +11,7 @@ use crate::clock::MonotonicClock;
 use crate::colours::shows_colours;
 use crate::job::Job;
 use crate::machine::Machine;
+use crate::monitor::Notices;
 use crate::program::Program;
 use crate::sharding::{ShardError, Sharding};
 use crate::status::Status;
@@ -207,7 +208,17 @@ impl<'a> Program<'a> {
         };
         let out = machine.stdout();
         let on_terminal = out.is_terminal();
-        let (_, _, ran) = job.run(&host, &host, alloc, out, on_terminal);
+        let (_, _, ran) = match self.slow_limit {
+            Some(limit) => {
+                let notices = Notices {
+                    program: self.name,
+                    limit,
+                    err: machine.stderr(),
+                };
+                job.run_with_notices(&host, alloc, out, on_terminal, notices)
+            }
+            None => job.run(&host, &host, alloc, out, on_terminal),
+        };
         self.status_of(ran, args.logfile.as_ref(), err)
     }
 

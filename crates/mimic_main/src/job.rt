@@ -6,12 +6,16 @@ ghost use Rattle.libtest_mimic.specs.declared.running.RunError.TheVariants.{Writ
 ghost use Rattle.libtest_mimic.specs.Run.{done};
 ghost use Rattle.libtest_mimic.specs.Trial.{AllCanRun};
 ghost use Rattle.mimic_main.specs.Ended.{IfOfRun};
+ghost use Rattle.mimic_main.specs.Marked.{IsRunOf};
 ghost use Rattle.mimic_main.specs.Output.{given_to};
 ghost use Rattle.mimic_main.specs.Run.{GotBeginning, IsLawful, Left, Ran, asked_by};
 
+use crate::marked::{Marked, mark_all};
+use crate::monitor::{Monitor, Notices};
 use crate::output::Output;
 use crate::policy::FlushPolicy;
 use crate::program::Fault;
+use crate::running_trials::RunningTrials;
 use libtest_mimic::{
     Arguments, Clock, Conclusion, RunError, Schedule, Sink, Spawner, Stopwatch, Task, Trial,
     WriteFault, run, run_from_queue,
@@ -19,6 +23,7 @@ use libtest_mimic::{
 use std::alloc::Global;
 use std::fs::Files;
 use std::io::Write;
+use std::sync::Arc;
 use std::{fs, io};
 
 /// What a run is about.
@@ -45,7 +50,7 @@ impl<R, C> Job<'_, R, C> {
     }
 }
 
-impl<R: Task + Send + 'static, C: Clock> Job<'_, R, C> {
+impl<'a, R: Task + Send + 'static, C: Clock> Job<'a, R, C> {
     // Runs into the logfile if there is one, which is made or emptied first, else to `out`, which may be a terminal. Gives back
     // `out` and the watch over its clock, which is fresh if the logfile could not be made.
     pub(crate) fn run<T: Spawner + 'static, F: Files, O: Write>(
@@ -80,6 +85,93 @@ impl<R: Task + Send + 'static, C: Clock> Job<'_, R, C> {
                 let (out, watch, ran) = run_into(rt, alloc, self, output);
                 (out, watch, ran.map_err(Fault::Run))
             }
+        }
+    }
+
+    // Runs as `run` does. If it isn't a list, another thread prints meanwhile which trials run for too long. If that thread can't be
+    // started, or there is no memory for it, the run goes on without.
+    pub(crate) fn run_with_notices<
+        H: Spawner + Files + 'static,
+        O: Write,
+        E: Write + Send + Drop + 'static,
+    >(
+        self,
+        host: &H,
+        alloc: Global,
+        out: O,
+        on_terminal: bool,
+        notices: Notices<&str, E>,
+    ) -> (O, Stopwatch<C>, Result<Conclusion, Fault>)
+        requires runnable { AllCanRun R.can_run self.tests.items }
+        requires some_thread { 1 ≤ self.default_threads }
+        ensures ran { IsNone self.entry.args.now.logfile
+            → IfOk result.2 (Ran (asked_by R.gives self.entry) (O.contents out) (O.contents result.0) result.1) }
+        ensures beginning { IsNone self.entry.args.now.logfile
+            → IfErr result.2 (λ fault. IfOfRun fault
+            (GotBeginning (asked_by R.gives self.entry) (O.contents out) (O.contents result.0) result.1)) }
+        ensures nothing { IsSome self.entry.args.now.logfile → result.0 ≡ out }
+        ensures lawful { IfOk result.2 (IsLawful (asked_by R.gives self.entry)) }
+    {
+        let threads = self.args.threads(self.default_threads);
+        if self.args.list {
+            return self.run(host, host, alloc, out, on_terminal);
+        }
+        let Some(monitor) = Monitor::start(host, alloc, self.tests.as_slice(), threads, notices)
+        else {
+            return self.run(host, host, alloc, out, on_terminal);
+        };
+        match self.marked(alloc, monitor.running()) {
+            Ok(job) => {
+                let ran = job.run(host, host, alloc, out, on_terminal);
+                monitor.end(host);
+                ran
+            }
+            Err(job) => {
+                monitor.end(host);
+                job.run(host, host, alloc, out, on_terminal)
+            }
+        }
+    }
+
+    // The same job over the same trials, which are marked while they run. If there is no memory for them, the job as it was.
+    fn marked(
+        self,
+        alloc: Global,
+        running: &Arc<RunningTrials>,
+    ) -> Result<Job<'a, Marked<R>, C>, Self>
+        ensures law { IfOk result (λ job.
+            IsRunOf (asked_by (λ m mode o. R.gives m.runner mode o) job) (asked_by R.gives self.entry)) }
+        ensures runnable { IfOk result (λ job. AllCanRun R.can_run self.tests.items
+            → AllCanRun (λ m. R.can_run m.runner) job.tests.items) }
+        ensures args { IfOk result (λ job. job.args.now ≡ self.entry.args.now) }
+        ensures threads { IfOk result (λ job. job.default_threads ≡ self.default_threads) }
+        ensures same { IfErr result (λ job. job ≡ self.entry) }
+    {
+        let Job {
+            args,
+            tests,
+            clock,
+            default_threads,
+            auto_colours,
+            schedule,
+        } = self;
+        match mark_all(alloc, running, tests) {
+            Ok(tests) => Ok(Job {
+                args,
+                tests,
+                clock,
+                default_threads,
+                auto_colours,
+                schedule,
+            }),
+            Err(tests) => Err(Job {
+                args,
+                tests,
+                clock,
+                default_threads,
+                auto_colours,
+                schedule,
+            }),
         }
     }
 

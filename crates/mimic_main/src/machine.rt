@@ -13,8 +13,8 @@ pub trait Machine: Env + AllocGlobal + Clock {
     /// Where reports, lists and help go.
     type Stdout: Write + IsTerminal + Drop;
 
-    /// Where faults are printed.
-    type Stderr: Write + Drop;
+    /// Where faults are printed, and from another thread which trials run for too long.
+    type Stderr: Write + Drop + Send + 'static;
 
     /// What starts its threads and opens its files.
     fn host(&self) -> Self::Host;

@@ -19,6 +19,10 @@ use std::fmt::Display;
 use std::fs::Files;
 use std::io;
 use std::io::Write;
+use std::time::Duration;
+
+// For how many seconds a trial runs before it is printed, if the program says nothing else.
+const SLOW_SECONDS: u64 = 60;
 
 // Why no report, or only a part of one, was written.
 #[derive(Debug, Drop)]
@@ -37,6 +41,7 @@ pub struct Program<'a> {
     pub(crate) prints_causes: bool,
     pub(crate) schedule: Schedule,
     pub(crate) on_terminal: bool,
+    pub(crate) slow_limit: Option<Duration>,
     pub ghost some_thread: { 1 ≤ threads },
 }
 
@@ -60,6 +65,7 @@ impl<'a> Program<'a> {
             prints_causes: true,
             schedule: Schedule::Queue,
             on_terminal: false,
+            slow_limit: Some(Duration::from_secs(SLOW_SECONDS)),
         }
     }
 
@@ -71,6 +77,7 @@ impl<'a> Program<'a> {
         ensures causes { result.prints_causes ≡ self.entry.prints_causes }
         ensures schedule { result.schedule ≡ self.entry.schedule }
         ensures terminal { result.on_terminal ≡ self.entry.on_terminal }
+        ensures limit { result.slow_limit ≡ self.entry.slow_limit }
     {
         self.auto_colours = auto_colours;
         self
@@ -84,6 +91,7 @@ impl<'a> Program<'a> {
         ensures causes { result.prints_causes ≡ false }
         ensures schedule { result.schedule ≡ self.entry.schedule }
         ensures terminal { result.on_terminal ≡ self.entry.on_terminal }
+        ensures limit { result.slow_limit ≡ self.entry.slow_limit }
     {
         self.prints_causes = false;
         self
@@ -97,6 +105,7 @@ impl<'a> Program<'a> {
         ensures causes { result.prints_causes ≡ self.entry.prints_causes }
         ensures schedule { result.schedule ≡ schedule }
         ensures terminal { result.on_terminal ≡ self.entry.on_terminal }
+        ensures limit { result.slow_limit ≡ self.entry.slow_limit }
     {
         self.schedule = schedule;
         self
@@ -111,8 +120,24 @@ impl<'a> Program<'a> {
         ensures causes { result.prints_causes ≡ self.entry.prints_causes }
         ensures schedule { result.schedule ≡ self.entry.schedule }
         ensures terminal { result.on_terminal ≡ on_terminal }
+        ensures limit { result.slow_limit ≡ self.entry.slow_limit }
     {
         self.on_terminal = on_terminal;
+        self
+    }
+
+    /// Says how long a trial runs before it is printed on standard error, once: `PROGRAM: [kind] name has been running for over 60
+    /// seconds`. `None` prints none. Without this call it is a minute. Only calls that are given a machine print them.
+    pub fn with_slow_limit(mut self, limit: Option<Duration>) -> Program<'a>
+        ensures name { result.name ≡ self.entry.name }
+        ensures threads { result.threads ≡ self.entry.threads }
+        ensures colours { result.auto_colours ≡ self.entry.auto_colours }
+        ensures causes { result.prints_causes ≡ self.entry.prints_causes }
+        ensures schedule { result.schedule ≡ self.entry.schedule }
+        ensures terminal { result.on_terminal ≡ self.entry.on_terminal }
+        ensures limit { result.slow_limit ≡ limit }
+    {
+        self.slow_limit = limit;
         self
     }
 }

@@ -7,4 +7,5 @@ mod outputs;
 mod programs;
 mod runs;
 mod shards;
+mod slow_trials;
 mod variables;

@@ -6,13 +6,15 @@ ghost use Rattle.libtest_mimic.specs.Trial.{AllCanRun};
 use super::runs::Host;
 use libtest_mimic::{RunError, Task, Trial};
 use mimic_main::{Machine, run_program};
-use std::alloc::{Alloc, Global};
+use std::alloc::{Alloc, AllocError, Global};
 use std::cell::Cell;
 use std::env::FillError;
 use std::io;
-use std::io::{IsTerminal, Write};
+use std::io::{ErrorKind, IsTerminal, Write};
 use std::process::{ExitCode, Termination};
 use std::rt::{Clock, Env};
+use std::sync::atomic::{AtomicUsize, Ordering};
+use std::sync::{Arc, Mutex};
 use std::time::Duration;
 
 // The variables of an environment, each a name and a value, which need not be text.
@@ -40,8 +42,16 @@ impl Got {
     }
 }
 
-// A machine that is known but for its host: its line, its variables, and whether its output is a terminal. Its clock reads one
-// and a half seconds more each time, its present time stays, and its streams can be read afterwards.
+// What standard error has got, from whatever thread.
+#[derive(Drop)]
+pub(super) struct Printed {
+    bytes: Mutex<Vec<u8>>,
+    pub(super) writes: AtomicUsize,
+}
+
+// A machine that is known but for its host: its line, its variables, whether its output is a terminal, and whether its standard
+// error is closed. Its clock reads one and a half seconds more each time, its present time stays, and its streams can be read
+// afterwards.
 #[derive(Drop)]
 pub(super) struct KnownMachine<'a, H> {
     host: H,
@@ -49,6 +59,7 @@ pub(super) struct KnownMachine<'a, H> {
     words: Words,
     pub(super) variables: Variables,
     pub(super) is_terminal: bool,
+    pub(super) is_closed: bool,
     readings: Cell<u64>,
     streams: &'a Streams,
 }
@@ -106,7 +117,7 @@ impl<H> Clock for KnownMachine<'_, H> {
     }
 }
 
-// A stream of the machine.
+// Standard output of the machine.
 #[derive(Drop)]
 pub(super) struct Stream<'a> {
     alloc: Global,
@@ -135,12 +146,36 @@ impl Write for Stream<'_> {
     }
 }
 
+// Standard error of the machine. `None` is closed.
+#[derive(Drop)]
+pub(super) struct ErrorStream<H> {
+    host: H,
+    printed: Option<Arc<Printed>>,
+}
+
+impl<H: Host> Write for ErrorStream<H> {
+    fn write(&mut self, buf: &[u8]) -> io::Result<usize> {
+        let Some(printed) = &self.printed else {
+            return Err(io::Error::from(ErrorKind::BrokenPipe));
+        };
+        let mut bytes = printed.bytes.lock(&self.host);
+        bytes.extend_from_slice(buf)?;
+        drop(bytes);
+        printed.writes.fetch_add(1, Ordering::SeqCst);
+        Ok(buf.len())
+    }
+
+    fn flush(&mut self) -> io::Result<()> {
+        Ok(())
+    }
+}
+
 impl<'a, H: Host> Machine for KnownMachine<'a, H> {
     type Host = H;
 
     type Stdout = Stream<'a>;
 
-    type Stderr = Stream<'a>;
+    type Stderr = ErrorStream<H>;
 
     fn host(&self) -> H {
         self.host
@@ -154,11 +189,15 @@ impl<'a, H: Host> Machine for KnownMachine<'a, H> {
         }
     }
 
-    fn stderr(&self) -> Stream<'a> {
-        Stream {
-            alloc: self.alloc,
-            is_terminal: false,
-            got: &self.streams.err,
+    fn stderr(&self) -> ErrorStream<H> {
+        let printed = if self.is_closed {
+            None
+        } else {
+            Arc::try_clone(&self.streams.err).ok()
+        };
+        ErrorStream {
+            host: self.host,
+            printed,
         }
     }
 }
@@ -167,23 +206,34 @@ impl<'a, H: Host> Machine for KnownMachine<'a, H> {
 #[derive(Drop)]
 pub(super) struct Streams {
     pub(super) out: Got,
-    pub(super) err: Got,
+    pub(super) err: Arc<Printed>,
 }
 
 impl Streams {
-    pub(super) fn new(alloc: Global) -> Streams {
-        Streams {
+    pub(super) fn new(alloc: Global) -> Result<Streams, AllocError> {
+        let printed = Printed {
+            bytes: Mutex::new(Vec::new(alloc)),
+            writes: AtomicUsize::new(0),
+        };
+        Ok(Streams {
             out: Got::nothing(alloc),
-            err: Got::nothing(alloc),
+            err: Arc::new(alloc, printed)?,
+        })
+    }
+
+    // What standard error has got, once no other thread has it.
+    pub(super) fn into_printed(self, alloc: Global) -> Vec<u8> {
+        match Arc::into_inner(self.err) {
+            Some(printed) => printed.bytes.into_inner(),
+            None => Vec::new(alloc),
         }
     }
 
     // Whether standard error has got this text in one write, and standard output nothing.
     pub(super) fn have_only_printed(self, alloc: Global, text: &str) -> bool {
-        let err = self.err.bytes.replace(Vec::new(alloc));
-        err.as_slice() == text.as_bytes()
-            && self.err.writes.get() == 1
-            && self.out.writes.get() == 0
+        let is_alone =
+            self.err.writes.load(Ordering::SeqCst) == 1 && self.out.writes.get() == 0;
+        is_alone && self.into_printed(alloc).as_slice() == text.as_bytes()
     }
 }
 
@@ -200,6 +250,7 @@ pub(super) fn known_machine<H>(
         words,
         variables: &[],
         is_terminal: false,
+        is_closed: false,
         readings: Cell::new(0),
         streams,
     }

@@ -50,7 +50,7 @@ fn shows_as_known<H: Host>(
     row: &(Variables, bool, bool),
 ) -> Result<bool, Fail> {
     let (variables, is_terminal, is_coloured) = row;
-    let streams = Streams::new(alloc);
+    let streams = Streams::new(alloc)?;
     let mut machine = known_machine(host, alloc, NO_OPTIONS, &streams);
     machine.variables = variables;
     machine.is_terminal = *is_terminal;
@@ -78,7 +78,7 @@ const TERSE: Words = &[b"program", b"--format", b"terse", b"--test-threads", b"1
 // How many writes the report of one test takes, on a machine whose output is a terminal or not.
 fn writes_of<H: Host>(host: H, alloc: Global, is_terminal: bool) -> Result<usize, Fail> {
     let tests = one_test(alloc)?;
-    let streams = Streams::new(alloc);
+    let streams = Streams::new(alloc)?;
     let mut machine = known_machine(host, alloc, TERSE, &streams);
     machine.is_terminal = is_terminal;
     let _status = run_on(&machine, Ok(tests));
@@ -95,25 +95,31 @@ fn asks_its_machine_for_a_terminal(rt: HostRuntime) -> Result<(), Fail> {
 }
 
 // Whether the text is printed if this is why the tests could not be made.
-fn is_refused<H: Host>(host: H, alloc: Global, refusal: RunError, text: &str) -> bool {
-    let streams = Streams::new(alloc);
+fn is_refused<H: Host>(
+    host: H,
+    alloc: Global,
+    refusal: RunError,
+    text: &str,
+) -> Result<bool, AllocError> {
+    let streams = Streams::new(alloc)?;
     let machine = known_machine(host, alloc, NO_OPTIONS, &streams);
     let tests: Result<Vec<Trial<Pass>>, RunError> = Err(refusal);
-    run_on(&machine, tests) == ExitCode::from(1) && streams.have_only_printed(alloc, text)
+    Ok(run_on(&machine, tests) == ExitCode::from(1) && streams.have_only_printed(alloc, text))
 }
 
 // If the tests could not be made, the reason is printed under the program's name.
 #[test]
-fn prints_why_tests_were_not_made(rt: HostRuntime) {
+fn prints_why_tests_were_not_made(rt: HostRuntime) -> Result<(), AllocError> {
     let alloc = rt.alloc();
     let memory = "program: out of memory\n";
-    assert!(rt; is_refused(rt, alloc, RunError::OutOfMemory, memory));
+    assert!(rt; is_refused(rt, alloc, RunError::OutOfMemory, memory)?);
     let threads = "program: no threads to run trials\n";
-    assert!(rt; is_refused(rt, alloc, RunError::ZeroThreads, threads));
+    assert!(rt; is_refused(rt, alloc, RunError::ZeroThreads, threads)?);
     let worker = "program: cannot start a worker\n";
-    assert!(rt; is_refused(rt, alloc, RunError::Spawn, worker));
+    assert!(rt; is_refused(rt, alloc, RunError::Spawn, worker)?);
     let arrival = "program: outcome of trial 7 differs from its worker's answer\n";
-    assert!(rt; is_refused(rt, alloc, RunError::Arrival { place: 7 }, arrival));
+    assert!(rt; is_refused(rt, alloc, RunError::Arrival { place: 7 }, arrival)?);
+    Ok(())
 }
 
 // Why there are no tests.
@@ -132,9 +138,9 @@ impl Display for Unmade {
 // The same holds for a program whose line was read already, if a table of cases could not be made, and for one that ends before
 // it has a line, with a reason of its own.
 #[test]
-fn prints_under_its_name(rt: HostRuntime) {
+fn prints_under_its_name(rt: HostRuntime) -> Result<(), AllocError> {
     let alloc = rt.alloc();
-    let streams = Streams::new(alloc);
+    let streams = Streams::new(alloc)?;
     let machine = known_machine(rt, alloc, NO_OPTIONS, &streams);
     let cases: Result<Vec<(&str, u8)>, RunError> = Err(RunError::Spawn);
     let tests = trials_of_cases(alloc, cases, |_input: u8| Ok(()));
@@ -148,7 +154,7 @@ fn prints_under_its_name(rt: HostRuntime) {
     .report(&rt);
     assert!(rt; status == ExitCode::from(1));
     assert!(rt; streams.have_only_printed(alloc, "by_line: cannot start a worker\n"));
-    let streams = Streams::new(alloc);
+    let streams = Streams::new(alloc)?;
     let machine = known_machine(rt, alloc, NO_OPTIONS, &streams);
     let ended: Result<Status, Unmade> = Err(Unmade { wrong: 2, all: 7 });
     let status = Program::on(&machine, "by_end")
@@ -156,6 +162,7 @@ fn prints_under_its_name(rt: HostRuntime) {
         .report(&rt);
     assert!(rt; status == ExitCode::from(1));
     assert!(rt; streams.have_only_printed(alloc, "by_end: 2 of 7 lines are wrong\n"));
+    Ok(())
 }
 
 // Lines without any word, even the program's name, and with a word that is no text, also after one that asks for help.
@@ -168,7 +175,7 @@ static UNREADABLE: [Words; 3] = [
 // Whether the line is refused, and has no words of the program's own either.
 fn is_unreadable<H: Host>(host: H, alloc: Global, words: Words) -> Result<bool, Fail> {
     let tests = one_test(alloc)?;
-    let streams = Streams::new(alloc);
+    let streams = Streams::new(alloc)?;
     let machine = known_machine(host, alloc, words, &streams);
     let line = Line::from_args(&machine, alloc);
     let shown = format!(in alloc; "{line:?}")?;
@@ -218,7 +225,7 @@ fn runs_in_the_threads_of_its_machine(rt: HostRuntime) -> Result<(), Fail> {
         let running = running.clone()?;
         tests.push(Trial::new(name, Meets { running, awaited }))?;
     }
-    let streams = Streams::new(alloc);
+    let streams = Streams::new(alloc)?;
     let machine = known_machine(rt, alloc, NO_OPTIONS, &streams);
     assert!(rt; run_on(&machine, Ok(tests)) == ExitCode::SUCCESS);
     Ok(())

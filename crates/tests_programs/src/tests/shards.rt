@@ -5,7 +5,7 @@ use super::known_machine::{
 use super::runs::Host;
 use libtest_mimic::{Outcome, RunError, Task, Trial};
 use mimic_main::Program;
-use std::alloc::Global;
+use std::alloc::{AllocError, Global};
 use std::fs;
 use std::process::{Abort, ExitCode, Termination};
 use std::sync::Arc;
@@ -57,15 +57,14 @@ fn run_five<H: Host>(
     variables: Variables,
 ) -> Result<Left, Fail> {
     let runs = Arc::new(alloc, AtomicUsize::new(0))?;
-    let streams = Streams::new(alloc);
+    let streams = Streams::new(alloc)?;
     let mut machine = known_machine(host, alloc, words, &streams);
     machine.variables = variables;
     let status = run_on(&machine, Ok(five_tests(alloc, &runs)?));
-    let Streams { out, err } = streams;
     Ok(Left {
         status,
-        out: String::from_utf8(out.bytes.replace(Vec::new(alloc)))?,
-        err: String::from_utf8(err.bytes.replace(Vec::new(alloc)))?,
+        out: String::from_utf8(streams.out.bytes.replace(Vec::new(alloc)))?,
+        err: String::from_utf8(streams.into_printed(alloc))?,
         runs: runs.load(Ordering::SeqCst),
     })
 }
@@ -334,14 +333,15 @@ fn touches_its_status_file(rt: HostRuntime) -> Result<(), Fail> {
 
 // Whatever else is wrong.
 #[test]
-fn prints_first_why_tests_were_not_made(rt: HostRuntime) {
+fn prints_first_why_tests_were_not_made(rt: HostRuntime) -> Result<(), AllocError> {
     let alloc = rt.alloc();
-    let streams = Streams::new(alloc);
+    let streams = Streams::new(alloc)?;
     let mut machine = known_machine(rt, alloc, &[b"program", b"--no-option"], &streams);
     machine.variables = &[(TOTAL, b"x")];
     let unmade: Result<Vec<Trial<Counts>>, RunError> = Err(RunError::Spawn);
     assert!(rt; run_on(&machine, unmade) == ExitCode::from(1));
     assert!(rt; streams.have_only_printed(alloc, "program: cannot start a worker\n"));
+    Ok(())
 }
 
 // `Program::run` goes by the line alone.
@@ -349,12 +349,12 @@ fn prints_first_why_tests_were_not_made(rt: HostRuntime) {
 fn runs_without_variables(rt: HostRuntime) -> Result<(), Fail> {
     let alloc = rt.alloc();
     let runs = Arc::new(alloc, AtomicUsize::new(0))?;
-    let streams = Streams::new(alloc);
+    let streams = Streams::new(alloc)?;
     let mut machine = known_machine(rt, alloc, NO_OPTIONS, &streams);
     machine.variables = &[(TOTAL, b"5"), (INDEX, b"x"), (ONLY, b"a")];
     let unsharded = Program::new("unsharded", 1);
     let status = unsharded.run(&machine, five_tests(alloc, &runs)?);
     assert!(rt; status.report(&rt) == ExitCode::SUCCESS);
-    assert!(rt; runs.load(Ordering::SeqCst) == 11111 && streams.err.writes.get() == 0);
+    assert!(rt; runs.load(Ordering::SeqCst) == 11111 && streams.err.writes.load(Ordering::SeqCst) == 0);
     Ok(())
 }

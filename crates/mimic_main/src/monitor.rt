@@ -1,0 +1,196 @@
+//! Prints which trials run for too long, while they do.
+use crate::output::BLOCK;
+use crate::running_trials::{FREE, RunningTrials};
+use arrayvec::ArrayVec;
+use libtest_mimic::{Sink, Spawner, Trial, WriteFault};
+use mimic_printer::{Piece, Place, put_escaped, put_pieces};
+use std::alloc::{AllocError, Global};
+use std::io::Write;
+use std::rt::Clock;
+use std::sync::atomic::Ordering;
+use std::sync::{Arc, Wait};
+use std::thread;
+use std::thread::JoinHandle;
+use std::time::Duration;
+
+// A thread that prints a notice of each trial that runs for too long.
+pub(crate) struct Monitor {
+    running: Arc<RunningTrials>,
+    thread: JoinHandle<()>,
+}
+
+// What a notice says but for the trial's name, and where it goes.
+#[derive(Drop)]
+pub(crate) struct Notices<P, E> {
+    // The program that prints it.
+    pub(crate) program: P,
+    // How long a trial runs before it is printed.
+    pub(crate) limit: Duration,
+    pub(crate) err: E,
+}
+
+impl Monitor {
+    // Starts the thread, for a run of these trials of which `threads` run at the same time. `None` if it can't be started, or if there
+    // is no memory for it.
+    pub(crate) fn start<T: Spawner + 'static, R, E: Write + Send + Drop + 'static>(
+        rt: &T,
+        alloc: Global,
+        trials: &[Trial<R>],
+        threads: usize,
+        notices: Notices<&str, E>,
+    ) -> Option<Monitor> {
+        let threads = threads.min(trials.len());
+        let running = RunningTrials::new(alloc, trials, threads).ok()?;
+        let running = Arc::new(alloc, running).ok()?;
+        let looks = first_looks(alloc, threads).ok()?;
+        let notices = Notices {
+            program: String::from_str(alloc, notices.program).ok()?,
+            limit: notices.limit,
+            err: notices.err,
+        };
+        let (other, theirs) = (*rt, Arc::try_clone(&running).ok()?);
+        let thread =
+            thread::spawn(rt, move || watch_over(&other, &theirs, looks, notices)).ok()?;
+        Some(Monitor { running, thread })
+    }
+
+    // Where trials are to be marked while they run.
+    pub(crate) fn running(&self) -> &Arc<RunningTrials> {
+        &self.running
+    }
+
+    // Ends the thread, once it has written the notice that it is writing.
+    pub(crate) fn end<T: Spawner>(self, rt: &T) {
+        let Monitor { running, thread } = self;
+        running.end_all(rt);
+        thread.join(rt);
+    }
+}
+
+// What was seen in a cell: its mark, since when, and whether it was printed.
+#[derive(Clone, Copy)]
+struct Look {
+    mark: u64,
+    since: Duration,
+    is_printed: bool,
+}
+
+impl Look {
+    // Looks at the mark that is there now. Returns whether its trial has run for too long and is to be printed.
+    fn is_slow(&mut self, mark: u64, now: Duration, limit: Duration) -> bool {
+        if mark != self.mark {
+            *self = Look {
+                mark,
+                since: now,
+                is_printed: false,
+            };
+        }
+        let is_slow = mark != FREE && now.saturating_sub(self.since) > limit;
+        let is_new = is_slow && !self.is_printed;
+        self.is_printed |= is_new;
+        is_new
+    }
+}
+
+// Nothing was seen in so many cells.
+fn first_looks(alloc: Global, count: usize) -> Result<Vec<Look>, AllocError> {
+    let look = Look {
+        mark: FREE,
+        since: Duration::ZERO,
+        is_printed: false,
+    };
+    let mut looks = Vec::with_capacity(alloc, count)?;
+    for _ in 0..count {
+        looks.push(look)?;
+    }
+    Ok(looks)
+}
+
+// Looks at the trials that run again and again until the run is over. No clock is read when a trial begins or ends: one that is there
+// at two looks has run for the time between them.
+fn watch_over<T: Wait + Clock, E: Write + Drop>(
+    rt: &T,
+    running: &RunningTrials,
+    looks: Vec<Look>,
+    notices: Notices<String, E>,
+) {
+    let (mut looks, mut notices) = (looks, notices);
+    let pause = notices.pause();
+    for _ in rt.forever() {
+        if running.waits_for_end(rt, pause) {
+            return;
+        }
+        // A clock that can't be read says nothing of any trial.
+        let Ok(now) = rt.monotonic() else { return };
+        look_at_all(running, now, looks.as_mut_slice(), &mut notices);
+    }
+}
+
+// Looks at each cell, and prints the trials that have run for too long by now.
+fn look_at_all<E: Write>(
+    running: &RunningTrials,
+    now: Duration,
+    looks: &mut [Look],
+    notices: &mut Notices<String, E>,
+) {
+    for (cell, look) in running.cells().iter().zip(looks.iter_mut()) {
+        let mark = cell.load(Ordering::Acquire);
+        if look.is_slow(mark, now, notices.limit) {
+            notices.print(running.name(mark));
+        }
+    }
+}
+
+impl<E: Write> Notices<String, E> {
+    // How long the thread sleeps between two looks: an eighth of the limit, but no longer than a second.
+    fn pause(&self) -> Duration {
+        Duration::from_millis((millis_of(self.limit) / 8).clamp(1, 1000))
+    }
+
+    // Prints the trial, if it can be. A line that a block holds is one write, so that no other program's text comes between its parts.
+    fn print(&mut self, name: &[u8]) {
+        let program = self.program.as_str();
+        let mut block: Sink<ArrayVec<u8, BLOCK>> = Sink::new(ArrayVec::new());
+        let _ = match put_notice(&mut block, program, name, self.limit) {
+            Ok(()) => self.err.write_all(block.into_inner().as_slice()),
+            Err(_) => {
+                let _ = put_notice(&mut Sink::new(&mut self.err), program, name, self.limit);
+                Ok(())
+            }
+        };
+    }
+}
+
+// Writes that the trial of this full name has run for longer than the limit.
+fn put_notice<W: Write>(
+    sink: &mut Sink<W>,
+    program: &str,
+    name: &[u8],
+    limit: Duration,
+) -> Result<(), WriteFault> {
+    put_pieces(sink, &[Piece::Text(program), Piece::Text(": ")])?;
+    put_escaped(sink, name, Place::Line)?;
+    let (number, unit) = in_words(limit);
+    put_pieces(
+        sink,
+        &[
+            Piece::Text(" has been running for over "),
+            Piece::Number(number),
+            Piece::Text(unit),
+            Piece::Text("\n"),
+        ],
+    )
+}
+
+// A time as people say it: whole seconds, if it is some, else milliseconds.
+fn in_words(time: Duration) -> (u64, &'static str) {
+    match time.as_secs() {
+        1 if time.subsec_nanos() == 0 => (1, " second"),
+        seconds if seconds > 1 && time.subsec_nanos() == 0 => (seconds, " seconds"),
+        _ => (millis_of(time), " ms"),
+    }
+}
+
+fn millis_of(time: Duration) -> u64 {
+    u64::try_from(time.as_millis()).unwrap_or(u64::MAX)
+}

@@ -1,0 +1,218 @@
+//! Trials that run for too long, and what is printed of them meanwhile.
+use super::known_machine::{NO_OPTIONS, Printed, Streams, known_machine};
+use super::runs::Host;
+use libtest_mimic::{Arguments, Failed, Outcome, RunError, Task, Trial};
+use mimic_main::{Program, Sharding, Status};
+use std::alloc::{AllocError, Global};
+use std::process::{ExitCode, Termination};
+use std::sync::Arc;
+use std::sync::atomic::Ordering;
+use std::test::Fail;
+use std::thread;
+use std::time::Duration;
+
+// A trial that runs until this number of notices was printed, and then for some time more. It fails if they don't come.
+#[derive(Drop)]
+struct Waits<H> {
+    host: H,
+    printed: Arc<Printed>,
+    awaited: usize,
+    more: Duration,
+}
+
+impl<H: Host> Task for Waits<H> {
+    fn run(self, _test_mode: bool) -> Outcome {
+        for _ in 0..3000 {
+            if self.printed.writes.load(Ordering::SeqCst) >= self.awaited {
+                thread::sleep(&self.host, self.more);
+                return Outcome::Passed;
+            }
+            thread::sleep(&self.host, Duration::from_millis(10));
+        }
+        Outcome::Failed(Failed::without_message())
+    }
+}
+
+// A trial's kind and name, how many notices it waits for, and for how many milliseconds it runs then.
+type Awaiting = (&'static str, &'static str, usize, u64);
+
+// A run: its trials, how many threads run them, the limit in milliseconds, and the lines that it prints, in any order.
+#[derive(Drop)]
+struct Row {
+    trials: &'static [Awaiting],
+    threads: usize,
+    limit: Option<u64>,
+    lines: &'static [&'static str],
+}
+
+const LIMIT: Option<u64> = Some(20);
+
+static ROWS: [Row; 9] = [
+    Row {
+        trials: &[("", "slow", 1, 100)],
+        threads: 1,
+        limit: LIMIT,
+        lines: &["program: slow has been running for over 20 ms\n"],
+    },
+    Row {
+        trials: &[("", "a", 0, 0), ("net", "b", 2, 100), ("", "c", 2, 100), ("", "d", 0, 0)],
+        threads: 4,
+        limit: LIMIT,
+        lines: &[
+            "program: [net] b has been running for over 20 ms\n",
+            "program: c has been running for over 20 ms\n",
+        ],
+    },
+    // One after another in one thread.
+    Row {
+        trials: &[("", "a", 1, 100), ("", "b", 0, 0), ("", "c", 2, 100)],
+        threads: 1,
+        limit: LIMIT,
+        lines: &[
+            "program: a has been running for over 20 ms\n",
+            "program: c has been running for over 20 ms\n",
+        ],
+    },
+    Row {
+        trials: &[("", "a", 0, 0), ("", "b", 0, 0), ("", "c", 0, 0)],
+        threads: 2,
+        limit: Some(60_000),
+        lines: &[],
+    },
+    Row {
+        trials: &[("", "a", 0, 100), ("", "b", 0, 0)],
+        threads: 1,
+        limit: None,
+        lines: &[],
+    },
+    // What is no letter of a line is written by its number.
+    Row {
+        trials: &[("k\t", "one\ntwo \u{1b}[31m", 1, 100)],
+        threads: 1,
+        limit: LIMIT,
+        lines: &["program: [k\\u{9}] one\\u{a}two \\u{1b}[31m has been running for over 20 ms\n"],
+    },
+    Row {
+        trials: &[("", "slow", 1, 100)],
+        threads: 2,
+        limit: Some(1000),
+        lines: &["program: slow has been running for over 1 second\n"],
+    },
+    Row {
+        trials: &[("", "slow", 1, 100)],
+        threads: 1,
+        limit: Some(1001),
+        lines: &["program: slow has been running for over 1001 ms\n"],
+    },
+    Row {
+        trials: &[("", "slow", 1, 100)],
+        threads: 1,
+        limit: Some(2000),
+        lines: &["program: slow has been running for over 2 seconds\n"],
+    },
+];
+
+// What is left of a run.
+#[derive(Drop)]
+struct Left {
+    status: ExitCode,
+    printed: String,
+}
+
+// Runs the trials, which are to be printed once they have run for longer than the limit. A closed standard error takes nothing.
+fn run_limited<H: Host>(
+    host: H,
+    alloc: Global,
+    row: &Row,
+    is_closed: bool,
+) -> Result<Left, Fail> {
+    let streams = Streams::new(alloc)?;
+    let mut machine = known_machine(host, alloc, NO_OPTIONS, &streams);
+    machine.is_closed = is_closed;
+    let trials = waiting(host, alloc, row.trials, &streams.err)?;
+    let program = Program::new("program", row.threads.max(1))
+        .with_slow_limit(row.limit.map(|millis| Duration::from_millis(millis)));
+    let tests: Result<Vec<Trial<Waits<H>>>, RunError> = Ok(trials);
+    let line = Ok(Arguments::new(alloc));
+    let status: Status = program.run_line(&machine, line, Ok(Sharding::none()), tests);
+    Ok(Left {
+        status: status.report(&host),
+        printed: String::from_utf8(streams.into_printed(alloc))?,
+    })
+}
+
+// The trials of a row.
+fn waiting<H: Host>(
+    host: H,
+    alloc: Global,
+    awaiting: &[Awaiting],
+    printed: &Arc<Printed>,
+) -> Result<Vec<Trial<Waits<H>>>, AllocError> {
+    let mut trials = Vec::new(alloc);
+    for (kind, name, awaited, more) in awaiting {
+        let runner = Waits {
+            host,
+            printed: Arc::try_clone(printed)?,
+            awaited: *awaited,
+            more: Duration::from_millis(*more),
+        };
+        let trial = Trial::new(String::from_str(alloc, name)?, runner);
+        trials.push(trial.with_kind(String::from_str(alloc, kind)?))?;
+    }
+    Ok(trials)
+}
+
+// Whether the text is these lines, each once, in any order.
+fn has_lines(text: &str, lines: &[&str]) -> bool {
+    let mut bytes = 0;
+    for line in lines {
+        if !text.contains(*line) {
+            return false;
+        }
+        bytes += line.len();
+    }
+    text.len() == bytes
+}
+
+// Each trial that runs for too long is printed once, while it runs, and others are not.
+#[test]
+fn prints_slow_trials(rt: HostRuntime) -> Result<(), Fail> {
+    for row in &ROWS {
+        let left = run_limited(rt, rt.alloc(), row, false)?;
+        assert!(rt; left.status == ExitCode::SUCCESS);
+        assert!(rt; has_lines(left.printed.as_str(), row.lines), "{:?}", left.printed);
+    }
+    Ok(())
+}
+
+// Sixteen that run at the same time, of which each waits until all were printed.
+#[test]
+fn prints_all_of_many_threads(rt: HostRuntime) -> Result<(), Fail> {
+    static TRIALS: [Awaiting; 16] = [("", "trial", 16, 100); 16];
+    let row = Row {
+        trials: &TRIALS,
+        threads: 16,
+        limit: LIMIT,
+        lines: &[],
+    };
+    let left = run_limited(rt, rt.alloc(), &row, false)?;
+    let line = "program: trial has been running for over 20 ms\n";
+    assert!(rt; left.status == ExitCode::SUCCESS);
+    assert!(rt; left.printed.len() == 16 * line.len());
+    assert!(rt; left.printed.as_str().split(line).all(|rest| rest.is_empty()));
+    Ok(())
+}
+
+// If nothing can be printed, the run is as it would be without.
+#[test]
+fn runs_without_standard_error(rt: HostRuntime) -> Result<(), Fail> {
+    let row = Row {
+        trials: &[("", "a", 0, 100), ("", "b", 0, 0)],
+        threads: 1,
+        limit: LIMIT,
+        lines: &[],
+    };
+    let left = run_limited(rt, rt.alloc(), &row, true)?;
+    assert!(rt; left.status == ExitCode::SUCCESS && left.printed.is_empty());
+    Ok(())
+}
