@@ -30,8 +30,8 @@ pub(crate) struct Notices<P, E> {
 }
 
 impl Monitor {
-    // Starts the thread, for a run of these trials of which `threads` run at the same time. `None` if it can't be started, or if there
-    // is no memory for it.
+    // Starts the thread, for a run of these trials of which `threads` run at the same time. `None` if none runs, if the thread can't be
+    // started, or if there is no memory for it.
     pub(crate) fn start<T: Spawner + 'static, R, E: Write + Send + Drop + 'static>(
         rt: &T,
         alloc: Global,
@@ -40,6 +40,9 @@ impl Monitor {
         notices: Notices<&str, E>,
     ) -> Option<Monitor> {
         let threads = threads.min(trials.len());
+        if threads == 0 {
+            return None;
+        }
         let running = RunningTrials::new(alloc, trials, threads).ok()?;
         let running = Arc::new(alloc, running).ok()?;
         let looks = first_looks(alloc, threads).ok()?;
@@ -62,41 +65,51 @@ impl Monitor {
     // Ends the thread, once it has written the notice that it is writing.
     pub(crate) fn end<T: Spawner>(self, rt: &T) {
         let Monitor { running, thread } = self;
-        running.end_all(rt);
+        running.end();
         thread.join(rt);
     }
 }
 
-// What was seen in a cell: its mark, since when, and whether it was printed.
+// What was seen in a cell: its mark, when it was first seen again, and whether its trial was printed.
 #[derive(Clone, Copy)]
 struct Look {
     mark: u64,
-    since: Duration,
+    since: Option<Duration>,
     is_printed: bool,
 }
 
 impl Look {
-    // Looks at the mark that is there now. Returns whether its trial has run for too long and is to be printed.
-    fn is_slow(&mut self, mark: u64, now: Duration, limit: Duration) -> bool {
+    // Looks at the mark that is there now. Returns whether its trial has run for too long and wasn't printed yet.
+    //
+    // The clock is read only for a trial that was seen before, so for none that is fast.
+    fn is_slow<T: Clock>(&mut self, rt: &T, mark: u64, limit: Duration) -> bool {
         if mark != self.mark {
             *self = Look {
                 mark,
-                since: now,
+                since: None,
                 is_printed: false,
             };
+            return false;
         }
-        let is_slow = mark != FREE && now.saturating_sub(self.since) > limit;
-        let is_new = is_slow && !self.is_printed;
-        self.is_printed |= is_new;
-        is_new
+        if mark == FREE || self.is_printed {
+            return false;
+        }
+        let Ok(now) = rt.monotonic() else {
+            return false;
+        };
+        match self.since {
+            Some(since) => self.is_printed = now.saturating_sub(since) > limit,
+            None => self.since = Some(now),
+        }
+        self.is_printed
     }
 }
 
-// Nothing was seen in so many cells.
+// Nothing was seen yet in this number of cells.
 fn first_looks(alloc: Global, count: usize) -> Result<Vec<Look>, AllocError> {
     let look = Look {
         mark: FREE,
-        since: Duration::ZERO,
+        since: None,
         is_printed: false,
     };
     let mut looks = Vec::with_capacity(alloc, count)?;
@@ -106,8 +119,7 @@ fn first_looks(alloc: Global, count: usize) -> Result<Vec<Look>, AllocError> {
     Ok(looks)
 }
 
-// Looks at the trials that run again and again until the run is over. No clock is read when a trial begins or ends: one that is there
-// at two looks has run for the time between them.
+// Looks at the trials that run, again and again until the run is over.
 fn watch_over<T: Wait + Clock, E: Write + Drop>(
     rt: &T,
     running: &RunningTrials,
@@ -117,25 +129,23 @@ fn watch_over<T: Wait + Clock, E: Write + Drop>(
     let (mut looks, mut notices) = (looks, notices);
     let pause = notices.pause();
     for _ in rt.forever() {
-        if running.waits_for_end(rt, pause) {
+        if running.sleeps_to_end(rt, pause) {
             return;
         }
-        // A clock that can't be read says nothing of any trial.
-        let Ok(now) = rt.monotonic() else { return };
-        look_at_all(running, now, looks.as_mut_slice(), &mut notices);
+        look_at_all(rt, running, looks.as_mut_slice(), &mut notices);
     }
 }
 
 // Looks at each cell, and prints the trials that have run for too long by now.
-fn look_at_all<E: Write>(
+fn look_at_all<T: Clock, E: Write>(
+    rt: &T,
     running: &RunningTrials,
-    now: Duration,
     looks: &mut [Look],
     notices: &mut Notices<String, E>,
 ) {
     for (cell, look) in running.cells().iter().zip(looks.iter_mut()) {
         let mark = cell.load(Ordering::Acquire);
-        if look.is_slow(mark, now, notices.limit) {
+        if look.is_slow(rt, mark, notices.limit) {
             notices.print(running.name(mark));
         }
     }

@@ -2,9 +2,9 @@
 use libtest_mimic::Trial;
 use mimic_trial::TestInfo;
 use std::alloc::{AllocError, Global};
-use std::rt::Clock;
-use std::sync::atomic::{AtomicU64, Ordering};
-use std::sync::{Condvar, Mutex, Wait};
+use std::sync::Wait;
+use std::sync::atomic::{AtomicBool, AtomicU64, Ordering};
+use std::thread::Parker;
 use std::time::Duration;
 
 // What a cell holds in which no trial is marked. It holds the trial's place and one otherwise.
@@ -19,8 +19,9 @@ pub(crate) struct RunningTrials {
     // The trials' full names one after another, and the byte at which each begins; the last number is where they end.
     names: Vec<u8>,
     starts: Vec<usize>,
-    is_over: Mutex<bool>,
-    ended: Condvar,
+    is_over: AtomicBool,
+    // Where the thread that looks for slow ones sleeps.
+    parker: Parker,
 }
 
 impl RunningTrials {
@@ -35,8 +36,8 @@ impl RunningTrials {
             cells: free_cells(alloc, threads)?,
             names,
             starts,
-            is_over: Mutex::new(false),
-            ended: Condvar::new(),
+            is_over: AtomicBool::new(false),
+            parker: Parker::new(),
         })
     }
 
@@ -72,21 +73,16 @@ impl RunningTrials {
         self.names.get(start..end)
     }
 
-    // Waits until the run is over, but no longer than `most`. Returns whether it is.
-    pub(crate) fn waits_for_end<T: Wait + Clock>(&self, rt: &T, most: Duration) -> bool {
-        let is_over = self.is_over.lock(rt);
-        let (is_over, _) = self
-            .ended
-            .wait_timeout_while(rt, is_over, most, |is_over| !*is_over);
-        *is_over
+    // Sleeps until the run is over, but no longer than `most`. Returns whether it is. One thread alone may call it.
+    pub(crate) fn sleeps_to_end<T: Wait>(&self, rt: &T, most: Duration) -> bool {
+        self.parker.park_timeout(rt, most);
+        self.is_over.load(Ordering::SeqCst)
     }
 
-    // Wakes who waits for the end.
-    pub(crate) fn end_all<T: Wait>(&self, rt: &T) {
-        let mut is_over = self.is_over.lock(rt);
-        *is_over = true;
-        drop(is_over);
-        self.ended.notify_one();
+    // The run is over. Wakes the thread that sleeps.
+    pub(crate) fn end(&self) {
+        self.is_over.store(true, Ordering::SeqCst);
+        self.parker.unpark();
     }
 }
 
