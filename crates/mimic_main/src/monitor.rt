@@ -178,7 +178,8 @@ fn put_notice<W: Write>(
     name: &[u8],
     limit: Duration,
 ) -> Result<(), WriteFault> {
-    put_pieces(sink, &[Piece::Text(program), Piece::Text(": ")])?;
+    sink.put(program.as_bytes())?;
+    sink.put(b": ")?;
     put_escaped(sink, name, Place::Line)?;
     let (number, unit) = in_words(limit);
     put_pieces(
