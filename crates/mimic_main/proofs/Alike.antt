@@ -170,8 +170,8 @@ module _ {A B : Type 0} (gives : Gives A) (others : Gives B) where
         → StartsReport gives suite order old new watch → StartsReport others (over suite us) order old new watch
     starts_over order old new watch h =
         let Begun : List ℕ → List ℕ → Type 0 = λ start whole. MatchOption (elapsed_of watch)
-            (IsRunning watch × Stopped old new start)
-            (λ nanos. (h.left ≡ []) × (mid : Shown) × Put old mid whole × Stopped mid new (summary_of suite h.rows nanos)) in
+        (IsRunning watch × Stopped old new start)
+        (λ nanos. (h.left ≡ []) × (mid : Shown) × Put old mid whole × Stopped mid new (summary_of suite h.rows nanos)) in
         let begun = subst (λ start. Begun start (start_text suite h.rows [])) (start_over h.rows h.left) h.begun in
         record {
           placed = h.placed;

@@ -52,8 +52,7 @@ impl Monitor {
             err: notices.err,
         };
         let (other, theirs) = (*rt, Arc::try_clone(&running).ok()?);
-        let thread =
-            thread::spawn(rt, move || watch_over(&other, &theirs, looks, notices)).ok()?;
+        let thread = thread::spawn(rt, move || watch_over(&other, &theirs, looks, notices)).ok()?;
         Some(Monitor { running, thread })
     }
 

@@ -102,10 +102,7 @@ fn free_cells(alloc: Global, count: usize) -> Result<Vec<AtomicU64>, AllocError>
 }
 
 // The full names of the trials one after another, and where each begins, and the last one ends.
-fn full_names<R>(
-    alloc: Global,
-    trials: &[Trial<R>],
-) -> Result<(Vec<u8>, Vec<usize>), AllocError> {
+fn full_names<R>(alloc: Global, trials: &[Trial<R>]) -> Result<(Vec<u8>, Vec<usize>), AllocError> {
     let mut names = Vec::new(alloc);
     let mut starts = Vec::with_capacity(alloc, trials.len())?;
     for trial in trials {
