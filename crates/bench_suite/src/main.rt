@@ -163,7 +163,9 @@ fn run_tests<M: Machine + Files + Eprint, R: Task + Send + 'static>(
 {
     let mut clock = MonotonicClock::new(rt);
     let start = clock.now();
-    let status = if asked.real_clock {
+    let status = if let Some(millis) = asked.slow_limit {
+        run_as_program(rt, asked, tests, millis)?
+    } else if asked.real_clock {
         run_over(rt, asked, tests, MonotonicClock::new(rt))?
     } else {
         run_over(rt, asked, tests, StillClock)?
@@ -176,6 +178,27 @@ fn run_tests<M: Machine + Files + Eprint, R: Task + Send + 'static>(
     };
     let _ = eprintln!(rt; "{measured}");
     Ok(status)
+}
+
+// Runs the tests as a program does that prints those which run for longer than this.
+fn run_as_program<M: Machine, R: Task + Send + 'static>(
+    rt: &M,
+    asked: &Asked,
+    tests: Vec<Trial<R>>,
+    millis: u64,
+) -> Result<Status, RunError>
+    requires { AllCanRun R.can_run tests.items }
+{
+    let args = asked.arguments(rt.alloc())?;
+    let limit = match millis {
+        0 => None,
+        _ => Some(Duration::from_millis(millis)),
+    };
+    let program = bench_suite()
+        .with_schedule(asked.schedule)
+        .with_slow_limit(limit);
+    let tests: Result<Vec<Trial<R>>, RunError> = Ok(tests);
+    Ok(program.run_line(rt, Ok(args), Ok(Sharding::none()), tests))
 }
 
 // Runs the tests over this clock.

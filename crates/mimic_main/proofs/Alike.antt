@@ -1,6 +1,6 @@
 -- A run of trials is a run of others that are alike.
-use Rattle.std.proofs.Common.{◌≡◌, ◌∙◌, ◌++◌, ◌-◌, ◌≤◌, ◌<◌, ℕ, zero, suc, Bool, true, false, List, [], ◌∷◌, All, Option, Result, Ok, Err, IfOk, IsTrue, MatchResult, ap, ap₂, arith, inl, inr, length, not, refl, subst, sym}
-use Rattle.std.specs.List.{AllZip, range_with_len}
+use Rattle.std.proofs.Common.{◌≡◌, ◌∙◌, ◌++◌, ◌-◌, ◌<◌, ℕ, zero, suc, Bool, true, false, List, [], ◌∷◌, All, Option, Result, Ok, Err, IfErr, IfOk, IsTrue, MatchResult, ap, ap₂, arith, inl, inr, length, not, refl, subst, sym}
+use Rattle.std.specs.List.{range_with_len}
 use Rattle.std.specs.List.Sorted.{IsPermutation}
 use Rattle.std.specs.Prelude.{◌↔◌, ◌≢◌, MatchOption}
 use Rattle.mimic_args.specs.declared.Arguments.{Arguments}
@@ -18,17 +18,20 @@ use Rattle.mimic_trial.specs.declared.outcome.conclusion.Conclusion.{Conclusion}
 use Rattle.mimic_trial.specs.declared.trial.TestInfo.{TestInfo}
 use Rattle.mimic_trial.specs.declared.trial.Trial.{Trial}
 use Rattle.libtest_mimic.specs.Arrangement.{IsArrangement, IsOwn, IsOwnAt, OnlyOwn}
-use Rattle.libtest_mimic.specs.Run.{Done, HasAnswer, ListRefused, Lists, ReportRefused, Reported, ReportedBy, Reports, StartsReport, next_text, start_text, summary_of}
+use Rattle.libtest_mimic.specs.Run.{HasAnswer, ListRefused, Lists, ReportRefused, Reported, Reports, StartsReport, next_text, start_text, summary_of}
 use Rattle.libtest_mimic.specs.Selection.{IsDropped, IsIgnored, IsSelection}
 use Rattle.libtest_mimic.specs.Stopwatch.{IsRunning, Watched, elapsed_of}
 use Rattle.libtest_mimic.specs.Suite.{AreTimed, Asked, OfAsked, Suite, asking, filtered_out_of, printer_for, rows_of, suite_of}
 use Rattle.libtest_mimic.specs.declared.running.RunError.{RunError}
 use Rattle.libtest_mimic.specs.declared.running.RunError.TheVariants.{OutOfMemory, Write, ZeroThreads, Spawn, Arrival}
 use Rattle.mimic_main.specs.Marked.{AreAlike, IsAlike, IsRunOf}
-use Rattle.mimic_main.specs.Run.{IsLawful, Left}
+use Rattle.mimic_main.specs.Ended.{IfOfRun}
+use Rattle.mimic_main.specs.Run.{GotBeginning, IsLawful, Ran, done_over, faultless}
+use Rattle.mimic_main.specs.declared.program.Fault.{Fault}
+use Rattle.mimic_main.specs.declared.program.Fault.TheVariants.{Logfile, Run}
 
 -- a trial of which nothing but this is known
-bare : TestInfo → Trial (Unit {0})
+abbrev bare : TestInfo → Trial (Unit {0})
 bare i = record { info = i; runner = tt }
 
 module _ {A B : Type 0} (gives : Gives A) (others : Gives B) where
@@ -205,10 +208,10 @@ module _ {A B : Type 0} (gives : Gives A) (others : Gives B) where
 
 module _ {A B : Type 0} (gives : Gives A) (others : Gives B) (threads : ℕ) (auto : Bool) (args : Arguments)
     (ts : List (Trial A)) (us : List (Trial B)) (alike : AreAlike gives others ts us) where
-  asked : Asked A
+  abbrev pub asked : Asked A
   asked = asking gives threads auto ts args
 
-  other : Asked B
+  abbrev pub other : Asked B
   other = asking others threads auto us args
 
   same_rest : (kept : List (Trial A)) (left : List (Trial B)) → AreAlike gives others kept left → filtered_out_of ts kept ≡ filtered_out_of us left
@@ -257,3 +260,21 @@ module _ {A B : Type 0} (gives : Gives A) (others : Gives B) (threads : ℕ) (au
       adds_up = λ unlisted. h.adds_up unlisted ∙ same_length gives others ts us alike;
     };
   }
+
+-- ---- what is known of a run of the one, said of a run of the others
+
+module _ {A B : Type 0} {one : Asked A} {another : Asked B} (law : IsRunOf one another) where
+  pub ran : {E : Type 0} (old new : Option (List ℕ)) (watch : Watched) (r : Result Conclusion E)
+      → IfOk r (Ran one old new watch) → IfOk r (Ran another old new watch)
+  ran old new watch (Ok c) h = law.left (done_over old (faultless new) watch (Ok c)) h
+  ran old new watch (Err e) h = tt
+
+  pub got_beginning : (old got : Option (List ℕ)) (watch : Watched) (r : Result Conclusion Fault)
+      → IfErr r (λ fault. IfOfRun fault (GotBeginning one old got watch)) → IfErr r (λ fault. IfOfRun fault (GotBeginning another old got watch))
+  got_beginning old got watch (Ok c) h = tt
+  got_beginning old got watch (Err (Logfile e)) h = h
+  got_beginning old got watch (Err (Run fault)) h = (h.0, h.1, law.left (done_over old h.0 watch h.1) h.2, h.3, h.4)
+
+  pub lawful : {E : Type 0} (r : Result Conclusion E) → IfOk r (IsLawful one) → IfOk r (IsLawful another)
+  lawful (Ok c) h = law.lawful c h
+  lawful (Err e) h = tt

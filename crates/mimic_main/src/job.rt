@@ -88,8 +88,8 @@ impl<'a, R: Task + Send + 'static, C: Clock> Job<'a, R, C> {
         }
     }
 
-    // Runs as `run` does. If it isn't a list, another thread prints meanwhile which trials run for too long. If that thread can't be
-    // started, or there is no memory for it, the run goes on without.
+    // Runs as `run` does. If it isn't a list, another thread prints the notices of slow trials meanwhile. If that thread can't be started,
+    // or there is no memory for it, the run goes on without.
     pub(crate) fn run_with_notices<
         H: Spawner + Files + 'static,
         O: Write,
@@ -100,7 +100,7 @@ impl<'a, R: Task + Send + 'static, C: Clock> Job<'a, R, C> {
         alloc: Global,
         out: O,
         on_terminal: bool,
-        notices: Notices<&str, E>,
+        notices: Notices<'_, E>,
     ) -> (O, Stopwatch<C>, Result<Conclusion, Fault>)
         requires runnable { AllCanRun R.can_run self.tests.items }
         requires some_thread { 1 ≤ self.default_threads }
@@ -141,10 +141,10 @@ impl<'a, R: Task + Send + 'static, C: Clock> Job<'a, R, C> {
     ) -> Result<Job<'a, Marked<R>, C>, Self>
         ensures law { IfOk result (λ job.
             IsRunOf (asked_by (λ m mode o. R.gives m.runner mode o) job) (asked_by R.gives self.entry)) }
-        ensures runnable { IfOk result (λ job. AllCanRun R.can_run self.tests.items
+        ensures runnable { IfOk result (λ job. AllCanRun R.can_run self.entry.tests.items
             → AllCanRun (λ m. R.can_run m.runner) job.tests.items) }
         ensures args { IfOk result (λ job. job.args.now ≡ self.entry.args.now) }
-        ensures threads { IfOk result (λ job. job.default_threads ≡ self.default_threads) }
+        ensures threads { IfOk result (λ job. job.default_threads ≡ self.entry.default_threads) }
         ensures same { IfErr result (λ job. job ≡ self.entry) }
     {
         let Job {

@@ -1,4 +1,6 @@
 //! Prints which trials run for too long, while they do.
+ghost use Rattle.mimic_printer.specs.Sink.{HasFaultLeft};
+
 use crate::output::BLOCK;
 use crate::running_trials::{FREE, RunningTrials};
 use arrayvec::ArrayVec;
@@ -19,26 +21,40 @@ pub(crate) struct Monitor {
     thread: JoinHandle<()>,
 }
 
-// What a notice says but for the trial's name, and where it goes.
+// Which notices are asked for.
 #[derive(Drop)]
-pub(crate) struct Notices<P, E> {
-    // The program that prints it.
-    pub(crate) program: P,
-    // How long a trial runs before it is printed.
-    pub(crate) limit: Duration,
+pub(crate) struct Notices<'a, E> {
+    // The program that prints them.
+    pub(crate) program: &'a str,
+    // How long a trial runs before it is printed, if any is.
+    pub(crate) limit: Option<Duration>,
+    // Where they go.
     pub(crate) err: E,
 }
 
+// Prints notices, in another thread.
+#[derive(Drop)]
+struct Notifier<E> {
+    program: String,
+    limit: Duration,
+    err: E,
+}
+
 impl Monitor {
-    // Starts the thread, for a run of these trials of which `threads` run at the same time. `None` if none runs, if the thread can't be
-    // started, or if there is no memory for it.
+    // Starts the thread, for a run of these trials of which `threads` run at the same time. `None` if no notices are asked for, if no trial
+    // runs, if the thread can't be started, or if there is no memory for it.
     pub(crate) fn start<T: Spawner + 'static, R, E: Write + Send + Drop + 'static>(
         rt: &T,
         alloc: Global,
         trials: &[Trial<R>],
         threads: usize,
-        notices: Notices<&str, E>,
+        notices: Notices<'_, E>,
     ) -> Option<Monitor> {
+        let Notices {
+            program,
+            limit,
+            err,
+        } = notices;
         let threads = threads.min(trials.len());
         if threads == 0 {
             return None;
@@ -46,13 +62,13 @@ impl Monitor {
         let running = RunningTrials::new(alloc, trials, threads).ok()?;
         let running = Arc::new(alloc, running).ok()?;
         let looks = first_looks(alloc, threads).ok()?;
-        let notices = Notices {
-            program: String::from_str(alloc, notices.program).ok()?,
-            limit: notices.limit,
-            err: notices.err,
+        let notifier = Notifier {
+            program: String::from_str(alloc, program).ok()?,
+            limit: limit?,
+            err,
         };
         let (other, theirs) = (*rt, Arc::try_clone(&running).ok()?);
-        let thread = thread::spawn(rt, move || watch_over(&other, &theirs, looks, notices)).ok()?;
+        let thread = thread::spawn(rt, move || watch_over(&other, &theirs, looks, notifier)).ok()?;
         Some(Monitor { running, thread })
     }
 
@@ -123,15 +139,15 @@ fn watch_over<T: Wait + Clock, E: Write + Drop>(
     rt: &T,
     running: &RunningTrials,
     looks: Vec<Look>,
-    notices: Notices<String, E>,
+    notifier: Notifier<E>,
 ) {
-    let (mut looks, mut notices) = (looks, notices);
-    let pause = notices.pause();
+    let (mut looks, mut notifier) = (looks, notifier);
+    let pause = notifier.pause();
     for _ in rt.forever() {
         if running.sleeps_to_end(rt, pause) {
             return;
         }
-        look_at_all(rt, running, looks.as_mut_slice(), &mut notices);
+        look_at_all(rt, running, looks.as_mut_slice(), &mut notifier);
     }
 }
 
@@ -140,17 +156,17 @@ fn look_at_all<T: Clock, E: Write>(
     rt: &T,
     running: &RunningTrials,
     looks: &mut [Look],
-    notices: &mut Notices<String, E>,
+    notifier: &mut Notifier<E>,
 ) {
     for (cell, look) in running.cells().iter().zip(looks.iter_mut()) {
         let mark = cell.load(Ordering::Acquire);
-        if look.is_slow(rt, mark, notices.limit) {
-            notices.print(running.name(mark));
+        if look.is_slow(rt, mark, notifier.limit) {
+            notifier.print(running.name(mark));
         }
     }
 }
 
-impl<E: Write> Notices<String, E> {
+impl<E: Write> Notifier<E> {
     // How long the thread sleeps between two looks: an eighth of the limit, but no longer than a second.
     fn pause(&self) -> Duration {
         Duration::from_millis((millis_of(self.limit) / 8).clamp(1, 1000))
@@ -176,7 +192,9 @@ fn put_notice<W: Write>(
     program: &str,
     name: &[u8],
     limit: Duration,
-) -> Result<(), WriteFault> {
+) -> Result<(), WriteFault>
+    requires { HasFaultLeft sink.old }
+{
     sink.put(program.as_bytes())?;
     sink.put(b": ")?;
     put_escaped(sink, name, Place::Line)?;
