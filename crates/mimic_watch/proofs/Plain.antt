@@ -64,10 +64,9 @@ cut_again a b = elim (cases_lt (length a) 39) [
 pub cut_short : (a : List ℕ) → length (take 39 a) ≤ 39
 cut_short a = omega (arith, length-take 39 a)
 
--- a line of three parts, and one of four
-pub three_parts : (a b c l m n o : List ℕ) → l ≡ [] → m ≡ take 39 (l ++ plain_text a) → n ≡ take 39 (m ++ plain_text b) → o ≡ take 39 (n ++ plain_text c)
-    → o ≡ take 39 (plain_text (a ++ (b ++ c)))
-three_parts a b c l m n o e f g h = rw (h, g, f, e) (simp (cut_again, flat_map-append, append_assoc))
+-- a line of two parts, and one of four
+pub two_parts : (a b l m n : List ℕ) → l ≡ [] → m ≡ take 39 (l ++ plain_text a) → n ≡ take 39 (m ++ plain_text b) → n ≡ take 39 (plain_text (a ++ b))
+two_parts a b l m n e f g = rw (g, f, e) (simp (cut_again, flat_map-append, append_assoc))
 
 pub four_parts : (a b c d l m n o p : List ℕ) → l ≡ [] → m ≡ take 39 (l ++ plain_text a) → n ≡ take 39 (m ++ plain_text b) → o ≡ take 39 (n ++ plain_text c)
     → p ≡ take 39 (o ++ plain_text d) → p ≡ take 39 (plain_text (a ++ (b ++ (c ++ d))))

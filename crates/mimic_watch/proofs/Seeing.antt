@@ -38,7 +38,7 @@ row_seen old mid new bytes front put waiting e on ended counts shown sees h =
 
 -- a front of the piece was taken
 pub record TakenSoFar (old : Viewer) (piece : List ℕ) (new : Viewer) (rest : List ℕ) : Type 0 where
-  pub live : new.live ≡ old.live
+  pub screen : new.screen ≡ old.screen
   pub seen : (before : List ℕ) (put waiting : List Entry) → HasSeen old before put waiting
       → (front : List ℕ) × (more : List Entry) × (piece ≡ front ++ rest) × HasSeen new (before ++ front) put (waiting ++ more)
 
@@ -48,15 +48,15 @@ none_seen w = λ before put waiting h. ([], rw (append-nil before, append-nil wa
 
 pub nothing_taken : (w : Viewer) (piece : List ℕ) → TakenSoFar w piece w piece
 nothing_taken w piece = record {
-  live = refl;
+  screen = refl;
   seen = λ before put waiting h. let s = none_seen w before put waiting h in ([], s.0, refl, s.1);
 }
 
 pub row_taken : (start old mid new : Viewer) (piece rest : List ℕ) (row : Row) (left : List ℕ) → TakenSoFar start piece old rest
     → SeesRow mid (entry_read row) new → FollowsRow old.follower rest mid.follower row left
-    → mid.ended ≡ old.ended → mid.counts ≡ old.counts → mid.waiting.items ≡ old.waiting.items → mid.live ≡ old.live → TakenSoFar start piece new left
-row_taken start old mid new piece rest row left so_far sees f ended counts shown live = record {
-  live = sees.live ∙ live ∙ so_far.live;
+    → mid.ended ≡ old.ended → mid.counts ≡ old.counts → mid.waiting.items ≡ old.waiting.items → mid.screen ≡ old.screen → TakenSoFar start piece new left
+row_taken start old mid new piece rest row left so_far sees f ended counts shown screen = record {
+  screen = sees.screen ∙ screen ∙ so_far.screen;
   seen = λ before put waiting h.
       let s = so_far.seen before put waiting h in
       let e : Entry = entry_read row in (

@@ -12,6 +12,7 @@ use Rattle.mimic_events.specs.Reading.{Decodes}
 use Rattle.mimic_events.specs.SoFar.{IsFirstWrong}
 use Rattle.mimic_events.specs.Readings.{EndsAs, IsOver, IsReading}
 use Rattle.mimic_events.proofs.ReadBytes.{read_more}
+use Rattle.mimic_watch.specs.declared.frame.Screen.{Screen}
 use Rattle.mimic_watch.specs.declared.verdict.WatchVerdict.{WatchVerdict}
 use Rattle.mimic_watch.specs.declared.verdict.WatchFault.{WatchFault}
 use Rattle.mimic_watch.specs.declared.verdict.WatchFault.TheVariants.{Write}
@@ -29,23 +30,23 @@ more_ended moments m = simp (flat_map-append, append-nil)
 more_text : (moments : List Moment) (m : Moment) → moments_text (moments ++ m ∷ []) ≡ moments_text moments ++ moment_text m
 more_text moments m = rw (flat_map-append, append-nil)
 
-each_more : (start : Option (List ℕ)) (live : Bool) (before : List Entry) (moments : List Moment) (m : Moment) → AreMomentsAfter start live before moments
-    → IsMoment start live ((before ++ ended_in moments) ++ m.ended) m → AreMomentsAfter start live before (moments ++ m ∷ [])
-each_more start live before [] m h k = (rw append-nil at k, tt)
-each_more start live before (x ∷ moments) m h k =
-    (h.0, each_more start live (before ++ x.ended) moments m h.1 (rw (append_assoc before x.ended (ended_in moments)) k))
+each_more : (start : Option (List ℕ)) (screen : Screen) (before : List Entry) (moments : List Moment) (m : Moment) → AreMomentsAfter start screen before moments
+    → IsMoment start screen ((before ++ ended_in moments) ++ m.ended) m → AreMomentsAfter start screen before (moments ++ m ∷ [])
+each_more start screen before [] m h k = (rw append-nil at k, tt)
+each_more start screen before (x ∷ moments) m h k =
+    (h.0, each_more start screen (before ++ x.ended) moments m h.1 (rw (append_assoc before x.ended (ended_in moments)) k))
 
 -- ---- what comes
 
-none_gone : (o : Option (List ℕ)) → Consumes o o []
+pub none_gone : (o : Option (List ℕ)) → Consumes o o []
 none_gone None = tt
 none_gone (Some xs) = refl
 
-pub begin : (live : Bool) (start : Option (List ℕ)) (a : Shown) (w : Viewer) → HasSeen w [] [] [] → w.live ≡ live → IsWatching live start start a a w
-begin live start a w h l = record { bytes = []; moments = []; waiting = []; each = tt; seen = h; live_is = l; gone = none_gone start; put = Put-refl a }
+pub begin : (screen : Screen) (start : Option (List ℕ)) (a : Shown) (w : Viewer) → HasSeen w [] [] [] → w.screen ≡ screen → IsWatching screen start start a a w
+begin screen start a w h l = record { bytes = []; moments = []; waiting = []; each = tt; seen = h; screen_is = l; gone = none_gone start; put = Put-refl a }
 
-module _ (live : Bool) (start now next : Option (List ℕ)) (a b : Shown) (w : Viewer) (h : IsWatching live start now a b w) where
-  pub take_on : (v : Viewer) (piece : List ℕ) → Consumes now next piece → SeesOn w piece v → v.live ≡ w.live → IsWatching live start next a b v
+module _ (screen : Screen) (start now next : Option (List ℕ)) (a b : Shown) (w : Viewer) (h : IsWatching screen start now a b w) where
+  pub take_on : (v : Viewer) (piece : List ℕ) → Consumes now next piece → SeesOn w piece v → v.screen ≡ w.screen → IsWatching screen start next a b v
   take_on v piece gone sees l =
       let s = sees h.bytes (ended_in h.moments) h.waiting h.seen in
       record {
@@ -54,14 +55,14 @@ module _ (live : Bool) (start now next : Option (List ℕ)) (a b : Shown) (w : V
         waiting = h.waiting ++ s.0;
         each = h.each;
         seen = s.1;
-        live_is = l ∙ h.live_is;
+        screen_is = l ∙ h.screen_is;
         gone = read_more start now next h.bytes piece h.gone gone;
         put = h.put;
       }
 
   -- some bytes were read, and then a fault came
   pub failed : (fault : WatchFault) (rest : List ℕ) → Consumes now next rest → IsLeft fault a b (moments_text h.moments) []
-      → HasFailed live start next a b fault
+      → HasFailed screen start next a b fault
   failed fault rest gone left = record {
     bytes = h.bytes;
     rest = rest;
@@ -81,24 +82,24 @@ none_more None next k = tt
 none_more (Some xs) None k = k
 none_more (Some xs) (Some ys) k = sym k
 
-pub stay : (live : Bool) (start now : Option (List ℕ)) (a b : Shown) (w v : Viewer) → IsWatching live start now a b w → StaysSeen w v → v.live ≡ w.live → IsWatching live start now a b v
-stay live start now a b w v h same l =
-    take_on live start now now a b w h v [] (none_gone now) (λ before put waiting k. none_seen v before put waiting (same before put waiting k)) l
+pub stay : (screen : Screen) (start now : Option (List ℕ)) (a b : Shown) (w v : Viewer) → IsWatching screen start now a b w → StaysSeen w v → v.screen ≡ w.screen → IsWatching screen start now a b v
+stay screen start now a b w v h same l =
+    take_on screen start now now a b w h v [] (none_gone now) (λ before put waiting k. none_seen v before put waiting (same before put waiting k)) l
 
 -- ---- what is put
 
-module _ (live : Bool) (start now : Option (List ℕ)) (a b c : Shown) (w : Viewer) (h : IsWatching live start now a b w)
-    (erases : Bool) (drawn : List ℕ) (only : erases ≡ true → w.live ≡ true) (draws : IsDrawn start w.live (ended_in h.moments ++ h.waiting) drawn) where
+module _ (screen : Screen) (start now : Option (List ℕ)) (a b c : Shown) (w : Viewer) (h : IsWatching screen start now a b w)
+    (erases : Bool) (drawn : List ℕ) (only : erases ≡ true → w.screen.live ≡ true) (draws : IsDrawn start w.screen (ended_in h.moments ++ h.waiting) drawn) where
   abbrev moment : Moment
   moment = record { erased = erases; ended = h.waiting; drawn = drawn }
 
   its_text : put_text erases w.waiting.items drawn ≡ moment_text moment
   its_text = ap (λ (l : List ℕ). put_text erases l drawn) h.seen.shown
 
-  each_now : AreMomentsAfter start live [] (h.moments ++ moment ∷ [])
-  each_now = each_more start live [] h.moments moment h.each (record {
-    erased = λ e. sym h.live_is ∙ only e;
-    drawn = subst (λ (l : Bool). IsDrawn start l (ended_in h.moments ++ h.waiting) drawn) h.live_is draws;
+  each_now : AreMomentsAfter start screen [] (h.moments ++ moment ∷ [])
+  each_now = each_more start screen [] h.moments moment h.each (record {
+    erased = λ e. ap (λ (x : Screen). x.live) (sym h.screen_is) ∙ only e;
+    drawn = subst (λ (l : Screen). IsDrawn start l (ended_in h.moments ++ h.waiting) drawn) h.screen_is draws;
   })
 
   -- all that was put so far
@@ -111,14 +112,14 @@ module _ (live : Bool) (start now : Option (List ℕ)) (a b c : Shown) (w : View
   none_waits : ended_in h.moments ++ h.waiting ≡ ended_in (h.moments ++ moment ∷ []) ++ []
   none_waits = sym (append-nil (ended_in (h.moments ++ moment ∷ [])) ∙ more_ended h.moments moment)
 
-  pub moment_put : (v : Viewer) → Put b c (put_text erases w.waiting.items drawn) → PutsSeen w v → v.live ≡ w.live → IsWatching live start now a c v
+  pub moment_put : (v : Viewer) → Put b c (put_text erases w.waiting.items drawn) → PutsSeen w v → v.screen ≡ w.screen → IsWatching screen start now a c v
   moment_put v p puts l = record {
     bytes = h.bytes;
     moments = h.moments ++ moment ∷ [];
     waiting = [];
     each = each_now;
     seen = rw (more_ended h.moments moment) (puts h.bytes (ended_in h.moments) h.waiting h.seen);
-    live_is = l ∙ h.live_is;
+    screen_is = l ∙ h.screen_is;
     gone = h.gone;
     put = subst (Put a c) (ap (λ (l : List ℕ). moments_text h.moments ++ l) its_text ∙ sym (more_text h.moments moment))
         (Put-trans (moments_text h.moments) (put_text erases w.waiting.items drawn) h.put p);
@@ -126,10 +127,10 @@ module _ (live : Bool) (start now : Option (List ℕ)) (a b c : Shown) (w : View
 
   -- a fault at that moment, or at last
   pub moment_left : (fault : OutputFault) (last : List ℕ) → IsLast start (ended_in h.moments ++ h.waiting) last → LeftBy fault b c (put_text erases w.waiting.items drawn ++ last)
-      → HasFailed live start now a c (Write fault)
+      → HasFailed screen start now a c (Write fault)
   moment_left output.OutOfMemory last is left =
-      subst (λ (x : Shown). HasFailed live start now a x (Write output.OutOfMemory)) (sym left)
-      (failed live start now now a b w h (Write output.OutOfMemory) [] (none_gone now) h.put)
+      subst (λ (x : Shown). HasFailed screen start now a x (Write output.OutOfMemory)) (sym left)
+      (failed screen start now now a b w h (Write output.OutOfMemory) [] (none_gone now) h.put)
   moment_left (output.Write error) last is left = record {
     bytes = h.bytes;
     rest = [];
@@ -145,7 +146,7 @@ module _ (live : Bool) (start now : Option (List ℕ)) (a b c : Shown) (w : View
 
   -- the end
   pub moment_last : (verdict : WatchVerdict) → IsOver now h.bytes → Put b c (put_text erases w.waiting.items drawn ++ last_text verdict.counts verdict.ending)
-      → EndsAs h.bytes (ended_in h.moments ++ h.waiting) verdict.ending × AreCounts (ended_in h.moments ++ h.waiting) verdict → HasWatched live start a c verdict
+      → EndsAs h.bytes (ended_in h.moments ++ h.waiting) verdict.ending × AreCounts (ended_in h.moments ++ h.waiting) verdict → HasWatched screen start a c verdict
   moment_last verdict over p ends =
       let rows : ended_in h.moments ++ h.waiting ≡ ended_in (h.moments ++ moment ∷ []) = sym (more_ended h.moments moment) in
       record {
@@ -158,10 +159,10 @@ module _ (live : Bool) (start now : Option (List ℕ)) (a b c : Shown) (w : View
       }
 
 -- what is put at last is of the rows that have ended
-pub last_seen : (live : Bool) (start now : Option (List ℕ)) (a b : Shown) (w : Viewer) (h : IsWatching live start now a b w) (last : List ℕ) → IsOver now h.bytes
+pub last_seen : (screen : Screen) (start now : Option (List ℕ)) (a b : Shown) (w : Viewer) (h : IsWatching screen start now a b w) (last : List ℕ) → IsOver now h.bytes
     → IsLastSeen w last → IsLast start (ended_in h.moments ++ h.waiting) last
-last_seen live start now a b w h last over (inl none) = inl none
-last_seen live start now a b w h last over (inr v) =
+last_seen screen start now a b w h last over (inl none) = inl none
+last_seen screen start now a b w h last over (inr v) =
     let ends = v.1 h.bytes (ended_in h.moments) h.waiting h.seen in inr (v.0, ends.0 start now h.gone over, ends.1, v.2)
 
 -- ---- turns of the loop

@@ -8,6 +8,7 @@ use Rattle.mimic_printer.specs.Sink.{Put, Shown}
 use Rattle.mimic_printer.specs.declared.sink.OutputFault.{OutputFault}
 use Rattle.mimic_events.specs.Follower.{HasFollowed}
 use Rattle.mimic_events.specs.Readings.{EndsAs, IsOver}
+use Rattle.mimic_watch.specs.declared.frame.Screen.{Screen}
 use Rattle.mimic_watch.specs.declared.verdict.WatchVerdict.{WatchVerdict}
 use Rattle.mimic_watch.specs.declared.verdict.WatchFault.TheVariants.{Write}
 use Rattle.mimic_watch.specs.declared.viewer.Viewer.{Viewer}
@@ -33,7 +34,7 @@ SeesOn old bytes new = (before : List ℕ) (put waiting : List Entry) → HasSee
 -- a row that has ended is counted, and waits
 pub record SeesRow (old : Viewer) (entry : Entry) (new : Viewer) : Type 0 where
   pub follower : new.follower ≡ old.follower
-  pub live : new.live ≡ old.live
+  pub screen : new.screen ≡ old.screen
   pub ended : old.ended < 2 ^ 64 - 1 → new.ended ≡ old.ended + 1
   pub counts : HasRoom old.counts → new.counts ≡ counted old.counts entry.outcome
   pub shown : new.waiting.items ≡ old.waiting.items ++ row_text entry
@@ -43,7 +44,7 @@ pub record ReadsOn (before after : Option (List ℕ)) (old new : Viewer) (over :
   pub bytes : List ℕ
   pub gone : Consumes before after bytes
   pub seen : SeesOn old bytes new
-  pub live : new.live ≡ old.live
+  pub screen : new.screen ≡ old.screen
   pub last : over ≡ true → (all : List ℕ) (put waiting : List Entry) → HasSeen new all put waiting → IsOver after all
 
 -- what is seen stays so, but for the time
@@ -53,7 +54,7 @@ StaysSeen old new = (bytes : List ℕ) (put waiting : List Entry) → HasSeen ol
 -- what is drawn is nothing, or of the rows that have ended
 abbrev pub DrawsSeen : Viewer → List ℕ → Type 0
 DrawsSeen w drawn = (start now : Option (List ℕ)) (bytes : List ℕ) (put waiting : List Entry) → Consumes start now bytes → HasSeen w bytes put waiting
-    → IsDrawn start w.live (put ++ waiting) drawn
+    → IsDrawn start w.screen (put ++ waiting) drawn
 
 -- what has come is over, and is what the verdict says
 abbrev pub EndsSeen : Viewer → WatchVerdict → Type 0
@@ -77,20 +78,20 @@ PutsSeen old new = (bytes : List ℕ) (put waiting : List Entry) → HasSeen old
 -- ---- the whole
 
 -- since the input was at its start, these rows have come, and some of them were put
-pub record IsWatching (live : Bool) (start now : Option (List ℕ)) (before after : Shown) (w : Viewer) : Type 0 where
+pub record IsWatching (screen : Screen) (start now : Option (List ℕ)) (before after : Shown) (w : Viewer) : Type 0 where
   pub bytes : List ℕ
   pub moments : List Moment
   pub waiting : List Entry
-  pub each : AreMomentsAfter start live [] moments
+  pub each : AreMomentsAfter start screen [] moments
   pub seen : HasSeen w bytes (ended_in moments) waiting
-  pub live_is : w.live ≡ live
+  pub screen_is : w.screen ≡ screen
   pub gone : Consumes start now bytes
   pub put : Put before after (moments_text moments)
 
 -- whatever was put so far, more rows were put or none; with a fault nothing more will be
 abbrev pub ShowsOn : Viewer → Viewer → Shown → Shown → Result (Unit {0}) OutputFault → Type 0
 ShowsOn old new before after result = MatchResult result
-    (λ _. (live : Bool) (start now : Option (List ℕ)) (first : Shown) → IsWatching live start now first before old
-    → IsWatching live start now first after new)
-    (λ fault. (live : Bool) (start now : Option (List ℕ)) (first : Shown) → IsWatching live start now first before old
-    → HasFailed live start now first after (Write fault))
+    (λ _. (screen : Screen) (start now : Option (List ℕ)) (first : Shown) → IsWatching screen start now first before old
+    → IsWatching screen start now first after new)
+    (λ fault. (screen : Screen) (start now : Option (List ℕ)) (first : Shown) → IsWatching screen start now first before old
+    → HasFailed screen start now first after (Write fault))

@@ -12,6 +12,7 @@ use Rattle.mimic_events.specs.Feed.{AreEnded}
 use Rattle.mimic_events.specs.declared.ending.Ending.{Ending}
 use Rattle.mimic_events.specs.declared.ending.Ending.TheVariants.{Whole, Cut}
 use Rattle.mimic_events.specs.Readings.{IsReading}
+use Rattle.mimic_watch.specs.declared.frame.Screen.{Screen}
 use Rattle.mimic_watch.specs.declared.verdict.WatchVerdict.{WatchVerdict}
 use Rattle.mimic_watch.specs.declared.verdict.WatchFault.{WatchFault}
 use Rattle.mimic_watch.specs.declared.verdict.WatchFault.TheVariants.{Read, Write}
@@ -46,9 +47,9 @@ last_text counts (Cut stop) = []
 
 -- the input was a report or none, as the ending says; what was put shows each of its rows that have ended once, in their order, and
 -- then the summary
-pub record HasWatched (live : Bool) (start : Option (List ℕ)) (old new : Shown) (verdict : WatchVerdict) : Type 0 where
+pub record HasWatched (screen : Screen) (start : Option (List ℕ)) (old new : Shown) (verdict : WatchVerdict) : Type 0 where
   pub moments : List Moment
-  pub each : AreMomentsAfter start live [] moments
+  pub each : AreMomentsAfter start screen [] moments
   pub ending : IfSome start (IsReading (ended_in moments) verdict.ending)
   pub counts : AreCounts (ended_in moments) verdict
   pub put : Put old new (moments_text moments ++ last_text verdict.counts verdict.ending)
@@ -65,13 +66,13 @@ IsLast start entries last = (last ≡ []) ⊎ ((verdict : WatchVerdict) × IfSom
     × AreCounts entries verdict × (last ≡ last_text verdict.counts verdict.ending))
 
 -- some bytes were read; what was put shows rows that have ended in a front of them, from the first one on, each once
-pub record HasFailed (live : Bool) (start end : Option (List ℕ)) (old new : Shown) (fault : WatchFault) : Type 0 where
+pub record HasFailed (screen : Screen) (start end : Option (List ℕ)) (old new : Shown) (fault : WatchFault) : Type 0 where
   pub bytes : List ℕ
   pub rest : List ℕ
   pub gone : Consumes start end (bytes ++ rest)
   pub moments : List Moment
   pub waiting : List Entry
-  pub each : AreMomentsAfter start live [] moments
+  pub each : AreMomentsAfter start screen [] moments
   pub ended : AreEnded bytes (ended_in moments ++ waiting)
   pub last : List ℕ
   pub is_last : IsLast start (ended_in moments) last

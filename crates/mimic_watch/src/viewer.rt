@@ -5,7 +5,7 @@ ghost use Rattle.mimic_watch.specs.Frames.{FirstLinesFit};
 ghost use Rattle.mimic_watch.specs.Watched.{HasFailed, HasWatched, last_text};
 ghost use Rattle.mimic_watch.specs.Viewers.{put_text};
 
-use crate::frame::{ERASE, View, first_line, push_frame, second_line};
+use crate::frame::{ERASE, Screen, View, first_line, push_frame, second_line};
 use crate::pace::{Pace, nanos};
 use crate::row::push_row;
 use crate::verdict::{WatchFault, WatchVerdict};
@@ -23,8 +23,7 @@ const BLOCK: usize = 65_536;
 #[derive(Drop)]
 struct Viewer {
     alloc: Global,
-    // Whether it is shown on a terminal.
-    live: bool,
+    screen: Screen,
     follower: Follower,
     // The rows that have ended, and how many of them have each outcome.
     ended: u64,
@@ -39,7 +38,7 @@ struct Viewer {
 /// Shows a report as its bytes come, up to their end or to the first line that no report has there: each failure and each
 /// measurement once, and at last the harness's summary.
 ///
-/// On a terminal (`live`) two lines below say how far the run is, at most ten times a second; each time it is one write, which
+/// On a terminal two lines below say how far the run is, at most ten times a second; each time it is one write, which
 /// leaves the terminal as it was. Else a line reports this every ten seconds, with no escape sequence. A reader that returns
 /// `TimedOut` or `WouldBlock` says that nothing has come for a while. Rows that have passed are not kept.
 #[tactic(auto, using(crate::proofs::Laws::first_lines_fit))]
@@ -48,18 +47,18 @@ pub fn watch<I: Read, W: Write, C: Clock>(
     input: &mut I,
     sink: &mut Sink<W>,
     clock: &C,
-    live: bool,
+    screen: Screen,
 ) -> Result<WatchVerdict, WatchFault>
     requires { HasFaultLeft sink.old }
     ensures watched { MatchResult result
-        (HasWatched live (I.remaining input.old) (shown W.contents sink.old) (shown W.contents sink.new))
-        (HasFailed live (I.remaining input.old) (I.remaining input.new) (shown W.contents sink.old) (shown W.contents sink.new)) }
+        (HasWatched screen (I.remaining input.old) (shown W.contents sink.old) (shown W.contents sink.new))
+        (HasFailed screen (I.remaining input.old) (I.remaining input.new) (shown W.contents sink.old) (shown W.contents sink.new)) }
 
-    // No first line is wider than 39 columns.
+    // No first line is wider than its columns.
     ensures law { FirstLinesFit }
 {
     let mut now = nanos(clock, 0);
-    let mut viewer = Viewer::new(alloc, live, now);
+    let mut viewer = Viewer::new(alloc, screen, now);
     let mut room = [0; PIECE];
     for _ in 0..u64::MAX {
         if viewer.read(input, &mut room)? {
@@ -95,13 +94,13 @@ impl Viewer {
     ghost use Rattle.mimic_watch.specs.Watched.{last_text};
     ghost use Rattle.mimic_watch.specs.Viewers.{DrawsSeen, EndsSeen, HasSeen, IsLastSeen, ReadsOn, SeesOn, SeesRow, ShowsOn, StaysSeen, put_text};
 
-    fn new(alloc: Global, live: bool, now: u64) -> Viewer
+    fn new(alloc: Global, screen: Screen, now: u64) -> Viewer
         ensures seen { HasSeen result [] [] [] }
-        ensures live { result.live ≡ live }
+        ensures screen { result.screen ≡ screen }
     {
         Viewer {
             alloc,
-            live,
+            screen,
             follower: Follower::new(alloc),
             ended: 0,
             counts: Conclusion::empty(0),
@@ -137,7 +136,7 @@ impl Viewer {
     // Takes the next piece. What the rows that end in it show waits.
     fn take(&mut self, piece: &[u8]) -> Result<(), AllocError>
         ensures seen { OnOk result (SeesOn self.old piece.now self.new) }
-        ensures live { OnOk result (self.new.live ≡ self.old.live) }
+        ensures screen { OnOk result (self.new.screen ≡ self.old.screen) }
     {
         let mut rest = piece;
         while let Some((row, left)) = self.follower.next_row(rest)? {
@@ -165,14 +164,14 @@ impl Viewer {
     // Returns what is drawn at this time below what rows show, which may be nothing, and `None` if nothing is put at all.
     fn drawn(&mut self, now: u64) -> Result<Option<Vec<u8>>, AllocError>
         ensures seen { OnOk result (StaysSeen self.old self.new) }
-        ensures live { OnOk result (self.new.live ≡ self.old.live) }
+        ensures screen { OnOk result (self.new.screen ≡ self.old.screen) }
         ensures drawn { IfOk result (λ found. IfSome found (λ drawn. DrawsSeen self.new drawn.items)) }
     {
         let ran = self.ended.saturating_sub(self.counts.num_ignored);
         self.pace.note(now, self.ended, ran);
-        if self.pace.is_due(self.live) {
+        if self.pace.is_due(self.screen.live) {
             self.pace.draw();
-            return Ok(Some(self.drawing(ran)?));
+            return Ok(Some(self.drawing()?));
         }
         if self.must_go() {
             Ok(Some(Vec::new(self.alloc)))
@@ -183,7 +182,7 @@ impl Viewer {
 
     // Whether what waits is put before the next drawing.
     fn must_go(&self) -> bool {
-        if self.live {
+        if self.screen.live {
             self.waiting.len() >= BLOCK
         } else {
             !self.waiting.is_empty()
@@ -191,13 +190,13 @@ impl Viewer {
     }
 
     // Returns how far the run is: two lines on a terminal, and else one.
-    fn drawing(&self, ran: u64) -> Result<Vec<u8>, AllocError>
+    fn drawing(&self) -> Result<Vec<u8>, AllocError>
         ensures { IfOk result (λ drawn. (start now : Option (List ℕ)) (bytes : List ℕ) (put waiting : List Entry)
             → Consumes start now bytes → HasSeen self.now bytes put waiting
-            → IsDrawing start self.now.live (put ++ waiting) drawn.items) }
+            → IsDrawing start self.now.screen (put ++ waiting) drawn.items) }
     {
-        let mut first = first_line(self.alloc, &self.view(ran))?;
-        if self.live {
+        let mut first = first_line(self.alloc, self.screen.columns, &self.view())?;
+        if self.screen.live {
             let second = second_line(self.alloc, self.follower.running(), self.pace.quiet())?;
             let mut drawn = Vec::new(self.alloc);
             push_frame(&mut drawn, &first, &second)?;
@@ -208,7 +207,7 @@ impl Viewer {
         }
     }
 
-    fn view(&self, ran: u64) -> View
+    fn view(&self) -> View
         ensures ended { result.ended ≡ self.now.ended }
         ensures failed { result.failed ≡ self.now.counts.num_failed }
         ensures announced { (bytes : List ℕ) (rows : List Entry) → HasFollowed self.now.follower bytes rows
@@ -222,7 +221,7 @@ impl Viewer {
             ended: self.ended,
             failed: self.counts.num_failed,
             elapsed: self.pace.elapsed(),
-            left: self.pace.left(rows.saturating_sub(self.ended), ran),
+            left: self.pace.left(rows.saturating_sub(self.ended)),
         }
     }
 
@@ -234,7 +233,7 @@ impl Viewer {
         let Some(drawn) = self.drawn(now)? else {
             return Ok(());
         };
-        let erases = self.live && !self.waiting.is_empty();
+        let erases = self.screen.live && !self.waiting.is_empty();
         put_moment(sink, &mut self.text, erases, &self.waiting, &drawn)?;
         self.waiting.clear();
         Ok(())
@@ -246,13 +245,13 @@ impl Viewer {
         ensures verdict { IfOk result (EndsSeen self) }
         ensures put { MatchResult result
             (λ verdict. Put (shown W.contents sink.old) (shown W.contents sink.new)
-            (put_text self.live self.waiting.items [] ++ last_text verdict.counts verdict.ending))
+            (put_text self.screen.live self.waiting.items [] ++ last_text verdict.counts verdict.ending))
             (λ fault. (last : List ℕ) × IsLastSeen self last × LeftBy fault (shown W.contents sink.old) (shown W.contents sink.new)
-            (put_text self.live self.waiting.items [] ++ last)) }
+            (put_text self.screen.live self.waiting.items [] ++ last)) }
     {
         let Viewer {
             alloc,
-            live,
+            screen,
             follower,
             counts,
             waiting,
@@ -262,7 +261,7 @@ impl Viewer {
         let mut text = text;
         let ending = Ending::of(alloc, follower)?;
         let verdict = WatchVerdict::new(counts, ending);
-        put_moment(sink, &mut text, live, &waiting, b"")?;
+        put_moment(sink, &mut text, screen.live, &waiting, b"")?;
         put_last(sink, &verdict)?;
         Ok(verdict)
     }

@@ -3,7 +3,7 @@ use crate::faults::refuse_all;
 use crate::pump::{Incoming, Pipe, pump};
 use mimic_events::{Ending, ReadFault};
 use mimic_printer::Sink;
-use mimic_watch::{ERASE, watch};
+use mimic_watch::{ERASE, Screen, watch};
 use std::alloc::Global;
 use std::io::{Eprint, IsTerminal, Stdin, Stdout, Write};
 use std::rt::{Clock, Env};
@@ -55,8 +55,9 @@ pub(crate) fn run<H: Host>(host: &H, alloc: Global, stdin: Stdin, stdout: Stdout
 
 fn show<H: Host>(host: &H, alloc: Global, incoming: &mut Incoming<'_, H>, stdout: Stdout) -> u8 {
     let live = stdout.is_terminal() && knows_escapes(host);
+    let screen = Screen { live, columns: 39 };
     let mut sink = Sink::new(stdout);
-    match watch(alloc, incoming, &mut sink, host, live) {
+    match watch(alloc, incoming, &mut sink, host, screen) {
         Ok(verdict) => {
             if let Ending::Cut(stop) = &verdict.ending {
                 refuse_all(host, stop);

@@ -2,7 +2,7 @@
 //! are worked out by hand.
 use mimic_events::ReadFault;
 use mimic_printer::Sink;
-use mimic_watch::{WatchFault, watch};
+use mimic_watch::{Screen, WatchFault, watch};
 use std::alloc::Global;
 use std::cell::Cell;
 use std::io;
@@ -59,14 +59,14 @@ fn watched<I: Read>(
     alloc: Global,
     input: &mut I,
     step: u64,
-    live: bool,
+    screen: Screen,
 ) -> Result<(u8, String), Fail> {
     let mut sink = Sink::new(Vec::new(alloc));
     let clock = Steps {
         now: Cell::new(0),
         step,
     };
-    let status = match watch(alloc, input, &mut sink, &clock, live) {
+    let status = match watch(alloc, input, &mut sink, &clock, screen) {
         Ok(verdict) => verdict.status(),
         Err(WatchFault::Read(ReadFault::Input(error))) if error.kind() == ErrorKind::BrokenPipe =>
             99,
@@ -80,10 +80,21 @@ pub(super) fn watched_pieces(
     alloc: Global,
     pieces: &[&str],
     step: u64,
-    live: bool,
+    screen: Screen,
 ) -> Result<(u8, String), Fail> {
-    watched(alloc, &mut Pieces { pieces, at: 0 }, step, live)
+    watched(alloc, &mut Pieces { pieces, at: 0 }, step, screen)
 }
+
+// A log, and a terminal.
+const LOG: Screen = Screen {
+    live: false,
+    columns: 39,
+};
+
+const TERMINAL: Screen = Screen {
+    live: true,
+    columns: 39,
+};
 
 const BROKEN: &str = "broken";
 
@@ -109,7 +120,7 @@ const BENCH: &str = "bench  b: 1,234 ns/iter (+/- 5)\n";
 fn plain(rt: HostRuntime) -> Result<(), Fail> {
     let alloc = rt.alloc();
     let pieces = [TITLE, ANNOUNCED, "", FAILED, REST];
-    let (status, text) = watched_pieces(alloc, &pieces, 4_000, false)?;
+    let (status, text) = watched_pieces(alloc, &pieces, 4_000, LOG)?;
     // The third reading after the one at the start is 12 seconds later.
     let line = "[      ] 0/2 12s\n";
     let expected = format!(in alloc; "{line}{FAILURE}{BENCH}{SUMMARY}")?;
@@ -122,7 +133,7 @@ fn plain(rt: HostRuntime) -> Result<(), Fail> {
 fn live(rt: HostRuntime) -> Result<(), Fail> {
     let alloc = rt.alloc();
     let pieces = [TITLE, ANNOUNCED, "", FAILED, REST];
-    let (status, text) = watched_pieces(alloc, &pieces, 1_000, true)?;
+    let (status, text) = watched_pieces(alloc, &pieces, 1_000, TERMINAL)?;
     let expected = concat!(
         "\x1b[?7l\r[      ] 0/2 1s\x1b[J\n\x1b[1A\r\x1b[?7h",
         "\x1b[?7l\r[      ] 0/2 2s\x1b[J\nwaiting 2s for a?b\x1b[1A\r\x1b[?7h",
@@ -136,6 +147,147 @@ fn live(rt: HostRuntime) -> Result<(), Fail> {
     let expected = format!(in alloc; "{expected}{SUMMARY}")?;
     assert!(rt; status == 101, "{status}");
     assert!(rt; text == expected, "{text}");
+    Ok(())
+}
+
+const FOUR: &str = "{ \"type\": \"suite\", \"event\": \"started\", \"test_count\": 4 }\n";
+
+const PASSES: &str =
+    "{ \"type\": \"test\", \"event\": \"started\", \"name\": \"p\" }\n{ \"type\": \"test\", \"name\": \"p\", \"event\": \"ok\" }\n";
+
+const FAILS: &str =
+    "{ \"type\": \"test\", \"event\": \"started\", \"name\": \"f\" }\n{ \"type\": \"test\", \"name\": \"f\", \"event\": \"failed\" }\n";
+
+const IGNORED: &str =
+    "{ \"type\": \"test\", \"event\": \"started\", \"name\": \"i\" }\n{ \"type\": \"test\", \"name\": \"i\", \"event\": \"ignored\" }\n";
+
+// A turn of a watch: the piece that is read, and the first line that is drawn then.
+struct Turn {
+    piece: &'static str,
+    first: &'static str,
+}
+
+// Watches these turns, one every `seconds`, on a terminal of so many columns.
+fn check_turns(
+    alloc: Global,
+    turns: &[Turn],
+    seconds: u64,
+    columns: usize,
+) -> Result<(), Fail> {
+    let mut pieces = Vec::new(alloc);
+    for turn in turns {
+        pieces.push(turn.piece)?;
+    }
+    let screen = Screen {
+        live: true,
+        columns,
+    };
+    let (_, text) = watched_pieces(alloc, &pieces, seconds * 1_000, screen)?;
+    let mut frames = text.as_str().split("\x1b[?7l\r").skip(1);
+    for turn in turns {
+        let first = frames
+            .next()
+            .unwrap_or("")
+            .split("\x1b[J")
+            .next()
+            .unwrap_or("");
+        if first != turn.first {
+            return Err(format!(in alloc; "{first} is not {}", turn.first)?.into());
+        }
+    }
+    Ok(())
+}
+
+// The trial after the first one hangs: while it is waited for, the estimate falls by the two minutes that a trial takes, and no
+// more. It is there after a failure too.
+static HANGS: [Turn; 6] = [
+    Turn {
+        piece: FOUR,
+        first: "[      ] 0/4 1:00",
+    },
+    Turn {
+        piece: PASSES,
+        first: "[=     ] 1/4 2:00 6:00 left",
+    },
+    Turn {
+        piece: "",
+        first: "[=     ] 1/4 3:00 5:00 left",
+    },
+    Turn {
+        piece: "",
+        first: "[=     ] 1/4 4:00 4:00 left",
+    },
+    Turn {
+        piece: "",
+        first: "[=     ] 1/4 5:00 4:00 left",
+    },
+    Turn {
+        piece: FAILS,
+        first: "[===   ] 2/4 1 failed 6:00 6:00 left",
+    },
+];
+
+// Ignored rows are done, but the estimate is of those that run: one took 30 seconds, of which 10 are taken off in the last turn.
+static SOME_IGNORED: [Turn; 4] = [
+    Turn {
+        piece: FOUR,
+        first: "[      ] 0/4 10s",
+    },
+    Turn {
+        piece: IGNORED,
+        first: "[=     ] 1/4 20s",
+    },
+    Turn {
+        piece: PASSES,
+        first: "[===   ] 2/4 30s 1:00 left",
+    },
+    Turn {
+        piece: IGNORED,
+        first: "[====  ] 3/4 40s 20s left",
+    },
+];
+
+static HOURS: [Turn; 2] = [
+    Turn {
+        piece: FOUR,
+        first: "[      ] 0/4 1:02:10",
+    },
+    Turn {
+        piece: FAILS,
+        first: "[=     ] 1/4 1 failed 2:04:20 6:13:00 left",
+    },
+];
+
+#[test]
+fn times(rt: HostRuntime) -> Result<(), Fail> {
+    let alloc = rt.alloc();
+    check_turns(alloc, &HANGS, 60, 39)?;
+    check_turns(alloc, &SOME_IGNORED, 10, 39)?;
+    check_turns(alloc, &HOURS, 3_730, 79)
+}
+
+// How many columns there are, and the first line that is drawn in them: the fullest that fits.
+static NARROW: [(usize, &str); 6] = [
+    (36, "[=     ] 1/4 1 failed 2:00 6:00 left"),
+    (35, "[=     ] 1/4 1 failed 6:00 left"),
+    (30, "1/4 1 failed 2:00 6:00 left"),
+    (26, "1/4 1 failed 6:00 left"),
+    (21, "1/4 1 failed"),
+    (11, ""),
+];
+
+#[test]
+fn narrow_lines(rt: HostRuntime) -> Result<(), Fail> {
+    let alloc = rt.alloc();
+    for (columns, expected) in &NARROW {
+        let screen = Screen {
+            live: true,
+            columns: *columns,
+        };
+        let (_, text) = watched_pieces(alloc, &[FOUR, FAILS], 60_000, screen)?;
+        let drawn = format!(in alloc; "\x1b[?7l\r{expected}\x1b[J\n\x1b[1A\r\x1b[?7h")?;
+        assert!(rt; text.as_str().contains(drawn.as_str()), "{text:?}");
+    }
     Ok(())
 }
 
@@ -157,7 +309,7 @@ static NO_REPORTS: [(&[&str], u8, &str); 6] = [
 #[test]
 fn no_reports(rt: HostRuntime) -> Result<(), Fail> {
     for (pieces, ended, expected) in &NO_REPORTS {
-        let (status, text) = watched_pieces(rt.alloc(), *pieces, 1, false)?;
+        let (status, text) = watched_pieces(rt.alloc(), *pieces, 1, LOG)?;
         assert!(rt; status == *ended, "{status}");
         assert!(rt; text.as_str() == *expected, "{text}");
     }
@@ -192,7 +344,7 @@ fn long_failure_shown(alloc: Global) -> Result<String, Fail> {
 }
 
 fn watched_failure(alloc: Global, line: &str) -> Result<(u8, String), Fail> {
-    watched_pieces(alloc, &[ONE_TITLE, ODD, line], 1, false)
+    watched_pieces(alloc, &[ONE_TITLE, ODD, line], 1, LOG)
 }
 
 #[test]
@@ -238,7 +390,7 @@ fn many_rows(rt: HostRuntime) -> Result<(), Fail> {
         rows: 100_000,
         begun: false,
     };
-    let (status, text) = watched(alloc, &mut input, 1, true)?;
+    let (status, text) = watched(alloc, &mut input, 1, TERMINAL)?;
     assert!(rt; status == 1, "{status}");
     let mut drawn = 0_u32;
     for frame in text.as_str().split("\x1b[?7l\r").skip(1) {

@@ -10,7 +10,7 @@ use Rattle.mimic_watch.proofs.viewer.Viewer.drawing.Goals as goal
 pub returns-in_ok-push_frame : goal.returns-in_ok-push_frame
 returns-in_ok-push_frame c = λ start now bytes put waiting gone h.
     let running = option_map (λ label. label_read label.now) c.running.result in
-    let text : c.push_frame.new.to.items ≡ frame (first_line c.view.result) (second_line running c.quiet.result) = search rules in
+    let text : c.push_frame.new.to.items ≡ frame (first_line c.args.self.now.screen.columns c.view.result) (second_line running c.quiet.result) = search rules in
     record {
       view = c.view.result;
       running = running;
@@ -25,7 +25,7 @@ returns-in_ok-push_frame c = λ start now bytes put waiting gone h.
 
 pub returns-in_ok-extend_from_slice : goal.returns-in_ok-extend_from_slice
 returns-in_ok-extend_from_slice c = λ start now bytes put waiting gone h.
-    let text : c.extend_from_slice.new.self.items ≡ first_line c.view.result ++ codes "\n" = search rules in
+    let text : c.extend_from_slice.new.self.items ≡ first_line c.args.self.now.screen.columns c.view.result ++ codes "\n" = search rules in
     record {
       view = c.view.result;
       running = None;
