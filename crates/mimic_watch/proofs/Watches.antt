@@ -18,7 +18,8 @@ use Rattle.mimic_watch.specs.declared.verdict.WatchFault.{WatchFault}
 use Rattle.mimic_watch.specs.declared.verdict.WatchFault.TheVariants.{Write}
 use Rattle.mimic_watch.specs.declared.viewer.Viewer.{Viewer}
 use Rattle.mimic_watch.specs.Moments.{AreMomentsAfter, IsDrawn, IsMoment, Moment, ended_in, moment_text, moments_text}
-use Rattle.mimic_watch.specs.Watched.{AreCounts, HasFailed, HasWatched, IsLast, IsLeft, last_text}
+use Rattle.mimic_watch.specs.Rows.{failed_lines}
+use Rattle.mimic_watch.specs.Watched.{AreCounts, HasFailed, HasWatched, IsLast, IsLeft, failures_part, last_text}
 use Rattle.mimic_watch.proofs.Seeing.{none_seen}
 use Rattle.mimic_watch.specs.Viewers.{HasSeen, IsLastSeen, IsWatching, PutsSeen, SeesOn, StaysSeen, put_text}
 
@@ -145,7 +146,7 @@ module _ (screen : Screen) (start now : Option (List ℕ)) (a b c : Shown) (w : 
   }
 
   -- the end
-  pub moment_last : (verdict : WatchVerdict) → IsOver now h.bytes → Put b c (put_text erases w.waiting.items drawn ++ last_text verdict.counts verdict.ending)
+  pub moment_last : (verdict : WatchVerdict) → IsOver now h.bytes → Put b c (put_text erases w.waiting.items drawn ++ last_text (failures_part w.failed.items) verdict.counts verdict.ending)
       → EndsAs h.bytes (ended_in h.moments ++ h.waiting) verdict.ending × AreCounts (ended_in h.moments ++ h.waiting) verdict → HasWatched screen start a c verdict
   moment_last verdict over p ends =
       let rows : ended_in h.moments ++ h.waiting ≡ ended_in (h.moments ++ moment ∷ []) = sym (more_ended h.moments moment) in
@@ -154,8 +155,9 @@ module _ (screen : Screen) (start now : Option (List ℕ)) (a b c : Shown) (w : 
         each = each_now;
         ending = subst (λ (es : List Entry). IfSome start (IsReading es verdict.ending)) rows (ends.0 start now h.gone over);
         counts = subst (λ (es : List Entry). AreCounts es verdict) rows ends.1;
-        put = subst (Put a c) (all_text (last_text verdict.counts verdict.ending))
-            (Put-trans (moments_text h.moments) (put_text erases w.waiting.items drawn ++ last_text verdict.counts verdict.ending) h.put p);
+        put = subst (Put a c) (all_text (last_text (failures_part w.failed.items) verdict.counts verdict.ending)
+            ∙ ap (λ (lines : List ℕ). moments_text (h.moments ++ moment ∷ []) ++ last_text (failures_part lines) verdict.counts verdict.ending) (h.seen.failed ∙ ap failed_lines rows))
+            (Put-trans (moments_text h.moments) (put_text erases w.waiting.items drawn ++ last_text (failures_part w.failed.items) verdict.counts verdict.ending) h.put p);
       }
 
 -- what is put at last is of the rows that have ended
@@ -163,7 +165,8 @@ pub last_seen : (screen : Screen) (start now : Option (List ℕ)) (a b : Shown) 
     → IsLastSeen w last → IsLast start (ended_in h.moments ++ h.waiting) last
 last_seen screen start now a b w h last over (inl none) = inl none
 last_seen screen start now a b w h last over (inr v) =
-    let ends = v.1 h.bytes (ended_in h.moments) h.waiting h.seen in inr (v.0, ends.0 start now h.gone over, ends.1, v.2)
+    let ends = v.1 h.bytes (ended_in h.moments) h.waiting h.seen in
+    inr (v.0, ends.0 start now h.gone over, ends.1, v.2 ∙ ap (λ (lines : List ℕ). last_text (failures_part lines) v.0.counts v.0.ending) h.seen.failed)
 
 -- ---- turns of the loop
 

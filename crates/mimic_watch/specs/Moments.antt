@@ -1,6 +1,6 @@
 -- What is put as a report comes: at each moment what the rows show that have ended since the moment before, and maybe how far the run
 -- is.
-use Rattle.std.specs.Prelude.{◌≡◌, ◌⊎◌, ℕ, Bool, true, false, if◌then◌else◌, List, [], ◌∷◌, ◌++◌, length, codes, count_by, ⊤, Option, IfSome}
+use Rattle.std.specs.Prelude.{◌≡◌, ◌⊎◌, ℕ, ◌-◌, Bool, true, false, if◌then◌else◌, List, [], ◌∷◌, ◌++◌, length, codes, count_by, ⊤, Option, IfSome}
 use Rattle.std.specs.List.{flat_map}
 use Rattle.mimic_trial.specs.Count.{is_failed}
 use Rattle.mimic_printer.specs.Json.{Entry, outcomes_in}
@@ -9,7 +9,7 @@ use Rattle.mimic_events.specs.Feed.{AreEnded}
 use Rattle.mimic_events.specs.SoFar.{BeginsWithTitle, ShowsRunning}
 use Rattle.mimic_watch.specs.declared.frame.Screen.{Screen}
 use Rattle.mimic_watch.specs.declared.frame.View.{View}
-use Rattle.mimic_watch.specs.Frames.{FitsLine, erase, first_line, frame, second_line}
+use Rattle.mimic_watch.specs.Frames.{erase, first_line, frame, log_line, second_line}
 use Rattle.mimic_watch.specs.Rows.{row_text}
 
 -- one moment: whether what was drawn is erased, the rows that have ended since the moment before, and what is drawn
@@ -18,10 +18,15 @@ pub record Moment : Type 0 where
   pub ended : List Entry
   pub drawn : List ℕ
 
--- on a terminal two lines, and else one
-abbrev pub drawn_text : Screen → View → List ℕ → List ℕ
-drawn_text screen view second = if screen.live then frame (first_line screen.columns view) second
-    else first_line screen.columns view ++ codes "\n"
+-- how many columns a log's line has for the second one, behind the first and two characters between them
+abbrev pub room_after : ℕ → List ℕ → ℕ
+room_after columns first = columns - length first - 2
+
+-- on a terminal two lines, and else both in one
+abbrev pub drawn_text : Screen → View → Option Label → ℕ → List ℕ
+drawn_text screen view running quiet = let first = first_line screen.columns view in
+    if screen.live then frame first (second_line screen.columns running quiet)
+    else log_line first (second_line (room_after screen.columns first) running quiet)
 
 -- a front of the text has exactly these rows, and shows that the trial was announced after them and has no outcome
 pub record RunsAfter (entries : List Entry) (label : Label) (text : List ℕ) : Type 0 where
@@ -32,7 +37,7 @@ pub record RunsAfter (entries : List Entry) (label : Label) (text : List ℕ) : 
   pub shows : ShowsRunning label bytes
 
 -- what is drawn says how many of these rows there are, how many failed, and how many the input's title announces, once that has come.
--- The second line names no trial, or the one that runs, and is no wider than 39 columns.
+-- The second line names no trial, or the one that runs.
 pub record IsDrawing (start : Option (List ℕ)) (screen : Screen) (entries : List Entry) (drawn : List ℕ) : Type 0 where
   pub view : View
   pub running : Option Label
@@ -41,8 +46,7 @@ pub record IsDrawing (start : Option (List ℕ)) (screen : Screen) (entries : Li
   pub failed : view.failed ≡ count_by is_failed (outcomes_in entries)
   pub announced : IfSome view.announced (λ n. IfSome start (BeginsWithTitle n))
   pub runs : IfSome running (λ label. IfSome start (RunsAfter entries label))
-  pub fits : FitsLine (second_line running quiet)
-  pub text : drawn ≡ drawn_text screen view (second_line running quiet)
+  pub text : drawn ≡ drawn_text screen view running quiet
 
 -- nothing is drawn, or how far the run is
 abbrev pub IsDrawn : Option (List ℕ) → Screen → List Entry → List ℕ → Type 0

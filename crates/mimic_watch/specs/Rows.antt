@@ -56,6 +56,15 @@ outcome_text label Ignored = []
 outcome_text label (Failed message) = codes "FAILED " ++ (label_text label ++ (codes "\n" ++ message_text message))
 outcome_text label (Measured m) = codes "bench  " ++ (label_text label ++ measured_text m)
 
+-- the line that names a row that failed, and nothing of others
+abbrev pub failed_line : Label → Outcome → List ℕ
+failed_line label (Failed message) = codes "    " ++ (label_text label ++ codes "\n")
+failed_line label outcome = []
+
+-- a line for each row that failed
+abbrev pub failed_lines : List Entry → List ℕ
+failed_lines entries = flat_map (λ e. failed_line e.label e.outcome) entries
+
 -- what is shown of a row that has ended
 unfoldable pub row_text : Entry → List ℕ
 row_text entry = outcome_text entry.label entry.outcome

@@ -14,8 +14,8 @@ use Rattle.mimic_watch.specs.declared.verdict.WatchFault.TheVariants.{Write}
 use Rattle.mimic_watch.specs.declared.viewer.Viewer.{Viewer}
 use Rattle.mimic_watch.specs.Frames.{erase}
 use Rattle.mimic_watch.specs.Moments.{AreMomentsAfter, IsDrawn, Moment, ended_in, moments_text}
-use Rattle.mimic_watch.specs.Rows.{row_text}
-use Rattle.mimic_watch.specs.Watched.{AreCounts, HasFailed, last_text}
+use Rattle.mimic_watch.specs.Rows.{failed_line, failed_lines, row_text}
+use Rattle.mimic_watch.specs.Watched.{AreCounts, HasFailed, failures_part, last_text}
 
 -- ---- what has come
 
@@ -25,6 +25,7 @@ pub record HasSeen (w : Viewer) (bytes : List ℕ) (put waiting : List Entry) : 
   pub ended : w.ended ≡ length (put ++ waiting)
   pub counts : w.counts ≡ counts_of (outcomes_in (put ++ waiting)) 0
   pub shown : w.waiting.items ≡ flat_map row_text waiting
+  pub failed : w.failed.items ≡ failed_lines (put ++ waiting)
 
 -- whatever had come, these bytes follow it, and the rows that they end wait with the others
 abbrev pub SeesOn : Viewer → List ℕ → Viewer → Type 0
@@ -38,6 +39,7 @@ pub record SeesRow (old : Viewer) (entry : Entry) (new : Viewer) : Type 0 where
   pub ended : old.ended < 2 ^ 64 - 1 → new.ended ≡ old.ended + 1
   pub counts : HasRoom old.counts → new.counts ≡ counted old.counts entry.outcome
   pub shown : new.waiting.items ≡ old.waiting.items ++ row_text entry
+  pub failed : new.failed.items ≡ old.failed.items ++ failed_line entry.label entry.outcome
 
 -- a piece was read, and the rows that it ends wait with the others; it is the last one if the input is over
 pub record ReadsOn (before after : Option (List ℕ)) (old new : Viewer) (over : Bool) : Type 0 where
@@ -61,9 +63,9 @@ abbrev pub EndsSeen : Viewer → WatchVerdict → Type 0
 EndsSeen w verdict = (bytes : List ℕ) (put waiting : List Entry) → HasSeen w bytes put waiting
     → EndsAs bytes (put ++ waiting) verdict.ending × AreCounts (put ++ waiting) verdict
 
--- nothing, or the summary of such a verdict
+-- nothing, or the names of failures and the summary of such a verdict
 abbrev pub IsLastSeen : Viewer → List ℕ → Type 0
-IsLastSeen w last = (last ≡ []) ⊎ ((verdict : WatchVerdict) × EndsSeen w verdict × (last ≡ last_text verdict.counts verdict.ending))
+IsLastSeen w last = (last ≡ []) ⊎ ((verdict : WatchVerdict) × EndsSeen w verdict × (last ≡ last_text (failures_part w.failed.items) verdict.counts verdict.ending))
 
 -- ---- what is put
 

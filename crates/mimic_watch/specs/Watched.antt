@@ -1,5 +1,5 @@
 -- What a watch has seen and put.
-use Rattle.std.specs.Prelude.{◌≡◌, ◌⊎◌, ℕ, ◌++◌, nat_lt, if◌then◌else◌, Bool, false, List, [], Option, IfSome}
+use Rattle.std.specs.Prelude.{◌≡◌, ◌⊎◌, ℕ, ◌∷◌, ◌++◌, codes, nat_lt, if◌then◌else◌, Bool, false, List, [], Option, IfSome}
 use Rattle.std.specs.Io.KnownBytes.{Consumes}
 use Rattle.mimic_trial.specs.declared.formats.FormatSetting.TheVariants.{Pretty}
 use Rattle.mimic_trial.specs.declared.outcome.conclusion.Conclusion.{Conclusion}
@@ -16,6 +16,7 @@ use Rattle.mimic_watch.specs.declared.frame.Screen.{Screen}
 use Rattle.mimic_watch.specs.declared.verdict.WatchVerdict.{WatchVerdict}
 use Rattle.mimic_watch.specs.declared.verdict.WatchFault.{WatchFault}
 use Rattle.mimic_watch.specs.declared.verdict.WatchFault.TheVariants.{Read, Write}
+use Rattle.mimic_watch.specs.Rows.{failed_lines}
 use Rattle.mimic_watch.specs.Moments.{AreMomentsAfter, Moment, ended_in, moments_text}
 
 -- ---- verdicts
@@ -38,21 +39,29 @@ AreCounts entries verdict = verdict.counts ≡ counts_of (outcomes_in entries) (
 abbrev pub plain_summary : Conclusion → ℕ → List ℕ
 plain_summary counts nanos = result_summary (record { format = Pretty; colour = false; name_width = 0; kind_width = 0 }) counts nanos
 
--- what is put at last: the summary of a whole report
-abbrev pub last_text : Conclusion → Ending → List ℕ
-last_text counts (Whole filtered_out nanos) = plain_summary counts nanos
-last_text counts (Cut stop) = []
+-- the lines that name failures, under a heading if there are some
+abbrev pub failures_part : List ℕ → List ℕ
+failures_part [] = []
+failures_part (b ∷ lines) = codes "\nfailures:\n" ++ (b ∷ lines)
+
+abbrev pub failures_text : List Entry → List ℕ
+failures_text entries = failures_part (failed_lines entries)
+
+-- what is put at last: of a whole report this text, which names the failures, and the summary
+abbrev pub last_text : List ℕ → Conclusion → Ending → List ℕ
+last_text failures counts (Whole filtered_out nanos) = failures ++ plain_summary counts nanos
+last_text failures counts (Cut stop) = []
 
 -- ---- watches
 
 -- the input was a report or none, as the ending says; what was put shows each of its rows that have ended once, in their order, and
--- then the summary
+-- then the names of those that failed and the summary
 pub record HasWatched (screen : Screen) (start : Option (List ℕ)) (old new : Shown) (verdict : WatchVerdict) : Type 0 where
   pub moments : List Moment
   pub each : AreMomentsAfter start screen [] moments
   pub ending : IfSome start (IsReading (ended_in moments) verdict.ending)
   pub counts : AreCounts (ended_in moments) verdict
-  pub put : Put old new (moments_text moments ++ last_text verdict.counts verdict.ending)
+  pub put : Put old new (moments_text moments ++ last_text (failures_text (ended_in moments)) verdict.counts verdict.ending)
 
 -- with a fault of the writer a beginning of the text was put, and else all of it
 abbrev pub IsLeft : WatchFault → Shown → Shown → List ℕ → List ℕ → Type 0
@@ -60,10 +69,10 @@ IsLeft (Read fault) old new text last = Put old new text
 IsLeft (Write output.OutOfMemory) old new text last = Put old new text
 IsLeft (Write (output.Write error)) old new text last = Stopped old new (text ++ last)
 
--- nothing, or the summary of the report that the input is, which has these rows
+-- nothing, or the names of failures and the summary of the report that the input is, which has these rows
 abbrev pub IsLast : Option (List ℕ) → List Entry → List ℕ → Type 0
 IsLast start entries last = (last ≡ []) ⊎ ((verdict : WatchVerdict) × IfSome start (IsReading entries verdict.ending)
-    × AreCounts entries verdict × (last ≡ last_text verdict.counts verdict.ending))
+    × AreCounts entries verdict × (last ≡ last_text (failures_text entries) verdict.counts verdict.ending))
 
 -- some bytes were read; what was put shows rows that have ended in a front of them, from the first one on, each once
 pub record HasFailed (screen : Screen) (start end : Option (List ℕ)) (old new : Shown) (fault : WatchFault) : Type 0 where

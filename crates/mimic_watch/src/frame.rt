@@ -1,15 +1,16 @@
 //! The two lines below the rows: how far the run is.
-ghost use Rattle.std.specs.Prelude.{◌≡◌, ◌<◌, ◌≤◌, ◌++◌, IfOk, OnOk, decimal, length, option_map, take};
+ghost use Rattle.std.specs.Prelude.{◌≡◌, ◌<◌, ◌++◌, IfOk, None, OnOk, Some, chars, decimal, nat_lt, not, option_map, string_bytes};
 ghost use Rattle.std.specs.Option.{option_to_list};
+ghost use Rattle.mimic_trial.specs.Text.{kind_part};
 ghost use Rattle.mimic_events.specs.Contents.{label_read};
-ghost use Rattle.mimic_watch.specs.Frames.{announced_part, bar, elapsed_part, failed_part, first_line, frame, left_part, part_if, plain_byte, plain_text, second_line, shaped, sixtieth_text, time_text};
+ghost use Rattle.mimic_watch.specs.Frames.{announced_part, bar, columns_of, cut, elapsed_part, failed_part, first_line, fitting, frame, front_text, left_part, log_line, mark, mark_columns, marks, note_part, part_if, plain_byte, points, second_line, shaped, sixtieth_text, time_text, waiting_line};
 
 use itoa::Buffer;
 use mimic_events::Label;
+use mimic_printer::{Place, push_escaped};
+use mimic_trial::brackets;
 use std::alloc::{AllocError, Global};
-
-// The second line has no more columns than this: wider ones would be wrapped in a narrow window, and be left over.
-const COLUMNS: usize = 39;
+use unicode_width::UnicodeWidthChar;
 
 // How many columns the bar has between its brackets.
 const CELLS: usize = 6;
@@ -55,6 +56,30 @@ pub(crate) fn push_frame(to: &mut Vec<u8>, first: &[u8], second: &[u8]) -> Resul
     to.extend_from_slice(b"\x1b[J\n")?;
     to.extend_from_slice(second)?;
     to.extend_from_slice(b"\x1b[1A\r\x1b[?7h")
+}
+
+// Appends both lines in one, as a log has them.
+#[tactic(auto, unfolding(crate::specs::Frames::log_line))]
+pub(crate) fn push_log_line(
+    to: &mut Vec<u8>,
+    first: &[u8],
+    second: &[u8],
+) -> Result<(), AllocError>
+    ensures { OnOk result (to.new.items ≡ to.old.items ++ log_line first.now second.now) }
+{
+    to.extend_from_slice(first)?;
+    push_note(to, second)?;
+    to.extend_from_slice(b"\n")
+}
+
+fn push_note(line: &mut Vec<u8>, second: &[u8]) -> Result<(), AllocError>
+    ensures { OnOk result (line.new.items ≡ line.old.items ++ note_part second.now) }
+{
+    if second.is_empty() {
+        return Ok(());
+    }
+    line.extend_from_slice(b"; ")?;
+    line.extend_from_slice(second)
 }
 
 // Which parts a first line has.
@@ -220,51 +245,79 @@ fn push_sixtieth(line: &mut Vec<u8>, number: u64) -> Result<(), AllocError>
 
 // Returns the second line: the trial that is waited for, if it is known, and for how many seconds no row has ended. It is empty
 // unless that is long.
+#[tactic(auto, unfolding(crate::specs::Frames::second_line))]
 pub(crate) fn second_line(
     alloc: Global,
+    columns: usize,
     running: Option<&Label>,
     quiet: u64,
 ) -> Result<Vec<u8>, AllocError>
     ensures { IfOk result (λ line. line.items
-        ≡ second_line (option_map (λ label. label_read label.now) running.entry) quiet) }
+        ≡ second_line columns (option_map (λ label. label_read label.now) running.entry) quiet) }
 {
-    let mut line = Vec::new(alloc);
     if quiet < LONG {
-        return Ok(line);
+        return Ok(Vec::new(alloc));
     }
-    let mut seconds = Vec::new(alloc);
-    push_time(&mut seconds, quiet)?;
-    let Some(label) = running else {
-        push_plain(&mut line, b"nothing ended for ")?;
-        push_plain(&mut line, &seconds)?;
-        return Ok(line);
-    };
-    push_plain(&mut line, b"waiting ")?;
-    push_plain(&mut line, &seconds)?;
-    push_plain(&mut line, b" for ")?;
-    push_plain(&mut line, label.name.as_bytes())?;
-    Ok(line)
+    match running {
+        Some(label) => waiting_for(alloc, columns, label, quiet),
+        None => waiting(alloc, columns, quiet),
+    }
 }
 
 // The number of seconds from which it is long that no row has ended.
 const LONG: u64 = 2;
 
-// Appends what the line has room for, with a question mark for each character that isn't a printable one of ASCII: how wide
-// others are isn't known.
-fn push_plain(line: &mut Vec<u8>, text: &[u8]) -> Result<(), AllocError>
-    requires { length line.old.items ≤ 39 }
-    ensures { OnOk result ((line.new.items ≡ take 39 (line.old.items ++ plain_text text.now))
-        × (length line.new.items ≤ 39)) }
+fn waiting(alloc: Global, columns: usize, quiet: u64) -> Result<Vec<u8>, AllocError>
+    ensures { IfOk result (λ line. line.items ≡ waiting_line columns None quiet) }
 {
+    let mut text = Vec::from_slice(alloc, b"nothing ended for ")?;
+    push_time(&mut text, quiet)?;
+    front_of(alloc, columns, &text)
+}
+
+fn waiting_for(
+    alloc: Global,
+    columns: usize,
+    label: &Label,
+    quiet: u64,
+) -> Result<Vec<u8>, AllocError>
+    ensures { IfOk result (λ line. line.items ≡ waiting_line columns (Some (label_read label.now)) quiet) }
+{
+    let mut text = Vec::from_slice(alloc, b"waiting ")?;
+    push_time(&mut text, quiet)?;
+    text.extend_from_slice(b" for ")?;
+    let mut line = front_of(alloc, columns, &text)?;
+    let name = label_text(alloc, label)?;
+    let room = columns.saturating_sub(line.len());
+    push_cut(&mut line, room, name.as_str())?;
+    Ok(line)
+}
+
+// Returns the trial's kind in brackets, if it has one, and its name.
+fn label_text(alloc: Global, label: &Label) -> Result<String, AllocError>
+    ensures { IfOk result (λ text. string_bytes text
+        ≡ kind_part (label_read label.now).kind ++ (label_read label.now).name) }
+{
+    let (open, close) = brackets(label.kind.as_str());
+    let mut text = String::from_str(alloc, open)?;
+    text.push_str(label.kind.as_str())?;
+    text.push_str(close)?;
+    text.push_str(label.name.as_str())?;
+    Ok(text)
+}
+
+// Returns what the columns have room for, with a question mark for each character that isn't a printable one of ASCII.
+fn front_of(alloc: Global, columns: usize, text: &[u8]) -> Result<Vec<u8>, AllocError>
+    ensures { IfOk result (λ line. line.items ≡ front_text columns text.now) }
+{
+    let mut line = Vec::new(alloc);
     for byte in text {
-        if line.len() >= COLUMNS {
-            return Ok(());
-        }
         if let Some(plain) = plain(*byte) {
             line.push(plain)?;
         }
     }
-    Ok(())
+    line.truncate(columns);
+    Ok(line)
 }
 
 // Returns what the line has for a byte of a text: `None` for a byte that begins no character.
@@ -275,5 +328,59 @@ fn plain(byte: u8) -> Option<u8>
         b' '..=b'~' => Some(byte),
         128..=191 => None,
         _ => Some(b'?'),
+    }
+}
+
+// Appends the text; of one that is wider than the columns as much as leaves room for two points, and these.
+fn push_cut(line: &mut Vec<u8>, columns: usize, text: &str) -> Result<(), AllocError>
+    ensures { OnOk result (line.new.items ≡ line.old.items ++ cut columns (chars text.now)) }
+{
+    let len = line.len();
+    if push_fitting(line, columns, text)? {
+        return Ok(());
+    }
+    line.truncate(len);
+    push_fitting(line, columns.saturating_sub(2), text)?;
+    push_points(line, columns)?;
+    Ok(())
+}
+
+// Appends two points, or as many as fit.
+fn push_points(line: &mut Vec<u8>, columns: usize) -> Result<(), AllocError>
+    ensures { OnOk result (line.new.items ≡ line.old.items ++ points columns) }
+{
+    let points: &[u8] = b"..";
+    line.extend_from_slice(&points[..columns.min(2)])
+}
+
+// Appends the characters that fit, and returns whether all do.
+fn push_fitting(line: &mut Vec<u8>, columns: usize, text: &str) -> Result<bool, AllocError>
+    ensures { IfOk result (λ whole. (line.new.items ≡ line.old.items ++ marks (fitting columns (chars text.now)))
+        × (whole ≡ not (nat_lt columns (columns_of (chars text.now))))) }
+{
+    let mut room = columns;
+    for c in text.chars() {
+        let wide = mark_columns(c);
+        if room < wide {
+            return Ok(false);
+        }
+        push_mark(line, c)?;
+        room -= wide;
+    }
+    Ok(true)
+}
+
+fn push_mark(line: &mut Vec<u8>, c: char) -> Result<(), AllocError>
+    ensures { OnOk result (line.new.items ≡ line.old.items ++ mark c) }
+{
+    push_escaped(line, c.encode_utf8(&mut [0; 4]).as_bytes(), Place::Terminal)
+}
+
+fn mark_columns(c: char) -> usize
+    ensures { result ≡ mark_columns c }
+{
+    match c.width() {
+        Some(width) => width.max(1),
+        None => 6,
     }
 }

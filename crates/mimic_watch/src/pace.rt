@@ -129,7 +129,7 @@ impl Pace {
     // long as the next one is waited for is taken off, but no more than it takes itself.
     //
     // Only the ends of trials that ran are marked, so ignored rows make a run neither faster nor slower, and while nothing ends
-    // the average stays what it was: a trial that hangs holds the estimate still.
+    // the average stays what it was: a trial that hangs holds the estimate still. Less than a second is nothing to tell.
     pub(crate) fn left(&self, rows: u64) -> Option<u64> {
         if self.now.saturating_sub(self.started) < SURE || rows == 0 {
             return None;
@@ -142,6 +142,7 @@ impl Pace {
         }
         let all = u128::from(rows) * u128::from(nanos) / u128::from(ran);
         let waited = self.now.saturating_sub(self.ran_at).min(nanos / ran);
-        u64::try_from(all.saturating_sub(u128::from(waited)) / u128::from(SECOND)).ok()
+        let left = all.saturating_sub(u128::from(waited)) / u128::from(SECOND);
+        u64::try_from(left).ok().filter(|left| *left > 0)
     }
 }

@@ -3,7 +3,7 @@ ghost use Rattle.std.specs.Prelude.{◌≡◌, ◌++◌, OnOk, decimal};
 ghost use Rattle.std.specs.Option.{option_copied};
 ghost use Rattle.mimic_events.specs.Contents.{entry_read};
 ghost use Rattle.mimic_trial.specs.Text.{grouped};
-ghost use Rattle.mimic_watch.specs.Rows.{average_text, label_text, line_text, lines_noun, measured_text, message_lines, message_text, more_text, row_text, variance_text};
+ghost use Rattle.mimic_watch.specs.Rows.{average_text, failed_line, label_text, line_text, lines_noun, measured_text, message_lines, message_text, more_text, row_text, variance_text};
 
 use itoa::Buffer;
 use mimic_events::Row;
@@ -32,6 +32,21 @@ pub(crate) fn push_row(to: &mut Vec<u8>, row: &Row) -> Result<(), AllocError>
             push_label(to, row)?;
             push_measurement(to, measurement)
         }
+    }
+}
+
+// Appends the line that names the row if it failed, and nothing of others.
+pub(crate) fn push_failed_line(to: &mut Vec<u8>, row: &Row) -> Result<(), AllocError>
+    ensures { OnOk result (to.new.items
+        ≡ to.old.items ++ failed_line (entry_read row.now).label (entry_read row.now).outcome) }
+{
+    match &row.outcome {
+        Outcome::Failed(_) => {
+            to.extend_from_slice(b"    ")?;
+            push_label(to, row)?;
+            to.extend_from_slice(b"\n")
+        }
+        _ => Ok(()),
     }
 }
 

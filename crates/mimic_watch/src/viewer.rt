@@ -1,13 +1,13 @@
 //! Shows a report as it comes.
-ghost use Rattle.std.specs.Prelude.{◌≡◌, MatchResult, OnOk};
+ghost use Rattle.std.specs.Prelude.{◌≡◌, ◌++◌, IfOk, MatchResult, OnOk};
 ghost use Rattle.mimic_printer.specs.Sink.{HasFaultLeft, LeavesText, Puts, shown};
-ghost use Rattle.mimic_watch.specs.Frames.{FirstLinesFit};
-ghost use Rattle.mimic_watch.specs.Watched.{HasFailed, HasWatched, last_text};
+ghost use Rattle.mimic_watch.specs.Frames.{FirstLinesFit, SecondLinesFit};
+ghost use Rattle.mimic_watch.specs.Watched.{HasFailed, HasWatched, failures_part, last_text, plain_summary};
 ghost use Rattle.mimic_watch.specs.Viewers.{put_text};
 
-use crate::frame::{ERASE, Screen, View, first_line, push_frame, second_line};
+use crate::frame::{ERASE, Screen, View, first_line, push_frame, push_log_line, second_line};
 use crate::pace::{Pace, nanos};
-use crate::row::push_row;
+use crate::row::{push_failed_line, push_row};
 use crate::verdict::{WatchFault, WatchVerdict};
 use mimic_events::{Ending, Follower, PIECE, ReadFault, Row, read_piece};
 use mimic_printer::{OutputFault, Printer, Sink, WriteFault};
@@ -30,18 +30,20 @@ struct Viewer {
     counts: Conclusion,
     // What rows show and was not put yet.
     waiting: Vec<u8>,
+    // The lines that name the rows that failed.
+    failed: Vec<u8>,
     // Room for what is put at once.
     text: Vec<u8>,
     pace: Pace,
 }
 
 /// Shows a report as its bytes come, up to their end or to the first line that no report has there: each failure and each
-/// measurement once, and at last the harness's summary.
+/// measurement once, and at last the names of the failures and the harness's summary.
 ///
 /// On a terminal two lines below say how far the run is, at most ten times a second; each time it is one write, which
-/// leaves the terminal as it was. Else a line reports this every ten seconds, with no escape sequence. A reader that returns
+/// leaves the terminal as it was. Else one line reports this every ten seconds, with no escape sequence. A reader that returns
 /// `TimedOut` or `WouldBlock` says that nothing has come for a while. Rows that have passed are not kept.
-#[tactic(auto, using(crate::proofs::Laws::first_lines_fit))]
+#[tactic(auto, using(crate::proofs::Laws::first_lines_fit, crate::proofs::Plain::second_lines_fit))]
 pub fn watch<I: Read, W: Write, C: Clock>(
     alloc: Global,
     input: &mut I,
@@ -55,7 +57,10 @@ pub fn watch<I: Read, W: Write, C: Clock>(
         (HasFailed screen (I.remaining input.old) (I.remaining input.new) (shown W.contents sink.old) (shown W.contents sink.new)) }
 
     // No first line is wider than its columns.
-    ensures law { FirstLinesFit }
+    ensures first { FirstLinesFit }
+
+    // No second line is, and it has no control character.
+    ensures second { SecondLinesFit }
 {
     let mut now = nanos(clock, 0);
     let mut viewer = Viewer::new(alloc, screen, now);
@@ -91,7 +96,7 @@ impl Viewer {
     ghost use Rattle.mimic_printer.specs.Sink.{HasFaultLeft, LeftBy, Put, shown};
     ghost use Rattle.mimic_events.specs.Contents.{entry_read};
     ghost use Rattle.mimic_watch.specs.Moments.{IsDrawing};
-    ghost use Rattle.mimic_watch.specs.Watched.{last_text};
+    ghost use Rattle.mimic_watch.specs.Watched.{failures_part, last_text};
     ghost use Rattle.mimic_watch.specs.Viewers.{DrawsSeen, EndsSeen, HasSeen, IsLastSeen, ReadsOn, SeesOn, SeesRow, ShowsOn, StaysSeen, put_text};
 
     fn new(alloc: Global, screen: Screen, now: u64) -> Viewer
@@ -105,6 +110,7 @@ impl Viewer {
             ended: 0,
             counts: Conclusion::empty(0),
             waiting: Vec::new(alloc),
+            failed: Vec::new(alloc),
             text: Vec::new(alloc),
             pace: Pace::new(now),
         }
@@ -158,7 +164,8 @@ impl Viewer {
             Outcome::Ignored => counts.num_ignored = counts.num_ignored.saturating_add(1),
             Outcome::Measured(_) => counts.num_measured = counts.num_measured.saturating_add(1),
         }
-        push_row(&mut self.waiting, row)
+        push_row(&mut self.waiting, row)?;
+        push_failed_line(&mut self.failed, row)
     }
 
     // Returns what is drawn at this time below what rows show, which may be nothing, and `None` if nothing is put at all.
@@ -195,15 +202,20 @@ impl Viewer {
             → Consumes start now bytes → HasSeen self.now bytes put waiting
             → IsDrawing start self.now.screen (put ++ waiting) drawn.items) }
     {
-        let mut first = first_line(self.alloc, self.screen.columns, &self.view())?;
+        let columns = self.screen.columns;
+        let first = first_line(self.alloc, columns, &self.view())?;
+        let mut drawn = Vec::new(self.alloc);
+        let running = self.follower.running();
+        let quiet = self.pace.quiet();
         if self.screen.live {
-            let second = second_line(self.alloc, self.follower.running(), self.pace.quiet())?;
-            let mut drawn = Vec::new(self.alloc);
+            let second = second_line(self.alloc, columns, running, quiet)?;
             push_frame(&mut drawn, &first, &second)?;
             Ok(drawn)
         } else {
-            first.extend_from_slice(b"\n")?;
-            Ok(first)
+            let room = columns.saturating_sub(first.len()).saturating_sub(2);
+            let second = second_line(self.alloc, room, running, quiet)?;
+            push_log_line(&mut drawn, &first, &second)?;
+            Ok(drawn)
         }
     }
 
@@ -239,13 +251,13 @@ impl Viewer {
         Ok(())
     }
 
-    // Puts what waits, and the summary of a whole report.
+    // Puts what waits, and of a whole report the names of the failures and the summary.
     fn finish<W: Write>(self, sink: &mut Sink<W>) -> Result<WatchVerdict, OutputFault>
         requires { HasFaultLeft sink.old }
         ensures verdict { IfOk result (EndsSeen self) }
         ensures put { MatchResult result
             (λ verdict. Put (shown W.contents sink.old) (shown W.contents sink.new)
-            (put_text self.screen.live self.waiting.items [] ++ last_text verdict.counts verdict.ending))
+            (put_text self.screen.live self.waiting.items [] ++ last_text (failures_part self.failed.items) verdict.counts verdict.ending))
             (λ fault. (last : List ℕ) × IsLastSeen self last × LeftBy fault (shown W.contents sink.old) (shown W.contents sink.new)
             (put_text self.screen.live self.waiting.items [] ++ last)) }
     {
@@ -255,14 +267,16 @@ impl Viewer {
             follower,
             counts,
             waiting,
+            failed,
             text,
             ..
         } = self;
         let mut text = text;
         let ending = Ending::of(alloc, follower)?;
         let verdict = WatchVerdict::new(counts, ending);
+        let failures = failures_text(alloc, &failed)?;
         put_moment(sink, &mut text, screen.live, &waiting, b"")?;
-        put_last(sink, &verdict)?;
+        put_last(sink, &failures, &verdict)?;
         Ok(verdict)
     }
 }
@@ -317,20 +331,63 @@ fn put_whole<W: Write>(sink: &mut Sink<W>, text: &[u8]) -> Result<(), WriteFault
     sink.flush()
 }
 
-// Puts the summary of a whole report.
-fn put_last<W: Write>(sink: &mut Sink<W>, verdict: &WatchVerdict) -> Result<(), WriteFault>
-    requires { HasFaultLeft sink.old }
-    ensures { Puts W.contents sink.old sink.new (last_text verdict.now.counts verdict.now.ending) result }
+// Returns the lines, which name failures, under a heading, and nothing if there are none.
+fn failures_text(alloc: Global, lines: &[u8]) -> Result<Vec<u8>, AllocError>
+    ensures { IfOk result (λ text. text.items ≡ failures_part lines.now) }
 {
-    let Ending::Whole { nanos, .. } = &verdict.ending else {
-        return sink.put(b"");
-    };
+    let mut text = Vec::new(alloc);
+    if lines.is_empty() {
+        return Ok(text);
+    }
+    text.extend_from_slice(b"\nfailures:\n")?;
+    text.extend_from_slice(lines)?;
+    Ok(text)
+}
+
+// Puts of a whole report this text and the summary.
+fn put_last<W: Write>(
+    sink: &mut Sink<W>,
+    failures: &[u8],
+    verdict: &WatchVerdict,
+) -> Result<(), WriteFault>
+    requires { HasFaultLeft sink.old }
+    ensures { Puts W.contents sink.old sink.new
+        (last_text failures.now verdict.now.counts verdict.now.ending) result }
+{
+    match &verdict.ending {
+        Ending::Whole { nanos, .. } => put_end(sink, failures, &verdict.counts, *nanos),
+        Ending::Cut(_) => sink.put(b""),
+    }
+}
+
+fn put_end<W: Write>(
+    sink: &mut Sink<W>,
+    failures: &[u8],
+    counts: &Conclusion,
+    nanos: u64,
+) -> Result<(), WriteFault>
+    requires { HasFaultLeft sink.old }
+    ensures { Puts W.contents sink.old sink.new
+        (failures.now ++ plain_summary counts.now nanos) result }
+{
+    sink.put(failures)?;
+    put_summary(sink, counts, nanos)
+}
+
+fn put_summary<W: Write>(
+    sink: &mut Sink<W>,
+    counts: &Conclusion,
+    nanos: u64,
+) -> Result<(), WriteFault>
+    requires { HasFaultLeft sink.old }
+    ensures { Puts W.contents sink.old sink.new (plain_summary counts.now nanos) result }
+{
     let printer = Printer {
         format: FormatSetting::Pretty,
         colour: false,
         name_width: 0,
         kind_width: 0,
     };
-    printer.print_summary(sink, &verdict.counts, *nanos)?;
+    printer.print_summary(sink, counts, nanos)?;
     sink.flush()
 }

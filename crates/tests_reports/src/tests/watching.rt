@@ -88,7 +88,7 @@ pub(super) fn watched_pieces(
 // A log, and a terminal.
 const LOG: Screen = Screen {
     live: false,
-    columns: 39,
+    columns: 79,
 };
 
 const TERMINAL: Screen = Screen {
@@ -110,7 +110,7 @@ const REST: &str =
     "{ \"type\": \"test\", \"event\": \"started\", \"name\": \"b\" }\n{ \"type\": \"bench\", \"name\": \"b\", \"median\": 1234, \"deviation\": 5 }\n{ \"type\": \"suite\", \"event\": \"failed\", \"passed\": 0, \"failed\": 1, \"ignored\": 0, \"measured\": 1, \"filtered_out\": 0, \"exec_time\": 1.5 }\n";
 
 const SUMMARY: &str =
-    "\ntest result: FAILED. 0 passed; 1 failed; 0 ignored; 1 measured; 0 filtered out; finished in 1.50s\n\n";
+    "\nfailures:\n    [k] a\\u{1b}b\n\ntest result: FAILED. 0 passed; 1 failed; 0 ignored; 1 measured; 0 filtered out; finished in 1.50s\n\n";
 
 const FAILURE: &str = "FAILED [k] a\\u{1b}b\n    no\n";
 
@@ -122,7 +122,7 @@ fn plain(rt: HostRuntime) -> Result<(), Fail> {
     let pieces = [TITLE, ANNOUNCED, "", FAILED, REST];
     let (status, text) = watched_pieces(alloc, &pieces, 4_000, LOG)?;
     // The third reading after the one at the start is 12 seconds later.
-    let line = "[      ] 0/2 12s\n";
+    let line = "[      ] 0/2 12s; waiting 12s for [k] a\\u{1b}b\n";
     let expected = format!(in alloc; "{line}{FAILURE}{BENCH}{SUMMARY}")?;
     assert!(rt; status == 101, "{status}");
     assert!(rt; text == expected, "{text}");
@@ -136,8 +136,8 @@ fn live(rt: HostRuntime) -> Result<(), Fail> {
     let (status, text) = watched_pieces(alloc, &pieces, 1_000, TERMINAL)?;
     let expected = concat!(
         "\x1b[?7l\r[      ] 0/2 1s\x1b[J\n\x1b[1A\r\x1b[?7h",
-        "\x1b[?7l\r[      ] 0/2 2s\x1b[J\nwaiting 2s for a?b\x1b[1A\r\x1b[?7h",
-        "\x1b[?7l\r[      ] 0/2 3s\x1b[J\nwaiting 3s for a?b\x1b[1A\r\x1b[?7h",
+        "\x1b[?7l\r[      ] 0/2 2s\x1b[J\nwaiting 2s for [k] a\\u{1b}b\x1b[1A\r\x1b[?7h",
+        "\x1b[?7l\r[      ] 0/2 3s\x1b[J\nwaiting 3s for [k] a\\u{1b}b\x1b[1A\r\x1b[?7h",
         "\r \x1b[J\r\x1b[KFAILED [k] a\\u{1b}b\n    no\n",
         "\x1b[?7l\r[===   ] 1/2 1 failed 4s 4s left\x1b[J\n\x1b[1A\r\x1b[?7h",
         "\r \x1b[J\r\x1b[Kbench  b: 1,234 ns/iter (+/- 5)\n",
@@ -288,6 +288,55 @@ fn narrow_lines(rt: HostRuntime) -> Result<(), Fail> {
         let drawn = format!(in alloc; "\x1b[?7l\r{expected}\x1b[J\n\x1b[1A\r\x1b[?7h")?;
         assert!(rt; text.as_str().contains(drawn.as_str()), "{text:?}");
     }
+    Ok(())
+}
+
+// A trial that runs, and the second line in so many columns. 15 of them are before the name. A wide character takes two, and one that
+// is laid over another counts as one.
+static WAITED: [(&str, usize, &str); 9] = [
+    ("\"name\": \"abc\"", 39, "waiting 4s for abc"),
+    ("\"name\": \"abcdefghijkl\"", 27, "waiting 4s for abcdefghijkl"),
+    ("\"name\": \"abcdefghijkl\"", 26, "waiting 4s for abcdefghi.."),
+    ("\"name\": \"abc\"", 16, "waiting 4s for ."),
+    ("\"name\": \"abc\"", 12, "waiting 4s f"),
+    ("\"name\": \"日本語の試験\"", 27, "waiting 4s for 日本語の試験"),
+    ("\"name\": \"日本語の試験\"", 26, "waiting 4s for 日本語の.."),
+    ("\"name\": \"e\u{301}e\u{301}\"", 19, "waiting 4s for e\u{301}e\u{301}"),
+    ("\"name\": \"\u{9b}x\", \"kind\": \"K\"", 39, "waiting 4s for [K] \\u{9b}x"),
+];
+
+#[test]
+fn waited_names(rt: HostRuntime) -> Result<(), Fail> {
+    let alloc = rt.alloc();
+    for (label, columns, expected) in &WAITED {
+        let begins = format!(in alloc; "{{ \"type\": \"test\", \"event\": \"started\", {label} }}\n")?;
+        let screen = Screen {
+            live: true,
+            columns: *columns,
+        };
+        let pieces = [ONE_TITLE, begins.as_str()];
+        let (_, text) = watched_pieces(alloc, &pieces, 2_000, screen)?;
+        let drawn = format!(in alloc; "\x1b[J\n{expected}\x1b[1A\r\x1b[?7h")?;
+        assert!(rt; text.as_str().contains(drawn.as_str()), "{text:?}");
+    }
+    Ok(())
+}
+
+// In a log nothing is said of rows that ended just now, and at most one line comes in ten seconds.
+#[test]
+fn quiet_log(rt: HostRuntime) -> Result<(), Fail> {
+    let alloc = rt.alloc();
+    let pieces = [FOUR, "", "", PASSES, PASSES, "", "", "", "", ""];
+    let (_, text) = watched_pieces(alloc, &pieces, 5_000, LOG)?;
+    // Lines come at 10, 20, 30, 40 and 50 seconds. The rows end at 20 and 25 seconds: each took 12.5.
+    let expected = concat!(
+        "[      ] 0/4 10s; nothing ended for 10s\n",
+        "[=     ] 1/4 20s 1:00 left\n",
+        "[===   ] 2/4 30s 20s left; nothing ended for 5s\n",
+        "[===   ] 2/4 40s 12s left; nothing ended for 15s\n",
+        "[===   ] 2/4 50s 12s left; nothing ended for 25s\n",
+    );
+    assert!(rt; text.as_str() == expected, "{text}");
     Ok(())
 }
 
