@@ -1,6 +1,7 @@
 -- A watch, moment by moment.
 use Rattle.std.proofs.Common.{◌≡◌, inl, inr, ℕ, Bool, true, List, [], ◌∷◌, ◌++◌, Option, Some, None, is_some, IfSome, refl, sym, ap, ◌∙◌, subst, append_assoc, append-nil}
 use Rattle.std.specs.Io.KnownBytes.{Consumes, Keeps}
+use Rattle.std.specs.List.{flat_map}
 use Rattle.std.proofs.lemmas.List.Concat.{flat_map-append}
 use Rattle.mimic_printer.specs.Json.{Entry}
 use Rattle.mimic_printer.specs.Sink.{LeftBy, Put, Shown, Stopped}
@@ -18,8 +19,8 @@ use Rattle.mimic_watch.specs.declared.verdict.WatchFault.{WatchFault}
 use Rattle.mimic_watch.specs.declared.verdict.WatchFault.TheVariants.{Write}
 use Rattle.mimic_watch.specs.declared.viewer.Viewer.{Viewer}
 use Rattle.mimic_watch.specs.Moments.{AreMomentsAfter, IsDrawn, IsMoment, Moment, ended_in, moment_text, moments_text}
-use Rattle.mimic_watch.specs.Rows.{failed_lines}
-use Rattle.mimic_watch.specs.Watched.{AreCounts, HasFailed, HasWatched, IsLast, IsLeft, failures_part, last_text}
+use Rattle.mimic_watch.specs.Rows.{row_text}
+use Rattle.mimic_watch.specs.Watched.{AreCounts, HasFailed, HasWatched, IsLast, IsLeft, failures_part, failures_text, last_text}
 use Rattle.mimic_watch.proofs.Seeing.{none_seen}
 use Rattle.mimic_watch.specs.Viewers.{HasSeen, IsLastSeen, IsWatching, PutsSeen, SeesOn, StaysSeen, put_text}
 
@@ -28,8 +29,8 @@ use Rattle.mimic_watch.specs.Viewers.{HasSeen, IsLastSeen, IsWatching, PutsSeen,
 more_ended : (moments : List Moment) (m : Moment) → ended_in (moments ++ m ∷ []) ≡ ended_in moments ++ m.ended
 more_ended moments m = simp (flat_map-append, append-nil)
 
-more_text : (moments : List Moment) (m : Moment) → moments_text (moments ++ m ∷ []) ≡ moments_text moments ++ moment_text m
-more_text moments m = rw (flat_map-append, append-nil)
+more_text : (colours : Bool) (moments : List Moment) (m : Moment) → moments_text colours (moments ++ m ∷ []) ≡ moments_text colours moments ++ moment_text colours m
+more_text colours moments m = rw (flat_map-append, append-nil)
 
 each_more : (start : Option (List ℕ)) (screen : Screen) (before : List Entry) (moments : List Moment) (m : Moment) → AreMomentsAfter start screen before moments
     → IsMoment start screen ((before ++ ended_in moments) ++ m.ended) m → AreMomentsAfter start screen before (moments ++ m ∷ [])
@@ -62,7 +63,7 @@ module _ (screen : Screen) (start now next : Option (List ℕ)) (a b : Shown) (w
       }
 
   -- some bytes were read, and then a fault came
-  pub failed : (fault : WatchFault) (rest : List ℕ) → Consumes now next rest → IsLeft fault a b (moments_text h.moments) []
+  pub failed : (fault : WatchFault) (rest : List ℕ) → Consumes now next rest → IsLeft fault a b (moments_text screen.colours h.moments) []
       → HasFailed screen start next a b fault
   failed fault rest gone left = record {
     bytes = h.bytes;
@@ -94,8 +95,8 @@ module _ (screen : Screen) (start now : Option (List ℕ)) (a b c : Shown) (w : 
   abbrev moment : Moment
   moment = record { erased = erases; ended = h.waiting; drawn = drawn }
 
-  its_text : put_text erases w.waiting.items drawn ≡ moment_text moment
-  its_text = ap (λ (l : List ℕ). put_text erases l drawn) h.seen.shown
+  its_text : put_text erases w.waiting.items drawn ≡ moment_text screen.colours moment
+  its_text = ap (λ (l : List ℕ). put_text erases l drawn) (h.seen.shown ∙ ap (λ (x : Screen). flat_map (row_text x.colours) h.waiting) h.screen_is)
 
   each_now : AreMomentsAfter start screen [] (h.moments ++ moment ∷ [])
   each_now = each_more start screen [] h.moments moment h.each (record {
@@ -104,10 +105,10 @@ module _ (screen : Screen) (start now : Option (List ℕ)) (a b c : Shown) (w : 
   })
 
   -- all that was put so far
-  all_text : (last : List ℕ) → moments_text h.moments ++ (put_text erases w.waiting.items drawn ++ last) ≡ moments_text (h.moments ++ moment ∷ []) ++ last
+  all_text : (last : List ℕ) → moments_text screen.colours h.moments ++ (put_text erases w.waiting.items drawn ++ last) ≡ moments_text screen.colours (h.moments ++ moment ∷ []) ++ last
   all_text last =
-      sym (append_assoc (moments_text h.moments) (put_text erases w.waiting.items drawn) last)
-      ∙ ap (λ (l : List ℕ). l ++ last) (ap (λ (l : List ℕ). moments_text h.moments ++ l) its_text ∙ sym (more_text h.moments moment))
+      sym (append_assoc (moments_text screen.colours h.moments) (put_text erases w.waiting.items drawn) last)
+      ∙ ap (λ (l : List ℕ). l ++ last) (ap (λ (l : List ℕ). moments_text screen.colours h.moments ++ l) its_text ∙ sym (more_text screen.colours h.moments moment))
 
   -- none waits any more
   none_waits : ended_in h.moments ++ h.waiting ≡ ended_in (h.moments ++ moment ∷ []) ++ []
@@ -122,12 +123,12 @@ module _ (screen : Screen) (start now : Option (List ℕ)) (a b c : Shown) (w : 
     seen = rw (more_ended h.moments moment) (puts h.bytes (ended_in h.moments) h.waiting h.seen);
     screen_is = l ∙ h.screen_is;
     gone = h.gone;
-    put = subst (Put a c) (ap (λ (l : List ℕ). moments_text h.moments ++ l) its_text ∙ sym (more_text h.moments moment))
-        (Put-trans (moments_text h.moments) (put_text erases w.waiting.items drawn) h.put p);
+    put = subst (Put a c) (ap (λ (l : List ℕ). moments_text screen.colours h.moments ++ l) its_text ∙ sym (more_text screen.colours h.moments moment))
+        (Put-trans (moments_text screen.colours h.moments) (put_text erases w.waiting.items drawn) h.put p);
   }
 
   -- a fault at that moment, or at last
-  pub moment_left : (fault : OutputFault) (last : List ℕ) → IsLast start (ended_in h.moments ++ h.waiting) last → LeftBy fault b c (put_text erases w.waiting.items drawn ++ last)
+  pub moment_left : (fault : OutputFault) (last : List ℕ) → IsLast screen.colours start (ended_in h.moments ++ h.waiting) last → LeftBy fault b c (put_text erases w.waiting.items drawn ++ last)
       → HasFailed screen start now a c (Write fault)
   moment_left output.OutOfMemory last is left =
       subst (λ (x : Shown). HasFailed screen start now a x (Write output.OutOfMemory)) (sym left)
@@ -141,12 +142,17 @@ module _ (screen : Screen) (start now : Option (List ℕ)) (a b c : Shown) (w : 
     each = each_now;
     ended = subst (AreEnded h.bytes) none_waits h.seen.followed.ended;
     last = last;
-    is_last = subst (λ (es : List Entry). IsLast start es last) (sym (more_ended h.moments moment)) is;
-    left = subst (Stopped a c) (all_text last) (Put-Stopped (moments_text h.moments) (put_text erases w.waiting.items drawn ++ last) h.put left);
+    is_last = subst (λ (es : List Entry). IsLast screen.colours start es last) (sym (more_ended h.moments moment)) is;
+    left = subst (Stopped a c) (all_text last) (Put-Stopped (moments_text screen.colours h.moments) (put_text erases w.waiting.items drawn ++ last) h.put left);
   }
 
+  -- what is put at last is of the rows that have ended, in this screen's colours
+  last_of : (verdict : WatchVerdict) → last_text w.screen.colours (failures_part w.failed.items) verdict.counts verdict.ending
+      ≡ last_text screen.colours (failures_text (ended_in h.moments ++ h.waiting)) verdict.counts verdict.ending
+  last_of verdict = rw (h.screen_is, h.seen.failed)
+
   -- the end
-  pub moment_last : (verdict : WatchVerdict) → IsOver now h.bytes → Put b c (put_text erases w.waiting.items drawn ++ last_text (failures_part w.failed.items) verdict.counts verdict.ending)
+  pub moment_last : (verdict : WatchVerdict) → IsOver now h.bytes → Put b c (put_text erases w.waiting.items drawn ++ last_text w.screen.colours (failures_part w.failed.items) verdict.counts verdict.ending)
       → EndsAs h.bytes (ended_in h.moments ++ h.waiting) verdict.ending × AreCounts (ended_in h.moments ++ h.waiting) verdict → HasWatched screen start a c verdict
   moment_last verdict over p ends =
       let rows : ended_in h.moments ++ h.waiting ≡ ended_in (h.moments ++ moment ∷ []) = sym (more_ended h.moments moment) in
@@ -155,18 +161,18 @@ module _ (screen : Screen) (start now : Option (List ℕ)) (a b c : Shown) (w : 
         each = each_now;
         ending = subst (λ (es : List Entry). IfSome start (IsReading es verdict.ending)) rows (ends.0 start now h.gone over);
         counts = subst (λ (es : List Entry). AreCounts es verdict) rows ends.1;
-        put = subst (Put a c) (all_text (last_text (failures_part w.failed.items) verdict.counts verdict.ending)
-            ∙ ap (λ (lines : List ℕ). moments_text (h.moments ++ moment ∷ []) ++ last_text (failures_part lines) verdict.counts verdict.ending) (h.seen.failed ∙ ap failed_lines rows))
-            (Put-trans (moments_text h.moments) (put_text erases w.waiting.items drawn ++ last_text (failures_part w.failed.items) verdict.counts verdict.ending) h.put p);
+        put = subst (Put a c) (all_text (last_text w.screen.colours (failures_part w.failed.items) verdict.counts verdict.ending)
+            ∙ ap (λ (l : List ℕ). moments_text screen.colours (h.moments ++ moment ∷ []) ++ l) (last_of verdict ∙ ap (λ (es : List Entry). last_text screen.colours (failures_text es) verdict.counts verdict.ending) rows))
+            (Put-trans (moments_text screen.colours h.moments) (put_text erases w.waiting.items drawn ++ last_text w.screen.colours (failures_part w.failed.items) verdict.counts verdict.ending) h.put p);
       }
 
 -- what is put at last is of the rows that have ended
 pub last_seen : (screen : Screen) (start now : Option (List ℕ)) (a b : Shown) (w : Viewer) (h : IsWatching screen start now a b w) (last : List ℕ) → IsOver now h.bytes
-    → IsLastSeen w last → IsLast start (ended_in h.moments ++ h.waiting) last
+    → IsLastSeen w last → IsLast screen.colours start (ended_in h.moments ++ h.waiting) last
 last_seen screen start now a b w h last over (inl none) = inl none
 last_seen screen start now a b w h last over (inr v) =
     let ends = v.1 h.bytes (ended_in h.moments) h.waiting h.seen in
-    inr (v.0, ends.0 start now h.gone over, ends.1, v.2 ∙ ap (λ (lines : List ℕ). last_text (failures_part lines) v.0.counts v.0.ending) h.seen.failed)
+    inr (v.0, ends.0 start now h.gone over, ends.1, v.2 ∙ rw (h.screen_is, h.seen.failed))
 
 -- ---- turns of the loop
 

@@ -1,6 +1,6 @@
 -- What is put as a report comes: at each moment what the rows show that have ended since the moment before, and maybe how far the run
 -- is.
-use Rattle.std.specs.Prelude.{◌≡◌, ◌⊎◌, ℕ, ◌-◌, Bool, true, false, if◌then◌else◌, List, [], ◌∷◌, ◌++◌, length, codes, count_by, ⊤, Option, IfSome}
+use Rattle.std.specs.Prelude.{◌≡◌, ◌⊎◌, ℕ, ◌-◌, Bool, true, if◌then◌else◌, List, [], ◌∷◌, ◌++◌, length, count_by, ⊤, Option, IfSome}
 use Rattle.std.specs.List.{flat_map}
 use Rattle.mimic_trial.specs.Count.{is_failed}
 use Rattle.mimic_printer.specs.Json.{Entry, outcomes_in}
@@ -62,13 +62,13 @@ abbrev pub AreMomentsAfter : Option (List ℕ) → Screen → List Entry → Lis
 AreMomentsAfter start screen before [] = ⊤
 AreMomentsAfter start screen before (m ∷ moments) = IsMoment start screen (before ++ m.ended) m × AreMomentsAfter start screen (before ++ m.ended) moments
 
--- what is put at a moment
-abbrev pub moment_text : Moment → List ℕ
-moment_text m = (if m.erased then erase else []) ++ (flat_map row_text m.ended ++ m.drawn)
+-- what is put at a moment, with colours or without
+abbrev pub moment_text : Bool → Moment → List ℕ
+moment_text colours m = (if m.erased then erase else []) ++ (flat_map (row_text colours) m.ended ++ m.drawn)
 
 -- what is put at these moments, and the rows that have ended up to the last one
-abbrev pub moments_text : List Moment → List ℕ
-moments_text moments = flat_map moment_text moments
+abbrev pub moments_text : Bool → List Moment → List ℕ
+moments_text colours moments = flat_map (moment_text colours) moments
 
 abbrev pub ended_in : List Moment → List Entry
 ended_in moments = flat_map (λ m. m.ended) moments

@@ -24,7 +24,7 @@ pub record HasSeen (w : Viewer) (bytes : List ℕ) (put waiting : List Entry) : 
   pub followed : HasFollowed w.follower bytes (put ++ waiting)
   pub ended : w.ended ≡ length (put ++ waiting)
   pub counts : w.counts ≡ counts_of (outcomes_in (put ++ waiting)) 0
-  pub shown : w.waiting.items ≡ flat_map row_text waiting
+  pub shown : w.waiting.items ≡ flat_map (row_text w.screen.colours) waiting
   pub failed : w.failed.items ≡ failed_lines (put ++ waiting)
 
 -- whatever had come, these bytes follow it, and the rows that they end wait with the others
@@ -38,7 +38,7 @@ pub record SeesRow (old : Viewer) (entry : Entry) (new : Viewer) : Type 0 where
   pub screen : new.screen ≡ old.screen
   pub ended : old.ended < 2 ^ 64 - 1 → new.ended ≡ old.ended + 1
   pub counts : HasRoom old.counts → new.counts ≡ counted old.counts entry.outcome
-  pub shown : new.waiting.items ≡ old.waiting.items ++ row_text entry
+  pub shown : new.waiting.items ≡ old.waiting.items ++ row_text old.screen.colours entry
   pub failed : new.failed.items ≡ old.failed.items ++ failed_line entry.label entry.outcome
 
 -- a piece was read, and the rows that it ends wait with the others; it is the last one if the input is over
@@ -65,7 +65,7 @@ EndsSeen w verdict = (bytes : List ℕ) (put waiting : List Entry) → HasSeen w
 
 -- nothing, or the names of failures and the summary of such a verdict
 abbrev pub IsLastSeen : Viewer → List ℕ → Type 0
-IsLastSeen w last = (last ≡ []) ⊎ ((verdict : WatchVerdict) × EndsSeen w verdict × (last ≡ last_text (failures_part w.failed.items) verdict.counts verdict.ending))
+IsLastSeen w last = (last ≡ []) ⊎ ((verdict : WatchVerdict) × EndsSeen w verdict × (last ≡ last_text w.screen.colours (failures_part w.failed.items) verdict.counts verdict.ending))
 
 -- ---- what is put
 
@@ -88,7 +88,7 @@ pub record IsWatching (screen : Screen) (start now : Option (List ℕ)) (before 
   pub seen : HasSeen w bytes (ended_in moments) waiting
   pub screen_is : w.screen ≡ screen
   pub gone : Consumes start now bytes
-  pub put : Put before after (moments_text moments)
+  pub put : Put before after (moments_text screen.colours moments)
 
 -- whatever was put so far, more rows were put or none; with a fault nothing more will be
 abbrev pub ShowsOn : Viewer → Viewer → Shown → Shown → Result (Unit {0}) OutputFault → Type 0

@@ -3,6 +3,7 @@ ghost use Rattle.std.specs.Prelude.{◌≡◌, ◌<◌, ◌++◌, IfOk, None, On
 ghost use Rattle.std.specs.Option.{option_to_list};
 ghost use Rattle.mimic_trial.specs.Text.{kind_part};
 ghost use Rattle.mimic_events.specs.Contents.{label_read};
+ghost use Rattle.mimic_watch.specs.Moments.{drawn_text, room_after};
 ghost use Rattle.mimic_watch.specs.Frames.{announced_part, bar, columns_of, cut, elapsed_part, failed_part, first_line, fitting, frame, front_text, left_part, log_line, mark, mark_columns, marks, note_part, part_if, plain_byte, points, second_line, shaped, sixtieth_text, time_text, waiting_line};
 
 use itoa::Buffer;
@@ -23,6 +24,8 @@ pub struct Screen {
     /// How many columns a line of how far the run is has at most. Where lines are drawn again, wider ones than the window's would
     /// be left over.
     pub columns: usize,
+    /// Whether the words of outcomes have the harness's colours.
+    pub colours: bool,
 }
 
 /// Erases two lines, with the cursor at the start of the first, and leaves it there.
@@ -46,9 +49,61 @@ pub(crate) struct View {
     pub(crate) left: Option<u64>,
 }
 
+// Returns how far the run is, and what it waits for: two lines on a terminal, and else one.
+pub(crate) fn drawn_text(
+    alloc: Global,
+    screen: Screen,
+    view: &View,
+    running: Option<&Label>,
+    quiet: u64,
+) -> Result<Vec<u8>, AllocError>
+    ensures { IfOk result (λ drawn. drawn.items
+        ≡ drawn_text screen view.now (option_map (λ label. label_read label.now) running.entry) quiet) }
+{
+    let first = first_line(alloc, screen.columns, view)?;
+    if screen.live {
+        live_text(alloc, screen.columns, &first, running, quiet)
+    } else {
+        log_text(alloc, screen.columns, &first, running, quiet)
+    }
+}
+
+fn live_text(
+    alloc: Global,
+    columns: usize,
+    first: &[u8],
+    running: Option<&Label>,
+    quiet: u64,
+) -> Result<Vec<u8>, AllocError>
+    ensures { IfOk result (λ drawn. drawn.items
+        ≡ frame first.now (second_line columns (option_map (λ label. label_read label.now) running.entry) quiet)) }
+{
+    let second = second_line(alloc, columns, running, quiet)?;
+    let mut drawn = Vec::new(alloc);
+    push_frame(&mut drawn, first, &second)?;
+    Ok(drawn)
+}
+
+fn log_text(
+    alloc: Global,
+    columns: usize,
+    first: &[u8],
+    running: Option<&Label>,
+    quiet: u64,
+) -> Result<Vec<u8>, AllocError>
+    ensures { IfOk result (λ drawn. drawn.items
+        ≡ log_line first.now (second_line (room_after columns first.now) (option_map (λ label. label_read label.now) running.entry) quiet)) }
+{
+    let room = columns.saturating_sub(first.len()).saturating_sub(2);
+    let second = second_line(alloc, room, running, quiet)?;
+    let mut drawn = Vec::new(alloc);
+    push_log_line(&mut drawn, first, &second)?;
+    Ok(drawn)
+}
+
 // Appends two lines, with the cursor at the start of the first.
 #[tactic(auto, unfolding(crate::specs::Frames::frame))]
-pub(crate) fn push_frame(to: &mut Vec<u8>, first: &[u8], second: &[u8]) -> Result<(), AllocError>
+fn push_frame(to: &mut Vec<u8>, first: &[u8], second: &[u8]) -> Result<(), AllocError>
     ensures { OnOk result (to.new.items ≡ to.old.items ++ frame first.now second.now) }
 {
     to.extend_from_slice(b"\x1b[?7l\r")?;
@@ -60,11 +115,7 @@ pub(crate) fn push_frame(to: &mut Vec<u8>, first: &[u8], second: &[u8]) -> Resul
 
 // Appends both lines in one, as a log has them.
 #[tactic(auto, unfolding(crate::specs::Frames::log_line))]
-pub(crate) fn push_log_line(
-    to: &mut Vec<u8>,
-    first: &[u8],
-    second: &[u8],
-) -> Result<(), AllocError>
+fn push_log_line(to: &mut Vec<u8>, first: &[u8], second: &[u8]) -> Result<(), AllocError>
     ensures { OnOk result (to.new.items ≡ to.old.items ++ log_line first.now second.now) }
 {
     to.extend_from_slice(first)?;
@@ -120,7 +171,7 @@ static SHAPES: [Shape; 5] = [
 ];
 
 // Returns the first line: the fullest that fits into the columns.
-pub(crate) fn first_line(alloc: Global, columns: usize, view: &View) -> Result<Vec<u8>, AllocError>
+fn first_line(alloc: Global, columns: usize, view: &View) -> Result<Vec<u8>, AllocError>
     ensures { IfOk result (λ line. line.items ≡ first_line columns view.now) }
 {
     for shape in &SHAPES {
@@ -246,7 +297,7 @@ fn push_sixtieth(line: &mut Vec<u8>, number: u64) -> Result<(), AllocError>
 // Returns the second line: the trial that is waited for, if it is known, and for how many seconds no row has ended. It is empty
 // unless that is long.
 #[tactic(auto, unfolding(crate::specs::Frames::second_line))]
-pub(crate) fn second_line(
+fn second_line(
     alloc: Global,
     columns: usize,
     running: Option<&Label>,

@@ -6,7 +6,7 @@
 //! use mimic_watch::{Screen, watch};
 //!
 //! let mut sink = Sink::new(stdout);
-//! let screen = Screen { live: is_terminal, columns: 79 };
+//! let screen = Screen { live: is_terminal, columns: 79, colours: false };
 //! let verdict = watch(alloc, &mut input, &mut sink, &clock, screen)?;
 //! match verdict.ending {
 //!     Ending::Whole { filtered_out, nanos } => {}

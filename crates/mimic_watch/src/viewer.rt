@@ -2,10 +2,10 @@
 ghost use Rattle.std.specs.Prelude.{◌≡◌, ◌++◌, IfOk, MatchResult, OnOk};
 ghost use Rattle.mimic_printer.specs.Sink.{HasFaultLeft, LeavesText, Puts, shown};
 ghost use Rattle.mimic_watch.specs.Frames.{FirstLinesFit, SecondLinesFit};
-ghost use Rattle.mimic_watch.specs.Watched.{HasFailed, HasWatched, failures_part, last_text, plain_summary};
+ghost use Rattle.mimic_watch.specs.Watched.{HasFailed, HasWatched, failures_part, last_text, summary_text};
 ghost use Rattle.mimic_watch.specs.Viewers.{put_text};
 
-use crate::frame::{ERASE, Screen, View, first_line, push_frame, push_log_line, second_line};
+use crate::frame::{ERASE, Screen, View, drawn_text};
 use crate::pace::{Pace, nanos};
 use crate::row::{push_failed_line, push_row};
 use crate::verdict::{WatchFault, WatchVerdict};
@@ -164,7 +164,7 @@ impl Viewer {
             Outcome::Ignored => counts.num_ignored = counts.num_ignored.saturating_add(1),
             Outcome::Measured(_) => counts.num_measured = counts.num_measured.saturating_add(1),
         }
-        push_row(&mut self.waiting, row)?;
+        push_row(&mut self.waiting, self.screen.colours, row)?;
         push_failed_line(&mut self.failed, row)
     }
 
@@ -202,21 +202,11 @@ impl Viewer {
             → Consumes start now bytes → HasSeen self.now bytes put waiting
             → IsDrawing start self.now.screen (put ++ waiting) drawn.items) }
     {
-        let columns = self.screen.columns;
-        let first = first_line(self.alloc, columns, &self.view())?;
-        let mut drawn = Vec::new(self.alloc);
+        let view = self.view();
         let running = self.follower.running();
         let quiet = self.pace.quiet();
-        if self.screen.live {
-            let second = second_line(self.alloc, columns, running, quiet)?;
-            push_frame(&mut drawn, &first, &second)?;
-            Ok(drawn)
-        } else {
-            let room = columns.saturating_sub(first.len()).saturating_sub(2);
-            let second = second_line(self.alloc, room, running, quiet)?;
-            push_log_line(&mut drawn, &first, &second)?;
-            Ok(drawn)
-        }
+        let drawn = drawn_text(self.alloc, self.screen, &view, running, quiet)?;
+        Ok(drawn)
     }
 
     fn view(&self) -> View
@@ -257,7 +247,8 @@ impl Viewer {
         ensures verdict { IfOk result (EndsSeen self) }
         ensures put { MatchResult result
             (λ verdict. Put (shown W.contents sink.old) (shown W.contents sink.new)
-            (put_text self.screen.live self.waiting.items [] ++ last_text (failures_part self.failed.items) verdict.counts verdict.ending))
+            (put_text self.screen.live self.waiting.items []
+            ++ last_text self.screen.colours (failures_part self.failed.items) verdict.counts verdict.ending))
             (λ fault. (last : List ℕ) × IsLastSeen self last × LeftBy fault (shown W.contents sink.old) (shown W.contents sink.new)
             (put_text self.screen.live self.waiting.items [] ++ last)) }
     {
@@ -276,7 +267,7 @@ impl Viewer {
         let verdict = WatchVerdict::new(counts, ending);
         let failures = failures_text(alloc, &failed)?;
         put_moment(sink, &mut text, screen.live, &waiting, b"")?;
-        put_last(sink, &failures, &verdict)?;
+        put_last(sink, screen.colours, &failures, &verdict)?;
         Ok(verdict)
     }
 }
@@ -347,44 +338,47 @@ fn failures_text(alloc: Global, lines: &[u8]) -> Result<Vec<u8>, AllocError>
 // Puts of a whole report this text and the summary.
 fn put_last<W: Write>(
     sink: &mut Sink<W>,
+    colours: bool,
     failures: &[u8],
     verdict: &WatchVerdict,
 ) -> Result<(), WriteFault>
     requires { HasFaultLeft sink.old }
     ensures { Puts W.contents sink.old sink.new
-        (last_text failures.now verdict.now.counts verdict.now.ending) result }
+        (last_text colours failures.now verdict.now.counts verdict.now.ending) result }
 {
     match &verdict.ending {
-        Ending::Whole { nanos, .. } => put_end(sink, failures, &verdict.counts, *nanos),
+        Ending::Whole { nanos, .. } => put_end(sink, colours, failures, &verdict.counts, *nanos),
         Ending::Cut(_) => sink.put(b""),
     }
 }
 
 fn put_end<W: Write>(
     sink: &mut Sink<W>,
+    colours: bool,
     failures: &[u8],
     counts: &Conclusion,
     nanos: u64,
 ) -> Result<(), WriteFault>
     requires { HasFaultLeft sink.old }
     ensures { Puts W.contents sink.old sink.new
-        (failures.now ++ plain_summary counts.now nanos) result }
+        (failures.now ++ summary_text colours counts.now nanos) result }
 {
     sink.put(failures)?;
-    put_summary(sink, counts, nanos)
+    put_summary(sink, colours, counts, nanos)
 }
 
 fn put_summary<W: Write>(
     sink: &mut Sink<W>,
+    colours: bool,
     counts: &Conclusion,
     nanos: u64,
 ) -> Result<(), WriteFault>
     requires { HasFaultLeft sink.old }
-    ensures { Puts W.contents sink.old sink.new (plain_summary counts.now nanos) result }
+    ensures { Puts W.contents sink.old sink.new (summary_text colours counts.now nanos) result }
 {
     let printer = Printer {
         format: FormatSetting::Pretty,
-        colour: false,
+        colour: colours,
         name_width: 0,
         kind_width: 0,
     };

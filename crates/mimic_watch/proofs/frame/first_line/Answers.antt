@@ -1,6 +1,5 @@
-use Rattle.std.proofs.Common.{◌≡◌, ◌<◌, ◌≤◌, ◌∙◌, [], ap, arith, drop, length, refl, sym}
+use Rattle.std.proofs.Common.{◌<◌, ◌≤◌, ◌∙◌, arith, length, refl, sym}
 use Rattle.mimic_watch.specs.declared.frame.TheConstants.{SHAPES}
-use Rattle.mimic_watch.specs.Frames.{first_fitting}
 use Rattle.mimic_watch.proofs.Drawing.{next_fits, next_too_wide, none_fits}
 use Rattle.mimic_watch.proofs.frame.first_line.Goals as goal
 

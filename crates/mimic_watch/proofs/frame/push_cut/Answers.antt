@@ -1,4 +1,4 @@
-use Rattle.std.proofs.Common.{◌≡◌, ◌++◌, ◌∙◌, ap, append_assoc, arith, false, length, nat_lt, rules, sym, take, true, ◌≤◌}
+use Rattle.std.proofs.Common.{◌≡◌, ◌-◌, ◌++◌, ◌∙◌, ap, append_assoc, arith, false, length, nat_lt, rules, sym, take, true, ◌≤◌}
 use Rattle.std.proofs.lemmas.List.{take-append-le, take_all}
 use Rattle.std.specs.Prelude.{chars}
 use Rattle.mimic_watch.specs.Frames.{columns_of, fitting, marks, points}

@@ -1,4 +1,4 @@
-use Rattle.std.proofs.Common.{◌≡◌, ◌<◌, ◌+◌, ◌++◌, ◌∙◌, List, ℕ, ap, append-nil, arith, drop, length, map-id, nat_lt, not, sym}
+use Rattle.std.proofs.Common.{◌<◌, ◌+◌, ◌++◌, ◌∙◌, ap, drop, length, map-id, nat_lt, not, sym}
 use Rattle.std.specs.Prelude.{chars}
 use Rattle.std.proofs.lemmas.Iterator.{YieldsList-from_chars}
 use Rattle.std.proofs.lemmas.Iterator.Consumers.{YieldsList-end, YieldsList-so_far, YieldsList-turn}
@@ -37,6 +37,6 @@ returns c =
     let end = YieldsList-end (YieldsList-from_chars c.args.text.now c.utf8.text cc) c.loop-c.yielded _ c.loop-c.yielded_by _ _ c.in-None.is c.next.ensures.steps in
     let all = sym (map-id c.loop-c.yielded) ∙ end.0 in (
       c.loop-c.invariant.shown ∙ ap (λ cs. c.args.line.now.items ++ marks cs)
-      (sym (ap (fitting n) (sym all) ∙ all_fitting c.loop-c.yielded n room c.loop-c.invariant.room)),
+          (sym (ap (fitting n) (sym all) ∙ all_fitting c.loop-c.yielded n room c.loop-c.invariant.room)),
       sym (ap not (ap (λ cs. nat_lt n (columns_of cs)) (sym all) ∙ all_short c.loop-c.yielded n room c.loop-c.invariant.room)),
     )

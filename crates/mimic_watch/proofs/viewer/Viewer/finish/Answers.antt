@@ -22,7 +22,7 @@ pub returns-in_err-put_last-clause-put : goal.returns-in_err-put_last-clause-put
 returns-in_err-put_last-clause-put g c =
     let verdict = c.new-verdict.result in
     on_error _ (Write c.in_err-put_last.field-0.0) _ _ c.from_residual-in_err-put_last.ensures.1 (
-      last_text (failures_part c.args.self.failed.items) verdict.counts verdict.ending,
+      last_text c.args.self.screen.colours (failures_part c.args.self.failed.items) verdict.counts verdict.ending,
       inr (
         verdict,
         (λ bytes put waiting h. (

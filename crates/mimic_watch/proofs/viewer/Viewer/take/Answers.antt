@@ -19,4 +19,4 @@ loop-row-preserved c =
 
 pub returns-clause-seen : goal.returns-clause-seen
 returns-clause-seen c =
-    rest_taken _ c.loop-row.self _ _ c.loop-row.rest.now c.loop-row.invariant (rw c.in_default.is at c.in_ok-row.ensures.followed) refl refl refl refl
+    rest_taken _ c.loop-row.self _ _ c.loop-row.rest.now c.loop-row.invariant (rw c.in_default.is at c.in_ok-row.ensures.followed) refl refl refl refl refl
