@@ -3,6 +3,7 @@ use crate::faults::{refuse_all, refuse_format};
 use crate::line::Watch;
 use crate::pump::{Incoming, Pipe, pump};
 use mimic_events::{Ending, ReadFault, Stop};
+use mimic_main::shows_colours;
 use mimic_printer::Sink;
 use mimic_watch::{ERASE, Screen, watch};
 use std::alloc::Global;
@@ -97,7 +98,11 @@ fn screen_of<H: Host>(host: &H, watch: &Watch, stdout: &Stdout) -> Screen {
         None if live => NARROW,
         None => WIDE,
     };
-    Screen { live, columns }
+    Screen {
+        live,
+        columns,
+        colours: shows_colours(host, stdout),
+    }
 }
 
 // The number in the variable `COLUMNS`, if it is one and not 0.

@@ -10,7 +10,7 @@ use std::io::{ErrorKind, Read};
 use std::test::Fail;
 use std::time::Duration;
 
-// Gives these pieces, one a read. At an empty piece it times out, and at `BROKEN` it fails.
+// Gives these pieces, one a read. At an empty piece it times out, at `BLOCKED` it would block, and at `BROKEN` it fails.
 #[derive(Drop)]
 struct Pieces<'a> {
     pieces: &'a [&'a str],
@@ -25,6 +25,9 @@ impl Read for Pieces<'_> {
         self.at = self.at.saturating_add(1);
         if piece.is_empty() {
             return Err(io::Error::from(ErrorKind::TimedOut));
+        }
+        if *piece == BLOCKED {
+            return Err(io::Error::from(ErrorKind::WouldBlock));
         }
         if *piece == BROKEN {
             return Err(io::Error::from(ErrorKind::BrokenPipe));
@@ -89,12 +92,16 @@ pub(super) fn watched_pieces(
 const LOG: Screen = Screen {
     live: false,
     columns: 79,
+    colours: false,
 };
 
 const TERMINAL: Screen = Screen {
     live: true,
     columns: 39,
+    colours: false,
 };
+
+const BLOCKED: &str = "blocked";
 
 const BROKEN: &str = "broken";
 
@@ -150,6 +157,28 @@ fn live(rt: HostRuntime) -> Result<(), Fail> {
     Ok(())
 }
 
+// The words of outcomes in red and cyan, as the harness prints them.
+#[test]
+fn coloured(rt: HostRuntime) -> Result<(), Fail> {
+    let alloc = rt.alloc();
+    let screen = Screen {
+        live: false,
+        columns: 79,
+        colours: true,
+    };
+    let pieces = [TITLE, ANNOUNCED, FAILED, REST];
+    let (status, text) = watched_pieces(alloc, &pieces, 1, screen)?;
+    let expected = concat!(
+        "\x1b[31mFAILED\x1b[0m [k] a\\u{1b}b\n    no\n",
+        "\x1b[36mbench\x1b[0m  b: 1,234 ns/iter (+/- 5)\n",
+        "\nfailures:\n    [k] a\\u{1b}b\n",
+        "\ntest result: \x1b[31mFAILED\x1b[0m. 0 passed; 1 failed; 0 ignored; 1 measured; 0 filtered out; finished in 1.50s\n\n",
+    );
+    assert!(rt; status == 101, "{status}");
+    assert!(rt; text.as_str() == expected, "{text:?}");
+    Ok(())
+}
+
 const FOUR: &str = "{ \"type\": \"suite\", \"event\": \"started\", \"test_count\": 4 }\n";
 
 const PASSES: &str =
@@ -181,6 +210,7 @@ fn check_turns(
     let screen = Screen {
         live: true,
         columns,
+        colours: false,
     };
     let (_, text) = watched_pieces(alloc, &pieces, seconds * 1_000, screen)?;
     let mut frames = text.as_str().split("\x1b[?7l\r").skip(1);
@@ -283,6 +313,7 @@ fn narrow_lines(rt: HostRuntime) -> Result<(), Fail> {
         let screen = Screen {
             live: true,
             columns: *columns,
+            colours: false,
         };
         let (_, text) = watched_pieces(alloc, &[FOUR, FAILS], 60_000, screen)?;
         let drawn = format!(in alloc; "\x1b[?7l\r{expected}\x1b[J\n\x1b[1A\r\x1b[?7h")?;
@@ -313,6 +344,7 @@ fn waited_names(rt: HostRuntime) -> Result<(), Fail> {
         let screen = Screen {
             live: true,
             columns: *columns,
+            colours: false,
         };
         let pieces = [ONE_TITLE, begins.as_str()];
         let (_, text) = watched_pieces(alloc, &pieces, 2_000, screen)?;
@@ -326,7 +358,7 @@ fn waited_names(rt: HostRuntime) -> Result<(), Fail> {
 #[test]
 fn quiet_log(rt: HostRuntime) -> Result<(), Fail> {
     let alloc = rt.alloc();
-    let pieces = [FOUR, "", "", PASSES, PASSES, "", "", "", "", ""];
+    let pieces = [FOUR, "", BLOCKED, PASSES, PASSES, "", BLOCKED, "", "", ""];
     let (_, text) = watched_pieces(alloc, &pieces, 5_000, LOG)?;
     // Lines come at 10, 20, 30, 40 and 50 seconds. The rows end at 20 and 25 seconds: each took 12.5.
     let expected = concat!(

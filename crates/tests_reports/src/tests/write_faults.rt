@@ -171,7 +171,11 @@ fn unexpected(alloc: Global, text: &str, writer: FaultyWriter) -> Written {
 }
 
 fn watched(alloc: Global, text: &str, live: bool, writer: FaultyWriter) -> Written {
-    let screen = Screen { live, columns: 39 };
+    let screen = Screen {
+        live,
+        columns: 39,
+        colours: false,
+    };
     let mut input = Slow::of(text);
     written!(alloc, writer, sink => watch(alloc, &mut input, &mut sink, &Stopped, screen))
 }
