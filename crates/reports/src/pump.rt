@@ -1,11 +1,10 @@
 //! Bytes on their way from the thread that reads to the one that shows.
 use std::alloc::{AllocError, Global};
-use std::io;
 use std::io::{ErrorKind, Read};
 use std::rt::Clock;
 use std::sync::{Condvar, Mutex, Wait};
-use std::thread;
 use std::time::Duration;
+use std::{io, thread};
 
 // The most bytes that are read at once.
 const PIECE: usize = 65_536;

@@ -89,13 +89,13 @@ pub(super) fn watched_pieces(
 }
 
 // A log, and a terminal.
-const LOG: Screen = Screen {
+pub(super) const LOG: Screen = Screen {
     live: false,
     columns: 79,
     colours: false,
 };
 
-const TERMINAL: Screen = Screen {
+pub(super) const TERMINAL: Screen = Screen {
     live: true,
     columns: 39,
     colours: false,
@@ -197,12 +197,7 @@ struct Turn {
 }
 
 // Watches these turns, one every `seconds`, on a terminal of so many columns.
-fn check_turns(
-    alloc: Global,
-    turns: &[Turn],
-    seconds: u64,
-    columns: usize,
-) -> Result<(), Fail> {
+fn check_turns(alloc: Global, turns: &[Turn], seconds: u64, columns: usize) -> Result<(), Fail> {
     let mut pieces = Vec::new(alloc);
     for turn in turns {
         pieces.push(turn.piece)?;
@@ -326,21 +321,39 @@ fn narrow_lines(rt: HostRuntime) -> Result<(), Fail> {
 // is laid over another counts as one.
 static WAITED: [(&str, usize, &str); 9] = [
     ("\"name\": \"abc\"", 39, "waiting 4s for abc"),
-    ("\"name\": \"abcdefghijkl\"", 27, "waiting 4s for abcdefghijkl"),
-    ("\"name\": \"abcdefghijkl\"", 26, "waiting 4s for abcdefghi.."),
+    (
+        "\"name\": \"abcdefghijkl\"",
+        27,
+        "waiting 4s for abcdefghijkl",
+    ),
+    (
+        "\"name\": \"abcdefghijkl\"",
+        26,
+        "waiting 4s for abcdefghi..",
+    ),
     ("\"name\": \"abc\"", 16, "waiting 4s for ."),
     ("\"name\": \"abc\"", 12, "waiting 4s f"),
     ("\"name\": \"日本語の試験\"", 27, "waiting 4s for 日本語の試験"),
     ("\"name\": \"日本語の試験\"", 26, "waiting 4s for 日本語の.."),
-    ("\"name\": \"e\u{301}e\u{301}\"", 19, "waiting 4s for e\u{301}e\u{301}"),
-    ("\"name\": \"\u{9b}x\", \"kind\": \"K\"", 39, "waiting 4s for [K] \\u{9b}x"),
+    (
+        "\"name\": \"e\u{301}e\u{301}\"",
+        19,
+        "waiting 4s for e\u{301}e\u{301}",
+    ),
+    (
+        "\"name\": \"\u{9b}x\", \"kind\": \"K\"",
+        39,
+        "waiting 4s for [K] \\u{9b}x",
+    ),
 ];
 
 #[test]
 fn waited_names(rt: HostRuntime) -> Result<(), Fail> {
     let alloc = rt.alloc();
     for (label, columns, expected) in &WAITED {
-        let begins = format!(in alloc; "{{ \"type\": \"test\", \"event\": \"started\", {label} }}\n")?;
+        let begins = format!(in alloc;
+            "{{ \"type\": \"test\", \"event\": \"started\", {label} }}\n"
+        )?;
         let screen = Screen {
             live: true,
             columns: *columns,
