@@ -21,8 +21,8 @@ const CELLS: usize = 6;
 pub struct Screen {
     /// Whether it is a terminal that knows escape sequences, so that lines can be drawn again.
     pub live: bool,
-    /// How many columns a line of how far the run is has at most. Where lines are drawn again, wider ones than the window's would
-    /// be left over.
+    /// How many columns a line of how far the run is has at most. On a terminal, parts of lines that are wider than its window
+    /// would be left over.
     pub columns: usize,
     /// Whether the words of outcomes have the harness's colours.
     pub colours: bool,

@@ -129,7 +129,7 @@ impl Pace {
     // long as the next one is waited for is taken off, but no more than it takes itself.
     //
     // Only the ends of trials that ran are marked, so ignored rows make a run neither faster nor slower, and while nothing ends
-    // the average stays what it was: a trial that hangs holds the estimate still. Less than a second is nothing to tell.
+    // the average stays what it was: a trial that hangs holds the estimate still. Less than a second is not shown.
     pub(crate) fn left(&self, rows: u64) -> Option<u64> {
         if self.now.saturating_sub(self.started) < SURE || rows == 0 {
             return None;

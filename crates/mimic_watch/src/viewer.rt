@@ -265,9 +265,8 @@ impl Viewer {
         let mut text = text;
         let ending = Ending::of(alloc, follower)?;
         let verdict = WatchVerdict::new(counts, ending);
-        let failures = failures_text(alloc, &failed)?;
         put_moment(sink, &mut text, screen.live, &waiting, b"")?;
-        put_last(sink, screen.colours, &failures, &verdict)?;
+        put_last(sink, screen.colours, &failed, &verdict)?;
         Ok(verdict)
     }
 }
@@ -322,32 +321,19 @@ fn put_whole<W: Write>(sink: &mut Sink<W>, text: &[u8]) -> Result<(), WriteFault
     sink.flush()
 }
 
-// Returns the lines, which name failures, under a heading, and nothing if there are none.
-fn failures_text(alloc: Global, lines: &[u8]) -> Result<Vec<u8>, AllocError>
-    ensures { IfOk result (λ text. text.items ≡ failures_part lines.now) }
-{
-    let mut text = Vec::new(alloc);
-    if lines.is_empty() {
-        return Ok(text);
-    }
-    text.extend_from_slice(b"\nfailures:\n")?;
-    text.extend_from_slice(lines)?;
-    Ok(text)
-}
-
-// Puts of a whole report this text and the summary.
+// Puts of a whole report these lines, which name failures, and the summary.
 fn put_last<W: Write>(
     sink: &mut Sink<W>,
     colours: bool,
-    failures: &[u8],
+    lines: &[u8],
     verdict: &WatchVerdict,
 ) -> Result<(), WriteFault>
     requires { HasFaultLeft sink.old }
     ensures { Puts W.contents sink.old sink.new
-        (last_text colours failures.now verdict.now.counts verdict.now.ending) result }
+        (last_text colours (failures_part lines.now) verdict.now.counts verdict.now.ending) result }
 {
     match &verdict.ending {
-        Ending::Whole { nanos, .. } => put_end(sink, colours, failures, &verdict.counts, *nanos),
+        Ending::Whole { nanos, .. } => put_end(sink, colours, lines, &verdict.counts, *nanos),
         Ending::Cut(_) => sink.put(b""),
     }
 }
@@ -355,16 +341,28 @@ fn put_last<W: Write>(
 fn put_end<W: Write>(
     sink: &mut Sink<W>,
     colours: bool,
-    failures: &[u8],
+    lines: &[u8],
     counts: &Conclusion,
     nanos: u64,
 ) -> Result<(), WriteFault>
     requires { HasFaultLeft sink.old }
     ensures { Puts W.contents sink.old sink.new
-        (failures.now ++ summary_text colours counts.now nanos) result }
+        (failures_part lines.now ++ summary_text colours counts.now nanos) result }
 {
-    sink.put(failures)?;
+    put_failures(sink, lines)?;
     put_summary(sink, colours, counts, nanos)
+}
+
+// Puts the lines, which name failures, under a heading, and nothing if there are none.
+fn put_failures<W: Write>(sink: &mut Sink<W>, lines: &[u8]) -> Result<(), WriteFault>
+    requires { HasFaultLeft sink.old }
+    ensures { Puts W.contents sink.old sink.new (failures_part lines.now) result }
+{
+    if lines.is_empty() {
+        return sink.put(b"");
+    }
+    sink.put(b"\nfailures:\n")?;
+    sink.put(lines)
 }
 
 fn put_summary<W: Write>(

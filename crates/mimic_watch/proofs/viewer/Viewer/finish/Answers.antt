@@ -10,13 +10,10 @@ use Rattle.mimic_watch.proofs.viewer.Viewer.finish.Goals as goal
 pub returns-in_err-ending-clause-put : goal.returns-in_err-ending-clause-put
 returns-in_err-ending-clause-put g c = on_error _ OutOfMemory _ _ c.from_residual.ensures.1 ([], inl refl, refl)
 
-pub returns-in_err-failures-clause-put : goal.returns-in_err-failures-clause-put
-returns-in_err-failures-clause-put g c = on_error _ OutOfMemory _ _ c.from_residual-in_err-failures.ensures.1 ([], inl refl, refl)
-
 pub returns-in_err-put_moment-clause-put : goal.returns-in_err-put_moment-clause-put
 returns-in_err-put_moment-clause-put g c =
     let fault = c.in_err-put_moment.field-0.0 in
-    on_error _ fault _ _ c.from_residual-in_err-put_moment.ensures.1 ([], inl refl, left_alone fault _ _ _ (rw c.deref-2.ensures.value at c.in_err-put_moment.ensures))
+    on_error _ fault _ _ c.from_residual-in_err-put_moment.ensures.1 ([], inl refl, left_alone fault _ _ _ (rw c.deref.ensures.value at c.in_err-put_moment.ensures))
 
 pub returns-in_err-put_last-clause-put : goal.returns-in_err-put_last-clause-put
 returns-in_err-put_last-clause-put g c =
@@ -31,7 +28,7 @@ returns-in_err-put_last-clause-put g c =
         )),
         refl,
       ),
-      Put-Stopped _ _ (rw c.deref-2.ensures.value at c.in_ok-put_moment.ensures) (rw (c.deref-3.ensures.value, c.in_ok-failures.ensures, c.deref.ensures.value) at c.in_err-put_last.ensures),
+      Put-Stopped _ _ (rw c.deref.ensures.value at c.in_ok-put_moment.ensures) (rw c.deref-2.ensures.value at c.in_err-put_last.ensures),
     )
 
 pub returns-clause-verdict : goal.returns-clause-verdict
@@ -42,4 +39,4 @@ returns-clause-verdict g c = λ bytes put waiting h. (
 
 pub returns-clause-put : goal.returns-clause-put
 returns-clause-put g c =
-    Put-trans _ _ (rw c.deref-2.ensures.value at c.in_ok-put_moment.ensures) (rw (c.deref-3.ensures.value, c.in_ok-failures.ensures, c.deref.ensures.value) at c.in_ok-put_last.ensures)
+    Put-trans _ _ (rw c.deref.ensures.value at c.in_ok-put_moment.ensures) (rw c.deref-2.ensures.value at c.in_ok-put_last.ensures)
