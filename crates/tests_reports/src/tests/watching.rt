@@ -196,7 +196,7 @@ struct Turn {
     first: &'static str,
 }
 
-// Watches these turns, one every `seconds`, on a terminal of so many columns.
+// Watches these turns, one every `seconds`, on a terminal of this many columns.
 fn check_turns(alloc: Global, turns: &[Turn], seconds: u64, columns: usize) -> Result<(), Fail> {
     let mut pieces = Vec::new(alloc);
     for turn in turns {
@@ -317,7 +317,7 @@ fn narrow_lines(rt: HostRuntime) -> Result<(), Fail> {
     Ok(())
 }
 
-// A trial that runs, and the second line in so many columns. 15 of them are before the name. A wide character takes two, and one that
+// A trial that runs, and the second line in this many columns. 15 of them are before the name. A wide character takes two, and one that
 // is laid over another counts as one.
 static WAITED: [(&str, usize, &str); 9] = [
     ("\"name\": \"abc\"", 39, "waiting 4s for abc"),
