@@ -19,7 +19,7 @@ const TICK_MILLIS: u64 = 100;
 const PAUSE_MILLIS: u64 = 10;
 
 // What was read and not taken yet, whether a piece was lost and whether the input is over, and the fault if there was one, until
-// it is told.
+// it is returned.
 #[derive(Drop)]
 struct Held {
     bytes: Vec<u8>,
