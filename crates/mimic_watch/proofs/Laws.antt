@@ -1,33 +1,21 @@
 -- What the definitions of a watch mean.
-use Rattle.std.proofs.Common.{◌≡◌, ℕ, ◌+◌, ◌≤◌, Bool, true, false, cond, nat_lt, List, [], ◌∷◌, ◌++◌, codes, length, length-append, length-drop, length-take, min, take, drop, refl, arith}
+use Rattle.std.proofs.Common.{◌≡◌, ℕ, ◌≤◌, Bool, true, false, nat_lt, if◌then◌else◌, List, [], ◌∷◌, length, refl, arith}
 use Rattle.std.proofs.lemmas.Bool.Decides.{nat_tests}
-use Rattle.mimic_watch.specs.Frames.{FirstLinesFit, bar, first_line, with_part, with_parts}
+use Rattle.mimic_watch.specs.declared.frame.Shape.{Shape}
+use Rattle.mimic_watch.specs.declared.frame.TheConstants.{SHAPES}
+use Rattle.mimic_watch.specs.declared.frame.View.{View}
+use Rattle.mimic_watch.specs.Frames.{FirstLinesFit, first_fitting, shaped}
 
 -- ---- first lines
 
-part_fits : (line part : List ℕ) (b : Bool) → nat_lt 39 (length line + length part) ≡ b → length line ≤ 39 → length (cond b line (line ++ part)) ≤ 39
-part_fits line part true is h = h
-part_fits line part false is h =
-    let few : length line + length part ≤ 39 = grind (arith, nat_tests, is) in
-    omega (arith, few, length-append line part)
+one_fits : (columns : ℕ) (line others : List ℕ) (b : Bool) → nat_lt columns (length line) ≡ b → length others ≤ columns → length (if b then others else line) ≤ columns
+one_fits columns line others true is h = h
+one_fits columns line others false is h = grind (arith, nat_tests, is)
 
-parts_fit : (line : List ℕ) (parts : List (List ℕ)) → length line ≤ 39 → length (with_parts line parts) ≤ 39
-unfolding with_parts
-parts_fit line [] h = h
-parts_fit line (part ∷ parts) h = parts_fit (with_part line part) parts (part_fits line part (nat_lt 39 (length line + length part)) refl h)
-
-bar_fits : (cells : ℕ) → length (bar cells) ≤ 39
-bar_fits cells =
-    let full : List ℕ = take (min cells 6) (codes "======") in
-    let empty : List ℕ = drop (min cells 6) (codes "      ") in
-    omega (
-      arith,
-      length-append full (empty ++ codes "] "),
-      length-append empty (codes "] "),
-      length-take (min cells 6) (codes "======"),
-      length-drop (min cells 6) (codes "      "),
-    )
+all_fit : (columns : ℕ) (v : View) (shapes : List Shape) → length (first_fitting columns v shapes) ≤ columns
+unfolding first_fitting
+all_fit columns v [] = omega arith
+all_fit columns v (s ∷ shapes) = one_fits columns (shaped v s) (first_fitting columns v shapes) (nat_lt columns (length (shaped v s))) refl (all_fit columns v shapes)
 
 pub first_lines_fit : FirstLinesFit
-unfolding first_line
-first_lines_fit v = parts_fit (bar v.cells) _ (bar_fits v.cells)
+first_lines_fit columns v = all_fit columns v SHAPES

@@ -1,79 +1,15 @@
--- Lines of printable characters, cut at 39 columns.
-use Rattle.std.proofs.Common.{◌≡◌, ℕ, zero, suc, ◌+◌, ◌<◌, ◌≤◌, ◌||◌, Bool, true, false, nat_lt, if◌then◌else◌, Option, List, [], ◌∷◌, ◌++◌, length, length-append, length-take, get_or, take, drop, take-append-drop, refl, sym, ap, ◌∙◌, arith, append_assoc, append-nil, inl, inr}
-use Rattle.std.specs.List.{AllByRecursion}
-use Rattle.std.proofs.lemmas.Bool.{cases_lt}
+-- Second lines: what they are made of, and how wide they are.
+use Rattle.std.proofs.Common.{◌≡◌, ℕ, zero, suc, add-one, ◌+◌, ◌-◌, ◌<◌, ◌≤◌, ◌||◌, min, Bool, true, false, nat_lt, not, if◌then◌else◌, Option, Some, None, List, [], ◌∷◌, ◌++◌, codes, drop, drop-cons, get_or, length, length-take, take, take-append-drop, refl, sym, ap, ◌∙◌, arith, append-nil}
+use Rattle.std.specs.Prelude.{encode_utf8}
+use Rattle.std.specs.List.{AllByRecursion, list_any}
 use Rattle.std.proofs.lemmas.Bool.Decides.{nat_tests}
-use Rattle.std.proofs.lemmas.List.{flat_map_more, take-append-le, take_all, take_more}
-use Rattle.std.proofs.lemmas.List.Concat.{flat_map-append}
+use Rattle.std.proofs.lemmas.List.Folds.{list_any-append}
+use Rattle.mimic_printer.specs.Places.{is_control}
 use Rattle.mimic_printer.specs.Row.{Label}
-use Rattle.mimic_watch.specs.Frames.{FitsLine, plain_byte, plain_text, second_line, waiting_text}
+use Rattle.mimic_printer.proofs.EscapeLaws.{escape_laws}
+use Rattle.mimic_watch.specs.Frames.{FitsLine, SecondLinesFit, columns_of, cut, fitting, front_text, label_chars, mark, mark_columns, marks, plain_byte, plain_text, points, second_line, time_text, waiting_front, waiting_line}
 
--- ---- lines that are cut
-
-pub short_line : (old : List ℕ) → length old ≤ 39 → old ≡ take 39 (old ++ plain_text [])
-short_line old h = sym (take_all 39 (old ++ []) (omega (arith, h, ap length (append-nil old))) ∙ append-nil old)
-
--- a line that isn't full is whole
-not_cut : (text line : List ℕ) → line ≡ take 39 text → length line < 39 → line ≡ text
-not_cut text line e h = e ∙ take_all 39 text (omega (arith, h, ap length e, length-take 39 text))
-
-byte_short : (b : ℕ) → length (plain_byte b) ≤ 1
-byte_short b = at (nat_lt b 128) (nat_lt b 32) (nat_lt 126 b) (nat_lt b 192)
-  where
-    at : (p q r s : Bool) → length (if p then (if q || r then 63 ∷ [] else b ∷ []) else (if s then [] else 63 ∷ [])) ≤ 1
-    at true true r s = omega arith
-    at true false true s = omega arith
-    at true false false s = omega arith
-    at false q r true = omega arith
-    at false q r false = omega arith
-
-module _ (old text : List ℕ) (i : ℕ) where
-  abbrev so_far : List ℕ
-  so_far = old ++ plain_text (take i text)
-
-  -- one more byte
-  pub more_plain : (d : ℕ) (line new : List ℕ) → i < length text → line ≡ take 39 so_far → length line < 39 → new ≡ line ++ plain_byte (get_or text i d)
-      → new ≡ take 39 (old ++ plain_text (take (i + 1) text))
-  more_plain d line new h e short n =
-      let b = get_or text i d in
-      let whole : new ≡ old ++ plain_text (take (i + 1) text) =
-      n ∙ ap (λ l. l ++ plain_byte b) (not_cut so_far line e short) ∙ flat_map_more plain_byte old (take i text) b ∙ ap (λ l. old ++ plain_text l) (sym (take_more text i d h)) in
-      let fits : length new ≤ 39 = omega (arith, short, byte_short b, ap length n, length-append line (plain_byte b)) in
-      whole ∙ sym (take_all 39 (old ++ plain_text (take (i + 1) text)) (omega (arith, fits, ap length whole)))
-
-  -- the line is full
-  pub full_line : (line : List ℕ) → line ≡ take 39 so_far → 39 ≤ length line → line ≡ take 39 (old ++ plain_text text)
-  full_line line e full =
-      let long : 39 ≤ length so_far = omega (arith, full, ap length e, length-take 39 so_far) in
-      e ∙ sym (ap (λ l. take 39 l) (ap (λ l. old ++ plain_text l) (sym (take-append-drop i text)) ∙ ap (λ l. old ++ l) (flat_map-append plain_byte (take i text) (drop i text)) ∙ sym (append_assoc old (plain_text (take i text)) (plain_text (drop i text))))
-      ∙ take-append-le 39 so_far (plain_text (drop i text)) long)
-
-  -- all bytes were seen
-  pub whole_line : (line : List ℕ) → length text ≤ i → line ≡ take 39 so_far → line ≡ take 39 (old ++ plain_text text)
-  whole_line line h e = e ∙ ap (λ l. take 39 (old ++ plain_text l)) (take_all i text h)
-
--- what follows a line that was cut
-pub cut_again : (a b : List ℕ) → take 39 (take 39 a ++ b) ≡ take 39 (a ++ b)
-cut_again a b = elim (cases_lt (length a) 39) [
-  | inl lt ↦ ap (λ l. take 39 (l ++ b)) (take_all 39 a (omega (arith, lt)))
-  | inr le ↦
-      take-append-le 39 (take 39 a) b (omega (arith, le, length-take 39 a))
-      ∙ take_all 39 (take 39 a) (omega (arith, length-take 39 a)) ∙ sym (take-append-le 39 a b le)
-]
-
-pub cut_short : (a : List ℕ) → length (take 39 a) ≤ 39
-cut_short a = omega (arith, length-take 39 a)
-
--- a line of three parts, and one of four
-pub three_parts : (a b c l m n o : List ℕ) → l ≡ [] → m ≡ take 39 (l ++ plain_text a) → n ≡ take 39 (m ++ plain_text b) → o ≡ take 39 (n ++ plain_text c)
-    → o ≡ take 39 (plain_text (a ++ (b ++ c)))
-three_parts a b c l m n o e f g h = rw (h, g, f, e) (simp (cut_again, flat_map-append, append_assoc))
-
-pub four_parts : (a b c d l m n o p : List ℕ) → l ≡ [] → m ≡ take 39 (l ++ plain_text a) → n ≡ take 39 (m ++ plain_text b) → o ≡ take 39 (n ++ plain_text c)
-    → p ≡ take 39 (o ++ plain_text d) → p ≡ take 39 (plain_text (a ++ (b ++ (c ++ d))))
-four_parts a b c d l m n o p e f g h k = rw (k, h, g, f, e) (simp (cut_again, flat_map-append, append_assoc))
-
--- ---- what they are made of
+-- ---- characters of ASCII
 
 bytes_plain : (b : ℕ) → AllByRecursion (λ c. (32 ≤ c) × (c ≤ 126)) (plain_byte b)
 bytes_plain b = at (nat_lt b 128) (nat_lt b 32) (nat_lt 126 b) (nat_lt b 192) refl refl
@@ -100,12 +36,150 @@ front_plain zero xs h = tt
 front_plain (suc n) [] h = tt
 front_plain (suc n) (x ∷ xs) h = (h.0, front_plain n xs h.1)
 
-pub second_line_fits : (running : Option Label) (quiet : ℕ) → FitsLine (second_line running quiet)
-second_line_fits running quiet = at (nat_lt quiet 2)
-  where
-    text : List ℕ
-    text = plain_text (waiting_text running quiet)
+-- ---- characters that fit
 
-    at : (b : Bool) → FitsLine (if b then [] else take 39 text)
-    at true = record { short = omega arith; plain = tt }
-    at false = record { short = cut_short text; plain = front_plain 39 text (text_plain (waiting_text running quiet)) }
+one_fits : (n c : ℕ) (rest : List ℕ) (b : Bool) → nat_lt n (mark_columns c) ≡ b → columns_of rest ≤ n - mark_columns c → columns_of (if b then [] else c ∷ rest) ≤ n
+one_fits n c rest true is h = omega arith
+one_fits n c rest false is h = let few : mark_columns c ≤ n = grind (arith, nat_tests, is) in omega (arith, few, h)
+
+fitting_fit : (n : ℕ) (cs : List ℕ) → columns_of (fitting n cs) ≤ n
+fitting_fit n [] = omega arith
+fitting_fit n (c ∷ cs) = one_fits n c (fitting (n - mark_columns c) cs) (nat_lt n (mark_columns c)) refl (fitting_fit (n - mark_columns c) cs)
+
+columns_more : (xs ys : List ℕ) → columns_of (xs ++ ys) ≡ columns_of xs + columns_of ys
+columns_more [] ys = omega arith
+columns_more (x ∷ xs) ys = omega (arith, columns_more xs ys)
+
+-- a front that fits, with this room behind it
+front_fits : (ys rest : List ℕ) (n room : ℕ) → room + columns_of ys ≡ n → fitting n (ys ++ rest) ≡ ys ++ fitting room rest
+front_fits [] rest n room e = ap (λ k. fitting k rest) (omega (arith, e))
+front_fits (y ∷ ys) rest n room e =
+    let no : nat_lt n (mark_columns y) ≡ false = grind (arith, nat_tests, e) in
+    ap (λ b. if b then [] else y ∷ fitting (n - mark_columns y) (ys ++ rest)) no
+    ∙ ap (λ l. y ∷ l) (front_fits ys rest (n - mark_columns y) room (omega (arith, e)))
+
+-- the next one doesn't fit
+pub next_stops : (ys rest : List ℕ) (c n room : ℕ) → room + columns_of ys ≡ n → room < mark_columns c → fitting n (ys ++ c ∷ rest) ≡ ys
+next_stops ys rest c n room e h =
+    let yes : nat_lt room (mark_columns c) ≡ true = grind (arith, nat_tests, h) in
+    front_fits ys (c ∷ rest) n room e ∙ ap (λ b. ys ++ (if b then [] else c ∷ fitting (room - mark_columns c) rest)) yes ∙ append-nil ys
+
+pub next_too_wide : (ys rest : List ℕ) (c n room : ℕ) → room + columns_of ys ≡ n → room < mark_columns c → nat_lt n (columns_of (ys ++ c ∷ rest)) ≡ true
+next_too_wide ys rest c n room e h =
+    let long : n < columns_of (ys ++ c ∷ rest) = omega (arith, e, h, columns_more ys (c ∷ rest)) in grind (arith, nat_tests, long)
+
+-- all fit
+pub all_fitting : (ys : List ℕ) (n room : ℕ) → room + columns_of ys ≡ n → fitting n ys ≡ ys
+all_fitting ys n room e = ap (fitting n) (sym (append-nil ys)) ∙ front_fits ys [] n room e ∙ append-nil ys
+
+pub all_short : (ys : List ℕ) (n room : ℕ) → room + columns_of ys ≡ n → nat_lt n (columns_of ys) ≡ false
+all_short ys n room e = grind (arith, nat_tests, e)
+
+pub whole_fitting : (cs : List ℕ) (n : ℕ) → nat_lt n (columns_of cs) ≡ false → fitting n cs ≡ cs
+whole_fitting cs n is = let few : columns_of cs ≤ n = grind (arith, nat_tests, is) in all_fitting cs n (n - columns_of cs) (omega (arith, few))
+
+-- where the next one is
+pub parts_at : (all ys : List ℕ) (c : ℕ) → ys ≡ take (length ys) all → length ys < length all → c ≡ get_or all (length ys) c
+    → all ≡ ys ++ (c ∷ drop (length ys + 1) all)
+parts_at all ys c front h here =
+    sym (take-append-drop (length ys) all) ∙ ap (λ l. l ++ drop (length ys) all) (sym front)
+    ∙ ap (λ l. ys ++ l) (drop-cons all (length ys) c h ∙ ap (λ x. x ∷ drop (suc (length ys)) all) (sym here)
+    ∙ ap (λ n. c ∷ drop n all) (sym (add-one (length ys))))
+
+-- one more fits
+pub one_more : (ys : List ℕ) (c n room wide : ℕ) → room + columns_of ys ≡ n → wide ≡ mark_columns c → wide ≤ room → (room - wide) + columns_of (ys ++ c ∷ []) ≡ n
+one_more ys c n room wide e is h = omega (arith, e, is, h, columns_more ys (c ∷ []))
+
+-- what is cut, and what isn't
+pub cut_none : (n : ℕ) (cs : List ℕ) → nat_lt n (columns_of cs) ≡ false → cut n cs ≡ marks cs
+unfolding cut
+cut_none n cs is = ap (λ b. if b then marks (fitting (n - 2) cs) ++ points n else marks cs) is
+
+pub cut_some : (n : ℕ) (cs : List ℕ) → nat_lt n (columns_of cs) ≡ true → cut n cs ≡ marks (fitting (n - 2) cs) ++ points n
+unfolding cut
+cut_some n cs is = ap (λ b. if b then marks (fitting (n - 2) cs) ++ points n else marks cs) is
+
+pub turned : (b c : Bool) → c ≡ not b → c ≡ true → b ≡ false
+turned true c e f = absurd cc
+turned false c e f = refl
+
+pub turned_back : (b c : Bool) → c ≡ not b → c ≡ false → b ≡ true
+turned_back true c e f = refl
+turned_back false c e f = absurd cc
+
+-- ---- lines
+
+marks_clean : (cs : List ℕ) → list_any is_control (marks cs) ≡ false
+marks_clean [] = refl
+marks_clean (c ∷ cs) =
+    list_any-append is_control (mark c) (marks cs) ∙ ap (λ b. b || list_any is_control (marks cs)) (escape_laws.no_control_on_terminal (encode_utf8 c)) ∙ marks_clean cs
+
+points_alone : (n : ℕ) (xs : List ℕ) → AllByRecursion (λ b. b ≡ 46) xs → AllByRecursion (λ b. b ≡ 46) (take n xs)
+points_alone zero xs h = tt
+points_alone (suc n) [] h = tt
+points_alone (suc n) (x ∷ xs) h = (h.0, points_alone n xs h.1)
+
+-- marks, and points behind them
+record IsCut (columns : ℕ) (text : List ℕ) : Type 0 where
+  kept : List ℕ
+  behind : List ℕ
+  parts : text ≡ marks kept ++ behind
+  short : columns_of kept + length behind ≤ columns
+  are_points : AllByRecursion (λ b. b ≡ 46) behind
+
+cut_at : (columns : ℕ) (cs : List ℕ) (b : Bool) → nat_lt columns (columns_of cs) ≡ b
+    → IsCut columns (if b then marks (fitting (columns - 2) cs) ++ points columns else marks cs)
+cut_at columns cs true is = record {
+  kept = fitting (columns - 2) cs;
+  behind = points columns;
+  parts = refl;
+  short = omega (arith, fitting_fit (columns - 2) cs, length-take (min columns 2) (codes ".."));
+  are_points = points_alone (min columns 2) (codes "..") (refl, (refl, tt));
+}
+cut_at columns cs false is = record {
+  kept = cs;
+  behind = [];
+  parts = sym (append-nil (marks cs));
+  short = grind (arith, nat_tests, is);
+  are_points = tt;
+}
+
+cut_fits : (columns : ℕ) (cs : List ℕ) → IsCut columns (cut columns cs)
+unfolding cut
+cut_fits columns cs = cut_at columns cs (nat_lt columns (columns_of cs)) refl
+
+waiting_fits : (columns : ℕ) (running : Option Label) (quiet : ℕ) → FitsLine columns (waiting_line columns running quiet)
+waiting_fits columns None quiet =
+    let text : List ℕ = codes "nothing ended for " ++ time_text quiet in
+    record {
+      front = front_text columns text;
+      characters = [];
+      points = [];
+      parts = sym (append-nil (front_text columns text));
+      short = omega (arith, length-take columns (plain_text text));
+      printable = front_plain columns (plain_text text) (text_plain text);
+      no_control = refl;
+      are_points = tt;
+    }
+waiting_fits columns (Some label) quiet =
+    let text : List ℕ = codes "waiting " ++ (time_text quiet ++ codes " for ") in
+    let front : List ℕ = waiting_front columns quiet in
+    let name : IsCut (columns - length front) (cut (columns - length front) (label_chars label)) = cut_fits (columns - length front) (label_chars label) in
+    record {
+      front = front;
+      characters = name.kept;
+      points = name.behind;
+      parts = ap (λ l. front ++ l) name.parts;
+      short = omega (arith, name.short, length-take columns (plain_text text));
+      printable = front_plain columns (plain_text text) (text_plain text);
+      no_control = marks_clean name.kept;
+      are_points = name.are_points;
+    }
+
+line_fits : (columns : ℕ) (running : Option Label) (quiet : ℕ) (b : Bool) → FitsLine columns (if b then [] else waiting_line columns running quiet)
+line_fits columns running quiet true = record { front = []; characters = []; points = []; parts = refl; short = omega arith; printable = tt; no_control = refl; are_points = tt }
+line_fits columns running quiet false = waiting_fits columns running quiet
+
+pub second_lines_fit : SecondLinesFit
+unfolding second_line
+second_lines_fit columns running quiet = line_fits columns running quiet (nat_lt quiet 2)

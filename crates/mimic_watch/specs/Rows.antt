@@ -1,12 +1,15 @@
 -- What is shown of a row.
-use Rattle.std.specs.Prelude.{ℕ, ◌-◌, ◌==◌, if◌then◌else◌, List, [], ◌∷◌, ◌++◌, length, take, codes, decimal, Option, Some, None}
+use Rattle.std.specs.Prelude.{ℕ, Bool, ◌-◌, ◌==◌, if◌then◌else◌, List, [], ◌∷◌, ◌++◌, length, take, codes, decimal, Option, Some, None}
 use Rattle.std.specs.List.{flat_map}
 use Rattle.std.specs.Str.Lines.{lines}
 use Rattle.mimic_trial.specs.declared.outcome.Outcome.{Outcome}
 use Rattle.mimic_trial.specs.declared.outcome.Outcome.TheVariants.{Passed, Failed, Ignored, Measured}
 use Rattle.mimic_trial.specs.declared.outcome.measurement.Measurement.{Measurement}
 use Rattle.mimic_trial.specs.Text.{grouped}
+use Rattle.mimic_trial.specs.declared.formats.FormatSetting.TheVariants.{Pretty}
+use Rattle.mimic_printer.specs.declared.Printer.{Printer}
 use Rattle.mimic_printer.specs.Json.{Entry}
+use Rattle.mimic_printer.specs.Report.{colour_end, colour_start, outcome_word}
 use Rattle.mimic_printer.specs.Row.{Label}
 use Rattle.mimic_printer.specs.Escapes.{escaped}
 use Rattle.mimic_printer.specs.declared.place.Place.TheVariants.{Terminal}
@@ -49,13 +52,37 @@ variance_text variance = codes " (+/- " ++ (grouped (decimal variance) ++ codes 
 abbrev pub measured_text : Measurement → List ℕ
 measured_text m = average_text m.avg ++ variance_text m.variance
 
+-- how the harness prints, with colours or without
+abbrev pub printer_of : Bool → Printer
+printer_of colours = record { format = Pretty; colour = colours; name_width = 0; kind_width = 0 }
+
+-- an outcome's word, as the harness prints it
+abbrev pub word_text : Bool → Outcome → List ℕ
+word_text colours outcome = colour_start (printer_of colours) outcome ++ (outcome_word outcome ++ colour_end (printer_of colours))
+
+-- the words of failures and of measurements, whatever the message is or was measured
+abbrev pub failed_word : Bool → List ℕ
+failed_word colours = word_text colours (Failed None)
+
+abbrev pub bench_word : Bool → List ℕ
+bench_word colours = word_text colours (Measured (record { avg = 0; variance = 0 }))
+
 -- a failure with its message, a measurement, and nothing of others
-abbrev pub outcome_text : Label → Outcome → List ℕ
-outcome_text label Passed = []
-outcome_text label Ignored = []
-outcome_text label (Failed message) = codes "FAILED " ++ (label_text label ++ (codes "\n" ++ message_text message))
-outcome_text label (Measured m) = codes "bench  " ++ (label_text label ++ measured_text m)
+abbrev pub outcome_text : Bool → Label → Outcome → List ℕ
+outcome_text colours label Passed = []
+outcome_text colours label Ignored = []
+outcome_text colours label (Failed message) = failed_word colours ++ (codes " " ++ (label_text label ++ (codes "\n" ++ message_text message)))
+outcome_text colours label (Measured m) = bench_word colours ++ (codes "  " ++ (label_text label ++ measured_text m))
+
+-- the line that names a row that failed, and nothing of others
+abbrev pub failed_line : Label → Outcome → List ℕ
+failed_line label (Failed message) = codes "    " ++ (label_text label ++ codes "\n")
+failed_line label outcome = []
+
+-- a line for each row that failed
+abbrev pub failed_lines : List Entry → List ℕ
+failed_lines entries = flat_map (λ e. failed_line e.label e.outcome) entries
 
 -- what is shown of a row that has ended
-unfoldable pub row_text : Entry → List ℕ
-row_text entry = outcome_text entry.label entry.outcome
+unfoldable pub row_text : Bool → Entry → List ℕ
+row_text colours entry = outcome_text colours entry.label entry.outcome

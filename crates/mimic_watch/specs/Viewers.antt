@@ -8,13 +8,14 @@ use Rattle.mimic_printer.specs.Sink.{Put, Shown}
 use Rattle.mimic_printer.specs.declared.sink.OutputFault.{OutputFault}
 use Rattle.mimic_events.specs.Follower.{HasFollowed}
 use Rattle.mimic_events.specs.Readings.{EndsAs, IsOver}
+use Rattle.mimic_watch.specs.declared.frame.Screen.{Screen}
 use Rattle.mimic_watch.specs.declared.verdict.WatchVerdict.{WatchVerdict}
 use Rattle.mimic_watch.specs.declared.verdict.WatchFault.TheVariants.{Write}
 use Rattle.mimic_watch.specs.declared.viewer.Viewer.{Viewer}
 use Rattle.mimic_watch.specs.Frames.{erase}
 use Rattle.mimic_watch.specs.Moments.{AreMomentsAfter, IsDrawn, Moment, ended_in, moments_text}
-use Rattle.mimic_watch.specs.Rows.{row_text}
-use Rattle.mimic_watch.specs.Watched.{AreCounts, HasFailed, last_text}
+use Rattle.mimic_watch.specs.Rows.{failed_line, failed_lines, row_text}
+use Rattle.mimic_watch.specs.Watched.{AreCounts, HasFailed, failures_part, last_text}
 
 -- ---- what has come
 
@@ -23,7 +24,8 @@ pub record HasSeen (w : Viewer) (bytes : List ℕ) (put waiting : List Entry) : 
   pub followed : HasFollowed w.follower bytes (put ++ waiting)
   pub ended : w.ended ≡ length (put ++ waiting)
   pub counts : w.counts ≡ counts_of (outcomes_in (put ++ waiting)) 0
-  pub shown : w.waiting.items ≡ flat_map row_text waiting
+  pub shown : w.waiting.items ≡ flat_map (row_text w.screen.colours) waiting
+  pub failed : w.failed.items ≡ failed_lines (put ++ waiting)
 
 -- whatever had come, these bytes follow it, and the rows that they end wait with the others
 abbrev pub SeesOn : Viewer → List ℕ → Viewer → Type 0
@@ -33,17 +35,18 @@ SeesOn old bytes new = (before : List ℕ) (put waiting : List Entry) → HasSee
 -- a row that has ended is counted, and waits
 pub record SeesRow (old : Viewer) (entry : Entry) (new : Viewer) : Type 0 where
   pub follower : new.follower ≡ old.follower
-  pub live : new.live ≡ old.live
+  pub screen : new.screen ≡ old.screen
   pub ended : old.ended < 2 ^ 64 - 1 → new.ended ≡ old.ended + 1
   pub counts : HasRoom old.counts → new.counts ≡ counted old.counts entry.outcome
-  pub shown : new.waiting.items ≡ old.waiting.items ++ row_text entry
+  pub shown : new.waiting.items ≡ old.waiting.items ++ row_text old.screen.colours entry
+  pub failed : new.failed.items ≡ old.failed.items ++ failed_line entry.label entry.outcome
 
 -- a piece was read, and the rows that it ends wait with the others; it is the last one if the input is over
 pub record ReadsOn (before after : Option (List ℕ)) (old new : Viewer) (over : Bool) : Type 0 where
   pub bytes : List ℕ
   pub gone : Consumes before after bytes
   pub seen : SeesOn old bytes new
-  pub live : new.live ≡ old.live
+  pub screen : new.screen ≡ old.screen
   pub last : over ≡ true → (all : List ℕ) (put waiting : List Entry) → HasSeen new all put waiting → IsOver after all
 
 -- what is seen stays so, but for the time
@@ -53,16 +56,16 @@ StaysSeen old new = (bytes : List ℕ) (put waiting : List Entry) → HasSeen ol
 -- what is drawn is nothing, or of the rows that have ended
 abbrev pub DrawsSeen : Viewer → List ℕ → Type 0
 DrawsSeen w drawn = (start now : Option (List ℕ)) (bytes : List ℕ) (put waiting : List Entry) → Consumes start now bytes → HasSeen w bytes put waiting
-    → IsDrawn start w.live (put ++ waiting) drawn
+    → IsDrawn start w.screen (put ++ waiting) drawn
 
 -- what has come is over, and is what the verdict says
 abbrev pub EndsSeen : Viewer → WatchVerdict → Type 0
 EndsSeen w verdict = (bytes : List ℕ) (put waiting : List Entry) → HasSeen w bytes put waiting
     → EndsAs bytes (put ++ waiting) verdict.ending × AreCounts (put ++ waiting) verdict
 
--- nothing, or the summary of such a verdict
+-- nothing, or the names of failures and the summary of such a verdict
 abbrev pub IsLastSeen : Viewer → List ℕ → Type 0
-IsLastSeen w last = (last ≡ []) ⊎ ((verdict : WatchVerdict) × EndsSeen w verdict × (last ≡ last_text verdict.counts verdict.ending))
+IsLastSeen w last = (last ≡ []) ⊎ ((verdict : WatchVerdict) × EndsSeen w verdict × (last ≡ last_text w.screen.colours (failures_part w.failed.items) verdict.counts verdict.ending))
 
 -- ---- what is put
 
@@ -77,20 +80,20 @@ PutsSeen old new = (bytes : List ℕ) (put waiting : List Entry) → HasSeen old
 -- ---- the whole
 
 -- since the input was at its start, these rows have come, and some of them were put
-pub record IsWatching (live : Bool) (start now : Option (List ℕ)) (before after : Shown) (w : Viewer) : Type 0 where
+pub record IsWatching (screen : Screen) (start now : Option (List ℕ)) (before after : Shown) (w : Viewer) : Type 0 where
   pub bytes : List ℕ
   pub moments : List Moment
   pub waiting : List Entry
-  pub each : AreMomentsAfter start live [] moments
+  pub each : AreMomentsAfter start screen [] moments
   pub seen : HasSeen w bytes (ended_in moments) waiting
-  pub live_is : w.live ≡ live
+  pub screen_is : w.screen ≡ screen
   pub gone : Consumes start now bytes
-  pub put : Put before after (moments_text moments)
+  pub put : Put before after (moments_text screen.colours moments)
 
 -- whatever was put so far, more rows were put or none; with a fault nothing more will be
 abbrev pub ShowsOn : Viewer → Viewer → Shown → Shown → Result (Unit {0}) OutputFault → Type 0
 ShowsOn old new before after result = MatchResult result
-    (λ _. (live : Bool) (start now : Option (List ℕ)) (first : Shown) → IsWatching live start now first before old
-    → IsWatching live start now first after new)
-    (λ fault. (live : Bool) (start now : Option (List ℕ)) (first : Shown) → IsWatching live start now first before old
-    → HasFailed live start now first after (Write fault))
+    (λ _. (screen : Screen) (start now : Option (List ℕ)) (first : Shown) → IsWatching screen start now first before old
+    → IsWatching screen start now first after new)
+    (λ fault. (screen : Screen) (start now : Option (List ℕ)) (first : Shown) → IsWatching screen start now first before old
+    → HasFailed screen start now first after (Write fault))

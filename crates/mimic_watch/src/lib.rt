@@ -3,10 +3,11 @@
 //! ```rust
 //! use mimic_events::Ending;
 //! use mimic_printer::Sink;
-//! use mimic_watch::watch;
+//! use mimic_watch::{Screen, watch};
 //!
 //! let mut sink = Sink::new(stdout);
-//! let verdict = watch(alloc, &mut input, &mut sink, &clock, is_terminal)?;
+//! let screen = Screen { live: is_terminal, columns: 79, colours: false };
+//! let verdict = watch(alloc, &mut input, &mut sink, &clock, screen)?;
 //! match verdict.ending {
 //!     Ending::Whole { filtered_out, nanos } => {}
 //!     Ending::Cut(stop) => {}
@@ -20,6 +21,6 @@ mod row;
 mod verdict;
 mod viewer;
 
-pub use frame::ERASE;
+pub use frame::{ERASE, Screen};
 pub use verdict::{WatchFault, WatchVerdict};
 pub use viewer::watch;

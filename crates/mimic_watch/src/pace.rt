@@ -12,10 +12,10 @@ const LINES_APART: u64 = 10 * SECOND;
 // Before this time the time left is not shown.
 const SURE: u64 = SECOND / 2;
 
-// How far back the rate of a run is looked at, in seconds.
+// How many marks are kept.
 const SPAN: usize = 10;
 
-// How many trials had run at a time.
+// How many trials had run at a time at which one ended.
 #[derive(Clone, Copy)]
 struct Mark {
     at: u64,
@@ -32,7 +32,10 @@ pub(crate) struct Pace {
     ended: u64,
     is_fresh: bool,
     drawn: u64,
-    // One mark for each of the last seconds, in turn.
+    // How many trials have run, and when the last of them ended. Ignored ones don't run.
+    ran: u64,
+    ran_at: u64,
+    // The last marks, at least a second apart, in turn.
     marks: [Mark; SPAN],
     marked: u64,
     turn: usize,
@@ -56,6 +59,8 @@ impl Pace {
             ended: now,
             is_fresh: true,
             drawn: now,
+            ran: 0,
+            ran_at: now,
             marks: [Mark { at: now, ran: 0 }; SPAN],
             marked: now,
             turn: 0,
@@ -70,10 +75,22 @@ impl Pace {
             self.ended = now;
             self.is_fresh = true;
         }
-        if now.saturating_sub(self.marked) >= SECOND {
+        if ran != self.ran {
+            self.ran = ran;
+            self.ran_at = now;
+            self.mark();
+        }
+    }
+
+    // Marks that a trial has ended now, unless the last mark is less than a second old.
+    fn mark(&mut self) {
+        if self.now.saturating_sub(self.marked) >= SECOND {
             let at = self.turn % SPAN;
-            self.marks[at] = Mark { at: now, ran };
-            self.marked = now;
+            self.marks[at] = Mark {
+                at: self.now,
+                ran: self.ran,
+            };
+            self.marked = self.now;
             self.turn = (at + 1) % SPAN;
         }
     }
@@ -108,20 +125,24 @@ impl Pace {
         self.now.saturating_sub(self.ended) / SECOND
     }
 
-    // In how many seconds the other rows end, at the rate of the last ten seconds.
-    pub(crate) fn left(&self, rows: u64, ran: u64) -> Option<u64> {
+    // In how many seconds the other rows end: each takes as long as those that ran since the oldest mark took on average, and as
+    // long as the next one is waited for is taken off, but no more than it takes itself.
+    //
+    // Only the ends of trials that ran are marked, so ignored rows make a run neither faster nor slower, and while nothing ends
+    // the average stays what it was: a trial that hangs holds the estimate still. Less than a second is not shown.
+    pub(crate) fn left(&self, rows: u64) -> Option<u64> {
         if self.now.saturating_sub(self.started) < SURE || rows == 0 {
             return None;
         }
         let mark = self.marks[self.turn % SPAN];
-        let (nanos, ran) = (
-            self.now.saturating_sub(mark.at),
-            ran.saturating_sub(mark.ran),
-        );
+        let nanos = self.ran_at.saturating_sub(mark.at);
+        let ran = self.ran.saturating_sub(mark.ran);
         if ran == 0 {
             return None;
         }
-        let left = u128::from(rows) * u128::from(nanos) / u128::from(ran);
-        u64::try_from(left / u128::from(SECOND)).ok()
+        let all = u128::from(rows) * u128::from(nanos) / u128::from(ran);
+        let waited = self.now.saturating_sub(self.ran_at).min(nanos / ran);
+        let left = all.saturating_sub(u128::from(waited)) / u128::from(SECOND);
+        u64::try_from(left).ok().filter(|left| *left > 0)
     }
 }

@@ -3,7 +3,7 @@ ghost use Rattle.std.specs.Prelude.{◌≡◌, ◌++◌, OnOk, decimal};
 ghost use Rattle.std.specs.Option.{option_copied};
 ghost use Rattle.mimic_events.specs.Contents.{entry_read};
 ghost use Rattle.mimic_trial.specs.Text.{grouped};
-ghost use Rattle.mimic_watch.specs.Rows.{average_text, label_text, line_text, lines_noun, measured_text, message_lines, message_text, more_text, row_text, variance_text};
+ghost use Rattle.mimic_watch.specs.Rows.{average_text, bench_word, failed_line, failed_word, label_text, line_text, lines_noun, measured_text, message_lines, message_text, more_text, row_text, variance_text};
 
 use itoa::Buffer;
 use mimic_events::Row;
@@ -14,24 +14,64 @@ use std::alloc::AllocError;
 // At most this many lines of a message are shown.
 const MOST_LINES: usize = 20;
 
-// Appends what is shown of the row: a failure with its message, a measurement, and nothing of others.
+// Appends what is shown of the row: a failure with its message, a measurement, and nothing of others. Their words may have
+// colours.
 #[tactic(auto, unfolding(crate::specs::Rows::row_text))]
-pub(crate) fn push_row(to: &mut Vec<u8>, row: &Row) -> Result<(), AllocError>
-    ensures { OnOk result (to.new.items ≡ to.old.items ++ row_text (entry_read row.now)) }
+pub(crate) fn push_row(to: &mut Vec<u8>, colours: bool, row: &Row) -> Result<(), AllocError>
+    ensures { OnOk result (to.new.items ≡ to.old.items ++ row_text colours (entry_read row.now)) }
 {
     match &row.outcome {
         Outcome::Passed | Outcome::Ignored => Ok(()),
         Outcome::Failed(failed) => {
-            to.extend_from_slice(b"FAILED ")?;
+            to.extend_from_slice(failed_word(colours).as_bytes())?;
+            to.extend_from_slice(b" ")?;
             push_label(to, row)?;
             to.extend_from_slice(b"\n")?;
             push_message(to, failed.message())
         }
         Outcome::Measured(measurement) => {
-            to.extend_from_slice(b"bench  ")?;
+            to.extend_from_slice(bench_word(colours).as_bytes())?;
+            to.extend_from_slice(b"  ")?;
             push_label(to, row)?;
             push_measurement(to, measurement)
         }
+    }
+}
+
+// Returns the word of a failure, in red if there are colours.
+fn failed_word(colours: bool) -> &'static str
+    ensures { result.now ≡ failed_word colours }
+{
+    if colours {
+        "\u{1b}[31mFAILED\u{1b}[0m"
+    } else {
+        "FAILED"
+    }
+}
+
+// Returns the word of a measurement, in cyan if there are colours.
+fn bench_word(colours: bool) -> &'static str
+    ensures { result.now ≡ bench_word colours }
+{
+    if colours {
+        "\u{1b}[36mbench\u{1b}[0m"
+    } else {
+        "bench"
+    }
+}
+
+// Appends the line that names the row if it failed, and nothing of others.
+pub(crate) fn push_failed_line(to: &mut Vec<u8>, row: &Row) -> Result<(), AllocError>
+    ensures { OnOk result (to.new.items
+        ≡ to.old.items ++ failed_line (entry_read row.now).label (entry_read row.now).outcome) }
+{
+    match &row.outcome {
+        Outcome::Failed(_) => {
+            to.extend_from_slice(b"    ")?;
+            push_label(to, row)?;
+            to.extend_from_slice(b"\n")
+        }
+        _ => Ok(()),
     }
 }
 

@@ -1,13 +1,13 @@
 //! Shows a report as it comes.
-ghost use Rattle.std.specs.Prelude.{◌≡◌, MatchResult, OnOk};
+ghost use Rattle.std.specs.Prelude.{◌≡◌, ◌++◌, IfOk, MatchResult, OnOk};
 ghost use Rattle.mimic_printer.specs.Sink.{HasFaultLeft, LeavesText, Puts, shown};
-ghost use Rattle.mimic_watch.specs.Frames.{FirstLinesFit};
-ghost use Rattle.mimic_watch.specs.Watched.{HasFailed, HasWatched, last_text};
+ghost use Rattle.mimic_watch.specs.Frames.{FirstLinesFit, SecondLinesFit};
+ghost use Rattle.mimic_watch.specs.Watched.{HasFailed, HasWatched, failures_part, last_text, summary_text};
 ghost use Rattle.mimic_watch.specs.Viewers.{put_text};
 
-use crate::frame::{ERASE, View, first_line, push_frame, second_line};
+use crate::frame::{ERASE, Screen, View, drawn_text};
 use crate::pace::{Pace, nanos};
-use crate::row::push_row;
+use crate::row::{push_failed_line, push_row};
 use crate::verdict::{WatchFault, WatchVerdict};
 use mimic_events::{Ending, Follower, PIECE, ReadFault, Row, read_piece};
 use mimic_printer::{OutputFault, Printer, Sink, WriteFault};
@@ -23,43 +23,47 @@ const BLOCK: usize = 65_536;
 #[derive(Drop)]
 struct Viewer {
     alloc: Global,
-    // Whether it is shown on a terminal.
-    live: bool,
+    screen: Screen,
     follower: Follower,
     // The rows that have ended, and how many of them have each outcome.
     ended: u64,
     counts: Conclusion,
     // What rows show and was not put yet.
     waiting: Vec<u8>,
+    // The lines that name the rows that failed.
+    failed: Vec<u8>,
     // Room for what is put at once.
     text: Vec<u8>,
     pace: Pace,
 }
 
 /// Shows a report as its bytes come, up to their end or to the first line that no report has there: each failure and each
-/// measurement once, and at last the harness's summary.
+/// measurement once, and at last the names of the failures and the harness's summary.
 ///
-/// On a terminal (`live`) two lines below say how far the run is, at most ten times a second; each time it is one write, which
-/// leaves the terminal as it was. Else a line reports this every ten seconds, with no escape sequence. A reader that returns
+/// On a terminal two lines below say how far the run is, at most ten times a second; each time it is one write, which
+/// leaves the terminal as it was. Else one line reports this every ten seconds, with no escape sequence. A reader that returns
 /// `TimedOut` or `WouldBlock` says that nothing has come for a while. Rows that have passed are not kept.
-#[tactic(auto, using(crate::proofs::Laws::first_lines_fit))]
+#[tactic(auto, using(crate::proofs::Laws::first_lines_fit, crate::proofs::Plain::second_lines_fit))]
 pub fn watch<I: Read, W: Write, C: Clock>(
     alloc: Global,
     input: &mut I,
     sink: &mut Sink<W>,
     clock: &C,
-    live: bool,
+    screen: Screen,
 ) -> Result<WatchVerdict, WatchFault>
     requires { HasFaultLeft sink.old }
     ensures watched { MatchResult result
-        (HasWatched live (I.remaining input.old) (shown W.contents sink.old) (shown W.contents sink.new))
-        (HasFailed live (I.remaining input.old) (I.remaining input.new) (shown W.contents sink.old) (shown W.contents sink.new)) }
+        (HasWatched screen (I.remaining input.old) (shown W.contents sink.old) (shown W.contents sink.new))
+        (HasFailed screen (I.remaining input.old) (I.remaining input.new) (shown W.contents sink.old) (shown W.contents sink.new)) }
 
-    // No first line is wider than 39 columns.
-    ensures law { FirstLinesFit }
+    // No first line is wider than its columns.
+    ensures first { FirstLinesFit }
+
+    // No second line is, and it has no control character.
+    ensures second { SecondLinesFit }
 {
     let mut now = nanos(clock, 0);
-    let mut viewer = Viewer::new(alloc, live, now);
+    let mut viewer = Viewer::new(alloc, screen, now);
     let mut room = [0; PIECE];
     for _ in 0..u64::MAX {
         if viewer.read(input, &mut room)? {
@@ -92,20 +96,21 @@ impl Viewer {
     ghost use Rattle.mimic_printer.specs.Sink.{HasFaultLeft, LeftBy, Put, shown};
     ghost use Rattle.mimic_events.specs.Contents.{entry_read};
     ghost use Rattle.mimic_watch.specs.Moments.{IsDrawing};
-    ghost use Rattle.mimic_watch.specs.Watched.{last_text};
+    ghost use Rattle.mimic_watch.specs.Watched.{failures_part, last_text};
     ghost use Rattle.mimic_watch.specs.Viewers.{DrawsSeen, EndsSeen, HasSeen, IsLastSeen, ReadsOn, SeesOn, SeesRow, ShowsOn, StaysSeen, put_text};
 
-    fn new(alloc: Global, live: bool, now: u64) -> Viewer
+    fn new(alloc: Global, screen: Screen, now: u64) -> Viewer
         ensures seen { HasSeen result [] [] [] }
-        ensures live { result.live ≡ live }
+        ensures screen { result.screen ≡ screen }
     {
         Viewer {
             alloc,
-            live,
+            screen,
             follower: Follower::new(alloc),
             ended: 0,
             counts: Conclusion::empty(0),
             waiting: Vec::new(alloc),
+            failed: Vec::new(alloc),
             text: Vec::new(alloc),
             pace: Pace::new(now),
         }
@@ -137,7 +142,7 @@ impl Viewer {
     // Takes the next piece. What the rows that end in it show waits.
     fn take(&mut self, piece: &[u8]) -> Result<(), AllocError>
         ensures seen { OnOk result (SeesOn self.old piece.now self.new) }
-        ensures live { OnOk result (self.new.live ≡ self.old.live) }
+        ensures screen { OnOk result (self.new.screen ≡ self.old.screen) }
     {
         let mut rest = piece;
         while let Some((row, left)) = self.follower.next_row(rest)? {
@@ -159,20 +164,21 @@ impl Viewer {
             Outcome::Ignored => counts.num_ignored = counts.num_ignored.saturating_add(1),
             Outcome::Measured(_) => counts.num_measured = counts.num_measured.saturating_add(1),
         }
-        push_row(&mut self.waiting, row)
+        push_row(&mut self.waiting, self.screen.colours, row)?;
+        push_failed_line(&mut self.failed, row)
     }
 
     // Returns what is drawn at this time below what rows show, which may be nothing, and `None` if nothing is put at all.
     fn drawn(&mut self, now: u64) -> Result<Option<Vec<u8>>, AllocError>
         ensures seen { OnOk result (StaysSeen self.old self.new) }
-        ensures live { OnOk result (self.new.live ≡ self.old.live) }
+        ensures screen { OnOk result (self.new.screen ≡ self.old.screen) }
         ensures drawn { IfOk result (λ found. IfSome found (λ drawn. DrawsSeen self.new drawn.items)) }
     {
         let ran = self.ended.saturating_sub(self.counts.num_ignored);
         self.pace.note(now, self.ended, ran);
-        if self.pace.is_due(self.live) {
+        if self.pace.is_due(self.screen.live) {
             self.pace.draw();
-            return Ok(Some(self.drawing(ran)?));
+            return Ok(Some(self.drawing()?));
         }
         if self.must_go() {
             Ok(Some(Vec::new(self.alloc)))
@@ -183,7 +189,7 @@ impl Viewer {
 
     // Whether what waits is put before the next drawing.
     fn must_go(&self) -> bool {
-        if self.live {
+        if self.screen.live {
             self.waiting.len() >= BLOCK
         } else {
             !self.waiting.is_empty()
@@ -191,24 +197,19 @@ impl Viewer {
     }
 
     // Returns how far the run is: two lines on a terminal, and else one.
-    fn drawing(&self, ran: u64) -> Result<Vec<u8>, AllocError>
+    fn drawing(&self) -> Result<Vec<u8>, AllocError>
         ensures { IfOk result (λ drawn. (start now : Option (List ℕ)) (bytes : List ℕ) (put waiting : List Entry)
             → Consumes start now bytes → HasSeen self.now bytes put waiting
-            → IsDrawing start self.now.live (put ++ waiting) drawn.items) }
+            → IsDrawing start self.now.screen (put ++ waiting) drawn.items) }
     {
-        let mut first = first_line(self.alloc, &self.view(ran))?;
-        if self.live {
-            let second = second_line(self.alloc, self.follower.running(), self.pace.quiet())?;
-            let mut drawn = Vec::new(self.alloc);
-            push_frame(&mut drawn, &first, &second)?;
-            Ok(drawn)
-        } else {
-            first.extend_from_slice(b"\n")?;
-            Ok(first)
-        }
+        let view = self.view();
+        let running = self.follower.running();
+        let quiet = self.pace.quiet();
+        let drawn = drawn_text(self.alloc, self.screen, &view, running, quiet)?;
+        Ok(drawn)
     }
 
-    fn view(&self, ran: u64) -> View
+    fn view(&self) -> View
         ensures ended { result.ended ≡ self.now.ended }
         ensures failed { result.failed ≡ self.now.counts.num_failed }
         ensures announced { (bytes : List ℕ) (rows : List Entry) → HasFollowed self.now.follower bytes rows
@@ -222,7 +223,7 @@ impl Viewer {
             ended: self.ended,
             failed: self.counts.num_failed,
             elapsed: self.pace.elapsed(),
-            left: self.pace.left(rows.saturating_sub(self.ended), ran),
+            left: self.pace.left(rows.saturating_sub(self.ended)),
         }
     }
 
@@ -234,36 +235,38 @@ impl Viewer {
         let Some(drawn) = self.drawn(now)? else {
             return Ok(());
         };
-        let erases = self.live && !self.waiting.is_empty();
+        let erases = self.screen.live && !self.waiting.is_empty();
         put_moment(sink, &mut self.text, erases, &self.waiting, &drawn)?;
         self.waiting.clear();
         Ok(())
     }
 
-    // Puts what waits, and the summary of a whole report.
+    // Puts what waits, and of a whole report the names of the failures and the summary.
     fn finish<W: Write>(self, sink: &mut Sink<W>) -> Result<WatchVerdict, OutputFault>
         requires { HasFaultLeft sink.old }
         ensures verdict { IfOk result (EndsSeen self) }
         ensures put { MatchResult result
             (λ verdict. Put (shown W.contents sink.old) (shown W.contents sink.new)
-            (put_text self.live self.waiting.items [] ++ last_text verdict.counts verdict.ending))
+            (put_text self.screen.live self.waiting.items []
+            ++ last_text self.screen.colours (failures_part self.failed.items) verdict.counts verdict.ending))
             (λ fault. (last : List ℕ) × IsLastSeen self last × LeftBy fault (shown W.contents sink.old) (shown W.contents sink.new)
-            (put_text self.live self.waiting.items [] ++ last)) }
+            (put_text self.screen.live self.waiting.items [] ++ last)) }
     {
         let Viewer {
             alloc,
-            live,
+            screen,
             follower,
             counts,
             waiting,
+            failed,
             text,
             ..
         } = self;
         let mut text = text;
         let ending = Ending::of(alloc, follower)?;
         let verdict = WatchVerdict::new(counts, ending);
-        put_moment(sink, &mut text, live, &waiting, b"")?;
-        put_last(sink, &verdict)?;
+        put_moment(sink, &mut text, screen.live, &waiting, b"")?;
+        put_last(sink, screen.colours, &failed, &verdict)?;
         Ok(verdict)
     }
 }
@@ -318,20 +321,65 @@ fn put_whole<W: Write>(sink: &mut Sink<W>, text: &[u8]) -> Result<(), WriteFault
     sink.flush()
 }
 
-// Puts the summary of a whole report.
-fn put_last<W: Write>(sink: &mut Sink<W>, verdict: &WatchVerdict) -> Result<(), WriteFault>
+// Puts of a whole report these lines, which name failures, and the summary.
+fn put_last<W: Write>(
+    sink: &mut Sink<W>,
+    colours: bool,
+    lines: &[u8],
+    verdict: &WatchVerdict,
+) -> Result<(), WriteFault>
     requires { HasFaultLeft sink.old }
-    ensures { Puts W.contents sink.old sink.new (last_text verdict.now.counts verdict.now.ending) result }
+    ensures { Puts W.contents sink.old sink.new
+        (last_text colours (failures_part lines.now) verdict.now.counts verdict.now.ending) result }
 {
-    let Ending::Whole { nanos, .. } = &verdict.ending else {
+    match &verdict.ending {
+        Ending::Whole { nanos, .. } => put_end(sink, colours, lines, &verdict.counts, *nanos),
+        Ending::Cut(_) => sink.put(b""),
+    }
+}
+
+fn put_end<W: Write>(
+    sink: &mut Sink<W>,
+    colours: bool,
+    lines: &[u8],
+    counts: &Conclusion,
+    nanos: u64,
+) -> Result<(), WriteFault>
+    requires { HasFaultLeft sink.old }
+    ensures { Puts W.contents sink.old sink.new
+        (failures_part lines.now ++ summary_text colours counts.now nanos) result }
+{
+    put_failures(sink, lines)?;
+    put_summary(sink, colours, counts, nanos)
+}
+
+// Puts the lines, which name failures, under a heading, and nothing if there are none.
+fn put_failures<W: Write>(sink: &mut Sink<W>, lines: &[u8]) -> Result<(), WriteFault>
+    requires { HasFaultLeft sink.old }
+    ensures { Puts W.contents sink.old sink.new (failures_part lines.now) result }
+{
+    if lines.is_empty() {
         return sink.put(b"");
-    };
+    }
+    sink.put(b"\nfailures:\n")?;
+    sink.put(lines)
+}
+
+fn put_summary<W: Write>(
+    sink: &mut Sink<W>,
+    colours: bool,
+    counts: &Conclusion,
+    nanos: u64,
+) -> Result<(), WriteFault>
+    requires { HasFaultLeft sink.old }
+    ensures { Puts W.contents sink.old sink.new (summary_text colours counts.now nanos) result }
+{
     let printer = Printer {
         format: FormatSetting::Pretty,
-        colour: false,
+        colour: colours,
         name_width: 0,
         kind_width: 0,
     };
-    printer.print_summary(sink, &verdict.counts, *nanos)?;
+    printer.print_summary(sink, counts, nanos)?;
     sink.flush()
 }

@@ -14,3 +14,9 @@ pub(crate) fn refuse_all<H: Eprint, F: fmt::Display>(host: &H, fault: &F) -> u8 
     let _ = eprintln!(host; "reports: {fault}");
     REFUSED
 }
+
+// Prints why an input has no report in JSON, with a hint, and returns the status.
+pub(crate) fn refuse_format<H: Eprint, F: fmt::Display>(host: &H, fault: &F) -> u8 {
+    let _ = eprintln!(host; "reports: {fault}; does the program run with --format json?");
+    REFUSED
+}

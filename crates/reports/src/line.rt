@@ -75,6 +75,13 @@ pub(crate) struct Slowest {
     pub(crate) files: Vec<String>,
 }
 
+/// The report on standard input is to be shown as it comes.
+#[derive(Clone, Copy, Debug)]
+pub(crate) struct Watch {
+    /// How many columns a line of how far the run is has at most, if the line says it.
+    pub(crate) columns: Option<usize>,
+}
+
 /// What a line asks for.
 #[derive(Debug, Drop)]
 pub(crate) enum Line {
@@ -85,7 +92,7 @@ pub(crate) enum Line {
     Compare(Compare),
     Page(Page),
     Slowest(Slowest),
-    Watch,
+    Watch(Watch),
 }
 
 /// Why a line asks for nothing.
@@ -126,7 +133,9 @@ impl Line {
             Some(("compare", compare)) => Line::Compare(Compare::from_matches(alloc, compare)?),
             Some(("page", page)) => Line::Page(Page::from_matches(alloc, page)?),
             Some(("slowest", slowest)) => Line::Slowest(Slowest::from_matches(alloc, slowest)?),
-            Some(("watch", _)) => Line::Watch,
+            Some(("watch", watch)) => Line::Watch(Watch {
+                columns: watch.get_one::<usize>("columns"),
+            }),
             // `clap` has refused a line with no subcommand or with another one.
             _ => return Err(LineError::NoSubcommand),
         })
@@ -381,7 +390,14 @@ fn slowest_command<'a>(alloc: Global) -> Result<Command<'a>, AllocError> {
 }
 
 fn watch_command<'a>(alloc: Global) -> Result<Command<'a>, AllocError> {
-    Ok(Command::new(alloc, "watch").about("Show the report on standard input as it comes"))
+    let columns = Arg::new(alloc, "columns")
+        .long("columns")
+        .value_name("N")
+        .value_parser(value_parser!(usize))
+        .help("How wide lines of how far the run is may be; else COLUMNS, 39 on a terminal, or 79");
+    Command::new(alloc, "watch")
+        .about("Show the report on standard input as it comes")
+        .arg(columns)
 }
 
 // A word that names a file.

@@ -41,7 +41,7 @@ fn main(rt: HostRuntime) -> ExitCode {
         Ok(Line::Compare(compare)) => compare::run(&rt, alloc, &compare),
         Ok(Line::Page(page)) => page::run(&rt, alloc, &page),
         Ok(Line::Slowest(slowest)) => slowest::run(&rt, alloc, &slowest),
-        Ok(Line::Watch) => watch::run(&rt, alloc, rt.stdin(), rt.stdout()),
+        Ok(Line::Watch(watch)) => watch::run(&rt, alloc, &watch, rt.stdin(), rt.stdout()),
         Err(error) => refuse(&rt, &error),
     };
     ExitCode::from(status)

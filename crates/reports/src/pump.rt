@@ -1,10 +1,10 @@
 //! Bytes on their way from the thread that reads to the one that shows.
 use std::alloc::{AllocError, Global};
-use std::io;
 use std::io::{ErrorKind, Read};
 use std::rt::Clock;
 use std::sync::{Condvar, Mutex, Wait};
 use std::time::Duration;
+use std::{io, thread};
 
 // The most bytes that are read at once.
 const PIECE: usize = 65_536;
@@ -15,12 +15,17 @@ const FULL: usize = 1 << 20;
 // How long the showing thread waits for bytes.
 const TICK_MILLIS: u64 = 100;
 
-// What was read and not taken yet, whether the input is over, and the fault if there was one.
+// How long the reading thread waits if an input that doesn't block has nothing yet.
+const PAUSE_MILLIS: u64 = 10;
+
+// What was read and not taken yet, whether a piece was lost and whether the input is over, and the fault if there was one, until
+// it is returned.
 #[derive(Drop)]
 struct Held {
     bytes: Vec<u8>,
+    is_lost: bool,
     is_over: bool,
-    fault: Option<ErrorKind>,
+    fault: Option<io::Error>,
 }
 
 /// What both threads share.
@@ -37,6 +42,7 @@ impl Pipe {
         Ok(Pipe {
             held: Mutex::new(Held {
                 bytes: Vec::with_capacity(alloc, FULL + PIECE)?,
+                is_lost: false,
                 is_over: false,
                 fault: None,
             }),
@@ -53,8 +59,9 @@ impl Pipe {
             .wait_while(rt, held, |held| held.bytes.len() >= FULL);
         let was_empty = held.bytes.is_empty();
         // After a piece that was lost, nothing more is appended.
-        if held.fault.is_none() && held.bytes.extend_from_slice(piece).is_err() {
-            held.fault = Some(ErrorKind::OutOfMemory);
+        if !held.is_lost && held.bytes.extend_from_slice(piece).is_err() {
+            held.is_lost = true;
+            held.fault = Some(io::Error::from(ErrorKind::OutOfMemory));
         }
         drop(held);
         if was_empty {
@@ -62,10 +69,10 @@ impl Pipe {
         }
     }
 
-    fn end<R: Wait>(&self, rt: &R, fault: Option<ErrorKind>) {
+    fn end<R: Wait>(&self, rt: &R, fault: Option<io::Error>) {
         let mut held = self.held.lock(rt);
         held.is_over = true;
-        if held.fault.is_none() {
+        if !held.is_lost {
             held.fault = fault;
         }
         drop(held);
@@ -73,8 +80,9 @@ impl Pipe {
     }
 }
 
-/// Reads the input to its end, and puts it into the pipe for the other thread.
-pub(crate) fn pump<R: Wait, I: Read>(rt: &R, input: &mut I, pipe: &Pipe) {
+/// Reads the input to its end, and puts it into the pipe for the other thread. An input that says that it would block, or that it
+/// timed out, is asked again after a pause.
+pub(crate) fn pump<R: Wait + Clock, I: Read>(rt: &R, input: &mut I, pipe: &Pipe) {
     let mut piece = [0; PIECE];
     let mut fault = None;
     for _ in 0..u64::MAX {
@@ -83,8 +91,11 @@ pub(crate) fn pump<R: Wait, I: Read>(rt: &R, input: &mut I, pipe: &Pipe) {
             Ok(count) => pipe.put(rt, &piece[..count]),
             Err(error) => match error.kind() {
                 ErrorKind::Interrupted => {}
-                kind => {
-                    fault = Some(kind);
+                ErrorKind::WouldBlock | ErrorKind::TimedOut => {
+                    thread::sleep(rt, Duration::from_millis(PAUSE_MILLIS));
+                }
+                _ => {
+                    fault = Some(error);
                     break;
                 }
             },
@@ -140,8 +151,8 @@ impl<'a, R: Wait + Clock> Incoming<'a, R> {
             self.pipe.taken.notify_one();
             return Ok(true);
         }
-        match state.fault {
-            Some(kind) => Err(io::Error::from(kind)),
+        match state.fault.take() {
+            Some(error) => Err(error),
             None if state.is_over => Ok(false),
             None => Err(io::Error::from(ErrorKind::TimedOut)),
         }

@@ -1,15 +1,22 @@
 //! Shows the report on standard input as it comes.
-use crate::faults::refuse_all;
+use crate::faults::{refuse_all, refuse_format};
+use crate::line::Watch;
 use crate::pump::{Incoming, Pipe, pump};
-use mimic_events::{Ending, ReadFault};
+use mimic_events::{Ending, ReadFault, Stop};
+use mimic_main::shows_colours;
 use mimic_printer::Sink;
-use mimic_watch::{ERASE, watch};
+use mimic_watch::{ERASE, Screen, watch};
 use std::alloc::Global;
 use std::io::{Eprint, IsTerminal, Stdin, Stdout, Write};
 use std::rt::{Clock, Env};
 use std::sync::{Arc, Wait};
 use std::thread::Threads;
 use std::{env, thread};
+
+// How many columns a line has on a terminal, whose width isn't known, and elsewhere.
+const NARROW: usize = 39;
+
+const WIDE: usize = 79;
 
 /// What a watch needs of the handle that `main` gets: threads that wait for each other, a clock, an environment, and standard
 /// error.
@@ -31,7 +38,13 @@ impl<H: Threads + Wait + Clock + Env + AllocGlobal + Eprint + Copy + Drop + Send
 /// returns 1.
 ///
 /// Unless the input itself fails, it is read to its end, so that no pipe is closed on the harness.
-pub(crate) fn run<H: Host>(host: &H, alloc: Global, stdin: Stdin, stdout: Stdout) -> u8 {
+pub(crate) fn run<H: Host>(
+    host: &H,
+    alloc: Global,
+    watch: &Watch,
+    stdin: Stdin,
+    stdout: Stdout,
+) -> u8 {
     let Ok(pipe) = Pipe::new(alloc) else {
         return refuse_all(host, &ReadFault::OutOfMemory);
     };
@@ -47,28 +60,66 @@ pub(crate) fn run<H: Host>(host: &H, alloc: Global, stdin: Stdin, stdout: Stdout
         Err(error) => return refuse_all(host, &error),
     };
     let mut incoming = Incoming::new(host, alloc, &pipe);
-    let status = show(host, alloc, &mut incoming, stdout);
+    let screen = screen_of(host, watch, &stdout);
+    let status = show(host, alloc, &mut incoming, screen, stdout);
     incoming.drain();
     reader.join(host);
     status
 }
 
-fn show<H: Host>(host: &H, alloc: Global, incoming: &mut Incoming<'_, H>, stdout: Stdout) -> u8 {
-    let live = stdout.is_terminal() && knows_escapes(host);
+fn show<H: Host>(
+    host: &H,
+    alloc: Global,
+    incoming: &mut Incoming<'_, H>,
+    screen: Screen,
+    stdout: Stdout,
+) -> u8 {
     let mut sink = Sink::new(stdout);
-    match watch(alloc, incoming, &mut sink, host, live) {
+    match watch(alloc, incoming, &mut sink, host, screen) {
         Ok(verdict) => {
             if let Ending::Cut(stop) = &verdict.ending {
-                refuse_all(host, stop);
+                refuse_stop(host, stop);
             }
             verdict.status()
         }
         Err(fault) => {
-            if live {
+            if screen.live {
                 let _ = sink.into_inner().write_all(ERASE.as_bytes());
             }
             refuse_all(host, &fault)
         }
+    }
+}
+
+fn screen_of<H: Host>(host: &H, watch: &Watch, stdout: &Stdout) -> Screen {
+    let live = stdout.is_terminal() && knows_escapes(host);
+    let columns = match watch.columns.or(columns_of(host)) {
+        Some(columns) => columns,
+        None if live => NARROW,
+        None => WIDE,
+    };
+    Screen {
+        live,
+        columns,
+        colours: shows_colours(host, stdout),
+    }
+}
+
+// The number in the variable `COLUMNS`, if it is one and not 0.
+fn columns_of<H: Host>(host: &H) -> Option<usize> {
+    let text = env::var(host, "COLUMNS").ok()?;
+    text.as_str()
+        .parse::<usize>()
+        .ok()
+        .filter(|columns| *columns > 0)
+}
+
+// Prints why the input is no report. One that is none from its first line on may be in another format.
+fn refuse_stop<H: Host>(host: &H, stop: &Stop) {
+    if stop.wrong_line == Some(1) {
+        refuse_format(host, stop);
+    } else {
+        refuse_all(host, stop);
     }
 }
 

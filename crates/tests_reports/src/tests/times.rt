@@ -6,7 +6,7 @@ use super::joining::join;
 use super::lines::{announced, failed, ignored, measured, passed, read, summary, text_of, title};
 use super::page::page_of;
 use super::reading::{Slow, join_into};
-use super::watching::watched_pieces;
+use super::watching::{LOG, TERMINAL, watched_pieces};
 use mimic_events::{Report, RowsRead, read_from};
 use mimic_printer::Sink;
 use mimic_reports::{Suite, show_failures, show_report, write_junit, write_slowest};
@@ -397,18 +397,18 @@ fn has_the_same_page_without_times(rt: HostRuntime) -> Result<(), Fail> {
 
 // The rows of the report as a watch shows them elsewhere than on a terminal.
 const WATCHED: &str =
-    "FAILED [k] b\n    no\n    no\nbench  m: 1,234 ns/iter (+/- 5)\nFAILED short\n\ntest result: FAILED. 4 passed; 2 failed; 1 ignored; 1 measured; 13 filtered out; finished in 62.50s\n\n";
+    "FAILED [k] b\n    no\n    no\nbench  m: 1,234 ns/iter (+/- 5)\nFAILED short\n\nfailures:\n    [k] b\n    short\n\ntest result: FAILED. 4 passed; 2 failed; 1 ignored; 1 measured; 13 filtered out; finished in 62.50s\n\n";
 
 // Neither does a watch, on a terminal or elsewhere.
 #[test]
 fn watches_the_same_without_times(rt: HostRuntime) -> Result<(), Fail> {
     let alloc = rt.alloc();
-    for is_live in [false, true] {
-        let timed = watched_pieces(alloc, TIMED, 1, is_live)?;
-        let plain = watched_pieces(alloc, PLAIN, 1, is_live)?;
+    for screen in [LOG, TERMINAL] {
+        let timed = watched_pieces(alloc, TIMED, 1, screen)?;
+        let plain = watched_pieces(alloc, PLAIN, 1, screen)?;
         assert!(rt; timed == plain, "{}", timed.1);
         assert!(rt;
-            timed.0 == 101 && (is_live || timed.1.as_str() == WATCHED),
+            timed.0 == 101 && (screen.live || timed.1.as_str() == WATCHED),
             "{}",
             timed.1
         );

@@ -2,7 +2,7 @@
 //! are worked out by hand.
 use mimic_events::ReadFault;
 use mimic_printer::Sink;
-use mimic_watch::{WatchFault, watch};
+use mimic_watch::{Screen, WatchFault, watch};
 use std::alloc::Global;
 use std::cell::Cell;
 use std::io;
@@ -10,7 +10,7 @@ use std::io::{ErrorKind, Read};
 use std::test::Fail;
 use std::time::Duration;
 
-// Gives these pieces, one a read. At an empty piece it times out, and at `BROKEN` it fails.
+// Gives these pieces, one a read. At an empty piece it times out, at `BLOCKED` it would block, and at `BROKEN` it fails.
 #[derive(Drop)]
 struct Pieces<'a> {
     pieces: &'a [&'a str],
@@ -25,6 +25,9 @@ impl Read for Pieces<'_> {
         self.at = self.at.saturating_add(1);
         if piece.is_empty() {
             return Err(io::Error::from(ErrorKind::TimedOut));
+        }
+        if *piece == BLOCKED {
+            return Err(io::Error::from(ErrorKind::WouldBlock));
         }
         if *piece == BROKEN {
             return Err(io::Error::from(ErrorKind::BrokenPipe));
@@ -59,14 +62,14 @@ fn watched<I: Read>(
     alloc: Global,
     input: &mut I,
     step: u64,
-    live: bool,
+    screen: Screen,
 ) -> Result<(u8, String), Fail> {
     let mut sink = Sink::new(Vec::new(alloc));
     let clock = Steps {
         now: Cell::new(0),
         step,
     };
-    let status = match watch(alloc, input, &mut sink, &clock, live) {
+    let status = match watch(alloc, input, &mut sink, &clock, screen) {
         Ok(verdict) => verdict.status(),
         Err(WatchFault::Read(ReadFault::Input(error))) if error.kind() == ErrorKind::BrokenPipe =>
             99,
@@ -80,10 +83,25 @@ pub(super) fn watched_pieces(
     alloc: Global,
     pieces: &[&str],
     step: u64,
-    live: bool,
+    screen: Screen,
 ) -> Result<(u8, String), Fail> {
-    watched(alloc, &mut Pieces { pieces, at: 0 }, step, live)
+    watched(alloc, &mut Pieces { pieces, at: 0 }, step, screen)
 }
+
+// A log, and a terminal.
+pub(super) const LOG: Screen = Screen {
+    live: false,
+    columns: 79,
+    colours: false,
+};
+
+pub(super) const TERMINAL: Screen = Screen {
+    live: true,
+    columns: 39,
+    colours: false,
+};
+
+const BLOCKED: &str = "blocked";
 
 const BROKEN: &str = "broken";
 
@@ -99,7 +117,7 @@ const REST: &str =
     "{ \"type\": \"test\", \"event\": \"started\", \"name\": \"b\" }\n{ \"type\": \"bench\", \"name\": \"b\", \"median\": 1234, \"deviation\": 5 }\n{ \"type\": \"suite\", \"event\": \"failed\", \"passed\": 0, \"failed\": 1, \"ignored\": 0, \"measured\": 1, \"filtered_out\": 0, \"exec_time\": 1.5 }\n";
 
 const SUMMARY: &str =
-    "\ntest result: FAILED. 0 passed; 1 failed; 0 ignored; 1 measured; 0 filtered out; finished in 1.50s\n\n";
+    "\nfailures:\n    [k] a\\u{1b}b\n\ntest result: FAILED. 0 passed; 1 failed; 0 ignored; 1 measured; 0 filtered out; finished in 1.50s\n\n";
 
 const FAILURE: &str = "FAILED [k] a\\u{1b}b\n    no\n";
 
@@ -109,9 +127,9 @@ const BENCH: &str = "bench  b: 1,234 ns/iter (+/- 5)\n";
 fn plain(rt: HostRuntime) -> Result<(), Fail> {
     let alloc = rt.alloc();
     let pieces = [TITLE, ANNOUNCED, "", FAILED, REST];
-    let (status, text) = watched_pieces(alloc, &pieces, 4_000, false)?;
+    let (status, text) = watched_pieces(alloc, &pieces, 4_000, LOG)?;
     // The third reading after the one at the start is 12 seconds later.
-    let line = "[      ] 0/2 12s\n";
+    let line = "[      ] 0/2 12s; waiting 12s for [k] a\\u{1b}b\n";
     let expected = format!(in alloc; "{line}{FAILURE}{BENCH}{SUMMARY}")?;
     assert!(rt; status == 101, "{status}");
     assert!(rt; text == expected, "{text}");
@@ -122,11 +140,11 @@ fn plain(rt: HostRuntime) -> Result<(), Fail> {
 fn live(rt: HostRuntime) -> Result<(), Fail> {
     let alloc = rt.alloc();
     let pieces = [TITLE, ANNOUNCED, "", FAILED, REST];
-    let (status, text) = watched_pieces(alloc, &pieces, 1_000, true)?;
+    let (status, text) = watched_pieces(alloc, &pieces, 1_000, TERMINAL)?;
     let expected = concat!(
         "\x1b[?7l\r[      ] 0/2 1s\x1b[J\n\x1b[1A\r\x1b[?7h",
-        "\x1b[?7l\r[      ] 0/2 2s\x1b[J\nwaiting 2s for a?b\x1b[1A\r\x1b[?7h",
-        "\x1b[?7l\r[      ] 0/2 3s\x1b[J\nwaiting 3s for a?b\x1b[1A\r\x1b[?7h",
+        "\x1b[?7l\r[      ] 0/2 2s\x1b[J\nwaiting 2s for [k] a\\u{1b}b\x1b[1A\r\x1b[?7h",
+        "\x1b[?7l\r[      ] 0/2 3s\x1b[J\nwaiting 3s for [k] a\\u{1b}b\x1b[1A\r\x1b[?7h",
         "\r \x1b[J\r\x1b[KFAILED [k] a\\u{1b}b\n    no\n",
         "\x1b[?7l\r[===   ] 1/2 1 failed 4s 4s left\x1b[J\n\x1b[1A\r\x1b[?7h",
         "\r \x1b[J\r\x1b[Kbench  b: 1,234 ns/iter (+/- 5)\n",
@@ -136,6 +154,234 @@ fn live(rt: HostRuntime) -> Result<(), Fail> {
     let expected = format!(in alloc; "{expected}{SUMMARY}")?;
     assert!(rt; status == 101, "{status}");
     assert!(rt; text == expected, "{text}");
+    Ok(())
+}
+
+// The words of outcomes in red and cyan, as the harness prints them.
+#[test]
+fn coloured(rt: HostRuntime) -> Result<(), Fail> {
+    let alloc = rt.alloc();
+    let screen = Screen {
+        live: false,
+        columns: 79,
+        colours: true,
+    };
+    let pieces = [TITLE, ANNOUNCED, FAILED, REST];
+    let (status, text) = watched_pieces(alloc, &pieces, 1, screen)?;
+    let expected = concat!(
+        "\x1b[31mFAILED\x1b[0m [k] a\\u{1b}b\n    no\n",
+        "\x1b[36mbench\x1b[0m  b: 1,234 ns/iter (+/- 5)\n",
+        "\nfailures:\n    [k] a\\u{1b}b\n",
+        "\ntest result: \x1b[31mFAILED\x1b[0m. 0 passed; 1 failed; 0 ignored; 1 measured; 0 filtered out; finished in 1.50s\n\n",
+    );
+    assert!(rt; status == 101, "{status}");
+    assert!(rt; text.as_str() == expected, "{text:?}");
+    Ok(())
+}
+
+const FOUR: &str = "{ \"type\": \"suite\", \"event\": \"started\", \"test_count\": 4 }\n";
+
+const PASSES: &str =
+    "{ \"type\": \"test\", \"event\": \"started\", \"name\": \"p\" }\n{ \"type\": \"test\", \"name\": \"p\", \"event\": \"ok\" }\n";
+
+const FAILS: &str =
+    "{ \"type\": \"test\", \"event\": \"started\", \"name\": \"f\" }\n{ \"type\": \"test\", \"name\": \"f\", \"event\": \"failed\" }\n";
+
+const IGNORED: &str =
+    "{ \"type\": \"test\", \"event\": \"started\", \"name\": \"i\" }\n{ \"type\": \"test\", \"name\": \"i\", \"event\": \"ignored\" }\n";
+
+// A turn of a watch: the piece that is read, and the first line that is drawn then.
+struct Turn {
+    piece: &'static str,
+    first: &'static str,
+}
+
+// Watches these turns, one every `seconds`, on a terminal of this many columns.
+fn check_turns(alloc: Global, turns: &[Turn], seconds: u64, columns: usize) -> Result<(), Fail> {
+    let mut pieces = Vec::new(alloc);
+    for turn in turns {
+        pieces.push(turn.piece)?;
+    }
+    let screen = Screen {
+        live: true,
+        columns,
+        colours: false,
+    };
+    let (_, text) = watched_pieces(alloc, &pieces, seconds * 1_000, screen)?;
+    let mut frames = text.as_str().split("\x1b[?7l\r").skip(1);
+    for turn in turns {
+        let first = frames
+            .next()
+            .unwrap_or("")
+            .split("\x1b[J")
+            .next()
+            .unwrap_or("");
+        if first != turn.first {
+            return Err(format!(in alloc; "{first} is not {}", turn.first)?.into());
+        }
+    }
+    Ok(())
+}
+
+// The trial after the first one hangs: while it is waited for, the estimate falls by the two minutes that a trial takes, and no
+// more. It is there after a failure too.
+static HANGS: [Turn; 6] = [
+    Turn {
+        piece: FOUR,
+        first: "[      ] 0/4 1:00",
+    },
+    Turn {
+        piece: PASSES,
+        first: "[=     ] 1/4 2:00 6:00 left",
+    },
+    Turn {
+        piece: "",
+        first: "[=     ] 1/4 3:00 5:00 left",
+    },
+    Turn {
+        piece: "",
+        first: "[=     ] 1/4 4:00 4:00 left",
+    },
+    Turn {
+        piece: "",
+        first: "[=     ] 1/4 5:00 4:00 left",
+    },
+    Turn {
+        piece: FAILS,
+        first: "[===   ] 2/4 1 failed 6:00 6:00 left",
+    },
+];
+
+// Ignored rows are done, but the estimate is of those that run: one took 30 seconds, of which 10 are taken off in the last turn.
+static SOME_IGNORED: [Turn; 4] = [
+    Turn {
+        piece: FOUR,
+        first: "[      ] 0/4 10s",
+    },
+    Turn {
+        piece: IGNORED,
+        first: "[=     ] 1/4 20s",
+    },
+    Turn {
+        piece: PASSES,
+        first: "[===   ] 2/4 30s 1:00 left",
+    },
+    Turn {
+        piece: IGNORED,
+        first: "[====  ] 3/4 40s 20s left",
+    },
+];
+
+static HOURS: [Turn; 2] = [
+    Turn {
+        piece: FOUR,
+        first: "[      ] 0/4 1:02:10",
+    },
+    Turn {
+        piece: FAILS,
+        first: "[=     ] 1/4 1 failed 2:04:20 6:13:00 left",
+    },
+];
+
+#[test]
+fn times(rt: HostRuntime) -> Result<(), Fail> {
+    let alloc = rt.alloc();
+    check_turns(alloc, &HANGS, 60, 39)?;
+    check_turns(alloc, &SOME_IGNORED, 10, 39)?;
+    check_turns(alloc, &HOURS, 3_730, 79)
+}
+
+// How many columns there are, and the first line that is drawn in them: the fullest that fits.
+static NARROW: [(usize, &str); 6] = [
+    (36, "[=     ] 1/4 1 failed 2:00 6:00 left"),
+    (35, "[=     ] 1/4 1 failed 6:00 left"),
+    (30, "1/4 1 failed 2:00 6:00 left"),
+    (26, "1/4 1 failed 6:00 left"),
+    (21, "1/4 1 failed"),
+    (11, ""),
+];
+
+#[test]
+fn narrow_lines(rt: HostRuntime) -> Result<(), Fail> {
+    let alloc = rt.alloc();
+    for (columns, expected) in &NARROW {
+        let screen = Screen {
+            live: true,
+            columns: *columns,
+            colours: false,
+        };
+        let (_, text) = watched_pieces(alloc, &[FOUR, FAILS], 60_000, screen)?;
+        let drawn = format!(in alloc; "\x1b[?7l\r{expected}\x1b[J\n\x1b[1A\r\x1b[?7h")?;
+        assert!(rt; text.as_str().contains(drawn.as_str()), "{text:?}");
+    }
+    Ok(())
+}
+
+// A trial that runs, and the second line in this many columns. 15 of them are before the name. A wide character takes two, and one that
+// is laid over another counts as one.
+static WAITED: [(&str, usize, &str); 9] = [
+    ("\"name\": \"abc\"", 39, "waiting 4s for abc"),
+    (
+        "\"name\": \"abcdefghijkl\"",
+        27,
+        "waiting 4s for abcdefghijkl",
+    ),
+    (
+        "\"name\": \"abcdefghijkl\"",
+        26,
+        "waiting 4s for abcdefghi..",
+    ),
+    ("\"name\": \"abc\"", 16, "waiting 4s for ."),
+    ("\"name\": \"abc\"", 12, "waiting 4s f"),
+    ("\"name\": \"日本語の試験\"", 27, "waiting 4s for 日本語の試験"),
+    ("\"name\": \"日本語の試験\"", 26, "waiting 4s for 日本語の.."),
+    (
+        "\"name\": \"e\u{301}e\u{301}\"",
+        19,
+        "waiting 4s for e\u{301}e\u{301}",
+    ),
+    (
+        "\"name\": \"\u{9b}x\", \"kind\": \"K\"",
+        39,
+        "waiting 4s for [K] \\u{9b}x",
+    ),
+];
+
+#[test]
+fn waited_names(rt: HostRuntime) -> Result<(), Fail> {
+    let alloc = rt.alloc();
+    for (label, columns, expected) in &WAITED {
+        let begins = format!(in alloc;
+            "{{ \"type\": \"test\", \"event\": \"started\", {label} }}\n"
+        )?;
+        let screen = Screen {
+            live: true,
+            columns: *columns,
+            colours: false,
+        };
+        let pieces = [ONE_TITLE, begins.as_str()];
+        let (_, text) = watched_pieces(alloc, &pieces, 2_000, screen)?;
+        let drawn = format!(in alloc; "\x1b[J\n{expected}\x1b[1A\r\x1b[?7h")?;
+        assert!(rt; text.as_str().contains(drawn.as_str()), "{text:?}");
+    }
+    Ok(())
+}
+
+// In a log nothing is said of rows that ended just now, and at most one line comes in ten seconds.
+#[test]
+fn quiet_log(rt: HostRuntime) -> Result<(), Fail> {
+    let alloc = rt.alloc();
+    let pieces = [FOUR, "", BLOCKED, PASSES, PASSES, "", BLOCKED, "", "", ""];
+    let (_, text) = watched_pieces(alloc, &pieces, 5_000, LOG)?;
+    // Lines come at 10, 20, 30, 40 and 50 seconds. The rows end at 20 and 25 seconds: each took 12.5.
+    let expected = concat!(
+        "[      ] 0/4 10s; nothing ended for 10s\n",
+        "[=     ] 1/4 20s 1:00 left\n",
+        "[===   ] 2/4 30s 20s left; nothing ended for 5s\n",
+        "[===   ] 2/4 40s 12s left; nothing ended for 15s\n",
+        "[===   ] 2/4 50s 12s left; nothing ended for 25s\n",
+    );
+    assert!(rt; text.as_str() == expected, "{text}");
     Ok(())
 }
 
@@ -157,7 +403,7 @@ static NO_REPORTS: [(&[&str], u8, &str); 6] = [
 #[test]
 fn no_reports(rt: HostRuntime) -> Result<(), Fail> {
     for (pieces, ended, expected) in &NO_REPORTS {
-        let (status, text) = watched_pieces(rt.alloc(), *pieces, 1, false)?;
+        let (status, text) = watched_pieces(rt.alloc(), *pieces, 1, LOG)?;
         assert!(rt; status == *ended, "{status}");
         assert!(rt; text.as_str() == *expected, "{text}");
     }
@@ -192,7 +438,7 @@ fn long_failure_shown(alloc: Global) -> Result<String, Fail> {
 }
 
 fn watched_failure(alloc: Global, line: &str) -> Result<(u8, String), Fail> {
-    watched_pieces(alloc, &[ONE_TITLE, ODD, line], 1, false)
+    watched_pieces(alloc, &[ONE_TITLE, ODD, line], 1, LOG)
 }
 
 #[test]
@@ -238,7 +484,7 @@ fn many_rows(rt: HostRuntime) -> Result<(), Fail> {
         rows: 100_000,
         begun: false,
     };
-    let (status, text) = watched(alloc, &mut input, 1, true)?;
+    let (status, text) = watched(alloc, &mut input, 1, TERMINAL)?;
     assert!(rt; status == 1, "{status}");
     let mut drawn = 0_u32;
     for frame in text.as_str().split("\x1b[?7l\r").skip(1) {

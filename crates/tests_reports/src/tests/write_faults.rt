@@ -11,7 +11,7 @@ use mimic_join::join_reports;
 use mimic_printer::{Piece, Place, Sink, put_escaped, put_pieces};
 use mimic_reports::{Suite, show_failures, show_report, write_junit, write_page, write_slowest};
 use mimic_testkit::{Fault, FaultPlace, FaultyWriter};
-use mimic_watch::watch;
+use mimic_watch::{Screen, watch};
 use std::alloc::Global;
 use std::fmt::Display;
 use std::io;
@@ -170,9 +170,14 @@ fn unexpected(alloc: Global, text: &str, writer: FaultyWriter) -> Written {
     written!(alloc, writer, sink => write_unexpected(alloc, &[], inputs, false, &mut sink))
 }
 
-fn watched(alloc: Global, text: &str, is_live: bool, writer: FaultyWriter) -> Written {
+fn watched(alloc: Global, text: &str, live: bool, writer: FaultyWriter) -> Written {
+    let screen = Screen {
+        live,
+        columns: 39,
+        colours: false,
+    };
     let mut input = Slow::of(text);
-    written!(alloc, writer, sink => watch(alloc, &mut input, &mut sink, &Stopped, is_live))
+    written!(alloc, writer, sink => watch(alloc, &mut input, &mut sink, &Stopped, screen))
 }
 
 fn write(alloc: Global, call: Call, writer: FaultyWriter) -> Written {

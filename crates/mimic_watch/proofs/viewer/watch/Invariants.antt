@@ -6,7 +6,7 @@ use Rattle.mimic_watch.proofs.viewer.watch.Given as goal
 
 abbrev pub invariant-loop : goal.invariant-loop
 invariant-loop g l = record {
-  watching : IsWatching l.fn.live (g.I.Read.remaining l.fn.input) (g.I.Read.remaining l.input)
+  watching : IsWatching l.fn.screen (g.I.Read.remaining l.fn.input) (g.I.Read.remaining l.input)
       (shown g.W.Write.contents l.fn.sink) (shown g.W.Write.contents l.sink) l.viewer;
   room : 0 < length l.room;
 }

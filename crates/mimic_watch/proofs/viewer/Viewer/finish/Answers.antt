@@ -1,7 +1,7 @@
 use Rattle.std.proofs.Common.{[], ◌++◌, inl, inr, refl, sym, subst}
 use Rattle.mimic_printer.proofs.Appending.{Put-Stopped, Put-trans}
 use Rattle.mimic_printer.specs.declared.sink.OutputFault.TheVariants.{OutOfMemory, Write}
-use Rattle.mimic_watch.specs.Watched.{last_text}
+use Rattle.mimic_watch.specs.Watched.{failures_part, last_text}
 use Rattle.mimic_events.specs.Readings.{EndsAs}
 use Rattle.mimic_events.proofs.Results.{on_error}
 use Rattle.mimic_watch.proofs.Ending.{left_alone}
@@ -19,7 +19,7 @@ pub returns-in_err-put_last-clause-put : goal.returns-in_err-put_last-clause-put
 returns-in_err-put_last-clause-put g c =
     let verdict = c.new-verdict.result in
     on_error _ (Write c.in_err-put_last.field-0.0) _ _ c.from_residual-in_err-put_last.ensures.1 (
-      last_text verdict.counts verdict.ending,
+      last_text c.args.self.screen.colours (failures_part c.args.self.failed.items) verdict.counts verdict.ending,
       inr (
         verdict,
         (λ bytes put waiting h. (
@@ -28,7 +28,7 @@ returns-in_err-put_last-clause-put g c =
         )),
         refl,
       ),
-      Put-Stopped _ _ (rw c.deref.ensures.value at c.in_ok-put_moment.ensures) c.in_err-put_last.ensures,
+      Put-Stopped _ _ (rw c.deref.ensures.value at c.in_ok-put_moment.ensures) (rw c.deref-2.ensures.value at c.in_err-put_last.ensures),
     )
 
 pub returns-clause-verdict : goal.returns-clause-verdict
@@ -39,4 +39,4 @@ returns-clause-verdict g c = λ bytes put waiting h. (
 
 pub returns-clause-put : goal.returns-clause-put
 returns-clause-put g c =
-    Put-trans _ _ (rw c.deref.ensures.value at c.in_ok-put_moment.ensures) c.in_ok-put_last.ensures
+    Put-trans _ _ (rw c.deref.ensures.value at c.in_ok-put_moment.ensures) (rw c.deref-2.ensures.value at c.in_ok-put_last.ensures)

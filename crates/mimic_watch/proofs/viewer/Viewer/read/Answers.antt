@@ -8,7 +8,7 @@ returns-in_ok-take-in-Ok-clause-read g c = record {
   bytes = _;
   gone = c.in-Ok.ensures.piece.gone;
   seen = c.in_ok-take-in-Ok.ensures.seen;
-  live = c.in_ok-take-in-Ok.ensures.live;
+  screen = c.in_ok-take-in-Ok.ensures.screen;
   last = λ over all put waiting h.
       over_wrong _ all c.first_wrong_line.result (sym c.is_some.ensures ∙ over) (c.first_wrong_line.ensures.found all _ h.followed);
 }
@@ -18,6 +18,6 @@ returns-in_ok-go_on-in-Err-clause-read g c = record {
   bytes = [];
   gone = none_more _ _ c.in-Err.ensures.fault.1;
   seen = none_seen _;
-  live = refl;
+  screen = refl;
   last = λ over. absurd (search rules);
 }
