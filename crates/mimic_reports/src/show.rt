@@ -1,5 +1,5 @@
 //! Prints reports as the harness prints them in pretty, and how one ended that is cut.
-ghost use Rattle.std.specs.Prelude.{◌≡◌, IfOk, length, map, max};
+ghost use Rattle.std.specs.Prelude.{◌≡◌, IfOk, map, max};
 ghost use Rattle.std.specs.List.{flat_map};
 ghost use Rattle.mimic_trial.specs.Count.{counts_of};
 ghost use Rattle.mimic_printer.specs.Report.{report_text, row_text};
@@ -36,10 +36,10 @@ pub fn show_report<W: Write>(
     Ok(())
 }
 
-/// Prints the failures alone, as the harness prints them in pretty, among the rows that have ended in a report that ended so, and
-/// flushes them. If the report is cut, an empty line follows, and one that says how far it goes, and which trial was running if
-/// the last line that has ended announces one: `the report ends after 1 of 3 trials; running: [kind] name`. In this line control
-/// characters are shown by their numbers.
+/// Prints the failures among these rows, which have ended in a report, as the harness prints them in pretty, and flushes them. If the
+/// report is cut, an empty line follows, and one that says how far it goes: `the report ends after 1 of 3 trials; running: [kind] name`.
+/// A trial is named if its announcement is the last line that has ended. Control characters of its kind and name are shown by their
+/// numbers.
 ///
 /// Nothing is written of a whole report if no trial failed.
 pub fn show_failures<W: Write>(
