@@ -304,7 +304,12 @@ static INPUTS: [(&[Input], u8, &str, &[&str]); 10] = [
                 None,
             ),
             (
-                &[title!(2), announced!("a"), failed!("a", "y"), announced!("c")],
+                &[
+                    title!(2),
+                    announced!("a"),
+                    failed!("a", "y"),
+                    announced!("c"),
+                ],
                 None,
             ),
             (&[title!(3), announced!("d"), passed!("d"), "{"], None),

@@ -78,10 +78,7 @@ static SHOWN: [(&[&str], &str); 12] = [
         &[title!(2), announced!("a"), "what\n", failed!("a", "x")],
         "\nline 3 is no line of a report; the report ends after 0 of 2 trials; running: a\n",
     ),
-    (
-        &["what\n"],
-        "\nline 1 is no line of a report; no report\n",
-    ),
+    (&["what\n"], "\nline 1 is no line of a report; no report\n"),
     (&[], "\nno report\n"),
 ];
 
