@@ -10,7 +10,7 @@ use mimic_main::shows_colours;
 use mimic_printer::{OutputFault, Sink};
 use mimic_reports::{show_failures, show_report};
 use std::alloc::Global;
-use std::io::{BufWriter, Stdout};
+use std::io::BufWriter;
 
 // Prints the report of the file or its failures, or why it has none.
 pub(crate) fn run(rt: &HostRuntime, alloc: Global, show: &Show) -> u8 {
@@ -40,10 +40,12 @@ fn run_failures(rt: &HostRuntime, alloc: Global, file: &str) -> u8 {
         Err(fault) => return refuse(rt, file, &fault),
     };
     let status = status_of(&rows);
-    match (print_failures(rt, alloc, rows, &ending), &ending) {
-        (Err(fault), _) => refuse_all(rt, &fault),
-        (Ok(()), Ending::Whole { .. }) => status,
-        (Ok(()), Ending::Cut(stop)) => refuse(rt, file, stop),
+    if let Err(fault) = print_failures(rt, alloc, rows, &ending) {
+        return refuse_all(rt, &fault);
+    }
+    match &ending {
+        Ending::Whole { .. } => status,
+        Ending::Cut(stop) => refuse(rt, file, stop),
     }
 }
 
@@ -67,7 +69,10 @@ fn print_report(
         Colours::Always => true,
         Colours::Never => false,
     };
-    show_report(alloc, report, colours, &mut buffered(alloc, out)?)
+    let Ok(out) = BufWriter::with_capacity(alloc, BLOCK, out) else {
+        return Err(OutputFault::OutOfMemory);
+    };
+    show_report(alloc, report, colours, &mut Sink::new(out))
 }
 
 fn print_failures(
@@ -76,14 +81,10 @@ fn print_failures(
     rows: Vec<Row>,
     ending: &Ending,
 ) -> Result<(), OutputFault> {
-    show_failures(alloc, rows, ending, &mut buffered(alloc, rt.stdout())?)
-}
-
-fn buffered(alloc: Global, out: Stdout) -> Result<Sink<BufWriter<Stdout>>, OutputFault> {
-    match BufWriter::with_capacity(alloc, BLOCK, out) {
-        Ok(out) => Ok(Sink::new(out)),
-        Err(_) => Err(OutputFault::OutOfMemory),
-    }
+    let Ok(out) = BufWriter::with_capacity(alloc, BLOCK, rt.stdout()) else {
+        return Err(OutputFault::OutOfMemory);
+    };
+    show_failures(alloc, rows, ending, &mut Sink::new(out))
 }
 
 // Prints why the file has no report, and returns the status.
