@@ -13,13 +13,13 @@ use Rattle.mimic_trial.specs.Count.{is_failed}
 use Rattle.mimic_printer.specs.Json.{Entry}
 use Rattle.mimic_printer.specs.Sink.{Put, Shown, Stopped, Writes}
 use Rattle.mimic_printer.specs.declared.sink.WriteFault.{WriteFault}
-use Rattle.mimic_printer.proofs.Appending.{Puts_then, Stopped-more, Stopped-next}
+use Rattle.mimic_printer.proofs.Appending.{Puts_then, Stopped-more, Stopped-next, stop2}
 use Rattle.mimic_expect.specs.Expect.{FailedRow, Finding, counts, findings, findings_in_turn, is_absent_line, is_failed_row, is_other_message, is_passed_line, keyed, known_rows, met_by, rows_with, unknown_failures}
-use Rattle.mimic_expect.specs.FindingText.{finding_text, numbers_text, rows_text, unknown_text}
+use Rattle.mimic_expect.specs.FindingText.{finding_text, numbers_text, rows_text, running_text, unknown_text}
 use Rattle.mimic_expect.specs.JudgedRows.{HasLines, Judged, Judges}
 use Rattle.mimic_expect.specs.JudgementText.{count_in, finding_read, judgement_numbers, judgement_text}
 use Rattle.mimic_expect.specs.Known.{Expected}
-use Rattle.mimic_expect.specs.Verdict.{AreBegun, InputRead, IsBegun, IsReadOf, IsWhole, LeavesVerdict, VerdictLeftBy, has_all, have_all, rows_of}
+use Rattle.mimic_expect.specs.Verdict.{AreBegun, InputRead, IsBegun, IsReadOf, IsWhole, LeavesVerdict, VerdictLeftBy, ends_of, has_all, have_all, rows_of}
 use Rattle.mimic_expect.specs.declared.judgement.Judgement.{Judgement}
 use Rattle.mimic_expect.specs.declared.judgement.Unexpected.{Unexpected}
 use Rattle.mimic_printer.specs.declared.sink.OutputFault.{OutputFault}
@@ -35,11 +35,22 @@ use Rattle.mimic_expect.proofs.Strangers.{has_same}
 abbrev line_of : Unexpected → List ℕ
 line_of found = finding_text (finding_read found)
 
-pub stopped_at : {a b c : Shown} (judgement : Judgement) (failed : ℕ) (items : List Unexpected) (i : ℕ) (found : Unexpected) → items ≡ judgement.unexpected.items → i < length items → found ≡ get_or items i found
-    → Put a b (flat_map line_of (take i judgement.unexpected.items)) → Stopped b c (line_of found) → Stopped a c (judgement_text judgement failed)
-stopped_at judgement failed items i found e lt is p q =
-    Stopped-more (flat_map line_of judgement.unexpected.items) (judgement_numbers judgement failed)
+pub stopped_at : {a b c : Shown} (judgement : Judgement) (failed : ℕ) (ends : List InputEnd) (items : List Unexpected) (i : ℕ) (found : Unexpected) → items ≡ judgement.unexpected.items → i < length items → found ≡ get_or items i found
+    → Put a b (flat_map line_of (take i judgement.unexpected.items)) → Stopped b c (line_of found) → Stopped a c (judgement_text judgement failed ends)
+stopped_at judgement failed ends items i found e lt is p q =
+    Stopped-more (flat_map line_of judgement.unexpected.items) (flat_map running_text ends ++ judgement_numbers judgement failed)
     (rw (← e) (Stopped-next line_of items i found lt (rw e p) (rw is at q)))
+
+-- all findings
+found_all : (judgement : Judgement) (items : List Unexpected) (i : ℕ) → items ≡ judgement.unexpected.items → length items ≤ i → take i judgement.unexpected.items ≡ judgement.unexpected.items
+found_all judgement items i e le = take_all i judgement.unexpected.items (omega (arith, le, ap length e))
+
+-- a fault in the lines behind them
+pub stopped_behind : {a b c : Shown} (judgement : Judgement) (failed : ℕ) (ends : List InputEnd) (items : List Unexpected) (i : ℕ) → items ≡ judgement.unexpected.items → length items ≤ i
+    → Put a b (flat_map line_of (take i judgement.unexpected.items)) → Stopped b c (flat_map running_text ends) → Stopped a c (judgement_text judgement failed ends)
+stopped_behind judgement failed ends items i e le p q =
+    let all = found_all judgement items i e le in
+    stop2 (flat_map line_of judgement.unexpected.items) (flat_map running_text ends) (judgement_numbers judgement failed) (rw all at p) q
 
 numbers_are : (judgement : Judgement) (before failed passed other absent : ℕ) → failed ≡ count_in is_failed_row judgement → passed ≡ count_in is_passed_line judgement
     → other ≡ count_in is_other_message judgement → absent ≡ count_in is_absent_line judgement
@@ -47,16 +58,17 @@ numbers_are : (judgement : Judgement) (before failed passed other absent : ℕ) 
     ++ ((decimal other ++ codes " with another message; ") ++ ((decimal absent ++ codes " absent\n") ++ [])))) ≡ judgement_numbers judgement before
 numbers_are judgement before failed passed other absent f p o a = rw (f, p, o, a) (simp append_assoc)
 
-pub judgement_put : {E T : Type 0} (a b c : Shown) (judgement : Judgement) (before failed passed other absent : ℕ) (items : List Unexpected) (i : ℕ) (result : Result T E) → items ≡ judgement.unexpected.items
+pub judgement_put : {E T : Type 0} (a b c d : Shown) (judgement : Judgement) (before failed passed other absent : ℕ) (ends : List InputEnd) (items : List Unexpected) (i : ℕ) (result : Result T E) → items ≡ judgement.unexpected.items
     → length items ≤ i → failed ≡ count_in is_failed_row judgement → passed ≡ count_in is_passed_line judgement → other ≡ count_in is_other_message judgement
-    → absent ≡ count_in is_absent_line judgement → Put a b (flat_map line_of (take i judgement.unexpected.items))
-    → Writes b c ((decimal judgement.met ++ codes " known failures; ") ++ ((decimal (before + failed) ++ codes " failed; ") ++ ((decimal passed ++ codes " passed; ")
+    → absent ≡ count_in is_absent_line judgement → Put a b (flat_map line_of (take i judgement.unexpected.items)) → Put b c (flat_map running_text ends)
+    → Writes c d ((decimal judgement.met ++ codes " known failures; ") ++ ((decimal (before + failed) ++ codes " failed; ") ++ ((decimal passed ++ codes " passed; ")
     ++ ((decimal other ++ codes " with another message; ") ++ ((decimal absent ++ codes " absent\n") ++ []))))) result
-    → Writes a c (judgement_text judgement before) result
-judgement_put a b c judgement before failed passed other absent items i result e le f p o n put numbers =
-    let all : take i judgement.unexpected.items ≡ judgement.unexpected.items = take_all i judgement.unexpected.items (omega (arith, le, ap length e)) in
-    Puts_then a b c (flat_map line_of judgement.unexpected.items) (judgement_numbers judgement before) result (rw all at put)
-    (rw (numbers_are judgement before failed passed other absent f p o n) at numbers)
+    → Writes a d (judgement_text judgement before ends) result
+judgement_put a b c d judgement before failed passed other absent ends items i result e le f p o n put running numbers =
+    let all = found_all judgement items i e le in
+    Puts_then a b d (flat_map line_of judgement.unexpected.items) (flat_map running_text ends ++ judgement_numbers judgement before) result (rw all at put)
+    (Puts_then b c d (flat_map running_text ends) (judgement_numbers judgement before) result running
+    (rw (numbers_are judgement before failed passed other absent f p o n) at numbers))
 
 -- ---- counts
 
@@ -132,12 +144,14 @@ module _ (known : List Expected) (start new : Judged) (rows : List Entry) (are_a
           met ∙ (ap₂ (λ (k : List Expected) (l : List Entry). length (met_by (keyed k) (rows_with is_failed l))) knows kept ∙ ap length (has_same known rows are_all).met) in
           rw (is, all_failed, none_of is_passed_line (λ row. refl), none_of is_other_message (λ row. refl), none_of is_absent_line (λ row. refl)) refl
 
-      all_text : judgement.met ≡ length (met_by (keyed new.known) (rows_with is_failed new.rows)) → lines failures ++ judgement_text judgement count ≡ rows_text known rows are_all
-      all_text met =
+      all_text : (ends : List InputEnd) → judgement.met ≡ length (met_by (keyed new.known) (rows_with is_failed new.rows))
+          → lines failures ++ judgement_text judgement count ends ≡ rows_text known rows ends are_all
+      all_text ends met =
           let shown : flat_map finding_text (findings_in_turn known rows are_all) ≡ lines failures ++ flat_map line_of judgement.unexpected.items =
           flat_map-append finding_text (map FailedRow failures) rest
           ∙ ap (λ (l : List ℕ). lines failures ++ l) (ap (flat_map finding_text) (sym found) ∙ flat_map-map finding_text finding_read judgement.unexpected.items) in
-          sym (append_assoc (lines failures) (flat_map line_of judgement.unexpected.items) (judgement_numbers judgement count)) ∙ ap₂ (λ (a b : List ℕ). a ++ b) (sym shown) (numbers met)
+          sym (append_assoc (lines failures) (flat_map line_of judgement.unexpected.items) (flat_map running_text ends ++ judgement_numbers judgement count))
+          ∙ ap₂ (λ (a b : List ℕ). a ++ (flat_map running_text ends ++ b)) (sym shown) (numbers met)
 
       module _ (lax : Bool) where
         any_in_turn : list_any (counts lax) (findings known rows are_all) ≡ (list_any (counts lax) (map FailedRow failures) || list_any (counts lax) rest)
@@ -156,10 +170,10 @@ module _ (known : List Expected) (start new : Judged) (rows : List Entry) (are_a
 module _ {I : Type 0} (remaining : I → Option (List ℕ)) (expected : List Expected) (inputs : List I) (lax : Bool) (old new : Shown) (result : Result ExpectationVerdict OutputFault) where
   -- a fault in what is written of all inputs
   pub write_left : (error : WriteFault) (read : List InputRead) → IsErrAnd result (λ fault. fault ≡ WriteFailed error) → AllZip (λ input r. IsReadOf (remaining input) r) inputs read
-      → Stopped old new (rows_text expected (rows_of read) (have_all read)) → LeavesVerdict remaining expected inputs lax old new result
+      → Stopped old new (rows_text expected (rows_of read) (ends_of read) (have_all read)) → LeavesVerdict remaining expected inputs lax old new result
   write_left error read h each s =
       at_fault (LeavesVerdict remaining expected inputs lax old new) result (WriteFailed error) h
-      (rows_text expected (rows_of read) (have_all read), inr (read, each, refl), s)
+      (rows_text expected (rows_of read) (ends_of read) (have_all read), inr (read, each, refl), s)
 
   -- no memory
   pub memory_left : (rows : List Entry) → IsErrAnd result (λ fault. fault ≡ OutOfMemory) → AreBegun remaining inputs rows → Put old new (unknown_text expected rows)
@@ -189,12 +203,13 @@ says_of judgement new read given ends all a same e says =
     says ∙ ap (findings new.known new.rows) (a ∙ (ap (list_all has_all) same ∙ ends_have_all read ends e))
 
 -- the lines that were written while rows came, and all that is written
-pub whole_text : (known : List Expected) (start new : Judged) (read : List InputRead) (given ends : List InputEnd) (all : Bool) (count : ℕ) (judgement : Judgement) (s t : Shown)
-    → start ≡ record { known = known; rows = [] } → Judges start new (rows_of read) count s t → all ≡ list_all has_all given → given ≡ ends
+pub whole_text : (known : List Expected) (start new : Judged) (read : List InputRead) (given written ends : List InputEnd) (all : Bool) (count : ℕ) (judgement : Judgement) (s t : Shown)
+    → start ≡ record { known = known; rows = [] } → Judges start new (rows_of read) count s t → all ≡ list_all has_all given → given ≡ ends → written ≡ ends
     → ends ≡ map (λ (r : InputRead). r.end) read → map finding_read judgement.unexpected.items ≡ findings new.known new.rows all
     → judgement.met ≡ length (met_by (keyed new.known) (rows_with is_failed new.rows))
-    → Put s t (unknown_text known (rows_of read)) × (unknown_text known (rows_of read) ++ judgement_text judgement count ≡ rows_text known (rows_of read) (have_all read))
-whole_text known start new read given ends all count judgement s t begun judged a same e says met = (
+    → Put s t (unknown_text known (rows_of read)) × (unknown_text known (rows_of read) ++ judgement_text judgement count written ≡ rows_text known (rows_of read) (ends_of read) (have_all read))
+whole_text known start new read given written ends all count judgement s t begun judged a same w e says met = (
   lines_put known start new (rows_of read) count s t begun judged,
-  all_text known start new (rows_of read) (have_all read) count judgement begun judged (says_of judgement new read given ends all a same e says) met,
+  ap (λ (l : List InputEnd). unknown_text known (rows_of read) ++ judgement_text judgement count l) (w ∙ e)
+      ∙ all_text known start new (rows_of read) (have_all read) count judgement begun judged (says_of judgement new read given ends all a same e says) (ends_of read) met,
 )

@@ -1,10 +1,15 @@
--- The lines that are printed of what is unexpected (our own).
-use Rattle.std.specs.Prelude.{ℕ, Bool, List, [], ◌∷◌, ◌++◌, codes, count_by, decimal, length, map, None}
+-- The lines that are printed of what is unexpected, and of trials that were running (our own).
+use Rattle.std.specs.Prelude.{ℕ, Bool, List, [], ◌∷◌, ◌++◌, codes, count_by, decimal, length, map, None, Option, Some}
 use Rattle.std.specs.List.{concat, flat_map}
 use Rattle.mimic_trial.specs.Count.{is_failed}
-use Rattle.mimic_printer.specs.Json.{Entry, json_outcome}
+use Rattle.mimic_printer.specs.Json.{Entry, json_announcement, json_outcome}
+use Rattle.mimic_events.specs.Contents.{label_read}
+use Rattle.mimic_events.specs.declared.report.Label.{Label as LabelRead}
+use Rattle.mimic_events.specs.declared.ending.Ending.TheVariants.{Cut}
 use Rattle.mimic_expect.specs.Expect.{AbsentLine, FailedRow, Finding, OtherMessage, PassedLine, findings_in_turn, is_absent_line, is_failed_row, is_other_message, is_passed_line, keyed, met_by, rows_with, unknown_failures}
 use Rattle.mimic_expect.specs.Known.{Expected}
+use Rattle.mimic_expect.specs.declared.verdict.InputEnd.{InputEnd}
+use Rattle.mimic_expect.specs.declared.verdict.InputEnd.TheVariants.{Ended}
 
 -- the line that a report in JSON without times has of the row's outcome: what is unexpected has nothing to do with times
 abbrev pub row_line : Entry → List ℕ
@@ -31,7 +36,17 @@ numbers_text met findings = concat (decimal met ∷ codes " known failures; "
     ∷ decimal (count_by is_other_message findings) ∷ codes " with another message; "
     ∷ decimal (count_by is_absent_line findings) ∷ codes " absent\n" ∷ [])
 
--- what is printed of rows: a line of each finding, and a line of the numbers
-abbrev pub rows_text : List Expected → List Entry → Bool → List ℕ
-rows_text expected rows are_all = flat_map finding_text (findings_in_turn expected rows are_all)
-    ++ numbers_text (length (met_by (keyed expected) (rows_with is_failed rows))) (findings_in_turn expected rows are_all)
+-- the line of a trial that was announced and has not ended: a word, and the line that announces it in JSON
+abbrev pub running_line : Option LabelRead → List ℕ
+running_line None = []
+running_line (Some label) = codes "running: " ++ json_announcement (label_read label)
+
+-- the line of the trial that was running when a report was cut, and nothing of another end of an input
+abbrev pub running_text : InputEnd → List ℕ
+running_text (Ended (Cut stop)) = running_line stop.running
+running_text other = []
+
+-- what is printed of rows: a line of each finding, one of each trial that was running at these ends, and one of the numbers
+abbrev pub rows_text : List Expected → List Entry → List InputEnd → Bool → List ℕ
+rows_text expected rows ends are_all = flat_map finding_text (findings_in_turn expected rows are_all) ++ (flat_map running_text ends
+    ++ numbers_text (length (met_by (keyed expected) (rows_with is_failed rows))) (findings_in_turn expected rows are_all))

@@ -6,12 +6,13 @@ use Rattle.mimic_events.specs.Contents.{entry_read}
 use Rattle.mimic_events.specs.Key.{Key}
 use Rattle.mimic_events.specs.declared.report.Row.{Row}
 use Rattle.mimic_expect.specs.Expect.{AbsentLine, FailedRow, Finding, OtherMessage, PassedLine, is_absent_line, is_failed_row, is_other_message, is_passed_line}
-use Rattle.mimic_expect.specs.FindingText.{finding_text}
+use Rattle.mimic_expect.specs.FindingText.{finding_text, running_text}
 use Rattle.mimic_expect.specs.Known.{Expected, expected_read}
 use Rattle.mimic_expect.specs.declared.known.Expectation.{Expectation}
 use Rattle.mimic_expect.specs.declared.judgement.Judgement.{Judgement}
 use Rattle.mimic_expect.specs.declared.judgement.Unexpected.{Unexpected}
 use Rattle.mimic_expect.specs.declared.judgement.Unexpected.TheVariants.{Failed, AnotherMessage, Passed, Absent}
+use Rattle.mimic_expect.specs.declared.verdict.InputEnd.{InputEnd}
 use denote.Ref.{Bor}
 
 abbrev pub finding_read : Unexpected → Finding
@@ -47,7 +48,7 @@ judgement_numbers judgement failed = concat (decimal judgement.met ∷ codes " k
     ∷ decimal (count_in is_other_message judgement) ∷ codes " with another message; "
     ∷ decimal (count_in is_absent_line judgement) ∷ codes " absent\n" ∷ [])
 
--- its findings, each as one line, and its numbers
-abbrev pub judgement_text : Judgement → ℕ → List ℕ
-judgement_text judgement failed =
-    flat_map (λ found. finding_text (finding_read found)) judgement.unexpected.items ++ judgement_numbers judgement failed
+-- its findings, each as one line, a line of each trial that was running at these ends, and its numbers
+abbrev pub judgement_text : Judgement → ℕ → List InputEnd → List ℕ
+judgement_text judgement failed ends = flat_map (λ found. finding_text (finding_read found)) judgement.unexpected.items
+    ++ (flat_map running_text ends ++ judgement_numbers judgement failed)

@@ -34,6 +34,10 @@ IsReadOf input read = IfSome input (Reads read.entries read.end)
 abbrev pub rows_of : List InputRead → List Entry
 rows_of inputs = flat_map (λ read. read.entries) inputs
 
+-- how all inputs ended, in their order
+abbrev pub ends_of : List InputRead → List InputEnd
+ends_of inputs = map (λ read. read.end) inputs
+
 -- the input was a whole report
 abbrev pub is_whole : InputEnd → Bool
 is_whole (Ended (Whole filtered_out nanos)) = true
@@ -50,13 +54,14 @@ have_all inputs = list_all (λ read. has_all read.end) inputs
 
 -- ---- the verdict
 
--- what is unexpected of the rows of all inputs was written, each once, and the numbers; the verdict says whether any of it counts
+-- what is unexpected of the rows of all inputs was written, each once, the trials that were running, and the numbers; the verdict says
+-- whether anything unexpected counts
 pub record IsVerdict {I : Type 0} (remaining : I → Option (List ℕ)) (expected : List Expected) (inputs : List I) (lax : Bool)
     (old new : Shown) (verdict : ExpectationVerdict) : Type 0 where
   pub read : List InputRead
   pub each : AllZip (λ input r. IsReadOf (remaining input) r) inputs read
-  pub ends : verdict.ends.items ≡ map (λ r. r.end) read
-  pub put : Put old new (rows_text expected (rows_of read) (have_all read))
+  pub ends : verdict.ends.items ≡ ends_of read
+  pub put : Put old new (rows_text expected (rows_of read) (ends_of read) (have_all read))
   pub unexpected : verdict.is_unexpected ≡ list_any (counts lax) (findings expected (rows_of read) (have_all read))
 
 -- ---- what is left with a fault
@@ -84,7 +89,7 @@ IsBegun remaining expected inputs text = (rows : List Entry) × AreBegun remaini
 -- the text is what is written of all inputs
 abbrev pub IsWhole : {I : Type 0} → (I → Option (List ℕ)) → List Expected → List I → List ℕ → Type 0
 IsWhole remaining expected inputs text = (read : List InputRead) × AllZip (λ input r. IsReadOf (remaining input) r) inputs read
-    × (text ≡ rows_text expected (rows_of read) (have_all read))
+    × (text ≡ rows_text expected (rows_of read) (ends_of read) (have_all read))
 
 -- without memory such failures were appended; and with a fault of the writer a beginning of such failures, or of the whole text
 abbrev pub VerdictLeftBy : (List ℕ → Type 0) → (List ℕ → Type 0) → Shown → Shown → OutputFault → Type 0

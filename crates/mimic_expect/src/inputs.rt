@@ -5,11 +5,11 @@ ghost use Rattle.mimic_printer.specs.Json.{Entry};
 ghost use Rattle.mimic_printer.specs.Sink.{HasFaultLeft, Puts, shown};
 ghost use Rattle.mimic_events.specs.Readings.{HasEndedRows};
 ghost use Rattle.mimic_expect.specs.Expect.{ExpectLaws};
-ghost use Rattle.mimic_expect.specs.FindingText.{finding_text};
+ghost use Rattle.mimic_expect.specs.FindingText.{finding_text, running_text};
 ghost use Rattle.mimic_expect.specs.JudgedRows.{HasLines, Judges};
 ghost use Rattle.mimic_expect.specs.JudgementText.{finding_read, judgement_text};
 ghost use Rattle.mimic_expect.specs.Known.{expected_read};
-ghost use Rattle.mimic_expect.specs.Verdict.{AreBegun, InputRead, IsReadOf, LeavesVerdict, Reads, rows_of};
+ghost use Rattle.mimic_expect.specs.Verdict.{AreBegun, InputRead, IsReadOf, LeavesVerdict, Reads, ends_of, rows_of};
 
 use crate::judge::Judge;
 use crate::judgement::Judgement;
@@ -22,7 +22,8 @@ use std::alloc::Global;
 use std::io::{ErrorKind, Read, Write};
 
 /// Writes what of the reports is not as the known failures say, each once and as one line, then a line of the numbers, and
-/// flushes it. Of a report that is not whole the rows are judged that have ended.
+/// flushes it. Of a report that is not whole the rows are judged that have ended. If the last line of it that has ended announces
+/// a trial, this one was running: its line comes before the numbers.
 ///
 /// A failure meets one known failure of its kind and name: the first one of its message that is left, or else the first one of
 /// any message. Each known failure that is left then takes a row of its kind and name that has met nothing: a failure, which
@@ -55,7 +56,7 @@ pub fn write_unexpected<I: Read + Drop, W: Write>(
     let mut judge = Judge::new(alloc, known)?;
     let (failed, ends) = judge_inputs(alloc, inputs, &mut judge, sink)?;
     let judgement = judge.finish(alloc, have_all(&ends))?;
-    put_judgement(sink, &judgement, failed)?;
+    put_judgement(sink, &judgement, failed, &ends)?;
     sink.flush()?;
     Ok(ExpectationVerdict {
         is_unexpected: failed > 0 || judgement.is_unexpected(lax),
@@ -75,7 +76,7 @@ fn judge_inputs<I: Read + Drop, W: Write>(
     ensures { MatchResult result
         (λ x. (read : List InputRead)
         × AllZip (λ input r. IsReadOf (I.remaining input) r) inputs.items read
-        × (x.1.items ≡ map (λ r. r.end) read)
+        × (x.1.items ≡ ends_of read)
         × Judges judge.old judge.new (rows_of read) x.0
         (shown W.contents sink.old) (shown W.contents sink.new) × (x.0 < 2 ^ 128 - 2 ^ 64))
         (λ fault. (rows : List Entry) × AreBegun I.remaining inputs.items rows
@@ -124,19 +125,23 @@ fn judge_input<I: Read + Drop, W: Write>(
     Ok((failed, InputEnd::Failed(ErrorKind::Other.into())))
 }
 
-// Writes what the judgement says, and the numbers, to which these failures count that were written before.
+// Writes what the judgement says, the trials that were running at these ends, and the numbers, to which these failures count that
+// were written before.
 fn put_judgement<W: Write>(
     sink: &mut Sink<W>,
     judgement: &Judgement<'_>,
     failed: u128,
+    ends: &[InputEnd],
 ) -> Result<(), WriteFault>
     requires fault { HasFaultLeft sink.old }
     requires room { failed < 2 ^ 128 - 2 ^ 64 }
-    ensures { Puts W.contents sink.old sink.new (judgement_text judgement.now failed) result }
+    ensures { Puts W.contents sink.old sink.new
+        (judgement_text judgement.now failed ends.now) result }
 {
     for found in &judgement.unexpected {
         found.put(sink)?;
     }
+    put_running(sink, ends)?;
     put_numbers(
         sink,
         &[
@@ -150,6 +155,17 @@ fn put_judgement<W: Write>(
             (judgement.absent() as u128, " absent\n"),
         ],
     )
+}
+
+// Writes a line of each trial that was running when its report was cut.
+fn put_running<W: Write>(sink: &mut Sink<W>, ends: &[InputEnd]) -> Result<(), WriteFault>
+    requires { HasFaultLeft sink.old }
+    ensures { Puts W.contents sink.old sink.new (flat_map running_text ends.now) result }
+{
+    for end in ends {
+        end.put_running(sink)?;
+    }
+    Ok(())
 }
 
 // Writes each number in decimal, and its words.

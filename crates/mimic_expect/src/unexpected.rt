@@ -1,13 +1,14 @@
-//! Prints what is unexpected.
+//! Prints what is unexpected, and the trials that were running.
 ghost use Rattle.mimic_printer.specs.Sink.{HasFaultLeft, Puts};
 ghost use Rattle.mimic_events.specs.Contents.{entry_read};
-ghost use Rattle.mimic_expect.specs.FindingText.{finding_text, numbered_text, row_line};
+ghost use Rattle.mimic_expect.specs.FindingText.{finding_text, numbered_text, row_line, running_line, running_text};
 ghost use Rattle.mimic_expect.specs.JudgementText.{finding_read};
 
 use crate::judgement::Unexpected;
+use crate::verdict::InputEnd;
 use itoa::Buffer;
-use mimic_events::Row;
-use mimic_printer::json::put_outcome;
+use mimic_events::{Ending, Label, Row};
+use mimic_printer::json::{put_announcement, put_outcome};
 use mimic_printer::{Sink, WriteFault};
 use std::io::Write;
 
@@ -34,6 +35,31 @@ impl Unexpected<'_> {
             }
         }
     }
+}
+
+impl InputEnd {
+    // Writes a line of the trial that was running when the report was cut, if one was.
+    pub(crate) fn put_running<W: Write>(&self, sink: &mut Sink<W>) -> Result<(), WriteFault>
+        requires { HasFaultLeft sink.old }
+        ensures { Puts W.contents sink.old sink.new (running_text self.now) result }
+    {
+        match self {
+            InputEnd::Ended(Ending::Cut(stop)) => put_running_line(sink, &stop.running),
+            InputEnd::Ended(Ending::Whole { .. }) | InputEnd::Failed(_) => Ok(()),
+        }
+    }
+}
+
+// Writes a word, and the line that announces the trial in a report in JSON. So nothing in its name ends the line.
+fn put_running_line<W: Write>(sink: &mut Sink<W>, running: &Option<Label>) -> Result<(), WriteFault>
+    requires { HasFaultLeft sink.old }
+    ensures { Puts W.contents sink.old sink.new (running_line running.now) result }
+{
+    let Some(label) = running else {
+        return Ok(());
+    };
+    sink.put(b"running: ")?;
+    put_announcement(sink, label.name.as_str(), label.kind.as_str())
 }
 
 fn put_numbered<W: Write>(

@@ -13,9 +13,10 @@ use Rattle.mimic_printer.specs.declared.Printer.{Printer}
 use Rattle.mimic_printer.specs.Report.{failures_if_any, failures_in, failures_text, report_text, row_text, summary_text, title_text}
 use Rattle.mimic_printer.specs.Row.{PrintedRow, label_of, outcomes_of, row_of}
 use Rattle.mimic_printer.specs.Widths.{kind_width_of, name_width_of}
+use Rattle.mimic_events.specs.declared.ending.Ending.{Ending}
 use Rattle.mimic_events.specs.declared.report.Row.{Row}
 use Rattle.mimic_reports.specs.declared.show.KeptRow.{KeptRow}
-use Rattle.mimic_reports.specs.Show.{kept_row, kept_rows, labels_in, pretty_printer, printed_row}
+use Rattle.mimic_reports.specs.Show.{cut_part, failures_part, kept_row, kept_rows, labels_in, pretty_printer, printed_row}
 
 -- ---- rows
 
@@ -41,9 +42,13 @@ abbrev pub untimed : List KeptRow → List PrintedRow
 untimed rows = map (λ row. row_of row.info row.outcome) rows
 
 -- they have the same failures
-pub failures-untimed : (rows : List KeptRow) → failures_if_any (untimed rows) ≡ failures_if_any (kept_rows rows)
+failures-untimed : (rows : List KeptRow) → failures_if_any (untimed rows) ≡ failures_if_any (kept_rows rows)
 unfolding failures_if_any
 failures-untimed rows = simp (map-map, flat_map-map)
+
+-- and so these are the failures that are shown, and how a report ended behind as many rows
+pub part-untimed : (rows : List KeptRow) (ending : Ending) → failures_part (kept_rows rows) ending ≡ failures_if_any (untimed rows) ++ cut_part (length rows) ending
+part-untimed rows ending = simp (failures-untimed rows, length-map)
 
 failures_in-untimed : (f : FormatSetting) (rows : List KeptRow) → failures_in f (untimed rows) ≡ failures_in f (kept_rows rows)
 failures_in-untimed Pretty rows = failures-untimed rows

@@ -1,20 +1,19 @@
 -- Reports in the XML that readers of JUnit's reports take. No standard fixes it: the elements and attributes are those that
 -- Jenkins, GitLab, Surefire and junitparser read; the texts of messages are our own.
-use Rattle.std.specs.Prelude.{ℕ, ◌+◌, List, [], ◌∷◌, ◌++◌, length, map, count_by, codes, decimal, Option, Some, None, string_bytes}
+use Rattle.std.specs.Prelude.{ℕ, ◌+◌, List, [], ◌∷◌, ◌++◌, length, map, count_by, codes, decimal, Option, Some, None}
 use Rattle.std.specs.List.{concat, flat_map}
 use Rattle.mimic_trial.specs.declared.outcome.Outcome.{Outcome}
 use Rattle.mimic_trial.specs.declared.outcome.Outcome.TheVariants.{Passed, Failed, Ignored, Measured}
 use Rattle.mimic_trial.specs.Count.{is_failed, is_ignored_outcome}
 use Rattle.mimic_trial.specs.Seconds.{exact_seconds}
 use Rattle.mimic_printer.specs.Json.{Entry, outcomes_in}
-use Rattle.mimic_events.specs.declared.report.Label.{Label as LabelRead}
 use Rattle.mimic_events.specs.declared.ending.Ending.{Ending}
 use Rattle.mimic_events.specs.declared.ending.Ending.TheVariants.{Whole, Cut}
 use Rattle.mimic_events.specs.declared.ending.Stop.{Stop}
-use Rattle.mimic_events.specs.Stops.{extent_text}
+use Rattle.mimic_reports.specs.Cut.{cut_text}
 use Rattle.mimic_reports.specs.declared.junit_elements.Numbers.{Numbers}
 use Rattle.mimic_printer.specs.Escapes.{escaped}
-use Rattle.mimic_printer.specs.Piece.{bracketed, first_line}
+use Rattle.mimic_printer.specs.Piece.{first_line}
 use Rattle.mimic_printer.specs.declared.place.Place.TheVariants.{Content, Value}
 
 -- what is written of one report: the name of its program, its rows that have ended, and how it ended
@@ -106,17 +105,11 @@ case_text program entry = concat (codes "    <testcase classname=\"" ∷ escaped
 
 -- ---- a report without its end
 
--- the trial that was announced and has not ended
-abbrev pub running_part : Option LabelRead → List ℕ
-running_part None = []
-running_part (Some label) = concat (codes "; running: "
-    ∷ bracketed Value (string_bytes label.kind) ∷ escaped Value (string_bytes label.name) ∷ [])
-
 -- the line that says that it has no end, after `ended` rows
 unfoldable pub stop_text : List ℕ → ℕ → Stop → List ℕ
 stop_text program ended stop = concat (concat (codes "    <testcase classname=\"" ∷ escaped Value program
     ∷ codes "\" name=\"(whole report)\"><error type=\"incomplete\" message=\"" ∷ [])
-    ∷ extent_text ended stop ∷ running_part stop.running ∷ codes "\"/></testcase>\n" ∷ [])
+    ∷ cut_text Value ended stop ∷ codes "\"/></testcase>\n" ∷ [])
 
 -- what follows the rows
 abbrev pub ending_text : List ℕ → ℕ → Ending → List ℕ

@@ -1,3 +1,4 @@
+pub mod Cut
 pub mod Junit
 pub mod Page
 pub mod Show

@@ -1,12 +1,17 @@
 -- Reports as the harness prints them in pretty.
-use Rattle.std.specs.Prelude.{ℕ, Bool, List, map, string_bytes}
+use Rattle.std.specs.Prelude.{ℕ, Bool, List, [], ◌∷◌, ◌++◌, codes, length, map, string_bytes}
+use Rattle.std.specs.List.{concat}
 use Rattle.mimic_trial.specs.declared.formats.FormatSetting.TheVariants.{Pretty}
 use Rattle.mimic_printer.specs.declared.Printer.{Printer}
+use Rattle.mimic_printer.specs.declared.place.Place.TheVariants.{Line}
 use Rattle.mimic_printer.specs.Report.{failures_if_any, report_text}
 use Rattle.mimic_printer.specs.Row.{Label, PrintedRow, timed_row}
 use Rattle.mimic_printer.specs.Widths.{kind_width_of, name_width_of}
+use Rattle.mimic_events.specs.declared.ending.Ending.{Ending}
+use Rattle.mimic_events.specs.declared.ending.Ending.TheVariants.{Whole, Cut}
 use Rattle.mimic_events.specs.declared.report.Report.{Report}
 use Rattle.mimic_events.specs.declared.report.Row.{Row}
+use Rattle.mimic_reports.specs.Cut.{cut_text}
 use Rattle.mimic_reports.specs.declared.show.KeptRow.{KeptRow}
 
 -- what is printed of a row that was read: its kind, its name, its outcome and its time
@@ -38,9 +43,18 @@ pretty_printer colours rows = record {
 abbrev pub pretty_report : Bool → Report → List ℕ
 pretty_report colours report = report_text (pretty_printer colours (printed_rows report)) (printed_rows report) report.filtered_out report.nanos
 
--- and what it prints of the failures alone
-abbrev pub pretty_failures : Report → List ℕ
-pretty_failures report = failures_if_any (printed_rows report)
+-- what is printed of a report without its end, after `ended` rows: an empty line, and one that says how far it goes (our own)
+abbrev pub cut_part : ℕ → Ending → List ℕ
+cut_part ended (Whole filtered_out nanos) = []
+cut_part ended (Cut stop) = concat (codes "\n" ∷ cut_text Line ended stop ∷ codes "\n" ∷ [])
+
+-- what is printed of the failures among rows that have ended, and of how the report ended
+abbrev pub failures_part : List PrintedRow → Ending → List ℕ
+failures_part rows ending = failures_if_any rows ++ cut_part (length rows) ending
+
+-- and what the harness prints of the failures alone, if these rows have ended in a report, and it ended so
+abbrev pub pretty_failures : List Row → Ending → List ℕ
+pretty_failures rows ending = failures_part (map printed_row rows) ending
 
 -- ---- rows as a printer takes them. No public clause names these words
 

@@ -3,8 +3,9 @@ ghost use Rattle.std.specs.Prelude.{◌≡◌, ◌++◌};
 ghost use Rattle.mimic_printer.specs.Piece.{piece_text};
 ghost use Rattle.mimic_printer.specs.Sink.{HasFaultLeft, Puts};
 ghost use Rattle.mimic_events.specs.Contents.{entry_read};
-ghost use Rattle.mimic_reports.specs.Junit.{case_text, class_point, root_start, running_part, stop_text, suite_start, time_part};
+ghost use Rattle.mimic_reports.specs.Junit.{case_text, class_point, root_start, stop_text, suite_start, time_part};
 
+use crate::cut::put_cut;
 use mimic_events::{Row, Stop};
 use mimic_printer::{Piece, Place, Sink, WriteFault, put_pieces};
 use mimic_trial::Outcome;
@@ -179,24 +180,8 @@ pub(crate) fn put_stop<'a, W: Write>(
         Piece::Text("\" name=\"(whole report)\"><error type=\"incomplete\" message=\""),
     ];
     put_pieces(sink, &front)?;
-    stop.put_extent(sink, ended)?;
-    put_running(sink, stop)?;
+    put_cut(sink, Place::Value, ended, stop)?;
     sink.put(b"\"/></testcase>\n")
-}
-
-fn put_running<W: Write>(sink: &mut Sink<W>, stop: &Stop) -> Result<(), WriteFault>
-    requires { HasFaultLeft sink.old }
-    ensures { Puts W.contents sink.old sink.new (running_part stop.now.running) result }
-{
-    let Some(label) = &stop.running else {
-        return Ok(());
-    };
-    let pieces = [
-        Piece::Text("; running: "),
-        Piece::Bracketed(Place::Value, label.kind.as_str()),
-        Piece::Escaped(Place::Value, label.name.as_str()),
-    ];
-    put_pieces(sink, &pieces)
 }
 
 impl Numbers {

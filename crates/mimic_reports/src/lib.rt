@@ -14,6 +14,7 @@
 //! ```
 #![tactic(auto)]
 
+mod cut;
 mod junit;
 mod junit_elements;
 mod page;

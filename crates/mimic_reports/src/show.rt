@@ -1,15 +1,16 @@
-//! Prints reports as the harness prints them in pretty.
+//! Prints reports as the harness prints them in pretty, and how one ended that is cut.
 ghost use Rattle.std.specs.Prelude.{◌≡◌, IfOk, map, max};
 ghost use Rattle.std.specs.List.{flat_map};
 ghost use Rattle.mimic_trial.specs.Count.{counts_of};
-ghost use Rattle.mimic_printer.specs.Report.{failures_if_any, report_text, row_text};
+ghost use Rattle.mimic_printer.specs.Report.{report_text, row_text};
 ghost use Rattle.mimic_printer.specs.Row.{label_of, outcomes_of};
 ghost use Rattle.mimic_printer.specs.Sink.{HasFaultLeft, LeavesText, Puts, shown};
 ghost use Rattle.mimic_printer.specs.Widths.{kind_chars, kind_width_of, name_chars, name_width_of};
-ghost use Rattle.mimic_reports.specs.Show.{kept_row, kept_rows, pretty_failures, pretty_printer, pretty_report, printed_row};
+ghost use Rattle.mimic_reports.specs.Show.{cut_part, failures_part, kept_row, kept_rows, pretty_failures, pretty_printer, pretty_report, printed_row};
 
-use mimic_events::{Report, Row};
-use mimic_printer::{OutputFault, Printer, ShownRows, Sink, WriteFault, widths};
+use crate::cut::put_cut;
+use mimic_events::{Ending, Report, Row};
+use mimic_printer::{OutputFault, Place, Printer, ShownRows, Sink, WriteFault, widths};
 use mimic_trial::{Conclusion, FormatSetting, Outcome, TestInfo};
 use std::alloc::{AllocError, Global};
 use std::io::Write;
@@ -35,19 +36,24 @@ pub fn show_report<W: Write>(
     Ok(())
 }
 
-/// Prints the failures of the report alone, as the harness prints them in pretty, and flushes them. Nothing is written if no trial
-/// failed.
+/// Prints the failures among these rows, which have ended in a report, as the harness prints them in pretty, and flushes them. If the
+/// report is cut, an empty line follows, and one that says how far it goes: `the report ends after 1 of 3 trials; running: [kind] name`.
+/// A trial is named if its announcement is the last line that has ended. Control characters of its kind and name are shown by their
+/// numbers.
+///
+/// Nothing is written of a whole report if no trial failed.
 pub fn show_failures<W: Write>(
     alloc: Global,
-    report: Report,
+    rows: Vec<Row>,
+    ending: &Ending,
     sink: &mut Sink<W>,
 ) -> Result<(), OutputFault>
     requires { HasFaultLeft sink.old }
-    ensures { LeavesText (pretty_failures report) (shown W.contents sink.old)
+    ensures { LeavesText (pretty_failures rows.items ending.now) (shown W.contents sink.old)
         (shown W.contents sink.new) result }
 {
-    let rows = rows_to_print(alloc, report.rows)?;
-    put_failures(sink, &rows)?;
+    let rows = rows_to_print(alloc, rows)?;
+    put_failures(sink, &rows, ending)?;
     Ok(())
 }
 
@@ -175,10 +181,33 @@ fn put_rows<W: Write>(
     Ok(())
 }
 
-fn put_failures<W: Write>(sink: &mut Sink<W>, rows: &[KeptRow]) -> Result<(), WriteFault>
+fn put_failures<W: Write>(
+    sink: &mut Sink<W>,
+    rows: &[KeptRow],
+    ending: &Ending,
+) -> Result<(), WriteFault>
     requires { HasFaultLeft sink.old }
-    ensures { Puts W.contents sink.old sink.new (failures_if_any (kept_rows rows.now)) result }
+    ensures { Puts W.contents sink.old sink.new
+        (failures_part (kept_rows rows.now) ending.now) result }
 {
     Printer::new(FormatSetting::Pretty, false, 0, 0).print_failures_in(sink, &KeptRows { rows })?;
+    put_cut_line(sink, rows.len(), ending)?;
     sink.flush()
+}
+
+// Writes how a report ended that is cut, behind an empty line, after `ended` rows.
+fn put_cut_line<W: Write>(
+    sink: &mut Sink<W>,
+    ended: usize,
+    ending: &Ending,
+) -> Result<(), WriteFault>
+    requires { HasFaultLeft sink.old }
+    ensures { Puts W.contents sink.old sink.new (cut_part ended ending.now) result }
+{
+    let Ending::Cut(stop) = ending else {
+        return Ok(());
+    };
+    sink.put(b"\n")?;
+    put_cut(sink, Place::Line, ended as u128, stop)?;
+    sink.put(b"\n")
 }

@@ -2,6 +2,7 @@
 //! values are worked out by hand.
 mod compare;
 mod expect;
+mod failures;
 mod joining;
 mod lines;
 mod page;

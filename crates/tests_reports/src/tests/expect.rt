@@ -267,7 +267,7 @@ fn lets_known_failures_pass(rt: HostRuntime) -> Result<(), Fail> {
 }
 
 // Inputs, the status, how each ended, and what is printed if `a` is known to fail with `x`.
-static INPUTS: [(&[Input], u8, &str, &[&str]); 8] = [
+static INPUTS: [(&[Input], u8, &str, &[&str]); 10] = [
     (
         &[(A_FAILED, None), (NONE, None)],
         0,
@@ -293,7 +293,44 @@ static INPUTS: [(&[Input], u8, &str, &[&str]); 8] = [
         &[(NONE, None), (&[title!(1), announced!("a")], None)],
         1,
         "whole\nthe report is cut\n",
-        &[numbers!(0, 0, 0, 0, 0)],
+        &["running: ", announced!("a"), numbers!(0, 0, 0, 0, 0)],
+    ),
+    // Each report that was cut names the trial that was running, behind what is unexpected of all, as the report has it. A line that
+    // has not ended doesn't count, and no report names a trial that has ended.
+    (
+        &[
+            (
+                &[title!(2), announced!(["\\u001b"] "b\\n"), "{ \"type\""],
+                None,
+            ),
+            (
+                &[
+                    title!(2),
+                    announced!("a"),
+                    failed!("a", "y"),
+                    announced!("c"),
+                ],
+                None,
+            ),
+            (&[title!(3), announced!("d"), passed!("d"), "{"], None),
+        ],
+        1,
+        "the report is cut\nthe report is cut\nthe report is cut\n",
+        &[
+            "another message, line 1 can go: ",
+            failed!("a", "y"),
+            "running: ",
+            announced!(["\\u001b"] "b\\n"),
+            "running: ",
+            announced!("c"),
+            numbers!(0, 0, 0, 1, 0),
+        ],
+    ),
+    (
+        &[(&[title!(1), announced!("a"), "what\n"], None)],
+        1,
+        "line 3: not what a report has there\n",
+        &["running: ", announced!("a"), numbers!(0, 0, 0, 0, 0)],
     ),
     // Nothing counts after the wrong line.
     (

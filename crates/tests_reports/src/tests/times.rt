@@ -2,6 +2,7 @@
 //! by hand.
 use super::compare::compare;
 use super::expect::{judged, numbers};
+use super::failures::failures_shown;
 use super::joining::join;
 use super::lines::{announced, failed, ignored, measured, passed, read, summary, text_of, title};
 use super::page::page_of;
@@ -9,7 +10,7 @@ use super::reading::{Slow, join_into};
 use super::watching::{LOG, TERMINAL, watched_pieces};
 use mimic_events::{Report, RowsRead, read_from};
 use mimic_printer::Sink;
-use mimic_reports::{Suite, show_failures, show_report, write_junit, write_slowest};
+use mimic_reports::{Suite, show_report, write_junit, write_slowest};
 use std::alloc::Global;
 use std::test::Fail;
 
@@ -62,19 +63,11 @@ fn report_of(alloc: Global, lines: &[&str]) -> Result<Report, Fail> {
     Ok(read_from(alloc, &mut Slow::of(text.as_str()))?)
 }
 
-// What is shown of a report, and of its failures alone. These are the only places that call `show_report` and the like, and they promise
-// nothing, so that no test carries that contract.
+// What is shown of a report. It promises nothing, so that no test carries the contract of `show_report`.
 fn shown(alloc: Global, lines: &[&str], colours: bool) -> Result<String, Fail> {
     let report = report_of(alloc, lines)?;
     let mut sink = Sink::new(Vec::new(alloc));
     show_report(alloc, report, colours, &mut sink)?;
-    Ok(String::from_utf8(sink.into_inner())?)
-}
-
-fn failures_shown(alloc: Global, lines: &[&str]) -> Result<String, Fail> {
-    let report = report_of(alloc, lines)?;
-    let mut sink = Sink::new(Vec::new(alloc));
-    show_failures(alloc, report, &mut sink)?;
     Ok(String::from_utf8(sink.into_inner())?)
 }
 

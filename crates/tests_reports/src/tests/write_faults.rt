@@ -1,6 +1,7 @@
 //! Calls whose writer fails: each returns the fault that the writer had, has written what comes before it, and doesn't call the
 //! writer again.
 use super::compare::{AFTER, BEFORE};
+use super::failures::KILLED;
 use super::lines::{read, text_of};
 use super::reading::Slow;
 use super::times::TIMED;
@@ -140,8 +141,8 @@ fn shown(alloc: Global, writer: FaultyWriter) -> Written {
 }
 
 fn failures(alloc: Global, writer: FaultyWriter) -> Written {
-    let report = report(alloc)?;
-    written!(alloc, writer, sink => show_failures(alloc, report, &mut sink))
+    let RowsRead { rows, ending } = read(alloc, KILLED)?;
+    written!(alloc, writer, sink => show_failures(alloc, rows, &ending, &mut sink))
 }
 
 fn page(alloc: Global, writer: FaultyWriter) -> Written {

@@ -33,8 +33,8 @@ pub returns-in_err-put_judgement-clause-verdict : goal.returns-in_err-put_judgem
 returns-in_err-put_judgement-clause-verdict g c =
     let known = map expected_read c.args.known.now in
     let came = c.in_ok-failed.ensures in
-    let whole = whole_text known c.in_ok-judge.judge c.judge_inputs.new.judge came.0 _ c.in_ok-failed.ends.items _ c.in_ok-failed.failed c.in_ok-judgement.judgement _ _
-    c.in_ok-judge.ensures came.3 c.have_all.ensures c.deref.ensures.value came.2 c.in_ok-judgement.ensures.unexpected c.in_ok-judgement.ensures.met in
+    let whole = whole_text known c.in_ok-judge.judge c.judge_inputs.new.judge came.0 _ _ c.in_ok-failed.ends.items _ c.in_ok-failed.failed c.in_ok-judgement.judgement _ _
+    c.in_ok-judge.ensures came.3 c.have_all.ensures c.deref.ensures.value c.deref-2.ensures.value came.2 c.in_ok-judgement.ensures.unexpected c.in_ok-judgement.ensures.met in
     write_left g.I.Read.remaining known c.args.inputs.items c.args.lax _ _ c.from_residual-in_err-put_judgement.result c.in_err-put_judgement.field-0.0 came.0
     c.from_residual-in_err-put_judgement.ensures.1 came.1 (subst (Stopped _ _) whole.1 (Put-Stopped _ _ whole.0 c.in_err-put_judgement.ensures))
 
@@ -42,8 +42,8 @@ pub returns-in_err-flush-clause-verdict : goal.returns-in_err-flush-clause-verdi
 returns-in_err-flush-clause-verdict g c =
     let known = map expected_read c.args.known.now in
     let came = c.in_ok-failed.ensures in
-    let whole = whole_text known c.in_ok-judge.judge c.judge_inputs.new.judge came.0 _ c.in_ok-failed.ends.items _ c.in_ok-failed.failed c.in_ok-judgement.judgement _ _
-    c.in_ok-judge.ensures came.3 c.have_all.ensures c.deref.ensures.value came.2 c.in_ok-judgement.ensures.unexpected c.in_ok-judgement.ensures.met in
+    let whole = whole_text known c.in_ok-judge.judge c.judge_inputs.new.judge came.0 _ _ c.in_ok-failed.ends.items _ c.in_ok-failed.failed c.in_ok-judgement.judgement _ _
+    c.in_ok-judge.ensures came.3 c.have_all.ensures c.deref.ensures.value c.deref-2.ensures.value came.2 c.in_ok-judgement.ensures.unexpected c.in_ok-judgement.ensures.met in
     write_left g.I.Read.remaining known c.args.inputs.items c.args.lax _ _ c.from_residual-in_err-flush.result c.in_err-flush.field-0.0 came.0
     c.from_residual-in_err-flush.ensures.1 came.1 (subst (Stopped _ _) whole.1 (Stopped_after _ (Put-trans _ _ whole.0 c.in_ok-put_judgement.ensures) c.in_err-flush.ensures))
 
@@ -51,8 +51,8 @@ pub returns-clause-verdict : goal.returns-clause-verdict
 returns-clause-verdict g c =
     let known = map expected_read c.args.known.now in
     let came = c.in_ok-failed.ensures in
-    let whole = whole_text known c.in_ok-judge.judge c.judge_inputs.new.judge came.0 _ c.in_ok-failed.ends.items _ c.in_ok-failed.failed c.in_ok-judgement.judgement _ _
-    c.in_ok-judge.ensures came.3 c.have_all.ensures c.deref.ensures.value came.2 c.in_ok-judgement.ensures.unexpected c.in_ok-judgement.ensures.met in
+    let whole = whole_text known c.in_ok-judge.judge c.judge_inputs.new.judge came.0 _ _ c.in_ok-failed.ends.items _ c.in_ok-failed.failed c.in_ok-judgement.judgement _ _
+    c.in_ok-judge.ensures came.3 c.have_all.ensures c.deref.ensures.value c.deref-2.ensures.value came.2 c.in_ok-judgement.ensures.unexpected c.in_ok-judgement.ensures.met in
     let begun = c.in_ok-judge.ensures in
     let failed = c.in_ok-failed.failed in
     let rows = rows_of came.0 in

@@ -1,15 +1,20 @@
-use Rattle.mimic_printer.specs.Report.{failures_if_any}
-use Rattle.mimic_printer.proofs.Appending.{Puts-stopped, Puts_after}
-use Rattle.mimic_reports.specs.Show.{kept_rows}
-use Rattle.mimic_reports.proofs.Showing.{failures-untimed}
+use Rattle.mimic_printer.proofs.Appending.{Put-Stopped, Put-trans, Puts-stopped, Puts_after, Stopped-more}
+use Rattle.mimic_reports.proofs.Showing.{part-untimed}
 use Rattle.mimic_reports.proofs.show.put_failures.Goals as goal
 
 pub returns-in_err-print_failures_in : goal.returns-in_err-print_failures_in
 returns-in_err-print_failures_in g c =
     let stopped = rw c.new.ensures.format at c.in_err-print_failures_in.ensures in
-    Puts-stopped _ _ c.from_residual.ensures.0 (rw (failures-untimed c.args.rows.now) at stopped)
+    Puts-stopped _ _ c.from_residual.ensures.0 (rw (part-untimed c.args.rows.now c.args.ending.now) (Stopped-more _ _ stopped))
+
+pub returns-in_err-put_cut_line : goal.returns-in_err-put_cut_line
+returns-in_err-put_cut_line g c =
+    let written = rw c.new.ensures.format at c.in_ok-print_failures_in.ensures in
+    Puts-stopped _ _ c.from_residual-in_err-put_cut_line.ensures.0
+    (rw (part-untimed c.args.rows.now c.args.ending.now) (Put-Stopped _ _ written c.in_err-put_cut_line.ensures))
 
 pub returns : goal.returns
 returns g c =
     let written = rw c.new.ensures.format at c.in_ok-print_failures_in.ensures in
-    Puts_after _ _ _ (failures_if_any (kept_rows c.args.rows.now)) c.flush.result (rw (failures-untimed c.args.rows.now) at written) c.flush.ensures
+    Puts_after _ _ _ _ c.flush.result
+    (rw (part-untimed c.args.rows.now c.args.ending.now) (Put-trans _ _ written c.in_ok-put_cut_line.ensures)) c.flush.ensures

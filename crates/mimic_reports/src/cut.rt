@@ -1,0 +1,36 @@
+//! Writes how a report ended that is cut.
+ghost use Rattle.mimic_printer.specs.Sink.{HasFaultLeft, Puts};
+ghost use Rattle.mimic_reports.specs.Cut.{cut_text, running_part};
+
+use mimic_events::Stop;
+use mimic_printer::{Piece, Place, Sink, WriteFault, put_pieces};
+use std::io::Write;
+
+// Writes how far the report goes, which has rows of `ended` trials, and which trial was running, as they are in the place.
+pub(crate) fn put_cut<'a, W: Write>(
+    sink: &mut Sink<W>,
+    place: Place,
+    ended: u128,
+    stop: &'a Stop,
+) -> Result<(), WriteFault>
+    requires { HasFaultLeft sink.old }
+    ensures { Puts W.contents sink.old sink.new (cut_text place ended stop.now) result }
+{
+    stop.put_extent(sink, ended)?;
+    put_running(sink, place, stop)
+}
+
+fn put_running<W: Write>(sink: &mut Sink<W>, place: Place, stop: &Stop) -> Result<(), WriteFault>
+    requires { HasFaultLeft sink.old }
+    ensures { Puts W.contents sink.old sink.new (running_part place stop.now.running) result }
+{
+    let Some(label) = &stop.running else {
+        return Ok(());
+    };
+    let pieces = [
+        Piece::Text("; running: "),
+        Piece::Bracketed(place, label.kind.as_str()),
+        Piece::Escaped(place, label.name.as_str()),
+    ];
+    put_pieces(sink, &pieces)
+}
