@@ -231,8 +231,7 @@ impl Streams {
 
     // Whether standard error has got this text in one write, and standard output nothing.
     pub(super) fn have_only_printed(self, alloc: Global, text: &str) -> bool {
-        let is_alone =
-            self.err.writes.load(Ordering::SeqCst) == 1 && self.out.writes.get() == 0;
+        let is_alone = self.err.writes.load(Ordering::SeqCst) == 1 && self.out.writes.get() == 0;
         is_alone && self.into_printed(alloc).as_slice() == text.as_bytes()
     }
 }

@@ -355,6 +355,8 @@ fn runs_without_variables(rt: HostRuntime) -> Result<(), Fail> {
     let unsharded = Program::new("unsharded", 1);
     let status = unsharded.run(&machine, five_tests(alloc, &runs)?);
     assert!(rt; status.report(&rt) == ExitCode::SUCCESS);
-    assert!(rt; runs.load(Ordering::SeqCst) == 11111 && streams.err.writes.load(Ordering::SeqCst) == 0);
+    assert!(rt;
+        runs.load(Ordering::SeqCst) == 11111 && streams.err.writes.load(Ordering::SeqCst) == 0
+    );
     Ok(())
 }

@@ -55,7 +55,12 @@ static ROWS: [Row; 9] = [
         lines: &["program: slow has been running for over 20 ms\n"],
     },
     Row {
-        trials: &[("", "a", 0, 0), ("net", "b", 2, 100), ("", "c", 2, 100), ("", "d", 0, 0)],
+        trials: &[
+            ("", "a", 0, 0),
+            ("net", "b", 2, 100),
+            ("", "c", 2, 100),
+            ("", "d", 0, 0),
+        ],
         threads: 4,
         limit: LIMIT,
         lines: &[
@@ -120,18 +125,14 @@ struct Left {
 }
 
 // Runs the trials, which are to be printed once they have run for longer than the limit. A closed standard error takes nothing.
-fn run_limited<H: Host>(
-    host: H,
-    alloc: Global,
-    row: &Row,
-    is_closed: bool,
-) -> Result<Left, Fail> {
+fn run_limited<H: Host>(host: H, alloc: Global, row: &Row, is_closed: bool) -> Result<Left, Fail> {
     let streams = Streams::new(alloc)?;
     let mut machine = known_machine(host, alloc, NO_OPTIONS, &streams);
     machine.is_closed = is_closed;
     let trials = waiting(host, alloc, row.trials, &streams.err)?;
-    let program = Program::new("program", row.threads.max(1))
-        .with_slow_limit(row.limit.map(|millis| Duration::from_millis(millis)));
+    let program = Program::new("program", row.threads.max(1)).with_slow_limit(
+        row.limit.map(|millis| Duration::from_millis(millis)),
+    );
     let tests: Result<Vec<Trial<Waits<H>>>, RunError> = Ok(trials);
     let line = Ok(Arguments::new(alloc));
     let status: Status = program.run_line(&machine, line, Ok(Sharding::none()), tests);
@@ -180,7 +181,11 @@ fn prints_slow_trials(rt: HostRuntime) -> Result<(), Fail> {
     for row in &ROWS {
         let left = run_limited(rt, rt.alloc(), row, false)?;
         assert!(rt; left.status == ExitCode::SUCCESS);
-        assert!(rt; has_lines(left.printed.as_str(), row.lines), "{:?}", left.printed);
+        assert!(rt;
+            has_lines(left.printed.as_str(), row.lines),
+            "{:?}",
+            left.printed
+        );
     }
     Ok(())
 }
@@ -199,7 +204,12 @@ fn prints_all_of_many_threads(rt: HostRuntime) -> Result<(), Fail> {
     let line = "program: trial has been running for over 20 ms\n";
     assert!(rt; left.status == ExitCode::SUCCESS);
     assert!(rt; left.printed.len() == 16 * line.len());
-    assert!(rt; left.printed.as_str().split(line).all(|rest| rest.is_empty()));
+    assert!(rt;
+        left.printed
+            .as_str()
+            .split(line)
+            .all(|rest| rest.is_empty())
+    );
     Ok(())
 }
 
