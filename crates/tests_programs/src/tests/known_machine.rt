@@ -5,7 +5,7 @@ ghost use Rattle.libtest_mimic.specs.Trial.{AllCanRun};
 
 use super::runs::Host;
 use libtest_mimic::{RunError, Task, Trial};
-use mimic_main::{Machine, run_program};
+use mimic_main::{Machine, Program, run_program};
 use std::alloc::{Alloc, AllocError, Global};
 use std::cell::Cell;
 use std::env::FillError;
@@ -15,6 +15,7 @@ use std::process::{ExitCode, Termination};
 use std::rt::{Clock, Env};
 use std::sync::atomic::{AtomicUsize, Ordering};
 use std::sync::{Arc, Mutex};
+use std::thread::yield_now;
 use std::time::Duration;
 
 // The variables of an environment, each a name and a value, which need not be text.
@@ -148,19 +149,22 @@ impl Write for Stream<'_> {
 
 // Standard error of the machine. `None` is closed.
 #[derive(Drop)]
-pub(super) struct ErrorStream<H> {
-    host: H,
+pub(super) struct ErrorStream {
     printed: Option<Arc<Printed>>,
 }
 
-impl<H: Host> Write for ErrorStream<H> {
+impl Write for ErrorStream {
     fn write(&mut self, buf: &[u8]) -> io::Result<usize> {
         let Some(printed) = &self.printed else {
             return Err(io::Error::from(ErrorKind::BrokenPipe));
         };
-        let mut bytes = printed.bytes.lock(&self.host);
-        bytes.extend_from_slice(buf)?;
-        drop(bytes);
+        for _ in 0..u64::MAX {
+            if let Some(mut bytes) = printed.bytes.try_lock() {
+                bytes.extend_from_slice(buf)?;
+                break;
+            }
+            yield_now();
+        }
         printed.writes.fetch_add(1, Ordering::SeqCst);
         Ok(buf.len())
     }
@@ -175,7 +179,7 @@ impl<'a, H: Host> Machine for KnownMachine<'a, H> {
 
     type Stdout = Stream<'a>;
 
-    type Stderr = ErrorStream<H>;
+    type Stderr = ErrorStream;
 
     fn host(&self) -> H {
         self.host
@@ -189,16 +193,13 @@ impl<'a, H: Host> Machine for KnownMachine<'a, H> {
         }
     }
 
-    fn stderr(&self) -> ErrorStream<H> {
+    fn stderr(&self) -> ErrorStream {
         let printed = if self.is_closed {
             None
         } else {
             Arc::try_clone(&self.streams.err).ok()
         };
-        ErrorStream {
-            host: self.host,
-            printed,
-        }
+        ErrorStream { printed }
     }
 }
 
@@ -264,6 +265,17 @@ pub(super) fn run_on<H: Host, R: Task + Send + 'static>(
     requires { IfOk tests (λ made. AllCanRun R.can_run made.items) }
 {
     run_program(machine, "program", tests).report(&machine.host)
+}
+
+// Runs the tests by the program, as a line without options asks, and returns the status. It promises nothing, too.
+pub(super) fn run_program_on<H: Host, R: Task + Send + 'static>(
+    machine: &KnownMachine<'_, H>,
+    program: &Program<'_>,
+    tests: Vec<Trial<R>>,
+) -> ExitCode
+    requires { AllCanRun R.can_run tests.items }
+{
+    program.run(machine, tests).report(&machine.host)
 }
 
 // A line of the program's name alone.

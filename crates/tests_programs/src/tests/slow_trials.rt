@@ -1,39 +1,42 @@
 //! Trials that run for too long, and what is printed of them meanwhile.
-use super::known_machine::{NO_OPTIONS, Printed, Streams, known_machine};
+use super::known_machine::{NO_OPTIONS, Printed, Streams, known_machine, run_program_on};
 use super::runs::Host;
-use libtest_mimic::{Arguments, Failed, Outcome, RunError, Task, Trial};
-use mimic_main::{Program, Sharding, Status};
+use libtest_mimic::{Failed, Outcome, Task, Trial};
+use mimic_main::Program;
 use std::alloc::{AllocError, Global};
-use std::process::{ExitCode, Termination};
+use std::process::ExitCode;
 use std::sync::Arc;
 use std::sync::atomic::Ordering;
 use std::test::Fail;
-use std::thread;
+use std::thread::yield_now;
 use std::time::Duration;
 
-// A trial that runs until this number of notices was printed, and then for some time more. It fails if they don't come.
+// A trial that runs until this number of notices was printed, and then looks for more of them for some time.
 #[derive(Drop)]
-struct Waits<H> {
-    host: H,
+struct Waits {
     printed: Arc<Printed>,
     awaited: usize,
-    more: Duration,
+    looks: u64,
 }
 
-impl<H: Host> Task for Waits<H> {
+impl Task for Waits {
     fn run(self, _test_mode: bool) -> Outcome {
-        for _ in 0..3000 {
+        for _ in 0..1_000_000_000 {
             if self.printed.writes.load(Ordering::SeqCst) >= self.awaited {
-                thread::sleep(&self.host, self.more);
-                return Outcome::Passed;
+                break;
             }
-            thread::sleep(&self.host, Duration::from_millis(10));
+            yield_now();
         }
-        Outcome::Failed(Failed::without_message())
+        for _ in 0..self.looks {
+            if self.printed.writes.load(Ordering::SeqCst) > self.awaited {
+                return Outcome::Failed(Failed::without_message());
+            }
+        }
+        Outcome::Passed
     }
 }
 
-// A trial's kind and name, how many notices it waits for, and for how many milliseconds it runs then.
+// A trial's kind and name, how many notices it waits for, and how often it looks for another one then.
 type Awaiting = (&'static str, &'static str, usize, u64);
 
 // A run: its trials, how many threads run them, the limit in milliseconds, and the lines that it prints, in any order.
@@ -47,12 +50,15 @@ struct Row {
 
 const LIMIT: Option<u64> = Some(20);
 
+// More than the limit takes.
+const LOOKS: u64 = 100_000_000;
+
 // For rows in which some trials are fast, also on a busy machine.
 const LONGER: Option<u64> = Some(300);
 
 static ROWS: [Row; 9] = [
     Row {
-        trials: &[("", "slow", 1, 100)],
+        trials: &[("", "slow", 1, LOOKS)],
         threads: 1,
         limit: LIMIT,
         lines: &["program: slow has been running for over 20 ms\n"],
@@ -60,8 +66,8 @@ static ROWS: [Row; 9] = [
     Row {
         trials: &[
             ("", "a", 0, 0),
-            ("net", "b", 2, 100),
-            ("", "c", 2, 100),
+            ("net", "b", 2, LOOKS),
+            ("", "c", 2, LOOKS),
             ("", "d", 0, 0),
         ],
         threads: 4,
@@ -73,7 +79,7 @@ static ROWS: [Row; 9] = [
     },
     // One after another in one thread.
     Row {
-        trials: &[("", "a", 1, 100), ("", "b", 0, 0), ("", "c", 2, 100)],
+        trials: &[("", "a", 1, LOOKS), ("", "b", 0, 0), ("", "c", 2, LOOKS)],
         threads: 1,
         limit: LONGER,
         lines: &[
@@ -88,32 +94,32 @@ static ROWS: [Row; 9] = [
         lines: &[],
     },
     Row {
-        trials: &[("", "a", 0, 100), ("", "b", 0, 0)],
+        trials: &[("", "a", 0, LOOKS), ("", "b", 0, 0)],
         threads: 1,
         limit: None,
         lines: &[],
     },
     // What is no letter of a line is written by its number.
     Row {
-        trials: &[("k\t", "one\ntwo \u{1b}[31m", 1, 100)],
+        trials: &[("k\t", "one\ntwo \u{1b}[31m", 1, LOOKS)],
         threads: 1,
         limit: LIMIT,
         lines: &["program: [k\\u{9}] one\\u{a}two \\u{1b}[31m has been running for over 20 ms\n"],
     },
     Row {
-        trials: &[("", "slow", 1, 100)],
+        trials: &[("", "slow", 1, LOOKS)],
         threads: 2,
         limit: Some(1000),
         lines: &["program: slow has been running for over 1 second\n"],
     },
     Row {
-        trials: &[("", "slow", 1, 100)],
+        trials: &[("", "slow", 1, LOOKS)],
         threads: 1,
         limit: Some(1001),
         lines: &["program: slow has been running for over 1001 ms\n"],
     },
     Row {
-        trials: &[("", "slow", 1, 100)],
+        trials: &[("", "slow", 1, LOOKS)],
         threads: 1,
         limit: Some(2000),
         lines: &["program: slow has been running for over 2 seconds\n"],
@@ -132,33 +138,29 @@ fn run_limited<H: Host>(host: H, alloc: Global, row: &Row, is_closed: bool) -> R
     let streams = Streams::new(alloc)?;
     let mut machine = known_machine(host, alloc, NO_OPTIONS, &streams);
     machine.is_closed = is_closed;
-    let trials = waiting(host, alloc, row.trials, &streams.err)?;
+    let trials = waiting(alloc, row.trials, &streams.err)?;
     let program = Program::new("program", row.threads.max(1)).with_slow_limit(
         row.limit.map(|millis| Duration::from_millis(millis)),
     );
-    let tests: Result<Vec<Trial<Waits<H>>>, RunError> = Ok(trials);
-    let line = Ok(Arguments::new(alloc));
-    let status: Status = program.run_line(&machine, line, Ok(Sharding::none()), tests);
+    let status = run_program_on(&machine, &program, trials);
     Ok(Left {
-        status: status.report(&host),
+        status,
         printed: String::from_utf8(streams.into_printed(alloc))?,
     })
 }
 
 // The trials of a row.
-fn waiting<H: Host>(
-    host: H,
+fn waiting(
     alloc: Global,
     awaiting: &[Awaiting],
     printed: &Arc<Printed>,
-) -> Result<Vec<Trial<Waits<H>>>, AllocError> {
+) -> Result<Vec<Trial<Waits>>, AllocError> {
     let mut trials = Vec::new(alloc);
-    for (kind, name, awaited, more) in awaiting {
+    for (kind, name, awaited, looks) in awaiting {
         let runner = Waits {
-            host,
             printed: Arc::try_clone(printed)?,
             awaited: *awaited,
-            more: Duration::from_millis(*more),
+            looks: *looks,
         };
         let trial = Trial::new(String::from_str(alloc, name)?, runner);
         trials.push(trial.with_kind(String::from_str(alloc, kind)?))?;
@@ -168,12 +170,12 @@ fn waiting<H: Host>(
 
 // Whether the text is these lines, each once, in any order.
 fn has_lines(text: &str, lines: &[&str]) -> bool {
-    let mut bytes = 0;
+    let mut bytes = 0_usize;
     for line in lines {
         if !text.contains(*line) {
             return false;
         }
-        bytes += line.len();
+        bytes = bytes.saturating_add(line.len());
     }
     text.len() == bytes
 }
@@ -196,7 +198,7 @@ fn prints_slow_trials(rt: HostRuntime) -> Result<(), Fail> {
 // Sixteen that run at the same time, of which each waits until all were printed.
 #[test]
 fn prints_all_of_many_threads(rt: HostRuntime) -> Result<(), Fail> {
-    static TRIALS: [Awaiting; 16] = [("", "trial", 16, 100); 16];
+    static TRIALS: [Awaiting; 16] = [("", "trial", 16, LOOKS); 16];
     let row = Row {
         trials: &TRIALS,
         threads: 16,
@@ -220,7 +222,7 @@ fn prints_all_of_many_threads(rt: HostRuntime) -> Result<(), Fail> {
 #[test]
 fn runs_without_standard_error(rt: HostRuntime) -> Result<(), Fail> {
     let row = Row {
-        trials: &[("", "a", 0, 100), ("", "b", 0, 0)],
+        trials: &[("", "a", 0, LOOKS), ("", "b", 0, 0)],
         threads: 1,
         limit: LIMIT,
         lines: &[],

@@ -207,7 +207,7 @@ fn check_turns(alloc: Global, turns: &[Turn], seconds: u64, columns: usize) -> R
         columns,
         colours: false,
     };
-    let (_, text) = watched_pieces(alloc, &pieces, seconds * 1_000, screen)?;
+    let (_, text) = watched_pieces(alloc, &pieces, seconds.saturating_mul(1_000), screen)?;
     let mut frames = text.as_str().split("\x1b[?7l\r").skip(1);
     for turn in turns {
         let first = frames
