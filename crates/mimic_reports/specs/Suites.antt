@@ -1,6 +1,6 @@
 -- Reports that were read to be written in XML, and what a call that writes them leaves.
-use Rattle.std.specs.Prelude.{◌≡◌, ◌≢◌, ℕ, ◌+◌, ◌<◌, ◌≤◌, ◌⊎◌, ◌^◌, List, [], ◌∷◌, ◌++◌, length, map, codes, Option, None, Some, IfSome, Result, Ok, Err}
-use Rattle.std.specs.List.{AllZip, flat_map}
+use Rattle.std.specs.Prelude.{◌≡◌, ◌≢◌, ℕ, Bool, true, false, nat_lt, if◌then◌else◌, ◌+◌, ◌<◌, ◌≤◌, ◌⊎◌, ◌^◌, List, [], ◌∷◌, ◌++◌, length, map, codes, Option, None, Some, IfSome, Result, Ok, Err}
+use Rattle.std.specs.List.{AllZip, flat_map, list_all, list_any}
 use Rattle.mimic_trial.specs.declared.outcome.conclusion.Conclusion.{Conclusion}
 use Rattle.mimic_trial.specs.Count.{counts_of}
 use Rattle.mimic_printer.specs.Json.{Entry, outcomes_in}
@@ -9,6 +9,7 @@ use Rattle.mimic_events.specs.Contents.{entry_read}
 use Rattle.mimic_events.specs.Inputs.{IsOfInput}
 use Rattle.mimic_reports.specs.declared.junit_elements.Numbers.{Numbers}
 use Rattle.mimic_events.specs.declared.ending.Ending.{Ending}
+use Rattle.mimic_events.specs.declared.ending.Ending.TheVariants as ends
 use Rattle.mimic_reports.specs.declared.junit.JunitFault.{JunitFault}
 use Rattle.mimic_reports.specs.declared.junit.JunitFault.TheVariants as junit
 use Rattle.mimic_reports.specs.declared.suite.SuiteRows.{SuiteRows}
@@ -45,6 +46,25 @@ numbers_in report = numbers_counted (counts_in report.rows) report.ending
 -- a number doesn't fit: 128 bits have room for those of rows, and 64 for nanoseconds
 abbrev pub IsTooGreat : Numbers → Type 0
 IsTooGreat n = (2 ^ 128 ≤ n.tests) ⊎ (2 ^ 128 ≤ n.failures) ⊎ (2 ^ 128 ≤ n.errors) ⊎ (2 ^ 128 ≤ n.skipped) ⊎ (2 ^ 64 ≤ n.nanos)
+
+-- ---- the exit status
+
+-- so a report ends that is whole
+abbrev pub ends_whole : Ending → Bool
+ends_whole (ends.Whole filtered_out nanos) = true
+ends_whole (ends.Cut stop) = false
+
+-- the report has its end
+abbrev pub is_whole : {I : Type 0} → SuiteRead I → Bool
+is_whole suite = ends_whole suite.ending
+
+-- a trial of the report failed
+abbrev pub has_failures : {I : Type 0} → SuiteRead I → Bool
+has_failures suite = nat_lt 0 (numbers_in suite).failures
+
+-- 1 if one of the reports isn't whole, else 101 if a trial of one failed, else 0 (our own)
+abbrev pub status_of : {I : Type 0} → List (SuiteRead I) → ℕ
+status_of suites = if list_all is_whole suites then (if list_any has_failures suites then 101 else 0) else 1
 
 -- ---- what is written of what was read
 

@@ -2,7 +2,8 @@
 ghost use Rattle.std.specs.Prelude.{◌≡◌, ◌<◌, ◌^◌, List, IfErr, IfOk};
 ghost use Rattle.mimic_printer.specs.Json.{Entry};
 ghost use Rattle.mimic_events.specs.Inputs.{IsOfInput};
-ghost use Rattle.mimic_reports.specs.Suites.{IsReadFrom, KeepsRows, ReadsAgain, counts_in, numbers_counted, numbers_in, rows_counted};
+ghost use Rattle.std.specs.List.{list_all, list_any};
+ghost use Rattle.mimic_reports.specs.Suites.{IsReadFrom, KeepsRows, ReadsAgain, counts_in, has_failures, is_whole, numbers_counted, numbers_in, rows_counted, status_of};
 
 use crate::junit_elements::Numbers;
 use mimic_events::{Ending, InputRows, ReadFault, Row, RowsRead, counts_of_rows, read_rows};
@@ -86,6 +87,20 @@ impl<I: Read> Suite<'_, I> {
         &self.ending
     }
 
+    // Whether the report has its end.
+    fn is_whole(&self) -> bool
+        ensures { result ≡ is_whole self.now }
+    {
+        matches!(self.ending, Ending::Whole { .. })
+    }
+
+    // Whether a trial of the report failed.
+    fn has_failures(&self) -> bool
+        ensures { result ≡ has_failures self.now }
+    {
+        self.numbers().failures > 0
+    }
+
     // Returns the numbers of the report.
     pub(crate) fn numbers(&self) -> Numbers
         ensures { result ≡ numbers_in self.now }
@@ -95,6 +110,30 @@ impl<I: Read> Suite<'_, I> {
             SuiteRows::Again { input: _, counts } => numbers_counted(counts, &self.ending),
         }
     }
+}
+
+/// Returns the exit status of a program that goes by these reports: 1 if one of them isn't whole, else 101 if a trial of one failed, else
+/// 0.
+pub fn status_of<I: Read>(suites: &[Suite<'_, I>]) -> u8
+    ensures { result ≡ status_of suites.now }
+{
+    match (are_whole(suites), have_failures(suites)) {
+        (false, _) => 1,
+        (true, true) => Conclusion::FAILED,
+        (true, false) => 0,
+    }
+}
+
+fn are_whole<I: Read>(suites: &[Suite<'_, I>]) -> bool
+    ensures { result ≡ list_all is_whole suites.now }
+{
+    suites.iter().all(|suite| suite.is_whole())
+}
+
+fn have_failures<I: Read>(suites: &[Suite<'_, I>]) -> bool
+    ensures { result ≡ list_any has_failures suites.now }
+{
+    suites.iter().any(|suite| suite.has_failures())
 }
 
 // Returns the numbers of a report whose outcomes were counted.

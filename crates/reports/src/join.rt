@@ -2,7 +2,7 @@
 use crate::input::Input;
 use crate::line::Join;
 use crate::{BLOCK, REFUSED, SUCCESS, TRIALS_FAILED};
-use mimic_join::{JoinFault, join_reports};
+use mimic_join::{JoinFault, Refusal, join_reports};
 use mimic_printer::Sink;
 use mimic_trial::Conclusion;
 use std::alloc::Global;
@@ -14,9 +14,23 @@ pub(crate) fn run(rt: &HostRuntime, alloc: Global, join: &Join) -> u8 {
         Ok(counts) if counts.has_failed() => TRIALS_FAILED,
         Ok(_) => SUCCESS,
         Err(fault) => {
-            let _ = eprintln!(rt; "reports: {}", fault.with_names(&join.files));
+            let hint = hint_of(&fault);
+            let _ = eprintln!(rt; "reports: {}{hint}", fault.with_names(&join.files));
             REFUSED
         }
+    }
+}
+
+// What a user may have missed. Empty if nothing comes to mind.
+fn hint_of(fault: &JoinFault) -> &'static str {
+    match fault {
+        JoinFault::Refused(Refusal::Uneven { .. }) => {
+            "; reports are taken in the order of their shards: 0, 1, 2, .., 10, 11"
+        }
+        JoinFault::Refused(Refusal::NamedTwice { .. }) => {
+            "; a suite with equal names needs --equal-names"
+        }
+        _ => "",
     }
 }
 

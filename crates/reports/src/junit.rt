@@ -5,12 +5,13 @@ use crate::line::Junit;
 use crate::{BLOCK, SUCCESS};
 use mimic_events::{Ending, ReadFault};
 use mimic_printer::Sink;
-use mimic_reports::{JunitFault, Suite, write_junit};
+use mimic_reports::{JunitFault, Suite, status_of, write_junit};
 use std::alloc::Global;
 use std::fs;
 use std::io::BufWriter;
 
-// Prints the document of all reports that could be read. It also prints why a report is cut or could not be read.
+// Prints the document of all reports that could be read. It also prints why a report is cut or could not be read. The status says
+// that, and, if the line asks for it, else whether a trial failed.
 pub(crate) fn run(rt: &HostRuntime, alloc: Global, junit: &Junit) -> u8 {
     let mut sources = Sources {
         files: Vec::new(alloc),
@@ -27,6 +28,9 @@ pub(crate) fn run(rt: &HostRuntime, alloc: Global, junit: &Junit) -> u8 {
             Ok(suite) => sources = sources.with(rt, file, suite),
             Err(fault) => sources.status = refuse(rt, file, &fault),
         }
+    }
+    if junit.shows_failures && sources.status == SUCCESS {
+        sources.status = status_of(sources.suites.as_slice());
     }
     sources.print(rt, alloc)
 }

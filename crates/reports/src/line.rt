@@ -1,5 +1,5 @@
 //! What a command line asks for.
-use crate::input::STANDARD;
+use crate::input::{STANDARD, name_of};
 use clap::error::ErrorKind;
 use clap::{Arg, ArgAction, ArgMatches, Command, value_parser};
 use std::alloc::{AllocError, Global};
@@ -23,8 +23,10 @@ pub(crate) struct Join {
 /// The reports in these files are to be printed as JUnit's XML.
 #[derive(Debug, Drop)]
 pub(crate) struct Junit {
-    /// The name of their program. With `None`, each report gets the name of its file.
+    /// The name of their program. With `None`, there is one report, and it gets the name of its file.
     pub(crate) name: Option<String>,
+    /// Whether the status says that a trial failed.
+    pub(crate) shows_failures: bool,
     pub(crate) files: Vec<String>,
 }
 
@@ -106,6 +108,9 @@ pub(crate) enum LineError {
     /// Standard input is named twice.
     #[error("standard input can be read once only")]
     TwoInputs,
+    /// The files may be those of shards, so their names say no program.
+    #[error("junit of several files, or of one whose name is a number, needs --name PROGRAM")]
+    NoName,
     /// No subcommand is named that is read here.
     #[error("no subcommand")]
     NoSubcommand,
@@ -159,9 +164,14 @@ impl Junit {
             Some(name) => Some(String::from_str(alloc, name)?),
             None => None,
         };
+        let files = files_of(alloc, matches)?;
+        if name.is_none() && !is_of_program(&files) {
+            return Err(LineError::NoName);
+        }
         Ok(Junit {
             name,
-            files: files_of(alloc, matches)?,
+            shows_failures: matches.get_flag("status"),
+            files,
         })
     }
 }
@@ -247,6 +257,16 @@ fn files_of(alloc: Global, matches: &ArgMatches<'_>) -> Result<Vec<String>, Line
     Ok(files)
 }
 
+// Whether the name of this file, which is the only one, may be that of a program. Those of shards are often numbers.
+fn is_of_program(files: &[String]) -> bool {
+    match files {
+        [file] => !name_of(file.as_str())
+            .bytes()
+            .all(|byte| byte.is_ascii_digit()),
+        _ => false,
+    }
+}
+
 // The subcommands.
 #[derive(Clone, Copy)]
 enum Subcommand {
@@ -320,11 +340,15 @@ fn junit_command<'a>(alloc: Global) -> Result<Command<'a>, AllocError> {
     let name = Arg::new(alloc, "name")
         .long("name")
         .value_name("PROGRAM")
-        .help("The name of the program; else that of each file, without its ending");
+        .help("The name of the program; else that of the one file, without its ending");
+    let status = Arg::new(alloc, "status")
+        .long("status")
+        .action(ArgAction::SetTrue)
+        .help("End with 101 if a trial failed");
     let files = files(alloc, "Reports in JSON; - is standard input");
     Command::new(alloc, "junit")
         .about("Print reports as JUnit's XML")
-        .args(vec![in alloc; name, files]?)
+        .args(vec![in alloc; name, status, files]?)
 }
 
 fn show_command<'a>(alloc: Global) -> Result<Command<'a>, AllocError> {

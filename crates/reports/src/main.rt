@@ -51,10 +51,11 @@ fn main(rt: HostRuntime) -> ExitCode {
 fn refuse(rt: &HostRuntime, error: &LineError) -> u8 {
     match error {
         LineError::OutOfMemory(_) => refuse_all(rt, error),
-        LineError::Unread(_) | LineError::TwoInputs | LineError::NoSubcommand => {
-            refuse_all(rt, error);
-            USAGE
-        }
+        LineError::Unread(_) | LineError::TwoInputs | LineError::NoName | LineError::NoSubcommand =>
+            {
+                refuse_all(rt, error);
+                USAGE
+            }
         LineError::Shown(error) => {
             let _ = error.print(rt);
             if error.use_stderr() { USAGE } else { SUCCESS }
