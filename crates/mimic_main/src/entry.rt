@@ -29,8 +29,8 @@ use std::{io, thread};
 ///
 /// If the line does not say how many threads run them, it is as many as the machine can run at once. The report goes to
 /// standard output, in colours if [`shows_colours`](crate::shows_colours) says so, or into the logfile. A fault is printed on
-/// standard error with its cause. If the trials could not be made, the reason is printed there, and the status is 1. A trial that runs
-/// for over a minute is printed there, once, while it runs.
+/// standard error with its cause. If the trials could not be made, the reason is printed there, and the status is 1. A trial that
+/// runs for over a minute is printed there, once, while it runs.
 ///
 /// No contract says which words and variables a process gets, so this one is about some of them, and never excludes the statuses
 /// 0, 1 and 2.
@@ -144,8 +144,8 @@ impl<'a> Program<'a> {
     }
 
     /// Runs or lists the trials as the line and the variables ask, on the machine's streams and by its clock, and returns what
-    /// `main` is to return. A shard is named in one line on standard error, and so is each trial that runs for too long, while it does
-    /// ([`with_slow_limit`](Program::with_slow_limit)).
+    /// `main` is to return. A shard is named in one line on standard error, and so is each trial that runs for too long, while it
+    /// does ([`with_slow_limit`](Program::with_slow_limit)).
     ///
     /// A fault is printed there, the first of these: the trials could not be made (status 1), the line was refused (2), the
     /// variables were (2), the status file can't be touched (2), the logfile can't be made (1), the run was refused (1). If help

@@ -88,8 +88,8 @@ impl<'a, R: Task + Send + 'static, C: Clock> Job<'a, R, C> {
         }
     }
 
-    // Runs as `run` does. If it isn't a list, another thread prints the notices of slow trials meanwhile. If that thread can't be started,
-    // or there is no memory for it, the run goes on without.
+    // Runs as `run` does. If it isn't a list, another thread prints the notices of slow trials meanwhile. If that thread can't be
+    // started, or there is no memory for it, the run goes on without.
     pub(crate) fn run_with_notices<
         H: Spawner + Files + 'static,
         O: Write,

@@ -41,8 +41,8 @@ struct Notifier<E> {
 }
 
 impl Monitor {
-    // Starts the thread, for a run of these trials of which `threads` run at the same time. `None` if no notices are asked for, if no trial
-    // runs, if the thread can't be started, or if there is no memory for it.
+    // Starts the thread, for a run of these trials of which `threads` run at the same time. `None` if no notices are asked for, if
+    // no trial runs, if the thread can't be started, or if there is no memory for it.
     pub(crate) fn start<T: Spawner + 'static, R, E: Write + Send + Drop + 'static>(
         rt: &T,
         alloc: Global,
@@ -55,6 +55,7 @@ impl Monitor {
             limit,
             err,
         } = notices;
+        let limit = limit?;
         let threads = threads.min(trials.len());
         if threads == 0 {
             return None;
@@ -64,7 +65,7 @@ impl Monitor {
         let looks = first_looks(alloc, threads).ok()?;
         let notifier = Notifier {
             program: String::from_str(alloc, program).ok()?,
-            limit: limit?,
+            limit,
             err,
         };
         let (other, theirs) = (*rt, Arc::try_clone(&running).ok()?);
@@ -172,7 +173,8 @@ impl<E: Write> Notifier<E> {
         Duration::from_millis((millis_of(self.limit) / 8).clamp(1, 1000))
     }
 
-    // Prints the trial, if it can be. A line that a block holds is one write, so that no other program's text comes between its parts.
+    // Prints the trial, if it can be. A line that a block holds is one write, so that no other program's text comes between its
+    // parts.
     fn print(&mut self, name: &[u8]) {
         let program = self.program.as_str();
         let mut block: Sink<ArrayVec<u8, BLOCK>> = Sink::new(ArrayVec::new());

@@ -47,8 +47,8 @@ pub struct Program<'a> {
 
 impl<'a> Program<'a> {
     /// Makes a program of this name, which is printed before a fault. This number of threads runs its trials if the line leaves it
-    /// open. Its reports have no colours, it prints faults with their causes and trials that run for over a minute, its workers take
-    /// trials from one queue, and an output that [`harness_run`](Program::harness_run) is given is no terminal.
+    /// open. Its reports have no colours, it prints faults with their causes and trials that run for over a minute, its workers
+    /// take trials from one queue, and an output that [`harness_run`](Program::harness_run) is given is no terminal.
     pub fn new(name: &'a str, threads: usize) -> Program<'a>
         requires { 1 ≤ threads }
         ensures name { result.name.now ≡ name.now }
@@ -148,8 +148,8 @@ impl Program<'_> {
     /// refused or there was no memory to read the line, 2 if the line was refused.
     ///
     /// The report or list goes into the logfile, which is made or emptied first; without one it goes to `out`. Help
-    /// goes to `out`, the reason for a refusal to `err`. Failing to write either leaves the status as it is. Slow trials are not printed,
-    /// since `err` is lent and can't go to the thread that prints them.
+    /// goes to `out`, the reason for a refusal to `err`. Failing to write either leaves the status as it is. Slow trials are not
+    /// printed, since `err` is lent and can't go to the thread that prints them.
     pub fn harness_run<
         T: Spawner + 'static,
         F: Files,

@@ -47,6 +47,9 @@ struct Row {
 
 const LIMIT: Option<u64> = Some(20);
 
+// For rows in which some trials are fast, also on a busy machine.
+const LONGER: Option<u64> = Some(300);
+
 static ROWS: [Row; 9] = [
     Row {
         trials: &[("", "slow", 1, 100)],
@@ -62,20 +65,20 @@ static ROWS: [Row; 9] = [
             ("", "d", 0, 0),
         ],
         threads: 4,
-        limit: LIMIT,
+        limit: LONGER,
         lines: &[
-            "program: [net] b has been running for over 20 ms\n",
-            "program: c has been running for over 20 ms\n",
+            "program: [net] b has been running for over 300 ms\n",
+            "program: c has been running for over 300 ms\n",
         ],
     },
     // One after another in one thread.
     Row {
         trials: &[("", "a", 1, 100), ("", "b", 0, 0), ("", "c", 2, 100)],
         threads: 1,
-        limit: LIMIT,
+        limit: LONGER,
         lines: &[
-            "program: a has been running for over 20 ms\n",
-            "program: c has been running for over 20 ms\n",
+            "program: a has been running for over 300 ms\n",
+            "program: c has been running for over 300 ms\n",
         ],
     },
     Row {
