@@ -1,3 +1,4 @@
+pub mod CutReports
 pub mod Falls
 pub mod Fitting
 pub mod JoinedText

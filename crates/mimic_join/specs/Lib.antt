@@ -1,3 +1,4 @@
+pub mod Cut
 pub mod Faults
 pub mod Inputs
 pub mod Joined

@@ -1,7 +1,7 @@
 //! Joins reports from readers into a writer.
 ghost use Rattle.std.specs.Prelude.{MatchResult, map};
 ghost use Rattle.mimic_printer.specs.Sink.{HasFaultLeft, shown};
-ghost use Rattle.mimic_join.specs.Inputs.{AreReportsIn, CannotRead, Leaves};
+ghost use Rattle.mimic_join.specs.Inputs.{AreReportsIn, CannotRead, Leaves, LeavesJoined};
 
 use crate::faults::JoinFault;
 use crate::join::totals_of;
@@ -29,7 +29,21 @@ pub fn join_reports<I: Read + Drop, O: Write>(
         (shown O.contents sink.old) (shown O.contents sink.new) result }
 {
     let reports = read_all(alloc, inputs)?;
-    let reports = reports.as_slice();
+    write_joined(alloc, &reports, shards, equal_names, sink)
+}
+
+// Joins the reports as `joined` does, and writes the joined report. Returns its counts.
+pub(crate) fn write_joined<W: Write>(
+    alloc: Global,
+    reports: &[Report],
+    shards: usize,
+    equal_names: bool,
+    sink: &mut Sink<W>,
+) -> Result<Conclusion, JoinFault>
+    requires { HasFaultLeft sink.old }
+    ensures { LeavesJoined reports.now shards equal_names
+        (shown W.contents sink.old) (shown W.contents sink.new) result }
+{
     let (filtered_out, nanos) = match totals_of(alloc, reports, shards, equal_names)? {
         Ok(totals) => totals,
         Err(refusal) => return Err(JoinFault::Refused(refusal)),

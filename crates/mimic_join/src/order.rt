@@ -3,9 +3,11 @@ ghost use Rattle.std.specs.Prelude.{◌≡◌, All, IfOk, List, map};
 ghost use Rattle.std.specs.List.{AllZip};
 ghost use Rattle.std.specs.Iterator.{AlwaysYields, IsFinite};
 ghost use Rattle.mimic_events.specs.declared.report.Row.{Row};
+ghost use Rattle.mimic_join.specs.Cut.{ended_rows};
 ghost use Rattle.mimic_join.specs.Joined.{rows_in};
 ghost use Rattle.mimic_join.specs.Turns.{in_turn};
 
+use crate::cut::ShardRead;
 use mimic_events::{Report, Row};
 use std::alloc::{AllocError, Global};
 use std::collections::VecDeque;
@@ -29,6 +31,21 @@ pub(crate) fn refs_in_turn(alloc: Global, reports: &[Report]) -> Result<Vec<&Row
     let mut lists = VecDeque::new(alloc);
     for report in reports {
         lists.push_back(report.rows.iter())?;
+    }
+    taken_in_turn(alloc, lists)
+}
+
+// Returns the rows that have ended in the reports, in turn. They stay where they are.
+pub(crate) fn ended_in_turn(
+    alloc: Global,
+    reads: &[ShardRead],
+) -> Result<Vec<&Row>, AllocError>
+    ensures { IfOk result
+        (λ rows. map (λ row. row.now) rows.items ≡ in_turn (map ended_rows reads.now)) }
+{
+    let mut lists = VecDeque::new(alloc);
+    for read in reads {
+        lists.push_back(read.rows().iter())?;
     }
     taken_in_turn(alloc, lists)
 }

@@ -40,8 +40,9 @@ pub(crate) fn put_joined<W: Write>(
     sink.flush()
 }
 
+// Writes the rows, which are elsewhere.
 #[inline(never)]
-fn put_rows<W: Write>(sink: &mut Sink<W>, rows: &[&Row]) -> Result<(), WriteFault>
+pub(crate) fn put_rows<W: Write>(sink: &mut Sink<W>, rows: &[&Row]) -> Result<(), WriteFault>
     requires { HasFaultLeft sink.old }
     ensures { Puts W.contents sink.old sink.new
         (flat_map (λ row. row_lines row.now) rows.now) result }

@@ -1,20 +1,6 @@
-use Rattle.std.proofs.Common.{arith}
-use Rattle.mimic_join.proofs.JoinedText.{read_joined}
-use Rattle.mimic_events.proofs.Results.{at_fault}
-use Rattle.mimic_join.specs.Inputs.{Leaves}
-use Rattle.mimic_join.specs.declared.faults.JoinFault.TheVariants.{Write}
+use Rattle.mimic_join.proofs.JoinedText.{leaves}
 use Rattle.mimic_join.proofs.inputs.join_reports.Goals as goal
 
-pub returns-in_err-put_joined : goal.returns-in_err-put_joined
-returns-in_err-put_joined g c =
-    let j = read_joined _ c.args.shards c.args.equal_names _ _ _ _ c.as_slice-rows.result.now _ (omega arith) c.in_ok-reports.ensures c.as_slice-reports.ensures.value
-    c.in_ok-totals.ensures c.in-Ok.is (rw c.as_slice-rows.ensures.value c.in_ok-rows.ensures) c.counts_of_refs-counts.ensures in
-    at_fault (Leaves _ c.args.shards c.args.equal_names _ _) _ (Write c.in_err-put_joined.field-0.0)
-    c.from_residual-in_err-put_joined.ensures.1
-    (j.0, rw j.1 at c.in_err-put_joined.ensures)
-
 pub returns : goal.returns
-returns g c =
-    let j = read_joined _ c.args.shards c.args.equal_names _ _ _ _ c.as_slice-rows.result.now _ (omega arith) c.in_ok-reports.ensures c.as_slice-reports.ensures.value
-    c.in_ok-totals.ensures c.in-Ok.is (rw c.as_slice-rows.ensures.value c.in_ok-rows.ensures) c.counts_of_refs-counts.ensures in
-    (j.0, rw j.1 at c.in_ok-put_joined.ensures, j.2)
+returns g c = leaves _ c.args.shards c.args.equal_names c.in_ok-reports.reports.items _ _ c.write_joined.result c.in_ok-reports.ensures
+    (rw c.deref.ensures.value at c.write_joined.ensures)

@@ -1,0 +1,213 @@
+//! Joins what can be read of the reports of shards, some of which may be cut.
+ghost use Rattle.std.specs.Prelude.{◌≡◌, ◌-◌, ◌^◌, ◌<◌, ◌++◌, [], IfOk, MatchOption, length, map, min, sum};
+ghost use Rattle.std.specs.List.{flat_map, list_all};
+ghost use Rattle.std.specs.Option.{option_to_list};
+ghost use Rattle.mimic_events.specs.Written.{row_lines};
+ghost use Rattle.mimic_printer.specs.Json.{json_title};
+ghost use Rattle.mimic_printer.specs.Sink.{HasFaultLeft, Puts, shown};
+ghost use Rattle.mimic_join.specs.Cut.{AreReadOf, IsReadOf, LeavesCut, LeavesCutText, ended_rows, is_whole, title_in, titles_in, wholes_in};
+
+use crate::faults::JoinFault;
+use crate::inputs::write_joined;
+use crate::order::ended_in_turn;
+use crate::write::put_rows;
+use mimic_events::{Ending, ReadFault, Report, Row, RowsRead, Stop, read_rows};
+use mimic_printer::json::put_title;
+use mimic_printer::{Sink, WriteFault};
+use mimic_trial::Conclusion;
+use std::alloc::{AllocError, Global};
+use std::io;
+use std::io::{ErrorKind, Read, Write};
+
+/// What was read of the report of a shard.
+#[derive(Debug, Drop)]
+pub enum ShardRead {
+    /// All of it.
+    Whole(Report),
+    /// The rows that have ended in it, and how far it goes.
+    Cut { rows: Vec<Row>, stop: Stop },
+    /// Nothing, since its reader failed.
+    Unreadable(io::Error),
+}
+
+/// What was joined.
+#[derive(Debug, Drop)]
+pub enum Joined {
+    /// Whole reports of all shards, to one with these counts.
+    Whole(Conclusion),
+    /// What was read of each shard, to a cut report.
+    Cut(Vec<ShardRead>),
+}
+
+/// Reads the reports of `shards` shards, one reader after another, and joins what can be read of them.
+///
+/// If all are whole, and there are as many as shards, it does what [`join_reports`](crate::join_reports) does. Otherwise it writes
+/// a cut report, and flushes it: a title with the sum of the numbers that their titles announce, at most 2^64 - 1, and the rows that
+/// have ended in them, in turn, each once. There is no summary. It writes nothing if there is no title. It isn't seen then if a
+/// trial is in two of the reports, or if they can't be those of shards of one list.
+///
+/// A reader that fails counts as one without a title: the rows that it gave before are lost.
+pub fn join_cut_reports<I: Read + Drop, O: Write>(
+    alloc: Global,
+    inputs: Vec<I>,
+    shards: usize,
+    equal_names: bool,
+    sink: &mut Sink<O>,
+) -> Result<Joined, JoinFault>
+    requires { HasFaultLeft sink.old }
+    ensures { LeavesCut (map I.remaining inputs.items) shards equal_names
+        (shown O.contents sink.old) (shown O.contents sink.new) result }
+{
+    let reads = read_all(alloc, inputs)?;
+    if reads.len() < shards || !are_whole(&reads) {
+        write_cut(alloc, &reads, sink)?;
+        return Ok(Joined::Cut(reads));
+    }
+    let reports = wholes_of(alloc, reads)?;
+    let counts = write_joined(alloc, &reports, shards, equal_names, sink)?;
+    Ok(Joined::Whole(counts))
+}
+
+// Reads what can be read of each reader.
+fn read_all<I: Read + Drop>(alloc: Global, inputs: Vec<I>) -> Result<Vec<ShardRead>, AllocError>
+    ensures { IfOk result (λ reads. AreReadOf (map I.remaining inputs.items) reads.items) }
+{
+    let mut reads = Vec::new(alloc);
+    for input in inputs {
+        reads.push(read_shard(alloc, input)?)?;
+    }
+    Ok(reads)
+}
+
+fn read_shard<I: Read + Drop>(alloc: Global, input: I) -> Result<ShardRead, AllocError>
+    ensures { IfOk result (IsReadOf (I.remaining input)) }
+{
+    let RowsRead { rows, ending } = match read_rows(alloc, input) {
+        Ok(read) => read,
+        Err(ReadFault::OutOfMemory) => return Err(AllocError),
+        Err(ReadFault::Input(error)) => return Ok(ShardRead::Unreadable(error)),
+        // Reading rows has no other fault.
+        Err(ReadFault::WrongLine(_) | ReadFault::Cut) => {
+            return Ok(ShardRead::Unreadable(ErrorKind::InvalidData.into()));
+        }
+    };
+    Ok(match ending {
+        Ending::Whole {
+            filtered_out,
+            nanos,
+        } => ShardRead::Whole(Report {
+            rows,
+            filtered_out,
+            nanos,
+        }),
+        Ending::Cut(stop) => ShardRead::Cut { rows, stop },
+    })
+}
+
+impl ShardRead {
+    // Whether all of the report was read.
+    fn is_whole(&self) -> bool
+        ensures { result ≡ is_whole self.now }
+    {
+        matches!(self, ShardRead::Whole(_))
+    }
+
+    // The report, if all of it was read.
+    fn into_report(self) -> Option<Report>
+        ensures { option_to_list result ≡ wholes_in self }
+    {
+        match self {
+            ShardRead::Whole(report) => Some(report),
+            ShardRead::Cut { .. } | ShardRead::Unreadable(_) => None,
+        }
+    }
+
+    // How many trials the report's title announces, if it has one.
+    fn announced(&self) -> Option<u64>
+        ensures { option_to_list result ≡ title_in self.now }
+    {
+        match self {
+            ShardRead::Whole(report) => Some(report.rows.len() as u64),
+            ShardRead::Cut { rows: _, stop } => stop.announced,
+            ShardRead::Unreadable(_) => None,
+        }
+    }
+
+    // The rows that have ended in the report.
+    pub(crate) fn rows(&self) -> &[Row]
+        ensures { result.now ≡ ended_rows self.now }
+    {
+        match self {
+            ShardRead::Whole(report) => &report.rows,
+            ShardRead::Cut { rows, stop: _ } => rows,
+            ShardRead::Unreadable(_) => &[],
+        }
+    }
+}
+
+// Whether all of each report was read.
+fn are_whole(reads: &[ShardRead]) -> bool
+    ensures { result ≡ list_all is_whole reads.now }
+{
+    reads.iter().all(|read| read.is_whole())
+}
+
+// Returns the reports of which all was read.
+fn wholes_of(alloc: Global, reads: Vec<ShardRead>) -> Result<Vec<Report>, AllocError>
+    ensures { IfOk result (λ reports. reports.items ≡ flat_map wholes_in reads.items) }
+{
+    let mut reports = Vec::new(alloc);
+    for read in reads {
+        if let Some(report) = read.into_report() {
+            reports.push(report)?;
+        }
+    }
+    Ok(reports)
+}
+
+// Writes a cut report of what was read, and flushes it.
+fn write_cut<W: Write>(
+    alloc: Global,
+    reads: &[ShardRead],
+    sink: &mut Sink<W>,
+) -> Result<(), JoinFault>
+    requires { HasFaultLeft sink.old }
+    ensures { LeavesCutText reads.now (shown W.contents sink.old) (shown W.contents sink.new) result }
+{
+    let rows = ended_in_turn(alloc, reads)?;
+    let Some(announced) = announced_together(reads) else {
+        return Ok(());
+    };
+    put_cut(sink, announced, rows.as_slice())?;
+    Ok(())
+}
+
+// Returns how many trials the titles announce together, at most the greatest number that a title can have. `None` says that there
+// is no title.
+fn announced_together(reads: &[ShardRead]) -> Option<u64>
+    ensures { MatchOption result (titles_in reads.now ≡ [])
+        (λ all. (0 < length (titles_in reads.now)) × (all ≡ min (sum (titles_in reads.now)) (2 ^ 64 - 1))) }
+{
+    let mut sum = None;
+    for read in reads {
+        if let Some(count) = read.announced() {
+            sum = Some(sum.unwrap_or(0_u64).saturating_add(count));
+        }
+    }
+    sum
+}
+
+// Writes the title and the rows, which are elsewhere, and flushes them.
+fn put_cut<W: Write>(
+    sink: &mut Sink<W>,
+    announced: u64,
+    rows: &[&Row],
+) -> Result<(), WriteFault>
+    requires { HasFaultLeft sink.old }
+    ensures { Puts W.contents sink.old sink.new
+        (json_title announced ++ flat_map (λ row. row_lines row.now) rows.now) result }
+{
+    put_title(sink, announced)?;
+    put_rows(sink, rows)?;
+    sink.flush()
+}
