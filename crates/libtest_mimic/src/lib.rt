@@ -36,11 +36,11 @@ pub mod text;
 pub use mimic_args::{
     Arguments, ArgumentsError, ColorSetting, FormatSetting, Line, UnknownFormat, UnstableFlags,
 };
-pub use mimic_pool::{Schedule, Spawner};
+pub use mimic_pool::{RunningTrials, Schedule, Spawner};
 pub use mimic_printer::{Sink, WriteFault};
 pub use mimic_trial::{
     BenchRunner, Case, Conclusion, Failed, Measurement, Outcome, Runner, Task, TestInfo,
     TestRunner, Trial, count_rows, run_single,
 };
-pub use running::{RunError, run, run_from_queue, run_here};
+pub use running::{Request, RunError, run, run_as, run_from_queue, run_here};
 pub use stopwatch::{Clock, Stopwatch};

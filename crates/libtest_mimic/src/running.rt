@@ -25,12 +25,13 @@ use in_order::run_in_order;
 use in_workers::{Workers, run_in_workers};
 use list::write_list;
 use mimic_args::Arguments;
-use mimic_pool::{Schedule, Spawner};
+use mimic_pool::{RunningTrials, Schedule, Spawner};
 use mimic_printer::{Sink, WriteFault};
 use mimic_trial::{Conclusion, Task, Trial};
 use selection::{Selection, select};
 use std::alloc::{AllocError, AllocFailed, Global};
 use std::io::Write;
+use std::sync::Arc;
 use thiserror::Error;
 
 /// Why a run was refused.
@@ -105,6 +106,7 @@ pub fn run<R: Task + Send + 'static, W: Write, C: Clock, T: Spawner + 'static>(
         default_threads,
         auto_colours,
         schedule: Schedule::Shares,
+        running: None,
     };
     run_as(rt, alloc, request, tests, sink, watch)
 }
@@ -153,21 +155,32 @@ pub fn run_from_queue<R: Task + Send + 'static, W: Write, C: Clock, T: Spawner +
         default_threads,
         auto_colours,
         schedule: Schedule::Queue,
+        running: None,
     };
     run_as(rt, alloc, request, tests, sink, watch)
 }
 
-// What is asked of a run, and how its trials come to workers.
+/// What is asked of a run, and who looks at it.
 #[derive(Clone, Copy)]
-struct Request<'a> {
-    args: &'a Arguments,
-    default_threads: usize,
-    auto_colours: bool,
-    schedule: Schedule,
+pub struct Request<'a> {
+    /// Its arguments.
+    pub args: &'a Arguments,
+    /// How many threads run the trials if the arguments leave it open, at least 1.
+    pub default_threads: usize,
+    /// Whether its report has colours if the arguments leave it open.
+    pub auto_colours: bool,
+    /// How the trials come to workers if more than one thread runs them.
+    pub schedule: Schedule,
+    /// Where each thread marks the trial that it runs, by its place among the selected ones, if anybody looks. A thread for which there
+    /// is no cell marks none.
+    pub running: Option<&'a Arc<RunningTrials>>,
 }
 
-// Runs or lists the selected trials as requested.
-fn run_as<R: Task + Send + 'static, W: Write, C: Clock, T: Spawner + 'static>(
+/// Runs or lists the selected trials as requested: as `run` does if they are dealt out, and as `run_from_queue` does if they wait in a
+/// queue.
+///
+/// The marks of the trials that run change nothing in the run. No contract says what they are.
+pub fn run_as<R: Task + Send + 'static, W: Write, C: Clock, T: Spawner + 'static>(
     rt: &T,
     alloc: Global,
     request: Request<'_>,
@@ -179,13 +192,21 @@ fn run_as<R: Task + Send + 'static, W: Write, C: Clock, T: Spawner + 'static>(
     requires fresh { IsFresh watch.old }
     requires runnable { AllCanRun R.can_run tests.items }
     requires some_thread { 1 ≤ request.default_threads }
+
+    // What every run does, as with `run`.
     ensures runs { Runs (asking R.gives request.entry.default_threads request.entry.auto_colours tests.items request.entry.args.now)
         (done W.contents sink.old sink.new watch.new result) }
+
+    // Without a list there is a report of the selected trials, for every number of threads.
     ensures reported { RunsBy (threads_of request.entry.args.now request.entry.default_threads)
         (asking R.gives request.entry.default_threads request.entry.auto_colours tests.items request.entry.args.now)
         (done W.contents sink.old sink.new watch.new result) }
+
+    // Without a thread no trial can run.
     ensures zero_threads { request.entry.args.now.list ≡ false → threads_of request.entry.args.now request.entry.default_threads ≡ 0
         → OfSuite request.entry.args.now request.entry.auto_colours tests.items (λ suite. suite.trials ≢ [] → result ≡ Err ZeroThreads) }
+
+    // Nothing was written, whatever is known of the writer's bytes.
     ensures unwritten { OnNothingWritten result (sink.new ≡ sink.old) }
 {
     watch.start();
@@ -196,6 +217,7 @@ fn run_as<R: Task + Send + 'static, W: Write, C: Clock, T: Spawner + 'static>(
     let workers = Workers {
         threads: request.args.threads(request.default_threads),
         schedule: request.schedule,
+        running: request.running,
     };
     run_with_threads(rt, alloc, selected, workers, sink, watch)
 }
@@ -205,21 +227,21 @@ fn run_with_threads<R: Task + Send + 'static, W: Write, C: Clock, T: Spawner + '
     rt: &T,
     alloc: Global,
     selected: Selection<'_, R>,
-    workers: Workers,
+    workers: Workers<'_>,
     sink: &mut Sink<W>,
     watch: &mut Stopwatch<C>,
 ) -> Result<Conclusion, RunError>
     requires room { HasFaultLeft sink.old }
     requires running { IsRunning watch.old }
     requires runnable { AllCanRun R.can_run selected.trials.items }
-    ensures reported { Reports R.gives workers.threads (selected_suite selected.entry)
+    ensures reported { Reports R.gives workers.entry.threads (selected_suite selected.entry)
         (shown W.contents sink.old) (shown W.contents sink.new) watch.new result }
-    ensures zero_threads { workers.threads ≡ 0 → selected.entry.trials.items ≢ []
+    ensures zero_threads { workers.entry.threads ≡ 0 → selected.entry.trials.items ≢ []
         → result ≡ Err ZeroThreads }
     ensures unwritten { OnNothingWritten result (sink.new ≡ sink.old) }
 {
     if workers.threads == 1 || selected.trials.is_empty() {
-        return run_in_order(alloc, selected, sink, watch);
+        return run_in_order(alloc, selected, workers.running, sink, watch);
     }
     if workers.threads == 0 {
         return Err(RunError::ZeroThreads);
@@ -266,7 +288,7 @@ pub fn run_here<R: Task, W: Write, C: Clock>(
         return write_list(args, tests, sink);
     }
     let selected = select(args, tests, auto_colours);
-    run_in_order(alloc, selected, sink, watch)
+    run_in_order(alloc, selected, None, sink, watch)
 }
 
 impl From<AllocError> for RunError {

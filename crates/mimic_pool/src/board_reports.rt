@@ -18,6 +18,8 @@ pub struct BoardReports<R: Wait + Drop> {
     rt: R,
     alloc: Global,
     board: Arc<SharedBoard>,
+    // The number of the cell in which the worker marks the trial that it runs.
+    cell: usize,
     counts: Counts,
 }
 
@@ -27,19 +29,22 @@ impl<R: Wait + Drop> BoardReports<R> {
         ensures told { told_to result ≡ 0 }
         ensures refusals { refused_to result ≡ 0 }
     {
+        let cell = board.next_cell();
         BoardReports {
             rt,
             alloc,
             board,
+            cell,
             counts: Counts::new(),
         }
     }
 
-    // Times the worker's trials.
+    // Marks and times the worker's trials.
     fn timer(&self) -> Timer<'_, R> {
         Timer {
             rt: &self.rt,
             board: &self.board,
+            cell: self.cell,
         }
     }
 }
@@ -50,6 +55,7 @@ impl<R: Wait + Drop> Drop for BoardReports<R> {
             rt,
             alloc: _,
             board,
+            cell: _,
             counts: _,
         } = self;
         board.close_one(&rt);
@@ -72,12 +78,12 @@ impl<R: Wait + Clock + Drop> Reports for BoardReports<R> {
         self.counts.count(is_told)
     }
 
-    fn read_clock(&self) -> Option<u64> {
-        self.timer().start()
+    fn begin(&self, place: usize) -> Option<u64> {
+        self.timer().begin(place)
     }
 
-    fn note_time(&self, place: usize, started: Option<u64>) {
-        self.timer().note(place, started);
+    fn end(&self, place: usize, started: Option<u64>) {
+        self.timer().end(place, started);
     }
 
     fn refusals(&self) -> u64 {

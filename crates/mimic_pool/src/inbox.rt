@@ -6,7 +6,8 @@ ghost use Rattle.mimic_pool.specs.Reports.{refused_to, told_to};
 
 use crate::board::Board;
 use crate::board_reports::BoardReports;
-use crate::shared_board::{SharedBoard, no_times};
+use crate::running::Notes;
+use crate::shared_board::{SharedBoard, zero_times};
 use mimic_trial::Outcome;
 use std::alloc::{AllocError, Global};
 use std::collections::VecDeque;
@@ -42,23 +43,29 @@ impl Inbox {
         ensures board { IfOk result (λ inbox. board_of inbox ≡ empty_board n workers) }
         ensures timed { IfOk result (λ inbox. is_timed inbox ≡ false) }
     {
-        Inbox::with_times(alloc, n, workers, false)
+        let notes = Notes {
+            timed: false,
+            running: None,
+        };
+        Inbox::with_notes(alloc, n, workers, notes)
     }
 
-    /// An inbox as `new` makes it. If it is timed, workers note there for how many nanoseconds the trial at each place ran.
-    pub fn with_times(
+    /// An inbox as `new` makes it, for workers that make these notes. If it is timed, they note there for how many nanoseconds the trial
+    /// at each place ran.
+    pub fn with_notes(
         alloc: Global,
         n: usize,
         workers: usize,
-        timed: bool,
+        notes: Notes,
     ) -> Result<Inbox, AllocError>
         ensures board { IfOk result (λ inbox. board_of inbox ≡ empty_board n workers) }
-        ensures timed { IfOk result (λ inbox. is_timed inbox ≡ timed) }
+        ensures timed { IfOk result (λ inbox. is_timed inbox ≡ notes.timed) }
     {
+        let Notes { timed, running } = notes;
         let board = Board::new(alloc, n, workers)?;
         let empty = Snapshot::of(&board);
-        let times = no_times(alloc, if timed { n } else { 0 })?;
-        let board = Arc::new(alloc, SharedBoard::new(board, times))?;
+        let times = zero_times(alloc, if timed { n } else { 0 })?;
+        let board = Arc::new(alloc, SharedBoard::new(board, times, running))?;
         let batch = VecDeque::with_capacity(alloc, n.min(BATCH))?;
         Ok(Inbox {
             board,

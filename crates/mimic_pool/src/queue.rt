@@ -18,6 +18,7 @@ ghost use Rattle.mimic_pool.specs.declared.share.Assigned.{Assigned};
 use crate::inbox::Inbox;
 use crate::reports::Unheard;
 use crate::rows::Rows;
+use crate::running::Notes;
 use crate::share::{Assigned, Share};
 use crate::shared_board::SharedBoard;
 use crate::shared_queue::{MOST_IN_BATCH, QueuePass, SharedQueue};
@@ -130,24 +131,24 @@ impl<T: Task> Queue<T> {
     }
 }
 
-// Makes the workers of the queue ready to run its trials, of which there are `count`, and an inbox to which they will report, and if
-// it is timed the times of the trials.
+// Makes the workers of the queue ready to run its trials, of which there are `count`, and an inbox to which they will report, with
+// these notes.
 pub(crate) fn prepare_takers<T: Task, R: Wait>(
     rt: &R,
     alloc: Global,
     queue: Queue<T>,
     count: usize,
-    timed: bool,
+    notes: Notes,
 ) -> Result<(Inbox, QueueStarts<T>), AllocError>
     requires held { (trials : List (Assigned T)) × HoldsQueue T.can_run queue trials }
     ensures inbox { IfOk result (λ made. board_of made.0 ≡ empty_board count (vec_len made.1.starts)) }
-    ensures timed { IfOk result (λ made. is_timed made.0 ≡ timed) }
+    ensures timed { IfOk result (λ made. is_timed made.0 ≡ notes.timed) }
     ensures ready { IfOk result (λ made. (trials : List (Assigned T)) → length trials ≤ count
         → HoldsQueue T.can_run queue trials → AreReadyTakers made.1 trials) }
 {
     let mut queue = queue;
     queue.flush(rt)?;
-    let inbox = Inbox::with_times(alloc, count, queue.workers, timed)?;
+    let inbox = Inbox::with_notes(alloc, count, queue.workers, notes)?;
     let starts = takers_of(alloc, queue, count, &inbox)?;
     Ok((inbox, starts))
 }
@@ -337,7 +338,11 @@ pub(crate) fn join_takers<T: Task + Send + 'static, R: Spawner>(
         queue.absorb(&mut pass, other);
         joined.push_reserved(rows);
     }
-    let timer = Timer { rt, board: &board };
+    let timer = Timer {
+        rt,
+        board: &board,
+        cell: 0,
+    };
     let rows = take_left(timer, &queue, &mut pass, test_mode, whole, spare);
     joined.push_reserved(rows);
     joined

@@ -33,13 +33,15 @@ pub trait Reports {
         ensures heard { (rows : List Placed) → heard self.old rows
             → heard self.new (rows ++ (place, outcome.now) ∷ []) };
 
-    /// What a worker calls directly before it calls a runner: reads the clock, if somebody asks how long trials run.
-    fn read_clock(&self) -> Option<u64> {
+    /// What a worker calls directly before it calls the runner of the trial at the place: marks that the trial runs, if anybody looks,
+    /// and reads the clock, if somebody asks how long trials run.
+    fn begin(&self, _place: usize) -> Option<u64> {
         None
     }
 
-    /// What a worker calls directly after a runner has returned: notes how long the trial at the place ran since the reading.
-    fn note_time(&self, _place: usize, _started: Option<u64>) {}
+    /// What a worker calls directly after a runner has returned: marks that its trial doesn't run any more, and notes how long it ran
+    /// since the reading.
+    fn end(&self, _place: usize, _started: Option<u64>) {}
 
     /// How many rows could not be reported.
     fn refusals(&self) -> u64
@@ -50,7 +52,7 @@ pub trait Reports {
         ensures { result ≡ told_of self.now };
 }
 
-// Reports to nobody, of trials that no worker took. Their times are noted.
+// Reports to nobody, of trials that no worker took. They are marked while they run, and their times are noted.
 #[derive(Drop)]
 pub(crate) struct Unheard<'a, R> {
     timer: Timer<'a, R>,
@@ -81,12 +83,12 @@ impl<'a, R: Clock> Reports for Unheard<'a, R> {
         self.counts.count(true)
     }
 
-    fn read_clock(&self) -> Option<u64> {
-        self.timer.start()
+    fn begin(&self, place: usize) -> Option<u64> {
+        self.timer.begin(place)
     }
 
-    fn note_time(&self, place: usize, started: Option<u64>) {
-        self.timer.note(place, started);
+    fn end(&self, place: usize, started: Option<u64>) {
+        self.timer.end(place, started);
     }
 
     fn refusals(&self) -> u64 {

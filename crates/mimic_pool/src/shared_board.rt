@@ -3,11 +3,12 @@ ghost use Rattle.std.specs.Prelude.{◌≡◌, ◌+◌, ◌≤◌};
 ghost use Rattle.std.specs.VecDeque.{deque_capacity, deque_len};
 
 use crate::board::Board;
+use crate::running::{Cell, RunningTrials};
 use mimic_trial::Outcome;
 use std::alloc::{AllocError, Global};
 use std::collections::VecDeque;
 use std::sync::atomic::{AtomicU64, Ordering};
-use std::sync::{Condvar, Mutex, MutexGuard, Wait};
+use std::sync::{Arc, Condvar, Mutex, MutexGuard, Wait};
 use std::thread::yield_now;
 
 // How often a thread lets others run before it sleeps until the lock is released. A call holds the lock for a moment, and to
@@ -22,14 +23,38 @@ pub(crate) struct SharedBoard {
     // How many nanoseconds each trial ran, by its place; empty if nobody asks. A worker notes a time before it reports the row, so
     // whoever has taken the row reads that time.
     times: Vec<AtomicU64>,
+    // Where workers mark the trials that they run, if anybody looks.
+    running: Option<Arc<RunningTrials>>,
 }
 
 impl SharedBoard {
-    pub(crate) fn new(board: Board, times: Vec<AtomicU64>) -> Self {
+    pub(crate) fn new(
+        board: Board,
+        times: Vec<AtomicU64>,
+        running: Option<Arc<RunningTrials>>,
+    ) -> Self {
         SharedBoard {
             board: Mutex::new(board),
             has_changed: Condvar::new(),
             times,
+            running,
+        }
+    }
+
+    // The number of the cell of one more worker.
+    pub(crate) fn next_cell(&self) -> usize {
+        match &self.running {
+            Some(running) => running.next_number(),
+            None => 0,
+        }
+    }
+
+    // The cell of this number, if anybody looks.
+    #[inline]
+    pub(crate) fn cell(&self, number: usize) -> Option<&Cell> {
+        match &self.running {
+            Some(running) => running.cell(number),
+            None => None,
         }
     }
 
@@ -122,7 +147,7 @@ impl SharedBoard {
 }
 
 // Room for a time of each of `count` trials.
-pub(crate) fn no_times(alloc: Global, count: usize) -> Result<Vec<AtomicU64>, AllocError> {
+pub(crate) fn zero_times(alloc: Global, count: usize) -> Result<Vec<AtomicU64>, AllocError> {
     let mut times = Vec::with_capacity(alloc, count)?;
     for _ in 0..count {
         times.push(AtomicU64::new(0))?;

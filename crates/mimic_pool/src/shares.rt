@@ -12,6 +12,7 @@ ghost use Rattle.mimic_pool.specs.declared.share.Assigned.{Assigned};
 use crate::board_reports::BoardReports;
 use crate::inbox::Inbox;
 use crate::rows::Rows;
+use crate::running::Notes;
 use crate::share::Share;
 use crate::share_start::{AnswersShare, Start};
 use crate::spawner::Spawner;
@@ -39,21 +40,21 @@ pub struct ShareCrew<T: Task> {
     pub(crate) joined: Vec<Rows>,
 }
 
-// Makes a worker ready for each share, and an inbox to which they will report their rows, of which there are `count`, and if it is
-// timed the times of their trials.
+// Makes a worker ready for each share, and an inbox to which they will report their rows, of which there are `count`, with these
+// notes.
 pub(crate) fn prepare_shares<T: Task>(
     alloc: Global,
     shares: Vec<Share<T>>,
     count: usize,
-    timed: bool,
+    notes: Notes,
 ) -> Result<(Inbox, ShareStarts<T>), AllocError>
     ensures inbox { IfOk result (λ made. board_of made.0 ≡ empty_board count (vec_len made.1.starts)) }
-    ensures timed { IfOk result (λ made. is_timed made.0 ≡ timed) }
+    ensures timed { IfOk result (λ made. is_timed made.0 ≡ notes.timed) }
     ensures ready { IfOk result (λ made. (trials : List (Assigned T)) → AreDealt T.can_run shares.items trials
         → AreReadyShares T.can_run made.1 trials) }
 {
     let workers = shares.len();
-    let inbox = Inbox::with_times(alloc, count, workers, timed)?;
+    let inbox = Inbox::with_notes(alloc, count, workers, notes)?;
     let starts = starts_on(alloc, shares, &inbox)?;
     let starts = ShareStarts {
         starts,

@@ -13,6 +13,7 @@ ghost use Rattle.mimic_pool.specs.declared.share.Assigned.{Assigned};
 use crate::inbox::Inbox;
 use crate::queue::{Queue, QueueCrew, QueueStarts, join_takers, prepare_takers, start_takers};
 use crate::rows::Rows;
+use crate::running::Notes;
 use crate::share::{Assigned, Share, deal_next, empty_shares};
 use crate::shares::{ShareCrew, ShareStarts, join_shares, prepare_shares, start_shares};
 use crate::spawner::Spawner;
@@ -109,27 +110,27 @@ impl<T: Task> Supply<T> {
     }
 
     /// Makes the workers ready to run the trials, of which there are `count`, and an inbox to which they, and no others, will report.
-    /// If it is timed, they note there how long each trial ran.
+    /// They make these notes meanwhile.
     pub fn prepare<R: Wait>(
         self,
         rt: &R,
         alloc: Global,
         count: usize,
-        timed: bool,
+        notes: Notes,
     ) -> Result<(Inbox, Starts<T>), AllocError>
         requires held { (trials : List (Assigned T)) × Holds T.can_run self trials }
         ensures inbox { IfOk result (λ made. board_of made.0 ≡ empty_board count (workers_of made.1)) }
-        ensures timed { IfOk result (λ made. is_timed made.0 ≡ timed) }
+        ensures timed { IfOk result (λ made. is_timed made.0 ≡ notes.timed) }
         ensures ready { IfOk result (λ made. (trials : List (Assigned T)) → length trials ≤ count
             → Holds T.can_run self trials → AreReady T.can_run made.1 trials) }
     {
         match self {
             Supply::Shares(shares) => {
-                let (inbox, starts) = prepare_shares(alloc, shares, count, timed)?;
+                let (inbox, starts) = prepare_shares(alloc, shares, count, notes)?;
                 Ok((inbox, Starts::Shares(starts)))
             }
             Supply::Queue(queue) => {
-                let (inbox, starts) = prepare_takers(rt, alloc, queue, count, timed)?;
+                let (inbox, starts) = prepare_takers(rt, alloc, queue, count, notes)?;
                 Ok((inbox, Starts::Queue(starts)))
             }
         }

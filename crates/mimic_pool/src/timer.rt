@@ -1,18 +1,24 @@
-//! How long each trial runs.
+//! How long each trial runs, and which one runs now.
 use crate::shared_board::SharedBoard;
 use std::rt::Clock;
 
-// Times the trials that a thread runs, and notes their times at the board, if that has room for them.
+// Marks and times the trials that a thread runs, if the board has room for that.
 #[derive(Clone, Copy)]
 pub(crate) struct Timer<'a, R> {
     pub(crate) rt: &'a R,
     pub(crate) board: &'a SharedBoard,
+    // The number of the thread's cell.
+    pub(crate) cell: usize,
 }
 
 impl<'a, R: Clock> Timer<'a, R> {
-    // The clock's nanoseconds before a runner is called. `None` if the board has no room for times, or if the clock can't be read.
+    // Marks that the trial at the place runs. Returns the clock's nanoseconds before its runner is called; `None` if the board has no
+    // room for times, or if the clock can't be read.
     #[inline]
-    pub(crate) fn start(&self) -> Option<u64> {
+    pub(crate) fn begin(&self, place: usize) -> Option<u64> {
+        if let Some(cell) = self.board.cell(self.cell) {
+            cell.set(place);
+        }
         if self.board.is_timed() {
             nanos(self.rt)
         } else {
@@ -20,9 +26,12 @@ impl<'a, R: Clock> Timer<'a, R> {
         }
     }
 
-    // Notes how long the trial at the place has run since that reading: 0 if the clock went back.
+    // Marks that no trial runs. Notes how long the one at the place has run since that reading: 0 if the clock went back.
     #[inline]
-    pub(crate) fn note(&self, place: usize, started: Option<u64>) {
+    pub(crate) fn end(&self, place: usize, started: Option<u64>) {
+        if let Some(cell) = self.board.cell(self.cell) {
+            cell.clear();
+        }
         let Some(started) = started else { return };
         if let Some(ended) = nanos(self.rt) {
             self.board.note(place, ended.saturating_sub(started));

@@ -60,9 +60,9 @@ pub(crate) fn work_from<T: Task, S: Source<T>, R: Reports, O: Room>(
             runner,
             ignored,
         } = item;
-        let started = reports.read_clock();
+        let started = reports.begin(place);
         let outcome = run_unless(ignored, runner, test_mode);
-        reports.note_time(place, started);
+        reports.end(place, started);
         // Reported or not, the row is returned: whoever joins the worker gets it then.
         let _ = reports.tell(place, &outcome);
         room.put(place, outcome);

@@ -14,15 +14,18 @@ use crate::running::timing::{elapsed, start, time_shown};
 use crate::select::is_ignored;
 use crate::stopwatch::{Clock, Stopwatch};
 use mimic_args::Arguments;
+use mimic_pool::{Cell, RunningTrials};
 use mimic_printer::{Printer, Sink, WriteFault};
 use mimic_trial::{Conclusion, Task, Trial, run_unless};
 use std::alloc::Global;
 use std::io::Write;
+use std::sync::Arc;
 
-// Runs the trials in their order, and writes their report.
+// Runs the trials in their order, and writes their report. It marks the trial that runs, if anybody looks.
 pub(super) fn run_in_order<R: Task, W: Write, C: Clock>(
     alloc: Global,
     selected: Selection<'_, R>,
+    running: Option<&Arc<RunningTrials>>,
     sink: &mut Sink<W>,
     watch: &mut Stopwatch<C>,
 ) -> Result<Conclusion, RunError>
@@ -34,13 +37,14 @@ pub(super) fn run_in_order<R: Task, W: Write, C: Clock>(
     ensures unwritten { OnNothingWritten result (sink.new ≡ sink.old) }
 {
     let tally = Tally::with_capacity(alloc, selected.trials.len(), selected.filtered_out)?;
-    Ok(write_report(selected, tally, sink, watch)?)
+    Ok(write_report(selected, tally, running, sink, watch)?)
 }
 
 // Writes the whole report of the trials, which run in their order, and counts them.
 fn write_report<R: Task, W: Write, C: Clock>(
     selected: Selection<'_, R>,
     tally: Tally,
+    running: Option<&Arc<RunningTrials>>,
     sink: &mut Sink<W>,
     watch: &mut Stopwatch<C>,
 ) -> Result<Conclusion, WriteFault>
@@ -61,16 +65,33 @@ fn write_report<R: Task, W: Write, C: Clock>(
         ..
     } = selected;
     printer.print_title(sink, trials.len() as u64)?;
-    run_rows(&printer, args, trials, &mut tally, sink, watch)?;
+    let rows = RowsInOrder {
+        printer: &printer,
+        args,
+        cell: next_cell(running),
+    };
+    run_rows(rows, trials, &mut tally, sink, watch)?;
     tally.print_failures(&printer, sink)?;
     write_summary(&printer, tally.conclusion(), sink, watch)?;
     Ok(tally.into_conclusion())
 }
 
+// How rows are printed, what is asked of their trials, and where the trial that runs is marked.
+#[derive(Clone, Copy)]
+struct RowsInOrder<'a> {
+    printer: &'a Printer,
+    args: &'a Arguments,
+    cell: Option<&'a Cell>,
+}
+
+// The cell of the thread that calls, if anybody looks.
+fn next_cell(running: Option<&Arc<RunningTrials>>) -> Option<&Cell> {
+    running?.next_cell()
+}
+
 // Runs the trials in their order, and writes the row of each: its announcement before it runs.
 fn run_rows<R: Task, W: Write, C: Clock>(
-    printer: &Printer,
-    args: &Arguments,
+    rows: RowsInOrder<'_>,
     trials: Vec<Trial<R>>,
     tally: &mut Tally,
     sink: &mut Sink<W>,
@@ -80,19 +101,44 @@ fn run_rows<R: Task, W: Write, C: Clock>(
     requires empty { HasCounted tally.old tally.old.conclusion.num_filtered_out [] }
     requires runnable { AllCanRun R.can_run trials.items }
     requires capacity { HasRoomFor tally.old (vec_len trials) }
-    ensures rows { RowsRun R.gives (suite_with args.now trials.items printer.now tally.old)
+    ensures rows { RowsRun R.gives (suite_with rows.entry.args.now trials.items rows.entry.printer.now tally.old)
         (shown W.contents sink.old) (shown W.contents sink.new) tally.new result }
     ensures readings { watch.new ≡ watch.old }
 {
+    let RowsInOrder {
+        printer,
+        args,
+        cell,
+    } = rows;
+    let mut place = 0_usize;
     for trial in trials {
         let ignored = is_ignored(args, &trial);
         let (info, runner) = trial.into_parts();
         printer.print_test(sink, &info)?;
+        mark(cell, place);
         let started = start(watch, args.report_time);
         let outcome = run_unless(ignored, runner, !args.bench);
+        unmark(cell);
         let nanos = time_shown(&outcome, elapsed(watch, started));
         printer.print_timed_outcome(sink, &info, &outcome, nanos)?;
         tally.record(info, outcome);
+        place = place.wrapping_add(1);
     }
     Ok(())
+}
+
+// Marks that the trial at the place runs, if anybody looks.
+#[inline(always)]
+fn mark(cell: Option<&Cell>, place: usize) {
+    if let Some(cell) = cell {
+        cell.set(place);
+    }
+}
+
+// Marks that no trial runs.
+#[inline(always)]
+fn unmark(cell: Option<&Cell>) {
+    if let Some(cell) = cell {
+        cell.clear();
+    }
 }

@@ -17,18 +17,21 @@ use crate::running::summary::write_summary;
 use crate::select::is_ignored;
 use crate::stopwatch::{Clock, Stopwatch};
 use mimic_args::Arguments;
-use mimic_pool::{Desk, Remaining, Schedule, Spawner, Supply, start_all, worker_count};
+use mimic_pool::{
+    Desk, Notes, Remaining, RunningTrials, Schedule, Spawner, Supply, start_all, worker_count,
+};
 use mimic_printer::{Printer, Sink};
 use mimic_trial::{Conclusion, Task, TestInfo, Trial};
 use std::alloc::{AllocError, Global};
 use std::io::Write;
-use std::sync::Wait;
+use std::sync::{Arc, Wait};
 
-// How many threads run the trials, and how these come to them.
+// How many threads run the trials, how these come to them, and where they are marked while they run, if anybody looks.
 #[derive(Clone, Copy)]
-pub(super) struct Workers {
+pub(super) struct Workers<'a> {
     pub(super) threads: usize,
     pub(super) schedule: Schedule,
+    pub(super) running: Option<&'a Arc<RunningTrials>>,
 }
 
 // Runs the trials on `workers.threads` threads, but on no more than there are trials, and writes their report.
@@ -36,7 +39,7 @@ pub(super) fn run_in_workers<R: Task + Send + 'static, W: Write, C: Clock, T: Sp
     rt: &T,
     alloc: Global,
     selected: Selection<'_, R>,
-    workers: Workers,
+    workers: Workers<'_>,
     sink: &mut Sink<W>,
     watch: &mut Stopwatch<C>,
 ) -> Result<Conclusion, RunError>
@@ -45,7 +48,7 @@ pub(super) fn run_in_workers<R: Task + Send + 'static, W: Write, C: Clock, T: Sp
     requires runnable { AllCanRun R.can_run selected.trials.items }
     requires running { IsRunning watch.old }
     requires room { HasFaultLeft sink.old }
-    ensures reported { Reports R.gives workers.threads (selected_suite selected.entry)
+    ensures reported { Reports R.gives workers.entry.threads (selected_suite selected.entry)
         (shown W.contents sink.old) (shown W.contents sink.new) watch.new result }
     ensures unwritten { OnNothingWritten result (sink.new ≡ sink.old) }
 {
@@ -57,7 +60,16 @@ pub(super) fn run_in_workers<R: Task + Send + 'static, W: Write, C: Clock, T: Sp
     } = selected;
     let count = worker_count(workers.threads, trials.len());
     let supply = Supply::new(alloc, workers.schedule, trials.len(), count)?;
-    let (infos, supplied) = take_apart(rt, alloc, args, trials, supply)?;
+    let notes = Notes {
+        timed: args.report_time,
+        running: shared(workers.running),
+    };
+    let (infos, supply) = take_apart(rt, alloc, args, trials, supply)?;
+    let supplied = Supplied {
+        alloc,
+        supply,
+        notes,
+    };
     let infos = infos.as_slice();
     let desk = write_rows(rt, &printer, infos, supplied, !args.bench, sink)?;
     let rows = DeskRows { infos, desk: &desk };
@@ -67,12 +79,17 @@ pub(super) fn run_in_workers<R: Task + Send + 'static, W: Write, C: Clock, T: Sp
     Ok(conclusion)
 }
 
-// Runners on their way to workers, and whether these are to note how long each trial runs.
+// Runners on their way to workers, and what these are to note.
 #[derive(Drop)]
 struct Supplied<R: Task> {
     alloc: Global,
     supply: Supply<R>,
-    timed: bool,
+    notes: Notes,
+}
+
+// The same for one more owner. `None` if nobody looks, or if it can't be shared.
+fn shared(running: Option<&Arc<RunningTrials>>) -> Option<Arc<RunningTrials>> {
+    Arc::try_clone(running?).ok()
 }
 
 // What is known of each trial, and the runners, which were put into the supply.
@@ -82,12 +99,11 @@ fn take_apart<R: Task, T: Wait>(
     args: &Arguments,
     trials: Vec<Trial<R>>,
     supply: Supply<R>,
-) -> Result<(Vec<TestInfo>, Supplied<R>), AllocError>
+) -> Result<(Vec<TestInfo>, Supply<R>), AllocError>
     requires empty { Holds R.can_run supply [] }
     requires runnable { AllCanRun R.can_run trials.items }
-    ensures parts { IfOk result
-        (λ parts. AreSupplied R.can_run args.now trials.items parts.0.items parts.1.supply) }
-    ensures timed { IfOk result (λ parts. parts.1.timed ≡ args.now.report_time) }
+    ensures { IfOk result
+        (λ parts. AreSupplied R.can_run args.now trials.items parts.0.items parts.1) }
 {
     let mut supply = supply;
     let mut infos = Vec::with_capacity(alloc, trials.len())?;
@@ -98,12 +114,7 @@ fn take_apart<R: Task, T: Wait>(
         supply.put(rt, infos.len(), runner, is_ignored)?;
         infos.push(info)?;
     }
-    let supplied = Supplied {
-        alloc,
-        supply,
-        timed: args.report_time,
-    };
-    Ok((infos, supplied))
+    Ok((infos, supply))
 }
 
 // Runs the trials in workers, and writes the title and the rows. Returns the desk where they arrived.
@@ -125,18 +136,18 @@ fn write_rows<R: Task + Send + 'static, W: Write, T: Spawner + 'static>(
         → Holds R.can_run supplied.supply (assigned_from 0 runners flags)
         → MatchResult result
         (λ desk. IsGathered R.gives test_mode (assigned_from 0 runners flags) desk
-        × PutsTitled supplied.timed printer.now infos.now desk (shown W.contents sink.old) (shown W.contents sink.new))
-        (λ e. RowsRefused R.gives test_mode (assigned_from 0 runners flags) supplied.timed printer.now infos.now
+        × PutsTitled supplied.notes.timed printer.now infos.now desk (shown W.contents sink.old) (shown W.contents sink.new))
+        (λ e. RowsRefused R.gives test_mode (assigned_from 0 runners flags) supplied.notes.timed printer.now infos.now
         (shown W.contents sink.old) (shown W.contents sink.new) e) }
     ensures unwritten { OnNothingWritten result (sink.new ≡ sink.old) }
 {
     let Supplied {
         alloc,
         supply,
-        timed,
+        notes,
     } = supplied;
     let count = infos.len();
-    let (inbox, starts) = supply.prepare(rt, alloc, count, timed)?;
+    let (inbox, starts) = supply.prepare(rt, alloc, count, notes)?;
     let desk = Desk::new(alloc, count)?;
     let room = Vec::with_capacity(alloc, count)?;
     printer.print_title(sink, count as u64)?;

@@ -15,7 +15,7 @@ use Rattle.libtest_mimic.proofs.running.in_order.run_rows.Goals as goal
 pub loop-trial-init : goal.loop-trial-init
 loop-trial-init g c =
     let trials = c.args.trials.items in
-    let suite : Suite _ = suite_with c.args.args.now trials c.args.printer.now c.args.tally.now in
+    let suite : Suite _ = suite_with c.args.rows.args.now trials c.args.rows.printer.now c.args.tally.now in
     record {
       seen = search rules;
       room = c.requires.capacity;
@@ -39,7 +39,7 @@ fits here there o time e = subst (λ (b : Bool). IsTime (b && has_time o) time) 
 pub loop-trial-preserved : goal.loop-trial-preserved
 loop-trial-preserved g c =
     let seen = c.loop-trial.yielded in
-    let suite : Suite _ = suite_with c.args.args.now c.args.trials.items c.args.printer.now c.args.tally.now in
+    let suite : Suite _ = suite_with c.args.rows.args.now c.args.trials.items c.args.rows.printer.now c.args.tally.now in
     let ran = ran-next g.R.Task.gives suite.args seen _ _ suite.trials c.in-Some.trial c.in-Some.ensures.steps.0 c.loop-trial.invariant.seen _ _ _ _ c.into_parts-info.ensures.info c.into_parts-info.ensures.runner c.is_ignored-ignored.ensures c.run_unless-outcome.ensures in
     let time = fits _ _ _ _ (c.elapsed.ensures.asked ∙ c.start-started.ensures.asked) c.time_shown-nanos.ensures in
     let next = RowsSoFar-push g.R.Task.gives suite (length seen) _ _ _ (shown g.W.Write.contents c.print_timed_outcome.new.sink) c.loop-trial.tally c.loop-trial.invariant.so_far c.into_parts-info.result.0 _ c.time_shown-nanos.result ran.0 ran.1 time
@@ -55,7 +55,7 @@ pub returns-in_err-print_test-clause-rows : goal.returns-in_err-print_test-claus
 returns-in_err-print_test-clause-rows g c =
     let told = shown g.W.Write.contents in
     let seen = c.loop-trial.yielded in
-    let suite : Suite _ = suite_with c.args.args.now c.args.trials.items c.args.printer.now c.args.tally.now in
+    let suite : Suite _ = suite_with c.args.rows.args.now c.args.trials.items c.args.rows.printer.now c.args.tally.now in
     let split = ap (λ l. seen ++ l) (sym c.in-Some.ensures.steps.0) ∙ c.loop-trial.invariant.seen in
     let label = ap label_of c.into_parts-info.ensures.info ∙ label_at-next seen _ suite.trials c.in-Some.trial (length seen) split refl in
     RowsRun-stopped g.R.Task.gives suite _ _ _ c.from_residual.result c.from_residual.ensures.0
@@ -65,7 +65,7 @@ returns-in_err-print_test-clause-rows g c =
 pub returns-in_err-print_timed_outcome-clause-rows : goal.returns-in_err-print_timed_outcome-clause-rows
 returns-in_err-print_timed_outcome-clause-rows g c =
     let seen = c.loop-trial.yielded in
-    let suite : Suite _ = suite_with c.args.args.now c.args.trials.items c.args.printer.now c.args.tally.now in
+    let suite : Suite _ = suite_with c.args.rows.args.now c.args.trials.items c.args.rows.printer.now c.args.tally.now in
     let ran = ran-next g.R.Task.gives suite.args seen _ _ suite.trials c.in-Some.trial c.in-Some.ensures.steps.0 c.loop-trial.invariant.seen _ _ _ _ c.into_parts-info.ensures.info c.into_parts-info.ensures.runner c.is_ignored-ignored.ensures c.run_unless-outcome.ensures in
     let time = fits _ _ _ _ (c.elapsed.ensures.asked ∙ c.start-started.ensures.asked) c.time_shown-nanos.ensures in
     RowsRun-stopped g.R.Task.gives suite _ _ _ c.from_residual-in_err-print_timed_outcome.result c.from_residual-in_err-print_timed_outcome.ensures.0

@@ -73,5 +73,5 @@ loop-trial-preserved g c =
       runnable = All-rest (λ (trial : Trial _). g.R.Task.can_run (runner_of trial)) t c.next.new.self c.loop-trial.left c.in-Some.ensures c.loop-trial.invariant.runnable;
     }
 
-pub returns-clause-parts : goal.returns-clause-parts
-returns-clause-parts g c = put_all g.R.Task.can_run c.args.args.now _ _ c.args.trials.items c.loop-trial.left c.in_default.ensures.0 c.loop-trial.invariant.supplied
+pub returns : goal.returns
+returns g c = put_all g.R.Task.can_run c.args.args.now _ _ c.args.trials.items c.loop-trial.left c.in_default.ensures.0 c.loop-trial.invariant.supplied
