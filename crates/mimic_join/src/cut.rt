@@ -198,11 +198,7 @@ fn announced_together(reads: &[ShardRead]) -> Option<u64>
 }
 
 // Writes the title and the rows, which are elsewhere, and flushes them.
-fn put_cut<W: Write>(
-    sink: &mut Sink<W>,
-    announced: u64,
-    rows: &[&Row],
-) -> Result<(), WriteFault>
+fn put_cut<W: Write>(sink: &mut Sink<W>, announced: u64, rows: &[&Row]) -> Result<(), WriteFault>
     requires { HasFaultLeft sink.old }
     ensures { Puts W.contents sink.old sink.new
         (json_title announced ++ flat_map (λ row. row_lines row.now) rows.now) result }

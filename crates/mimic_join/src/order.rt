@@ -36,10 +36,7 @@ pub(crate) fn refs_in_turn(alloc: Global, reports: &[Report]) -> Result<Vec<&Row
 }
 
 // Returns the rows that have ended in the reports, in turn. They stay where they are.
-pub(crate) fn ended_in_turn(
-    alloc: Global,
-    reads: &[ShardRead],
-) -> Result<Vec<&Row>, AllocError>
+pub(crate) fn ended_in_turn(alloc: Global, reads: &[ShardRead]) -> Result<Vec<&Row>, AllocError>
     ensures { IfOk result
         (λ rows. map (λ row. row.now) rows.items ≡ in_turn (map ended_rows reads.now)) }
 {

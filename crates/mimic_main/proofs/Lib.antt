@@ -1,7 +1,5 @@
-pub mod Alike
 pub mod Cases
 pub mod HandedOn
 pub mod Mapped
-pub mod Marking
 pub mod Parts
 pub mod TakenBack

@@ -1,5 +1,4 @@
 pub mod Ended
-pub mod Marked
 pub mod Output
 pub mod Policy
 pub mod Run

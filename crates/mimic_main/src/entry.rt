@@ -207,6 +207,7 @@ impl<'a> Program<'a> {
             default_threads: self.threads,
             auto_colours: self.auto_colours,
             schedule: self.schedule,
+            running: None,
         };
         let out = machine.stdout();
         let on_terminal = out.is_terminal();

@@ -6,19 +6,16 @@ ghost use Rattle.libtest_mimic.specs.declared.running.RunError.TheVariants.{Writ
 ghost use Rattle.libtest_mimic.specs.Run.{done};
 ghost use Rattle.libtest_mimic.specs.Trial.{AllCanRun};
 ghost use Rattle.mimic_main.specs.Ended.{IfOfRun};
-ghost use Rattle.mimic_main.specs.Marked.{IsRunOf};
 ghost use Rattle.mimic_main.specs.Output.{given_to};
 ghost use Rattle.mimic_main.specs.Run.{GotBeginning, IsLawful, Left, Ran, asked_by};
 
-use crate::marked::{Marked, mark_all};
 use crate::monitor::{Monitor, Notices};
 use crate::output::Output;
 use crate::policy::FlushPolicy;
 use crate::program::Fault;
-use crate::running_trials::RunningTrials;
 use libtest_mimic::{
-    Arguments, Clock, Conclusion, RunError, Schedule, Sink, Spawner, Stopwatch, Task, Trial,
-    WriteFault, run, run_from_queue,
+    Arguments, Clock, Conclusion, Request, RunError, RunningTrials, Schedule, Sink, Spawner,
+    Stopwatch, Task, Trial, WriteFault, run_as,
 };
 use std::alloc::Global;
 use std::fs::Files;
@@ -41,6 +38,8 @@ pub struct Job<'a, R, C> {
     pub auto_colours: bool,
     /// How its trials come to workers if more than one thread runs them.
     pub schedule: Schedule,
+    /// Where each thread marks the trial that it runs, by its place among the selected ones, if anybody looks.
+    pub running: Option<Arc<RunningTrials>>,
 }
 
 impl<R, C> Job<'_, R, C> {
@@ -89,7 +88,7 @@ impl<'a, R: Task + Send + 'static, C: Clock> Job<'a, R, C> {
     }
 
     // Runs as `run` does. If it isn't a list, another thread prints the notices of slow trials meanwhile. If that thread can't be
-    // started, or there is no memory for it, the run goes on without.
+    // started, or there is no memory for it, the run goes on without it.
     pub(crate) fn run_with_notices<
         H: Spawner + Files + 'static,
         O: Write,
@@ -112,67 +111,29 @@ impl<'a, R: Task + Send + 'static, C: Clock> Job<'a, R, C> {
         ensures nothing { IsSome self.entry.args.now.logfile → result.0 ≡ out }
         ensures lawful { IfOk result.2 (IsLawful (asked_by R.gives self.entry)) }
     {
-        let threads = self.args.threads(self.default_threads);
-        if self.args.list {
-            return self.run(host, host, alloc, out, on_terminal);
-        }
-        let Some(monitor) = Monitor::start(host, alloc, self.tests.as_slice(), threads, notices)
-        else {
-            return self.run(host, host, alloc, out, on_terminal);
+        let (args, threads) = (self.args, self.default_threads);
+        let monitor = Monitor::start(host, alloc, args, &self.tests, threads, notices);
+        let job = match &monitor {
+            Some(monitor) => self.marked_at(monitor.running()),
+            None => self,
         };
-        match self.marked(alloc, monitor.running()) {
-            Ok(job) => {
-                let ran = job.run(host, host, alloc, out, on_terminal);
-                monitor.end(host);
-                ran
-            }
-            Err(job) => {
-                monitor.end(host);
-                job.run(host, host, alloc, out, on_terminal)
-            }
+        let ran = job.run(host, host, alloc, out, on_terminal);
+        if let Some(monitor) = monitor {
+            monitor.end(host);
         }
+        ran
     }
 
-    // The same job over the same trials, which are marked while they run. If there is no memory for them, the job as it was.
-    fn marked(
-        self,
-        alloc: Global,
-        running: &Arc<RunningTrials>,
-    ) -> Result<Job<'a, Marked<R>, C>, Self>
-        ensures law { IfOk result (λ job.
-            IsRunOf (asked_by (λ m mode o. R.gives m.runner mode o) job) (asked_by R.gives self.entry)) }
-        ensures runnable { IfOk result (λ job. AllCanRun R.can_run self.entry.tests.items
-            → AllCanRun (λ m. R.can_run m.runner) job.tests.items) }
-        ensures args { IfOk result (λ job. job.args.now ≡ self.entry.args.now) }
-        ensures threads { IfOk result (λ job. job.default_threads ≡ self.entry.default_threads) }
-        ensures same { IfErr result (λ job. job ≡ self.entry) }
+    // The same job, whose trials are marked there while they run.
+    fn marked_at(self, running: Option<Arc<RunningTrials>>) -> Self
+        ensures trials { result.tests ≡ self.entry.tests }
+        ensures same { asked_by R.gives result ≡ asked_by R.gives self.entry }
+        ensures args { result.args.now ≡ self.entry.args.now }
+        ensures threads { result.default_threads ≡ self.entry.default_threads }
     {
-        let Job {
-            args,
-            tests,
-            clock,
-            default_threads,
-            auto_colours,
-            schedule,
-        } = self;
-        match mark_all(alloc, running, tests) {
-            Ok(tests) => Ok(Job {
-                args,
-                tests,
-                clock,
-                default_threads,
-                auto_colours,
-                schedule,
-            }),
-            Err(tests) => Err(Job {
-                args,
-                tests,
-                clock,
-                default_threads,
-                auto_colours,
-                schedule,
-            }),
-        }
+        let mut job = self;
+        job.running = running;
+        job
     }
 
     // Runs or lists its trials, which come to workers as it says, and returns the watch over its clock that measured the time.
@@ -192,23 +153,22 @@ impl<'a, R: Task + Send + 'static, C: Clock> Job<'a, R, C> {
             args,
             tests,
             clock,
-            default_threads: threads,
-            auto_colours: colours,
+            default_threads,
+            auto_colours,
             schedule,
+            running,
         } = self;
         let mut watch = Stopwatch::new(clock);
-        match schedule {
-            Schedule::Queue => {
-                let ran = run_from_queue(
-                    rt, alloc, args, tests, sink, &mut watch, threads, colours,
-                );
-                (watch, ran)
-            }
-            Schedule::Shares => {
-                let ran = run(rt, alloc, args, tests, sink, &mut watch, threads, colours);
-                (watch, ran)
-            }
-        }
+        let running = running.as_ref();
+        let request = Request {
+            args,
+            default_threads,
+            auto_colours,
+            schedule,
+            running,
+        };
+        let ran = run_as(rt, alloc, request, tests, sink, &mut watch);
+        (watch, ran)
     }
 }
 

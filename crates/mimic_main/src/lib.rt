@@ -23,14 +23,13 @@
 mod clock;
 mod colours;
 mod entry;
+mod full_names;
 mod job;
 mod machine;
-mod marked;
 mod monitor;
 mod output;
 mod policy;
 mod program;
-mod running_trials;
 mod shard_variables;
 mod sharding;
 mod status;

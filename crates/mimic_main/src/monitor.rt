@@ -1,23 +1,24 @@
 //! Prints which trials run for too long, while they do.
 ghost use Rattle.mimic_printer.specs.Sink.{HasFaultLeft};
 
+use crate::full_names::FullNames;
 use crate::output::BLOCK;
-use crate::running_trials::{FREE, RunningTrials};
 use arrayvec::ArrayVec;
-use libtest_mimic::{Sink, Spawner, Trial, WriteFault};
+use libtest_mimic::{Arguments, RunningTrials, Sink, Spawner, Trial, WriteFault};
 use mimic_printer::{Piece, Place, put_escaped, put_pieces};
 use std::alloc::{AllocError, Global};
 use std::io::Write;
 use std::rt::Clock;
-use std::sync::atomic::Ordering;
+use std::sync::atomic::{AtomicBool, Ordering};
 use std::sync::{Arc, Wait};
 use std::thread;
-use std::thread::JoinHandle;
+use std::thread::{JoinHandle, Parker};
 use std::time::Duration;
 
 // A thread that prints a notice of each trial that runs for too long.
 pub(crate) struct Monitor {
     running: Arc<RunningTrials>,
+    end: Arc<End>,
     thread: JoinHandle<()>,
 }
 
@@ -36,18 +37,21 @@ pub(crate) struct Notices<'a, E> {
 #[derive(Drop)]
 struct Notifier<E> {
     program: String,
+    // What the selected trials are called.
+    names: FullNames,
     limit: Duration,
     err: E,
 }
 
 impl Monitor {
-    // Starts the thread, for a run of these trials of which `threads` run at the same time. `None` if no notices are asked for, if
-    // no trial runs, if the thread can't be started, or if there is no memory for it.
+    // Starts the thread, for a run of these trials on so many threads if its arguments leave it open. `None` if no notices are asked
+    // for, if no trial runs, if the thread can't be started, or if there is no memory for it.
     pub(crate) fn start<T: Spawner + 'static, R, E: Write + Send + Drop + 'static>(
         rt: &T,
         alloc: Global,
+        args: &Arguments,
         trials: &[Trial<R>],
-        threads: usize,
+        default_threads: usize,
         notices: Notices<'_, E>,
     ) -> Option<Monitor> {
         let Notices {
@@ -56,58 +60,101 @@ impl Monitor {
             err,
         } = notices;
         let limit = limit?;
-        let threads = threads.min(trials.len());
-        if threads == 0 {
+        let names = FullNames::of_selected(alloc, args, trials).ok()?;
+        let threads = args.threads(default_threads).min(names.len());
+        if args.list || threads == 0 {
             return None;
         }
-        let running = RunningTrials::new(alloc, trials, threads).ok()?;
-        let running = Arc::new(alloc, running).ok()?;
+        let running = Arc::new(alloc, RunningTrials::new(alloc, threads).ok()?).ok()?;
+        let end = Arc::new(alloc, End::new()).ok()?;
         let looks = first_looks(alloc, threads).ok()?;
         let notifier = Notifier {
             program: String::from_str(alloc, program).ok()?,
+            names,
             limit,
             err,
         };
-        let (other, theirs) = (*rt, Arc::try_clone(&running).ok()?);
-        let thread = thread::spawn(rt, move || watch_over(&other, &theirs, looks, notifier)).ok()?;
-        Some(Monitor { running, thread })
+        let (other, watched) = (*rt, Arc::try_clone(&running).ok()?);
+        let awaited = Arc::try_clone(&end).ok()?;
+        let thread = thread::spawn(rt, move || {
+            watch_over(&other, &watched, &awaited, looks, notifier)
+        });
+        let thread = thread.ok()?;
+        Some(Monitor {
+            running,
+            end,
+            thread,
+        })
     }
 
-    // Where trials are to be marked while they run.
-    pub(crate) fn running(&self) -> &Arc<RunningTrials> {
-        &self.running
+    // Where trials are to be marked while they run. `None` if it can't be shared.
+    pub(crate) fn running(&self) -> Option<Arc<RunningTrials>> {
+        Arc::try_clone(&self.running).ok()
     }
 
     // Ends the thread, once it has written the notice that it is writing.
     pub(crate) fn end<T: Spawner>(self, rt: &T) {
-        let Monitor { running, thread } = self;
-        running.end();
+        let Monitor {
+            running: _,
+            end,
+            thread,
+        } = self;
+        end.has_come();
         thread.join(rt);
     }
 }
 
-// What was seen in a cell: its mark, when it was first seen again, and whether its trial was printed.
+// The end of a run, which the thread waits for.
+#[derive(Drop)]
+struct End {
+    is_here: AtomicBool,
+    // Where it sleeps meanwhile.
+    parker: Parker,
+}
+
+impl End {
+    fn new() -> End {
+        End {
+            is_here: AtomicBool::new(false),
+            parker: Parker::new(),
+        }
+    }
+
+    // Waits for it, but no longer than `most`. Returns whether it has come. One thread alone may call it.
+    fn wait<T: Wait>(&self, rt: &T, most: Duration) -> bool {
+        self.parker.park_timeout(rt, most);
+        self.is_here.load(Ordering::SeqCst)
+    }
+
+    // The run has ended. Wakes the thread that waits.
+    fn has_come(&self) {
+        self.is_here.store(true, Ordering::SeqCst);
+        self.parker.unpark();
+    }
+}
+
+// What was seen in a cell: the place of its trial, when that was first seen again, and whether it was printed.
 #[derive(Clone, Copy)]
 struct Look {
-    mark: u64,
+    place: Option<usize>,
     since: Option<Duration>,
     is_printed: bool,
 }
 
 impl Look {
-    // Looks at the mark that is there now. Returns whether its trial has run for too long and wasn't printed yet.
+    // Looks at the trial that is there now. Returns whether it has run for too long and wasn't printed yet.
     //
     // The clock is read only for a trial that was seen before, so for none that is fast.
-    fn is_slow<T: Clock>(&mut self, rt: &T, mark: u64, limit: Duration) -> bool {
-        if mark != self.mark {
+    fn is_slow<T: Clock>(&mut self, rt: &T, place: Option<usize>, limit: Duration) -> bool {
+        if place != self.place {
             *self = Look {
-                mark,
+                place,
                 since: None,
                 is_printed: false,
             };
             return false;
         }
-        if mark == FREE || self.is_printed {
+        if place.is_none() || self.is_printed {
             return false;
         }
         let Ok(now) = rt.monotonic() else {
@@ -124,7 +171,7 @@ impl Look {
 // Nothing was seen yet in this number of cells.
 fn first_looks(alloc: Global, count: usize) -> Result<Vec<Look>, AllocError> {
     let look = Look {
-        mark: FREE,
+        place: None,
         since: None,
         is_printed: false,
     };
@@ -139,13 +186,14 @@ fn first_looks(alloc: Global, count: usize) -> Result<Vec<Look>, AllocError> {
 fn watch_over<T: Wait + Clock, E: Write + Drop>(
     rt: &T,
     running: &RunningTrials,
+    end: &End,
     looks: Vec<Look>,
     notifier: Notifier<E>,
 ) {
     let (mut looks, mut notifier) = (looks, notifier);
     let pause = notifier.pause();
     for _ in rt.forever() {
-        if running.sleeps_to_end(rt, pause) {
+        if end.wait(rt, pause) {
             return;
         }
         look_at_all(rt, running, looks.as_mut_slice(), &mut notifier);
@@ -160,9 +208,9 @@ fn look_at_all<T: Clock, E: Write>(
     notifier: &mut Notifier<E>,
 ) {
     for (cell, look) in running.cells().iter().zip(looks.iter_mut()) {
-        let mark = cell.load(Ordering::Acquire);
-        if look.is_slow(rt, mark, notifier.limit) {
-            notifier.print(running.name(mark));
+        let place = cell.place();
+        if look.is_slow(rt, place, notifier.limit) {
+            notifier.print(place);
         }
     }
 }
@@ -173,10 +221,11 @@ impl<E: Write> Notifier<E> {
         Duration::from_millis((millis_of(self.limit) / 8).clamp(1, 1000))
     }
 
-    // Prints the trial, if it can be. A line that a block holds is one write, so that no other program's text comes between its
-    // parts.
-    fn print(&mut self, name: &[u8]) {
+    // Prints the trial at the place, if it can be. A line that a block holds is one write, so that no other program's text comes
+    // between its parts.
+    fn print(&mut self, place: Option<usize>) {
         let program = self.program.as_str();
+        let name = place.and_then(|place| self.names.get(place)).unwrap_or(&[]);
         let mut block: Sink<ArrayVec<u8, BLOCK>> = Sink::new(ArrayVec::new());
         let _ = match put_notice(&mut block, program, name, self.limit) {
             Ok(()) => self.err.write_all(block.into_inner().as_slice()),

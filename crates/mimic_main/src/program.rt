@@ -181,6 +181,7 @@ impl Program<'_> {
                     default_threads: self.threads,
                     auto_colours: self.auto_colours,
                     schedule: self.schedule,
+                    running: None,
                 };
                 let (out, watch, ran) = job.run(rt, files, alloc, out, self.on_terminal);
                 (out, watch, self.status_of(ran, args.logfile.as_ref(), err))
