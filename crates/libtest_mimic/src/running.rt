@@ -161,7 +161,7 @@ pub fn run_from_queue<R: Task + Send + 'static, W: Write, C: Clock, T: Spawner +
 }
 
 /// What is asked of a run, and who looks at it.
-#[derive(Clone, Copy)]
+#[derive(Drop)]
 pub struct Request<'a> {
     /// Its arguments.
     pub args: &'a Arguments,
@@ -173,7 +173,7 @@ pub struct Request<'a> {
     pub schedule: Schedule,
     /// Where each thread marks the trial that it runs, by its place among the selected ones, if anybody looks. A thread for which there
     /// is no cell marks none.
-    pub running: Option<&'a Arc<RunningTrials>>,
+    pub running: Option<Arc<RunningTrials>>,
 }
 
 /// Runs or lists the selected trials as requested: as `run` does if they are dealt out, and as `run_from_queue` does if they wait in a
@@ -227,21 +227,21 @@ fn run_with_threads<R: Task + Send + 'static, W: Write, C: Clock, T: Spawner + '
     rt: &T,
     alloc: Global,
     selected: Selection<'_, R>,
-    workers: Workers<'_>,
+    workers: Workers,
     sink: &mut Sink<W>,
     watch: &mut Stopwatch<C>,
 ) -> Result<Conclusion, RunError>
     requires room { HasFaultLeft sink.old }
     requires running { IsRunning watch.old }
     requires runnable { AllCanRun R.can_run selected.trials.items }
-    ensures reported { Reports R.gives workers.entry.threads (selected_suite selected.entry)
+    ensures reported { Reports R.gives workers.threads (selected_suite selected.entry)
         (shown W.contents sink.old) (shown W.contents sink.new) watch.new result }
-    ensures zero_threads { workers.entry.threads ≡ 0 → selected.entry.trials.items ≢ []
+    ensures zero_threads { workers.threads ≡ 0 → selected.entry.trials.items ≢ []
         → result ≡ Err ZeroThreads }
     ensures unwritten { OnNothingWritten result (sink.new ≡ sink.old) }
 {
     if workers.threads == 1 || selected.trials.is_empty() {
-        return run_in_order(alloc, selected, workers.running, sink, watch);
+        return run_in_order(alloc, selected, workers.running.as_ref(), sink, watch);
     }
     if workers.threads == 0 {
         return Err(RunError::ZeroThreads);

@@ -113,27 +113,17 @@ impl<'a, R: Task + Send + 'static, C: Clock> Job<'a, R, C> {
     {
         let (args, threads) = (self.args, self.default_threads);
         let monitor = Monitor::start(host, alloc, args, &self.tests, threads, notices);
-        let job = match &monitor {
-            Some(monitor) => self.marked_at(monitor.running()),
-            None => self,
+        let running = match &monitor {
+            Some(monitor) => monitor.running(),
+            None => None,
         };
+        let mut job = self;
+        job.running = running;
         let ran = job.run(host, host, alloc, out, on_terminal);
         if let Some(monitor) = monitor {
             monitor.end(host);
         }
         ran
-    }
-
-    // The same job, whose trials are marked there while they run.
-    fn marked_at(self, running: Option<Arc<RunningTrials>>) -> Self
-        ensures trials { result.tests ≡ self.entry.tests }
-        ensures same { asked_by R.gives result ≡ asked_by R.gives self.entry }
-        ensures args { result.args.now ≡ self.entry.args.now }
-        ensures threads { result.default_threads ≡ self.entry.default_threads }
-    {
-        let mut job = self;
-        job.running = running;
-        job
     }
 
     // Runs or lists its trials, which come to workers as it says, and returns the watch over its clock that measured the time.
@@ -159,7 +149,6 @@ impl<'a, R: Task + Send + 'static, C: Clock> Job<'a, R, C> {
             running,
         } = self;
         let mut watch = Stopwatch::new(clock);
-        let running = running.as_ref();
         let request = Request {
             args,
             default_threads,

@@ -43,11 +43,7 @@ impl Inbox {
         ensures board { IfOk result (λ inbox. board_of inbox ≡ empty_board n workers) }
         ensures timed { IfOk result (λ inbox. is_timed inbox ≡ false) }
     {
-        let notes = Notes {
-            timed: false,
-            running: None,
-        };
-        Inbox::with_notes(alloc, n, workers, notes)
+        Inbox::with_notes(alloc, n, workers, Notes::none())
     }
 
     /// An inbox as `new` makes it, for workers that make these notes. If it is timed, they note there for how many nanoseconds the trial

@@ -49,7 +49,7 @@ pub use queue::{Queue, QueueCrew, QueueStarts};
 pub use remaining::Remaining;
 pub use reports::{Reports, Untold};
 pub use rows::{Rows, put_joined};
-pub use running::{Cell, Notes, RunningTrials};
+pub use running::{Notes, RunningCell, RunningTrials};
 pub use share::{Share, deal, deal_next, empty_shares};
 pub use shares::{ShareCrew, ShareStarts};
 pub use spawner::Spawner;

@@ -1,16 +1,18 @@
 //! Which trials run at present.
+ghost use Rattle.std.specs.Prelude.{◌≡◌, false};
+
 use std::alloc::{AllocError, Global};
 use std::sync::Arc;
 use std::sync::atomic::{AtomicU64, AtomicUsize, Ordering};
 
 /// Where a thread marks the trial that it runs. Others look at it, so no contract says what it holds.
 #[derive(Drop)]
-pub struct Cell {
+pub struct RunningCell {
     // The trial's place and one; 0 if none runs.
     mark: AtomicU64,
 }
 
-impl Cell {
+impl RunningCell {
     /// Marks that the trial at the place runs now.
     #[inline]
     pub fn set(&self, place: usize) {
@@ -35,7 +37,7 @@ impl Cell {
 #[derive(Drop)]
 pub struct RunningTrials {
     // One for each thread that runs trials.
-    cells: Vec<Cell>,
+    cells: Vec<RunningCell>,
     // How many threads have asked for one.
     asked: AtomicUsize,
 }
@@ -46,19 +48,19 @@ impl RunningTrials {
         let mut cells = Vec::with_capacity(alloc, threads)?;
         for _ in 0..threads {
             let mark = AtomicU64::new(0);
-            cells.push(Cell { mark })?;
+            cells.push(RunningCell { mark })?;
         }
         let asked = AtomicUsize::new(0);
         Ok(RunningTrials { cells, asked })
     }
 
     /// The cells of all threads.
-    pub fn cells(&self) -> &[Cell] {
+    pub fn cells(&self) -> &[RunningCell] {
         self.cells.as_slice()
     }
 
     /// The cell of a thread that is about to run trials, which no other thread gets. `None` if all were given away.
-    pub fn next_cell(&self) -> Option<&Cell> {
+    pub fn next_cell(&self) -> Option<&RunningCell> {
         self.cells.get(self.next_number())
     }
 
@@ -68,7 +70,7 @@ impl RunningTrials {
     }
 
     // The cell of this number, from 0.
-    pub(crate) fn cell(&self, number: usize) -> Option<&Cell> {
+    pub(crate) fn cell(&self, number: usize) -> Option<&RunningCell> {
         self.cells.get(number)
     }
 }
@@ -80,4 +82,16 @@ pub struct Notes {
     pub timed: bool,
     /// Where they mark which trials run, if anybody looks.
     pub running: Option<Arc<RunningTrials>>,
+}
+
+impl Notes {
+    /// Neither of them.
+    pub fn none() -> Notes
+        ensures { result.timed ≡ false }
+    {
+        Notes {
+            timed: false,
+            running: None,
+        }
+    }
 }

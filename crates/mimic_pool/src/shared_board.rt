@@ -3,7 +3,7 @@ ghost use Rattle.std.specs.Prelude.{◌≡◌, ◌+◌, ◌≤◌};
 ghost use Rattle.std.specs.VecDeque.{deque_capacity, deque_len};
 
 use crate::board::Board;
-use crate::running::{Cell, RunningTrials};
+use crate::running::{RunningCell, RunningTrials};
 use mimic_trial::Outcome;
 use std::alloc::{AllocError, Global};
 use std::collections::VecDeque;
@@ -51,7 +51,7 @@ impl SharedBoard {
 
     // The cell of this number, if anybody looks.
     #[inline]
-    pub(crate) fn cell(&self, number: usize) -> Option<&Cell> {
+    pub(crate) fn cell(&self, number: usize) -> Option<&RunningCell> {
         match &self.running {
             Some(running) => running.cell(number),
             None => None,

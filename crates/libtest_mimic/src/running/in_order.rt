@@ -14,7 +14,7 @@ use crate::running::timing::{elapsed, start, time_shown};
 use crate::select::is_ignored;
 use crate::stopwatch::{Clock, Stopwatch};
 use mimic_args::Arguments;
-use mimic_pool::{Cell, RunningTrials};
+use mimic_pool::{RunningCell, RunningTrials};
 use mimic_printer::{Printer, Sink, WriteFault};
 use mimic_trial::{Conclusion, Task, Trial, run_unless};
 use std::alloc::Global;
@@ -81,11 +81,11 @@ fn write_report<R: Task, W: Write, C: Clock>(
 struct RowsInOrder<'a> {
     printer: &'a Printer,
     args: &'a Arguments,
-    cell: Option<&'a Cell>,
+    cell: Option<&'a RunningCell>,
 }
 
 // The cell of the thread that calls, if anybody looks.
-fn next_cell(running: Option<&Arc<RunningTrials>>) -> Option<&Cell> {
+fn next_cell(running: Option<&Arc<RunningTrials>>) -> Option<&RunningCell> {
     running?.next_cell()
 }
 
@@ -129,7 +129,7 @@ fn run_rows<R: Task, W: Write, C: Clock>(
 
 // Marks that the trial at the place runs, if anybody looks.
 #[inline(always)]
-fn mark(cell: Option<&Cell>, place: usize) {
+fn mark(cell: Option<&RunningCell>, place: usize) {
     if let Some(cell) = cell {
         cell.set(place);
     }
@@ -137,7 +137,7 @@ fn mark(cell: Option<&Cell>, place: usize) {
 
 // Marks that no trial runs.
 #[inline(always)]
-fn unmark(cell: Option<&Cell>) {
+fn unmark(cell: Option<&RunningCell>) {
     if let Some(cell) = cell {
         cell.clear();
     }

@@ -27,11 +27,11 @@ use std::io::Write;
 use std::sync::{Arc, Wait};
 
 // How many threads run the trials, how these come to them, and where they are marked while they run, if anybody looks.
-#[derive(Clone, Copy)]
-pub(super) struct Workers<'a> {
+#[derive(Drop)]
+pub(super) struct Workers {
     pub(super) threads: usize,
     pub(super) schedule: Schedule,
-    pub(super) running: Option<&'a Arc<RunningTrials>>,
+    pub(super) running: Option<Arc<RunningTrials>>,
 }
 
 // Runs the trials on `workers.threads` threads, but on no more than there are trials, and writes their report.
@@ -39,7 +39,7 @@ pub(super) fn run_in_workers<R: Task + Send + 'static, W: Write, C: Clock, T: Sp
     rt: &T,
     alloc: Global,
     selected: Selection<'_, R>,
-    workers: Workers<'_>,
+    workers: Workers,
     sink: &mut Sink<W>,
     watch: &mut Stopwatch<C>,
 ) -> Result<Conclusion, RunError>
@@ -48,7 +48,7 @@ pub(super) fn run_in_workers<R: Task + Send + 'static, W: Write, C: Clock, T: Sp
     requires runnable { AllCanRun R.can_run selected.trials.items }
     requires running { IsRunning watch.old }
     requires room { HasFaultLeft sink.old }
-    ensures reported { Reports R.gives workers.entry.threads (selected_suite selected.entry)
+    ensures reported { Reports R.gives workers.threads (selected_suite selected.entry)
         (shown W.contents sink.old) (shown W.contents sink.new) watch.new result }
     ensures unwritten { OnNothingWritten result (sink.new ≡ sink.old) }
 {
@@ -62,7 +62,7 @@ pub(super) fn run_in_workers<R: Task + Send + 'static, W: Write, C: Clock, T: Sp
     let supply = Supply::new(alloc, workers.schedule, trials.len(), count)?;
     let notes = Notes {
         timed: args.report_time,
-        running: shared(workers.running),
+        running: workers.running,
     };
     let (infos, supply) = take_apart(rt, alloc, args, trials, supply)?;
     let supplied = Supplied {
@@ -85,11 +85,6 @@ struct Supplied<R: Task> {
     alloc: Global,
     supply: Supply<R>,
     notes: Notes,
-}
-
-// The same for one more owner. `None` if nobody looks, or if it can't be shared.
-fn shared(running: Option<&Arc<RunningTrials>>) -> Option<Arc<RunningTrials>> {
-    Arc::try_clone(running?).ok()
 }
 
 // What is known of each trial, and the runners, which were put into the supply.

@@ -6,7 +6,7 @@ ghost use Rattle.mimic_pool.specs.Supply.{Holds, Runs};
 ghost use Rattle.mimic_pool.specs.declared.share.Assigned.{Assigned};
 
 use super::runs::SCHEDULES;
-use libtest_mimic::pool::{Desk, Reports, Started, Supply, gather_rows, start_all};
+use libtest_mimic::pool::{Desk, Notes, Reports, Started, Supply, gather_rows, start_all};
 use libtest_mimic::printer::Printer;
 use libtest_mimic::{FormatSetting, Outcome, RunError, Schedule, Sink, Spawner, Task, TestInfo};
 use mimic_testkit::{Fault, FaultPlace, FaultyWriter, Known};
@@ -101,7 +101,7 @@ fn gather_with_lies<T: Task + Send + 'static, R: Spawner + 'static, F: Fn(usize)
     let room = Vec::with_capacity(alloc, infos.len())?;
     let desk = Desk::new(alloc, infos.len())?;
     let supply = supply_of(rt, alloc, schedule, infos.len(), task)?;
-    let (inbox, starts) = supply.prepare(rt, alloc, infos.len(), false)?;
+    let (inbox, starts) = supply.prepare(rt, alloc, infos.len(), Notes::none())?;
     let mut lies = inbox.reports(*rt, alloc)?;
     let _ = lies.tell(3, &Outcome::Ignored);
     let _ = lies.tell(1, &Outcome::Ignored);

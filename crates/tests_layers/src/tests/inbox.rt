@@ -5,7 +5,8 @@ ghost use Rattle.mimic_pool.specs.declared.share.Assigned.{Assigned};
 
 use super::{Plain, numbered};
 use mimic_pool::{
-    Desk, Inbox, Reports, Rows, Schedule, Spawner, Supply, Untold, join_all, put_joined, start_all,
+    Desk, Inbox, Notes, Reports, Rows, RunningTrials, Schedule, Spawner, Supply, Untold, join_all,
+    put_joined, start_all,
 };
 use mimic_trial::{Failed, Outcome, Task};
 use std::alloc::{AllocError, Global};
@@ -91,11 +92,15 @@ fn notes_times(rt: HostRuntime) -> Result<(), Fail> {
             readings: [*first, *second],
             is_second: Cell::new(false),
         };
-        let inbox = Inbox::with_times(rt.alloc(), 3, 1, true)?;
+        let timed = Notes {
+            timed: true,
+            running: None,
+        };
+        let inbox = Inbox::with_notes(rt.alloc(), 3, 1, timed)?;
         let reports = inbox.reports(clock, rt.alloc())?;
-        let started = reports.read_clock();
-        reports.note_time(1, started);
-        reports.note_time(3, started);
+        let started = reports.begin(1);
+        reports.end(1, started);
+        reports.end(3, started);
         assert!(rt; inbox.time(1) == Some(*time), "{first:?} {second:?}");
         assert!(rt; inbox.time(0) == Some(0) && inbox.time(2) == Some(0));
     }
@@ -107,10 +112,44 @@ fn notes_times(rt: HostRuntime) -> Result<(), Fail> {
 fn notes_no_times(rt: HostRuntime) -> Result<(), Fail> {
     let inbox = Inbox::new(rt.alloc(), 1, 1)?;
     let reports = inbox.reports(rt, rt.alloc())?;
-    assert!(rt; reports.read_clock().is_none());
-    reports.note_time(0, Some(0));
+    assert!(rt; reports.begin(0).is_none());
+    reports.end(0, Some(0));
     assert!(rt; inbox.time(0).is_none());
     Ok(())
+}
+
+// Each worker marks the trial that it runs in a cell of its own, until the trial has ended. One for which there is no cell marks none.
+#[test]
+fn marks_what_runs(rt: HostRuntime) -> Result<(), Fail> {
+    let alloc = rt.alloc();
+    let running = Arc::new(alloc, RunningTrials::new(alloc, 2)?)?;
+    let notes = Notes {
+        timed: false,
+        running: Some(Arc::try_clone(&running)?),
+    };
+    let inbox = Inbox::with_notes(alloc, 4, 3, notes)?;
+    let first = inbox.reports(rt, alloc)?;
+    let second = inbox.reports(rt, alloc)?;
+    let third = inbox.reports(rt, alloc)?;
+    assert!(rt; are_marked(&running, [None, None]));
+    assert!(rt; second.begin(0).is_none());
+    assert!(rt; are_marked(&running, [None, Some(0)]));
+    assert!(rt; first.begin(3).is_none() && third.begin(2).is_none());
+    assert!(rt; are_marked(&running, [Some(3), Some(0)]));
+    second.end(0, None);
+    third.end(2, None);
+    assert!(rt; are_marked(&running, [Some(3), None]));
+    first.end(3, None);
+    assert!(rt; are_marked(&running, [None, None]));
+    Ok(())
+}
+
+// Whether the two cells hold the trials at these places.
+fn are_marked(running: &RunningTrials, places: [Option<usize>; 2]) -> bool {
+    match running.cells() {
+        [first, second] => [first.place(), second.place()] == places,
+        _ => false,
+    }
 }
 
 // Whether these rows come next, and no more.
@@ -227,7 +266,7 @@ fn rows_taken<
 {
     let mut rows = Vec::with_capacity(alloc, trials)?;
     let supply = supply_of(rt, alloc, schedule, trials, task)?;
-    let (mut inbox, starts) = supply.prepare(rt, alloc, trials, false)?;
+    let (mut inbox, starts) = supply.prepare(rt, alloc, trials, Notes::none())?;
     let Some(crew) = start_all(rt, alloc, starts, true) else {
         return Err(Fail::new("a worker could not be started"));
     };

@@ -115,6 +115,7 @@ fn run_three<T: Spawner + 'static>(
         default_threads: 1,
         auto_colours: false,
         schedule: Schedule::Queue,
+        running: None,
     };
     let (telling, _, ran) = run_into(rt, alloc, job, output);
     assert_memory(&ran)?;
