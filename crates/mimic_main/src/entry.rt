@@ -11,7 +11,7 @@ use crate::clock::MonotonicClock;
 use crate::colours::shows_colours;
 use crate::job::Job;
 use crate::machine::Machine;
-use crate::monitor::Notices;
+use crate::monitor::{Monitor, Notices};
 use crate::program::Program;
 use crate::sharding::{ShardError, Sharding};
 use crate::status::Status;
@@ -200,6 +200,7 @@ impl<'a> Program<'a> {
         if let Some(shard) = shard {
             self.print_shard(shard, tests.len(), total, err);
         }
+        let monitor = self.monitor(machine, &args, &tests);
         let job = Job {
             args: &args,
             tests,
@@ -207,17 +208,31 @@ impl<'a> Program<'a> {
             default_threads: self.threads,
             auto_colours: self.auto_colours,
             schedule: self.schedule,
-            running: None,
+            running: monitor.as_ref().and_then(|monitor| monitor.running()),
         };
         let out = machine.stdout();
         let on_terminal = out.is_terminal();
+        let (_, _, ran) = job.run(&host, &host, alloc, out, on_terminal);
+        if let Some(monitor) = monitor {
+            monitor.end(&host);
+        }
+        self.status_of(ran, args.logfile.as_ref(), err)
+    }
+
+    // Starts the thread that prints slow trials. `None` if it isn't to, or can't be started: the run goes on without it then.
+    fn monitor<M: Machine, R>(
+        &self,
+        machine: &M,
+        args: &Arguments,
+        tests: &[Trial<R>],
+    ) -> Option<Monitor> {
         let notices = Notices {
             program: self.name,
             limit: self.slow_limit,
             err: machine.stderr(),
         };
-        let (_, _, ran) = job.run_with_notices(&host, alloc, out, on_terminal, notices);
-        self.status_of(ran, args.logfile.as_ref(), err)
+        let (host, alloc) = (machine.host(), machine.alloc());
+        Monitor::start(&host, alloc, args, tests, self.threads, notices)
     }
 
     /// What `main` is to return if making the trials may be refused: what their run returned, or 1 after the reason

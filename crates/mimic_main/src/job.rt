@@ -9,7 +9,6 @@ ghost use Rattle.mimic_main.specs.Ended.{IfOfRun};
 ghost use Rattle.mimic_main.specs.Output.{given_to};
 ghost use Rattle.mimic_main.specs.Run.{GotBeginning, IsLawful, Left, Ran, asked_by};
 
-use crate::monitor::{Monitor, Notices};
 use crate::output::Output;
 use crate::policy::FlushPolicy;
 use crate::program::Fault;
@@ -85,45 +84,6 @@ impl<'a, R: Task + Send + 'static, C: Clock> Job<'a, R, C> {
                 (out, watch, ran.map_err(Fault::Run))
             }
         }
-    }
-
-    // Runs as `run` does. If it isn't a list, another thread prints the notices of slow trials meanwhile. If that thread can't be
-    // started, or there is no memory for it, the run goes on without it.
-    pub(crate) fn run_with_notices<
-        H: Spawner + Files + 'static,
-        O: Write,
-        E: Write + Send + Drop + 'static,
-    >(
-        self,
-        host: &H,
-        alloc: Global,
-        out: O,
-        on_terminal: bool,
-        notices: Notices<'_, E>,
-    ) -> (O, Stopwatch<C>, Result<Conclusion, Fault>)
-        requires runnable { AllCanRun R.can_run self.tests.items }
-        requires some_thread { 1 ≤ self.default_threads }
-        ensures ran { IsNone self.entry.args.now.logfile
-            → IfOk result.2 (Ran (asked_by R.gives self.entry) (O.contents out) (O.contents result.0) result.1) }
-        ensures beginning { IsNone self.entry.args.now.logfile
-            → IfErr result.2 (λ fault. IfOfRun fault
-            (GotBeginning (asked_by R.gives self.entry) (O.contents out) (O.contents result.0) result.1)) }
-        ensures nothing { IsSome self.entry.args.now.logfile → result.0 ≡ out }
-        ensures lawful { IfOk result.2 (IsLawful (asked_by R.gives self.entry)) }
-    {
-        let (args, threads) = (self.args, self.default_threads);
-        let monitor = Monitor::start(host, alloc, args, &self.tests, threads, notices);
-        let running = match &monitor {
-            Some(monitor) => monitor.running(),
-            None => None,
-        };
-        let mut job = self;
-        job.running = running;
-        let ran = job.run(host, host, alloc, out, on_terminal);
-        if let Some(monitor) = monitor {
-            monitor.end(host);
-        }
-        ran
     }
 
     // Runs or lists its trials, which come to workers as it says, and returns the watch over its clock that measured the time.
