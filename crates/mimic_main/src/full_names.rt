@@ -21,7 +21,7 @@ impl FullNames {
     ) -> Result<FullNames, AllocError> {
         let mut selected = FullNames {
             names: Vec::new(alloc),
-            ends: Vec::new(alloc),
+            ends: Vec::with_capacity(alloc, trials.len())?,
         };
         for trial in trials {
             if !is_filtered_out(args, trial) {
