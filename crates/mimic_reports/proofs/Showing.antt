@@ -14,9 +14,10 @@ use Rattle.mimic_printer.specs.Report.{failures_if_any, failures_in, failures_te
 use Rattle.mimic_printer.specs.Row.{PrintedRow, label_of, outcomes_of, row_of}
 use Rattle.mimic_printer.specs.Widths.{kind_width_of, name_width_of}
 use Rattle.mimic_events.specs.declared.ending.Ending.{Ending}
+use Rattle.mimic_events.specs.declared.ending.Stop.{Stop}
 use Rattle.mimic_events.specs.declared.report.Row.{Row}
 use Rattle.mimic_reports.specs.declared.show.KeptRow.{KeptRow}
-use Rattle.mimic_reports.specs.Show.{cut_part, failures_part, kept_row, kept_rows, labels_in, pretty_printer, printed_row}
+use Rattle.mimic_reports.specs.Show.{cut_line, cut_part, cut_report_text, failures_part, kept_row, kept_rows, labels_in, pretty_printer, printed_row, title_if_any}
 
 -- ---- rows
 
@@ -63,3 +64,10 @@ pub text-parts : (p : Printer) (rows : List KeptRow) (n : ℕ) (counts : Conclus
     ≡ title_text p n ++ (flat_map (λ row. row_text p (kept_row row)) rows ++ (failures_text p (untimed rows) ++ (summary_text p counts nanos ++ [])))
 unfolding report_text
 text-parts p rows n counts nanos count same = simp (length-map, flat_map-map, failures_in-untimed, count, ← same)
+
+-- the text of a report that is cut, part by part
+pub cut-parts : (p : Printer) (rows : List KeptRow) (stop : Stop)
+    → cut_report_text p (kept_rows rows) stop
+    ≡ title_if_any p stop.announced ++ (flat_map (λ row. row_text p (kept_row row)) rows ++ (failures_text p (untimed rows) ++ (cut_line (length rows) stop ++ [])))
+unfolding cut_report_text
+cut-parts p rows stop = simp (length-map, flat_map-map, failures_in-untimed)
