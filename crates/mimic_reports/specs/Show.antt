@@ -78,6 +78,10 @@ pretty_cut colours rows stop = cut_report_text (pretty_printer colours (map prin
 
 -- ---- rows as a printer takes them. No public clause names these words
 
+-- rows, and then the failures among them
+abbrev pub rows_and_failures : Printer → List PrintedRow → List ℕ
+rows_and_failures printer rows = rows_text printer rows ++ failures_text printer rows
+
 abbrev pub kept_row : KeptRow → PrintedRow
 kept_row row = timed_row row.info row.outcome row.nanos
 

@@ -6,7 +6,7 @@ ghost use Rattle.mimic_printer.specs.Report.{report_text, row_text};
 ghost use Rattle.mimic_printer.specs.Row.{label_of, outcomes_of};
 ghost use Rattle.mimic_printer.specs.Sink.{HasFaultLeft, LeavesText, Puts, shown};
 ghost use Rattle.mimic_printer.specs.Widths.{kind_chars, kind_width_of, name_chars, name_width_of};
-ghost use Rattle.mimic_reports.specs.Show.{cut_line, cut_part, cut_report_text, failures_part, kept_row, kept_rows, pretty_cut, pretty_failures, pretty_printer, pretty_report, printed_row, title_if_any};
+ghost use Rattle.mimic_reports.specs.Show.{cut_line, cut_part, cut_report_text, failures_part, kept_row, kept_rows, pretty_cut, pretty_failures, pretty_printer, pretty_report, printed_row, rows_and_failures, title_if_any};
 
 use crate::cut::put_cut;
 use mimic_events::{Ending, Report, Row, Stop};
@@ -181,10 +181,23 @@ fn put_report<W: Write>(
         (report_text printer.now (kept_rows rows.now) counts.now.num_filtered_out nanos) result }
 {
     printer.print_title(sink, rows.len() as u64)?;
-    put_rows(sink, printer, rows)?;
-    printer.print_failures_in(sink, &KeptRows { rows })?;
+    put_rows_and_failures(sink, printer, rows)?;
     printer.print_summary(sink, counts, nanos)?;
     sink.flush()
+}
+
+// Writes each row, and then the failures among them.
+fn put_rows_and_failures<W: Write>(
+    sink: &mut Sink<W>,
+    printer: &Printer,
+    rows: &[KeptRow],
+) -> Result<(), WriteFault>
+    requires { HasFaultLeft sink.old }
+    ensures { Puts W.contents sink.old sink.new
+        (rows_and_failures printer.now (kept_rows rows.now)) result }
+{
+    put_rows(sink, printer, rows)?;
+    printer.print_failures_in(sink, &KeptRows { rows })
 }
 
 fn put_rows<W: Write>(
@@ -228,8 +241,7 @@ fn put_cut_report<W: Write>(
         (cut_report_text printer.now (kept_rows rows.now) stop.now) result }
 {
     put_title_if_any(sink, printer, stop.announced)?;
-    put_rows(sink, printer, rows)?;
-    printer.print_failures_in(sink, &KeptRows { rows })?;
+    put_rows_and_failures(sink, printer, rows)?;
     put_cut_line(sink, rows.len(), stop)?;
     sink.flush()
 }
