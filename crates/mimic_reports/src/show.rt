@@ -57,11 +57,13 @@ pub fn show_failures<W: Write>(
     Ok(())
 }
 
-/// Prints what has ended in a report that is cut as the harness prints it in pretty, with or without colours, and flushes it: the
-/// title with the number of trials that the report's title announces, each row once in its order, as [`show_report`] does, and the
-/// failures. In place of a summary, an empty line follows, and one that says how far the report goes, as [`show_failures`] prints it.
+/// Prints what has ended in a cut report as the harness prints it in pretty, with or without colours, and flushes it.
 ///
-/// Without a title the report has no rows, and that line is all that is printed. The columns are as wide as these rows need.
+/// The title has the number of trials that the report's title announces. Each row comes once, in its order, as [`show_report`] prints
+/// it, and then come the failures. In place of a summary, an empty line follows, and one that says how far the report goes, as
+/// [`show_failures`] prints it. The columns are as wide as these rows need.
+///
+/// Without a title the report has no rows, and these two lines are all that is printed.
 pub fn show_cut<W: Write>(
     alloc: Global,
     rows: Vec<Row>,
