@@ -1,5 +1,5 @@
 -- Reports as they are printed: the parts of their text, and how printing stops.
-use Rattle.std.proofs.Common.{◌≡◌, ℕ, Bool, List, [], ◌∷◌, ◌++◌, length, map, refl}
+use Rattle.std.proofs.Common.{◌≡◌, ℕ, Bool, List, [], ◌∷◌, ◌++◌, append_assoc, length, map, refl}
 use Rattle.std.proofs.lemmas.List.{length-map, map-append}
 use Rattle.std.proofs.lemmas.List.Folds.{flat_map-map}
 use Rattle.std.proofs.lemmas.Simd.{map-map}
@@ -12,11 +12,14 @@ use Rattle.mimic_trial.specs.declared.trial.TestInfo.{TestInfo}
 use Rattle.mimic_printer.specs.declared.Printer.{Printer}
 use Rattle.mimic_printer.specs.Report.{failures_if_any, failures_in, failures_text, report_text, row_text, summary_text, title_text}
 use Rattle.mimic_printer.specs.Row.{PrintedRow, label_of, outcomes_of, row_of}
+use Rattle.mimic_printer.specs.Sink.{Put, Shown}
 use Rattle.mimic_printer.specs.Widths.{kind_width_of, name_width_of}
+use Rattle.mimic_printer.proofs.Appending.{Put-refl, Put-trans}
 use Rattle.mimic_events.specs.declared.ending.Ending.{Ending}
+use Rattle.mimic_events.specs.declared.ending.Stop.{Stop}
 use Rattle.mimic_events.specs.declared.report.Row.{Row}
 use Rattle.mimic_reports.specs.declared.show.KeptRow.{KeptRow}
-use Rattle.mimic_reports.specs.Show.{cut_part, failures_part, kept_row, kept_rows, labels_in, pretty_printer, printed_row}
+use Rattle.mimic_reports.specs.Show.{cut_line, cut_part, cut_report_text, failures_part, kept_row, kept_rows, labels_in, pretty_printer, printed_row, rows_and_failures, title_if_any}
 
 -- ---- rows
 
@@ -57,9 +60,25 @@ failures_in-untimed Json rows = refl
 
 -- ---- text
 
+-- the rows and the failures, each without the rows' list that a printer takes
+pub both-parts : (p : Printer) (rows : List KeptRow)
+    → rows_and_failures p (kept_rows rows) ≡ flat_map (λ row. row_text p (kept_row row)) rows ++ failures_text p (untimed rows)
+both-parts p rows = simp (flat_map-map, failures_in-untimed)
+
+-- three parts, put one after another
+pub put3 : {a b c d : Shown} (r s t : List ℕ) → Put a b r → Put b c s → Put c d t → Put a d (r ++ (s ++ (t ++ [])))
+put3 r s t first second third = Put-trans r _ first (Put-trans s _ second (Put-trans t [] third (Put-refl _)))
+
 -- the text of a report, part by part
 pub text-parts : (p : Printer) (rows : List KeptRow) (n : ℕ) (counts : Conclusion) (nanos : ℕ) → n ≡ length rows → counts ≡ counts_of (outcomes_of (kept_rows rows)) counts.num_filtered_out
     → report_text p (kept_rows rows) counts.num_filtered_out nanos
-    ≡ title_text p n ++ (flat_map (λ row. row_text p (kept_row row)) rows ++ (failures_text p (untimed rows) ++ (summary_text p counts nanos ++ [])))
+    ≡ title_text p n ++ (rows_and_failures p (kept_rows rows) ++ (summary_text p counts nanos ++ []))
 unfolding report_text
-text-parts p rows n counts nanos count same = simp (length-map, flat_map-map, failures_in-untimed, count, ← same)
+text-parts p rows n counts nanos count same = simp (length-map, append_assoc, count, ← same)
+
+-- the text of a report that is cut, part by part
+pub cut-parts : (p : Printer) (rows : List KeptRow) (stop : Stop)
+    → cut_report_text p (kept_rows rows) stop
+    ≡ title_if_any p stop.announced ++ (rows_and_failures p (kept_rows rows) ++ (cut_line (length rows) stop ++ []))
+unfolding cut_report_text
+cut-parts p rows stop = simp (length-map, append_assoc)

@@ -1,14 +1,15 @@
 -- Reports as the harness prints them in pretty.
-use Rattle.std.specs.Prelude.{ℕ, Bool, List, [], ◌∷◌, ◌++◌, codes, length, map, string_bytes}
+use Rattle.std.specs.Prelude.{ℕ, Bool, List, [], ◌∷◌, ◌++◌, codes, length, map, Option, None, Some, string_bytes}
 use Rattle.std.specs.List.{concat}
 use Rattle.mimic_trial.specs.declared.formats.FormatSetting.TheVariants.{Pretty}
 use Rattle.mimic_printer.specs.declared.Printer.{Printer}
 use Rattle.mimic_printer.specs.declared.place.Place.TheVariants.{Line}
-use Rattle.mimic_printer.specs.Report.{failures_if_any, report_text}
+use Rattle.mimic_printer.specs.Report.{failures_if_any, failures_text, report_text, rows_text, title_text}
 use Rattle.mimic_printer.specs.Row.{Label, PrintedRow, timed_row}
 use Rattle.mimic_printer.specs.Widths.{kind_width_of, name_width_of}
 use Rattle.mimic_events.specs.declared.ending.Ending.{Ending}
 use Rattle.mimic_events.specs.declared.ending.Ending.TheVariants.{Whole, Cut}
+use Rattle.mimic_events.specs.declared.ending.Stop.{Stop}
 use Rattle.mimic_events.specs.declared.report.Report.{Report}
 use Rattle.mimic_events.specs.declared.report.Row.{Row}
 use Rattle.mimic_reports.specs.Cut.{cut_text}
@@ -43,10 +44,14 @@ pretty_printer colours rows = record {
 abbrev pub pretty_report : Bool → Report → List ℕ
 pretty_report colours report = report_text (pretty_printer colours (printed_rows report)) (printed_rows report) report.filtered_out report.nanos
 
--- what is printed of a report without its end, after `ended` rows: an empty line, and one that says how far it goes (our own)
+-- what is printed of the end of a report that is cut, after `ended` rows: an empty line, and one that says how far it goes (our own)
+abbrev pub cut_line : ℕ → Stop → List ℕ
+cut_line ended stop = concat (codes "\n" ∷ cut_text Line ended stop ∷ codes "\n" ∷ [])
+
+-- what is printed of how a report ended, after `ended` rows: nothing of a whole one
 abbrev pub cut_part : ℕ → Ending → List ℕ
 cut_part ended (Whole filtered_out nanos) = []
-cut_part ended (Cut stop) = concat (codes "\n" ∷ cut_text Line ended stop ∷ codes "\n" ∷ [])
+cut_part ended (Cut stop) = cut_line ended stop
 
 -- what is printed of the failures among rows that have ended, and of how the report ended
 abbrev pub failures_part : List PrintedRow → Ending → List ℕ
@@ -56,7 +61,26 @@ failures_part rows ending = failures_if_any rows ++ cut_part (length rows) endin
 abbrev pub pretty_failures : List Row → Ending → List ℕ
 pretty_failures rows ending = failures_part (map printed_row rows) ending
 
+-- the title of a report that announces this number of trials, if its title was read
+abbrev pub title_if_any : Printer → Option ℕ → List ℕ
+title_if_any printer None = []
+title_if_any printer (Some announced) = title_text printer announced
+
+-- what a printer prints of a report that is cut: the title, the rows that have ended, their failures, and how far it goes
+unfoldable pub cut_report_text : Printer → List PrintedRow → Stop → List ℕ
+cut_report_text printer rows stop = concat (
+    title_if_any printer stop.announced ∷ rows_text printer rows ∷ failures_text printer rows
+    ∷ cut_line (length rows) stop ∷ [])
+
+-- what the harness prints in pretty of the rows that have ended in a report, and how far it goes, if it is cut
+abbrev pub pretty_cut : Bool → List Row → Stop → List ℕ
+pretty_cut colours rows stop = cut_report_text (pretty_printer colours (map printed_row rows)) (map printed_row rows) stop
+
 -- ---- rows as a printer takes them. No public clause names these words
+
+-- rows, and then the failures among them
+abbrev pub rows_and_failures : Printer → List PrintedRow → List ℕ
+rows_and_failures printer rows = rows_text printer rows ++ failures_text printer rows
 
 abbrev pub kept_row : KeptRow → PrintedRow
 kept_row row = timed_row row.info row.outcome row.nanos

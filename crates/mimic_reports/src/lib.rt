@@ -1,5 +1,5 @@
-//! Shows reports: as JUnit's XML, as a page of HTML that needs nothing from outside, or as the harness prints them; and shows their
-//! slowest trials.
+//! Shows reports: as JUnit's XML, as a page of HTML that needs nothing from outside, or as the harness prints them, also if they are
+//! cut; and shows their slowest trials.
 //!
 //! ```rust
 //! use mimic_events::{read_from, read_rows};
@@ -25,8 +25,9 @@ mod slowest;
 mod style;
 mod suite;
 
+pub use cut::put_running;
 pub use junit::{JunitFault, write_junit};
 pub use page::write_page;
-pub use show::{show_failures, show_report};
+pub use show::{show_cut, show_failures, show_report};
 pub use slowest::write_slowest;
 pub use suite::{Suite, status_of};

@@ -6,10 +6,10 @@ ghost use Rattle.mimic_printer.specs.Report.{report_text, row_text};
 ghost use Rattle.mimic_printer.specs.Row.{label_of, outcomes_of};
 ghost use Rattle.mimic_printer.specs.Sink.{HasFaultLeft, LeavesText, Puts, shown};
 ghost use Rattle.mimic_printer.specs.Widths.{kind_chars, kind_width_of, name_chars, name_width_of};
-ghost use Rattle.mimic_reports.specs.Show.{cut_part, failures_part, kept_row, kept_rows, pretty_failures, pretty_printer, pretty_report, printed_row};
+ghost use Rattle.mimic_reports.specs.Show.{cut_line, cut_part, cut_report_text, failures_part, kept_row, kept_rows, pretty_cut, pretty_failures, pretty_printer, pretty_report, printed_row, rows_and_failures, title_if_any};
 
 use crate::cut::put_cut;
-use mimic_events::{Ending, Report, Row};
+use mimic_events::{Ending, Report, Row, Stop};
 use mimic_printer::{OutputFault, Place, Printer, ShownRows, Sink, WriteFault, widths};
 use mimic_trial::{Conclusion, FormatSetting, Outcome, TestInfo};
 use std::alloc::{AllocError, Global};
@@ -54,6 +54,29 @@ pub fn show_failures<W: Write>(
 {
     let rows = rows_to_print(alloc, rows)?;
     put_failures(sink, &rows, ending)?;
+    Ok(())
+}
+
+/// Prints what has ended in a cut report as the harness prints it in pretty, with or without colours, and flushes it.
+///
+/// The title has the number of trials that the report's title announces. Each row comes once, in its order, as [`show_report`] prints
+/// it, and then come the failures. In place of a summary, an empty line follows, and one that says how far the report goes, as
+/// [`show_failures`] prints it. The columns are as wide as these rows need.
+///
+/// Without a title the report has no rows, and these two lines are all that is printed.
+pub fn show_cut<W: Write>(
+    alloc: Global,
+    rows: Vec<Row>,
+    stop: &Stop,
+    colours: bool,
+    sink: &mut Sink<W>,
+) -> Result<(), OutputFault>
+    requires { HasFaultLeft sink.old }
+    ensures { LeavesText (pretty_cut colours rows.items stop.now) (shown W.contents sink.old)
+        (shown W.contents sink.new) result }
+{
+    let rows = rows_to_print(alloc, rows)?;
+    put_cut_report(sink, &printer_for(&rows, colours), &rows, stop)?;
     Ok(())
 }
 
@@ -160,10 +183,23 @@ fn put_report<W: Write>(
         (report_text printer.now (kept_rows rows.now) counts.now.num_filtered_out nanos) result }
 {
     printer.print_title(sink, rows.len() as u64)?;
-    put_rows(sink, printer, rows)?;
-    printer.print_failures_in(sink, &KeptRows { rows })?;
+    put_rows_and_failures(sink, printer, rows)?;
     printer.print_summary(sink, counts, nanos)?;
     sink.flush()
+}
+
+// Writes each row, and then the failures among them.
+fn put_rows_and_failures<W: Write>(
+    sink: &mut Sink<W>,
+    printer: &Printer,
+    rows: &[KeptRow],
+) -> Result<(), WriteFault>
+    requires { HasFaultLeft sink.old }
+    ensures { Puts W.contents sink.old sink.new
+        (rows_and_failures printer.now (kept_rows rows.now)) result }
+{
+    put_rows(sink, printer, rows)?;
+    printer.print_failures_in(sink, &KeptRows { rows })
 }
 
 fn put_rows<W: Write>(
@@ -191,12 +227,43 @@ fn put_failures<W: Write>(
         (failures_part (kept_rows rows.now) ending.now) result }
 {
     Printer::new(FormatSetting::Pretty, false, 0, 0).print_failures_in(sink, &KeptRows { rows })?;
-    put_cut_line(sink, rows.len(), ending)?;
+    put_ending(sink, rows.len(), ending)?;
     sink.flush()
 }
 
-// Writes how a report ended that is cut, behind an empty line, after `ended` rows.
-fn put_cut_line<W: Write>(
+// Writes what was read of a report that is cut, if these are the rows that have ended in it.
+fn put_cut_report<W: Write>(
+    sink: &mut Sink<W>,
+    printer: &Printer,
+    rows: &[KeptRow],
+    stop: &Stop,
+) -> Result<(), WriteFault>
+    requires { HasFaultLeft sink.old }
+    ensures { Puts W.contents sink.old sink.new
+        (cut_report_text printer.now (kept_rows rows.now) stop.now) result }
+{
+    put_title_if_any(sink, printer, stop.announced)?;
+    put_rows_and_failures(sink, printer, rows)?;
+    put_cut_line(sink, rows.len(), stop)?;
+    sink.flush()
+}
+
+fn put_title_if_any<W: Write>(
+    sink: &mut Sink<W>,
+    printer: &Printer,
+    announced: Option<u64>,
+) -> Result<(), WriteFault>
+    requires { HasFaultLeft sink.old }
+    ensures { Puts W.contents sink.old sink.new (title_if_any printer.now announced) result }
+{
+    match announced {
+        Some(announced) => printer.print_title(sink, announced),
+        None => Ok(()),
+    }
+}
+
+// Writes how a report ended, after `ended` rows: nothing of a whole one.
+fn put_ending<W: Write>(
     sink: &mut Sink<W>,
     ended: usize,
     ending: &Ending,
@@ -204,9 +271,17 @@ fn put_cut_line<W: Write>(
     requires { HasFaultLeft sink.old }
     ensures { Puts W.contents sink.old sink.new (cut_part ended ending.now) result }
 {
-    let Ending::Cut(stop) = ending else {
-        return Ok(());
-    };
+    match ending {
+        Ending::Whole { .. } => Ok(()),
+        Ending::Cut(stop) => put_cut_line(sink, ended, stop),
+    }
+}
+
+// Writes how far a report goes that is cut, behind an empty line, after `ended` rows.
+fn put_cut_line<W: Write>(sink: &mut Sink<W>, ended: usize, stop: &Stop) -> Result<(), WriteFault>
+    requires { HasFaultLeft sink.old }
+    ensures { Puts W.contents sink.old sink.new (cut_line ended stop.now) result }
+{
     sink.put(b"\n")?;
     put_cut(sink, Place::Line, ended as u128, stop)?;
     sink.put(b"\n")

@@ -1,11 +1,22 @@
 //! Prints on standard error why there is no report, or no more of one.
 use crate::REFUSED;
+use mimic_events::Stop;
+use mimic_printer::{Place, Sink};
+use mimic_reports::put_running;
 use std::fmt;
 use std::io::Eprint;
 
 // Prints what is wrong with a file, and returns the status.
 pub(crate) fn refuse<F: fmt::Display>(rt: &HostRuntime, file: &str, fault: &F) -> u8 {
     let _ = eprintln!(rt; "reports: {file}: {fault}");
+    REFUSED
+}
+
+// Prints why the report of a file is cut, and which trial was running, and returns the status.
+pub(crate) fn refuse_cut(rt: &HostRuntime, file: &str, stop: &Stop) -> u8 {
+    let _ = eprint!(rt; "reports: {file}: {stop}");
+    let _ = put_running(&mut Sink::new(rt.stderr()), Place::Line, stop);
+    let _ = eprintln!(rt);
     REFUSED
 }
 

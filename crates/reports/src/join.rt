@@ -1,24 +1,76 @@
 //! Joins the reports of shards into one.
+use crate::by_name::Absent;
+use crate::faults::{refuse, refuse_all, refuse_cut};
 use crate::input::Input;
 use crate::line::Join;
 use crate::{BLOCK, REFUSED, SUCCESS, TRIALS_FAILED};
-use mimic_join::{JoinFault, Refusal, join_reports};
+use mimic_join::{JoinFault, Joined, Refusal, ShardRead, join_cut_reports, join_reports};
 use mimic_printer::Sink;
-use mimic_trial::Conclusion;
 use std::alloc::Global;
 use std::io::BufWriter;
 
-// Prints the joined report, or why there is none.
+// Prints the joined report, and why it is cut, or why there is none.
 pub(crate) fn run(rt: &HostRuntime, alloc: Global, join: &Join) -> u8 {
     match print(rt, alloc, join) {
-        Ok(counts) if counts.has_failed() => TRIALS_FAILED,
-        Ok(_) => SUCCESS,
-        Err(fault) => {
-            let hint = hint_of(&fault);
-            let _ = eprintln!(rt; "reports: {}{hint}", fault.with_names(&join.files));
-            REFUSED
+        Ok(Joined::Whole(counts)) if counts.has_failed() => TRIALS_FAILED,
+        Ok(Joined::Whole(_)) => SUCCESS,
+        Ok(Joined::Cut(reads)) => refuse_shards(rt, alloc, join, &reads),
+        Err(fault) => refuse_fault(rt, alloc, join, &fault),
+    }
+}
+
+fn print(rt: &HostRuntime, alloc: Global, join: &Join) -> Result<Joined, JoinFault> {
+    let (reports, shards, equal_names) = (join.files.len(), join.shards, join.equal_names);
+    if join.cut && reports > shards {
+        return Err(JoinFault::Refused(Refusal::Number { reports, shards }));
+    }
+    let inputs = Input::all(rt, alloc, &join.files)?;
+    let Ok(out) = BufWriter::with_capacity(alloc, BLOCK, rt.stdout()) else {
+        return Err(JoinFault::OutOfMemory);
+    };
+    let mut sink = Sink::new(out);
+    if join.cut {
+        join_cut_reports(alloc, inputs, shards, equal_names, &mut sink)
+    } else {
+        let counts = join_reports(alloc, inputs, shards, equal_names, &mut sink)?;
+        Ok(Joined::Whole(counts))
+    }
+}
+
+// Prints why what was read of shards isn't all, and returns the status.
+fn refuse_shards(rt: &HostRuntime, alloc: Global, join: &Join, reads: &[ShardRead]) -> u8 {
+    for (file, read) in join.files.iter().zip(reads.iter()) {
+        refuse_shard(rt, file.as_str(), read);
+    }
+    if let Some(absent) = Absent::of(alloc, join) {
+        refuse_all(rt, &absent);
+    }
+    REFUSED
+}
+
+fn refuse_shard(rt: &HostRuntime, file: &str, read: &ShardRead) {
+    match read {
+        ShardRead::Whole(_) => {}
+        ShardRead::Cut { rows: _, stop } => {
+            refuse_cut(rt, file, stop);
+        }
+        ShardRead::Unreadable(error) => {
+            refuse(rt, file, error);
         }
     }
+}
+
+// Prints why there is no joined report, and returns the status.
+fn refuse_fault(rt: &HostRuntime, alloc: Global, join: &Join, fault: &JoinFault) -> u8 {
+    let hint = hint_of(fault);
+    let _ = eprintln!(rt; "reports: {}{hint}", fault.with_names(&join.files));
+    if let JoinFault::Refused(Refusal::Number { .. }) = fault
+        && join.by_name
+        && let Some(absent) = Absent::of(alloc, join)
+    {
+        refuse_all(rt, &absent);
+    }
+    REFUSED
 }
 
 // What a user may have missed. Empty if nothing comes to mind.
@@ -32,18 +84,4 @@ fn hint_of(fault: &JoinFault) -> &'static str {
         }
         _ => "",
     }
-}
-
-fn print(rt: &HostRuntime, alloc: Global, join: &Join) -> Result<Conclusion, JoinFault> {
-    let inputs = Input::all(rt, alloc, &join.files)?;
-    let Ok(out) = BufWriter::with_capacity(alloc, BLOCK, rt.stdout()) else {
-        return Err(JoinFault::OutOfMemory);
-    };
-    join_reports(
-        alloc,
-        inputs,
-        join.shards,
-        join.equal_names,
-        &mut Sink::new(out),
-    )
 }

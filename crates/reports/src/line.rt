@@ -1,4 +1,5 @@
 //! What a command line asks for.
+use crate::by_name::in_order;
 use crate::input::{STANDARD, name_of};
 use clap::error::ErrorKind;
 use clap::{Arg, ArgAction, ArgMatches, Command, value_parser};
@@ -17,6 +18,10 @@ const SLOWEST: &str = "20";
 pub(crate) struct Join {
     pub(crate) shards: usize,
     pub(crate) equal_names: bool,
+    /// Whether what can be read is joined if reports are cut, unreadable or absent.
+    pub(crate) cut: bool,
+    /// Whether the files were put in the order of the numbers in their names.
+    pub(crate) by_name: bool,
     pub(crate) files: Vec<String>,
 }
 
@@ -111,6 +116,12 @@ pub(crate) enum LineError {
     /// The files may be those of shards, so their names say no program.
     #[error("junit of several files, or of one whose name is a number, needs --name PROGRAM")]
     NoName,
+    /// Two files are to be ordered whose names have the same numbers.
+    #[error("--by-name can't order {first} and {second}, whose names have the same numbers")]
+    SameNumbers { first: String, second: String },
+    /// Standard input is to be ordered by a name.
+    #[error("--by-name can't order standard input, which has no name")]
+    NoNumbers,
     /// No subcommand is named that is read here.
     #[error("no subcommand")]
     NoSubcommand,
@@ -149,11 +160,19 @@ impl Line {
 
 impl Join {
     fn from_matches(alloc: Global, matches: &ArgMatches<'_>) -> Result<Join, LineError> {
+        let by_name = matches.get_flag("by-name");
+        let files = files_of(alloc, matches)?;
         Ok(Join {
             // `--shards` is required.
             shards: matches.get_one::<usize>("shards").unwrap_or(0),
             equal_names: matches.get_flag("equal-names"),
-            files: files_of(alloc, matches)?,
+            cut: matches.get_flag("cut"),
+            by_name,
+            files: if by_name {
+                in_order(alloc, files)?
+            } else {
+                files
+            },
         })
     }
 }
@@ -327,13 +346,21 @@ fn join_command<'a>(alloc: Global) -> Result<Command<'a>, AllocError> {
         .long("equal-names")
         .action(ArgAction::SetTrue)
         .help("Let trials in two shards have the same kind and name");
+    let cut = Arg::new(alloc, "cut")
+        .long("cut")
+        .action(ArgAction::SetTrue)
+        .help("Join what can be read, also if reports are cut, unreadable or absent");
+    let by_name = Arg::new(alloc, "by-name")
+        .long("by-name")
+        .action(ArgAction::SetTrue)
+        .help("Take the reports in the order of the numbers in the files' names");
     let files = files(
         alloc,
-        "The shards' reports in JSON, from index 0 on; - is standard input",
+        "The shards' reports in JSON, from index 0 on if not --by-name; - is standard input",
     );
     Command::new(alloc, "join")
         .about("Print one report of all shards")
-        .args(vec![in alloc; shards, equal_names, files]?)
+        .args(vec![in alloc; shards, equal_names, cut, by_name, files]?)
 }
 
 fn junit_command<'a>(alloc: Global) -> Result<Command<'a>, AllocError> {

@@ -1,6 +1,7 @@
 //! Reads reports in JSON: joins those of shards into one, compares them, and prints them in other forms.
 #![tactic(auto)]
 
+mod by_name;
 mod compare;
 mod expect;
 mod faults;
@@ -51,11 +52,15 @@ fn main(rt: HostRuntime) -> ExitCode {
 fn refuse(rt: &HostRuntime, error: &LineError) -> u8 {
     match error {
         LineError::OutOfMemory(_) => refuse_all(rt, error),
-        LineError::Unread(_) | LineError::TwoInputs | LineError::NoName | LineError::NoSubcommand =>
-            {
-                refuse_all(rt, error);
-                USAGE
-            }
+        LineError::Unread(_)
+        | LineError::TwoInputs
+        | LineError::NoName
+        | LineError::SameNumbers { .. }
+        | LineError::NoNumbers
+        | LineError::NoSubcommand => {
+            refuse_all(rt, error);
+            USAGE
+        }
         LineError::Shown(error) => {
             let _ = error.print(rt);
             if error.use_stderr() { USAGE } else { SUCCESS }

@@ -1,6 +1,7 @@
 //! What no clause states about shards, about reports that are joined, judged, compared and shown, and about a watch. Expected
 //! values are worked out by hand.
 mod compare;
+mod cut;
 mod expect;
 mod failures;
 mod joining;

@@ -1,16 +1,17 @@
 //! Calls whose writer fails: each returns the fault that the writer had, has written what comes before it, and doesn't call the
 //! writer again.
 use super::compare::{AFTER, BEFORE};
+use super::cut::join_cut_into;
 use super::failures::KILLED;
 use super::lines::{read, text_of};
 use super::reading::Slow;
 use super::times::TIMED;
 use mimic_compare::write_comparison;
-use mimic_events::{Ending, Report, RowsRead, read_from, write_report};
+use mimic_events::{Ending, Report, Row, RowsRead, Stop, read_from, write_report};
 use mimic_expect::write_unexpected;
 use mimic_join::join_reports;
 use mimic_printer::{Piece, Place, Sink, put_escaped, put_pieces};
-use mimic_reports::{Suite, show_failures, show_report, write_junit, write_page, write_slowest};
+use mimic_reports::{Suite, put_running, show_cut, show_failures, show_report, write_junit, write_page, write_slowest};
 use mimic_testkit::{Fault, FaultPlace, FaultyWriter};
 use mimic_watch::{Screen, watch};
 use std::alloc::Global;
@@ -28,9 +29,12 @@ enum Call {
     LongPieces,
     Escaped,
     Extent,
+    Running,
     Report,
     Joined,
+    JoinedCut,
     Shown,
+    ShownCut,
     Failures,
     Page,
     Junit,
@@ -42,14 +46,17 @@ enum Call {
     LiveWatch,
 }
 
-static CALLS: [Call; 16] = [
+static CALLS: [Call; 19] = [
     Call::Pieces,
     Call::LongPieces,
     Call::Escaped,
     Call::Extent,
+    Call::Running,
     Call::Report,
     Call::Joined,
+    Call::JoinedCut,
     Call::Shown,
+    Call::ShownCut,
     Call::Failures,
     Call::Page,
     Call::Junit,
@@ -117,12 +124,23 @@ fn escaped(alloc: Global, writer: FaultyWriter) -> Written {
     written!(alloc, writer, sink => put_escaped(&mut sink, b"a\x1bb\x1bc", Place::Terminal))
 }
 
+// The rows of a report that is cut, and how far it goes.
+fn cut(alloc: Global, lines: &[&str]) -> Result<(Vec<Row>, Stop), Fail> {
+    let RowsRead { rows, ending } = read(alloc, lines)?;
+    match ending {
+        Ending::Cut(stop) => Ok((rows, stop)),
+        Ending::Whole { .. } => Err("a whole report".into()),
+    }
+}
+
 fn extent(alloc: Global, writer: FaultyWriter) -> Written {
-    let RowsRead { rows: _, ending } = read(alloc, &["what\n"])?;
-    let Ending::Cut(stop) = ending else {
-        return Err("a whole report".into());
-    };
+    let (_, stop) = cut(alloc, &["what\n"])?;
     written!(alloc, writer, sink => stop.put_extent(&mut sink, 0))
+}
+
+fn running(alloc: Global, writer: FaultyWriter) -> Written {
+    let (_, stop) = cut(alloc, KILLED)?;
+    written!(alloc, writer, sink => put_running(&mut sink, Place::Line, &stop))
 }
 
 fn whole(alloc: Global, writer: FaultyWriter) -> Written {
@@ -133,6 +151,18 @@ fn whole(alloc: Global, writer: FaultyWriter) -> Written {
 fn joined(alloc: Global, text: &str, writer: FaultyWriter) -> Written {
     let inputs = vec![in alloc; Slow::of(text)]?;
     written!(alloc, writer, sink => join_reports(alloc, inputs, 1, false, &mut sink))
+}
+
+fn joined_cut(alloc: Global, writer: FaultyWriter) -> Written {
+    let killed = text_of(alloc, KILLED)?;
+    let inputs = vec![in alloc; Slow::of(killed.as_str())]?;
+    let (writer, joined) = join_cut_into(alloc, inputs, 1, writer);
+    Ok((writer, fault_of(alloc, joined)?))
+}
+
+fn shown_cut(alloc: Global, writer: FaultyWriter) -> Written {
+    let (rows, stop) = cut(alloc, KILLED)?;
+    written!(alloc, writer, sink => show_cut(alloc, rows, &stop, false, &mut sink))
 }
 
 fn shown(alloc: Global, writer: FaultyWriter) -> Written {
@@ -189,9 +219,12 @@ fn write(alloc: Global, call: Call, writer: FaultyWriter) -> Written {
         Call::LongPieces => pieces(alloc, &[SHORT, LONG, SHORT], writer),
         Call::Escaped => escaped(alloc, writer),
         Call::Extent => extent(alloc, writer),
+        Call::Running => running(alloc, writer),
         Call::Report => whole(alloc, writer),
         Call::Joined => joined(alloc, text, writer),
+        Call::JoinedCut => joined_cut(alloc, writer),
         Call::Shown => shown(alloc, writer),
+        Call::ShownCut => shown_cut(alloc, writer),
         Call::Failures => failures(alloc, writer),
         Call::Page => page(alloc, writer),
         Call::Junit => junit(alloc, text, false, writer),

@@ -1,0 +1,112 @@
+//! What is shown of reports that are cut, and what of them is joined, as after runs were killed. Expected texts are worked out by hand.
+use super::failures::KILLED;
+use super::lines::{announced, failed, passed, read, summary, text_of, title};
+use super::reading::Slow;
+use mimic_events::{Ending, RowsRead};
+use mimic_join::{JoinFault, Joined, ShardRead, join_cut_reports};
+use mimic_printer::Sink;
+use mimic_reports::show_cut;
+use std::alloc::Global;
+use std::io::{ErrorKind, Read, Write};
+use std::test::Fail;
+
+// What is shown of these lines. It promises nothing, so that no test carries the contract of `show_cut`.
+fn cut_shown(alloc: Global, lines: &[&str], colours: bool) -> Result<String, Fail> {
+    let RowsRead { rows, ending } = read(alloc, lines)?;
+    let Ending::Cut(stop) = ending else {
+        return Err("a whole report".into());
+    };
+    let mut sink = Sink::new(Vec::new(alloc));
+    show_cut(alloc, rows, &stop, colours, &mut sink)?;
+    Ok(String::from_utf8(sink.into_inner())?)
+}
+
+// The lines of a report, whether it is shown in colours, and what is shown.
+static SHOWN: [(&[&str], bool, &str); 3] = [
+    (
+        KILLED,
+        false,
+        "\nrunning 3 tests\ntest a ... FAILED\n\nfailures:\n\n---- a ----\nx\n\n\nfailures:\n    a\n\nthe report ends after 1 of 3 trials; running: [k] b\n",
+    ),
+    (
+        KILLED,
+        true,
+        "\nrunning 3 tests\ntest a ... \x1b[31mFAILED\x1b[0m\n\nfailures:\n\n---- a ----\nx\n\n\nfailures:\n    a\n\nthe report ends after 1 of 3 trials; running: [k] b\n",
+    ),
+    (&[], false, "\nno report\n"),
+];
+
+#[test]
+fn shows_what_has_ended(rt: HostRuntime) -> Result<(), Fail> {
+    for (lines, colours, expected) in &SHOWN {
+        let text = cut_shown(rt.alloc(), lines, *colours)?;
+        assert!(rt; text.as_str() == *expected, "{text}");
+    }
+    Ok(())
+}
+
+// Joins what can be read of these readers, and returns the writer, and what was read. This is the one place that calls
+// `join_cut_reports`, and it promises nothing, so that no test carries that contract.
+pub(super) fn join_cut_into<I: Read + Drop, W: Write>(
+    alloc: Global,
+    inputs: Vec<I>,
+    shards: usize,
+    writer: W,
+) -> (W, Result<Joined, JoinFault>) {
+    let mut sink = Sink::new(writer);
+    let joined = join_cut_reports(alloc, inputs, shards, false, &mut sink);
+    (sink.into_inner(), joined)
+}
+
+// The report of a shard that ended.
+const ENDED: &[&str] = &[
+    title!(1),
+    announced!("c"),
+    passed!("c"),
+    summary!("ok", 1, 0, 0, 0, 0, "1"),
+];
+
+// The rows of both, with their titles as one.
+const BOTH: &[&str] = &[
+    title!(4),
+    announced!("a"),
+    failed!("a", "x"),
+    announced!("c"),
+    passed!("c"),
+];
+
+// A shard that was killed, one whose report can't be read to its end, and one that ended. The rows of the second aren't kept.
+#[test]
+fn joins_what_has_ended(rt: HostRuntime) -> Result<(), Fail> {
+    let alloc = rt.alloc();
+    let (killed, ended) = (text_of(alloc, KILLED)?, text_of(alloc, ENDED)?);
+    let mut failing = Slow::of(ended.as_str());
+    failing.fails = Some(ErrorKind::TimedOut);
+    let inputs = vec![in alloc; Slow::of(killed.as_str()), failing, Slow::of(ended.as_str())]?;
+    let (bytes, joined) = join_cut_into(alloc, inputs, 3, Vec::new(alloc));
+    assert!(rt; str::from_utf8(&bytes)? == text_of(alloc, BOTH)?.as_str());
+    let Joined::Cut(reads) = joined? else {
+        return Err("whole reports".into());
+    };
+    let [ShardRead::Cut { rows, stop }, ShardRead::Unreadable(error), ShardRead::Whole(report)] =
+        reads.as_slice()
+    else {
+        return Err("other reads".into());
+    };
+    assert!(rt; rows.len() == 1 && stop.announced == Some(3) && stop.wrong_line.is_none());
+    assert!(rt; matches!(&stop.running, Some(label) if label.name.as_str() == "b"));
+    assert!(rt; error.kind() == ErrorKind::TimedOut && report.rows.len() == 1);
+    Ok(())
+}
+
+// A whole report of the one shard is written as it is.
+#[test]
+fn joins_whole_reports(rt: HostRuntime) -> Result<(), Fail> {
+    let alloc = rt.alloc();
+    let ended = text_of(alloc, ENDED)?;
+    let inputs = vec![in alloc; Slow::of(ended.as_str())]?;
+    let (bytes, joined) = join_cut_into(alloc, inputs, 1, Vec::new(alloc));
+    assert!(rt; str::from_utf8(&bytes)? == ended.as_str());
+    assert!(rt; matches!(joined?, Joined::Whole(counts) if counts.num_passed == 1));
+    Ok(())
+}
