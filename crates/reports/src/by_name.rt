@@ -66,7 +66,9 @@ fn sort(named: &mut Vec<Named>) -> Result<(), AllocError>
 // Returns the first two that are in order and have the same numbers.
 fn equal_pair(named: &[Named]) -> Option<(&Named, &Named)> {
     for pair in named.windows(2) {
-        if let [first, second] = pair && first.numbers == second.numbers {
+        if let [first, second] = pair
+            && first.numbers == second.numbers
+        {
             return Some((first, second));
         }
     }
@@ -169,7 +171,12 @@ fn shard_place(alloc: Global, files: &[String]) -> Result<Option<usize>, AllocEr
     };
     let first = numbers_in(alloc, first.as_str())?;
     let last = numbers_in(alloc, last.as_str())?;
-    Ok(first.iter().zip(last.iter()).position(|(one, other)| one != other))
+    Ok(
+        first
+            .iter()
+            .zip(last.iter())
+            .position(|(one, other)| one != other),
+    )
 }
 
 // Returns the number from which on shards count, 0 or 1, if these can be numbers of so many shards.

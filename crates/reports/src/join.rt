@@ -77,7 +77,7 @@ fn refuse_fault(rt: &HostRuntime, alloc: Global, join: &Join, fault: &JoinFault)
 fn hint_of(fault: &JoinFault) -> &'static str {
     match fault {
         JoinFault::Refused(Refusal::Uneven { .. }) => {
-            "; reports are taken in the order of their shards: 0, 1, 2, .., 10, 11"
+            "; reports are taken in the order of their shards: 0, 1, 2, .., 10, 11; --by-name sorts them"
         }
         JoinFault::Refused(Refusal::NamedTwice { .. }) => {
             "; a suite with equal names needs --equal-names"
