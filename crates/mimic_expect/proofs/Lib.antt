@@ -2,6 +2,7 @@ mod Judged
 mod Judgements
 mod KeyedPlaces
 mod KnownLines
+pub mod KnownTexts
 pub mod Laws
 mod Meeting
 mod Strangers

@@ -4,5 +4,6 @@ pub mod JudgedRows
 pub mod JudgementText
 pub mod KeyedItems
 pub mod Known
+pub mod KnownText
 pub mod Lines
 pub mod Verdict

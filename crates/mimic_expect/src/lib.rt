@@ -14,9 +14,11 @@ mod judge;
 mod judgement;
 mod keyed_items;
 mod known;
+mod known_text;
 mod unexpected;
 mod verdict;
 
 pub use inputs::write_unexpected;
 pub use known::{Expectation, KnownFault, read_known};
+pub use known_text::write_known;
 pub use verdict::{ExpectationVerdict, InputEnd};

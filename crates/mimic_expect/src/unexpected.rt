@@ -80,7 +80,7 @@ fn put_numbered<W: Write>(
 }
 
 // Writes the line that a report in JSON has of the outcome, without a time.
-fn put_row<W: Write>(sink: &mut Sink<W>, row: &Row) -> Result<(), WriteFault>
+pub(crate) fn put_row<W: Write>(sink: &mut Sink<W>, row: &Row) -> Result<(), WriteFault>
     requires { HasFaultLeft sink.old }
     ensures { Puts W.contents sink.old sink.new
         (row_line (entry_read row.now)) result }
