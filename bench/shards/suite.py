@@ -53,7 +53,7 @@ def refusals(reports, files, folder):
     reason = f"reports: the number of shards is {shards}, but that of reports is {shards - 1}\n"
     yield "a lost report is refused", join(reports, files[:-1], folder, shards), (1, "", reason)
     doubled = [files[0], files[0], *files[2:]]
-    reason = f"reports: {files[0]}: line 2: its trial is in a report before it too\n"
+    reason = f"reports: {files[0]}: line 2: its trial is in a report before it too; a suite with equal names needs --equal-names\n"
     yield "a doubled report is refused", join(reports, doubled, folder, shards), (1, "", reason)
 
 
