@@ -11,7 +11,10 @@ use mimic_events::{Ending, Report, Row, RowsRead, Stop, read_from, write_report}
 use mimic_expect::write_unexpected;
 use mimic_join::join_reports;
 use mimic_printer::{Piece, Place, Sink, put_escaped, put_pieces};
-use mimic_reports::{Suite, put_running, show_cut, show_failures, show_report, write_junit, write_page, write_slowest};
+use mimic_reports::{
+    Suite, put_running, show_cut, show_failures, show_report, write_junit, write_page,
+    write_slowest,
+};
 use mimic_testkit::{Fault, FaultPlace, FaultyWriter};
 use mimic_watch::{Screen, watch};
 use std::alloc::Global;
