@@ -5,12 +5,12 @@ use Rattle.std.specs.List.{concat, flat_map}
 use Rattle.mimic_trial.specs.declared.outcome.Outcome.{Outcome}
 use Rattle.mimic_trial.specs.declared.outcome.Outcome.TheVariants.{Passed, Failed, Ignored, Measured}
 use Rattle.mimic_trial.specs.Count.{is_failed, is_ignored_outcome}
-use Rattle.mimic_trial.specs.Seconds.{exact_seconds}
 use Rattle.mimic_printer.specs.Json.{Entry, outcomes_in}
 use Rattle.mimic_events.specs.declared.ending.Ending.{Ending}
 use Rattle.mimic_events.specs.declared.ending.Ending.TheVariants.{Whole, Cut}
 use Rattle.mimic_events.specs.declared.ending.Stop.{Stop}
 use Rattle.mimic_reports.specs.Cut.{cut_text}
+use Rattle.mimic_reports.specs.Seconds.{rounded_seconds}
 use Rattle.mimic_reports.specs.declared.junit_elements.Numbers.{Numbers}
 use Rattle.mimic_printer.specs.Escapes.{escaped}
 use Rattle.mimic_printer.specs.Piece.{first_line}
@@ -64,7 +64,7 @@ total (n ∷ numbers) = added n (total numbers)
 -- the attributes of the numbers, and the end of the tag
 abbrev pub numbers_part : Numbers → List (List ℕ)
 numbers_part n = codes " tests=\"" ∷ decimal n.tests ∷ codes "\" failures=\"" ∷ decimal n.failures ∷ codes "\" errors=\"" ∷ decimal n.errors
-    ∷ codes "\" skipped=\"" ∷ decimal n.skipped ∷ codes "\" time=\"" ∷ exact_seconds n.nanos ∷ codes "\">\n" ∷ []
+    ∷ codes "\" skipped=\"" ∷ decimal n.skipped ∷ codes "\" time=\"" ∷ rounded_seconds n.nanos ∷ codes "\">\n" ∷ []
 
 -- what comes before the first report
 unfoldable pub root_start : Numbers → List ℕ
@@ -85,7 +85,7 @@ class_point (b ∷ kind) = codes "."
 -- is no time
 abbrev pub time_part : Option ℕ → List ℕ
 time_part None = []
-time_part (Some nanos) = codes "\" time=\"" ++ exact_seconds nanos
+time_part (Some nanos) = codes "\" time=\"" ++ rounded_seconds nanos
 
 -- what follows them in a row, from the last quote on: a failure has its message, the first line as an attribute and the whole as a text
 abbrev pub outcome_part : Outcome → List (List ℕ)

@@ -22,7 +22,11 @@ pub(crate) fn put_cut<'a, W: Write>(
 
 /// Writes which trial was running when the report was cut, as a part of a line: `; running: [kind] name`, with both as they are in
 /// the place. Nothing is written if the report's last ended line isn't an announcement.
-pub fn put_running<W: Write>(sink: &mut Sink<W>, place: Place, stop: &Stop) -> Result<(), WriteFault>
+pub fn put_running<W: Write>(
+    sink: &mut Sink<W>,
+    place: Place,
+    stop: &Stop,
+) -> Result<(), WriteFault>
     requires { HasFaultLeft sink.old }
     ensures { Puts W.contents sink.old sink.new (running_part place stop.now.running) result }
 {

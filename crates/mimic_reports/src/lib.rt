@@ -20,6 +20,7 @@ mod junit_elements;
 mod page;
 mod page_elements;
 mod script;
+mod seconds;
 mod show;
 mod slowest;
 mod style;

@@ -263,11 +263,7 @@ fn put_title_if_any<W: Write>(
 }
 
 // Writes how a report ended, after `ended` rows: nothing of a whole one.
-fn put_ending<W: Write>(
-    sink: &mut Sink<W>,
-    ended: usize,
-    ending: &Ending,
-) -> Result<(), WriteFault>
+fn put_ending<W: Write>(sink: &mut Sink<W>, ended: usize, ending: &Ending) -> Result<(), WriteFault>
     requires { HasFaultLeft sink.old }
     ensures { Puts W.contents sink.old sink.new (cut_part ended ending.now) result }
 {
