@@ -5,6 +5,7 @@ use Rattle.std.specs.List.{concat, flat_map}
 use Rattle.mimic_trial.specs.declared.outcome.Outcome.{Outcome}
 use Rattle.mimic_trial.specs.declared.outcome.Outcome.TheVariants.{Passed, Failed, Ignored, Measured}
 use Rattle.mimic_trial.specs.Count.{is_failed, is_ignored_outcome}
+use Rattle.mimic_trial.specs.Text.{grouped}
 use Rattle.mimic_printer.specs.Json.{Entry, outcomes_in}
 use Rattle.mimic_events.specs.declared.ending.Ending.{Ending}
 use Rattle.mimic_events.specs.declared.ending.Ending.TheVariants.{Whole, Cut}
@@ -87,7 +88,8 @@ abbrev pub time_part : Option ℕ → List ℕ
 time_part None = []
 time_part (Some nanos) = codes "\" time=\"" ++ rounded_seconds nanos
 
--- what follows them in a row, from the last quote on: a failure has its message, the first line as an attribute and the whole as a text
+-- what follows them in a row, from the last quote on: a failure has its message, the first line as an attribute and the whole as a
+-- text; what was measured are properties, and output as pretty prints it, but for its columns
 abbrev pub outcome_part : Outcome → List (List ℕ)
 outcome_part Passed = codes "\"/>\n" ∷ []
 outcome_part Ignored = codes "\"><skipped/></testcase>\n" ∷ []
@@ -95,7 +97,8 @@ outcome_part (Failed None) = codes "\"><failure type=\"failed\"/></testcase>\n" 
 outcome_part (Failed (Some message)) = codes "\"><failure type=\"failed\" message=\"" ∷ escaped Value (first_line message) ∷ codes "\">"
     ∷ escaped Content message ∷ codes "</failure></testcase>\n" ∷ []
 outcome_part (Measured m) = codes "\"><properties><property name=\"ns_per_iter\" value=\"" ∷ decimal m.avg
-    ∷ codes "\"/><property name=\"deviation\" value=\"" ∷ decimal m.variance ∷ codes "\"/></properties></testcase>\n" ∷ []
+    ∷ codes "\"/><property name=\"deviation\" value=\"" ∷ decimal m.variance ∷ codes "\"/></properties><system-out>"
+    ∷ grouped (decimal m.avg) ∷ codes " ns/iter (+/- " ∷ grouped (decimal m.variance) ∷ codes ")</system-out></testcase>\n" ∷ []
 
 -- the line, or with a message the lines, of a row
 unfoldable pub case_text : List ℕ → Entry → List ℕ

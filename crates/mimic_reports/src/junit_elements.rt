@@ -172,7 +172,11 @@ pub(crate) fn put_case<'a, W: Write>(
             Piece::Number(measurement.avg),
             Piece::Text("\"/><property name=\"deviation\" value=\""),
             Piece::Number(measurement.variance),
-            Piece::Text("\"/></properties></testcase>\n")
+            Piece::Text("\"/></properties><system-out>"),
+            Piece::Grouped(measurement.avg),
+            Piece::Text(" ns/iter (+/- "),
+            Piece::Grouped(measurement.variance),
+            Piece::Text(")</system-out></testcase>\n")
         ),
     }
 }

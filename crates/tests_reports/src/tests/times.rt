@@ -148,7 +148,7 @@ no</failure></testcase>
     <testcase classname="a" name="c"><skipped/></testcase>
     <testcase classname="a" name="d"/>
     <testcase classname="a.k" name="e" time="0.350"/>
-    <testcase classname="a" name="m" time="61.000"><properties><property name="ns_per_iter" value="1234"/><property name="deviation" value="5"/></properties></testcase>
+    <testcase classname="a" name="m" time="61.000"><properties><property name="ns_per_iter" value="1234"/><property name="deviation" value="5"/></properties><system-out>1,234 ns/iter (+/- 5)</system-out></testcase>
     <testcase classname="a" name="z" time="0.000"/>
     <testcase classname="a" name="short" time="0.000"><failure type="failed"/></testcase>
 "#,
@@ -161,7 +161,7 @@ no</failure></testcase>
     <testcase classname="a" name="c"><skipped/></testcase>
     <testcase classname="a" name="d"/>
     <testcase classname="a.k" name="e"/>
-    <testcase classname="a" name="m"><properties><property name="ns_per_iter" value="1234"/><property name="deviation" value="5"/></properties></testcase>
+    <testcase classname="a" name="m"><properties><property name="ns_per_iter" value="1234"/><property name="deviation" value="5"/></properties><system-out>1,234 ns/iter (+/- 5)</system-out></testcase>
     <testcase classname="a" name="z"/>
     <testcase classname="a" name="short"><failure type="failed"/></testcase>
 "#,
