@@ -6,3 +6,4 @@ pub mod Showing
 pub mod SlowestFirst
 pub mod SuiteText
 pub mod Totals
+pub mod Unread

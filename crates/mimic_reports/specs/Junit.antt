@@ -1,39 +1,42 @@
 -- Reports in the XML that readers of JUnit's reports take. No standard fixes it: the elements and attributes are those that
 -- Jenkins, GitLab, Surefire and junitparser read; the texts of messages are our own.
-use Rattle.std.specs.Prelude.{ℕ, ◌+◌, List, [], ◌∷◌, ◌++◌, length, map, count_by, codes, decimal, Option, Some, None}
+use Rattle.std.specs.Prelude.{ℕ, ◌+◌, List, [], ◌∷◌, ◌++◌, length, map, count_by, codes, decimal, Option, Some, None, string_bytes}
 use Rattle.std.specs.List.{concat, flat_map}
 use Rattle.mimic_trial.specs.declared.outcome.Outcome.{Outcome}
 use Rattle.mimic_trial.specs.declared.outcome.Outcome.TheVariants.{Passed, Failed, Ignored, Measured}
 use Rattle.mimic_trial.specs.Count.{is_failed, is_ignored_outcome}
 use Rattle.mimic_trial.specs.Text.{grouped}
 use Rattle.mimic_printer.specs.Json.{Entry, outcomes_in}
-use Rattle.mimic_events.specs.declared.ending.Ending.{Ending}
 use Rattle.mimic_events.specs.declared.ending.Ending.TheVariants.{Whole, Cut}
 use Rattle.mimic_events.specs.declared.ending.Stop.{Stop}
 use Rattle.mimic_reports.specs.Cut.{cut_text}
 use Rattle.mimic_reports.specs.Seconds.{rounded_seconds}
 use Rattle.mimic_reports.specs.declared.junit_elements.Numbers.{Numbers}
+use Rattle.mimic_reports.specs.declared.suite.SuiteEnding.{SuiteEnding}
+use Rattle.mimic_reports.specs.declared.suite.SuiteEnding.TheVariants.{Read, Unread}
 use Rattle.mimic_printer.specs.Escapes.{escaped}
 use Rattle.mimic_printer.specs.Piece.{first_line}
 use Rattle.mimic_printer.specs.declared.place.Place.TheVariants.{Content, Value}
 
--- what is written of one report: the name of its program, its rows that have ended, and how it ended
+-- what is written of one report: the name of its program, its rows that have ended, and how its reading ended
 pub record Suite : Type 0 where
   pub program : List ℕ
   pub entries : List Entry
-  pub ending : Ending
+  pub ending : SuiteEnding
 
 -- ---- numbers
 
 -- a report without its end has one more test, which is an error
-abbrev pub errors_of : Ending → ℕ
-errors_of (Whole filtered_out nanos) = 0
-errors_of (Cut stop) = 1
+abbrev pub errors_of : SuiteEnding → ℕ
+errors_of (Read (Whole filtered_out nanos)) = 0
+errors_of (Read (Cut stop)) = 1
+errors_of (Unread cause) = 1
 
 -- the time of the run, and 0 if the report doesn't say it
-abbrev pub nanos_of : Ending → ℕ
-nanos_of (Whole filtered_out nanos) = nanos
-nanos_of (Cut stop) = 0
+abbrev pub nanos_of : SuiteEnding → ℕ
+nanos_of (Read (Whole filtered_out nanos)) = nanos
+nanos_of (Read (Cut stop)) = 0
+nanos_of (Unread cause) = 0
 
 -- the numbers of a report
 abbrev pub numbers_of : Suite → Numbers
@@ -114,10 +117,16 @@ stop_text program ended stop = concat (concat (codes "    <testcase classname=\"
     ∷ codes "\" name=\"(whole report)\"><error type=\"incomplete\" message=\"" ∷ [])
     ∷ cut_text Value ended stop ∷ codes "\"/></testcase>\n" ∷ [])
 
+-- the line that says why it was not read to its end
+unfoldable pub unread_text : List ℕ → List ℕ → List ℕ
+unread_text program cause = concat (codes "    <testcase classname=\"" ∷ escaped Value program
+    ∷ codes "\" name=\"(whole report)\"><error type=\"unreadable\" message=\"" ∷ escaped Value cause ∷ codes "\"/></testcase>\n" ∷ [])
+
 -- what follows the rows
-abbrev pub ending_text : List ℕ → ℕ → Ending → List ℕ
-ending_text program ended (Whole filtered_out nanos) = []
-ending_text program ended (Cut stop) = stop_text program ended stop
+abbrev pub ending_text : List ℕ → ℕ → SuiteEnding → List ℕ
+ending_text program ended (Read (Whole filtered_out nanos)) = []
+ending_text program ended (Read (Cut stop)) = stop_text program ended stop
+ending_text program ended (Unread cause) = unread_text program (string_bytes cause)
 
 -- ---- the whole
 

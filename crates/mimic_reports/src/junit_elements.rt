@@ -3,7 +3,7 @@ ghost use Rattle.std.specs.Prelude.{◌≡◌, ◌++◌};
 ghost use Rattle.mimic_printer.specs.Piece.{piece_text};
 ghost use Rattle.mimic_printer.specs.Sink.{HasFaultLeft, Puts};
 ghost use Rattle.mimic_events.specs.Contents.{entry_read};
-ghost use Rattle.mimic_reports.specs.Junit.{case_text, class_point, root_start, stop_text, suite_start, time_part};
+ghost use Rattle.mimic_reports.specs.Junit.{case_text, class_point, root_start, stop_text, suite_start, time_part, unread_text};
 
 use crate::cut::put_cut;
 use crate::seconds::rounded_pieces;
@@ -199,6 +199,26 @@ pub(crate) fn put_stop<'a, W: Write>(
     put_pieces(sink, &front)?;
     put_cut(sink, Place::Value, ended, stop)?;
     sink.put(b"\"/></testcase>\n")
+}
+
+// Writes why the report was not read to its end.
+#[tactic(auto, unfolding(crate::specs::Junit::unread_text))]
+pub(crate) fn put_unread<'a, W: Write>(
+    sink: &mut Sink<W>,
+    program: &'a str,
+    cause: &'a str,
+) -> Result<(), WriteFault>
+    requires { HasFaultLeft sink.old }
+    ensures { Puts W.contents sink.old sink.new (unread_text program.now cause.now) result }
+{
+    let pieces = [
+        Piece::Text("    <testcase classname=\""),
+        Piece::Escaped(Place::Value, program),
+        Piece::Text("\" name=\"(whole report)\"><error type=\"unreadable\" message=\""),
+        Piece::Escaped(Place::Value, cause),
+        Piece::Text("\"/></testcase>\n"),
+    ];
+    put_pieces(sink, &pieces)
 }
 
 impl Numbers {

@@ -31,4 +31,4 @@ pub use junit::{JunitFault, write_junit};
 pub use page::write_page;
 pub use show::{show_cut, show_failures, show_report};
 pub use slowest::write_slowest;
-pub use suite::{Suite, status_of};
+pub use suite::{Suite, SuiteEnding, SuiteFault, status_of};

@@ -5,13 +5,13 @@ use crate::line::Junit;
 use crate::{BLOCK, SUCCESS};
 use mimic_events::{Ending, ReadFault};
 use mimic_printer::Sink;
-use mimic_reports::{JunitFault, Suite, status_of, write_junit};
+use mimic_reports::{JunitFault, Suite, SuiteEnding, SuiteFault, status_of, write_junit};
 use std::alloc::Global;
 use std::fs;
 use std::io::BufWriter;
 
-// Prints the document of all reports that could be read. It also prints why a report is cut or could not be read. The status says
-// that, and, if the line asks for it, else whether a trial failed.
+// Prints the document of all reports, with what could be read of them. It also prints why a report is cut or could not be read. The
+// status says that, and, if the line asks for it, else whether a trial failed.
 pub(crate) fn run(rt: &HostRuntime, alloc: Global, junit: &Junit) -> u8 {
     let mut sources = Sources {
         files: Vec::new(alloc),
@@ -35,7 +35,7 @@ pub(crate) fn run(rt: &HostRuntime, alloc: Global, junit: &Junit) -> u8 {
     sources.print(rt, alloc)
 }
 
-// The reports that could be read, and the names of their files.
+// What could be read of the reports, and the names of their files.
 #[derive(Drop)]
 struct Sources<'a> {
     files: Vec<&'a str>,
@@ -46,8 +46,10 @@ struct Sources<'a> {
 impl<'a> Sources<'a> {
     fn with(self, rt: &HostRuntime, file: &'a str, suite: Suite<'a, Input<'a>>) -> Sources<'a> {
         let mut sources = self;
-        if let Ending::Cut(stop) = suite.ending() {
-            sources.status = refuse(rt, file, stop);
+        match suite.ending() {
+            SuiteEnding::Read(Ending::Whole { .. }) => {}
+            SuiteEnding::Read(Ending::Cut(stop)) => sources.status = refuse(rt, file, stop),
+            SuiteEnding::Unread(cause) => sources.status = refuse(rt, file, cause),
         }
         if sources.files.push(file).is_err() || sources.suites.push(suite).is_err() {
             sources.status = refuse(rt, file, &ReadFault::OutOfMemory);
@@ -79,18 +81,27 @@ fn refuse_at(rt: &HostRuntime, files: &[&str], fault: &JunitFault) -> u8 {
     }
 }
 
-// Reads a report. A regular file is read again when its report is written, so that its rows are not kept.
+// Reads a report, or what can be read of it. A regular file is read again when its report is written, so that its rows are not kept.
 fn read<'a>(
     rt: &'a HostRuntime,
     alloc: Global,
     name: &'a str,
     file: &'a str,
-) -> Result<Suite<'a, Input<'a>>, ReadFault> {
-    let input = Input::new(rt, file);
+) -> Result<Suite<'a, Input<'a>>, SuiteFault> {
     if file != STANDARD && is_regular(rt, file) {
-        Suite::counted(alloc, name, input, Input::new(rt, file))
-    } else {
-        Suite::kept(alloc, name, input)
+        let (input, again) = (Input::new(rt, file), Input::new(rt, file));
+        if let Ok(suite) = Suite::counted(alloc, name, input, again) {
+            return Ok(suite);
+        }
+        // It is read once more, and what can be read of it is kept.
+    }
+    match Suite::kept(alloc, name, Input::new(rt, file)) {
+        Ok(suite) => Ok(suite),
+        Err(SuiteFault::OutOfMemory) => Err(SuiteFault::OutOfMemory),
+        Err(SuiteFault::Input { rows, error }) => {
+            let cause = format!(in alloc; "{error}")?;
+            Ok(Suite::unread(name, rows, cause))
+        }
     }
 }
 

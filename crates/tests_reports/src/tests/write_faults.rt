@@ -96,11 +96,11 @@ fn suites_of<'a>(
     again: bool,
 ) -> Result<Vec<Suite<'a, Slow<'a>>>, Fail> {
     let suite = if again {
-        Suite::counted(alloc, "a", Slow::of(text), Slow::of(text))
+        Suite::counted(alloc, "a", Slow::of(text), Slow::of(text))?
     } else {
-        Suite::kept(alloc, "a", Slow::of(text))
+        Suite::kept(alloc, "a", Slow::of(text))?
     };
-    Ok(vec![in alloc; suite?]?)
+    Ok(vec![in alloc; suite]?)
 }
 
 // What a call wrote, and the text of the fault.
