@@ -1,3 +1,4 @@
+pub mod Alone
 pub mod Documents
 pub mod PageLaws
 pub mod Pages

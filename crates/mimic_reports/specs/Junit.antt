@@ -135,6 +135,14 @@ unfoldable pub suite_text : Suite → List ℕ
 suite_text s = concat (suite_start s.program (numbers_of s) ∷ flat_map (case_text s.program) s.entries
     ∷ ending_text s.program (length s.entries) s.ending ∷ codes "  </testsuite>\n" ∷ [])
 
+-- what comes before the root of a document
+abbrev pub declaration : List ℕ
+declaration = codes "<?xml version=\"1.0\" encoding=\"UTF-8\"?>\n"
+
+-- the document of one report, whose root is its element
+abbrev pub alone_text : Suite → List ℕ
+alone_text s = declaration ++ suite_text s
+
 -- the document of reports: each of them once, in their order
 unfoldable pub junit_text : List Suite → List ℕ
 junit_text suites = concat (root_start (total (map numbers_of suites)) ∷ flat_map suite_text suites ∷ codes "</testsuites>\n" ∷ [])

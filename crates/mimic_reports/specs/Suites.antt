@@ -21,7 +21,7 @@ use Rattle.mimic_reports.specs.declared.suite.SuiteFault.TheVariants as unread
 use Rattle.mimic_reports.specs.declared.suite.SuiteRows.{SuiteRows}
 use Rattle.mimic_reports.specs.declared.suite.SuiteRows.TheVariants.{Kept, Again}
 use Rattle.mimic_reports.specs.declared.suite.Suite.{Suite as SuiteRead}
-use Rattle.mimic_reports.specs.Junit.{Suite, case_text, errors_of, junit_text, nanos_of, numbers_of, root_start, suite_start, suite_text, total}
+use Rattle.mimic_reports.specs.Junit.{Suite, alone_text, case_text, declaration, errors_of, junit_text, nanos_of, numbers_of, root_start, suite_start, suite_text, total}
 use Rattle.mimic_events.specs.Readings.{HasEndedRows, IsReading}
 
 -- ---- numbers
@@ -185,6 +185,23 @@ place_of (junit.Write fault) = None
 abbrev pub LeavesDocument : {I : Type 0} → (I → Option (List ℕ)) → List (SuiteRead I) → Shown → Shown → Result (Unit {0}) JunitFault → Type 0
 LeavesDocument remaining suites old new (Ok done) = (shown : List Suite) × AllZip (IsShown remaining) suites shown × Put old new (junit_text shown)
 LeavesDocument remaining suites old new (Err fault) = DocumentLeftBy remaining suites old new fault
+
+-- with a fault of the report the declaration and a part of the report were appended, and with one of the writer a beginning of these
+-- or of the document
+abbrev pub AloneLeftBy : {I : Type 0} → (I → Option (List ℕ)) → SuiteRead I → Shown → Shown → JunitFault → Type 0
+AloneLeftBy remaining suite old new junit.TooMany = ⊥
+AloneLeftBy remaining suite old new (junit.Input place fault) = (place ≡ 0) × (part : List ℕ)
+    × IsPart remaining suite (junit.Input place fault) part × Put old new (declaration ++ part)
+AloneLeftBy remaining suite old new (junit.Changed place) = (place ≡ 0) × (part : List ℕ)
+    × IsPart remaining suite (junit.Changed place) part × Put old new (declaration ++ part)
+AloneLeftBy remaining suite old new (junit.Write fault) = (text : List ℕ)
+    × (IsPart remaining suite (junit.Write fault) text ⊎ ((shown : Suite) × IsShown remaining suite shown × (text ≡ suite_text shown)))
+    × Stopped old new (declaration ++ text)
+
+-- what a call that writes this report alone leaves: the document of it
+abbrev pub LeavesAlone : {I : Type 0} → (I → Option (List ℕ)) → SuiteRead I → Shown → Shown → Result (Unit {0}) JunitFault → Type 0
+LeavesAlone remaining suite old new (Ok done) = (shown : Suite) × IsShown remaining suite shown × Put old new (alone_text shown)
+LeavesAlone remaining suite old new (Err fault) = AloneLeftBy remaining suite old new fault
 
 -- ---- one report. No public clause names these words
 

@@ -7,7 +7,7 @@ ghost use Rattle.mimic_printer.specs.Sink.{HasFaultLeft, Put, Puts, shown};
 ghost use Rattle.mimic_events.specs.Contents.{entry_read};
 ghost use Rattle.mimic_reports.specs.Junit.{Suite as ShownSuite, case_text, ending_text, suite_text, total};
 ghost use Rattle.mimic_events.specs.Readings.{IsReading};
-ghost use Rattle.mimic_reports.specs.Suites.{IsPart, IsPartOf, IsReadAgain, IsShown, IsTooGreat, LeavesDocument, SuiteLeftBy, numbers_in, part_text};
+ghost use Rattle.mimic_reports.specs.Suites.{IsPart, IsPartOf, IsReadAgain, IsShown, IsTooGreat, LeavesAlone, LeavesDocument, SuiteLeftBy, numbers_in, part_text};
 ghost use Rattle.mimic_printer.specs.EscapeLaws.{EscapeLaws};
 ghost use Rattle.mimic_reports.specs.declared.suite.SuiteEnding.TheVariants.{Read};
 ghost use Rattle.mimic_reports.specs.declared.junit.JunitFault.TheVariants.{Write as WriteStopped};
@@ -103,6 +103,29 @@ pub fn write_junit<I: Read + Drop, W: Write>(
         place += 1;
     }
     sink.put(b"</testsuites>\n")?;
+    sink.flush()?;
+    Ok(())
+}
+
+/// Writes one report as a document of JUnit's XML whose root is the report's own element, for readers that know no `<testsuites>`, and
+/// flushes it.
+///
+/// It does with the report what [`write_junit`] does. A fault of the report has place 0.
+#[tactic(auto, using(mimic_printer::proofs::EscapeLaws::escape_laws))]
+pub fn write_suite<I: Read + Drop, W: Write>(
+    alloc: Global,
+    suite: Suite<'_, I>,
+    sink: &mut Sink<W>,
+) -> Result<(), JunitFault>
+    requires { HasFaultLeft sink.old }
+    ensures document { LeavesAlone I.remaining suite.entry (shown W.contents sink.old)
+        (shown W.contents sink.new) result }
+
+    // Each text can be unescaped, and escaped text has no markup.
+    ensures laws { EscapeLaws }
+{
+    sink.put(b"<?xml version=\"1.0\" encoding=\"UTF-8\"?>\n")?;
+    put_suite(alloc, 0, suite, sink)?;
     sink.flush()?;
     Ok(())
 }

@@ -27,7 +27,7 @@ mod style;
 mod suite;
 
 pub use cut::put_running;
-pub use junit::{JunitFault, write_junit};
+pub use junit::{JunitFault, write_junit, write_suite};
 pub use page::write_page;
 pub use show::{show_cut, show_failures, show_report};
 pub use slowest::write_slowest;

@@ -1,4 +1,4 @@
-//! Writes times.
+//! Makes pieces of times.
 ghost use Rattle.std.specs.Prelude.{◌≡◌, ◌++◌};
 ghost use Rattle.mimic_printer.specs.Piece.{piece_text};
 ghost use Rattle.mimic_reports.specs.Seconds.{rounded_seconds};

@@ -1,14 +1,16 @@
 //! Prints reports as JUnit's XML.
 use crate::faults::{refuse, refuse_all};
 use crate::input::{Input, STANDARD, name_of};
-use crate::line::Junit;
+use crate::line::{Junit, Root};
 use crate::{BLOCK, SUCCESS};
 use mimic_events::{Ending, ReadFault};
 use mimic_printer::Sink;
-use mimic_reports::{JunitFault, Suite, SuiteEnding, SuiteFault, status_of, write_junit};
+use mimic_reports::{
+    JunitFault, Suite, SuiteEnding, SuiteFault, status_of, write_junit, write_suite,
+};
 use std::alloc::Global;
 use std::fs;
-use std::io::BufWriter;
+use std::io::{BufWriter, Write};
 
 // Prints the document of all reports, with what could be read of them. It also prints why a report is cut or could not be read. The
 // status says that, and, if the line asks for it, else whether a trial failed.
@@ -32,7 +34,7 @@ pub(crate) fn run(rt: &HostRuntime, alloc: Global, junit: &Junit) -> u8 {
     if junit.shows_failures && sources.status == SUCCESS {
         sources.status = status_of(sources.suites.as_slice());
     }
-    sources.print(rt, alloc)
+    sources.print(rt, alloc, junit.root)
 }
 
 // What could be read of the reports, and the names of their files.
@@ -57,7 +59,7 @@ impl<'a> Sources<'a> {
         sources
     }
 
-    fn print(self, rt: &HostRuntime, alloc: Global) -> u8 {
+    fn print(self, rt: &HostRuntime, alloc: Global, root: Root) -> u8 {
         let Sources {
             files,
             suites,
@@ -66,10 +68,29 @@ impl<'a> Sources<'a> {
         let Ok(out) = BufWriter::with_capacity(alloc, BLOCK, rt.stdout()) else {
             return refuse_all(rt, &ReadFault::OutOfMemory);
         };
-        match write_junit(alloc, suites, &mut Sink::new(out)) {
+        match write(alloc, root, suites, out) {
             Ok(()) => status,
             Err(fault) => refuse_at(rt, &files, &fault),
         }
+    }
+}
+
+// Writes the document of the reports, or of the one that there is if its element is to be the root.
+fn write<W: Write + Drop>(
+    alloc: Global,
+    root: Root,
+    suites: Vec<Suite<'_, Input<'_>>>,
+    out: W,
+) -> Result<(), JunitFault> {
+    let mut sink = Sink::new(out);
+    if root == Root::Testsuites {
+        return write_junit(alloc, suites, &mut sink);
+    }
+    let mut suites = suites;
+    match suites.pop() {
+        Some(suite) => write_suite(alloc, suite, &mut sink),
+        // There was no memory for it.
+        None => Ok(()),
     }
 }
 

@@ -82,14 +82,21 @@ fn joins_what_has_ended(rt: HostRuntime) -> Result<(), Fail> {
     let (killed, ended) = (text_of(alloc, KILLED)?, text_of(alloc, ENDED)?);
     let mut failing = Slow::of(ended.as_str());
     failing.fails = Some(ErrorKind::TimedOut);
-    let inputs = vec![in alloc; Slow::of(killed.as_str()), failing, Slow::of(ended.as_str())]?;
+    let inputs = vec![in alloc;
+        Slow::of(killed.as_str()),
+        failing,
+        Slow::of(ended.as_str()),
+    ]?;
     let (bytes, joined) = join_cut_into(alloc, inputs, 3, Vec::new(alloc));
     assert!(rt; str::from_utf8(&bytes)? == text_of(alloc, BOTH)?.as_str());
     let Joined::Cut(reads) = joined? else {
         return Err("whole reports".into());
     };
-    let [ShardRead::Cut { rows, stop }, ShardRead::Unreadable(error), ShardRead::Whole(report)] =
-        reads.as_slice()
+    let [
+        ShardRead::Cut { rows, stop },
+        ShardRead::Unreadable(error),
+        ShardRead::Whole(report),
+    ] = reads.as_slice()
     else {
         return Err("other reads".into());
     };

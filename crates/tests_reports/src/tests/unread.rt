@@ -3,7 +3,7 @@ use super::lines::text_of;
 use super::reading::Slow;
 use super::times::TIMED;
 use mimic_printer::Sink;
-use mimic_reports::{Suite, SuiteFault, status_of, write_junit};
+use mimic_reports::{Suite, SuiteFault, status_of, write_junit, write_suite};
 use std::alloc::Global;
 use std::io::ErrorKind;
 use std::test::Fail;
@@ -30,16 +30,28 @@ fn junit_of(alloc: Global, lines: &[&str]) -> Result<String, Fail> {
     Ok(String::from_utf8(sink.into_inner())?)
 }
 
-const ERROR: &str = r#"    <testcase classname="a" name="(whole report)"><error type="unreadable" message="timed out &amp; &lt;more&gt;"/></testcase>
+const ERROR: &str =
+    r#"    <testcase classname="a" name="(whole report)"><error type="unreadable" message="timed out &amp; &lt;more&gt;"/></testcase>
 "#;
 
-const EMPTY: &str = r#"  <testsuite name="a" tests="1" failures="0" errors="1" skipped="0" time="0.000">
+const EMPTY: &str =
+    r#"  <testsuite name="a" tests="1" failures="0" errors="1" skipped="0" time="0.000">
 "#;
 
 // How many lines come before the fault, the numbers of both reports and of the first, and its rows.
 static UNREAD: [(usize, &str, &str, &str); 4] = [
-    (0, r#""2" failures="0" errors="2""#, r#""1" failures="0""#, ""),
-    (2, r#""2" failures="0" errors="2""#, r#""1" failures="0""#, ""),
+    (
+        0,
+        r#""2" failures="0" errors="2""#,
+        r#""1" failures="0""#,
+        "",
+    ),
+    (
+        2,
+        r#""2" failures="0" errors="2""#,
+        r#""1" failures="0""#,
+        "",
+    ),
     (
         3,
         r#""3" failures="0" errors="2""#,
@@ -60,11 +72,29 @@ fn writes_unread_reports(rt: HostRuntime) -> Result<(), Fail> {
     let alloc = rt.alloc();
     for (count, all, numbers, rows) in &UNREAD {
         let text = junit_of(alloc, &TIMED[..*count])?;
-        let start = format!(in alloc; "<?xml version=\"1.0\" encoding=\"UTF-8\"?>\n<testsuites tests={all} skipped=\"0\" time=\"0.000\">\n  <testsuite name=\"a\" tests={numbers} errors=\"1\" skipped=\"0\" time=\"0.000\">\n")?;
-        let end = format!(in alloc; "{ERROR}  </testsuite>\n{EMPTY}{ERROR}  </testsuite>\n</testsuites>\n")?;
+        let start = format!(in alloc;
+            "<?xml version=\"1.0\" encoding=\"UTF-8\"?>\n<testsuites tests={all} skipped=\"0\" time=\"0.000\">\n  <testsuite name=\"a\" tests={numbers} errors=\"1\" skipped=\"0\" time=\"0.000\">\n"
+        )?;
+        let end = format!(in alloc;
+            "{ERROR}  </testsuite>\n{EMPTY}{ERROR}  </testsuite>\n</testsuites>\n"
+        )?;
         let expected = format!(in alloc; "{start}{rows}{end}")?;
         assert!(rt; text == expected, "{text}");
     }
+    Ok(())
+}
+
+// The element of such a report is the root of a document, too.
+#[test]
+fn writes_an_unread_report_alone(rt: HostRuntime) -> Result<(), Fail> {
+    let alloc = rt.alloc();
+    let mut sink = Sink::new(Vec::new(alloc));
+    write_suite(alloc, unread(alloc, "")?, &mut sink)?;
+    let text = String::from_utf8(sink.into_inner())?;
+    let expected = format!(in alloc;
+        "<?xml version=\"1.0\" encoding=\"UTF-8\"?>\n{EMPTY}{ERROR}  </testsuite>\n"
+    )?;
+    assert!(rt; text == expected, "{text}");
     Ok(())
 }
 

@@ -11,7 +11,10 @@ use mimic_events::{Ending, Report, Row, RowsRead, Stop, read_from, write_report}
 use mimic_expect::write_unexpected;
 use mimic_join::join_reports;
 use mimic_printer::{Piece, Place, Sink, put_escaped, put_pieces};
-use mimic_reports::{Suite, put_running, show_cut, show_failures, show_report, write_junit, write_page, write_slowest};
+use mimic_reports::{
+    Suite, put_running, show_cut, show_failures, show_report, write_junit, write_page,
+    write_slowest, write_suite,
+};
 use mimic_testkit::{Fault, FaultPlace, FaultyWriter};
 use mimic_watch::{Screen, watch};
 use std::alloc::Global;
@@ -39,6 +42,7 @@ enum Call {
     Page,
     Junit,
     JunitAgain,
+    JunitAlone,
     Slowest,
     Comparison,
     Unexpected,
@@ -46,7 +50,7 @@ enum Call {
     LiveWatch,
 }
 
-static CALLS: [Call; 19] = [
+static CALLS: [Call; 20] = [
     Call::Pieces,
     Call::LongPieces,
     Call::Escaped,
@@ -61,6 +65,7 @@ static CALLS: [Call; 19] = [
     Call::Page,
     Call::Junit,
     Call::JunitAgain,
+    Call::JunitAlone,
     Call::Slowest,
     Call::Comparison,
     Call::Unexpected,
@@ -185,6 +190,11 @@ fn junit(alloc: Global, text: &str, again: bool, writer: FaultyWriter) -> Writte
     written!(alloc, writer, sink => write_junit(alloc, suites, &mut sink))
 }
 
+fn alone(alloc: Global, text: &str, writer: FaultyWriter) -> Written {
+    let suite = Suite::kept(alloc, "a", Slow::of(text))?;
+    written!(alloc, writer, sink => write_suite(alloc, suite, &mut sink))
+}
+
 fn slowest(alloc: Global, writer: FaultyWriter) -> Written {
     let reports = vec![in alloc; read(alloc, TIMED)?]?;
     written!(alloc, writer, sink => write_slowest(alloc, &reports, 3, &mut sink))
@@ -229,6 +239,7 @@ fn write(alloc: Global, call: Call, writer: FaultyWriter) -> Written {
         Call::Page => page(alloc, writer),
         Call::Junit => junit(alloc, text, false, writer),
         Call::JunitAgain => junit(alloc, text, true, writer),
+        Call::JunitAlone => alone(alloc, text, writer),
         Call::Slowest => slowest(alloc, writer),
         Call::Comparison => comparison(alloc, writer),
         Call::Unexpected => unexpected(alloc, text, writer),
