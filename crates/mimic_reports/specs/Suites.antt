@@ -106,11 +106,6 @@ abbrev pub KeepsBefore : Option (List ℕ) → SuiteFault → Type 0
 KeepsBefore input unread.OutOfMemory = ⊤
 KeepsBefore input (unread.Input rows error) = IfSome input (HasEndedRows (map entry_read rows.items))
 
--- the fault, unless it is of the memory, has these rows
-abbrev pub KeepsAfter : Vec Row → SuiteFault → Type 0
-KeepsAfter rows unread.OutOfMemory = ⊤
-KeepsAfter rows (unread.Input kept error) = kept ≡ rows
-
 -- its rows come from this input
 abbrev pub ReadsAgain : {I : Type 0} → SuiteRows I → I → Type 0
 ReadsAgain (Kept rows) input = ⊥
@@ -204,6 +199,11 @@ LeavesAlone remaining suite old new (Ok done) = (shown : Suite) × IsShown remai
 LeavesAlone remaining suite old new (Err fault) = AloneLeftBy remaining suite old new fault
 
 -- ---- one report. No public clause names these words
+
+-- the fault, unless it is of the memory, has these rows
+abbrev pub KeepsAfter : Vec Row → SuiteFault → Type 0
+KeepsAfter rows unread.OutOfMemory = ⊤
+KeepsAfter rows (unread.Input kept error) = kept ≡ rows
 
 -- the text is the start of a report of this program, with these numbers, and rows that come before the fault
 abbrev pub IsPartOf : List ℕ → Numbers → Option (List ℕ) → JunitFault → List ℕ → Type 0
