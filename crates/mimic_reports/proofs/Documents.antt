@@ -64,7 +64,7 @@ module _ {I : Type 0} (remaining : I → Option (List ℕ)) where
   any_rows numbers (Again input counts) fault = ([], none_ended (remaining input))
 
   -- something may always come next
-  any_next : (suites : List (SuiteRead I)) (fault : WriteFault) → (text : List ℕ) × IsNext remaining suites (junit.Write fault) text
+  pub any_next : (suites : List (SuiteRead I)) (fault : WriteFault) → (text : List ℕ) × IsNext remaining suites (junit.Write fault) text
   any_next [] fault = (close_part, refl)
   any_next (suite ∷ suites) fault =
       let rows = any_rows (numbers_in suite) suite.rows fault in

@@ -1,3 +1,4 @@
+pub mod Alone
 pub mod Documents
 pub mod PageLaws
 pub mod Pages
@@ -6,3 +7,4 @@ pub mod Showing
 pub mod SlowestFirst
 pub mod SuiteText
 pub mod Totals
+pub mod Unread

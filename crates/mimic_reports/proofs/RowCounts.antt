@@ -15,7 +15,7 @@ use Rattle.mimic_events.specs.Contents.{entry_read}
 use Rattle.mimic_events.specs.Feed.{AreEnded}
 use Rattle.mimic_events.specs.declared.report.Row.{Row}
 use Rattle.mimic_events.specs.RowByRow.{HasCome}
-use Rattle.mimic_events.specs.declared.ending.Ending.{Ending}
+use Rattle.mimic_reports.specs.declared.suite.SuiteEnding.{SuiteEnding}
 use Rattle.mimic_events.specs.declared.rows.InputRows.{InputRows}
 use Rattle.mimic_reports.specs.declared.junit_elements.Numbers.{Numbers}
 use Rattle.mimic_reports.specs.Junit.{numbers_of}
@@ -50,7 +50,7 @@ all_counted (Measured m ∷ os) = omega (arith, unrolled (Measured m) os, all_co
 pub rows_counted_are : (entries : List Entry) (counts : Conclusion) → counts ≡ counts_of (outcomes_in entries) 0 → rows_counted counts ≡ length entries
 rows_counted_are entries counts h = ap rows_counted h ∙ all_counted (outcomes_in entries) ∙ length-map entries (λ (x : Entry). x.outcome)
 
-pub numbers_are : (program : List ℕ) (entries : List Entry) (ending : Ending) (counts : Conclusion) → counts ≡ counts_of (outcomes_in entries) 0
+pub numbers_are : (program : List ℕ) (entries : List Entry) (ending : SuiteEnding) (counts : Conclusion) → counts ≡ counts_of (outcomes_in entries) 0
     → numbers_counted counts ending ≡ numbers_of (record { program = program; entries = entries; ending = ending })
 numbers_are program entries ending counts h =
     ap (λ (c : Conclusion). numbers_counted c ending) h
@@ -62,7 +62,7 @@ pub counts_kept : (rows : List Row) (counts : Conclusion)
     → counts ≡ counts_of (outcomes_in (map entry_read rows)) 0
 counts_kept rows counts h = rw (h, map-map) refl
 
-pub numbers_kept : (program : List ℕ) (rows : List Row) (ending : Ending) (counts : Conclusion)
+pub numbers_kept : (program : List ℕ) (rows : List Row) (ending : SuiteEnding) (counts : Conclusion)
     (numbers : Numbers) → counts ≡ counts_of (map (λ row. row.outcome) rows) 0
     → numbers ≡ numbers_counted counts ending
     → numbers ≡ numbers_of (record { program = program; entries = map entry_read rows; ending = ending })

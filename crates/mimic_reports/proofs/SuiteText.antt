@@ -17,6 +17,7 @@ use Rattle.mimic_reports.specs.declared.suite.SuiteRows.TheVariants.{Again, Kept
 use Rattle.mimic_reports.specs.declared.suite.Suite.{Suite as SuiteRead}
 use Rattle.mimic_events.specs.Readings.{IsReading}
 use Rattle.mimic_events.specs.declared.ending.Ending.{Ending}
+use Rattle.mimic_reports.specs.declared.suite.SuiteEnding.TheVariants.{Read}
 use Rattle.mimic_reports.specs.Suites.{AreRead, AreRowsBefore, IsPart, IsPartOf, IsReadAgain, IsShown, SuiteLeftBy, numbers_counted, numbers_in, part_text, rows_counted}
 use Rattle.mimic_reports.proofs.RowCounts.{numbers_are, numbers_kept, rows_counted_are}
 use Rattle.mimic_trial.specs.Count.{counts_of}
@@ -50,11 +51,11 @@ whole_text s numbers ended n e =
 
 -- what is written of a report that was read again, and has the same numbers
 pub again_whole : (program : List ℕ) (numbers : Numbers) (input : Option (List ℕ)) (entries : List Entry) (counts : Conclusion) (ending : Ending) (ended : ℕ)
-    → counts ≡ counts_of (outcomes_in entries) 0 → numbers_counted counts ending ≡ numbers → ended ≡ rows_counted counts → IfSome input (IsReading entries ending)
-    → (written : Suite) × IsReadAgain program numbers input written × (part_text program numbers entries ++ (ending_text program ended ending ++ last_part) ≡ suite_text written)
+    → counts ≡ counts_of (outcomes_in entries) 0 → numbers_counted counts (Read ending) ≡ numbers → ended ≡ rows_counted counts → IfSome input (IsReading entries ending)
+    → (written : Suite) × IsReadAgain program numbers input written × (part_text program numbers entries ++ (ending_text program ended (Read ending) ++ last_part) ≡ suite_text written)
 again_whole program numbers input entries counts ending ended counted same e reading =
-    let written : Suite = record { program = program; entries = entries; ending = ending } in
-    let n : numbers ≡ numbers_of written = sym same ∙ numbers_are program entries ending counts counted in (
+    let written : Suite = record { program = program; entries = entries; ending = Read ending } in
+    let n : numbers ≡ numbers_of written = sym same ∙ numbers_are program entries (Read ending) counts counted in (
       written,
       record { of = refl; same = sym n; reading = reading },
       whole_text written numbers ended n (e ∙ rows_counted_are entries counts counted),

@@ -1,38 +1,42 @@
 -- Reports in the XML that readers of JUnit's reports take. No standard fixes it: the elements and attributes are those that
 -- Jenkins, GitLab, Surefire and junitparser read; the texts of messages are our own.
-use Rattle.std.specs.Prelude.{ℕ, ◌+◌, List, [], ◌∷◌, ◌++◌, length, map, count_by, codes, decimal, Option, Some, None}
+use Rattle.std.specs.Prelude.{ℕ, ◌+◌, List, [], ◌∷◌, ◌++◌, length, map, count_by, codes, decimal, Option, Some, None, string_bytes}
 use Rattle.std.specs.List.{concat, flat_map}
 use Rattle.mimic_trial.specs.declared.outcome.Outcome.{Outcome}
 use Rattle.mimic_trial.specs.declared.outcome.Outcome.TheVariants.{Passed, Failed, Ignored, Measured}
 use Rattle.mimic_trial.specs.Count.{is_failed, is_ignored_outcome}
-use Rattle.mimic_trial.specs.Seconds.{exact_seconds}
+use Rattle.mimic_trial.specs.Text.{grouped}
 use Rattle.mimic_printer.specs.Json.{Entry, outcomes_in}
-use Rattle.mimic_events.specs.declared.ending.Ending.{Ending}
 use Rattle.mimic_events.specs.declared.ending.Ending.TheVariants.{Whole, Cut}
 use Rattle.mimic_events.specs.declared.ending.Stop.{Stop}
 use Rattle.mimic_reports.specs.Cut.{cut_text}
+use Rattle.mimic_reports.specs.Seconds.{rounded_seconds}
 use Rattle.mimic_reports.specs.declared.junit_elements.Numbers.{Numbers}
+use Rattle.mimic_reports.specs.declared.suite.SuiteEnding.{SuiteEnding}
+use Rattle.mimic_reports.specs.declared.suite.SuiteEnding.TheVariants.{Read, Unread}
 use Rattle.mimic_printer.specs.Escapes.{escaped}
 use Rattle.mimic_printer.specs.Piece.{first_line}
 use Rattle.mimic_printer.specs.declared.place.Place.TheVariants.{Content, Value}
 
--- what is written of one report: the name of its program, its rows that have ended, and how it ended
+-- what is written of one report: the name of its program, its rows that have ended, and how its reading ended
 pub record Suite : Type 0 where
   pub program : List ℕ
   pub entries : List Entry
-  pub ending : Ending
+  pub ending : SuiteEnding
 
 -- ---- numbers
 
 -- a report without its end has one more test, which is an error
-abbrev pub errors_of : Ending → ℕ
-errors_of (Whole filtered_out nanos) = 0
-errors_of (Cut stop) = 1
+abbrev pub errors_of : SuiteEnding → ℕ
+errors_of (Read (Whole filtered_out nanos)) = 0
+errors_of (Read (Cut stop)) = 1
+errors_of (Unread cause) = 1
 
 -- the time of the run, and 0 if the report doesn't say it
-abbrev pub nanos_of : Ending → ℕ
-nanos_of (Whole filtered_out nanos) = nanos
-nanos_of (Cut stop) = 0
+abbrev pub nanos_of : SuiteEnding → ℕ
+nanos_of (Read (Whole filtered_out nanos)) = nanos
+nanos_of (Read (Cut stop)) = 0
+nanos_of (Unread cause) = 0
 
 -- the numbers of a report
 abbrev pub numbers_of : Suite → Numbers
@@ -64,7 +68,7 @@ total (n ∷ numbers) = added n (total numbers)
 -- the attributes of the numbers, and the end of the tag
 abbrev pub numbers_part : Numbers → List (List ℕ)
 numbers_part n = codes " tests=\"" ∷ decimal n.tests ∷ codes "\" failures=\"" ∷ decimal n.failures ∷ codes "\" errors=\"" ∷ decimal n.errors
-    ∷ codes "\" skipped=\"" ∷ decimal n.skipped ∷ codes "\" time=\"" ∷ exact_seconds n.nanos ∷ codes "\">\n" ∷ []
+    ∷ codes "\" skipped=\"" ∷ decimal n.skipped ∷ codes "\" time=\"" ∷ rounded_seconds n.nanos ∷ codes "\">\n" ∷ []
 
 -- what comes before the first report
 unfoldable pub root_start : Numbers → List ℕ
@@ -85,9 +89,10 @@ class_point (b ∷ kind) = codes "."
 -- is no time
 abbrev pub time_part : Option ℕ → List ℕ
 time_part None = []
-time_part (Some nanos) = codes "\" time=\"" ++ exact_seconds nanos
+time_part (Some nanos) = codes "\" time=\"" ++ rounded_seconds nanos
 
--- what follows them in a row, from the last quote on: a failure has its message, the first line as an attribute and the whole as a text
+-- what follows them in a row, from the last quote on: a failure has its message, the first line as an attribute and the whole as a
+-- text; what was measured are properties, and output as pretty prints it, but for its columns
 abbrev pub outcome_part : Outcome → List (List ℕ)
 outcome_part Passed = codes "\"/>\n" ∷ []
 outcome_part Ignored = codes "\"><skipped/></testcase>\n" ∷ []
@@ -95,7 +100,8 @@ outcome_part (Failed None) = codes "\"><failure type=\"failed\"/></testcase>\n" 
 outcome_part (Failed (Some message)) = codes "\"><failure type=\"failed\" message=\"" ∷ escaped Value (first_line message) ∷ codes "\">"
     ∷ escaped Content message ∷ codes "</failure></testcase>\n" ∷ []
 outcome_part (Measured m) = codes "\"><properties><property name=\"ns_per_iter\" value=\"" ∷ decimal m.avg
-    ∷ codes "\"/><property name=\"deviation\" value=\"" ∷ decimal m.variance ∷ codes "\"/></properties></testcase>\n" ∷ []
+    ∷ codes "\"/><property name=\"deviation\" value=\"" ∷ decimal m.variance ∷ codes "\"/></properties><system-out>"
+    ∷ grouped (decimal m.avg) ∷ codes " ns/iter (+/- " ∷ grouped (decimal m.variance) ∷ codes ")</system-out></testcase>\n" ∷ []
 
 -- the line, or with a message the lines, of a row
 unfoldable pub case_text : List ℕ → Entry → List ℕ
@@ -111,10 +117,16 @@ stop_text program ended stop = concat (concat (codes "    <testcase classname=\"
     ∷ codes "\" name=\"(whole report)\"><error type=\"incomplete\" message=\"" ∷ [])
     ∷ cut_text Value ended stop ∷ codes "\"/></testcase>\n" ∷ [])
 
+-- the line that says why it was not read to its end
+unfoldable pub unread_text : List ℕ → List ℕ → List ℕ
+unread_text program cause = concat (codes "    <testcase classname=\"" ∷ escaped Value program
+    ∷ codes "\" name=\"(whole report)\"><error type=\"unreadable\" message=\"" ∷ escaped Value cause ∷ codes "\"/></testcase>\n" ∷ [])
+
 -- what follows the rows
-abbrev pub ending_text : List ℕ → ℕ → Ending → List ℕ
-ending_text program ended (Whole filtered_out nanos) = []
-ending_text program ended (Cut stop) = stop_text program ended stop
+abbrev pub ending_text : List ℕ → ℕ → SuiteEnding → List ℕ
+ending_text program ended (Read (Whole filtered_out nanos)) = []
+ending_text program ended (Read (Cut stop)) = stop_text program ended stop
+ending_text program ended (Unread cause) = unread_text program (string_bytes cause)
 
 -- ---- the whole
 
@@ -122,6 +134,14 @@ ending_text program ended (Cut stop) = stop_text program ended stop
 unfoldable pub suite_text : Suite → List ℕ
 suite_text s = concat (suite_start s.program (numbers_of s) ∷ flat_map (case_text s.program) s.entries
     ∷ ending_text s.program (length s.entries) s.ending ∷ codes "  </testsuite>\n" ∷ [])
+
+-- what comes before the root of a document
+abbrev pub declaration : List ℕ
+declaration = codes "<?xml version=\"1.0\" encoding=\"UTF-8\"?>\n"
+
+-- the document of one report, whose root is its element
+abbrev pub alone_text : Suite → List ℕ
+alone_text s = declaration ++ suite_text s
 
 -- the document of reports: each of them once, in their order
 unfoldable pub junit_text : List Suite → List ℕ

@@ -1,11 +1,9 @@
 -- The trials that took longest, as they are printed (our own).
-use Rattle.std.specs.Prelude.{◌≡◌, ℕ, ◌/◌, ◌%◌, ◌<◌, ◌≤◌, ◌==◌, List, [], ◌∷◌, codes, decimal, filter, length, take, slice_index_or, IsPermutation, Option, None, Some, Result, Ok, Err}
+use Rattle.std.specs.Prelude.{◌≡◌, ℕ, ◌<◌, ◌≤◌, ◌==◌, List, [], ◌∷◌, codes, filter, length, take, slice_index_or, IsPermutation, Option, None, Some, Result, Ok, Err}
 use Rattle.std.specs.List.{concat, flat_map}
-use Rattle.mimic_trial.specs.Text.{two_digits}
 use Rattle.mimic_printer.specs.Escapes.{escaped}
 use Rattle.mimic_printer.specs.Json.{Entry}
 use Rattle.mimic_printer.specs.Piece.{bracketed}
-use Rattle.mimic_printer.specs.Report.{nearest_thousandths}
 use Rattle.mimic_printer.specs.Row.{Label}
 use Rattle.mimic_printer.specs.Sink.{Put, Shown, Stopped}
 use Rattle.mimic_printer.specs.declared.place.Place.TheVariants.{Line}
@@ -14,6 +12,7 @@ use Rattle.mimic_printer.specs.declared.sink.OutputFault.TheVariants.{OutOfMemor
 use Rattle.mimic_events.specs.Contents.{entry_read}
 use Rattle.mimic_events.specs.declared.report.Row.{Row}
 use Rattle.mimic_events.specs.declared.rows_read.RowsRead.{RowsRead}
+use Rattle.mimic_reports.specs.Seconds.{rounded_seconds}
 use Rattle.mimic_reports.specs.declared.slowest.TimedRow.{TimedRow}
 
 -- ---- rows with a time
@@ -52,9 +51,8 @@ pub record IsSlowestFirst (rows ordered : List Timed) : Type 0 where
 
 -- the line of a row: its time in seconds, to the nearest thousandth, and its kind and its name, in which no character ends the line
 unfoldable pub line_text : Timed → List ℕ
-line_text row = let all = nearest_thousandths row.nanos in
-    concat (decimal (all / 1000) ∷ codes "." ∷ decimal (all / 100 % 10) ∷ two_digits (all % 100) ∷ codes "  "
-    ∷ bracketed Line row.label.kind ∷ escaped Line row.label.name ∷ codes "\n" ∷ [])
+line_text row = concat (rounded_seconds row.nanos ∷ codes "  " ∷ bracketed Line row.label.kind
+    ∷ escaped Line row.label.name ∷ codes "\n" ∷ [])
 
 -- the lines of the first `count` rows
 abbrev pub lines_text : ℕ → List Timed → List ℕ

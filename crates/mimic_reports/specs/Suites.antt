@@ -1,5 +1,5 @@
 -- Reports that were read to be written in XML, and what a call that writes them leaves.
-use Rattle.std.specs.Prelude.{◌≡◌, ◌≢◌, ℕ, Bool, true, false, nat_lt, if◌then◌else◌, ◌+◌, ◌<◌, ◌≤◌, ◌⊎◌, ◌^◌, List, [], ◌∷◌, ◌++◌, length, map, codes, Option, None, Some, IfSome, Result, Ok, Err}
+use Rattle.std.specs.Prelude.{◌≡◌, ◌≢◌, ℕ, Bool, true, false, nat_lt, if◌then◌else◌, ◌+◌, ◌<◌, ◌≤◌, ◌⊎◌, ◌^◌, List, [], ◌∷◌, ◌++◌, length, map, codes, Option, None, Some, IfSome, Result, Ok, Err, ⊤}
 use Rattle.std.specs.List.{AllZip, flat_map, list_all, list_any}
 use Rattle.mimic_trial.specs.declared.outcome.conclusion.Conclusion.{Conclusion}
 use Rattle.mimic_trial.specs.Count.{counts_of}
@@ -9,13 +9,19 @@ use Rattle.mimic_events.specs.Contents.{entry_read}
 use Rattle.mimic_events.specs.Inputs.{IsOfInput}
 use Rattle.mimic_reports.specs.declared.junit_elements.Numbers.{Numbers}
 use Rattle.mimic_events.specs.declared.ending.Ending.{Ending}
+use Rattle.mimic_events.specs.declared.report.Row.{Row}
+use Rattle.std.specs.Global.{Vec}
 use Rattle.mimic_events.specs.declared.ending.Ending.TheVariants as ends
 use Rattle.mimic_reports.specs.declared.junit.JunitFault.{JunitFault}
 use Rattle.mimic_reports.specs.declared.junit.JunitFault.TheVariants as junit
+use Rattle.mimic_reports.specs.declared.suite.SuiteEnding.{SuiteEnding}
+use Rattle.mimic_reports.specs.declared.suite.SuiteEnding.TheVariants as suites
+use Rattle.mimic_reports.specs.declared.suite.SuiteFault.{SuiteFault}
+use Rattle.mimic_reports.specs.declared.suite.SuiteFault.TheVariants as unread
 use Rattle.mimic_reports.specs.declared.suite.SuiteRows.{SuiteRows}
 use Rattle.mimic_reports.specs.declared.suite.SuiteRows.TheVariants.{Kept, Again}
 use Rattle.mimic_reports.specs.declared.suite.Suite.{Suite as SuiteRead}
-use Rattle.mimic_reports.specs.Junit.{Suite, case_text, errors_of, junit_text, nanos_of, numbers_of, root_start, suite_start, suite_text, total}
+use Rattle.mimic_reports.specs.Junit.{Suite, alone_text, case_text, declaration, errors_of, junit_text, nanos_of, numbers_of, root_start, suite_start, suite_text, total}
 use Rattle.mimic_events.specs.Readings.{HasEndedRows, IsReading}
 
 -- ---- numbers
@@ -25,7 +31,7 @@ abbrev pub rows_counted : Conclusion → ℕ
 rows_counted c = c.num_passed + (c.num_failed + (c.num_ignored + c.num_measured))
 
 -- the numbers of a report whose outcomes were counted
-abbrev pub numbers_counted : Conclusion → Ending → Numbers
+abbrev pub numbers_counted : Conclusion → SuiteEnding → Numbers
 numbers_counted c ending = record {
   tests = rows_counted c + errors_of ending;
   failures = c.num_failed;
@@ -50,9 +56,10 @@ IsTooGreat n = (2 ^ 128 ≤ n.tests) ⊎ (2 ^ 128 ≤ n.failures) ⊎ (2 ^ 128 �
 -- ---- the exit status
 
 -- so a report ends that is whole
-abbrev pub ends_whole : Ending → Bool
-ends_whole (ends.Whole filtered_out nanos) = true
-ends_whole (ends.Cut stop) = false
+abbrev pub ends_whole : SuiteEnding → Bool
+ends_whole (suites.Read (ends.Whole filtered_out nanos)) = true
+ends_whole (suites.Read (ends.Cut stop)) = false
+ends_whole (suites.Unread cause) = false
 
 -- the report has its end
 abbrev pub is_whole : {I : Type 0} → SuiteRead I → Bool
@@ -68,10 +75,15 @@ status_of suites = if list_all is_whole suites then (if list_any has_failures su
 
 -- ---- what is written of what was read
 
+-- the input, if its bytes are known, was read to its end, and gave these rows and this end
+abbrev pub IsReadTo : Option (List ℕ) → List Entry → SuiteEnding → Type 0
+IsReadTo input entries (suites.Read ending) = IfSome input (IsReading entries ending)
+IsReadTo input entries (suites.Unread cause) = ⊥
+
 -- the rows that are kept, and the end that was read with them; or what is read again from the input
-abbrev pub HasRows : {I : Type 0} → (I → Option (List ℕ)) → SuiteRows I → Ending → List Entry → Ending → Type 0
+abbrev pub HasRows : {I : Type 0} → (I → Option (List ℕ)) → SuiteRows I → SuiteEnding → List Entry → SuiteEnding → Type 0
 HasRows remaining (Kept rows) ending entries shown = (entries ≡ map entry_read rows.items) × (shown ≡ ending)
-HasRows remaining (Again input counts) ending entries shown = IfSome (remaining input) (IsReading entries shown)
+HasRows remaining (Again input counts) ending entries shown = IsReadTo (remaining input) entries shown
 
 -- this is written of the report
 pub record IsShown {I : Type 0} (remaining : I → Option (List ℕ)) (suite : SuiteRead I) (shown : Suite) : Type 0 where
@@ -81,13 +93,18 @@ pub record IsShown {I : Type 0} (remaining : I → Option (List ℕ)) (suite : S
 
 -- the input, if its bytes are known, gave these rows and this end, and the report has their numbers
 pub record IsReadFrom {I : Type 0} (input : Option (List ℕ)) (suite : SuiteRead I) (entries : List Entry) : Type 0 where
-  pub reading : IfSome input (IsReading entries suite.ending)
+  pub reading : IsReadTo input entries suite.ending
   pub counts : counts_in suite.rows ≡ counts_of (outcomes_in entries) 0
 
 -- the report's rows are kept
 abbrev pub KeepsRows : {I : Type 0} → SuiteRows I → List Entry → Type 0
 KeepsRows (Kept rows) entries = map entry_read rows.items ≡ entries
 KeepsRows (Again input counts) entries = ⊥
+
+-- why the input was not read to its end: with a fault of the reader these rows had ended in it, if its bytes are known
+abbrev pub KeepsBefore : Option (List ℕ) → SuiteFault → Type 0
+KeepsBefore input unread.OutOfMemory = ⊤
+KeepsBefore input (unread.Input rows error) = IfSome input (HasEndedRows (map entry_read rows.items))
 
 -- its rows come from this input
 abbrev pub ReadsAgain : {I : Type 0} → SuiteRows I → I → Type 0
@@ -106,7 +123,7 @@ abbrev pub AreRead : Numbers → Option (List ℕ) → JunitFault → List Entry
 AreRead numbers input junit.TooMany entries = ⊥
 AreRead numbers input (junit.Input place fault) entries = IsOfInput fault × IfSome input (HasEndedRows entries)
 AreRead numbers input (junit.Changed place) entries = (ending : Ending) × IfSome input (IsReading entries ending)
-    × (numbers_counted (counts_of (outcomes_in entries) 0) ending ≢ numbers)
+    × (numbers_counted (counts_of (outcomes_in entries) 0) (suites.Read ending) ≢ numbers)
 AreRead numbers input (junit.Write fault) entries = IfSome input (HasEndedRows entries)
 
 -- these rows of a report come before the fault. If they are kept they are all there, and only the writer can have a fault
@@ -164,7 +181,29 @@ abbrev pub LeavesDocument : {I : Type 0} → (I → Option (List ℕ)) → List 
 LeavesDocument remaining suites old new (Ok done) = (shown : List Suite) × AllZip (IsShown remaining) suites shown × Put old new (junit_text shown)
 LeavesDocument remaining suites old new (Err fault) = DocumentLeftBy remaining suites old new fault
 
+-- with a fault of the report the declaration and a part of the report were appended, and with one of the writer a beginning of these
+-- or of the document
+abbrev pub AloneLeftBy : {I : Type 0} → (I → Option (List ℕ)) → SuiteRead I → Shown → Shown → JunitFault → Type 0
+AloneLeftBy remaining suite old new junit.TooMany = ⊥
+AloneLeftBy remaining suite old new (junit.Input place fault) = (place ≡ 0) × (part : List ℕ)
+    × IsPart remaining suite (junit.Input place fault) part × Put old new (declaration ++ part)
+AloneLeftBy remaining suite old new (junit.Changed place) = (place ≡ 0) × (part : List ℕ)
+    × IsPart remaining suite (junit.Changed place) part × Put old new (declaration ++ part)
+AloneLeftBy remaining suite old new (junit.Write fault) = (text : List ℕ)
+    × (IsPart remaining suite (junit.Write fault) text ⊎ ((shown : Suite) × IsShown remaining suite shown × (text ≡ suite_text shown)))
+    × Stopped old new (declaration ++ text)
+
+-- what a call that writes this report alone leaves: the document of it
+abbrev pub LeavesAlone : {I : Type 0} → (I → Option (List ℕ)) → SuiteRead I → Shown → Shown → Result (Unit {0}) JunitFault → Type 0
+LeavesAlone remaining suite old new (Ok done) = (shown : Suite) × IsShown remaining suite shown × Put old new (alone_text shown)
+LeavesAlone remaining suite old new (Err fault) = AloneLeftBy remaining suite old new fault
+
 -- ---- one report. No public clause names these words
+
+-- the fault, unless it is of the memory, has these rows
+abbrev pub KeepsAfter : Vec Row → SuiteFault → Type 0
+KeepsAfter rows unread.OutOfMemory = ⊤
+KeepsAfter rows (unread.Input kept error) = kept ≡ rows
 
 -- the text is the start of a report of this program, with these numbers, and rows that come before the fault
 abbrev pub IsPartOf : List ℕ → Numbers → Option (List ℕ) → JunitFault → List ℕ → Type 0
@@ -175,7 +214,7 @@ IsPartOf program numbers input fault text = (entries : List Entry) × AreRead nu
 pub record IsReadAgain (program : List ℕ) (numbers : Numbers) (input : Option (List ℕ)) (shown : Suite) : Type 0 where
   pub of : shown.program ≡ program
   pub same : numbers_of shown ≡ numbers
-  pub reading : IfSome input (IsReading shown.entries shown.ending)
+  pub reading : IsReadTo input shown.entries shown.ending
 
 -- what is left of the report of this place with a fault, if these are its parts, and this is written of it as a whole
 abbrev pub SuiteLeftBy : (JunitFault → List ℕ → Type 0) → (Suite → Type 0) → ℕ → Shown → Shown → JunitFault → Type 0

@@ -7,12 +7,15 @@ ghost use Rattle.mimic_printer.specs.Sink.{HasFaultLeft, Put, Puts, shown};
 ghost use Rattle.mimic_events.specs.Contents.{entry_read};
 ghost use Rattle.mimic_reports.specs.Junit.{Suite as ShownSuite, case_text, ending_text, suite_text, total};
 ghost use Rattle.mimic_events.specs.Readings.{IsReading};
-ghost use Rattle.mimic_reports.specs.Suites.{IsPart, IsPartOf, IsReadAgain, IsShown, IsTooGreat, LeavesDocument, SuiteLeftBy, numbers_in, part_text};
+ghost use Rattle.mimic_reports.specs.Suites.{IsPart, IsPartOf, IsReadAgain, IsShown, IsTooGreat, LeavesAlone, LeavesDocument, SuiteLeftBy, numbers_in, part_text};
 ghost use Rattle.mimic_printer.specs.EscapeLaws.{EscapeLaws};
+ghost use Rattle.mimic_reports.specs.declared.suite.SuiteEnding.TheVariants.{Read};
 ghost use Rattle.mimic_reports.specs.declared.junit.JunitFault.TheVariants.{Write as WriteStopped};
 
-use crate::junit_elements::{Numbers, put_case, put_root_start, put_stop, put_suite_start};
-use crate::suite::{Suite, SuiteRows, numbers_counted, rows_counted};
+use crate::junit_elements::{
+    Numbers, put_case, put_root_start, put_stop, put_suite_start, put_unread,
+};
+use crate::suite::{Suite, SuiteEnding, SuiteRows, numbers_counted, rows_counted};
 use mimic_events::{Ending, InputRows, ReadFault, Row, counts_of_rows};
 use mimic_printer::{Sink, WriteFault};
 use mimic_trial::Conclusion;
@@ -70,7 +73,8 @@ fn total_of<I: Read>(suites: &[Suite<'_, I>]) -> Option<Numbers>
     Some(all)
 }
 
-/// Writes the reports, in their order, as one document of JUnit's XML, and flushes it.
+/// Writes the reports, in their order, as one document of JUnit's XML, and flushes it. A report that isn't whole has one more row, with
+/// an error.
 ///
 /// Rows that are not kept are read again, each once. With a fault of a report the document is written up to it: the reports before
 /// it are whole, and of this one there are its start, which has the numbers that were read first, and rows: some that have ended
@@ -99,6 +103,29 @@ pub fn write_junit<I: Read + Drop, W: Write>(
         place += 1;
     }
     sink.put(b"</testsuites>\n")?;
+    sink.flush()?;
+    Ok(())
+}
+
+/// Writes one report as a document of JUnit's XML whose root is the report's own element, for readers that know no `<testsuites>`, and
+/// flushes it.
+///
+/// It does with the report what [`write_junit`] does. A fault of the report has place 0.
+#[tactic(auto, using(mimic_printer::proofs::EscapeLaws::escape_laws))]
+pub fn write_suite<I: Read + Drop, W: Write>(
+    alloc: Global,
+    suite: Suite<'_, I>,
+    sink: &mut Sink<W>,
+) -> Result<(), JunitFault>
+    requires { HasFaultLeft sink.old }
+    ensures document { LeavesAlone I.remaining suite.entry (shown W.contents sink.old)
+        (shown W.contents sink.new) result }
+
+    // Each text can be unescaped, and escaped text has no markup.
+    ensures laws { EscapeLaws }
+{
+    sink.put(b"<?xml version=\"1.0\" encoding=\"UTF-8\"?>\n")?;
+    put_suite(alloc, 0, suite, sink)?;
     sink.flush()?;
     Ok(())
 }
@@ -139,7 +166,7 @@ fn put_kept<'a, W: Write>(
     sink: &mut Sink<W>,
     program: &'a str,
     rows: &[Row],
-    ending: &'a Ending,
+    ending: &'a SuiteEnding,
 ) -> Result<(), WriteFault>
     requires { HasFaultLeft sink.old }
     ensures { Puts W.contents sink.old sink.new
@@ -172,11 +199,31 @@ fn put_suite_end<'a, W: Write>(
     sink: &mut Sink<W>,
     program: &'a str,
     ended: u128,
-    ending: &'a Ending,
+    ending: &'a SuiteEnding,
 ) -> Result<(), WriteFault>
     requires { HasFaultLeft sink.old }
     ensures { Puts W.contents sink.old sink.new
         (ending_text program.now ended ending.now ++ codes "  </testsuite>\n") result }
+{
+    match ending {
+        SuiteEnding::Read(ending) => put_read_end(sink, program, ended, ending),
+        SuiteEnding::Unread(cause) => {
+            put_unread(sink, program, cause.as_str())?;
+            sink.put(b"  </testsuite>\n")
+        }
+    }
+}
+
+// Writes what follows `ended` rows of a report that was read to this end.
+fn put_read_end<'a, W: Write>(
+    sink: &mut Sink<W>,
+    program: &'a str,
+    ended: u128,
+    ending: &'a Ending,
+) -> Result<(), WriteFault>
+    requires { HasFaultLeft sink.old }
+    ensures { Puts W.contents sink.old sink.new
+        (ending_text program.now ended (Read ending.now) ++ codes "  </testsuite>\n") result }
 {
     match ending {
         Ending::Whole { .. } => sink.put(b"  </testsuite>\n"),
@@ -205,6 +252,7 @@ fn put_counted<'a, I: Read + Drop, W: Write>(
         (shown W.contents sink.old) (shown W.contents sink.new)) }
 {
     let (counts, ending) = put_again(alloc, place, program, input, numbers, sink)?;
+    let ending = SuiteEnding::Read(ending);
     if numbers_counted(&counts, &ending) != *numbers {
         return Err(JunitFault::Changed { place });
     }

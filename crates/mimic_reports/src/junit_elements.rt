@@ -3,9 +3,10 @@ ghost use Rattle.std.specs.Prelude.{◌≡◌, ◌++◌};
 ghost use Rattle.mimic_printer.specs.Piece.{piece_text};
 ghost use Rattle.mimic_printer.specs.Sink.{HasFaultLeft, Puts};
 ghost use Rattle.mimic_events.specs.Contents.{entry_read};
-ghost use Rattle.mimic_reports.specs.Junit.{case_text, class_point, root_start, stop_text, suite_start, time_part};
+ghost use Rattle.mimic_reports.specs.Junit.{case_text, class_point, root_start, stop_text, suite_start, time_part, unread_text};
 
 use crate::cut::put_cut;
+use crate::seconds::rounded_pieces;
 use mimic_events::{Row, Stop};
 use mimic_printer::{Piece, Place, Sink, WriteFault, put_pieces};
 use mimic_trial::Outcome;
@@ -24,6 +25,7 @@ pub(crate) struct Numbers {
 // Writes the beginning of an element that has the numbers as attributes.
 macro_rules! put_start {
     ($sink:expr, $numbers:expr, $($front:expr),+) => {{
+        let (seconds, dot, tenths, hundredths) = rounded_pieces($numbers.nanos);
         let pieces = [
             $($front),+,
             Piece::Text(" tests=\""),
@@ -35,7 +37,10 @@ macro_rules! put_start {
             Piece::Text("\" skipped=\""),
             Piece::Long(&$numbers.skipped),
             Piece::Text("\" time=\""),
-            Piece::Seconds($numbers.nanos),
+            seconds,
+            dot,
+            tenths,
+            hundredths,
             Piece::Text("\">\n"),
         ];
         put_pieces($sink, &pieces)
@@ -46,7 +51,7 @@ macro_rules! put_start {
 macro_rules! put_row {
     ($sink:expr, $program:expr, $row:expr, $($end:expr),+) => {{
         let kind = $row.kind.as_str();
-        let (time_start, time) = time_pieces($row.nanos);
+        let (time_start, seconds, dot, tenths, hundredths) = time_pieces($row.nanos);
         let pieces = [
             Piece::Text("    <testcase classname=\""),
             Piece::Escaped(Place::Value, $program),
@@ -55,7 +60,10 @@ macro_rules! put_row {
             Piece::Text("\" name=\""),
             Piece::Escaped(Place::Value, $row.name.as_str()),
             time_start,
-            time,
+            seconds,
+            dot,
+            tenths,
+            hundredths,
             $($end),+
         ];
         put_pieces($sink, &pieces)
@@ -104,12 +112,17 @@ fn point(kind: &str) -> &'static str
 }
 
 // Returns the pieces of a time. Without one their texts are empty, so that each row has as many pieces.
-fn time_pieces<'a>(nanos: Option<u64>) -> (Piece<'a>, Piece<'a>)
-    ensures { piece_text result.0 ++ piece_text result.1 ≡ time_part nanos }
+fn time_pieces<'a>(nanos: Option<u64>) -> (Piece<'a>, Piece<'a>, Piece<'a>, Piece<'a>, Piece<'a>)
+    ensures { piece_text result.0 ++ (piece_text result.1 ++ (piece_text result.2
+        ++ (piece_text result.3 ++ piece_text result.4))) ≡ time_part nanos }
 {
+    let none = Piece::Text("");
     match nanos {
-        None => (Piece::Text(""), Piece::Text("")),
-        Some(nanos) => (Piece::Text("\" time=\""), Piece::Seconds(nanos)),
+        None => (none, none, none, none, none),
+        Some(nanos) => {
+            let (seconds, dot, tenths, hundredths) = rounded_pieces(nanos);
+            (Piece::Text("\" time=\""), seconds, dot, tenths, hundredths)
+        }
     }
 }
 
@@ -159,7 +172,11 @@ pub(crate) fn put_case<'a, W: Write>(
             Piece::Number(measurement.avg),
             Piece::Text("\"/><property name=\"deviation\" value=\""),
             Piece::Number(measurement.variance),
-            Piece::Text("\"/></properties></testcase>\n")
+            Piece::Text("\"/></properties><system-out>"),
+            Piece::Grouped(measurement.avg),
+            Piece::Text(" ns/iter (+/- "),
+            Piece::Grouped(measurement.variance),
+            Piece::Text(")</system-out></testcase>\n")
         ),
     }
 }
@@ -182,6 +199,26 @@ pub(crate) fn put_stop<'a, W: Write>(
     put_pieces(sink, &front)?;
     put_cut(sink, Place::Value, ended, stop)?;
     sink.put(b"\"/></testcase>\n")
+}
+
+// Writes why the report was not read to its end.
+#[tactic(auto, unfolding(crate::specs::Junit::unread_text))]
+pub(crate) fn put_unread<'a, W: Write>(
+    sink: &mut Sink<W>,
+    program: &'a str,
+    cause: &'a str,
+) -> Result<(), WriteFault>
+    requires { HasFaultLeft sink.old }
+    ensures { Puts W.contents sink.old sink.new (unread_text program.now cause.now) result }
+{
+    let pieces = [
+        Piece::Text("    <testcase classname=\""),
+        Piece::Escaped(Place::Value, program),
+        Piece::Text("\" name=\"(whole report)\"><error type=\"unreadable\" message=\""),
+        Piece::Escaped(Place::Value, cause),
+        Piece::Text("\"/></testcase>\n"),
+    ];
+    put_pieces(sink, &pieces)
 }
 
 impl Numbers {

@@ -20,14 +20,15 @@ mod junit_elements;
 mod page;
 mod page_elements;
 mod script;
+mod seconds;
 mod show;
 mod slowest;
 mod style;
 mod suite;
 
 pub use cut::put_running;
-pub use junit::{JunitFault, write_junit};
+pub use junit::{JunitFault, write_junit, write_suite};
 pub use page::write_page;
 pub use show::{show_cut, show_failures, show_report};
 pub use slowest::write_slowest;
-pub use suite::{Suite, status_of};
+pub use suite::{Suite, SuiteEnding, SuiteFault, status_of};

@@ -4,6 +4,7 @@ ghost use Rattle.std.specs.List.{flat_map};
 ghost use Rattle.mimic_printer.specs.Sink.{HasFaultLeft, Puts, shown};
 ghost use Rattle.mimic_reports.specs.Slowest.{IsSlowestFirst, LeavesSlowest, line_text, timed_among, timed_of, timed_read};
 
+use crate::seconds::rounded_pieces;
 use mimic_events::{Row, RowsRead};
 use mimic_printer::{OutputFault, Piece, Place, Sink, WriteFault, put_pieces};
 use std::alloc::{AllocError, Global};
@@ -88,12 +89,12 @@ fn put_line<'a, W: Write>(sink: &mut Sink<W>, timed: &TimedRow<'a>) -> Result<()
     requires { HasFaultLeft sink.old }
     ensures { Puts W.contents sink.old sink.new (line_text (timed_read timed.now)) result }
 {
-    let thousandths = (u128::from(timed.nanos) + 500_000) / 1_000_000;
+    let (seconds, dot, tenths, hundredths) = rounded_pieces(timed.nanos);
     let pieces = [
-        Piece::Number((thousandths / 1000) as u64),
-        Piece::Text("."),
-        Piece::Number((thousandths / 100 % 10) as u64),
-        Piece::TwoDigits((thousandths % 100) as u8),
+        seconds,
+        dot,
+        tenths,
+        hundredths,
         Piece::Text("  "),
         Piece::Bracketed(Place::Line, timed.row.kind.as_str()),
         Piece::Escaped(Place::Line, timed.row.name.as_str()),

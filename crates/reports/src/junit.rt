@@ -1,17 +1,19 @@
 //! Prints reports as JUnit's XML.
 use crate::faults::{refuse, refuse_all};
 use crate::input::{Input, STANDARD, name_of};
-use crate::line::Junit;
+use crate::line::{Junit, Root};
 use crate::{BLOCK, SUCCESS};
 use mimic_events::{Ending, ReadFault};
 use mimic_printer::Sink;
-use mimic_reports::{JunitFault, Suite, status_of, write_junit};
+use mimic_reports::{
+    JunitFault, Suite, SuiteEnding, SuiteFault, status_of, write_junit, write_suite,
+};
 use std::alloc::Global;
 use std::fs;
-use std::io::BufWriter;
+use std::io::{BufWriter, Write};
 
-// Prints the document of all reports that could be read. It also prints why a report is cut or could not be read. The status says
-// that, and, if the line asks for it, else whether a trial failed.
+// Prints the document of all reports, with what could be read of them. It also prints why a report is cut or could not be read. The
+// status says that, and, if the line asks for it, else whether a trial failed.
 pub(crate) fn run(rt: &HostRuntime, alloc: Global, junit: &Junit) -> u8 {
     let mut sources = Sources {
         files: Vec::new(alloc),
@@ -32,10 +34,10 @@ pub(crate) fn run(rt: &HostRuntime, alloc: Global, junit: &Junit) -> u8 {
     if junit.shows_failures && sources.status == SUCCESS {
         sources.status = status_of(sources.suites.as_slice());
     }
-    sources.print(rt, alloc)
+    sources.print(rt, alloc, junit.root)
 }
 
-// The reports that could be read, and the names of their files.
+// What could be read of the reports, and the names of their files.
 #[derive(Drop)]
 struct Sources<'a> {
     files: Vec<&'a str>,
@@ -46,8 +48,10 @@ struct Sources<'a> {
 impl<'a> Sources<'a> {
     fn with(self, rt: &HostRuntime, file: &'a str, suite: Suite<'a, Input<'a>>) -> Sources<'a> {
         let mut sources = self;
-        if let Ending::Cut(stop) = suite.ending() {
-            sources.status = refuse(rt, file, stop);
+        match suite.ending() {
+            SuiteEnding::Read(Ending::Whole { .. }) => {}
+            SuiteEnding::Read(Ending::Cut(stop)) => sources.status = refuse(rt, file, stop),
+            SuiteEnding::Unread(cause) => sources.status = refuse(rt, file, cause),
         }
         if sources.files.push(file).is_err() || sources.suites.push(suite).is_err() {
             sources.status = refuse(rt, file, &ReadFault::OutOfMemory);
@@ -55,7 +59,7 @@ impl<'a> Sources<'a> {
         sources
     }
 
-    fn print(self, rt: &HostRuntime, alloc: Global) -> u8 {
+    fn print(self, rt: &HostRuntime, alloc: Global, root: Root) -> u8 {
         let Sources {
             files,
             suites,
@@ -64,10 +68,29 @@ impl<'a> Sources<'a> {
         let Ok(out) = BufWriter::with_capacity(alloc, BLOCK, rt.stdout()) else {
             return refuse_all(rt, &ReadFault::OutOfMemory);
         };
-        match write_junit(alloc, suites, &mut Sink::new(out)) {
+        match write(alloc, root, suites, out) {
             Ok(()) => status,
             Err(fault) => refuse_at(rt, &files, &fault),
         }
+    }
+}
+
+// Writes the document of the reports, or of the one that there is if its element is to be the root.
+fn write<W: Write + Drop>(
+    alloc: Global,
+    root: Root,
+    suites: Vec<Suite<'_, Input<'_>>>,
+    out: W,
+) -> Result<(), JunitFault> {
+    let mut sink = Sink::new(out);
+    if root == Root::Testsuites {
+        return write_junit(alloc, suites, &mut sink);
+    }
+    let mut suites = suites;
+    match suites.pop() {
+        Some(suite) => write_suite(alloc, suite, &mut sink),
+        // There was no memory for it.
+        None => Ok(()),
     }
 }
 
@@ -79,18 +102,27 @@ fn refuse_at(rt: &HostRuntime, files: &[&str], fault: &JunitFault) -> u8 {
     }
 }
 
-// Reads a report. A regular file is read again when its report is written, so that its rows are not kept.
+// Reads a report, or what can be read of it. A regular file is read again when its report is written, so that its rows are not kept.
 fn read<'a>(
     rt: &'a HostRuntime,
     alloc: Global,
     name: &'a str,
     file: &'a str,
-) -> Result<Suite<'a, Input<'a>>, ReadFault> {
-    let input = Input::new(rt, file);
+) -> Result<Suite<'a, Input<'a>>, SuiteFault> {
     if file != STANDARD && is_regular(rt, file) {
-        Suite::counted(alloc, name, input, Input::new(rt, file))
-    } else {
-        Suite::kept(alloc, name, input)
+        let (input, again) = (Input::new(rt, file), Input::new(rt, file));
+        if let Ok(suite) = Suite::counted(alloc, name, input, again) {
+            return Ok(suite);
+        }
+        // It is read once more, and what can be read of it is kept.
+    }
+    match Suite::kept(alloc, name, Input::new(rt, file)) {
+        Ok(suite) => Ok(suite),
+        Err(SuiteFault::OutOfMemory) => Err(SuiteFault::OutOfMemory),
+        Err(SuiteFault::Input { rows, error }) => {
+            let cause = format!(in alloc; "{error}")?;
+            Ok(Suite::unread(name, rows, cause))
+        }
     }
 }
 

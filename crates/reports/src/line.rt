@@ -10,6 +10,9 @@ use thiserror::Error;
 // What `--color` takes.
 static COLOURS: [&str; 3] = ["auto", "always", "never"];
 
+// What `--root` takes.
+static ROOTS: [&str; 2] = ["testsuites", "testsuite"];
+
 // How many of the slowest trials are printed if the line doesn't say it.
 const SLOWEST: &str = "20";
 
@@ -32,7 +35,17 @@ pub(crate) struct Junit {
     pub(crate) name: Option<String>,
     /// Whether the status says that a trial failed.
     pub(crate) shows_failures: bool,
+    pub(crate) root: Root,
     pub(crate) files: Vec<String>,
+}
+
+/// The root of a document of JUnit's XML.
+#[derive(Clone, Copy, Debug, PartialEq, Eq)]
+pub(crate) enum Root {
+    /// An element that has those of all reports.
+    Testsuites,
+    /// The element of the one report that there is.
+    Testsuite,
 }
 
 /// When a report has colours.
@@ -116,6 +129,9 @@ pub(crate) enum LineError {
     /// The files may be those of shards, so their names say no program.
     #[error("junit of several files, or of one whose name is a number, needs --name PROGRAM")]
     NoName,
+    /// One report is to be the root of a document, and there are several.
+    #[error("junit --root testsuite takes one FILE")]
+    ManyFiles,
     /// Two files are to be ordered whose names have the same numbers.
     #[error("--by-name can't order {first} and {second}, whose names have the same numbers")]
     SameNumbers { first: String, second: String },
@@ -183,13 +199,21 @@ impl Junit {
             Some(name) => Some(String::from_str(alloc, name)?),
             None => None,
         };
+        let root = match matches.get_str("root") {
+            Some("testsuite") => Root::Testsuite,
+            _ => Root::Testsuites,
+        };
         let files = files_of(alloc, matches)?;
+        if root == Root::Testsuite && files.len() > 1 {
+            return Err(LineError::ManyFiles);
+        }
         if name.is_none() && !is_of_program(&files) {
             return Err(LineError::NoName);
         }
         Ok(Junit {
             name,
             shows_failures: matches.get_flag("status"),
+            root,
             files,
         })
     }
@@ -372,10 +396,16 @@ fn junit_command<'a>(alloc: Global) -> Result<Command<'a>, AllocError> {
         .long("status")
         .action(ArgAction::SetTrue)
         .help("End with 101 if a trial failed");
+    let root = Arg::new(alloc, "root")
+        .long("root")
+        .value_name("ELEMENT")
+        .value_parser(ROOTS.as_slice())
+        .default_value(ROOTS[0])
+        .help("The root element of the document, testsuite only for one FILE");
     let files = files(alloc, "Reports in JSON; - is standard input");
     Command::new(alloc, "junit")
         .about("Print reports as JUnit's XML")
-        .args(vec![in alloc; name, status, files]?)
+        .args(vec![in alloc; name, status, root, files]?)
 }
 
 fn show_command<'a>(alloc: Global) -> Result<Command<'a>, AllocError> {

@@ -55,6 +55,7 @@ fn refuse(rt: &HostRuntime, error: &LineError) -> u8 {
         LineError::Unread(_)
         | LineError::TwoInputs
         | LineError::NoName
+        | LineError::ManyFiles
         | LineError::SameNumbers { .. }
         | LineError::NoNumbers
         | LineError::NoSubcommand => {

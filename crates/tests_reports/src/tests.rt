@@ -10,5 +10,6 @@ mod page;
 mod reading;
 mod suites;
 mod times;
+mod unread;
 mod watching;
 mod write_faults;

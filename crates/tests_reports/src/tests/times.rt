@@ -130,8 +130,8 @@ fn junit_of(alloc: Global, lines: &[&str], again: bool) -> Result<String, Fail> 
 }
 
 const XML_START: &str = r#"<?xml version="1.0" encoding="UTF-8"?>
-<testsuites tests="8" failures="2" errors="0" skipped="1" time="62.5">
-  <testsuite name="a" tests="8" failures="2" errors="0" skipped="1" time="62.5">
+<testsuites tests="8" failures="2" errors="0" skipped="1" time="62.500">
+  <testsuite name="a" tests="8" failures="2" errors="0" skipped="1" time="62.500">
 "#;
 
 const XML_END: &str = r#"  </testsuite>
@@ -142,15 +142,15 @@ const XML_END: &str = r#"  </testsuite>
 static CASES: [(&[&str], &str); 2] = [
     (
         TIMED,
-        r#"    <testcase classname="a" name="plain" time="0.35"/>
-    <testcase classname="a.k" name="b" time="1.4999995"><failure type="failed" message="no">no
+        r#"    <testcase classname="a" name="plain" time="0.350"/>
+    <testcase classname="a.k" name="b" time="1.500"><failure type="failed" message="no">no
 no</failure></testcase>
     <testcase classname="a" name="c"><skipped/></testcase>
     <testcase classname="a" name="d"/>
-    <testcase classname="a.k" name="e" time="0.35"/>
-    <testcase classname="a" name="m" time="61"><properties><property name="ns_per_iter" value="1234"/><property name="deviation" value="5"/></properties></testcase>
-    <testcase classname="a" name="z" time="0"/>
-    <testcase classname="a" name="short" time="0.000499999"><failure type="failed"/></testcase>
+    <testcase classname="a.k" name="e" time="0.350"/>
+    <testcase classname="a" name="m" time="61.000"><properties><property name="ns_per_iter" value="1234"/><property name="deviation" value="5"/></properties><system-out>1,234 ns/iter (+/- 5)</system-out></testcase>
+    <testcase classname="a" name="z" time="0.000"/>
+    <testcase classname="a" name="short" time="0.000"><failure type="failed"/></testcase>
 "#,
     ),
     (
@@ -161,14 +161,14 @@ no</failure></testcase>
     <testcase classname="a" name="c"><skipped/></testcase>
     <testcase classname="a" name="d"/>
     <testcase classname="a.k" name="e"/>
-    <testcase classname="a" name="m"><properties><property name="ns_per_iter" value="1234"/><property name="deviation" value="5"/></properties></testcase>
+    <testcase classname="a" name="m"><properties><property name="ns_per_iter" value="1234"/><property name="deviation" value="5"/></properties><system-out>1,234 ns/iter (+/- 5)</system-out></testcase>
     <testcase classname="a" name="z"/>
     <testcase classname="a" name="short"><failure type="failed"/></testcase>
 "#,
     ),
 ];
 
-// A case of a row with a time has it as an attribute, exactly.
+// A case of a row with a time has it as an attribute, with three decimals.
 #[test]
 fn writes_times_of_cases(rt: HostRuntime) -> Result<(), Fail> {
     let alloc = rt.alloc();

@@ -13,7 +13,7 @@ use mimic_join::join_reports;
 use mimic_printer::{Piece, Place, Sink, put_escaped, put_pieces};
 use mimic_reports::{
     Suite, put_running, show_cut, show_failures, show_report, write_junit, write_page,
-    write_slowest,
+    write_slowest, write_suite,
 };
 use mimic_testkit::{Fault, FaultPlace, FaultyWriter};
 use mimic_watch::{Screen, watch};
@@ -42,6 +42,7 @@ enum Call {
     Page,
     Junit,
     JunitAgain,
+    JunitAlone,
     Slowest,
     Comparison,
     Unexpected,
@@ -49,7 +50,7 @@ enum Call {
     LiveWatch,
 }
 
-static CALLS: [Call; 19] = [
+static CALLS: [Call; 20] = [
     Call::Pieces,
     Call::LongPieces,
     Call::Escaped,
@@ -64,6 +65,7 @@ static CALLS: [Call; 19] = [
     Call::Page,
     Call::Junit,
     Call::JunitAgain,
+    Call::JunitAlone,
     Call::Slowest,
     Call::Comparison,
     Call::Unexpected,
@@ -99,11 +101,11 @@ fn suites_of<'a>(
     again: bool,
 ) -> Result<Vec<Suite<'a, Slow<'a>>>, Fail> {
     let suite = if again {
-        Suite::counted(alloc, "a", Slow::of(text), Slow::of(text))
+        Suite::counted(alloc, "a", Slow::of(text), Slow::of(text))?
     } else {
-        Suite::kept(alloc, "a", Slow::of(text))
+        Suite::kept(alloc, "a", Slow::of(text))?
     };
-    Ok(vec![in alloc; suite?]?)
+    Ok(vec![in alloc; suite]?)
 }
 
 // What a call wrote, and the text of the fault.
@@ -188,6 +190,11 @@ fn junit(alloc: Global, text: &str, again: bool, writer: FaultyWriter) -> Writte
     written!(alloc, writer, sink => write_junit(alloc, suites, &mut sink))
 }
 
+fn alone(alloc: Global, text: &str, writer: FaultyWriter) -> Written {
+    let suite = Suite::kept(alloc, "a", Slow::of(text))?;
+    written!(alloc, writer, sink => write_suite(alloc, suite, &mut sink))
+}
+
 fn slowest(alloc: Global, writer: FaultyWriter) -> Written {
     let reports = vec![in alloc; read(alloc, TIMED)?]?;
     written!(alloc, writer, sink => write_slowest(alloc, &reports, 3, &mut sink))
@@ -232,6 +239,7 @@ fn write(alloc: Global, call: Call, writer: FaultyWriter) -> Written {
         Call::Page => page(alloc, writer),
         Call::Junit => junit(alloc, text, false, writer),
         Call::JunitAgain => junit(alloc, text, true, writer),
+        Call::JunitAlone => alone(alloc, text, writer),
         Call::Slowest => slowest(alloc, writer),
         Call::Comparison => comparison(alloc, writer),
         Call::Unexpected => unexpected(alloc, text, writer),

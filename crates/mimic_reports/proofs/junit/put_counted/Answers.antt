@@ -2,6 +2,7 @@ use Rattle.std.proofs.Common.{◌≡◌, ◌∙◌, ap, inr, refl, rules, subst,
 use Rattle.mimic_printer.proofs.Appending.{Put-Stopped, Put-trans}
 use Rattle.mimic_printer.specs.Sink.{Put, Stopped}
 use Rattle.mimic_reports.specs.declared.junit.JunitFault.TheVariants.{Write}
+use Rattle.mimic_reports.specs.declared.suite.SuiteEnding.TheVariants.{Read}
 use Rattle.mimic_reports.specs.Junit.{suite_text}
 use Rattle.mimic_reports.specs.Suites.{numbers_counted, part_text}
 use Rattle.mimic_events.proofs.Results.{on_error}
@@ -15,7 +16,7 @@ returns-then-ne g c =
     let differs : c.numbers_counted.result ≡ c.args.numbers.now → ⊥ = search rules in (
       refl,
       part_text c.args.program.now c.args.numbers.now came.0,
-      (came.0, (ending, came.2, λ e. differs (c.numbers_counted.ensures ∙ (ap (λ k. numbers_counted k ending) came.1 ∙ e))), refl),
+      (came.0, (ending, came.2, λ e. differs (c.numbers_counted.ensures ∙ (ap (λ k. numbers_counted k (Read ending)) came.1 ∙ e))), refl),
       came.3,
     )
 
