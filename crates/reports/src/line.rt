@@ -74,6 +74,12 @@ pub(crate) struct Expect {
     pub(crate) files: Vec<String>,
 }
 
+/// The failures of the reports in these files are to be printed as known ones.
+#[derive(Debug, Drop)]
+pub(crate) struct Known {
+    pub(crate) files: Vec<String>,
+}
+
 /// The reports in these two files are to be compared.
 #[derive(Debug, Drop)]
 pub(crate) struct Compare {
@@ -109,6 +115,7 @@ pub(crate) enum Line {
     Junit(Junit),
     Show(Show),
     Expect(Expect),
+    Known(Known),
     Compare(Compare),
     Page(Page),
     Slowest(Slowest),
@@ -162,6 +169,9 @@ impl Line {
             Some(("junit", junit)) => Line::Junit(Junit::from_matches(alloc, junit)?),
             Some(("show", show)) => Line::Show(Show::from_matches(alloc, show)?),
             Some(("expect", expect)) => Line::Expect(Expect::from_matches(alloc, expect)?),
+            Some(("known", known)) => Line::Known(Known {
+                files: files_of(alloc, known)?,
+            }),
             Some(("compare", compare)) => Line::Compare(Compare::from_matches(alloc, compare)?),
             Some(("page", page)) => Line::Page(Page::from_matches(alloc, page)?),
             Some(("slowest", slowest)) => Line::Slowest(Slowest::from_matches(alloc, slowest)?),
@@ -317,17 +327,19 @@ enum Subcommand {
     Junit,
     Show,
     Expect,
+    Known,
     Compare,
     Page,
     Slowest,
     Watch,
 }
 
-static SUBCOMMANDS: [Subcommand; 8] = [
+static SUBCOMMANDS: [Subcommand; 9] = [
     Subcommand::Join,
     Subcommand::Junit,
     Subcommand::Show,
     Subcommand::Expect,
+    Subcommand::Known,
     Subcommand::Compare,
     Subcommand::Page,
     Subcommand::Slowest,
@@ -351,6 +363,7 @@ impl Subcommand {
             Subcommand::Junit => junit_command(alloc),
             Subcommand::Show => show_command(alloc),
             Subcommand::Expect => expect_command(alloc),
+            Subcommand::Known => known_command(alloc),
             Subcommand::Compare => compare_command(alloc),
             Subcommand::Page => page_command(alloc),
             Subcommand::Slowest => slowest_command(alloc),
@@ -438,6 +451,12 @@ fn expect_command<'a>(alloc: Global) -> Result<Command<'a>, AllocError> {
     Command::new(alloc, "expect")
         .about("Print what is not as known failures say")
         .args(vec![in alloc; lax, known, files]?)
+}
+
+fn known_command<'a>(alloc: Global) -> Result<Command<'a>, AllocError> {
+    Command::new(alloc, "known")
+        .about("Print the failures of reports, as expect reads them")
+        .arg(files(alloc, "Reports in JSON; - is standard input"))
 }
 
 fn compare_command<'a>(alloc: Global) -> Result<Command<'a>, AllocError> {

@@ -8,6 +8,7 @@ mod faults;
 mod input;
 mod join;
 mod junit;
+mod known;
 mod line;
 mod page;
 mod pump;
@@ -39,6 +40,7 @@ fn main(rt: HostRuntime) -> ExitCode {
         Ok(Line::Junit(junit)) => junit::run(&rt, alloc, &junit),
         Ok(Line::Show(show)) => show::run(&rt, alloc, &show),
         Ok(Line::Expect(expect)) => expect::run(&rt, alloc, &expect),
+        Ok(Line::Known(known)) => known::run(&rt, alloc, &known),
         Ok(Line::Compare(compare)) => compare::run(&rt, alloc, &compare),
         Ok(Line::Page(page)) => page::run(&rt, alloc, &page),
         Ok(Line::Slowest(slowest)) => slowest::run(&rt, alloc, &slowest),
