@@ -60,10 +60,12 @@ fn print_ends(rt: &HostRuntime, expect: &Expect, verdict: &ExpectationVerdict) {
     }
 }
 
-// Prints why no known failures can be read from the file, and returns the status.
+// Prints why no known failures can be read from the file, and what makes some of a report, and returns the status.
 fn refuse_known(rt: &HostRuntime, file: &str, fault: &KnownFault) -> u8 {
     if let KnownFault::Line(line) = fault {
-        let _ = eprintln!(rt; "reports: {file}: line {line}: {fault}");
+        let _ = eprintln!(rt;
+            "reports: {file}: line {line}: {fault}; reports known makes such lines of a report"
+        );
         REFUSED
     } else {
         refuse(rt, file, fault)
