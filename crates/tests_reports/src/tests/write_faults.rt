@@ -8,7 +8,7 @@ use super::reading::Slow;
 use super::times::TIMED;
 use mimic_compare::write_comparison;
 use mimic_events::{Ending, Report, Row, RowsRead, Stop, read_from, write_report};
-use mimic_expect::write_unexpected;
+use mimic_expect::{write_known, write_unexpected};
 use mimic_join::join_reports;
 use mimic_printer::{Piece, Place, Sink, put_escaped, put_pieces};
 use mimic_reports::{
@@ -46,11 +46,12 @@ enum Call {
     Slowest,
     Comparison,
     Unexpected,
+    Known,
     Watch,
     LiveWatch,
 }
 
-static CALLS: [Call; 20] = [
+static CALLS: [Call; 21] = [
     Call::Pieces,
     Call::LongPieces,
     Call::Escaped,
@@ -69,6 +70,7 @@ static CALLS: [Call; 20] = [
     Call::Slowest,
     Call::Comparison,
     Call::Unexpected,
+    Call::Known,
     Call::Watch,
     Call::LiveWatch,
 ];
@@ -211,6 +213,10 @@ fn unexpected(alloc: Global, text: &str, writer: FaultyWriter) -> Written {
     written!(alloc, writer, sink => write_unexpected(alloc, &[], inputs, false, &mut sink))
 }
 
+fn known(alloc: Global, text: &str, writer: FaultyWriter) -> Written {
+    written!(alloc, writer, sink => write_known(alloc, Slow::of(text), &mut sink))
+}
+
 fn watched(alloc: Global, text: &str, live: bool, writer: FaultyWriter) -> Written {
     let screen = Screen {
         live,
@@ -243,6 +249,7 @@ fn write(alloc: Global, call: Call, writer: FaultyWriter) -> Written {
         Call::Slowest => slowest(alloc, writer),
         Call::Comparison => comparison(alloc, writer),
         Call::Unexpected => unexpected(alloc, text, writer),
+        Call::Known => known(alloc, text, writer),
         Call::Watch => watched(alloc, text, false, writer),
         Call::LiveWatch => watched(alloc, text, true, writer),
     }
