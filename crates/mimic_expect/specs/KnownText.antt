@@ -27,8 +27,8 @@ abbrev pub SayFailures : Type 0
 SayFailures = (rows : List Entry) → AllByRecursion FitsEntry rows → (expected : List Expected)
     × AreExpected expected (known_text rows) × (map (λ x. x.entry) expected ≡ map untimed (rows_with is_failed rows))
 
--- what a call leaves that writes the failures of an input: those of all rows that have ended in it; without memory those of rows that
--- have ended in a front of it, and with a fault of the writer a beginning of these
+-- what a call leaves that writes the failures of an input: those of all rows that have ended in it, or of rows that have ended in a
+-- front of it if its reader failed; without memory those of such rows, too, and with a fault of the writer a beginning of these
 abbrev pub LeavesKnown : Option (List ℕ) → Shown → Shown → Result InputEnd OutputFault → Type 0
 LeavesKnown input old new (Ok end) = (rows : List Entry) × IfSome input (Reads rows end) × Put old new (known_text rows)
 LeavesKnown input old new (Err OutOfMemory) =

@@ -13,8 +13,8 @@ use std::alloc::Global;
 use std::io::{ErrorKind, Read, Write};
 
 /// Writes the failures of a report as [`read_known`](crate::read_known) reads them: a line for each that has ended, in their order,
-/// as the report has it, but without a time. It returns how the report ended. It doesn't flush, so that the failures of more reports
-/// can follow.
+/// as the report has it, but without a time. It returns how the report ended. If the reader fails, the lines are those of failures
+/// that had ended. It doesn't flush, so that the failures of more reports can follow.
 ///
 /// Without memory the lines were written of failures among rows that have ended in a front of the input's bytes. With a fault of the
 /// writer a beginning of such lines was written.

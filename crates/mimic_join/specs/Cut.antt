@@ -19,7 +19,8 @@ use Rattle.mimic_join.specs.declared.cut.ShardRead.TheVariants.{Whole, Cut, Unre
 use Rattle.mimic_join.specs.declared.faults.JoinFault.{JoinFault}
 use Rattle.mimic_join.specs.declared.faults.JoinFault.TheVariants as fault
 
--- this was read of the input, if its bytes are known: a report, or the rows that have ended in it
+-- this was read of the input, if its bytes are known: a report, or the rows that have ended in it; nothing is said of one that is
+-- called unreadable
 abbrev pub IsReadOf : Option (List ℕ) → ShardRead → Type 0
 IsReadOf input (Whole report) = IsReportIn input report
 IsReadOf input (Cut rows stop) = IfSome input (λ bytes. IsStopped bytes (map entry_read rows.items) stop)

@@ -41,10 +41,10 @@ pub enum Joined {
 
 /// Reads the reports of `shards` shards, one reader after another, and joins what can be read of them.
 ///
-/// If all are whole, and there are as many as shards, it does what [`join_reports`](crate::join_reports) does. Otherwise it writes
-/// a cut report, and flushes it: a title with the sum of the numbers that their titles announce, at most 2^64 - 1, and the rows that
-/// have ended in them, in turn, each once. There is no summary. It writes nothing if there is no title. It isn't seen then if a
-/// trial is in two of the reports, or if they can't be those of shards of one list.
+/// If all are whole, and there are no fewer than shards, it does what [`join_reports`](crate::join_reports) does, which refuses more.
+/// Otherwise it writes a cut report, and flushes it: a title with the sum of the numbers that their titles announce, at most 2^64 - 1,
+/// and the rows that have ended in them, in turn, each once. There is no summary. It writes nothing if there is no title. It isn't
+/// seen then if a trial is in two of the reports, or if they can't be those of shards of one list.
 ///
 /// A reader that fails counts as one without a title: the rows that it gave before are lost.
 pub fn join_cut_reports<I: Read + Drop, O: Write>(

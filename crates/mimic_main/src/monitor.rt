@@ -60,9 +60,12 @@ impl Monitor {
             err,
         } = notices;
         let limit = limit?;
+        if args.list {
+            return None;
+        }
         let names = FullNames::of_selected(alloc, args, trials).ok()?;
         let threads = args.threads(default_threads).min(names.len());
-        if args.list || threads == 0 {
+        if threads == 0 {
             return None;
         }
         let running = Arc::new(alloc, RunningTrials::new(alloc, threads).ok()?).ok()?;

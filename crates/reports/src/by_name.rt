@@ -23,7 +23,7 @@ pub(crate) fn in_order(alloc: Global, files: Vec<String>) -> Result<Vec<String>,
     ensures { IfOk result (λ sorted. IsPermutation files.items sorted.items) }
 {
     if files.iter().any(|file| file.as_str() == STANDARD) {
-        return Err(LineError::NoNumbers);
+        return Err(LineError::NamelessInput);
     }
     let mut named = with_numbers(alloc, files)?;
     sort(&mut named)?;
@@ -63,7 +63,7 @@ fn sort(named: &mut Vec<Named>) -> Result<(), AllocError>
     named.sort_by(|first, second| first.numbers.cmp(&second.numbers))
 }
 
-// Returns the first two that are in order and have the same numbers.
+// Returns the first two neighbours that have the same numbers.
 fn equal_pair(named: &[Named]) -> Option<(&Named, &Named)> {
     for pair in named.windows(2) {
         if let [first, second] = pair

@@ -53,7 +53,8 @@ impl<'a> Sources<'a> {
             SuiteEnding::Read(Ending::Cut(stop)) => sources.status = refuse(rt, file, stop),
             SuiteEnding::Unread(cause) => sources.status = refuse(rt, file, cause),
         }
-        if sources.files.push(file).is_err() || sources.suites.push(suite).is_err() {
+        // A place in one list is a place in the other.
+        if sources.suites.push(suite).is_err() || sources.files.push(file).is_err() {
             sources.status = refuse(rt, file, &ReadFault::OutOfMemory);
         }
         sources

@@ -139,12 +139,12 @@ pub(crate) enum LineError {
     /// One report is to be the root of a document, and there are several.
     #[error("junit --root testsuite takes one FILE")]
     ManyFiles,
-    /// Two files are to be ordered whose names have the same numbers.
-    #[error("--by-name can't order {first} and {second}, whose names have the same numbers")]
+    /// Two files are to be ordered whose names have the same numbers, or none.
+    #[error("--by-name can't order {first} and {second}, whose names have the same numbers or none")]
     SameNumbers { first: String, second: String },
     /// Standard input is to be ordered by a name.
     #[error("--by-name can't order standard input, which has no name")]
-    NoNumbers,
+    NamelessInput,
     /// No subcommand is named that is read here.
     #[error("no subcommand")]
     NoSubcommand,

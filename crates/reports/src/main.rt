@@ -59,7 +59,7 @@ fn refuse(rt: &HostRuntime, error: &LineError) -> u8 {
         | LineError::NoName
         | LineError::ManyFiles
         | LineError::SameNumbers { .. }
-        | LineError::NoNumbers
+        | LineError::NamelessInput
         | LineError::NoSubcommand => {
             refuse_all(rt, error);
             USAGE

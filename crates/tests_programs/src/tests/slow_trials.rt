@@ -1,5 +1,5 @@
 //! Trials that run for too long, and what is printed of them meanwhile.
-use super::known_machine::{NO_OPTIONS, Printed, Streams, known_machine, run_program_on};
+use super::known_machine::{NO_OPTIONS, Printed, Streams, Words, known_machine, run_program_on};
 use super::runs::Host;
 use libtest_mimic::{Failed, Outcome, Task, Trial};
 use mimic_main::Program;
@@ -134,9 +134,15 @@ struct Left {
 }
 
 // Runs the trials, which are to be printed once they have run for longer than the limit. A closed standard error takes nothing.
-fn run_limited<H: Host>(host: H, alloc: Global, row: &Row, is_closed: bool) -> Result<Left, Fail> {
+fn run_limited<H: Host>(
+    host: H,
+    alloc: Global,
+    row: &Row,
+    words: Words,
+    is_closed: bool,
+) -> Result<Left, Fail> {
     let streams = Streams::new(alloc)?;
-    let mut machine = known_machine(host, alloc, NO_OPTIONS, &streams);
+    let mut machine = known_machine(host, alloc, words, &streams);
     machine.is_closed = is_closed;
     let trials = waiting(alloc, row.trials, &streams.err)?;
     let program = Program::new("program", row.threads.max(1)).with_slow_limit(
@@ -184,7 +190,34 @@ fn has_lines(text: &str, lines: &[&str]) -> bool {
 #[test]
 fn prints_slow_trials(rt: HostRuntime) -> Result<(), Fail> {
     for row in &ROWS {
-        let left = run_limited(rt, rt.alloc(), row, false)?;
+        let left = run_limited(rt, rt.alloc(), row, NO_OPTIONS, false)?;
+        assert!(rt; left.status == ExitCode::SUCCESS);
+        assert!(rt;
+            has_lines(left.printed.as_str(), row.lines),
+            "{:?}",
+            left.printed
+        );
+    }
+    Ok(())
+}
+
+// Of some that are selected, it is the one that runs whose name is printed.
+#[test]
+fn prints_slow_trials_among_selected(rt: HostRuntime) -> Result<(), Fail> {
+    for threads in [1, 2] {
+        let row = Row {
+            trials: &[
+                ("", "skipped", 0, 0),
+                ("", "a", 0, 0),
+                ("net", "skipped", 0, 0),
+                ("net", "b", 1, LOOKS),
+            ],
+            threads,
+            limit: LONGER,
+            lines: &["program: [net] b has been running for over 300 ms\n"],
+        };
+        let words: Words = &[b"program", b"--skip", b"skipped"];
+        let left = run_limited(rt, rt.alloc(), &row, words, false)?;
         assert!(rt; left.status == ExitCode::SUCCESS);
         assert!(rt;
             has_lines(left.printed.as_str(), row.lines),
@@ -205,7 +238,7 @@ fn prints_all_of_many_threads(rt: HostRuntime) -> Result<(), Fail> {
         limit: LIMIT,
         lines: &[],
     };
-    let left = run_limited(rt, rt.alloc(), &row, false)?;
+    let left = run_limited(rt, rt.alloc(), &row, NO_OPTIONS, false)?;
     let line = "program: trial has been running for over 20 ms\n";
     assert!(rt; left.status == ExitCode::SUCCESS);
     assert!(rt; left.printed.len() == 16 * line.len());
@@ -227,7 +260,7 @@ fn runs_without_standard_error(rt: HostRuntime) -> Result<(), Fail> {
         limit: LIMIT,
         lines: &[],
     };
-    let left = run_limited(rt, rt.alloc(), &row, true)?;
+    let left = run_limited(rt, rt.alloc(), &row, NO_OPTIONS, true)?;
     assert!(rt; left.status == ExitCode::SUCCESS && left.printed.is_empty());
     Ok(())
 }
