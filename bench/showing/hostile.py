@@ -43,6 +43,17 @@ def seconds(nanos):
     return f"{whole}.{rest:09}".rstrip("0").rstrip(".")
 
 
+def rounded(nanos):
+    """Returns nanoseconds in seconds, to the nearest thousandth."""
+    whole, rest = divmod((nanos + 500_000) // 1_000_000, 1000)
+    return f"{whole}.{rest:03}"
+
+
+def measured(average, deviation):
+    """Returns what is printed of a measurement."""
+    return f"{average:,} ns/iter (+/- {deviation:,})"
+
+
 def lines_of_row(row):
     named = f'"name": {json.dumps(row.name, ensure_ascii=False)}'
     if row.kind:
