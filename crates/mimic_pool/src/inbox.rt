@@ -1,12 +1,12 @@
 //! What workers have reported, for the one thread that takes it.
-ghost use Rattle.std.specs.Prelude.{◌≡◌, IfOk, false, is_some};
+ghost use Rattle.std.specs.Prelude.{◌≡◌, ◌≤◌, IfOk, false, is_some};
 ghost use Rattle.mimic_pool.specs.Board.{empty_board};
-ghost use Rattle.mimic_pool.specs.Inbox.{board_of, is_timed};
+ghost use Rattle.mimic_pool.specs.Inbox.{CanTake, board_of, is_timed};
 ghost use Rattle.mimic_pool.specs.Reports.{refused_to, told_to};
 
 use crate::board::Board;
 use crate::board_reports::BoardReports;
-use crate::running::Notes;
+use crate::notes::Notes;
 use crate::shared_board::{SharedBoard, zero_times};
 use mimic_trial::Outcome;
 use std::alloc::{AllocError, Global};
@@ -42,6 +42,7 @@ impl Inbox {
     pub fn new(alloc: Global, n: usize, workers: usize) -> Result<Inbox, AllocError>
         ensures board { IfOk result (λ inbox. board_of inbox ≡ empty_board n workers) }
         ensures timed { IfOk result (λ inbox. is_timed inbox ≡ false) }
+        ensures room { IfOk result (λ inbox. 1 ≤ n → CanTake inbox) }
     {
         Inbox::with_notes(alloc, n, workers, Notes::none())
     }
@@ -56,6 +57,7 @@ impl Inbox {
     ) -> Result<Inbox, AllocError>
         ensures board { IfOk result (λ inbox. board_of inbox ≡ empty_board n workers) }
         ensures timed { IfOk result (λ inbox. is_timed inbox ≡ notes.timed) }
+        ensures room { IfOk result (λ inbox. 1 ≤ n → CanTake inbox) }
     {
         let Notes { timed, running } = notes;
         let board = Board::new(alloc, n, workers)?;
@@ -94,6 +96,7 @@ impl Inbox {
     /// and every row was taken. No contract promises which row it is, nor that there is one: the rows are behind a lock.
     pub fn next<R: Wait>(&mut self, rt: &R) -> Option<(usize, Outcome)>
         ensures timed { is_timed self.new ≡ is_timed self.old }
+        ensures room { CanTake self.old → CanTake self.new }
     {
         if self.batch.is_empty() {
             // Whoever asks for the lock keeps a worker from it. So if many rows came and none was left, workers run first, and

@@ -16,9 +16,9 @@ ghost use Rattle.mimic_pool.specs.Share.{AllRunners, items_of};
 ghost use Rattle.mimic_pool.specs.declared.share.Assigned.{Assigned};
 
 use crate::inbox::Inbox;
+use crate::notes::Notes;
 use crate::reports::Unheard;
 use crate::rows::Rows;
-use crate::running::Notes;
 use crate::share::{Assigned, Share};
 use crate::shared_board::SharedBoard;
 use crate::shared_queue::{MOST_IN_BATCH, QueuePass, SharedQueue};
@@ -338,6 +338,7 @@ pub(crate) fn join_takers<T: Task + Send + 'static, R: Spawner>(
         queue.absorb(&mut pass, other);
         joined.push_reserved(rows);
     }
+    // All workers have ended, so each cell is free.
     let timer = Timer {
         rt,
         board: &board,

@@ -1,5 +1,5 @@
 //! Which trials run at present.
-ghost use Rattle.std.specs.Prelude.{◌≡◌, false};
+ghost use Rattle.std.specs.Prelude.{◌≡◌, IfOk, vec_len};
 
 use std::alloc::{AllocError, Global};
 use std::sync::Arc;
@@ -10,9 +10,19 @@ use std::sync::atomic::{AtomicU64, AtomicUsize, Ordering};
 pub struct RunningCell {
     // The trial's place and one; 0 if none runs.
     mark: AtomicU64,
+    // It keeps the marks of two threads out of one line of a processor's cache.
+    _apart: [u64; 7],
 }
 
 impl RunningCell {
+    // No trial runs yet.
+    fn new() -> RunningCell {
+        RunningCell {
+            mark: AtomicU64::new(0),
+            _apart: [0; 7],
+        }
+    }
+
     /// Marks that the trial at the place runs now.
     #[inline]
     pub fn set(&self, place: usize) {
@@ -33,7 +43,8 @@ impl RunningCell {
     }
 }
 
-/// Which trials of a run are being run, for another thread that looks at them meanwhile. It changes nothing in the run.
+/// Which trials of a run are being run, for another thread that looks at them meanwhile. It changes nothing in the run, and it is
+/// for one run: the threads of a second one would get no cells.
 #[derive(Drop)]
 pub struct RunningTrials {
     // One for each thread that runs trials.
@@ -43,19 +54,22 @@ pub struct RunningTrials {
 }
 
 impl RunningTrials {
-    /// No trial runs yet. At most `threads` will at the same time.
-    pub fn new(alloc: Global, threads: usize) -> Result<RunningTrials, AllocError> {
+    /// No trial runs yet. At most `threads` will at the same time, and each has a cell.
+    pub fn new(alloc: Global, threads: usize) -> Result<RunningTrials, AllocError>
+        ensures { IfOk result (λ running. vec_len running.cells ≡ threads) }
+    {
         let mut cells = Vec::with_capacity(alloc, threads)?;
         for _ in 0..threads {
-            let mark = AtomicU64::new(0);
-            cells.push(RunningCell { mark })?;
+            cells.push(RunningCell::new())?;
         }
         let asked = AtomicUsize::new(0);
         Ok(RunningTrials { cells, asked })
     }
 
     /// The cells of all threads.
-    pub fn cells(&self) -> &[RunningCell] {
+    pub fn cells(&self) -> &[RunningCell]
+        ensures { result.now ≡ self.now.cells.items }
+    {
         self.cells.as_slice()
     }
 
@@ -72,26 +86,5 @@ impl RunningTrials {
     // The cell of this number, from 0.
     pub(crate) fn cell(&self, number: usize) -> Option<&RunningCell> {
         self.cells.get(number)
-    }
-}
-
-/// What workers note while they run trials.
-#[derive(Drop)]
-pub struct Notes {
-    /// Whether they note how long each trial runs.
-    pub timed: bool,
-    /// Where they mark which trials run, if anybody looks.
-    pub running: Option<Arc<RunningTrials>>,
-}
-
-impl Notes {
-    /// Neither of them.
-    pub fn none() -> Notes
-        ensures { result.timed ≡ false }
-    {
-        Notes {
-            timed: false,
-            running: None,
-        }
     }
 }

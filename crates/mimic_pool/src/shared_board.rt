@@ -1,6 +1,7 @@
 //! The board of a run, under its lock.
-ghost use Rattle.std.specs.Prelude.{◌≡◌, ◌+◌, ◌≤◌};
+ghost use Rattle.std.specs.Prelude.{◌≡◌, ◌≢◌, ◌+◌, ◌≤◌, ◌↔◌, [], IfErr, IfOk, IsTrue};
 ghost use Rattle.std.specs.VecDeque.{deque_capacity, deque_len};
+ghost use Rattle.mimic_pool.specs.Board.{after_report};
 
 use crate::board::Board;
 use crate::running::{RunningCell, RunningTrials};
@@ -96,10 +97,9 @@ impl SharedBoard {
         outcome: Outcome,
     ) -> Result<(), Outcome> {
         let mut board = self.lock(rt);
-        let is_first_to_wait = !board.has_waiting();
-        board.report(place, outcome)?;
+        let one_waited = report_behind(&mut board, place, outcome)?;
         drop(board);
-        if is_first_to_wait {
+        if !one_waited {
             self.has_changed.notify_one();
         }
         Ok(())
@@ -144,6 +144,18 @@ impl SharedBoard {
             rows.push_back_reserved(row);
         }
     }
+}
+
+// Reports the row, and returns whether another one waited before it. Both happen under the lock that the caller holds, so no row can
+// be taken between them.
+fn report_behind(board: &mut Board, place: usize, outcome: Outcome) -> Result<bool, Outcome>
+    ensures waited { IfOk result (λ one_waited. IsTrue one_waited ↔ (board.old.waiting ≢ [])) }
+    ensures board { board.new ≡ after_report board.old (place, outcome) }
+    ensures handed_back { IfErr result (λ back. back ≡ outcome) }
+{
+    let one_waited = board.has_waiting();
+    board.report(place, outcome)?;
+    Ok(one_waited)
 }
 
 // Room for a time of each of `count` trials.

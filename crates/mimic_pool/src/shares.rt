@@ -11,8 +11,8 @@ ghost use Rattle.mimic_pool.specs.declared.share.Assigned.{Assigned};
 
 use crate::board_reports::BoardReports;
 use crate::inbox::Inbox;
+use crate::notes::Notes;
 use crate::rows::Rows;
-use crate::running::Notes;
 use crate::share::Share;
 use crate::share_start::{AnswersShare, Start};
 use crate::spawner::Spawner;

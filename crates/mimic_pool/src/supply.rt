@@ -11,9 +11,9 @@ ghost use Rattle.mimic_pool.specs.Supply.{AreReady, Holds, OnShares, Runs, runs_
 ghost use Rattle.mimic_pool.specs.declared.share.Assigned.{Assigned};
 
 use crate::inbox::Inbox;
+use crate::notes::Notes;
 use crate::queue::{Queue, QueueCrew, QueueStarts, join_takers, prepare_takers, start_takers};
 use crate::rows::Rows;
-use crate::running::Notes;
 use crate::share::{Assigned, Share, deal_next, empty_shares};
 use crate::shares::{ShareCrew, ShareStarts, join_shares, prepare_shares, start_shares};
 use crate::spawner::Spawner;
