@@ -1,5 +1,5 @@
 //! Reads arguments from a command line.
-ghost use Rattle.std.specs.Prelude.{◌≡◌, ◌<◌, IfErr, IfOk, List, false, length, map, vec_len};
+ghost use Rattle.std.specs.Prelude.{◌≡◌, ◌<◌, ◌⊎◌, IfErr, IfOk, List, false, length, map, vec_len};
 ghost use Rattle.clap.specs.Values.{kind_of};
 ghost use Rattle.clap.specs.Words.{Text};
 ghost use Rattle.clap.specs.declared.error.kind.ErrorKind.TheVariants as Kind;
@@ -107,6 +107,23 @@ impl Arguments {
     {
         let words = words_of(alloc, read)?;
         Arguments::from_iter(alloc, words.as_slice())
+    }
+}
+
+impl ArgumentsError {
+    /// Returns the error for a line that `clap` refused, for a program that declares options of its own beside those of
+    /// [`Arguments::command`]. It is `Help`, with the text to print, if help or a version was asked for, `OutOfMemory` if `clap` had no
+    /// memory, and else `Refused`, with what is wrong and how the program is used.
+    ///
+    /// It returns an `Err` if there is no memory for the text.
+    pub fn from_clap(alloc: Global, error: &clap::Error) -> Result<ArgumentsError, AllocError>
+        ensures { IfOk result (λ e. IsErrorFor (kind_of error.now ≡ Kind.OutOfMemory)
+            ((kind_of error.now ≡ Kind.DisplayHelp) ⊎ (kind_of error.now ≡ Kind.DisplayVersion)) e) }
+    {
+        match error.kind() {
+            ErrorKind::DisplayVersion => Ok(ArgumentsError::Help(error.to_string(alloc)?)),
+            _ => error_of(alloc, error),
+        }
     }
 }
 
