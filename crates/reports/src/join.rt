@@ -1,6 +1,6 @@
 //! Joins the reports of shards into one.
 use crate::by_name::Absent;
-use crate::faults::{refuse, refuse_all, refuse_cut};
+use crate::faults::{refuse, refuse_all, refuse_cut, refuse_write};
 use crate::input::Input;
 use crate::line::Join;
 use crate::{BLOCK, REFUSED, SUCCESS, TRIALS_FAILED};
@@ -62,6 +62,9 @@ fn refuse_shard(rt: &HostRuntime, file: &str, read: &ShardRead) {
 
 // Prints why there is no joined report, and returns the status.
 fn refuse_fault(rt: &HostRuntime, alloc: Global, join: &Join, fault: &JoinFault) -> u8 {
+    if let JoinFault::Write(fault) = fault {
+        return refuse_write(rt, fault);
+    }
     let hint = hint_of(fault);
     let _ = eprintln!(rt; "reports: {}{hint}", fault.with_names(&join.files));
     if let JoinFault::Refused(Refusal::Number { .. }) = fault

@@ -1,5 +1,5 @@
 //! Prints reports as JUnit's XML.
-use crate::faults::{refuse, refuse_all};
+use crate::faults::{refuse, refuse_all, refuse_write};
 use crate::input::{Input, STANDARD, name_of};
 use crate::line::{Junit, Root};
 use crate::{BLOCK, SUCCESS};
@@ -97,6 +97,9 @@ fn write<W: Write + Drop>(
 
 // Prints why the document has no end, and returns the status.
 fn refuse_at(rt: &HostRuntime, files: &[&str], fault: &JunitFault) -> u8 {
+    if let JunitFault::Write(fault) = fault {
+        return refuse_write(rt, fault);
+    }
     match fault.place() {
         Some(place) => refuse(rt, files.get(place).unwrap_or(&STANDARD), fault),
         None => refuse_all(rt, fault),

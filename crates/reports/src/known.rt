@@ -1,5 +1,5 @@
 //! Prints the failures of reports as known ones.
-use crate::faults::{refuse, refuse_all, refuse_cut};
+use crate::faults::{refuse, refuse_all, refuse_cut, refuse_output, refuse_write};
 use crate::input::Input;
 use crate::line::Known;
 use crate::{BLOCK, SUCCESS};
@@ -20,12 +20,12 @@ pub(crate) fn run(rt: &HostRuntime, alloc: Global, known: &Known) -> u8 {
         let file = file.as_str();
         match write_known(alloc, Input::new(rt, file), &mut sink) {
             Ok(end) => status = status.max(status_of(rt, file, &end)),
-            Err(fault) => return refuse_all(rt, &fault),
+            Err(fault) => return refuse_output(rt, &fault),
         }
     }
     match sink.flush() {
         Ok(()) => status,
-        Err(fault) => refuse_all(rt, &fault),
+        Err(fault) => refuse_write(rt, &fault),
     }
 }
 

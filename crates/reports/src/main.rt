@@ -16,8 +16,9 @@ mod show;
 mod slowest;
 mod watch;
 
-use faults::refuse_all;
+use faults::{refuse_all, refuse_write};
 use line::{Line, LineError};
+use mimic_printer::WriteFault;
 use mimic_trial::Conclusion;
 use std::process::ExitCode;
 
@@ -64,9 +65,10 @@ fn refuse(rt: &HostRuntime, error: &LineError) -> u8 {
             refuse_all(rt, error);
             USAGE
         }
-        LineError::Shown(error) => {
-            let _ = error.print(rt);
-            if error.use_stderr() { USAGE } else { SUCCESS }
-        }
+        LineError::Shown(error) => match error.print(rt) {
+            _ if error.use_stderr() => USAGE,
+            Ok(()) => SUCCESS,
+            Err(fault) => refuse_write(rt, &WriteFault::Error(fault)),
+        },
     }
 }

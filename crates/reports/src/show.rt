@@ -1,5 +1,5 @@
 //! Prints a report as the harness prints it in the pretty format.
-use crate::faults::{refuse, refuse_all};
+use crate::faults::{refuse, refuse_output};
 use crate::input::Input;
 use crate::line::{Colours, Show};
 use crate::{BLOCK, SUCCESS, TRIALS_FAILED};
@@ -19,7 +19,7 @@ pub(crate) fn run(rt: &HostRuntime, alloc: Global, show: &Show) -> u8 {
     };
     let status = status_of(&rows);
     if let Err(fault) = print(rt, alloc, show, rows, &ending) {
-        return refuse_all(rt, &fault);
+        return refuse_output(rt, &fault);
     }
     match &ending {
         Ending::Whole { .. } => status,

@@ -1,5 +1,5 @@
 //! Prints the slowest trials of reports.
-use crate::faults::{refuse, refuse_all};
+use crate::faults::{refuse, refuse_output};
 use crate::input::Input;
 use crate::line::Slowest;
 use crate::{BLOCK, SUCCESS};
@@ -29,7 +29,7 @@ pub(crate) fn run(rt: &HostRuntime, alloc: Global, slowest: &Slowest) -> u8 {
     }
     match print(rt, alloc, &reports, slowest.count) {
         Ok(()) => status,
-        Err(fault) => refuse_all(rt, &fault),
+        Err(fault) => refuse_output(rt, &fault),
     }
 }
 

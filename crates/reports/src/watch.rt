@@ -1,11 +1,11 @@
 //! Shows the report on standard input as it comes.
-use crate::faults::{refuse_all, refuse_format};
+use crate::faults::{refuse_all, refuse_format, refuse_output};
 use crate::line::Watch;
 use crate::pump::{Incoming, Pipe, pump};
 use mimic_events::{Ending, ReadFault, Stop};
 use mimic_main::shows_colours;
 use mimic_printer::Sink;
-use mimic_watch::{ERASE, Screen, watch};
+use mimic_watch::{ERASE, Screen, WatchFault, watch};
 use std::alloc::Global;
 use std::io::{Eprint, IsTerminal, Stdin, Stdout, Write};
 use std::rt::{Clock, Env};
@@ -86,8 +86,15 @@ fn show<H: Host>(
             if screen.live {
                 let _ = sink.into_inner().write_all(ERASE.as_bytes());
             }
-            refuse_all(host, &fault)
+            refuse_fault(host, &fault)
         }
+    }
+}
+
+fn refuse_fault<H: Host>(host: &H, fault: &WatchFault) -> u8 {
+    match fault {
+        WatchFault::Read(_) => refuse_all(host, fault),
+        WatchFault::Write(fault) => refuse_output(host, fault),
     }
 }
 
