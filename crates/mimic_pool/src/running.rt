@@ -58,10 +58,8 @@ impl RunningTrials {
     pub fn new(alloc: Global, threads: usize) -> Result<RunningTrials, AllocError>
         ensures { IfOk result (λ running. vec_len running.cells ≡ threads) }
     {
-        let mut cells = Vec::with_capacity(alloc, threads)?;
-        for _ in 0..threads {
-            cells.push(RunningCell::new())?;
-        }
+        let mut cells = Vec::new(alloc);
+        cells.resize_with(threads, RunningCell::new)?;
         let asked = AtomicUsize::new(0);
         Ok(RunningTrials { cells, asked })
     }
