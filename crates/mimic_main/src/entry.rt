@@ -30,7 +30,7 @@ use std::{io, thread};
 /// If the line does not say how many threads run them, it is as many as the machine can run at once. The report goes to
 /// standard output, in colours if [`shows_colours`](crate::shows_colours) says so, or into the logfile. A fault is printed on
 /// standard error with its cause. If the trials could not be made, the reason is printed there, and the status is 1. A trial that
-/// runs for over a minute is printed there, once, while it runs.
+/// runs for over a minute is printed there, once, while it runs, and so is, before the run, a name that several trials have.
 ///
 /// No contract says which words and variables a process gets, so this one is about some of them, and never excludes the statuses
 /// 0, 1 and 2.
@@ -111,8 +111,8 @@ fn count_or_one(given: io::Result<NonZeroUsize>) -> usize
 
 impl<'a> Program<'a> {
     /// A program of this name that leaves to the machine what a line leaves open: as many threads as that can run at once, and
-    /// colours if [`shows_colours`](crate::shows_colours) is true of its standard output. It prints faults with their causes, and
-    /// trials that run for over a minute, and its workers take trials from one queue.
+    /// colours if [`shows_colours`](crate::shows_colours) is true of its standard output. It prints faults with their causes, trials
+    /// that run for over a minute and a warning if trials have equal names, and its workers take trials from one queue.
     pub fn on<M: Machine>(machine: &M, name: &'a str) -> Program<'a>
         ensures name { result.name.now ≡ name.now }
         ensures causes { result.prints_causes ≡ true }
@@ -144,8 +144,9 @@ impl<'a> Program<'a> {
     }
 
     /// Runs or lists the trials as the line and the variables ask, on the machine's streams and by its clock, and returns what
-    /// `main` is to return. A shard is named in one line on standard error, and so is each trial that runs for too long, while it
-    /// does ([`with_slow_limit`](Program::with_slow_limit)).
+    /// `main` is to return. A shard is named in one line on standard error, and so is a name that several trials have
+    /// ([`with_equal_names`](Program::with_equal_names)), and each trial that runs for too long, while it does
+    /// ([`with_slow_limit`](Program::with_slow_limit)).
     ///
     /// A fault is printed there, the first of these: the trials could not be made (status 1), the line was refused (2), the
     /// variables were (2), the status file can't be touched (2), the logfile can't be made (1), the run was refused (1). If help
@@ -200,6 +201,7 @@ impl<'a> Program<'a> {
         if let Some(shard) = shard {
             self.print_shard(shard, tests.len(), total, err);
         }
+        self.print_equal_names(alloc, &args, &tests, err);
         let monitor = self.monitor(machine, &args, &tests);
         let job = Job {
             args: &args,

@@ -23,6 +23,7 @@
 mod clock;
 mod colours;
 mod entry;
+mod equal_names;
 mod full_names;
 mod job;
 mod machine;

@@ -42,13 +42,15 @@ pub struct Program<'a> {
     pub(crate) schedule: Schedule,
     pub(crate) on_terminal: bool,
     pub(crate) slow_limit: Option<Duration>,
+    pub(crate) warns_of_equal_names: bool,
     pub ghost some_thread: { 1 ≤ threads },
 }
 
 impl<'a> Program<'a> {
     /// Makes a program of this name, which is printed before a fault. This number of threads runs its trials if the line leaves it
-    /// open. Its reports have no colours, it prints faults with their causes and trials that run for over a minute, its workers
-    /// take trials from one queue, and an output that [`harness_run`](Program::harness_run) is given is no terminal.
+    /// open. Its reports have no colours, it prints faults with their causes, trials that run for over a minute and a warning if
+    /// trials have equal names, its workers take trials from one queue, and an output that [`harness_run`](Program::harness_run) is
+    /// given is no terminal.
     pub fn new(name: &'a str, threads: usize) -> Program<'a>
         requires { 1 ≤ threads }
         ensures name { result.name.now ≡ name.now }
@@ -57,6 +59,7 @@ impl<'a> Program<'a> {
         ensures causes { result.prints_causes ≡ true }
         ensures schedule { result.schedule ≡ Schedule.Queue }
         ensures terminal { result.on_terminal ≡ false }
+        ensures warns { result.warns_of_equal_names ≡ true }
     {
         Program {
             name,
@@ -66,6 +69,7 @@ impl<'a> Program<'a> {
             schedule: Schedule::Queue,
             on_terminal: false,
             slow_limit: Some(Duration::from_secs(SLOW_SECONDS)),
+            warns_of_equal_names: true,
         }
     }
 
@@ -78,6 +82,7 @@ impl<'a> Program<'a> {
         ensures schedule { result.schedule ≡ self.entry.schedule }
         ensures terminal { result.on_terminal ≡ self.entry.on_terminal }
         ensures limit { result.slow_limit ≡ self.entry.slow_limit }
+        ensures warns { result.warns_of_equal_names ≡ self.entry.warns_of_equal_names }
     {
         self.auto_colours = auto_colours;
         self
@@ -92,6 +97,7 @@ impl<'a> Program<'a> {
         ensures schedule { result.schedule ≡ self.entry.schedule }
         ensures terminal { result.on_terminal ≡ self.entry.on_terminal }
         ensures limit { result.slow_limit ≡ self.entry.slow_limit }
+        ensures warns { result.warns_of_equal_names ≡ self.entry.warns_of_equal_names }
     {
         self.prints_causes = false;
         self
@@ -106,6 +112,7 @@ impl<'a> Program<'a> {
         ensures schedule { result.schedule ≡ schedule }
         ensures terminal { result.on_terminal ≡ self.entry.on_terminal }
         ensures limit { result.slow_limit ≡ self.entry.slow_limit }
+        ensures warns { result.warns_of_equal_names ≡ self.entry.warns_of_equal_names }
     {
         self.schedule = schedule;
         self
@@ -121,6 +128,7 @@ impl<'a> Program<'a> {
         ensures schedule { result.schedule ≡ self.entry.schedule }
         ensures terminal { result.on_terminal ≡ on_terminal }
         ensures limit { result.slow_limit ≡ self.entry.slow_limit }
+        ensures warns { result.warns_of_equal_names ≡ self.entry.warns_of_equal_names }
     {
         self.on_terminal = on_terminal;
         self
@@ -136,8 +144,26 @@ impl<'a> Program<'a> {
         ensures schedule { result.schedule ≡ self.entry.schedule }
         ensures terminal { result.on_terminal ≡ self.entry.on_terminal }
         ensures limit { result.slow_limit ≡ limit }
+        ensures warns { result.warns_of_equal_names ≡ self.entry.warns_of_equal_names }
     {
         self.slow_limit = limit;
+        self
+    }
+
+    /// Lets selected trials have the same kind and name. Without this call the first such name, by kind and name, is printed on
+    /// standard error before they run, since no reader of the report can tell their rows apart. Only calls that are given a machine
+    /// print it, and none if a list is asked for.
+    pub fn with_equal_names(mut self) -> Program<'a>
+        ensures name { result.name ≡ self.entry.name }
+        ensures threads { result.threads ≡ self.entry.threads }
+        ensures colours { result.auto_colours ≡ self.entry.auto_colours }
+        ensures causes { result.prints_causes ≡ self.entry.prints_causes }
+        ensures schedule { result.schedule ≡ self.entry.schedule }
+        ensures terminal { result.on_terminal ≡ self.entry.on_terminal }
+        ensures limit { result.slow_limit ≡ self.entry.slow_limit }
+        ensures warns { result.warns_of_equal_names ≡ false }
+    {
+        self.warns_of_equal_names = false;
         self
     }
 }

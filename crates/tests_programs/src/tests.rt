@@ -1,5 +1,6 @@
 //! What no clause covers: when bytes go out, what is printed on standard error, and that nothing is done after a fault.
 mod clocks;
+mod equal_names;
 mod faults;
 mod known_machine;
 mod machines;

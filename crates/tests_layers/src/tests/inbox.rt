@@ -48,6 +48,27 @@ fn refuses_what_the_board_hands_back(rt: HostRuntime) -> Result<(), Fail> {
     Ok(())
 }
 
+static OUTCOMES: [Plain; 5] = [
+    Plain::Passed,
+    Plain::Failed(None),
+    Plain::Failed(Some("x")),
+    Plain::Ignored,
+    Plain::Measured(2, 3),
+];
+
+// A row of each outcome is reported as soon as its worker tells of it, with all that it says.
+#[test]
+fn reports_each_outcome(rt: HostRuntime) -> Result<(), Fail> {
+    let mut inbox = Inbox::new(rt.alloc(), OUTCOMES.len(), 1)?;
+    let mut reports = inbox.reports(rt, rt.alloc())?;
+    for (place, outcome) in OUTCOMES.iter().enumerate() {
+        assert!(rt; reports.tell(place, &outcome.outcome(rt.alloc())?).is_ok());
+        assert!(rt; gives(&rt, &mut inbox, place, *outcome));
+    }
+    assert!(rt; reports.refusals() == 0);
+    Ok(())
+}
+
 // A machine whose clock reads these nanoseconds, first the one and then the other. `None` is a reading that fails.
 #[derive(Drop)]
 struct KnownClock<R> {

@@ -543,7 +543,7 @@ fn shows_values_of_programs(rt: HostRuntime) -> Result<(), Fail> {
     check_debug(&rt, alloc, &Untold, "Untold")?;
     check_debug(&rt, alloc, &StillClock, "StillClock")?;
     let program =
-        "Program { name: \"telling\", threads: 4, auto_colours: true, prints_causes: true, schedule: Queue, on_terminal: false, slow_limit: Some(60s) }";
+        "Program { name: \"telling\", threads: 4, auto_colours: true, prints_causes: true, schedule: Queue, on_terminal: false, slow_limit: Some(60s), warns_of_equal_names: true }";
     check_debug(&rt, alloc, &telling(), program)
 }
 

@@ -145,9 +145,9 @@ fn run_limited<H: Host>(
     let mut machine = known_machine(host, alloc, words, &streams);
     machine.is_closed = is_closed;
     let trials = waiting(alloc, row.trials, &streams.err)?;
-    let program = Program::new("program", row.threads.max(1)).with_slow_limit(
-        row.limit.map(|millis| Duration::from_millis(millis)),
-    );
+    let program = Program::new("program", row.threads.max(1))
+        .with_slow_limit(row.limit.map(|millis| Duration::from_millis(millis)))
+        .with_equal_names();
     let status = run_program_on(&machine, &program, trials);
     Ok(Left {
         status,
