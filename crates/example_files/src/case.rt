@@ -5,11 +5,14 @@ use std::io::ErrorKind;
 use std::rt::Files;
 use std::{fmt, fs, io};
 
-/// What a trial runs: the pair of files at this path, without their ends.
+/// What a trial runs: the pair of files at this path.
 #[derive(Drop)]
 pub(crate) struct FileCase<M> {
     pub(crate) rt: M,
+    /// The files' path, without their ends.
     pub(crate) path: String,
+    /// The same below the folder that was given. Failures have this one, so they are alike on every machine.
+    pub(crate) shown: String,
 }
 
 impl<M: Files + AllocGlobal + Drop> Task for FileCase<M> {
@@ -20,33 +23,42 @@ impl<M: Files + AllocGlobal + Drop> Task for FileCase<M> {
 
 impl<M: Files + AllocGlobal> FileCase<M> {
     fn check(&self) -> Result<(), Failed> {
-        let alloc = self.rt.alloc();
-        let given = self.read("in")?;
-        let wanted = self.read("out")?;
-        let answered = answer(alloc, given.as_str()).map_err(|error| Failed::because(
-            alloc, &error,
-        ))?;
+        let answered = self.answered()?;
+        let wanted = self
+            .text("out")
+            .map_err(|error| self.unread("out", &error))?;
         match first_difference(wanted.as_str(), answered.as_str()) {
             None => Ok(()),
             Some(difference) => {
-                let path = &self.path;
-                Err(Failed::because(alloc, &format_args!("{path}.out: {difference}")))
+                let shown = &self.shown;
+                Err(self.failed(format_args!("{shown}.out: {difference}")))
             }
         }
     }
 
-    // The text of the file with this end. One that is not UTF-8 can't be read.
-    fn read(&self, end: &str) -> Result<String, Failed> {
-        let path = &self.path;
-        self.text(end).map_err(|error| {
-            Failed::because(
-                self.rt.alloc(),
-                &format_args!("cannot read {path}.{end}: {error}"),
-            )
-        })
+    /// Makes the answer the output. Returns whether it was another one, or wasn't there.
+    pub(crate) fn bless(&self) -> Result<bool, Failed> {
+        let answered = self.answered()?;
+        match self.text("out") {
+            Ok(output) if output == answered => return Ok(false),
+            Ok(_) => {}
+            Err(error) if may_be_written(&error) => {}
+            Err(error) => return Err(self.unread("out", &error)),
+        }
+        if let Err(error) = self.write_output(answered.as_str()) {
+            let shown = &self.shown;
+            return Err(self.failed(format_args!("cannot write {shown}.out: {error}")));
+        }
+        Ok(true)
     }
 
-    // The same. What is no file is not opened, since a FIFO would be waited for.
+    // What the function under test makes of the input.
+    fn answered(&self) -> Result<String, Failed> {
+        let given = self.text("in").map_err(|error| self.unread("in", &error))?;
+        answer(self.rt.alloc(), given.as_str()).map_err(|error| self.failed(error))
+    }
+
+    // The text of the file with this end, which must be UTF-8. What is no file is not opened, since a FIFO would be waited for.
     fn text(&self, end: &str) -> io::Result<String> {
         let path = format!(in self.rt.alloc(); "{}.{end}", self.path)?;
         if !fs::metadata(&self.rt, path.as_str())?.is_file() {
@@ -54,6 +66,25 @@ impl<M: Files + AllocGlobal> FileCase<M> {
         }
         fs::read_to_string(&self.rt, path.as_str())
     }
+
+    fn write_output(&self, answered: &str) -> io::Result<()> {
+        let path = format!(in self.rt.alloc(); "{}.out", self.path)?;
+        fs::write(&self.rt, path.as_str(), answered)
+    }
+
+    fn unread(&self, end: &str, error: &io::Error) -> Failed {
+        let shown = &self.shown;
+        self.failed(format_args!("cannot read {shown}.{end}: {error}"))
+    }
+
+    fn failed<D: fmt::Display + Drop>(&self, reason: D) -> Failed {
+        Failed::because(self.rt.alloc(), &reason)
+    }
+}
+
+// Whether the output that couldn't be read may be written anew: there is none, or it is no text.
+fn may_be_written(error: &io::Error) -> bool {
+    matches!(error.kind(), ErrorKind::NotFound | ErrorKind::InvalidData)
 }
 
 // The first line, counted from 1, in which two texts differ.

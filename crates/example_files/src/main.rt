@@ -3,21 +3,28 @@
 //! To test a function of your own, copy this crate and exchange the body of `answer`.
 #![tactic(auto)]
 
+mod bless;
 mod case;
 mod folders;
 
+use bless::bless;
 use case::FileCase;
 use folders::{FolderError, Found, cases_below};
 use libtest_mimic::{Line, Trial};
-use mimic_main::{Sharding, Status, run_line};
+use mimic_main::{Sharding, run_line};
 use std::alloc::{AllocError, Global};
 use std::path::Path;
+use std::process::{ExitCode, Termination};
 use std::rt::Files;
 
-const USAGE: &str = "\
-usage: example_files DIR.. [-- OPTIONS]
+const NAME: &str = "example_files";
 
-Runs a trial for each pair NAME.in and NAME.out below the folders.
+const USAGE: &str = "\
+usage: example_files [--bless] DIR.. [-- OPTIONS]
+
+Runs a trial for each pair NAME.in and NAME.out below the folders. With --bless
+it runs none, and writes what is answered into each NAME.out that differs or is
+missing, of the trials that OPTIONS select.
 `example_files -- --help` shows the options.
 ";
 
@@ -35,20 +42,29 @@ pub(crate) fn case_of(file: &str) -> Option<&str> {
     }
 }
 
-fn main(rt: HostRuntime) -> Status {
+fn main(rt: HostRuntime) -> ExitCode {
     let alloc = rt.alloc();
-    let line = Line::from_args(&rt, alloc);
+    let mut line = Line::from_args(&rt, alloc);
+    let blesses = take_bless(&mut line.own);
     let (options, trials) = match line.into_operands(alloc, 1..=usize::MAX, USAGE) {
         Ok((options, folders)) => (Ok(options), trials_below(rt, folders.as_slice())),
         Err(error) => (Err(error), Ok(Vec::new(alloc))),
     };
-    run_line(
-        &rt,
-        "example_files",
-        options,
-        Sharding::from_env(&rt),
-        trials,
-    )
+    match (options, trials) {
+        (Ok(options), Ok(trials)) if blesses => bless(&rt, &options, trials),
+        (options, trials) => {
+            run_line(&rt, NAME, options, Sharding::from_env(&rt), trials).report(&rt)
+        }
+    }
+}
+
+// Takes `--bless` from the program's own words, if it is the first one. Returns whether it was there.
+fn take_bless(own: &mut Vec<String>) -> bool {
+    let asked = matches!(own.first(), Some(word) if word.as_str() == "--bless");
+    if asked {
+        own.remove(0);
+    }
+    asked
 }
 
 // A trial for each case below the folders.
@@ -56,9 +72,14 @@ fn trials_below<M: Files + AllocGlobal + Copy + Drop>(
     rt: M,
     folders: &[String],
 ) -> Result<Vec<Trial<FileCase<M>>>, FolderError> {
-    let mut trials = Vec::new(rt.alloc());
+    let alloc = rt.alloc();
+    let mut trials = Vec::new(alloc);
     for Found { name, path, kind } in cases_below(&rt, folders)? {
-        trials.push(Trial::new(name, FileCase { rt, path }).with_kind(kind))?;
+        let shown = Path::new(kind.as_str())
+            .join(alloc, name.as_str())?
+            .into_string();
+        let case = FileCase { rt, path, shown };
+        trials.push(Trial::new(name, case).with_kind(kind))?;
     }
     Ok(trials)
 }

@@ -2,6 +2,7 @@
 use crate::report::check_report;
 use libtest_mimic::{Failed, Outcome, Task};
 use serde_json::Value;
+use std::io::ErrorKind;
 use std::rt::Files;
 use std::{fs, io};
 
@@ -16,11 +17,14 @@ pub(crate) enum Expectation {
     Report,
 }
 
-/// What a trial runs: the file at this path, without its end.
+/// What a trial runs: the file at this path.
 #[derive(Drop)]
 pub(crate) struct JsonFile<M> {
     pub(crate) rt: M,
+    /// The file's path, without its end.
     pub(crate) path: String,
+    /// The same below the folder that was given. Failures have this one, so they are alike on every machine.
+    pub(crate) shown: String,
     pub(crate) expectation: Expectation,
 }
 
@@ -46,9 +50,9 @@ impl<M: Files + AllocGlobal + Drop> Task for JsonFile<M> {
 impl<M: Files + AllocGlobal> JsonFile<M> {
     fn check(&self) -> Result<(), Failed> {
         let alloc = self.rt.alloc();
-        let path = &self.path;
+        let shown = &self.shown;
         let bytes = self.bytes().map_err(|error| {
-            Failed::because(alloc, &format_args!("cannot read {path}.json: {error}"))
+            Failed::because(alloc, &format_args!("cannot read {shown}.json: {error}"))
         })?;
         if let Expectation::Report = self.expectation {
             return check_report(alloc, bytes.as_slice());
@@ -56,21 +60,25 @@ impl<M: Files + AllocGlobal> JsonFile<M> {
         match (self.expectation, Value::from_slice(alloc, bytes.as_slice())) {
             // A parser without memory has not judged the text.
             (_, Err(error)) if error.is_memory() => {
-                Err(Failed::because(alloc, &format_args!("cannot parse {path}.json: {error}")))
+                Err(Failed::because(alloc, &format_args!("cannot parse {shown}.json: {error}")))
             }
             (Expectation::Accept, Err(error)) => {
-                Err(Failed::because(alloc, &format_args!("{path}.json was refused: {error}")))
+                Err(Failed::because(alloc, &format_args!("{shown}.json was refused: {error}")))
             }
             (Expectation::Refuse, Ok(_)) => {
-                Err(Failed::because(alloc, &format_args!("{path}.json was accepted")))
+                Err(Failed::because(alloc, &format_args!("{shown}.json was accepted")))
             }
             _ => Ok(()),
         }
     }
 
-    // What the file holds. What is not UTF-8 is for the parser to refuse.
+    // What the file holds. What is not UTF-8 is for the parser to refuse. What is no file is not opened, since a FIFO would be waited
+    // for.
     fn bytes(&self) -> io::Result<Vec<u8>> {
         let path = format!(in self.rt.alloc(); "{}.json", self.path)?;
+        if !fs::metadata(&self.rt, path.as_str())?.is_file() {
+            return Err(io::Error::new(ErrorKind::InvalidInput, "it is no file"));
+        }
         fs::read(&self.rt, path.as_str())
     }
 }

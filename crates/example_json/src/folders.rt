@@ -106,7 +106,8 @@ fn entries<M: Files + AllocGlobal + Copy + Drop>(
     }
 }
 
-// The same in the order of the system. If the name of an entry isn't UTF-8, its type is not known either: it may be a folder.
+// The same in the order of the system. What is neither a folder nor a file is a case too, so that no case is passed over: it fails when
+// it is read. If the name of an entry isn't UTF-8, its type is not known either: it may be a folder.
 fn read_entries<M: Files + AllocGlobal + Copy + Drop>(
     rt: &M,
     folder: &Folder,
@@ -117,18 +118,11 @@ fn read_entries<M: Files + AllocGlobal + Copy + Drop>(
         let file_type = entry.file_type()?;
         if file_type.is_dir() {
             found.push(Entry::Folder(folder.holding(rt.alloc(), entry.file_name())?))?;
-        } else if let Some(name) = case_of(entry.file_name())
-            && (file_type.is_file() || file_type.is_symlink() && leads_to_file(rt, entry.path()))
-        {
+        } else if let Some(name) = case_of(entry.file_name()) {
             found.push(Entry::Case(folder.case(rt.alloc(), name)?))?;
         }
     }
     Ok(found)
-}
-
-// Whether the link leads to a file. One that leads nowhere counts, so that its case fails when it is read.
-fn leads_to_file<M: Files>(rt: &M, link: Path<'_>) -> bool {
-    fs::metadata(rt, link).map_or(true, |target| target.is_file())
 }
 
 impl Folder {

@@ -10,6 +10,7 @@ use case::{Expectation, JsonFile};
 use folders::{FolderError, Found, cases_below};
 use libtest_mimic::{Line, Trial};
 use mimic_main::{Sharding, Status, run_line};
+use std::path::Path;
 use std::rt::Files;
 
 const USAGE: &str = "\
@@ -47,13 +48,18 @@ fn trials_below<M: Files + AllocGlobal + Copy + Drop>(
     rt: M,
     folders: &[String],
 ) -> Result<Vec<Trial<JsonFile<M>>>, FolderError> {
-    let mut trials = Vec::new(rt.alloc());
+    let alloc = rt.alloc();
+    let mut trials = Vec::new(alloc);
     for Found { name, path, kind } in cases_below(&rt, folders)? {
         if let Some(expectation) = Expectation::of(name.as_str()) {
             let is_open = matches!(expectation, Expectation::Either);
+            let shown = Path::new(kind.as_str())
+                .join(alloc, name.as_str())?
+                .into_string();
             let file = JsonFile {
                 rt,
                 path,
+                shown,
                 expectation,
             };
             trials.push(
