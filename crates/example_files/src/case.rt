@@ -1,6 +1,7 @@
 //! One case: reads its files and compares.
 use crate::answer;
 use libtest_mimic::{Failed, Outcome, Task};
+use mimic_files::read_text;
 use std::io::ErrorKind;
 use std::rt::Files;
 use std::{fmt, fs, io};
@@ -58,13 +59,10 @@ impl<M: Files + AllocGlobal> FileCase<M> {
         answer(self.rt.alloc(), given.as_str()).map_err(|error| self.failed(error))
     }
 
-    // The text of the file with this end, which must be UTF-8. What is no file is not opened, since a FIFO would be waited for.
+    // The text of the file with this end.
     fn text(&self, end: &str) -> io::Result<String> {
         let path = format!(in self.rt.alloc(); "{}.{end}", self.path)?;
-        if !fs::metadata(&self.rt, path.as_str())?.is_file() {
-            return Err(io::Error::new(ErrorKind::InvalidInput, "it is no file"));
-        }
-        fs::read_to_string(&self.rt, path.as_str())
+        read_text(&self.rt, path.as_str())
     }
 
     fn write_output(&self, answered: &str) -> io::Result<()> {

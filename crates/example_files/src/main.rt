@@ -5,12 +5,11 @@
 
 mod bless;
 mod case;
-mod folders;
 
 use bless::bless;
 use case::FileCase;
-use folders::{FolderError, Found, cases_below};
 use libtest_mimic::{Line, Trial};
+use mimic_files::{FolderError, Found, cases_below};
 use mimic_main::{Sharding, run_line};
 use std::alloc::{AllocError, Global};
 use std::path::Path;
@@ -34,7 +33,7 @@ pub(crate) fn answer(alloc: Global, input: &str) -> Result<String, AllocError> {
 }
 
 // The name of the case that a file of this name belongs to.
-pub(crate) fn case_of(file: &str) -> Option<&str> {
+fn case_of(file: &str) -> Option<&str> {
     let file = Path::new(file);
     match file.extension() {
         Some("in" | "out") => file.file_stem(),
@@ -72,12 +71,14 @@ fn trials_below<M: Files + AllocGlobal + Copy + Drop>(
     rt: M,
     folders: &[String],
 ) -> Result<Vec<Trial<FileCase<M>>>, FolderError> {
-    let alloc = rt.alloc();
-    let mut trials = Vec::new(alloc);
-    for Found { name, path, kind } in cases_below(&rt, folders)? {
-        let shown = Path::new(kind.as_str())
-            .join(alloc, name.as_str())?
-            .into_string();
+    let mut trials = Vec::new(rt.alloc());
+    for found in cases_below(&rt, folders, case_of)? {
+        let Found {
+            name,
+            path,
+            shown,
+            kind,
+        } = found;
         let case = FileCase { rt, path, shown };
         trials.push(Trial::new(name, case).with_kind(kind))?;
     }

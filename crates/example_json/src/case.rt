@@ -1,10 +1,10 @@
 //! One file: reads it, and parses it.
 use crate::report::check_report;
 use libtest_mimic::{Failed, Outcome, Task};
+use mimic_files::read_bytes;
 use serde_json::Value;
-use std::io::ErrorKind;
+use std::io;
 use std::rt::Files;
-use std::{fs, io};
 
 /// What the parser must do with a file.
 #[derive(Clone, Copy)]
@@ -72,13 +72,9 @@ impl<M: Files + AllocGlobal> JsonFile<M> {
         }
     }
 
-    // What the file holds. What is not UTF-8 is for the parser to refuse. What is no file is not opened, since a FIFO would be waited
-    // for.
+    // What the file holds. What is not UTF-8 is for the parser to refuse.
     fn bytes(&self) -> io::Result<Vec<u8>> {
         let path = format!(in self.rt.alloc(); "{}.json", self.path)?;
-        if !fs::metadata(&self.rt, path.as_str())?.is_file() {
-            return Err(io::Error::new(ErrorKind::InvalidInput, "it is no file"));
-        }
-        fs::read(&self.rt, path.as_str())
+        read_bytes(&self.rt, path.as_str())
     }
 }

@@ -3,14 +3,12 @@
 #![tactic(auto)]
 
 mod case;
-mod folders;
 mod report;
 
 use case::{Expectation, JsonFile};
-use folders::{FolderError, Found, cases_below};
 use libtest_mimic::{Line, Trial};
+use mimic_files::{FolderError, Found, cases_below};
 use mimic_main::{Sharding, Status, run_line};
-use std::path::Path;
 use std::rt::Files;
 
 const USAGE: &str = "\
@@ -23,7 +21,7 @@ r_*.json, which are reports of a harness, it must find what their reader finds.
 ";
 
 // The name of the case that a file of this name is.
-pub(crate) fn case_of(file: &str) -> Option<&str> {
+fn case_of(file: &str) -> Option<&str> {
     file.strip_suffix(".json")
 }
 
@@ -48,9 +46,14 @@ fn trials_below<M: Files + AllocGlobal + Copy + Drop>(
     rt: M,
     folders: &[String],
 ) -> Result<Vec<Trial<JsonFile<M>>>, FolderError> {
-    let alloc = rt.alloc();
-    let mut trials = Vec::new(alloc);
-    for Found { name, path, kind } in cases_below(&rt, folders)? {
+    let mut trials = Vec::new(rt.alloc());
+    for found in cases_below(&rt, folders, case_of)? {
+        let Found {
+            name,
+            path,
+            shown,
+            kind,
+        } = found;
         if let Some(expectation) = Expectation::of(name.as_str()) {
             let is_open = matches!(expectation, Expectation::Either);
             let shown = Path::new(kind.as_str())

@@ -10,8 +10,8 @@ use std::cmp::Ordering;
 use std::io::{BufWriter, Write};
 
 impl Program<'_> {
-    // Prints a kind and a name that several trials have which these arguments select. Nothing is printed if there are none, if the
-    // trials are only listed, or if there is no memory for it.
+    // Prints the first kind and name, in the order of kinds and names, that several trials have which these arguments select. Nothing
+    // is printed if there are none, if the trials are only listed, or if there is no memory for it.
     pub(crate) fn print_equal_names<R, E: Write>(
         &self,
         alloc: Global,
@@ -22,20 +22,35 @@ impl Program<'_> {
         if args.list || !self.warns_of_equal_names {
             return;
         }
-        if let Ok(Some(info)) = first_of_several(alloc, args, trials) {
-            let _ = put_warning(alloc, self.name, info, err);
-        }
+        let _ = put_equal_names(alloc, self.name, args, trials, err);
     }
 }
 
-// Writes the warning in one write, so that no other program's text comes between its parts.
-fn put_warning<E: Write>(
+fn put_equal_names<'a, R, E: Write>(
     alloc: Global,
-    program: &str,
-    info: &TestInfo,
+    program: &'a str,
+    args: &Arguments,
+    trials: &'a [Trial<R>],
     err: &mut E,
 ) -> Result<(), OutputFault> {
-    let Ok(out) = BufWriter::with_capacity(alloc, BLOCK, err) else {
+    let infos = sorted_infos(alloc, args, trials)?;
+    for place in 1..infos.len() {
+        let (info, next) = (infos[place - 1], infos[place]);
+        if info.kind == next.kind && info.name == next.name {
+            return put_warning(alloc, program, info, err);
+        }
+    }
+    Ok(())
+}
+
+// Writes the warning in one write, so that no other program's text comes between its parts.
+fn put_warning<'a, E: Write>(
+    alloc: Global,
+    program: &'a str,
+    info: &'a TestInfo,
+    err: &mut E,
+) -> Result<(), OutputFault> {
+    let Ok(out) = BufWriter::with_capacity(alloc, BLOCK, &mut *err) else {
         return Err(OutputFault::OutOfMemory);
     };
     let mut sink = Sink::new(out);
@@ -53,13 +68,12 @@ fn put_warning<E: Write>(
     Ok(())
 }
 
-// Returns a kind and a name that several of the trials have which a run with these arguments selects: the first ones in the order of
-// kinds and, within a kind, of names. `None` if each trial has its own.
-fn first_of_several<'a, R>(
+// What is known of the trials that these arguments select, in the order of kinds and, within a kind, of names.
+fn sorted_infos<'a, R>(
     alloc: Global,
     args: &Arguments,
     trials: &'a [Trial<R>],
-) -> Result<Option<&'a TestInfo>, AllocError> {
+) -> Result<Vec<&'a TestInfo>, AllocError> {
     let mut infos = Vec::with_capacity(alloc, trials.len())?;
     for trial in trials {
         if !is_filtered_out(args, trial) {
@@ -68,20 +82,10 @@ fn first_of_several<'a, R>(
     }
     // A table of hashes would be slow for names that were chosen to collide in it.
     infos.sort_by(by_kind_and_name)?;
-    Ok(first_repeated(&infos))
+    Ok(infos)
 }
 
 fn by_kind_and_name(a: &&TestInfo, b: &&TestInfo) -> Ordering {
     let kinds = a.kind.as_str().cmp(b.kind.as_str());
     kinds.then_with(|| a.name.as_str().cmp(b.name.as_str()))
-}
-
-// Returns the first of the infos that is followed by one with its kind and name.
-fn first_repeated<'a>(infos: &[&'a TestInfo]) -> Option<&'a TestInfo> {
-    for pair in infos.windows(2) {
-        if pair[0].kind == pair[1].kind && pair[0].name == pair[1].name {
-            return Some(pair[0]);
-        }
-    }
-    None
 }

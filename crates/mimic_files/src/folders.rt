@@ -1,5 +1,4 @@
-//! Finds the cases below folders. `case_of`, in the root of the crate, says which names are of cases: copy this module as it is.
-use crate::case_of;
+//! Finds the cases below folders.
 use std::alloc::{AllocError, AllocFailed, Global};
 use std::path::Path;
 use std::rt::Files;
@@ -8,18 +7,20 @@ use thiserror::Error;
 
 /// A case below the folders.
 #[derive(Drop, PartialEq, Eq, PartialOrd, Ord)]
-pub(crate) struct Found {
-    /// Its name, as `case_of` has it.
-    pub(crate) name: String,
+pub struct Found {
+    /// Its name, as the caller made it of a file's name.
+    pub name: String,
     /// The path of its folder, and then its name.
-    pub(crate) path: String,
-    /// The path of its folder below the one that was given.
-    pub(crate) kind: String,
+    pub path: String,
+    /// The same below the folder that was given, so it is the same on every machine.
+    pub shown: String,
+    /// The path of its folder below the one that was given. Empty for that one itself.
+    pub kind: String,
 }
 
 /// Why the cases are not known. What a folder holds that can't be read is not known, so no trial may be run then.
 #[derive(Debug, Drop, Error)]
-pub(crate) enum FolderError {
+pub enum FolderError {
     /// An allocation failed.
     #[error("out of memory")]
     OutOfMemory,
@@ -55,11 +56,20 @@ struct Folder {
 }
 
 /// Returns the cases below the folders: those of each folder by name, and then those of its sub-folders, which come by name, too.
-/// No link to a folder is followed, so that the walk can't go in circles.
-pub(crate) fn cases_below<M: Files + AllocGlobal + Copy + Drop>(
+/// `case_of` makes the name of a case of a file's name, or says that the file is of none; several files may be of one case.
+///
+/// What is neither a folder nor a regular file is a case, too, such as a FIFO or a link that leads nowhere, so that no case is passed
+/// over: reading it fails. No link to a folder is followed, so that the walk can't go in circles. It returns an `Err` if a folder or an
+/// entry of it can't be read, if a name isn't UTF-8, or if an allocation failed.
+///
+/// No contract says what a disk holds.
+pub fn cases_below<M: Files + AllocGlobal + Copy + Drop, F: Fn(&str) -> Option<&str> + Copy>(
     rt: &M,
     folders: &[String],
-) -> Result<Vec<Found>, FolderError> {
+    case_of: F,
+) -> Result<Vec<Found>, FolderError>
+    requires { F.IsAlwaysCallable case_of }
+{
     let alloc = rt.alloc();
     let mut cases = Vec::new(alloc);
     // What is left to look at, the next one last.
@@ -68,7 +78,7 @@ pub(crate) fn cases_below<M: Files + AllocGlobal + Copy + Drop>(
     for _ in 0..u64::MAX {
         match left.pop() {
             Some(Entry::Case(found)) => cases.push(found)?,
-            Some(Entry::Folder(folder)) => left.append(&mut entries(rt, folder)?)?,
+            Some(Entry::Folder(folder)) => left.append(&mut entries(rt, folder, case_of)?)?,
             None => break,
         }
     }
@@ -87,11 +97,14 @@ fn given(alloc: Global, folders: &[String]) -> Result<Vec<Entry>, AllocError> {
 }
 
 // The cases and folders that a folder holds, the first of them last.
-fn entries<M: Files + AllocGlobal + Copy + Drop>(
+fn entries<M: Files + AllocGlobal + Copy + Drop, F: Fn(&str) -> Option<&str> + Copy>(
     rt: &M,
     folder: Folder,
-) -> Result<Vec<Entry>, FolderError> {
-    match read_entries(rt, &folder) {
+    case_of: F,
+) -> Result<Vec<Entry>, FolderError>
+    requires { F.IsAlwaysCallable case_of }
+{
+    match read_entries(rt, &folder, case_of) {
         Ok(mut found) => {
             found.sort_unstable();
             // A case may have several files.
@@ -106,12 +119,14 @@ fn entries<M: Files + AllocGlobal + Copy + Drop>(
     }
 }
 
-// The same in the order of the system. What is neither a folder nor a file is a case too, so that no case is passed over: it fails when
-// it is read. If the name of an entry isn't UTF-8, its type is not known either: it may be a folder.
-fn read_entries<M: Files + AllocGlobal + Copy + Drop>(
+// The same in the order of the system. If the name of an entry isn't UTF-8, its type is not known either: it may be a folder.
+fn read_entries<M: Files + AllocGlobal + Copy + Drop, F: Fn(&str) -> Option<&str> + Copy>(
     rt: &M,
     folder: &Folder,
-) -> io::Result<Vec<Entry>> {
+    case_of: F,
+) -> io::Result<Vec<Entry>>
+    requires { F.IsAlwaysCallable case_of }
+{
     let mut found = Vec::new(rt.alloc());
     for entry in fs::read_dir(rt, folder.path.as_str())? {
         let entry = entry?;
@@ -139,6 +154,7 @@ impl Folder {
         Ok(Found {
             name: String::from_str(alloc, name)?,
             path: joined(alloc, &self.path, name)?,
+            shown: joined(alloc, &self.kind, name)?,
             kind: self.kind.clone()?,
         })
     }
