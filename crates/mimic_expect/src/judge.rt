@@ -12,6 +12,7 @@ ghost use Rattle.mimic_expect.specs.Known.{expected_read};
 
 use crate::judgement::{Judgement, Unexpected, judge};
 use crate::known::Expectation;
+use crate::options::Lines;
 use mimic_events::{Key, Row};
 use mimic_printer::{OutputFault, Sink};
 use mimic_trial::Outcome;
@@ -65,14 +66,15 @@ impl<'a> Judge<'a> {
     pub(crate) fn row<W: Write>(
         &mut self,
         row: Row,
+        lines: Lines,
         sink: &mut Sink<W>,
     ) -> Result<bool, OutputFault>
         requires { HasFaultLeft sink.old }
         ensures { MatchResult result
-            (λ unknown. Judges self.old self.new (entry_read row ∷ []) (cond unknown 1 0)
+            (λ unknown. Judges lines self.old self.new (entry_read row ∷ []) (cond unknown 1 0)
             (shown W.contents sink.old) (shown W.contents sink.new))
             (λ fault. LeftBy fault (shown W.contents sink.old) (shown W.contents sink.new)
-            (unknown_text self.old.known (entry_read row ∷ []))) }
+            (unknown_text lines self.old.known (entry_read row ∷ []))) }
     {
         if (&self.labels).contains(&Key::Trial(&row)) {
             self.rows.push(row)?;
@@ -81,7 +83,7 @@ impl<'a> Judge<'a> {
         let Outcome::Failed(_) = &row.outcome else {
             return Ok(false);
         };
-        Unexpected::Failed(&row).put(sink)?;
+        Unexpected::Failed(&row).put(lines, sink)?;
         Ok(true)
     }
 
