@@ -6,4 +6,5 @@ pub mod KnownTexts
 pub mod Laws
 mod Meeting
 mod Strangers
+pub mod Updates
 mod Verdicts

@@ -34,7 +34,7 @@ module _ {X : Type 0} (p q : X → Bool) where
   filter_none apart [] = refl
   filter_none apart (x ∷ xs) = grind (arith, filter_none apart xs, apart x)
 
-filter_mapped : {X Y : Type 0} (p : Y → Bool) (f : X → Y) (xs : List X) → filter p (map f xs) ≡ map f (filter (λ x. p (f x)) xs)
+pub filter_mapped : {X Y : Type 0} (p : Y → Bool) (f : X → Y) (xs : List X) → filter p (map f xs) ≡ map f (filter (λ x. p (f x)) xs)
 filter_mapped p f [] = refl
 filter_mapped p f (x ∷ xs) = grind (arith, filter_mapped p f xs)
 

@@ -21,10 +21,12 @@ mod known;
 mod known_text;
 mod options;
 mod unexpected;
+mod updated;
 mod verdict;
 
 pub use inputs::write_unexpected;
 pub use known::{Expectation, KnownFault, read_known};
 pub use known_text::write_known;
 pub use options::{ExpectOptions, Lines};
+pub use updated::{UpdateVerdict, write_updated};
 pub use verdict::{ExpectationVerdict, InputEnd};
