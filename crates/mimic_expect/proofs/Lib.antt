@@ -6,5 +6,6 @@ pub mod KnownTexts
 pub mod Laws
 mod Meeting
 mod Strangers
-pub mod Updates
+pub mod UpdatedTexts
+mod Updates
 mod Verdicts

@@ -11,7 +11,7 @@ use Rattle.mimic_expect.specs.JudgementText.{finding_read}
 use Rattle.mimic_expect.specs.Known.{Expected, lines_of}
 use Rattle.mimic_expect.specs.declared.judgement.Unexpected.{Unexpected}
 use Rattle.mimic_expect.specs.Updated.{added_line, changes, found_at, is_number, kept_line, kept_lines, line_of, update_text, updated_text}
-use Rattle.mimic_expect.specs.Verdict.{InputRead, ends_of, has_all, have_all, is_whole, rows_of}
+use Rattle.mimic_expect.specs.Verdict.{InputRead, ends_of, has_all, is_whole, rows_of}
 use Rattle.mimic_expect.specs.declared.verdict.InputEnd.{InputEnd}
 use Rattle.mimic_expect.proofs.KnownLines.{line_off}
 use Rattle.mimic_expect.proofs.Strangers.{filter_mapped}

@@ -1,5 +1,5 @@
 -- The new text of a file of known failures that is brought up to date (our own).
-use Rattle.std.specs.Prelude.{◌≡◌, ℕ, ◌+◌, ◌==◌, Bool, true, false, cond, List, [], ◌∷◌, ◌++◌, filter, map, Option, None, Some, Result, Ok, Err}
+use Rattle.std.specs.Prelude.{◌≡◌, ℕ, ◌+◌, ◌==◌, Bool, false, cond, List, [], ◌∷◌, ◌++◌, filter, map, Option, None, Some, Result, Ok, Err}
 use Rattle.std.specs.List.{AllByRecursion, AllZip, flat_map, list_all}
 use Rattle.std.specs.Option.{option_or}
 use Rattle.mimic_printer.specs.Json.{Entry, FitsEntry}
@@ -100,11 +100,16 @@ abbrev pub added_rows : Finding → List Entry
 added_rows (FailedRow row) = untimed row ∷ []
 added_rows other = []
 
--- the law of the new text, if the old one says these known failures, and of rows that fit: each known failure that no finding is
--- about is known, and for one that has another message the new one, in their order, and then the failures that were not known
-abbrev pub SayUpdated : Type 0
-SayUpdated = (text : List ℕ) (expected : List Expected) (rows : List Entry) (are_all lax : Bool)
-    → AreExpected expected text → AllByRecursion FitsEntry rows
-    → let found = filter (counts lax) (findings expected rows are_all) in
-    (new : List Expected) × AreExpected new (updated_text text found)
-    × (map (λ x. x.entry) new ≡ flat_map (λ e. said_after e (found_at found e.line)) expected ++ flat_map added_rows found)
+-- the text says of each known failure that no finding is about that it is known, in the place of one that has another message now the
+-- new one, all in their order, and then the failures that were not known; and nothing else
+pub record IsSaid (text : List ℕ) (expected : List Expected) (found : List Finding) : Type 0 where
+  pub known : List Expected
+  pub says : AreExpected known text
+  pub entries : map (λ e. e.entry) known ≡ flat_map (λ e. said_after e (found_at found e.line)) expected ++ flat_map added_rows found
+
+-- the law of new texts: if the old one says these known failures, so does the new one say them, whatever findings count of rows that
+-- fit
+pub record UpdateLaw : Type 0 where
+  pub said : (text : List ℕ) (expected : List Expected) (rows : List Entry) (are_all lax : Bool)
+      → AreExpected expected text → AllByRecursion FitsEntry rows
+      → IsSaid (updated_text text (filter (counts lax) (findings expected rows are_all))) expected (filter (counts lax) (findings expected rows are_all))

@@ -9,7 +9,7 @@ ghost use Rattle.mimic_expect.specs.Changes.{HasChanges, read_at};
 ghost use Rattle.mimic_expect.specs.Expect.{counts};
 ghost use Rattle.mimic_expect.specs.JudgementText.{finding_read};
 ghost use Rattle.mimic_expect.specs.Known.{expected_read, lines_of, says_nothing};
-ghost use Rattle.mimic_expect.specs.Updated.{line_of, replaced_by, updated_text, LeavesUpdate, SayUpdated, added_line, kept_line, kept_lines, update_text};
+ghost use Rattle.mimic_expect.specs.Updated.{line_of, replaced_by, updated_text, LeavesUpdate, UpdateLaw, added_line, kept_line, kept_lines, update_text};
 ghost use Rattle.mimic_expect.specs.Verdict.{InputRead, IsReadOf, ends_of, is_whole, rows_of, Reads};
 
 use crate::judgement::{Unexpected, judge};
@@ -48,6 +48,7 @@ impl UpdateVerdict {
 ///
 /// If an input is no whole report, nothing is written: the verdict says how each ended. Without memory nothing was written either,
 /// and with a fault of the writer a beginning.
+#[tactic(auto, using(crate::proofs::UpdatedTexts::update_law))]
 pub fn write_updated<I: Read + Drop, W: Write>(
     alloc: Global,
     text: &[u8],
@@ -62,7 +63,7 @@ pub fn write_updated<I: Read + Drop, W: Write>(
         (shown W.contents sink.old) (shown W.contents sink.new) result }
 
     // What the new text says.
-    ensures law { SayUpdated }
+    ensures law { UpdateLaw }
 {
     let (rows, ends) = read_inputs(alloc, inputs)?;
     let verdict = UpdateVerdict { ends };
@@ -226,10 +227,7 @@ fn says_nothing(line: &[u8]) -> bool
 }
 
 // Writes what stands in the place of a line about which this was found.
-fn put_replacement<W: Write>(
-    sink: &mut Sink<W>,
-    found: &Unexpected<'_>,
-) -> Result<(), WriteFault>
+fn put_replacement<W: Write>(sink: &mut Sink<W>, found: &Unexpected<'_>) -> Result<(), WriteFault>
     requires { HasFaultLeft sink.old }
     ensures { Puts W.contents sink.old sink.new (replaced_by (finding_read found.now)) result }
 {
