@@ -185,13 +185,7 @@ impl Read for Copied<'_> {
 
 // Gives the file a new text, if that is another one or there is no file. A new file beside it takes its name, so that a crash leaves
 // the old text or the new one. If anything fails, the old file stays, and the new one is removed.
-fn replace(
-    rt: &HostRuntime,
-    alloc: Global,
-    file: &str,
-    old: &[u8],
-    new: &[u8],
-) -> io::Result<()> {
+fn replace(rt: &HostRuntime, alloc: Global, file: &str, old: &[u8], new: &[u8]) -> io::Result<()> {
     let target = target_of(rt, alloc, file)?;
     let permissions = match fs::metadata(rt, target.as_path()) {
         Ok(metadata) if !metadata.is_file() => {
@@ -202,7 +196,11 @@ fn replace(
         Err(error) if error.kind() == ErrorKind::NotFound => None,
         Err(error) => return Err(error),
     };
-    let path = format!(in alloc; "{}.{}.new", target.as_path().as_str(), process::id(rt.process()))?;
+    let path = format!(in alloc;
+        "{}.{}.new",
+        target.as_path().as_str(),
+        process::id(rt.process())
+    )?;
     let beside = File::create_new(rt, &path)?;
     let replaced = fill(beside, new, permissions).and_then(|()| fs::rename(rt, &path, &target));
     if replaced.is_err() {

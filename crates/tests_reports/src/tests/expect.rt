@@ -513,10 +513,7 @@ static READABLE: [(&[&str], &[Input], &[&str]); 9] = [
     (
         &["# why\n", failed!(["k"] "a", "z")],
         &[(A_MEASURED, None)],
-        &[
-            "passed, line 2 can go: [k] a\n",
-            numbers!(0, 0, 1, 0, 0),
-        ],
+        &["passed, line 2 can go: [k] a\n", numbers!(0, 0, 1, 0, 0)],
     ),
     (
         &[failed!("c", "z")],
@@ -652,12 +649,7 @@ static UPDATES: [(&[&str], &[Input], bool, &[&str]); 12] = [
     ),
     (&[failed!("a")], &[(A_PASSED, None)], false, &[]),
     // A known failure that may pass stays.
-    (
-        &[failed!("a")],
-        &[(A_PASSED, None)],
-        true,
-        &[failed!("a")],
-    ),
+    (&[failed!("a")], &[(A_PASSED, None)], true, &[failed!("a")]),
     // One that is absent goes nevertheless.
     (
         &[failed!("c"), failed!("a", "z")],
