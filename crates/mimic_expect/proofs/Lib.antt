@@ -1,3 +1,4 @@
+mod ChangedLines
 mod Judged
 mod Judgements
 mod KeyedPlaces

@@ -16,7 +16,8 @@ use Rattle.mimic_expect.specs.Expect.{AbsentLine, FailedRow, Finding, OtherMessa
 use Rattle.mimic_expect.specs.FindingText.{row_line}
 use Rattle.mimic_expect.specs.Known.{AreExpected, Expected, SayFrom, SaysFailure, lines_of, says_nothing}
 use Rattle.mimic_expect.specs.KnownText.{untimed}
-use Rattle.mimic_expect.specs.Updated.{IsSaid, UpdateLaw, added_line, added_rows, found_at, is_number, kept_line, kept_lines, known_line, line_of, said_after, updated_text}
+use Rattle.mimic_expect.specs.Updated.{IsSaid, UpdateLaws, added_line, added_rows, found_at, is_number, kept_line, kept_lines, known_line, line_of, said_after, updated_text}
+use Rattle.mimic_expect.proofs.ChangedLines.{apart}
 use Rattle.mimic_expect.proofs.KnownLines.{expected, line_off}
 use Rattle.mimic_expect.proofs.KnownTexts.{first_byte, more_said, says_some}
 
@@ -261,5 +262,5 @@ is_said text known rows are_all lax says fits =
     let said = kept_said (found_at found) (found_fits found fit) (flat_map added_line found) (flat_map added_rows found) (added_said found fit) 1 1 (lines_of text) known (no_ends text) says in
     record { known = said.0; says = said.1; entries = said.2 }
 
-pub update_law : UpdateLaw
-update_law = record { said = is_said }
+pub update_laws : UpdateLaws
+update_laws = record { apart = apart; said = is_said }

@@ -1,12 +1,13 @@
 -- The new text of a file of known failures that is brought up to date (our own).
 use Rattle.std.specs.Prelude.{◌≡◌, ℕ, ◌+◌, ◌==◌, Bool, false, cond, List, [], ◌∷◌, ◌++◌, filter, map, Option, None, Some, Result, Ok, Err}
-use Rattle.std.specs.List.{AllByRecursion, AllZip, flat_map, list_all}
-use Rattle.std.specs.Option.{option_or}
+use Rattle.std.specs.List.{AllByRecursion, AllZip, IsDistinct, flat_map, list_all}
+use Rattle.std.specs.Option.{option_or, option_to_list}
+use Rattle.mimic_trial.specs.Count.{is_failed}
 use Rattle.mimic_printer.specs.Json.{Entry, FitsEntry}
 use Rattle.mimic_printer.specs.Sink.{Put, Shown, Stopped}
 use Rattle.mimic_printer.specs.declared.sink.OutputFault.{OutputFault}
 use Rattle.mimic_printer.specs.declared.sink.OutputFault.TheVariants.{OutOfMemory, Write}
-use Rattle.mimic_expect.specs.Expect.{AbsentLine, FailedRow, Finding, OtherMessage, PassedLine, counts, findings}
+use Rattle.mimic_expect.specs.Expect.{AbsentLine, FailedRow, Finding, OtherMessage, PassedLine, counts, findings, keyed, met_by, rows_with}
 use Rattle.mimic_expect.specs.FindingText.{row_line}
 use Rattle.mimic_expect.specs.Known.{AreExpected, Expected, lines_of, says_nothing}
 use Rattle.mimic_expect.specs.KnownText.{untimed}
@@ -107,9 +108,17 @@ pub record IsSaid (text : List ℕ) (expected : List Expected) (found : List Fin
   pub says : AreExpected known text
   pub entries : map (λ e. e.entry) known ≡ flat_map (λ e. said_after e (found_at found e.line)) expected ++ flat_map added_rows found
 
--- the law of new texts: if the old one says these known failures, so does the new one say them, whatever findings count of rows that
--- fit
-pub record UpdateLaw : Type 0 where
+-- the number of the line that a finding is about, if it is about one
+abbrev pub about : Finding → List ℕ
+about found = option_to_list (line_of found)
+
+-- the laws of new texts, whatever findings count
+pub record UpdateLaws : Type 0 where
+  -- if the old text says these known failures, no two findings are about one line, and none about that of a known failure that is met
+  pub apart : (text : List ℕ) (expected : List Expected) (rows : List Entry) (are_all lax : Bool) → AreExpected expected text
+      → IsDistinct (λ a b. a == b) (map (λ m. m.0.line) (met_by (keyed expected) (rows_with is_failed rows))
+      ++ flat_map about (filter (counts lax) (findings expected rows are_all)))
+  -- and if the rows fit, so the new text says
   pub said : (text : List ℕ) (expected : List Expected) (rows : List Entry) (are_all lax : Bool)
       → AreExpected expected text → AllByRecursion FitsEntry rows
       → IsSaid (updated_text text (filter (counts lax) (findings expected rows are_all))) expected (filter (counts lax) (findings expected rows are_all))

@@ -9,7 +9,7 @@ ghost use Rattle.mimic_expect.specs.Changes.{HasChanges, read_at};
 ghost use Rattle.mimic_expect.specs.Expect.{counts};
 ghost use Rattle.mimic_expect.specs.JudgementText.{finding_read};
 ghost use Rattle.mimic_expect.specs.Known.{expected_read, lines_of, says_nothing};
-ghost use Rattle.mimic_expect.specs.Updated.{line_of, replaced_by, updated_text, LeavesUpdate, UpdateLaw, added_line, kept_line, kept_lines, update_text};
+ghost use Rattle.mimic_expect.specs.Updated.{line_of, replaced_by, updated_text, LeavesUpdate, UpdateLaws, added_line, kept_line, kept_lines, update_text};
 ghost use Rattle.mimic_expect.specs.Verdict.{InputRead, IsReadOf, ends_of, is_whole, rows_of, Reads};
 
 use crate::judgement::{Unexpected, judge};
@@ -48,7 +48,7 @@ impl UpdateVerdict {
 ///
 /// If an input is no whole report, nothing is written: the verdict says how each ended. Without memory nothing was written either,
 /// and with a fault of the writer a beginning.
-#[tactic(auto, using(crate::proofs::UpdatedTexts::update_law))]
+#[tactic(auto, using(crate::proofs::UpdatedTexts::update_laws))]
 pub fn write_updated<I: Read + Drop, W: Write>(
     alloc: Global,
     text: &[u8],
@@ -62,8 +62,8 @@ pub fn write_updated<I: Read + Drop, W: Write>(
         (λ read. update_text text.now (map expected_read known.now) read lax)
         (shown W.contents sink.old) (shown W.contents sink.new) result }
 
-    // What the new text says.
-    ensures law { UpdateLaw }
+    // What the findings are about, and what the new text says.
+    ensures laws { UpdateLaws }
 {
     let (rows, ends) = read_inputs(alloc, inputs)?;
     let verdict = UpdateVerdict { ends };
