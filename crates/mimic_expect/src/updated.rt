@@ -41,10 +41,11 @@ impl UpdateVerdict {
 /// Writes the text of a file of known failures as reports have it now, and flushes it. `text` is the old one, and `known` what
 /// [`read_known`](crate::read_known) returns for it.
 ///
-/// Comments, empty lines, and the lines of known failures that are met stay as they are. The line of a failure that has another
-/// message now is replaced by the line that [`write_known`](crate::write_known) writes of the new one. The line of a trial that
-/// passed goes, but stays with `lax`. That of an absent trial goes if no trial was filtered out. Then come the lines of the failures
-/// that are not known, in the order of the reports. If the last line of the old text has no end, it gets one.
+/// What becomes of a line is what [`write_unexpected`](crate::write_unexpected) finds about it. Comments, empty lines, and the lines
+/// of known failures about which nothing is found stay as they are. If a failure has another message now, the line that
+/// [`write_known`](crate::write_known) writes of it takes the place of the old one. The line of a trial that passed goes, but with
+/// `lax` it stays. That of an absent trial goes. Behind them come the lines of the failures that are not known, in the order of the
+/// reports. If the last line of the old text has no end, it gets one.
 ///
 /// If an input is no whole report, nothing is written: the verdict says how each ended. Without memory nothing was written either,
 /// and with a fault of the writer a beginning.

@@ -11,6 +11,7 @@ use mimic_expect::{
     read_known, write_unexpected, write_updated,
 };
 use mimic_printer::{OutputFault, Sink};
+use mimic_testkit::{Fault, FaultPlace, FaultyWriter};
 use std::alloc::{AllocError, Global};
 use std::io::{ErrorKind, Read, Write};
 use std::test::Fail;
@@ -50,18 +51,19 @@ fn judge<I: Read + Drop, W: Write>(
     (sink.into_inner(), judged)
 }
 
-// Brings a text up to date by what the readers give, and returns the new one, and the verdict. This is the one place that calls
+// Brings a text up to date by what the readers give, and returns the writer, and the verdict. This is the one place that calls
 // `write_updated`, and it promises nothing either.
-fn update<I: Read + Drop>(
+fn update<I: Read + Drop, W: Write>(
     alloc: Global,
     text: &str,
+    known: &[Expectation],
     inputs: Vec<I>,
     lax: bool,
-) -> Result<(Vec<u8>, UpdateVerdict), Fail> {
-    let known = read_known(alloc, text.as_bytes())?;
-    let mut sink = Sink::new(Vec::new(alloc));
-    let verdict = write_updated(alloc, text.as_bytes(), &known, inputs, lax, &mut sink)?;
-    Ok((sink.into_inner(), verdict))
+    writer: W,
+) -> (W, Result<UpdateVerdict, OutputFault>) {
+    let mut sink = Sink::new(writer);
+    let updated = write_updated(alloc, text.as_bytes(), known, inputs, lax, &mut sink);
+    (sink.into_inner(), updated)
 }
 
 // Reads known failures. This is the one place that calls `read_known`, and it promises nothing either.
@@ -669,8 +671,9 @@ fn updated(
     let text = text_of(alloc, lines)?;
     let texts = texts_of(alloc, inputs)?;
     let readers = readers_of(alloc, &texts, inputs)?;
-    let (bytes, verdict) = update(alloc, text.as_str(), readers, lax)?;
-    Ok((String::from_utf8(bytes)?, verdict))
+    let known = known_in(alloc, lines)??;
+    let (bytes, verdict) = update(alloc, text.as_str(), &known, readers, lax, Vec::new(alloc));
+    Ok((String::from_utf8(bytes)?, verdict?))
 }
 
 // By the new file nothing of the same reports is unexpected, and it stays as it is.
@@ -685,6 +688,30 @@ fn brings_files_up_to_date(rt: HostRuntime) -> Result<(), Fail> {
         assert!(rt; verdict.status() == 0, "{printed}");
         let (same, _) = updated(alloc, &[text.as_str()], inputs, *lax)?;
         assert!(rt; same == text, "{same}");
+    }
+    Ok(())
+}
+
+// A writer that fails at a byte returns its fault, and has what comes before.
+#[test]
+fn updates_a_writer_that_fails(rt: HostRuntime) -> Result<(), Fail> {
+    let alloc = rt.alloc();
+    let (old, now, new) = (
+        text_of(alloc, OLD)?,
+        text_of(alloc, NOW)?,
+        text_of(alloc, NEW)?,
+    );
+    let known = read_known(alloc, old.as_bytes())?;
+    for count in 0..new.len() {
+        let inputs = vec![in alloc; Slow::of(now.as_str())]?;
+        let fault = Fault::Error(ErrorKind::StorageFull);
+        let writer = FaultyWriter::new(alloc).failing(FaultPlace::Byte(count), fault);
+        let (writer, updated) = update(alloc, old.as_str(), &known, inputs, false, writer);
+        let fault = updated.err().ok_or("written")?;
+        let shown = format!(in alloc; "{fault}")?;
+        assert!(rt; shown.as_str() == "no storage space", "{shown}");
+        let before = &new.as_bytes()[..count];
+        assert!(rt; writer.calls_after == 0 && writer.bytes.as_slice() == before);
     }
     Ok(())
 }
