@@ -23,7 +23,7 @@ line_of (OtherMessage e row) = Some e.line
 line_of (PassedLine e) = Some e.line
 line_of (AbsentLine e) = Some e.line
 
--- the number is this one
+-- the number is there, and is this one
 abbrev pub is_number : ℕ → Option ℕ → Bool
 is_number number None = false
 is_number number (Some line) = line == number
@@ -74,6 +74,7 @@ changes expected read lax = filter (counts lax) (findings expected (rows_of read
 abbrev pub update_text : List ℕ → List Expected → List InputRead → Bool → List ℕ
 update_text text expected read lax = cond (list_all is_whole (ends_of read)) (updated_text text (changes expected read lax)) []
 
+-- each input was read so, and of what was read this was written
 pub record IsUpdate {I : Type 0} (remaining : I → Option (List ℕ)) (inputs : List I) (Written : List InputRead → Type 0) : Type 0 where
   pub read : List InputRead
   pub each : AllZip (λ input r. IsReadOf (remaining input) r) inputs read
@@ -112,13 +113,13 @@ pub record IsSaid (text : List ℕ) (expected : List Expected) (found : List Fin
 abbrev pub about : Finding → List ℕ
 about found = option_to_list (line_of found)
 
--- the laws of new texts, whatever findings count
+-- the laws of new texts, with `lax` or without
 pub record UpdateLaws : Type 0 where
   -- if the old text says these known failures, no two findings are about one line, and none about that of a known failure that is met
   pub apart : (text : List ℕ) (expected : List Expected) (rows : List Entry) (are_all lax : Bool) → AreExpected expected text
       → IsDistinct (λ a b. a == b) (map (λ m. m.0.line) (met_by (keyed expected) (rows_with is_failed rows))
       ++ flat_map about (filter (counts lax) (findings expected rows are_all)))
-  -- and if the rows fit, so the new text says
+  -- if the rows fit, too, the new text says what the old one said, but for what was found
   pub said : (text : List ℕ) (expected : List Expected) (rows : List Entry) (are_all lax : Bool)
       → AreExpected expected text → AllByRecursion FitsEntry rows
       → IsSaid (updated_text text (filter (counts lax) (findings expected rows are_all))) expected (filter (counts lax) (findings expected rows are_all))
