@@ -1,6 +1,6 @@
 -- The lines of a file that findings are about.
 use Rattle.std.proofs.Common.{◌≡◌, ◌==◌, ◌⊎◌, ◌∙◌, inl, inr, ℕ, ◌+◌, ◌<◌, Bool, true, false, cond, List, [], ◌∷◌, ◌++◌, append-nil, map, None, Option, Some, option_to_list, ap, arith, refl, subst, sym}
-use Rattle.std.specs.Prelude.{IsPermutation, filter}
+use Rattle.std.specs.Prelude.{filter}
 use Rattle.std.specs.Bool.{MatchBool}
 use Rattle.std.specs.List.{AllByRecursion, IsDistinct, flat_map}
 use Rattle.std.specs.Map.{lookup, remove_entry}
@@ -9,14 +9,14 @@ use Rattle.std.proofs.lemmas.List.{map-append}
 use Rattle.std.proofs.lemmas.List.Concat.{flat_map-append}
 use Rattle.std.proofs.lemmas.List.Elements.{filter-append}
 use Rattle.std.proofs.lemmas.List.Sorted.{IsPermutation-map}
-use Rattle.std.proofs.lemmas.Map.Keys.{IsDistinct-IsPermutation, IsDistinct-cons, IsDistinct-head, IsDistinct-tail}
+use Rattle.std.proofs.lemmas.Map.Keys.{IsDistinct-IsPermutation}
 use Rattle.std.proofs.lemmas.Simd.{map-map}
 use Rattle.mimic_trial.specs.declared.outcome.Outcome.{Outcome}
 use Rattle.mimic_trial.specs.declared.outcome.Outcome.TheVariants.{Failed, Ignored, Measured, Passed}
 use Rattle.mimic_trial.specs.Count.{is_failed}
 use Rattle.mimic_printer.specs.Json.{Entry}
 use Rattle.mimic_events.specs.Key.{Key, any_in, same_key}
-use Rattle.mimic_expect.specs.Expect.{AbsentLine, FailedRow, Finding, OtherMessage, PassedLine, answers, counts, fate, finding_of, findings, keyed, labelled, left_by, left_in, met_by, others_in, rows_with, unanswered}
+use Rattle.mimic_expect.specs.Expect.{AbsentLine, FailedRow, Finding, OtherMessage, PassedLine, answers, counts, fate, finding_of, findings, keyed, labelled, left_in, met_by, others_in, rows_with, unanswered}
 use Rattle.mimic_expect.specs.Known.{AreExpected, Expected, SayFrom, SaysFailure, lines_of, says_nothing}
 use Rattle.mimic_expect.specs.Updated.{about, line_of}
 use Rattle.mimic_expect.proofs.KnownLines.{expected}

@@ -103,7 +103,7 @@ pub row_kept : {form : Lines} (self : Judged) (known : List Expectation) (rows n
 row_kept self known rows new row s e has news =
     rw (e, news, map-append entry_read rows (row ∷ [])) (judges_known (map expected_read known) (map entry_read rows) (entry_read row) s has)
 
-not_failed : (o : Outcome) → ((m : Option (List ℕ)) → o ≡ Failed m → ⊥) → is_failed o ≡ false
+pub not_failed : (o : Outcome) → ((m : Option (List ℕ)) → o ≡ Failed m → ⊥) → is_failed o ≡ false
 not_failed Passed h = refl
 not_failed (Failed m) h = absurd (h m refl)
 not_failed Ignored h = refl

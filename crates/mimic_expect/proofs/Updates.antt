@@ -1,20 +1,28 @@
 -- The text of a file that is brought up to date, line after line.
-use Rattle.std.proofs.Common.{◌≡◌, ◌==◌, ◌∙◌, ℕ, ◌+◌, ◌<◌, Bool, true, false, cond, List, [], ◌∷◌, ◌++◌, append-nil, length, map, None, Option, Some, ap, ap₂, arith, refl, sym}
+use Rattle.std.proofs.Common.{◌≡◌, ◌==◌, ◌∙◌, ◌||◌, append_assoc, subst, ℕ, ◌+◌, ◌<◌, Bool, true, false, cond, List, [], ◌∷◌, ◌++◌, append-nil, length, map, None, Option, Some, ap, ap₂, arith, refl, sym}
 use Rattle.std.specs.Prelude.{filter}
 use Rattle.std.specs.List.{flat_map, list_all}
 use Rattle.std.specs.Option.{option_map, option_or}
+use Rattle.std.proofs.lemmas.List.{map-append}
+use Rattle.std.proofs.lemmas.List.Concat.{flat_map-append}
+use Rattle.std.proofs.lemmas.List.Elements.{filter-append}
 use Rattle.std.proofs.lemmas.List.Folds.{flat_map-map}
 use Rattle.std.proofs.lemmas.List.Splits.{length-slice_split}
 use Rattle.mimic_printer.specs.Json.{Entry, IsLine}
-use Rattle.mimic_expect.specs.Expect.{Finding, counts, findings}
+use Rattle.mimic_trial.specs.Count.{is_failed}
+use Rattle.mimic_expect.specs.Expect.{Finding, counts, findings, is_known}
+use Rattle.mimic_expect.specs.JudgedRows.{Judged, Keeps, matters}
 use Rattle.mimic_expect.specs.JudgementText.{finding_read}
-use Rattle.mimic_expect.specs.Known.{Expected, lines_of}
+use Rattle.mimic_events.specs.Contents.{entry_read}
+use Rattle.mimic_events.specs.declared.report.Row.{Row}
+use Rattle.mimic_expect.specs.Known.{Expected, expected_read, lines_of}
+use Rattle.mimic_expect.specs.declared.known.Expectation.{Expectation}
 use Rattle.mimic_expect.specs.declared.judgement.Unexpected.{Unexpected}
 use Rattle.mimic_expect.specs.Updated.{added_line, changes, found_at, is_number, kept_line, kept_lines, line_of, update_text, updated_text}
-use Rattle.mimic_expect.specs.Verdict.{InputRead, ends_of, has_all, is_whole, rows_of}
+use Rattle.mimic_expect.specs.Verdict.{InputRead, ends_of, has_all, have_all, is_whole, rows_of}
 use Rattle.mimic_expect.specs.declared.verdict.InputEnd.{InputEnd}
 use Rattle.mimic_expect.proofs.KnownLines.{line_off}
-use Rattle.mimic_expect.proofs.Strangers.{filter_mapped}
+use Rattle.mimic_expect.proofs.Strangers.{filter_mapped, some_findings}
 use Rattle.mimic_expect.proofs.Verdicts.{ends_have_all}
 
 -- ---- one more finding
@@ -83,10 +91,50 @@ counting_read : (lax : Bool) (unexpected : List Unexpected)
     → map finding_read (filter (λ (u : Unexpected). counts lax (finding_read u)) unexpected) ≡ filter (counts lax) (map finding_read unexpected)
 counting_read lax unexpected = sym (filter_mapped (counts lax) finding_read unexpected)
 
-pub update_is : (text : List ℕ) (expected : List Expected) (lax : Bool) (read : List InputRead) (ends : List InputEnd) (rows : List Entry) (all : Bool) (unexpected found : List Unexpected)
-    → ends ≡ ends_of read → list_all is_whole ends ≡ true → rows ≡ rows_of read → all ≡ list_all has_all ends → map finding_read unexpected ≡ findings expected rows all
+pub update_is : (text : List ℕ) (expected : List Expected) (lax : Bool) (read : List InputRead) (ends : List InputEnd) (start new : Judged) (all : Bool) (unexpected found : List Unexpected)
+    → ends ≡ ends_of read → list_all is_whole ends ≡ true → start ≡ record { known = expected; rows = [] } → Keeps start new (rows_of read) → all ≡ list_all has_all ends → map finding_read unexpected ≡ findings new.known new.rows all
     → found ≡ filter (λ (u : Unexpected). counts lax (finding_read u)) unexpected → updated_text text (map finding_read found) ≡ update_text text expected read lax
-update_is text expected lax read ends rows all unexpected found ended whole come a says counted =
+update_is text expected lax read ends start new all unexpected found ended whole begun keeps a says counted =
+    let knows : new.known ≡ expected = keeps.known ∙ ap (λ (j : Judged). j.known) begun in
+    let kept : new.rows ≡ filter (matters expected) (rows_of read) = keeps.kept ∙ ap (λ (j : Judged). j.rows ++ filter (matters j.known) (rows_of read)) begun in
+    let said : map finding_read unexpected ≡ findings expected (rows_of read) (have_all read) =
+    says ∙ (ap₂ (λ (k : List Expected) (r : List Entry). findings k r all) knows kept
+    ∙ (some_findings expected (rows_of read) all ∙ ap (findings expected (rows_of read)) (a ∙ ends_have_all read ends ended))) in
     let same : map finding_read found ≡ changes expected read lax =
-    ap (map finding_read) counted ∙ (counting_read lax unexpected ∙ ap (filter (counts lax)) (says ∙ ap₂ (findings expected) come (a ∙ ends_have_all read ends ended))) in
+    ap (map finding_read) counted ∙ (counting_read lax unexpected ∙ ap (filter (counts lax)) (said)) in
     ap (updated_text text) same ∙ ap (λ (b : Bool). cond b (updated_text text (changes expected read lax)) []) (sym whole ∙ ap (list_all is_whole) ended)
+
+-- ---- rows that are kept
+
+pub keeps_none : (a : Judged) → Keeps a a []
+keeps_none a = record { known = refl; kept = sym (append-nil a.rows) }
+
+pub keeps_then : (a b c : Judged) (xs ys : List Entry) → Keeps a b xs → Keeps b c ys → Keeps a c (xs ++ ys)
+keeps_then a b c xs ys p q = record {
+  known = q.known ∙ p.known;
+  kept = rw (q.kept, p.kept, p.known, filter-append (matters a.known) xs ys) (append_assoc a.rows _ _);
+}
+
+-- the rows of the next input
+pub keeps_next : (a b c : Judged) (read : List InputRead) (next : InputRead) → Keeps a b (rows_of read) → Keeps b c next.entries → Keeps a c (rows_of (read ++ next ∷ []))
+keeps_next a b c read next p q =
+    subst (Keeps a c) (sym (flat_map-append (λ (r : InputRead). r.entries) read (next ∷ []) ∙ ap (λ (l : List Entry). rows_of read ++ l) (append-nil next.entries)))
+    (keeps_then a b c (rows_of read) next.entries p q)
+
+pub row_kept : (self : Judged) (known : List Expectation) (rows new : List Row) (row : Row) (b : Bool) → self ≡ record { known = map expected_read known; rows = map entry_read rows }
+    → b ≡ matters self.known (entry_read row) → b ≡ true → new ≡ rows ++ row ∷ [] → Keeps self (record { known = map expected_read known; rows = map entry_read new }) (entry_read row ∷ [])
+row_kept self known rows new row b e is holds news =
+    let m : matters (map expected_read known) (entry_read row) ≡ true = sym (ap (λ (j : Judged). matters j.known (entry_read row)) e) ∙ (sym is ∙ holds) in
+    rw e (record { known = refl; kept = rw (m, news) (map-append entry_read rows (row ∷ [])) })
+
+pub row_left : (self : Judged) (row : Row) (b : Bool) → b ≡ matters self.known (entry_read row) → b ≡ false → Keeps self self (entry_read row ∷ [])
+row_left self row b is lacks = record { known = refl; kept = rw (sym is ∙ lacks) (sym (append-nil self.rows)) }
+
+or_false : (b : Bool) → b ≡ (b || false)
+or_false true = refl
+or_false false = refl
+
+-- a row that did not fail
+pub other_matters : (self : Judged) (known : List Expectation) (rows : List Row) (row : Row) (b : Bool) → self ≡ record { known = map expected_read known; rows = map entry_read rows }
+    → is_known (map expected_read known) (entry_read row) ≡ b → is_failed row.outcome ≡ false → b ≡ matters self.known (entry_read row)
+other_matters self known rows row b e has fails = rw (e, has, fails) (or_false b)

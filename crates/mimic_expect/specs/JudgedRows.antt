@@ -1,12 +1,13 @@
 -- Rows that are judged one by one. No public clause names these words.
-use Rattle.std.specs.Prelude.{◌≡◌, ℕ, List, ◌++◌, map, length}
+use Rattle.std.specs.Prelude.{◌≡◌, ◌||◌, ℕ, Bool, List, ◌++◌, filter, map, length}
+use Rattle.mimic_trial.specs.Count.{is_failed}
 use Rattle.mimic_printer.specs.Json.{Entry}
 use Rattle.mimic_printer.specs.Row.{Label}
 use Rattle.mimic_printer.specs.Sink.{Put, Shown, Stopped}
 use Rattle.mimic_printer.specs.declared.sink.OutputFault.{OutputFault}
 use Rattle.mimic_printer.specs.declared.sink.OutputFault.TheVariants.{OutOfMemory, Write}
 use Rattle.mimic_events.specs.Key.{label_in}
-use Rattle.mimic_expect.specs.Expect.{known_rows, unknown_failures}
+use Rattle.mimic_expect.specs.Expect.{is_known, known_rows, unknown_failures}
 use Rattle.mimic_expect.specs.FindingText.{unknown_text}
 use Rattle.mimic_expect.specs.Known.{Expected}
 use Rattle.mimic_expect.specs.declared.known.Expectation.{Expectation}
@@ -34,3 +35,12 @@ pub record Judges (lines : Lines) (old new : Judged) (rows : List Entry) (count 
 abbrev pub HasLines : Lines → List Expected → Shown → Shown → OutputFault → List Entry → Type 0
 HasLines lines known before after OutOfMemory rows = Put before after (unknown_text lines known rows)
 HasLines lines known before after (Write fault) rows = Stopped before after (unknown_text lines known rows)
+
+-- the row can change what is found: it failed, or some known failure has its kind and name
+abbrev pub matters : List Expected → Entry → Bool
+matters known row = is_known known row || is_failed row.outcome
+
+-- of these rows those that matter are kept
+pub record Keeps (old new : Judged) (rows : List Entry) : Type 0 where
+  pub known : new.known ≡ old.known
+  pub kept : new.rows ≡ old.rows ++ filter (matters old.known) rows

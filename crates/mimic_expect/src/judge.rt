@@ -1,11 +1,11 @@
 //! Judges rows that come one by one.
-ghost use Rattle.std.specs.Prelude.{◌≡◌, ◌∷◌, [], IfOk, MatchResult, cond, length, map};
+ghost use Rattle.std.specs.Prelude.{◌≡◌, ◌∷◌, [], IfOk, MatchResult, OnOk, cond, length, map};
 ghost use Rattle.mimic_trial.specs.Count.{is_failed};
 ghost use Rattle.mimic_printer.specs.Sink.{HasFaultLeft, LeftBy, shown};
 ghost use Rattle.mimic_events.specs.Contents.{entry_read};
 ghost use Rattle.mimic_expect.specs.Expect.{findings, keyed, met_by, rows_with};
 ghost use Rattle.mimic_expect.specs.FindingText.{unknown_text};
-ghost use Rattle.mimic_expect.specs.JudgedRows.{Judges, labels_known};
+ghost use Rattle.mimic_expect.specs.JudgedRows.{Judges, Keeps, labels_known, matters};
 ghost use Rattle.mimic_events.specs.Key.{HasTrials};
 ghost use Rattle.mimic_expect.specs.JudgementText.{finding_read};
 ghost use Rattle.mimic_expect.specs.Known.{expected_read};
@@ -21,7 +21,7 @@ use std::collections::HashSet;
 use std::io::Write;
 use std::marker::Model;
 
-// Judges rows that come one by one. It keeps those whose kind and name a known failure has, and no others.
+// Judges rows that come one by one. It keeps those whose kind and name a known failure has, and others only if it is asked to.
 //
 // Contracts see the known failures and the rows that were kept.
 #[derive(Drop)]
@@ -85,6 +85,26 @@ impl<'a> Judge<'a> {
         };
         Unexpected::Failed(&row).put(lines, sink)?;
         Ok(true)
+    }
+
+    // Takes a row, and keeps it if it matters.
+    pub(crate) fn keep(&mut self, row: Row) -> Result<(), AllocError>
+        ensures { OnOk result (Keeps self.old self.new (entry_read row ∷ [])) }
+    {
+        if self.matters(&row) {
+            self.rows.push(row)?;
+        }
+        Ok(())
+    }
+
+    // Whether the row can change what is found.
+    fn matters(&self, row: &Row) -> bool
+        ensures { result ≡ matters self.now.known (entry_read row.now) }
+    {
+        match &row.outcome {
+            Outcome::Failed(_) => true,
+            _ => (&self.labels).contains(&Key::Trial(row)),
+        }
     }
 
     // Judges the rows that were kept.

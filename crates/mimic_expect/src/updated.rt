@@ -7,20 +7,22 @@ ghost use Rattle.mimic_printer.specs.Sink.{HasFaultLeft, Puts, shown};
 ghost use Rattle.mimic_events.specs.Contents.{entry_read};
 ghost use Rattle.mimic_expect.specs.Changes.{HasChanges, read_at};
 ghost use Rattle.mimic_expect.specs.Expect.{counts};
+ghost use Rattle.mimic_expect.specs.JudgedRows.{Keeps};
 ghost use Rattle.mimic_expect.specs.JudgementText.{finding_read};
 ghost use Rattle.mimic_expect.specs.Known.{expected_read, lines_of, says_nothing};
 ghost use Rattle.mimic_expect.specs.Updated.{line_of, replaced_by, updated_text, LeavesUpdate, UpdateLaws, added_line, kept_line, kept_lines, update_text};
 ghost use Rattle.mimic_expect.specs.Verdict.{InputRead, IsReadOf, ends_of, is_whole, rows_of, Reads};
 
-use crate::judgement::{Unexpected, judge};
+use crate::judge::Judge;
+use crate::judgement::Unexpected;
 use crate::known::{Expectation, first_line};
 use crate::unexpected::put_row;
 use crate::verdict::{InputEnd, have_all};
-use mimic_events::{ReadFault, Row, read_rows};
+use mimic_events::{InputRows, ReadFault};
 use mimic_printer::{OutputFault, Sink, WriteFault};
 use std::alloc::{AllocError, Global};
 use std::collections::HashMap;
-use std::io::{Read, Write};
+use std::io::{ErrorKind, Read, Write};
 
 /// What was read to bring a file of known failures up to date.
 #[derive(Debug, Drop)]
@@ -47,6 +49,8 @@ impl UpdateVerdict {
 /// `lax` it stays. That of an absent trial goes. Behind them come the lines of the failures that are not known, in the order of the
 /// reports. If the last line of the old text has no end, it gets one.
 ///
+/// Failures and rows of known kinds and names are kept meanwhile, and no others.
+///
 /// If an input is no whole report, nothing is written: the verdict says how each ended. Without memory nothing was written either,
 /// and with a fault of the writer a beginning.
 #[tactic(auto, using(crate::proofs::UpdatedTexts::update_laws))]
@@ -66,54 +70,57 @@ pub fn write_updated<I: Read + Drop, W: Write>(
     // What the findings are about, and what the new text says.
     ensures laws { UpdateLaws }
 {
-    let (rows, ends) = read_inputs(alloc, inputs)?;
+    let mut judge = Judge::new(alloc, known)?;
+    let ends = keep_inputs(alloc, inputs, &mut judge)?;
     let verdict = UpdateVerdict { ends };
     if !verdict.is_written() {
         return Ok(verdict);
     }
-    let judgement = judge(alloc, known, &rows, have_all(&verdict.ends))?;
+    let judgement = judge.finish(alloc, have_all(&verdict.ends))?;
     let found = counting(alloc, &judgement.unexpected, lax)?;
     let changes = changes_of(alloc, &found)?;
     put_updated(sink, text, &found, &changes)?;
     Ok(verdict)
 }
 
-// Reads the rows of the inputs, and how each ended. Those of an input that fails are left out.
-fn read_inputs<I: Read + Drop>(
+// Gives the judge the rows of the inputs that matter, and returns how each ended.
+fn keep_inputs<I: Read + Drop>(
     alloc: Global,
     inputs: Vec<I>,
-) -> Result<(Vec<Row>, Vec<InputEnd>), AllocError>
-    ensures { IfOk result (λ x. (read : List InputRead)
+    judge: &mut Judge<'_>,
+) -> Result<Vec<InputEnd>, AllocError>
+    ensures { IfOk result (λ ends. (read : List InputRead)
         × AllZip (λ input r. IsReadOf (I.remaining input) r) inputs.items read
-        × (x.1.items ≡ ends_of read) × (map entry_read x.0.items ≡ rows_of read)) }
+        × (ends.items ≡ ends_of read) × Keeps judge.old judge.new (rows_of read)) }
 {
-    let mut rows = Vec::new(alloc);
     let mut ends = Vec::new(alloc);
     for input in inputs {
-        let end = read_input(alloc, input, &mut rows)?;
+        let end = keep_input(alloc, input, judge)?;
         ends.push(end)?;
     }
-    Ok((rows, ends))
+    Ok(ends)
 }
 
-// Adds the rows of an input, and returns how it ended.
-fn read_input<I: Read + Drop>(
+// Gives the judge the rows of an input that matter, and returns how it ended.
+fn keep_input<I: Read + Drop>(
     alloc: Global,
     input: I,
-    rows: &mut Vec<Row>,
+    judge: &mut Judge<'_>,
 ) -> Result<InputEnd, AllocError>
     ensures { IfOk result (λ end. (entries : List Entry) × IfSome (I.remaining input) (Reads entries end)
-        × (map entry_read rows.new.items ≡ map entry_read rows.old.items ++ entries)) }
+        × Keeps judge.old judge.new entries) }
 {
-    match read_rows(alloc, input) {
-        Ok(mut read) => {
-            rows.append(&mut read.rows)?;
-            Ok(InputEnd::Ended(read.ending))
+    let mut rows = InputRows::new(alloc, input)?;
+    for _ in 0..u64::MAX {
+        match rows.next_row() {
+            Ok(Some(row)) => judge.keep(row)?,
+            Ok(None) => return Ok(InputEnd::Ended(rows.finish()?)),
+            Err(ReadFault::Input(error)) => return Ok(InputEnd::Failed(error)),
+            // Reading rows has no other fault.
+            Err(_) => return Err(AllocError),
         }
-        Err(ReadFault::Input(error)) => Ok(InputEnd::Failed(error)),
-        // Reading rows has no other fault.
-        Err(_) => Err(AllocError),
     }
+    Ok(InputEnd::Failed(ErrorKind::Other.into()))
 }
 
 // Returns what counts of what is unexpected.

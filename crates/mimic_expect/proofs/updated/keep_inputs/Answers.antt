@@ -1,9 +1,16 @@
-use Rattle.std.proofs.Common.{◌∙◌, ◌++◌, ◌∷◌, [], ap, append-nil, append_assoc, arith, length-append, sym}
+use Rattle.std.proofs.Common.{◌∙◌, ◌++◌, ◌∷◌, [], ap, append_assoc, arith, length-append, sym}
 use Rattle.std.proofs.lemmas.List.{map-append}
-use Rattle.std.proofs.lemmas.List.Concat.{flat_map-append}
 use Rattle.mimic_events.proofs.Pairs.{each_more}
-use Rattle.mimic_expect.specs.Verdict.{InputRead, IsReadOf, rows_of}
-use Rattle.mimic_expect.proofs.updated.read_inputs.Goals as goal
+use Rattle.mimic_expect.specs.Verdict.{InputRead, IsReadOf}
+use Rattle.mimic_expect.proofs.Updates.{keeps_next, keeps_none}
+use Rattle.mimic_expect.proofs.updated.keep_inputs.Goals as goal
+
+pub loop-input-init : goal.loop-input-init
+loop-input-init g c = record {
+  seen = c.into_iter-input-iterator.ensures.into_iter_gives.0;
+  left = omega (arith, c.into_iter-input-iterator.ensures.into_iter_gives.1);
+  done = ([], tt, c.new-ends.ensures.items, keeps_none _);
+}
 
 pub loop-input-preserved : goal.loop-input-preserved
 loop-input-preserved g c =
@@ -20,7 +27,6 @@ loop-input-preserved g c =
         done.0 ++ next ∷ [],
         each_more (λ input r. IsReadOf (g.I.Read.remaining input) r) seen done.0 c.in-Some.input next done.1 came.1,
         c.in_ok-push.ensures.items ∙ (ap (λ l. l ++ c.in_ok-end.end ∷ []) done.2 ∙ sym (map-append (λ (r : InputRead). r.end) done.0 (next ∷ []))),
-        came.2 ∙ (ap (λ l. l ++ came.0) done.3
-            ∙ sym (flat_map-append (λ (r : InputRead). r.entries) done.0 (next ∷ []) ∙ ap (λ l. rows_of done.0 ++ l) (append-nil came.0))),
+        keeps_next _ _ _ done.0 next done.3 came.2,
       );
     }
