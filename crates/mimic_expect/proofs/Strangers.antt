@@ -291,7 +291,7 @@ or_left false b e = absurd (cc)
 or_right : (a b : Bool) → b ≡ true → (a || b) ≡ true
 or_right a b e = ap (λ (c : Bool). a || c) e ∙ or_true a
 
-all_unmet : (P : Entry → Type 0) (left : Left) (rows : List Entry) → AllByRecursion P rows → AllByRecursion P (unmet_by left rows)
+pub all_unmet : (P : Entry → Type 0) (left : Left) (rows : List Entry) → AllByRecursion P rows → AllByRecursion P (unmet_by left rows)
 all_unmet P left [] h = tt
 all_unmet P left (row ∷ rows) h = at (is_some (meets left row)) (all_unmet P (without left row) rows h.1)
   where

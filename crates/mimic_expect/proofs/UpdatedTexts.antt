@@ -4,7 +4,7 @@ use Rattle.std.specs.Prelude.{filter}
 use Rattle.std.specs.Bool.{MatchBool}
 use Rattle.std.specs.List.{AllByRecursion, flat_map, onto_first}
 use Rattle.std.specs.Map.{lookup, remove_entry}
-use Rattle.std.specs.Option.{is_some, option_or}
+use Rattle.std.specs.Option.{option_or}
 use Rattle.std.proofs.lemmas.Bool.Decides.{nat_tests}
 use Rattle.mimic_trial.specs.declared.outcome.Outcome.{Outcome}
 use Rattle.mimic_trial.specs.declared.outcome.Outcome.TheVariants.{Failed, Ignored, Measured, Passed}
@@ -12,7 +12,7 @@ use Rattle.mimic_trial.specs.Count.{is_failed, is_ignored_outcome}
 use Rattle.mimic_printer.specs.Json.{Entry, FitsEntry, HasNoEnd, IsLine}
 use Rattle.mimic_events.proofs.SoFar.{an_outcome}
 use Rattle.mimic_events.specs.Key.{Key, any_in, same_key}
-use Rattle.mimic_expect.specs.Expect.{AbsentLine, FailedRow, Finding, OtherMessage, PassedLine, answers, counts, fate, finding_of, findings, has_passed, keyed, labelled, left_in, meets, others_in, rows_with, unanswered, unmet_by, without}
+use Rattle.mimic_expect.specs.Expect.{AbsentLine, FailedRow, Finding, OtherMessage, PassedLine, answers, counts, fate, finding_of, findings, has_passed, keyed, labelled, left_in, others_in, rows_with, unanswered, unmet_by}
 use Rattle.mimic_expect.specs.FindingText.{row_line}
 use Rattle.mimic_expect.specs.Known.{AreExpected, Expected, SayFrom, SaysFailure, lines_of, says_nothing}
 use Rattle.mimic_expect.specs.KnownText.{untimed}
@@ -20,6 +20,7 @@ use Rattle.mimic_expect.specs.Updated.{IsSaid, UpdateLaws, added_line, added_row
 use Rattle.mimic_expect.proofs.ChangedLines.{apart}
 use Rattle.mimic_expect.proofs.KnownLines.{expected, line_off}
 use Rattle.mimic_expect.proofs.KnownTexts.{first_byte, more_said, says_some}
+use Rattle.mimic_expect.proofs.Strangers.{all_unmet}
 
 -- ---- lists of which each fits
 
@@ -55,14 +56,6 @@ RowsFit rows = AllByRecursion FitsEntry rows
 
 abbrev PairsFit : List (Key × Entry) → Type 0
 PairsFit items = AllByRecursion (λ (x : Key × Entry). FitsEntry x.1) items
-
-unmet_fit : (left : List (Key × Expected)) (rows : List Entry) → RowsFit rows → RowsFit (unmet_by left rows)
-unmet_fit left [] h = tt
-unmet_fit left (row ∷ rows) h = at (is_some (meets left row)) (unmet_fit (without left row) rows h.1)
-  where
-    at : (b : Bool) → RowsFit (unmet_by (without left row) rows) → RowsFit (cond b (unmet_by (without left row) rows) (row ∷ unmet_by (without left row) rows))
-    at true rest = rest
-    at false rest = (h.0, rest)
 
 labelled_fit : (rows : List Entry) → RowsFit rows → PairsFit (labelled rows)
 labelled_fit [] h = tt
@@ -125,7 +118,7 @@ rows_of_outcome test rows h = all_filtered FitsEntry (λ (row : Entry). test row
 findings_fit : (expected : List Expected) (rows : List Entry) (are_all : Bool) → RowsFit rows → AreFitting (findings expected rows are_all)
 findings_fit expected rows are_all h =
     let others = labelled_fit (others_in expected rows) (all_append FitsEntry (unmet_by (keyed expected) (rows_with is_failed rows)) _
-    (unmet_fit (keyed expected) (rows_with is_failed rows) (rows_of_outcome is_failed rows h))
+    (all_unmet FitsEntry (keyed expected) (rows_with is_failed rows) (rows_of_outcome is_failed rows h))
     (all_append FitsEntry (rows_with has_passed rows) (rows_with is_ignored_outcome rows) (rows_of_outcome has_passed rows h) (rows_of_outcome is_ignored_outcome rows h))) in
     let items = labelled (others_in expected rows) in
     let left = left_in expected rows in

@@ -4,7 +4,6 @@ ghost use Rattle.std.specs.List.{AllZip, flat_map, list_all};
 ghost use Rattle.std.specs.Option.{option_copied, option_map};
 ghost use Rattle.mimic_printer.specs.Json.{Entry};
 ghost use Rattle.mimic_printer.specs.Sink.{HasFaultLeft, Puts, shown};
-ghost use Rattle.mimic_events.specs.Contents.{entry_read};
 ghost use Rattle.mimic_expect.specs.Changes.{HasChanges, read_at};
 ghost use Rattle.mimic_expect.specs.Expect.{counts};
 ghost use Rattle.mimic_expect.specs.JudgedRows.{Keeps};
