@@ -28,38 +28,39 @@ use Rattle.mimic_expect.specs.Verdict.{AreBegun, AreNext, InputRead, IsReadOf, r
 use Rattle.mimic_printer.specs.declared.sink.OutputFault.{OutputFault}
 use Rattle.mimic_printer.specs.declared.sink.OutputFault.TheVariants.{OutOfMemory, Write}
 use Rattle.mimic_expect.specs.declared.known.Expectation.{Expectation}
+use Rattle.mimic_expect.specs.declared.options.Lines.{Lines}
 
-abbrev pub lines : List Entry → List ℕ
-lines rows = flat_map finding_text (map FailedRow rows)
+abbrev pub lines : Lines → List Entry → List ℕ
+lines form rows = flat_map (finding_text form) (map FailedRow rows)
 
 unknown-append : (known : List Expected) (xs ys : List Entry) → unknown_failures known (xs ++ ys) ≡ unknown_failures known xs ++ unknown_failures known ys
 unknown-append known xs ys =
     let lacks : Entry → Bool = λ (row : Entry). not (is_known known row) in
     ap (rows_with is_failed) (filter-append lacks xs ys) ∙ filter-append (λ (row : Entry). is_failed row.outcome) (filter lacks xs) (filter lacks ys)
 
-lines-append : (xs ys : List Entry) → lines (xs ++ ys) ≡ lines xs ++ lines ys
-lines-append xs ys = ap (flat_map finding_text) (map-append FailedRow xs ys) ∙ flat_map-append finding_text (map FailedRow xs) (map FailedRow ys)
+lines-append : (form : Lines) (xs ys : List Entry) → lines form (xs ++ ys) ≡ lines form xs ++ lines form ys
+lines-append form xs ys = ap (flat_map (finding_text form)) (map-append FailedRow xs ys) ∙ flat_map-append (finding_text form) (map FailedRow xs) (map FailedRow ys)
 
-unknown_text-append : (known : List Expected) (xs ys : List Entry) → unknown_text known (xs ++ ys) ≡ unknown_text known xs ++ unknown_text known ys
-unknown_text-append known xs ys = ap lines (unknown-append known xs ys) ∙ lines-append (unknown_failures known xs) (unknown_failures known ys)
+unknown_text-append : (form : Lines) (known : List Expected) (xs ys : List Entry) → unknown_text form known (xs ++ ys) ≡ unknown_text form known xs ++ unknown_text form known ys
+unknown_text-append form known xs ys = ap (lines form) (unknown-append known xs ys) ∙ lines-append form (unknown_failures known xs) (unknown_failures known ys)
 
-pub judges_none : (a : Judged) (s : Shown) → Judges a a [] 0 s s
+pub judges_none : {form : Lines} (a : Judged) (s : Shown) → Judges form a a [] 0 s s
 judges_none a s = record { known = refl; kept = sym (append-nil a.rows); counted = refl; put = Put-refl s }
 
-pub judges_then : (a b c : Judged) (xs ys : List Entry) (m n : ℕ) (s t u : Shown) → Judges a b xs m s t → Judges b c ys n t u → Judges a c (xs ++ ys) (m + n) s u
-judges_then a b c xs ys m n s t u p q =
+pub judges_then : {form : Lines} (a b c : Judged) (xs ys : List Entry) (m n : ℕ) (s t u : Shown) → Judges form a b xs m s t → Judges form b c ys n t u → Judges form a c (xs ++ ys) (m + n) s u
+judges_then {form} a b c xs ys m n s t u p q =
     let both = unknown-append a.known xs ys in
     record {
       known = q.known ∙ p.known;
       kept = rw (q.kept, p.kept, p.known, filter-append (is_known a.known) xs ys) (append_assoc a.rows _ _);
       counted = rw (p.counted, q.counted, p.known, both, length-append) refl;
-      put = rw (both, lines-append) (Put-trans _ _ p.put (rw p.known at q.put));
+      put = rw (both, lines-append form) (Put-trans _ _ p.put (rw p.known at q.put));
     }
 
 -- the lines of rows that were judged from the start
-pub lines_put : (known : List Expected) (start new : Judged) (rows : List Entry) (count : ℕ) (s t : Shown) → start ≡ record { known = known; rows = [] }
-    → Judges start new rows count s t → Put s t (unknown_text known rows)
-lines_put known start new rows count s t begun judged = subst (λ (j : Judged). Put s t (unknown_text j.known rows)) begun judged.put
+pub lines_put : {form : Lines} (known : List Expected) (start new : Judged) (rows : List Entry) (count : ℕ) (s t : Shown) → start ≡ record { known = known; rows = [] }
+    → Judges form start new rows count s t → Put s t (unknown_text form known rows)
+lines_put {form} known start new rows count s t begun judged = subst (λ (j : Judged). Put s t (unknown_text form j.known rows)) begun judged.put
 
 -- ---- one row
 
@@ -71,22 +72,22 @@ module _ (known : List Expected) (rows : List Entry) (row : Entry) where
   abbrev now : Judged
   now = record { known = known; rows = rows }
 
-  pub judges_known : (s : Shown) → is_known known row ≡ true → Judges now (record { known = known; rows = rows ++ row ∷ [] }) (row ∷ []) 0 s s
+  pub judges_known : {form : Lines} (s : Shown) → is_known known row ≡ true → Judges form now (record { known = known; rows = rows ++ row ∷ [] }) (row ∷ []) 0 s s
   judges_known s e = record { known = refl; kept = rw e refl; counted = rw e refl; put = rw e (Put-refl s) }
 
-  pub judges_other : (s : Shown) → is_known known row ≡ false → is_failed row.outcome ≡ false → Judges now now (row ∷ []) 0 s s
+  pub judges_other : {form : Lines} (s : Shown) → is_known known row ≡ false → is_failed row.outcome ≡ false → Judges form now now (row ∷ []) 0 s s
   judges_other s e is = record { known = refl; kept = rw e (sym (append-nil rows)); counted = rw (e, is) refl; put = rw (e, is) (Put-refl s) }
 
-  pub unknown_row : is_known known row ≡ false → is_failed row.outcome ≡ true → unknown_text known (row ∷ []) ≡ finding_text (FailedRow row)
-  unknown_row e is = rw (e, is) (append-nil (finding_text (FailedRow row)))
+  pub unknown_row : (form : Lines) → is_known known row ≡ false → is_failed row.outcome ≡ true → unknown_text form known (row ∷ []) ≡ finding_text form (FailedRow row)
+  unknown_row form e is = rw (e, is) (append-nil (finding_text form (FailedRow row)))
 
-  pub judges_failed : (s t : Shown) → is_known known row ≡ false → is_failed row.outcome ≡ true → Put s t (finding_text (FailedRow row)) → Judges now now (row ∷ []) 1 s t
-  judges_failed s t e is p = record { known = refl; kept = rw e (sym (append-nil rows)); counted = rw (e, is) refl; put = subst (Put s t) (sym (unknown_row e is)) p }
+  pub judges_failed : {form : Lines} (s t : Shown) → is_known known row ≡ false → is_failed row.outcome ≡ true → Put s t (finding_text form (FailedRow row)) → Judges form now now (row ∷ []) 1 s t
+  judges_failed {form} s t e is p = record { known = refl; kept = rw e (sym (append-nil rows)); counted = rw (e, is) refl; put = subst (Put s t) (sym (unknown_row form e is)) p }
 
 -- ---- how many
 
 -- there is room for one more failure while one more row comes
-pub room : (bytes : List ℕ) (entries : List Entry) (e : Entry) (a b : Judged) (count : ℕ) (s t : Shown) → AreEnded bytes (entries ++ e ∷ []) → Judges a b entries count s t → count < 2 ^ 64 - 1
+pub room : {form : Lines} (bytes : List ℕ) (entries : List Entry) (e : Entry) (a b : Judged) (count : ℕ) (s t : Shown) → AreEnded bytes (entries ++ e ∷ []) → Judges form a b entries count s t → count < 2 ^ 64 - 1
 room bytes entries e a b count s t h j =
     let lacks : Entry → Bool = λ (row : Entry). not (is_known a.known row) in
     let fails : Entry → Bool = λ (row : Entry). is_failed row.outcome in
@@ -97,51 +98,51 @@ room bytes entries e a b count s t h j =
 
 -- ---- a row that a judge takes
 
-pub row_kept : (self : Judged) (known : List Expectation) (rows new : List Row) (row : Row) (s : Shown) → self ≡ record { known = map expected_read known; rows = map entry_read rows }
-    → is_known (map expected_read known) (entry_read row) ≡ true → new ≡ rows ++ row ∷ [] → Judges self (record { known = map expected_read known; rows = map entry_read new }) (entry_read row ∷ []) 0 s s
+pub row_kept : {form : Lines} (self : Judged) (known : List Expectation) (rows new : List Row) (row : Row) (s : Shown) → self ≡ record { known = map expected_read known; rows = map entry_read rows }
+    → is_known (map expected_read known) (entry_read row) ≡ true → new ≡ rows ++ row ∷ [] → Judges form self (record { known = map expected_read known; rows = map entry_read new }) (entry_read row ∷ []) 0 s s
 row_kept self known rows new row s e has news =
     rw (e, news, map-append entry_read rows (row ∷ [])) (judges_known (map expected_read known) (map entry_read rows) (entry_read row) s has)
 
-not_failed : (o : Outcome) → ((m : Option (List ℕ)) → o ≡ Failed m → ⊥) → is_failed o ≡ false
+pub not_failed : (o : Outcome) → ((m : Option (List ℕ)) → o ≡ Failed m → ⊥) → is_failed o ≡ false
 not_failed Passed h = refl
 not_failed (Failed m) h = absurd (h m refl)
 not_failed Ignored h = refl
 not_failed (Measured m) h = refl
 
-pub row_passed : (self : Judged) (known : List Expectation) (rows : List Row) (row : Row) (s : Shown) → self ≡ record { known = map expected_read known; rows = map entry_read rows }
-    → is_known (map expected_read known) (entry_read row) ≡ false → ((m : Option (List ℕ)) → row.outcome ≡ Failed m → ⊥) → Judges self self (entry_read row ∷ []) 0 s s
+pub row_passed : {form : Lines} (self : Judged) (known : List Expectation) (rows : List Row) (row : Row) (s : Shown) → self ≡ record { known = map expected_read known; rows = map entry_read rows }
+    → is_known (map expected_read known) (entry_read row) ≡ false → ((m : Option (List ℕ)) → row.outcome ≡ Failed m → ⊥) → Judges form self self (entry_read row ∷ []) 0 s s
 row_passed self known rows row s e has h = rw e (judges_other (map expected_read known) (map entry_read rows) (entry_read row) s has (not_failed row.outcome h))
 
-pub row_failed : (self : Judged) (known : List Expectation) (rows : List Row) (row : Row) (m : Option (List ℕ)) (s t : Shown) → self ≡ record { known = map expected_read known; rows = map entry_read rows }
-    → is_known (map expected_read known) (entry_read row) ≡ false → row.outcome ≡ Failed m → Put s t (finding_text (FailedRow (entry_read row))) → Judges self self (entry_read row ∷ []) 1 s t
+pub row_failed : {form : Lines} (self : Judged) (known : List Expectation) (rows : List Row) (row : Row) (m : Option (List ℕ)) (s t : Shown) → self ≡ record { known = map expected_read known; rows = map entry_read rows }
+    → is_known (map expected_read known) (entry_read row) ≡ false → row.outcome ≡ Failed m → Put s t (finding_text form (FailedRow (entry_read row))) → Judges form self self (entry_read row ∷ []) 1 s t
 row_failed self known rows row m s t e has is p = rw e (judges_failed (map expected_read known) (map entry_read rows) (entry_read row) s t has (ap is_failed is) p)
 
-pub row_stopped : (self : Judged) (known : List Expectation) (rows : List Row) (row : Row) (m : Option (List ℕ)) (s t : Shown) → self ≡ record { known = map expected_read known; rows = map entry_read rows }
-    → is_known (map expected_read known) (entry_read row) ≡ false → row.outcome ≡ Failed m → Stopped s t (finding_text (FailedRow (entry_read row)))
-    → Stopped s t (unknown_text self.known (entry_read row ∷ []))
-row_stopped self known rows row m s t e has is p =
-    rw e (subst (Stopped s t) (sym (unknown_row (map expected_read known) (map entry_read rows) (entry_read row) has (ap is_failed is))) p)
+pub row_stopped : (form : Lines) (self : Judged) (known : List Expectation) (rows : List Row) (row : Row) (m : Option (List ℕ)) (s t : Shown) → self ≡ record { known = map expected_read known; rows = map entry_read rows }
+    → is_known (map expected_read known) (entry_read row) ≡ false → row.outcome ≡ Failed m → Stopped s t (finding_text form (FailedRow (entry_read row)))
+    → Stopped s t (unknown_text form self.known (entry_read row ∷ []))
+row_stopped form self known rows row m s t e has is p =
+    rw e (subst (Stopped s t) (sym (unknown_row (map expected_read known) (map entry_read rows) (entry_read row) form has (ap is_failed is))) p)
 
 -- ---- faults
 
 -- a fault behind rows that were judged
-lines_then : (a b : Judged) (xs ys : List Entry) (count : ℕ) (s t u : Shown) (fault : OutputFault) → Judges a b xs count s t → HasLines b.known t u fault ys → HasLines a.known s u fault (xs ++ ys)
-lines_then a b xs ys count s t u OutOfMemory j left =
-    subst (Put s u) (sym (unknown_text-append a.known xs ys)) (Put-trans _ _ j.put (rw j.known at left))
-lines_then a b xs ys count s t u (Write fault) j left =
-    subst (Stopped s u) (sym (unknown_text-append a.known xs ys)) (Put-Stopped _ _ j.put (rw j.known at left))
+lines_then : {form : Lines} (a b : Judged) (xs ys : List Entry) (count : ℕ) (s t u : Shown) (fault : OutputFault) → Judges form a b xs count s t → HasLines form b.known t u fault ys → HasLines form a.known s u fault (xs ++ ys)
+lines_then {form} a b xs ys count s t u OutOfMemory j left =
+    subst (Put s u) (sym (unknown_text-append form a.known xs ys)) (Put-trans _ _ j.put (rw j.known at left))
+lines_then {form} a b xs ys count s t u (Write fault) j left =
+    subst (Stopped s u) (sym (unknown_text-append form a.known xs ys)) (Put-Stopped _ _ j.put (rw j.known at left))
 
 -- a fault in the next row
-pub row_left : (input : Option (List ℕ)) (a b : Judged) (entries : List Entry) (e : Entry) (count : ℕ) (s t u : Shown) (fault : OutputFault)
-    → IfSome input (HasEndedRows entries) → IfSome input (HasEndedRows (entries ++ e ∷ [])) → Judges a b entries count s t → LeftBy fault t u (unknown_text b.known (e ∷ []))
-    → (rows : List Entry) × IfSome input (HasEndedRows rows) × HasLines a.known s u fault rows
-row_left input a b entries e count s t u OutOfMemory before after j left = (entries, before, subst (λ (x : Shown). Put s x (unknown_text a.known entries)) (sym left) j.put)
+pub row_left : {form : Lines} (input : Option (List ℕ)) (a b : Judged) (entries : List Entry) (e : Entry) (count : ℕ) (s t u : Shown) (fault : OutputFault)
+    → IfSome input (HasEndedRows entries) → IfSome input (HasEndedRows (entries ++ e ∷ [])) → Judges form a b entries count s t → LeftBy fault t u (unknown_text form b.known (e ∷ []))
+    → (rows : List Entry) × IfSome input (HasEndedRows rows) × HasLines form a.known s u fault rows
+row_left {form} input a b entries e count s t u OutOfMemory before after j left = (entries, before, subst (λ (x : Shown). Put s x (unknown_text form a.known entries)) (sym left) j.put)
 row_left input a b entries e count s t u (Write fault) before after j left = (entries ++ e ∷ [], after, lines_then a b entries (e ∷ []) count s t u (Write fault) j left)
 
 -- ---- inputs, one after another
 
-pub input_judged : (a b c : Judged) (read : List InputRead) (next : InputRead) (m n k : ℕ) (s t u : Shown) → Judges a b (rows_of read) m s t → Judges b c next.entries n t u → k ≡ n
-    → Judges a c (rows_of (read ++ next ∷ [])) (m + k) s u
+pub input_judged : {form : Lines} (a b c : Judged) (read : List InputRead) (next : InputRead) (m n k : ℕ) (s t u : Shown) → Judges form a b (rows_of read) m s t → Judges form b c next.entries n t u → k ≡ n
+    → Judges form a c (rows_of (read ++ next ∷ [])) (m + k) s u
 input_judged a b c read next m n k s t u p q e =
     rw (e, flat_map-append (λ (r : InputRead). r.entries) read (next ∷ []), append-nil next.entries) (judges_then a b c (rows_of read) next.entries m n s t u p q)
 
@@ -153,10 +154,10 @@ module _ {I : Type 0} (remaining : I → Option (List ℕ)) where
   none_next (input ∷ inputs) = none_ended (remaining input)
 
   -- a fault in the next input
-  pub input_left : (inputs before rest : List I) (input : I) (read : List InputRead) (a b : Judged) (count : ℕ) (s t u : Shown) (fault : OutputFault)
-      → inputs ≡ before ++ input ∷ rest → AllZip (λ input r. IsReadOf (remaining input) r) before read → Judges a b (rows_of read) count s t
-      → (rows : List Entry) × IfSome (remaining input) (HasEndedRows rows) × HasLines b.known t u fault rows
-      → (rows : List Entry) × AreBegun remaining inputs rows × HasLines a.known s u fault rows
+  pub input_left : {form : Lines} (inputs before rest : List I) (input : I) (read : List InputRead) (a b : Judged) (count : ℕ) (s t u : Shown) (fault : OutputFault)
+      → inputs ≡ before ++ input ∷ rest → AllZip (λ input r. IsReadOf (remaining input) r) before read → Judges form a b (rows_of read) count s t
+      → (rows : List Entry) × IfSome (remaining input) (HasEndedRows rows) × HasLines form b.known t u fault rows
+      → (rows : List Entry) × AreBegun remaining inputs rows × HasLines form a.known s u fault rows
   input_left inputs before rest input read a b count s t u fault parts each j left = (
     rows_of read ++ left.0,
     record {

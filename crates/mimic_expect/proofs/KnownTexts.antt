@@ -34,11 +34,11 @@ known_stopped a b c rows more p q = subst (λ (l : List ℕ). Stopped a c l) (sy
 
 -- ---- what the lines say
 
-says_some : (front : List ℕ) → 123 ≡ get_or (front ++ 10 ∷ []) 0 0 → says_nothing front ≡ false
+pub says_some : (front : List ℕ) → 123 ≡ get_or (front ++ 10 ∷ []) 0 0 → says_nothing front ≡ false
 says_some [] e = absurd (omega (arith, e))
 says_some (b ∷ front) e = subst (λ (n : ℕ). (n == 35) ≡ false) e refl
 
-first_byte : (label : Label) (o : Outcome) → get_or (json_outcome label o None) 0 0 ≡ 123
+pub first_byte : (label : Label) (o : Outcome) → get_or (json_outcome label o None) 0 0 ≡ 123
 unfolding json_outcome
 first_byte label Passed = refl
 first_byte label (Failed failed) = refl
@@ -46,7 +46,7 @@ first_byte label Ignored = refl
 first_byte label (Measured measurement) = refl
 
 -- one more line, which says something
-more_said : (b : Bool) (number : ℕ) (row : Entry) (front : List ℕ) (lines : List (List ℕ)) (more : List Expected) → b ≡ false
+pub more_said : (b : Bool) (number : ℕ) (row : Entry) (front : List ℕ) (lines : List (List ℕ)) (more : List Expected) → b ≡ false
     → (is_failed row.outcome ≡ true) × FitsEntry row × (front ++ 10 ∷ [] ≡ json_outcome row.label row.outcome row.nanos) → SayFrom (number + 1) lines more
     → MatchBool b (SayFrom (number + 1) lines (expected row number ∷ more))
     ((entry : Entry) × (rest : List Expected) × (expected row number ∷ more ≡ expected entry number ∷ rest) × SaysFailure entry front × SayFrom (number + 1) lines rest)

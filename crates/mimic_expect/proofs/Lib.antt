@@ -1,3 +1,4 @@
+mod ChangedLines
 mod Judged
 mod Judgements
 mod KeyedPlaces
@@ -6,4 +7,6 @@ pub mod KnownTexts
 pub mod Laws
 mod Meeting
 mod Strangers
+pub mod UpdatedTexts
+mod Updates
 mod Verdicts

@@ -1,9 +1,9 @@
 -- The same findings, whether all rows are judged together or those alone whose kind and name some known failure has.
-use Rattle.std.proofs.Common.{◌≡◌, ◌||◌, Bool, true, false, not, List, [], ◌∷◌, ◌++◌, map, refl, sym, ap, ap₂, subst, ◌∙◌, append_assoc, append-nil, arith}
+use Rattle.std.proofs.Common.{◌≡◌, ◌||◌, Bool, true, false, cond, not, List, [], ◌∷◌, ◌++◌, map, refl, sym, ap, ap₂, subst, ◌∙◌, append_assoc, append-nil, arith}
 use Rattle.std.specs.Prelude.{IsPermutation, Option, None, filter}
 use Rattle.std.specs.List.{AllByRecursion, flat_map, list_any}
 use Rattle.std.specs.Map.{lookup, remove_entry}
-use Rattle.std.specs.Option.{option_or}
+use Rattle.std.specs.Option.{is_some, option_or}
 use Rattle.std.proofs.lemmas.List.{map-append}
 use Rattle.std.proofs.lemmas.List.Elements.{filter-append}
 use Rattle.std.proofs.lemmas.List.Folds.{list_any-append}
@@ -15,6 +15,7 @@ use Rattle.mimic_trial.specs.Count.{is_failed, is_ignored_outcome}
 use Rattle.mimic_printer.specs.Json.{Entry}
 use Rattle.mimic_events.specs.Key.{Key, any_in, key_in, same_key}
 use Rattle.mimic_events.proofs.Keys.{same_key-decides}
+use Rattle.mimic_expect.specs.JudgedRows.{matters}
 use Rattle.mimic_expect.specs.Expect.{ExpectLaws, FailedRow, Finding, HasSame, answers, fate, findings, has_passed, is_known, keyed, known_rows, labelled, left_by, left_in, meets, met_by, others_in, rows_with, unanswered, unknown_failures, unmet_by, without}
 use Rattle.mimic_expect.specs.Known.{Expected}
 use Rattle.mimic_expect.proofs.Laws.{all_left, all_without, matching_law, stays}
@@ -34,7 +35,7 @@ module _ {X : Type 0} (p q : X → Bool) where
   filter_none apart [] = refl
   filter_none apart (x ∷ xs) = grind (arith, filter_none apart xs, apart x)
 
-filter_mapped : {X Y : Type 0} (p : Y → Bool) (f : X → Y) (xs : List X) → filter p (map f xs) ≡ map f (filter (λ x. p (f x)) xs)
+pub filter_mapped : {X Y : Type 0} (p : Y → Bool) (f : X → Y) (xs : List X) → filter p (map f xs) ≡ map f (filter (λ x. p (f x)) xs)
 filter_mapped p f [] = refl
 filter_mapped p f (x ∷ xs) = grind (arith, filter_mapped p f xs)
 
@@ -280,6 +281,115 @@ module _ (expected : List Expected) (rows : List Entry) (are_all : Bool) where
         findings = rw (all_findings, known_findings) (IsPermutation-trans _ (said ++ (first ++ last)) _ (IsPermutation-append_right said _ _ shuffled) turned);
         met = rw (known_with is_failed) split.met;
       }
+
+-- ---- the rows that matter
+
+or_left : (a b : Bool) → a ≡ true → (a || b) ≡ true
+or_left true b e = refl
+or_left false b e = absurd (cc)
+
+or_right : (a b : Bool) → b ≡ true → (a || b) ≡ true
+or_right a b e = ap (λ (c : Bool). a || c) e ∙ or_true a
+
+pub all_unmet : (P : Entry → Type 0) (left : Left) (rows : List Entry) → AllByRecursion P rows → AllByRecursion P (unmet_by left rows)
+all_unmet P left [] h = tt
+all_unmet P left (row ∷ rows) h = at (is_some (meets left row)) (all_unmet P (without left row) rows h.1)
+  where
+    at : (b : Bool) → AllByRecursion P (unmet_by (without left row) rows) → AllByRecursion P (cond b (unmet_by (without left row) rows) (row ∷ unmet_by (without left row) rows))
+    at true rest = rest
+    at false rest = (h.0, rest)
+
+all_passing : {X : Type 0} (p : X → Bool) (xs : List X) → AllByRecursion (λ x. p x ≡ true) (filter p xs)
+all_passing p [] = tt
+all_passing p (x ∷ xs) = at (p x) refl (all_passing p xs)
+  where
+    at : (b : Bool) → p x ≡ b → AllByRecursion (λ x. p x ≡ true) (filter p xs) → AllByRecursion (λ x. p x ≡ true) (cond b (x ∷ filter p xs) (filter p xs))
+    at true e rest = (e, rest)
+    at false e rest = rest
+
+filter_all : {X : Type 0} (p q : X → Bool) → ((x : X) → q x ≡ true → p x ≡ true) → (xs : List X) → AllByRecursion (λ x. q x ≡ true) xs → filter p xs ≡ xs
+filter_all p q agree [] h = refl
+filter_all p q agree (x ∷ xs) h = grind (arith, filter_all p q agree xs h.1, agree x h.0)
+
+module _ (expected : List Expected) where
+  abbrev pair_matters : Key × Entry → Bool
+  pair_matters x = knows expected x.0 || is_failed x.1.outcome
+
+  module _ (k : Key) (known : knows expected k ≡ true) where
+    met_matters : (x : Key × Entry) → same_key k x.0 ≡ true → pair_matters x ≡ true
+    met_matters x e = or_left (knows expected x.0) (is_failed x.1.outcome) (alike expected k known x.0 e)
+
+    looked_up : (items : List (Key × Entry)) → lookup (same_key k) (filter pair_matters items) ≡ lookup (same_key k) items
+    looked_up [] = refl
+    looked_up (x ∷ items) = grind (arith, looked_up items, met_matters x)
+
+    taken : (items : List (Key × Entry)) → remove_entry (same_key k) (filter pair_matters items) ≡ filter pair_matters (remove_entry (same_key k) items)
+    taken [] = refl
+    taken (x ∷ items) = grind (arith, taken items, met_matters x)
+
+  record Matters (items : List (Key × Entry)) (left : List Expected) : Type 0 where
+    same : answers (filter pair_matters items) left ≡ answers items left
+    rest : unanswered (filter pair_matters items) left ≡ filter pair_matters (unanswered items left)
+
+  answers_matter : (items : List (Key × Entry)) (left : List Expected) → AllByRecursion (λ (e : Expected). knows expected (any_in e.entry) ≡ true) left → Matters items left
+  answers_matter items [] h = record { same = refl; rest = refl }
+  answers_matter items (e ∷ left) h =
+      let k = any_in e.entry in
+      let next = answers_matter (remove_entry (same_key k) items) left h.1 in
+      let out = taken k h.0 items in
+      record {
+        same = rw (looked_up k h.0 items, out, next.same) refl;
+        rest = rw (out, next.rest) refl;
+      }
+
+  module _ (rows : List Entry) (are_all : Bool) where
+    abbrev some : List Entry
+    some = filter (matters expected) rows
+
+    abbrev fails : Entry → Bool
+    fails row = is_failed row.outcome
+
+    fails_matter : (row : Entry) → fails row ≡ true → matters expected row ≡ true
+    fails_matter row e = or_right (is_known expected row) (fails row) e
+
+    with_some : (test : Outcome → Bool) → rows_with test some ≡ filter (matters expected) (rows_with test rows)
+    with_some test = filter_swap (λ (row : Entry). test row.outcome) (matters expected) rows
+
+    same_failures : rows_with is_failed some ≡ rows_with is_failed rows
+    same_failures = with_some is_failed ∙ filter_kept (matters expected) fails fails_matter rows
+
+    same_left : left_in expected some ≡ left_in expected rows
+    same_left = ap (λ (f : List Entry). map (λ (x : Key × Expected). x.1) (left_by (keyed expected) f)) same_failures
+
+    same_unmet : filter (matters expected) (unmet_by (keyed expected) (rows_with is_failed rows)) ≡ unmet_by (keyed expected) (rows_with is_failed rows)
+    same_unmet =
+        filter_all (matters expected) fails fails_matter (unmet_by (keyed expected) (rows_with is_failed rows))
+        (all_unmet (λ (row : Entry). fails row ≡ true) (keyed expected) (rows_with is_failed rows) (all_passing fails rows))
+
+    some_others : others_in expected some ≡ filter (matters expected) (others_in expected rows)
+    some_others =
+        rw (same_failures, with_some has_passed, with_some is_ignored_outcome)
+        (sym (filter-append (matters expected) (unmet_by (keyed expected) (rows_with is_failed rows)) (rows_with has_passed rows ++ rows_with is_ignored_outcome rows)
+        ∙ ap₂ (λ (a b : List Entry). a ++ b) same_unmet (filter-append (matters expected) (rows_with has_passed rows) (rows_with is_ignored_outcome rows))))
+
+    some_items : labelled (others_in expected some) ≡ filter pair_matters (labelled (others_in expected rows))
+    some_items = ap labelled some_others ∙ sym (filter_mapped pair_matters (λ (row : Entry). (any_in row, row)) (others_in expected rows))
+
+    failed_pairs : (items : List (Key × Entry)) → rows_with is_failed (map pair_row (filter pair_matters items)) ≡ rows_with is_failed (map pair_row items)
+    failed_pairs items =
+        let pair_fails : Key × Entry → Bool = λ x. is_failed x.1.outcome in
+        filter_mapped fails pair_row (filter pair_matters items)
+        ∙ (ap (map pair_row) (filter_swap pair_fails pair_matters items
+        ∙ filter_kept pair_matters pair_fails (λ x e. or_right (knows expected x.0) (is_failed x.1.outcome) e) items) ∙ sym (filter_mapped fails pair_row items))
+
+    pub some_findings : findings expected some are_all ≡ findings expected rows are_all
+    some_findings =
+        let left = left_in expected rows in
+        let items = labelled (others_in expected rows) in
+        let known = lines_known expected (left_by (keyed expected) (rows_with is_failed rows))
+        (all_left (Covers expected expected) (keyed expected) (rows_with is_failed rows) (covered expected)) in
+        let m = answers_matter items left known in
+        rw (same_left, some_items, m.same, m.rest, failed_pairs (unanswered items left)) refl
 
 pub expect_laws : ExpectLaws
 expect_laws = record { matching = matching_law; same = has_same }

@@ -24,6 +24,8 @@ use Rattle.mimic_expect.specs.declared.judgement.Judgement.{Judgement}
 use Rattle.mimic_expect.specs.declared.judgement.Unexpected.{Unexpected}
 use Rattle.mimic_printer.specs.declared.sink.OutputFault.{OutputFault}
 use Rattle.mimic_printer.specs.declared.sink.OutputFault.TheVariants.{OutOfMemory, Write as WriteFailed}
+use Rattle.mimic_expect.specs.declared.options.ExpectOptions.{ExpectOptions}
+use Rattle.mimic_expect.specs.declared.options.Lines.{Lines}
 use Rattle.mimic_expect.specs.declared.verdict.InputEnd.{InputEnd}
 use Rattle.mimic_expect.specs.declared.verdict.ExpectationVerdict.{ExpectationVerdict}
 use Rattle.mimic_events.proofs.Results.{at_fault}
@@ -32,25 +34,25 @@ use Rattle.mimic_expect.proofs.Strangers.{has_same}
 
 -- ---- the lines of a judgement
 
-abbrev line_of : Unexpected → List ℕ
-line_of found = finding_text (finding_read found)
+abbrev line_of : Lines → Unexpected → List ℕ
+line_of form found = finding_text form (finding_read found)
 
-pub stopped_at : {a b c : Shown} (judgement : Judgement) (failed : ℕ) (ends : List InputEnd) (items : List Unexpected) (i : ℕ) (found : Unexpected) → items ≡ judgement.unexpected.items → i < length items → found ≡ get_or items i found
-    → Put a b (flat_map line_of (take i judgement.unexpected.items)) → Stopped b c (line_of found) → Stopped a c (judgement_text judgement failed ends)
-stopped_at judgement failed ends items i found e lt is p q =
-    Stopped-more (flat_map line_of judgement.unexpected.items) (flat_map running_text ends ++ judgement_numbers judgement failed)
-    (rw (← e) (Stopped-next line_of items i found lt (rw e p) (rw is at q)))
+pub stopped_at : {a b c : Shown} (form : Lines) (judgement : Judgement) (failed : ℕ) (ends : List InputEnd) (items : List Unexpected) (i : ℕ) (found : Unexpected) → items ≡ judgement.unexpected.items → i < length items → found ≡ get_or items i found
+    → Put a b (flat_map (line_of form) (take i judgement.unexpected.items)) → Stopped b c (line_of form found) → Stopped a c (judgement_text form judgement failed ends)
+stopped_at form judgement failed ends items i found e lt is p q =
+    Stopped-more (flat_map (line_of form) judgement.unexpected.items) (flat_map (running_text form) ends ++ judgement_numbers judgement failed)
+    (rw (← e) (Stopped-next (line_of form) items i found lt (rw e p) (rw is at q)))
 
 -- all findings
 found_all : (judgement : Judgement) (items : List Unexpected) (i : ℕ) → items ≡ judgement.unexpected.items → length items ≤ i → take i judgement.unexpected.items ≡ judgement.unexpected.items
 found_all judgement items i e le = take_all i judgement.unexpected.items (omega (arith, le, ap length e))
 
 -- a fault in the lines behind them
-pub stopped_behind : {a b c : Shown} (judgement : Judgement) (failed : ℕ) (ends : List InputEnd) (items : List Unexpected) (i : ℕ) → items ≡ judgement.unexpected.items → length items ≤ i
-    → Put a b (flat_map line_of (take i judgement.unexpected.items)) → Stopped b c (flat_map running_text ends) → Stopped a c (judgement_text judgement failed ends)
-stopped_behind judgement failed ends items i e le p q =
+pub stopped_behind : {a b c : Shown} (form : Lines) (judgement : Judgement) (failed : ℕ) (ends : List InputEnd) (items : List Unexpected) (i : ℕ) → items ≡ judgement.unexpected.items → length items ≤ i
+    → Put a b (flat_map (line_of form) (take i judgement.unexpected.items)) → Stopped b c (flat_map (running_text form) ends) → Stopped a c (judgement_text form judgement failed ends)
+stopped_behind form judgement failed ends items i e le p q =
     let all = found_all judgement items i e le in
-    stop2 (flat_map line_of judgement.unexpected.items) (flat_map running_text ends) (judgement_numbers judgement failed) (rw all at p) q
+    stop2 (flat_map (line_of form) judgement.unexpected.items) (flat_map (running_text form) ends) (judgement_numbers judgement failed) (rw all at p) q
 
 numbers_are : (judgement : Judgement) (before failed passed other absent : ℕ) → failed ≡ count_in is_failed_row judgement → passed ≡ count_in is_passed_line judgement
     → other ≡ count_in is_other_message judgement → absent ≡ count_in is_absent_line judgement
@@ -58,16 +60,16 @@ numbers_are : (judgement : Judgement) (before failed passed other absent : ℕ) 
     ++ ((decimal other ++ codes " with another message; ") ++ ((decimal absent ++ codes " absent\n") ++ [])))) ≡ judgement_numbers judgement before
 numbers_are judgement before failed passed other absent f p o a = rw (f, p, o, a) (simp append_assoc)
 
-pub judgement_put : {E T : Type 0} (a b c d : Shown) (judgement : Judgement) (before failed passed other absent : ℕ) (ends : List InputEnd) (items : List Unexpected) (i : ℕ) (result : Result T E) → items ≡ judgement.unexpected.items
+pub judgement_put : {E T : Type 0} (a b c d : Shown) (form : Lines) (judgement : Judgement) (before failed passed other absent : ℕ) (ends : List InputEnd) (items : List Unexpected) (i : ℕ) (result : Result T E) → items ≡ judgement.unexpected.items
     → length items ≤ i → failed ≡ count_in is_failed_row judgement → passed ≡ count_in is_passed_line judgement → other ≡ count_in is_other_message judgement
-    → absent ≡ count_in is_absent_line judgement → Put a b (flat_map line_of (take i judgement.unexpected.items)) → Put b c (flat_map running_text ends)
+    → absent ≡ count_in is_absent_line judgement → Put a b (flat_map (line_of form) (take i judgement.unexpected.items)) → Put b c (flat_map (running_text form) ends)
     → Writes c d ((decimal judgement.met ++ codes " known failures; ") ++ ((decimal (before + failed) ++ codes " failed; ") ++ ((decimal passed ++ codes " passed; ")
     ++ ((decimal other ++ codes " with another message; ") ++ ((decimal absent ++ codes " absent\n") ++ []))))) result
-    → Writes a d (judgement_text judgement before ends) result
-judgement_put a b c d judgement before failed passed other absent ends items i result e le f p o n put running numbers =
+    → Writes a d (judgement_text form judgement before ends) result
+judgement_put a b c d form judgement before failed passed other absent ends items i result e le f p o n put running numbers =
     let all = found_all judgement items i e le in
-    Puts_then a b d (flat_map line_of judgement.unexpected.items) (flat_map running_text ends ++ judgement_numbers judgement before) result (rw all at put)
-    (Puts_then b c d (flat_map running_text ends) (judgement_numbers judgement before) result running
+    Puts_then a b d (flat_map (line_of form) judgement.unexpected.items) (flat_map (running_text form) ends ++ judgement_numbers judgement before) result (rw all at put)
+    (Puts_then b c d (flat_map (running_text form) ends) (judgement_numbers judgement before) result running
     (rw (numbers_are judgement before failed passed other absent f p o n) at numbers))
 
 -- ---- counts
@@ -114,7 +116,7 @@ module _ (known : List Expected) (start new : Judged) (rows : List Entry) (are_a
   abbrev Says : Type 0
   Says = map finding_read judgement.unexpected.items ≡ findings new.known new.rows are_all
 
-  module _ {s t : Shown} (judged : Judges start new rows count s t) where
+  module _ {form : Lines} {s t : Shown} (judged : Judges form start new rows count s t) where
     knows : new.known ≡ known
     knows = judged.known ∙ ap (λ (j : Judged). j.known) begun
 
@@ -145,13 +147,13 @@ module _ (known : List Expected) (start new : Judged) (rows : List Entry) (are_a
           rw (is, all_failed, none_of is_passed_line (λ row. refl), none_of is_other_message (λ row. refl), none_of is_absent_line (λ row. refl)) refl
 
       all_text : (ends : List InputEnd) → judgement.met ≡ length (met_by (keyed new.known) (rows_with is_failed new.rows))
-          → lines failures ++ judgement_text judgement count ends ≡ rows_text known rows ends are_all
+          → lines form failures ++ judgement_text form judgement count ends ≡ rows_text form known rows ends are_all
       all_text ends met =
-          let shown : flat_map finding_text (findings_in_turn known rows are_all) ≡ lines failures ++ flat_map line_of judgement.unexpected.items =
-          flat_map-append finding_text (map FailedRow failures) rest
-          ∙ ap (λ (l : List ℕ). lines failures ++ l) (ap (flat_map finding_text) (sym found) ∙ flat_map-map finding_text finding_read judgement.unexpected.items) in
-          sym (append_assoc (lines failures) (flat_map line_of judgement.unexpected.items) (flat_map running_text ends ++ judgement_numbers judgement count))
-          ∙ ap₂ (λ (a b : List ℕ). a ++ (flat_map running_text ends ++ b)) (sym shown) (numbers met)
+          let shown : flat_map (finding_text form) (findings_in_turn known rows are_all) ≡ lines form failures ++ flat_map (line_of form) judgement.unexpected.items =
+          flat_map-append (finding_text form) (map FailedRow failures) rest
+          ∙ ap (λ (l : List ℕ). lines form failures ++ l) (ap (flat_map (finding_text form)) (sym found) ∙ flat_map-map (finding_text form) finding_read judgement.unexpected.items) in
+          sym (append_assoc (lines form failures) (flat_map (line_of form) judgement.unexpected.items) (flat_map (running_text form) ends ++ judgement_numbers judgement count))
+          ∙ ap₂ (λ (a b : List ℕ). a ++ (flat_map (running_text form) ends ++ b)) (sym shown) (numbers met)
 
       module _ (lax : Bool) where
         any_in_turn : list_any (counts lax) (findings known rows are_all) ≡ (list_any (counts lax) (map FailedRow failures) || list_any (counts lax) rest)
@@ -167,30 +169,30 @@ module _ (known : List Expected) (start new : Judged) (rows : List Entry) (are_a
 
 -- ---- what is left
 
-module _ {I : Type 0} (remaining : I → Option (List ℕ)) (expected : List Expected) (inputs : List I) (lax : Bool) (old new : Shown) (result : Result ExpectationVerdict OutputFault) where
+module _ {I : Type 0} (remaining : I → Option (List ℕ)) (expected : List Expected) (inputs : List I) (options : ExpectOptions) (old new : Shown) (result : Result ExpectationVerdict OutputFault) where
   -- a fault in what is written of all inputs
   pub write_left : (error : WriteFault) (read : List InputRead) → IsErrAnd result (λ fault. fault ≡ WriteFailed error) → AllZip (λ input r. IsReadOf (remaining input) r) inputs read
-      → Stopped old new (rows_text expected (rows_of read) (ends_of read) (have_all read)) → LeavesVerdict remaining expected inputs lax old new result
+      → Stopped old new (rows_text options.lines expected (rows_of read) (ends_of read) (have_all read)) → LeavesVerdict remaining expected inputs options old new result
   write_left error read h each s =
-      at_fault (LeavesVerdict remaining expected inputs lax old new) result (WriteFailed error) h
-      (rows_text expected (rows_of read) (ends_of read) (have_all read), inr (read, each, refl), s)
+      at_fault (LeavesVerdict remaining expected inputs options old new) result (WriteFailed error) h
+      (rows_text options.lines expected (rows_of read) (ends_of read) (have_all read), inr (read, each, refl), s)
 
   -- no memory
-  pub memory_left : (rows : List Entry) → IsErrAnd result (λ fault. fault ≡ OutOfMemory) → AreBegun remaining inputs rows → Put old new (unknown_text expected rows)
-      → LeavesVerdict remaining expected inputs lax old new result
-  memory_left rows h are p = at_fault (LeavesVerdict remaining expected inputs lax old new) result OutOfMemory h (unknown_text expected rows, (rows, are, refl), p)
+  pub memory_left : (rows : List Entry) → IsErrAnd result (λ fault. fault ≡ OutOfMemory) → AreBegun remaining inputs rows → Put old new (unknown_text options.lines expected rows)
+      → LeavesVerdict remaining expected inputs options old new result
+  memory_left rows h are p = at_fault (LeavesVerdict remaining expected inputs options old new) result OutOfMemory h (unknown_text options.lines expected rows, (rows, are, refl), p)
 
-  begun_left : (fault : OutputFault) (rows : List Entry) → AreBegun remaining inputs rows → HasLines expected old new fault rows
-      → VerdictLeftBy (IsBegun remaining expected inputs) (IsWhole remaining expected inputs) old new fault
-  begun_left OutOfMemory rows are left = (unknown_text expected rows, (rows, are, refl), left)
-  begun_left (WriteFailed error) rows are left = (unknown_text expected rows, inl (rows, are, refl), left)
+  begun_left : (fault : OutputFault) (rows : List Entry) → AreBegun remaining inputs rows → HasLines options.lines expected old new fault rows
+      → VerdictLeftBy (IsBegun remaining options.lines expected inputs) (IsWhole remaining options.lines expected inputs) old new fault
+  begun_left OutOfMemory rows are left = (unknown_text options.lines expected rows, (rows, are, refl), left)
+  begun_left (WriteFailed error) rows are left = (unknown_text options.lines expected rows, inl (rows, are, refl), left)
 
   -- a fault while rows come
   pub rows_left_by : (fault : OutputFault) (known : List Expected) → known ≡ expected → IsErrAnd result (λ f. f ≡ fault)
-      → (rows : List Entry) × AreBegun remaining inputs rows × HasLines known old new fault rows → LeavesVerdict remaining expected inputs lax old new result
+      → (rows : List Entry) × AreBegun remaining inputs rows × HasLines options.lines known old new fault rows → LeavesVerdict remaining expected inputs options old new result
   rows_left_by fault known e h left =
-      at_fault (LeavesVerdict remaining expected inputs lax old new) result fault h
-      (begun_left fault left.0 left.1 (subst (λ (k : List Expected). HasLines k old new fault left.0) e left.2))
+      at_fault (LeavesVerdict remaining expected inputs options old new) result fault h
+      (begun_left fault left.0 left.1 (subst (λ (k : List Expected). HasLines options.lines k old new fault left.0) e left.2))
 
 pub ends_have_all : (read : List InputRead) (ends : List InputEnd) → ends ≡ map (λ (r : InputRead). r.end) read → list_all has_all ends ≡ have_all read
 ends_have_all read ends e = ap (list_all has_all) e ∙ list_all-map has_all (λ (r : InputRead). r.end) read
@@ -203,13 +205,13 @@ says_of judgement new read given ends all a same e says =
     says ∙ ap (findings new.known new.rows) (a ∙ (ap (list_all has_all) same ∙ ends_have_all read ends e))
 
 -- the lines that were written while rows came, and all that is written
-pub whole_text : (known : List Expected) (start new : Judged) (read : List InputRead) (given written ends : List InputEnd) (all : Bool) (count : ℕ) (judgement : Judgement) (s t : Shown)
-    → start ≡ record { known = known; rows = [] } → Judges start new (rows_of read) count s t → all ≡ list_all has_all given → given ≡ ends → written ≡ ends
+pub whole_text : (known : List Expected) (start new : Judged) (read : List InputRead) (given written ends : List InputEnd) (all : Bool) (count : ℕ) (judgement : Judgement) (form : Lines) (s t : Shown)
+    → start ≡ record { known = known; rows = [] } → Judges form start new (rows_of read) count s t → all ≡ list_all has_all given → given ≡ ends → written ≡ ends
     → ends ≡ map (λ (r : InputRead). r.end) read → map finding_read judgement.unexpected.items ≡ findings new.known new.rows all
     → judgement.met ≡ length (met_by (keyed new.known) (rows_with is_failed new.rows))
-    → Put s t (unknown_text known (rows_of read)) × (unknown_text known (rows_of read) ++ judgement_text judgement count written ≡ rows_text known (rows_of read) (ends_of read) (have_all read))
-whole_text known start new read given written ends all count judgement s t begun judged a same w e says met = (
+    → Put s t (unknown_text form known (rows_of read)) × (unknown_text form known (rows_of read) ++ judgement_text form judgement count written ≡ rows_text form known (rows_of read) (ends_of read) (have_all read))
+whole_text known start new read given written ends all count judgement form s t begun judged a same w e says met = (
   lines_put known start new (rows_of read) count s t begun judged,
-  ap (λ (l : List InputEnd). unknown_text known (rows_of read) ++ judgement_text judgement count l) (w ∙ e)
+  ap (λ (l : List InputEnd). unknown_text form known (rows_of read) ++ judgement_text form judgement count l) (w ∙ e)
       ∙ all_text known start new (rows_of read) (have_all read) count judgement begun judged (says_of judgement new read given ends all a same e says) (ends_of read) met,
 )

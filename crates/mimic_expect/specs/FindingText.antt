@@ -1,13 +1,21 @@
 -- The lines that are printed of what is unexpected, and of trials that were running (our own).
 use Rattle.std.specs.Prelude.{ℕ, Bool, List, [], ◌∷◌, ◌++◌, codes, count_by, decimal, length, map, None, Option, Some}
 use Rattle.std.specs.List.{concat, flat_map}
+use Rattle.std.specs.Option.{unwrap_or}
 use Rattle.mimic_trial.specs.Count.{is_failed}
+use Rattle.mimic_printer.specs.Escapes.{escaped}
 use Rattle.mimic_printer.specs.Json.{Entry, json_announcement, json_outcome}
+use Rattle.mimic_printer.specs.Piece.{bracketed, first_line}
+use Rattle.mimic_printer.specs.Row.{Label}
+use Rattle.mimic_printer.specs.declared.place.Place.TheVariants.{Line}
 use Rattle.mimic_events.specs.Contents.{label_read}
+use Rattle.mimic_events.specs.Key.{message_of}
 use Rattle.mimic_events.specs.declared.report.Label.{Label as LabelRead}
 use Rattle.mimic_events.specs.declared.ending.Ending.TheVariants.{Cut}
 use Rattle.mimic_expect.specs.Expect.{AbsentLine, FailedRow, Finding, OtherMessage, PassedLine, findings_in_turn, is_absent_line, is_failed_row, is_other_message, is_passed_line, keyed, met_by, rows_with, unknown_failures}
 use Rattle.mimic_expect.specs.Known.{Expected}
+use Rattle.mimic_expect.specs.declared.options.Lines.{Lines}
+use Rattle.mimic_expect.specs.declared.options.Lines.TheVariants.{Json, Readable}
 use Rattle.mimic_expect.specs.declared.verdict.InputEnd.{InputEnd}
 use Rattle.mimic_expect.specs.declared.verdict.InputEnd.TheVariants.{Ended}
 
@@ -15,19 +23,43 @@ use Rattle.mimic_expect.specs.declared.verdict.InputEnd.TheVariants.{Ended}
 abbrev pub row_line : Entry → List ℕ
 row_line row = json_outcome row.label row.outcome None
 
--- the words, the number of a line, and the row
-abbrev pub numbered_text : List ℕ → ℕ → Entry → List ℕ
-numbered_text words line row = concat (words ∷ decimal line ∷ codes " can go: " ∷ row_line row ∷ [])
+-- what comes before the first line of a message: nothing if that line is empty
+abbrev pub colon : List ℕ → List ℕ
+colon [] = []
+colon (b ∷ line) = codes ": "
 
-abbrev pub finding_text : Finding → List ℕ
-finding_text (FailedRow row) = codes "failed: " ++ row_line row
-finding_text (OtherMessage e row) = numbered_text (codes "another message, line ") e.line row
-finding_text (PassedLine e) = numbered_text (codes "passed, line ") e.line e.entry
-finding_text (AbsentLine e) = numbered_text (codes "absent, line ") e.line e.entry
+-- a trial in a line for people: its kind in brackets if it has one, its name, and the first line of a message, if that is not empty
+unfoldable pub trial_line : List ℕ → List ℕ → List ℕ → List ℕ
+trial_line kind name message = concat (bracketed Line kind ∷ escaped Line name ∷ colon (first_line message)
+    ∷ escaped Line (first_line message) ∷ codes "\n" ∷ [])
+
+-- the message of a failure, and nothing if there is none
+abbrev pub message_in : Entry → List ℕ
+message_in row = unwrap_or (message_of row.outcome) []
+
+-- a failed trial, with its message
+abbrev pub failure_text : Lines → Entry → List ℕ
+failure_text Json row = row_line row
+failure_text Readable row = trial_line row.label.kind row.label.name (message_in row)
+
+-- a trial of which no message is shown to people
+abbrev pub trial_text : Lines → Entry → List ℕ
+trial_text Json row = row_line row
+trial_text Readable row = trial_line row.label.kind row.label.name []
+
+-- what was found about a line of the known failures, and its number
+unfoldable pub place_text : List ℕ → ℕ → List ℕ
+place_text words line = concat (words ∷ decimal line ∷ codes " can go: " ∷ [])
+
+abbrev pub finding_text : Lines → Finding → List ℕ
+finding_text lines (FailedRow row) = codes "failed: " ++ failure_text lines row
+finding_text lines (OtherMessage e row) = place_text (codes "another message, line ") e.line ++ failure_text lines row
+finding_text lines (PassedLine e) = place_text (codes "passed, line ") e.line ++ trial_text lines e.entry
+finding_text lines (AbsentLine e) = place_text (codes "absent, line ") e.line ++ trial_text lines e.entry
 
 -- the lines of the failures whose kind and name no known failure has, which are printed as they come
-abbrev pub unknown_text : List Expected → List Entry → List ℕ
-unknown_text expected rows = flat_map finding_text (map FailedRow (unknown_failures expected rows))
+abbrev pub unknown_text : Lines → List Expected → List Entry → List ℕ
+unknown_text lines expected rows = flat_map (finding_text lines) (map FailedRow (unknown_failures expected rows))
 
 -- the numbers: how many failures met a line, and how many findings there are of each kind
 abbrev pub numbers_text : ℕ → List Finding → List ℕ
@@ -36,17 +68,23 @@ numbers_text met findings = concat (decimal met ∷ codes " known failures; "
     ∷ decimal (count_by is_other_message findings) ∷ codes " with another message; "
     ∷ decimal (count_by is_absent_line findings) ∷ codes " absent\n" ∷ [])
 
--- the line of a trial that was announced and has not ended: a word, and the line that announces it in JSON
-abbrev pub running_line : Option LabelRead → List ℕ
-running_line None = []
-running_line (Some label) = codes "running: " ++ json_announcement (label_read label)
+-- a trial that was announced; in JSON the line that announces it
+abbrev pub announced_text : Lines → Label → List ℕ
+announced_text Json label = json_announcement label
+announced_text Readable label = trial_line label.kind label.name []
+
+-- the line of a trial that was announced and has not ended: a word, and the trial
+abbrev pub running_line : Lines → Option LabelRead → List ℕ
+running_line lines None = []
+running_line lines (Some label) = codes "running: " ++ announced_text lines (label_read label)
 
 -- the line of the trial that was running when a report was cut, and nothing of another end of an input
-abbrev pub running_text : InputEnd → List ℕ
-running_text (Ended (Cut stop)) = running_line stop.running
-running_text other = []
+abbrev pub running_text : Lines → InputEnd → List ℕ
+running_text lines (Ended (Cut stop)) = running_line lines stop.running
+running_text lines other = []
 
 -- what is printed of rows: a line of each finding, one of each trial that was running at these ends, and one of the numbers
-abbrev pub rows_text : List Expected → List Entry → List InputEnd → Bool → List ℕ
-rows_text expected rows ends are_all = flat_map finding_text (findings_in_turn expected rows are_all) ++ (flat_map running_text ends
+abbrev pub rows_text : Lines → List Expected → List Entry → List InputEnd → Bool → List ℕ
+rows_text lines expected rows ends are_all =
+    flat_map (finding_text lines) (findings_in_turn expected rows are_all) ++ (flat_map (running_text lines) ends
     ++ numbers_text (length (met_by (keyed expected) (rows_with is_failed rows))) (findings_in_turn expected rows are_all))

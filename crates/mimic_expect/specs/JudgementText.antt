@@ -12,6 +12,7 @@ use Rattle.mimic_expect.specs.declared.known.Expectation.{Expectation}
 use Rattle.mimic_expect.specs.declared.judgement.Judgement.{Judgement}
 use Rattle.mimic_expect.specs.declared.judgement.Unexpected.{Unexpected}
 use Rattle.mimic_expect.specs.declared.judgement.Unexpected.TheVariants.{Failed, AnotherMessage, Passed, Absent}
+use Rattle.mimic_expect.specs.declared.options.Lines.{Lines}
 use Rattle.mimic_expect.specs.declared.verdict.InputEnd.{InputEnd}
 use denote.Ref.{Bor}
 
@@ -49,6 +50,6 @@ judgement_numbers judgement failed = concat (decimal judgement.met ∷ codes " k
     ∷ decimal (count_in is_absent_line judgement) ∷ codes " absent\n" ∷ [])
 
 -- its findings, each as one line, a line of each trial that was running at these ends, and its numbers
-abbrev pub judgement_text : Judgement → ℕ → List InputEnd → List ℕ
-judgement_text judgement failed ends = flat_map (λ found. finding_text (finding_read found)) judgement.unexpected.items
-    ++ (flat_map running_text ends ++ judgement_numbers judgement failed)
+abbrev pub judgement_text : Lines → Judgement → ℕ → List InputEnd → List ℕ
+judgement_text lines judgement failed ends = flat_map (λ found. finding_text lines (finding_read found)) judgement.unexpected.items
+    ++ (flat_map (running_text lines) ends ++ judgement_numbers judgement failed)

@@ -1,3 +1,4 @@
+pub mod Changes
 pub mod Expect
 pub mod FindingText
 pub mod JudgedRows
@@ -6,4 +7,5 @@ pub mod KeyedItems
 pub mod Known
 pub mod KnownText
 pub mod Lines
+pub mod Updated
 pub mod Verdict

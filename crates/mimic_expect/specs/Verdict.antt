@@ -10,6 +10,8 @@ use Rattle.mimic_expect.specs.FindingText.{rows_text, unknown_text}
 use Rattle.mimic_expect.specs.Known.{Expected}
 use Rattle.mimic_printer.specs.declared.sink.OutputFault.{OutputFault}
 use Rattle.mimic_printer.specs.declared.sink.OutputFault.TheVariants.{OutOfMemory, Write}
+use Rattle.mimic_expect.specs.declared.options.ExpectOptions.{ExpectOptions}
+use Rattle.mimic_expect.specs.declared.options.Lines.{Lines}
 use Rattle.mimic_expect.specs.declared.verdict.InputEnd.{InputEnd}
 use Rattle.mimic_expect.specs.declared.verdict.InputEnd.TheVariants.{Ended, Failed}
 use Rattle.mimic_expect.specs.declared.verdict.ExpectationVerdict.{ExpectationVerdict}
@@ -56,13 +58,13 @@ have_all inputs = list_all (λ read. has_all read.end) inputs
 
 -- what is unexpected of the rows of all inputs was written, each once, the trials that were running, and the numbers; the verdict says
 -- whether anything unexpected counts
-pub record IsVerdict {I : Type 0} (remaining : I → Option (List ℕ)) (expected : List Expected) (inputs : List I) (lax : Bool)
+pub record IsVerdict {I : Type 0} (remaining : I → Option (List ℕ)) (expected : List Expected) (inputs : List I) (options : ExpectOptions)
     (old new : Shown) (verdict : ExpectationVerdict) : Type 0 where
   pub read : List InputRead
   pub each : AllZip (λ input r. IsReadOf (remaining input) r) inputs read
   pub ends : verdict.ends.items ≡ ends_of read
-  pub put : Put old new (rows_text expected (rows_of read) (ends_of read) (have_all read))
-  pub unexpected : verdict.is_unexpected ≡ list_any (counts lax) (findings expected (rows_of read) (have_all read))
+  pub put : Put old new (rows_text options.lines expected (rows_of read) (ends_of read) (have_all read))
+  pub unexpected : verdict.is_unexpected ≡ list_any (counts options.lax) (findings expected (rows_of read) (have_all read))
 
 -- ---- what is left with a fault
 
@@ -83,13 +85,14 @@ pub record AreBegun {I : Type 0} (remaining : I → Option (List ℕ)) (inputs :
   pub all : rows ≡ rows_of read ++ last
 
 -- the text has the failures among rows that were read, whose kind and name no known failure has
-abbrev pub IsBegun : {I : Type 0} → (I → Option (List ℕ)) → List Expected → List I → List ℕ → Type 0
-IsBegun remaining expected inputs text = (rows : List Entry) × AreBegun remaining inputs rows × (text ≡ unknown_text expected rows)
+abbrev pub IsBegun : {I : Type 0} → (I → Option (List ℕ)) → Lines → List Expected → List I → List ℕ → Type 0
+IsBegun remaining lines expected inputs text =
+    (rows : List Entry) × AreBegun remaining inputs rows × (text ≡ unknown_text lines expected rows)
 
 -- the text is what is written of all inputs
-abbrev pub IsWhole : {I : Type 0} → (I → Option (List ℕ)) → List Expected → List I → List ℕ → Type 0
-IsWhole remaining expected inputs text = (read : List InputRead) × AllZip (λ input r. IsReadOf (remaining input) r) inputs read
-    × (text ≡ rows_text expected (rows_of read) (ends_of read) (have_all read))
+abbrev pub IsWhole : {I : Type 0} → (I → Option (List ℕ)) → Lines → List Expected → List I → List ℕ → Type 0
+IsWhole remaining lines expected inputs text = (read : List InputRead) × AllZip (λ input r. IsReadOf (remaining input) r) inputs read
+    × (text ≡ rows_text lines expected (rows_of read) (ends_of read) (have_all read))
 
 -- without memory such failures were appended; and with a fault of the writer a beginning of such failures, or of the whole text
 abbrev pub VerdictLeftBy : (List ℕ → Type 0) → (List ℕ → Type 0) → Shown → Shown → OutputFault → Type 0
@@ -97,12 +100,12 @@ VerdictLeftBy Beginning Complete old new OutOfMemory = (text : List ℕ) × Begi
 VerdictLeftBy Beginning Complete old new (Write fault) = (text : List ℕ) × (Beginning text ⊎ Complete text) × Stopped old new text
 
 -- what a call leaves that judges the inputs
-abbrev pub LeavesVerdict : {I : Type 0} → (I → Option (List ℕ)) → List Expected → List I → Bool → Shown → Shown
+abbrev pub LeavesVerdict : {I : Type 0} → (I → Option (List ℕ)) → List Expected → List I → ExpectOptions → Shown → Shown
     → Result ExpectationVerdict OutputFault → Type 0
-LeavesVerdict remaining expected inputs lax old new (Ok verdict) =
-    IsVerdict remaining expected inputs lax old new verdict
-LeavesVerdict remaining expected inputs lax old new (Err fault) =
-    VerdictLeftBy (IsBegun remaining expected inputs) (IsWhole remaining expected inputs) old new fault
+LeavesVerdict remaining expected inputs options old new (Ok verdict) =
+    IsVerdict remaining expected inputs options old new verdict
+LeavesVerdict remaining expected inputs options old new (Err fault) = VerdictLeftBy
+    (IsBegun remaining options.lines expected inputs) (IsWhole remaining options.lines expected inputs) old new fault
 
 -- the exit status: 1 if some input is no whole report, else 101 if anything is unexpected that counts, else 0
 abbrev pub status_of : ExpectationVerdict → ℕ

@@ -14,6 +14,7 @@ ghost use Rattle.mimic_expect.specs.Verdict.{AreBegun, InputRead, IsReadOf, Leav
 use crate::judge::Judge;
 use crate::judgement::Judgement;
 use crate::known::Expectation;
+use crate::options::{ExpectOptions, Lines};
 use crate::verdict::{ExpectationVerdict, InputEnd, have_all};
 use itoa::Buffer;
 use mimic_events::{InputRows, ReadFault};
@@ -29,7 +30,7 @@ use std::io::{ErrorKind, Read, Write};
 /// any message. Each known failure that is left then takes a row of its kind and name that has met nothing: a failure, which
 /// has another message, or else one that passed or was measured, or else an ignored one, about which nothing is written. A
 /// known failure that finds no row is absent. This is written only if each input is a whole report and no trial was filtered
-/// out. With `lax` a known failure that passed is written, but doesn't count.
+/// out. With `options.lax` a known failure that passed is written, but doesn't count.
 ///
 /// A failure whose kind and name no known failure has is written as soon as it is read. Rows of known kinds and names are kept,
 /// and no others.
@@ -43,23 +44,23 @@ pub fn write_unexpected<I: Read + Drop, W: Write>(
     alloc: Global,
     known: &[Expectation],
     inputs: Vec<I>,
-    lax: bool,
+    options: ExpectOptions,
     sink: &mut Sink<W>,
 ) -> Result<ExpectationVerdict, OutputFault>
     requires { HasFaultLeft sink.old }
-    ensures verdict { LeavesVerdict I.remaining (map expected_read known.now) inputs.items lax
+    ensures verdict { LeavesVerdict I.remaining (map expected_read known.now) inputs.items options
         (shown W.contents sink.old) (shown W.contents sink.new) result }
 
     // What it means to meet a line, and that the findings are those of all rows together.
     ensures laws { ExpectLaws }
 {
     let mut judge = Judge::new(alloc, known)?;
-    let (failed, ends) = judge_inputs(alloc, inputs, &mut judge, sink)?;
+    let (failed, ends) = judge_inputs(alloc, inputs, &mut judge, options.lines, sink)?;
     let judgement = judge.finish(alloc, have_all(&ends))?;
-    put_judgement(sink, &judgement, failed, &ends)?;
+    put_judgement(sink, options.lines, &judgement, failed, &ends)?;
     sink.flush()?;
     Ok(ExpectationVerdict {
-        is_unexpected: failed > 0 || judgement.is_unexpected(lax),
+        is_unexpected: failed > 0 || judgement.is_unexpected(options.lax),
         ends,
     })
 }
@@ -70,6 +71,7 @@ fn judge_inputs<I: Read + Drop, W: Write>(
     alloc: Global,
     inputs: Vec<I>,
     judge: &mut Judge<'_>,
+    lines: Lines,
     sink: &mut Sink<W>,
 ) -> Result<(u128, Vec<InputEnd>), OutputFault>
     requires { HasFaultLeft sink.old }
@@ -77,15 +79,15 @@ fn judge_inputs<I: Read + Drop, W: Write>(
         (λ x. (read : List InputRead)
         × AllZip (λ input r. IsReadOf (I.remaining input) r) inputs.items read
         × (x.1.items ≡ ends_of read)
-        × Judges judge.old judge.new (rows_of read) x.0
+        × Judges lines judge.old judge.new (rows_of read) x.0
         (shown W.contents sink.old) (shown W.contents sink.new) × (x.0 < 2 ^ 128 - 2 ^ 64))
         (λ fault. (rows : List Entry) × AreBegun I.remaining inputs.items rows
-        × HasLines judge.old.known (shown W.contents sink.old) (shown W.contents sink.new) fault rows) }
+        × HasLines lines judge.old.known (shown W.contents sink.old) (shown W.contents sink.new) fault rows) }
 {
     let mut failed = 0_u128;
     let mut ends = Vec::new(alloc);
     for input in inputs {
-        let (count, end) = judge_input(alloc, input, judge, sink)?;
+        let (count, end) = judge_input(alloc, input, judge, lines, sink)?;
         failed += u128::from(count);
         ends.push(end)?;
     }
@@ -98,22 +100,23 @@ fn judge_input<I: Read + Drop, W: Write>(
     alloc: Global,
     input: I,
     judge: &mut Judge<'_>,
+    lines: Lines,
     sink: &mut Sink<W>,
 ) -> Result<(u64, InputEnd), OutputFault>
     requires { HasFaultLeft sink.old }
     ensures { MatchResult result
         (λ x. (entries : List Entry) × IfSome (I.remaining input) (Reads entries x.1)
-        × Judges judge.old judge.new entries x.0
+        × Judges lines judge.old judge.new entries x.0
         (shown W.contents sink.old) (shown W.contents sink.new))
         (λ fault. (rows : List Entry) × IfSome (I.remaining input) (HasEndedRows rows)
-        × HasLines judge.old.known (shown W.contents sink.old) (shown W.contents sink.new) fault rows) }
+        × HasLines lines judge.old.known (shown W.contents sink.old) (shown W.contents sink.new) fault rows) }
 {
     let mut rows = InputRows::new(alloc, input)?;
     let mut failed = 0;
     for _ in 0..u64::MAX {
         match rows.next_row() {
             Ok(Some(row)) => {
-                if judge.row(row, sink)? {
+                if judge.row(row, lines, sink)? {
                     failed += 1;
                 }
             }
@@ -129,6 +132,7 @@ fn judge_input<I: Read + Drop, W: Write>(
 // were written before.
 fn put_judgement<W: Write>(
     sink: &mut Sink<W>,
+    lines: Lines,
     judgement: &Judgement<'_>,
     failed: u128,
     ends: &[InputEnd],
@@ -136,12 +140,12 @@ fn put_judgement<W: Write>(
     requires fault { HasFaultLeft sink.old }
     requires room { failed < 2 ^ 128 - 2 ^ 64 }
     ensures { Puts W.contents sink.old sink.new
-        (judgement_text judgement.now failed ends.now) result }
+        (judgement_text lines judgement.now failed ends.now) result }
 {
     for found in &judgement.unexpected {
-        found.put(sink)?;
+        found.put(lines, sink)?;
     }
-    put_running(sink, ends)?;
+    put_running(sink, lines, ends)?;
     put_numbers(
         sink,
         &[
@@ -158,12 +162,16 @@ fn put_judgement<W: Write>(
 }
 
 // Writes a line of each trial that was running when its report was cut.
-fn put_running<W: Write>(sink: &mut Sink<W>, ends: &[InputEnd]) -> Result<(), WriteFault>
+fn put_running<W: Write>(
+    sink: &mut Sink<W>,
+    lines: Lines,
+    ends: &[InputEnd],
+) -> Result<(), WriteFault>
     requires { HasFaultLeft sink.old }
-    ensures { Puts W.contents sink.old sink.new (flat_map running_text ends.now) result }
+    ensures { Puts W.contents sink.old sink.new (flat_map (running_text lines) ends.now) result }
 {
     for end in ends {
-        end.put_running(sink)?;
+        end.put_running(lines, sink)?;
     }
     Ok(())
 }

@@ -1,17 +1,18 @@
 //! Judges rows that come one by one.
-ghost use Rattle.std.specs.Prelude.{◌≡◌, ◌∷◌, [], IfOk, MatchResult, cond, length, map};
+ghost use Rattle.std.specs.Prelude.{◌≡◌, ◌∷◌, [], IfOk, MatchResult, OnOk, cond, length, map};
 ghost use Rattle.mimic_trial.specs.Count.{is_failed};
 ghost use Rattle.mimic_printer.specs.Sink.{HasFaultLeft, LeftBy, shown};
 ghost use Rattle.mimic_events.specs.Contents.{entry_read};
 ghost use Rattle.mimic_expect.specs.Expect.{findings, keyed, met_by, rows_with};
 ghost use Rattle.mimic_expect.specs.FindingText.{unknown_text};
-ghost use Rattle.mimic_expect.specs.JudgedRows.{Judges, labels_known};
+ghost use Rattle.mimic_expect.specs.JudgedRows.{Judges, Keeps, labels_known, matters};
 ghost use Rattle.mimic_events.specs.Key.{HasTrials};
 ghost use Rattle.mimic_expect.specs.JudgementText.{finding_read};
 ghost use Rattle.mimic_expect.specs.Known.{expected_read};
 
 use crate::judgement::{Judgement, Unexpected, judge};
 use crate::known::Expectation;
+use crate::options::Lines;
 use mimic_events::{Key, Row};
 use mimic_printer::{OutputFault, Sink};
 use mimic_trial::Outcome;
@@ -20,7 +21,7 @@ use std::collections::HashSet;
 use std::io::Write;
 use std::marker::Model;
 
-// Judges rows that come one by one. It keeps those whose kind and name a known failure has, and no others.
+// Judges rows that come one by one. It keeps those whose kind and name a known failure has, and others only if it is asked to.
 //
 // Contracts see the known failures and the rows that were kept.
 #[derive(Drop)]
@@ -65,14 +66,15 @@ impl<'a> Judge<'a> {
     pub(crate) fn row<W: Write>(
         &mut self,
         row: Row,
+        lines: Lines,
         sink: &mut Sink<W>,
     ) -> Result<bool, OutputFault>
         requires { HasFaultLeft sink.old }
         ensures { MatchResult result
-            (λ unknown. Judges self.old self.new (entry_read row ∷ []) (cond unknown 1 0)
+            (λ unknown. Judges lines self.old self.new (entry_read row ∷ []) (cond unknown 1 0)
             (shown W.contents sink.old) (shown W.contents sink.new))
             (λ fault. LeftBy fault (shown W.contents sink.old) (shown W.contents sink.new)
-            (unknown_text self.old.known (entry_read row ∷ []))) }
+            (unknown_text lines self.old.known (entry_read row ∷ []))) }
     {
         if (&self.labels).contains(&Key::Trial(&row)) {
             self.rows.push(row)?;
@@ -81,8 +83,28 @@ impl<'a> Judge<'a> {
         let Outcome::Failed(_) = &row.outcome else {
             return Ok(false);
         };
-        Unexpected::Failed(&row).put(sink)?;
+        Unexpected::Failed(&row).put(lines, sink)?;
         Ok(true)
+    }
+
+    // Takes a row, and keeps it if it matters.
+    pub(crate) fn keep(&mut self, row: Row) -> Result<(), AllocError>
+        ensures { OnOk result (Keeps self.old self.new (entry_read row ∷ [])) }
+    {
+        if self.matters(&row) {
+            self.rows.push(row)?;
+        }
+        Ok(())
+    }
+
+    // Whether the row can change what is found.
+    fn matters(&self, row: &Row) -> bool
+        ensures { result ≡ matters self.now.known (entry_read row.now) }
+    {
+        match &row.outcome {
+            Outcome::Failed(_) => true,
+            _ => (&self.labels).contains(&Key::Trial(row)),
+        }
     }
 
     // Judges the rows that were kept.

@@ -299,7 +299,7 @@ impl Judgement<'_> {
 
 impl Unexpected<'_> {
     // Whether it makes the judgement one with unexpected rows.
-    fn counts(&self, lax: bool) -> bool
+    pub(crate) fn counts(&self, lax: bool) -> bool
         ensures { result ≡ counts lax (finding_read self.now) }
     {
         match self {

@@ -88,7 +88,7 @@ fn is_passed_over(line: &[u8]) -> bool
 }
 
 // Returns the first line, with its end, and what follows it.
-fn first_line(bytes: &[u8]) -> Option<(&[u8], &[u8])>
+pub(crate) fn first_line(bytes: &[u8]) -> Option<(&[u8], &[u8])>
     ensures { MatchOption result (HasNoEnd bytes.now)
         (λ x. (bytes.now ≡ x.0.now ++ x.1.now) × IsLine x.0.now) }
 {

@@ -1,10 +1,14 @@
 //! Known failures, and what of the rows of reports is not as they say.
 //!
 //! ```rust
-//! use mimic_expect::{read_known, write_unexpected};
+//! use mimic_expect::{ExpectOptions, Lines, read_known, write_unexpected};
 //!
 //! let known = read_known(alloc, &bytes)?;
-//! let verdict = write_unexpected(alloc, &known, readers, false, &mut sink)?;
+//! let options = ExpectOptions {
+//!     lax: false,
+//!     lines: Lines::Readable,
+//! };
+//! let verdict = write_unexpected(alloc, &known, readers, options, &mut sink)?;
 //! verdict.status()
 //! ```
 #![tactic(auto)]
@@ -15,10 +19,14 @@ mod judgement;
 mod keyed_items;
 mod known;
 mod known_text;
+mod options;
 mod unexpected;
+mod updated;
 mod verdict;
 
 pub use inputs::write_unexpected;
 pub use known::{Expectation, KnownFault, read_known};
 pub use known_text::write_known;
+pub use options::{ExpectOptions, Lines};
+pub use updated::{UpdateVerdict, write_updated};
 pub use verdict::{ExpectationVerdict, InputEnd};

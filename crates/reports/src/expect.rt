@@ -1,47 +1,67 @@
-//! Prints what differs in reports from the known failures.
+//! Prints what differs in reports from the known failures, and brings the file of these up to date.
 use crate::faults::{refuse, refuse_all};
 use crate::input::Input;
 use crate::line::Expect;
-use crate::{BLOCK, REFUSED};
+use crate::{BLOCK, REFUSED, SUCCESS};
 use mimic_events::Ending;
 use mimic_expect::{
     Expectation, ExpectationVerdict, InputEnd, KnownFault, read_known, write_unexpected,
+    write_updated,
 };
 use mimic_printer::{OutputFault, Sink};
-use std::alloc::Global;
-use std::io::{BufWriter, Read};
+use std::alloc::{AllocError, Global};
+use std::fs::{File, Permissions};
+use std::io::{BufWriter, Error, ErrorKind, Read, Write};
+use std::path::{Path, PathBuf};
+use std::{fs, io, process};
 
 // Prints what is unexpected, or why that can't be judged.
 pub(crate) fn run(rt: &HostRuntime, alloc: Global, expect: &Expect) -> u8 {
     let file = expect.known.as_str();
-    let mut bytes = Vec::new(alloc);
-    if let Err(error) = Input::new(rt, file).read_to_end(&mut bytes) {
-        return refuse(rt, file, &error);
-    }
-    let known = match read_known(alloc, &bytes) {
+    let text = match known_text(rt, alloc, expect) {
+        Ok(text) => text,
+        Err(error) => return refuse(rt, file, &error),
+    };
+    let known = match read_known(alloc, &text) {
         Ok(known) => known,
         Err(fault) => return refuse_known(rt, file, &fault),
     };
-    match print(rt, alloc, expect, &known) {
-        Ok(verdict) => {
-            print_ends(rt, expect, &verdict);
-            verdict.status()
-        }
+    if expect.updates {
+        return update(rt, alloc, expect, &text, &known);
+    }
+    let judged = match Input::all(rt, alloc, &expect.files) {
+        Ok(inputs) => print(rt, alloc, expect, &known, inputs),
+        Err(_) => Err(OutputFault::OutOfMemory),
+    };
+    match judged {
+        Ok(verdict) => verdict.status(),
         Err(fault) => refuse_all(rt, &fault),
     }
 }
 
-fn print(
+// Returns the text of the file of known failures. One that is to be brought up to date is empty if it isn't there.
+fn known_text(rt: &HostRuntime, alloc: Global, expect: &Expect) -> io::Result<Vec<u8>> {
+    let mut text = Vec::new(alloc);
+    match Input::new(rt, expect.known.as_str()).read_to_end(&mut text) {
+        Err(error) if !expect.updates || error.kind() != ErrorKind::NotFound => Err(error),
+        _ => Ok(text),
+    }
+}
+
+// Prints what is unexpected, and for each file without a whole report why it has none.
+fn print<I: Read + Drop>(
     rt: &HostRuntime,
     alloc: Global,
     expect: &Expect,
     known: &[Expectation],
+    inputs: Vec<I>,
 ) -> Result<ExpectationVerdict, OutputFault> {
-    let inputs = Input::all(rt, alloc, &expect.files)?;
     let Ok(out) = BufWriter::with_capacity(alloc, BLOCK, rt.stdout()) else {
         return Err(OutputFault::OutOfMemory);
     };
-    write_unexpected(alloc, known, inputs, expect.lax, &mut Sink::new(out))
+    let verdict = write_unexpected(alloc, known, inputs, expect.options, &mut Sink::new(out))?;
+    print_ends(rt, expect, &verdict);
+    Ok(verdict)
 }
 
 // Prints for each file without a whole report why it has none.
@@ -70,4 +90,143 @@ fn refuse_known(rt: &HostRuntime, file: &str, fault: &KnownFault) -> u8 {
     } else {
         refuse(rt, file, fault)
     }
+}
+
+// Prints what is unexpected, and brings the file of known failures up to date if all reports are whole. It returns the status.
+fn update(
+    rt: &HostRuntime,
+    alloc: Global,
+    expect: &Expect,
+    text: &[u8],
+    known: &[Expectation],
+) -> u8 {
+    let new = match updated(rt, alloc, expect, text, known) {
+        Ok(Some(new)) => new,
+        Ok(None) => return REFUSED,
+        Err(fault) => return refuse_all(rt, &fault),
+    };
+    let file = expect.known.as_str();
+    match replace(rt, alloc, file, text, &new) {
+        Ok(()) => SUCCESS,
+        Err(error) => refuse(rt, file, &error),
+    }
+}
+
+// Prints what is unexpected, and returns the new text. `None` if a report isn't whole.
+//
+// An input can be read only once, so its bytes are kept meanwhile.
+fn updated(
+    rt: &HostRuntime,
+    alloc: Global,
+    expect: &Expect,
+    text: &[u8],
+    known: &[Expectation],
+) -> Result<Option<Vec<u8>>, OutputFault> {
+    let mut copies = empty_copies(alloc, expect.files.len())?;
+    let inputs = copied_inputs(rt, alloc, &expect.files, &mut copies)?;
+    let verdict = print(rt, alloc, expect, known, inputs)?;
+    if verdict.status() == REFUSED {
+        return Ok(None);
+    }
+    let reports = slices_of(alloc, &copies)?;
+    let mut sink = Sink::new(Vec::new(alloc));
+    write_updated(alloc, text, known, reports, expect.options.lax, &mut sink)?;
+    Ok(Some(sink.into_inner()))
+}
+
+fn empty_copies(alloc: Global, count: usize) -> Result<Vec<Vec<u8>>, AllocError> {
+    let mut copies = Vec::new(alloc);
+    for _ in 0..count {
+        copies.push(Vec::new(alloc))?;
+    }
+    Ok(copies)
+}
+
+fn copied_inputs<'a>(
+    rt: &'a HostRuntime,
+    alloc: Global,
+    files: &'a [String],
+    copies: &'a mut [Vec<u8>],
+) -> Result<Vec<Copied<'a>>, AllocError> {
+    let mut inputs = Vec::new(alloc);
+    for (file, copy) in files.iter().zip(copies.iter_mut()) {
+        inputs.push(Copied {
+            input: Input::new(rt, file.as_str()),
+            copy,
+        })?;
+    }
+    Ok(inputs)
+}
+
+fn slices_of(alloc: Global, copies: &[Vec<u8>]) -> Result<Vec<&[u8]>, AllocError> {
+    let mut slices = Vec::new(alloc);
+    for copy in copies {
+        slices.push(copy.as_slice())?;
+    }
+    Ok(slices)
+}
+
+// An input whose bytes are copied as they are read.
+#[derive(Drop)]
+struct Copied<'a> {
+    input: Input<'a>,
+    copy: &'a mut Vec<u8>,
+}
+
+impl Read for Copied<'_> {
+    fn read(&mut self, buf: &mut [u8]) -> io::Result<usize> {
+        let count = self.input.read(buf)?;
+        match self.copy.extend_from_slice(&buf[..count]) {
+            Ok(()) => Ok(count),
+            Err(_) => Err(ErrorKind::OutOfMemory.into()),
+        }
+    }
+}
+
+// Gives the file a new text, if that is another one or there is no file. A new file beside it takes its name, so that a crash leaves
+// the old text or the new one. If anything fails, the old file stays, and the new one is removed.
+fn replace(rt: &HostRuntime, alloc: Global, file: &str, old: &[u8], new: &[u8]) -> io::Result<()> {
+    let target = target_of(rt, alloc, file)?;
+    let permissions = match fs::metadata(rt, target.as_path()) {
+        Ok(metadata) if !metadata.is_file() => {
+            return Err(Error::new(ErrorKind::InvalidInput, "not a regular file"));
+        }
+        Ok(_) if old == new => return Ok(()),
+        Ok(metadata) => Some(metadata.permissions()),
+        Err(error) if error.kind() == ErrorKind::NotFound => None,
+        Err(error) => return Err(error),
+    };
+    let path = format!(in alloc;
+        "{}.{}.new",
+        target.as_path().as_str(),
+        process::id(rt.process())
+    )?;
+    let beside = File::create_new(rt, &path)?;
+    let replaced = fill(beside, new, permissions).and_then(|()| fs::rename(rt, &path, &target));
+    if replaced.is_err() {
+        let _ = fs::remove_file(rt, &path);
+    }
+    replaced
+}
+
+// Returns the path of the file that a path leads to through symbolic links, or the path itself if no file is there.
+fn target_of(rt: &HostRuntime, alloc: Global, file: &str) -> io::Result<PathBuf> {
+    match fs::canonicalize(rt, file) {
+        Err(error) if error.kind() == ErrorKind::NotFound && !Path::new(file).is_symlink(rt) => {
+            match PathBuf::from_str(alloc, file) {
+                Ok(path) => Ok(path),
+                Err(_) => Err(ErrorKind::OutOfMemory.into()),
+            }
+        }
+        found => found,
+    }
+}
+
+// Writes the text, down to the disk.
+fn fill(mut file: File, text: &[u8], permissions: Option<Permissions>) -> io::Result<()> {
+    if let Some(permissions) = permissions {
+        file.set_permissions(permissions)?;
+    }
+    file.write_all(text)?;
+    file.sync_all()
 }

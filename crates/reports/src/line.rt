@@ -3,6 +3,7 @@ use crate::by_name::in_order;
 use crate::input::{STANDARD, name_of};
 use clap::error::ErrorKind;
 use clap::{Arg, ArgAction, ArgMatches, Command, value_parser};
+use mimic_expect::{ExpectOptions, Lines};
 use std::alloc::{AllocError, Global};
 use std::{env, io};
 use thiserror::Error;
@@ -68,8 +69,10 @@ pub(crate) struct Show {
 /// The reports in these files are to be compared with the known failures in a file.
 #[derive(Debug, Drop)]
 pub(crate) struct Expect {
-    /// Whether known failures may pass.
-    pub(crate) lax: bool,
+    /// How they are compared, and how what is found is printed.
+    pub(crate) options: ExpectOptions,
+    /// Whether the file is to be brought up to date. It isn't standard input then.
+    pub(crate) updates: bool,
     pub(crate) known: String,
     pub(crate) files: Vec<String>,
 }
@@ -145,6 +148,9 @@ pub(crate) enum LineError {
     /// Standard input is to be ordered by a name.
     #[error("--by-name can't order standard input, which has no name")]
     NamelessInput,
+    /// Standard input is to be brought up to date.
+    #[error("expect --update can't write standard input, so KNOWN must be a file")]
+    InputUpdated,
     /// No subcommand is named that is read here.
     #[error("no subcommand")]
     NoSubcommand,
@@ -248,11 +254,23 @@ impl Expect {
     fn from_matches(alloc: Global, matches: &ArgMatches<'_>) -> Result<Expect, LineError> {
         let known = matches.get_str("KNOWN").unwrap_or(STANDARD);
         let files = files_of(alloc, matches)?;
+        let updates = matches.get_flag("update");
+        if known == STANDARD && updates {
+            return Err(LineError::InputUpdated);
+        }
         if known == STANDARD && files.iter().any(|file| file.as_str() == STANDARD) {
             return Err(LineError::TwoInputs);
         }
         Ok(Expect {
-            lax: matches.get_flag("lax"),
+            options: ExpectOptions {
+                lax: matches.get_flag("lax"),
+                lines: if matches.get_flag("lines") {
+                    Lines::Json
+                } else {
+                    Lines::Readable
+                },
+            },
+            updates,
             // `KNOWN` is required.
             known: String::from_str(alloc, known)?,
             files,
@@ -442,6 +460,14 @@ fn expect_command<'a>(alloc: Global) -> Result<Command<'a>, AllocError> {
         .long("lax")
         .action(ArgAction::SetTrue)
         .help("Let known failures pass");
+    let lines = Arg::new(alloc, "lines")
+        .long("lines")
+        .action(ArgAction::SetTrue)
+        .help("Print trials as lines in JSON");
+    let update = Arg::new(alloc, "update")
+        .long("update")
+        .action(ArgAction::SetTrue)
+        .help("Bring KNOWN up to date, if the reports are whole");
     let known = file(
         alloc,
         "KNOWN",
@@ -450,7 +476,7 @@ fn expect_command<'a>(alloc: Global) -> Result<Command<'a>, AllocError> {
     let files = files(alloc, "Reports in JSON; - is standard input");
     Command::new(alloc, "expect")
         .about("Print what is not as known failures say")
-        .args(vec![in alloc; lax, known, files]?)
+        .args(vec![in alloc; lax, lines, update, known, files]?)
 }
 
 fn known_command<'a>(alloc: Global) -> Result<Command<'a>, AllocError> {

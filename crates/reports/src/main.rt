@@ -61,6 +61,7 @@ fn refuse(rt: &HostRuntime, error: &LineError) -> u8 {
         | LineError::ManyFiles
         | LineError::SameNumbers { .. }
         | LineError::NamelessInput
+        | LineError::InputUpdated
         | LineError::NoSubcommand => {
             refuse_all(rt, error);
             USAGE

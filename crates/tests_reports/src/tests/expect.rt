@@ -1,5 +1,5 @@
-//! What no clause states about known failures: the status of each case, what is printed, and what is no file of known failures.
-//! Expected texts are worked out by hand.
+//! What no clause states about known failures: the status of each case, what is printed, what is no file of known failures, and
+//! how such a file is brought up to date. Expected texts are worked out by hand.
 use super::lines::{
     A_FAILED, A_IGNORED, A_MEASURED, A_PASSED, A_SILENT, FILTERED, NONE, Y_AND_X, announced,
     failed, passed, summary, text_of, title,
@@ -7,9 +7,11 @@ use super::lines::{
 use super::reading::Slow;
 use mimic_events::Ending;
 use mimic_expect::{
-    Expectation, ExpectationVerdict, InputEnd, KnownFault, read_known, write_unexpected,
+    ExpectOptions, Expectation, ExpectationVerdict, InputEnd, KnownFault, Lines, UpdateVerdict,
+    read_known, write_unexpected, write_updated,
 };
 use mimic_printer::{OutputFault, Sink};
+use mimic_testkit::{Fault, FaultPlace, FaultyWriter};
 use std::alloc::{AllocError, Global};
 use std::io::{ErrorKind, Read, Write};
 use std::test::Fail;
@@ -41,12 +43,27 @@ fn judge<I: Read + Drop, W: Write>(
     alloc: Global,
     known: &[Expectation],
     inputs: Vec<I>,
-    lax: bool,
+    options: ExpectOptions,
     writer: W,
 ) -> (W, Result<ExpectationVerdict, OutputFault>) {
     let mut sink = Sink::new(writer);
-    let judged = write_unexpected(alloc, known, inputs, lax, &mut sink);
+    let judged = write_unexpected(alloc, known, inputs, options, &mut sink);
     (sink.into_inner(), judged)
+}
+
+// Brings a text up to date by what the readers give, and returns the writer, and the verdict. This is the one place that calls
+// `write_updated`, and it promises nothing either.
+fn update<I: Read + Drop, W: Write>(
+    alloc: Global,
+    text: &str,
+    known: &[Expectation],
+    inputs: Vec<I>,
+    lax: bool,
+    writer: W,
+) -> (W, Result<UpdateVerdict, OutputFault>) {
+    let mut sink = Sink::new(writer);
+    let updated = write_updated(alloc, text.as_bytes(), known, inputs, lax, &mut sink);
+    (sink.into_inner(), updated)
 }
 
 // Reads known failures. This is the one place that calls `read_known`, and it promises nothing either.
@@ -81,17 +98,31 @@ fn texts_of(alloc: Global, inputs: &[Input]) -> Result<Vec<String>, AllocError> 
 }
 
 // Judges the inputs by known failures, and returns the verdict, and what is printed.
+fn judged_as(
+    alloc: Global,
+    known: &[&str],
+    inputs: &[Input],
+    options: ExpectOptions,
+) -> Result<(ExpectationVerdict, String), Fail> {
+    let known = known_in(alloc, known)??;
+    let texts = texts_of(alloc, inputs)?;
+    let readers = readers_of(alloc, &texts, inputs)?;
+    let (bytes, verdict) = judge(alloc, &known, readers, options, Vec::new(alloc));
+    Ok((verdict?, String::from_utf8(bytes)?))
+}
+
+// The same, with lines in JSON.
 pub(super) fn judged(
     alloc: Global,
     known: &[&str],
     inputs: &[Input],
     lax: bool,
 ) -> Result<(ExpectationVerdict, String), Fail> {
-    let known = known_in(alloc, known)??;
-    let texts = texts_of(alloc, inputs)?;
-    let readers = readers_of(alloc, &texts, inputs)?;
-    let (bytes, verdict) = judge(alloc, &known, readers, lax, Vec::new(alloc));
-    Ok((verdict?, String::from_utf8(bytes)?))
+    let options = ExpectOptions {
+        lax,
+        lines: Lines::Json,
+    };
+    judged_as(alloc, known, inputs, options)
 }
 
 // Known failures, a report, and what is printed: first the failure that isn't known, and then what became of the known
@@ -414,6 +445,299 @@ fn judges_what_inputs_give(rt: HostRuntime) -> Result<(), Fail> {
             verdict.status() == *status && printed == expected,
             "{printed}"
         );
+        let shown = shown(alloc, &verdict.ends)?;
+        assert!(rt; shown.as_str() == *ends, "{shown}");
+    }
+    Ok(())
+}
+
+// Lines of known failures, inputs, and the lines for people.
+static READABLE: [(&[&str], &[Input], &[&str]); 9] = [
+    (
+        &[],
+        &[(A_FAILED, None)],
+        &["failed: a: x\n", numbers!(0, 1, 0, 0, 0)],
+    ),
+    (
+        &[],
+        &[(A_SILENT, None)],
+        &["failed: a\n", numbers!(0, 1, 0, 0, 0)],
+    ),
+    // Of a message the first line is printed, if it isn't empty.
+    (
+        &[],
+        &[(
+            &[
+                title!(3),
+                announced!(["k"] "b"),
+                failed!(["k"] "b", "no: 1\\nyes"),
+                announced!("c"),
+                failed!("c", ""),
+                announced!("d"),
+                failed!("d", "\\nyes"),
+                summary!("failed", 0, 3, 0, 0, 0, "0"),
+            ],
+            None,
+        )],
+        &[
+            "failed: [k] b: no: 1\n",
+            "failed: c\n",
+            "failed: d\n",
+            numbers!(0, 3, 0, 0, 0),
+        ],
+    ),
+    // Control characters are numbers, and so is a backslash that begins one. So nothing ends a line or looks like another one.
+    (
+        &[],
+        &[(
+            &[
+                title!(1),
+                announced!(["\\u001b"] "a\\n\\\\u{41}\\\"<\u{85}"),
+                failed!(["\\u001b"] "a\\n\\\\u{41}\\\"<\u{85}", "\\r\\u0007\u{2028}x\\ny"),
+                summary!("failed", 0, 1, 0, 0, 0, "0"),
+            ],
+            None,
+        )],
+        &[
+            "failed: [\\u{1b}] a\\u{a}\\u{5c}u{41}\"<\\u{85}: \\u{d}\\u{7}\\u{2028}x\n",
+            numbers!(0, 1, 0, 0, 0),
+        ],
+    ),
+    (
+        &[failed!("a", "z")],
+        &[(A_FAILED, None)],
+        &[
+            "another message, line 1 can go: a: x\n",
+            numbers!(0, 0, 0, 1, 0),
+        ],
+    ),
+    // No message is printed that didn't come.
+    (
+        &["# why\n", failed!(["k"] "a", "z")],
+        &[(A_MEASURED, None)],
+        &["passed, line 2 can go: [k] a\n", numbers!(0, 0, 1, 0, 0)],
+    ),
+    (
+        &[failed!("c", "z")],
+        &[(NONE, None)],
+        &["absent, line 1 can go: c\n", numbers!(0, 0, 0, 0, 1)],
+    ),
+    (
+        &[],
+        &[(&[title!(1), announced!(["k"] "b\\n")], None)],
+        &["running: [k] b\\u{a}\n", numbers!(0, 0, 0, 0, 0)],
+    ),
+    (
+        KNOWN,
+        &[(FINDINGS, None)],
+        &[
+            "failed: b\n",
+            "absent, line 1 can go: c\n",
+            "another message, line 3 can go: a: y\n",
+            numbers!(0, 1, 0, 1, 1),
+        ],
+    ),
+];
+
+#[test]
+fn prints_lines_for_people(rt: HostRuntime) -> Result<(), Fail> {
+    let alloc = rt.alloc();
+    let options = ExpectOptions {
+        lax: false,
+        lines: Lines::Readable,
+    };
+    for (known, inputs, expected) in &READABLE {
+        let (_, printed) = judged_as(alloc, known, inputs, options)?;
+        let expected = text_of(alloc, expected)?;
+        assert!(rt; printed == expected, "{printed}");
+    }
+    Ok(())
+}
+
+// A file, a report, and the new file.
+const OLD: &[&str] = &[
+    "# Two failures of one kind\n",
+    "\n",
+    failed!("met" @ "1.5", "x"),
+    failed!("any"),
+    "# It goes\n",
+    failed!("passed", "x"),
+    failed!("other", "x"),
+    failed!("absent"),
+    failed!(["\\u001b"] "a\\n\\\\u{41}", "x\\n# y"),
+    "#",
+];
+
+const NOW: &[&str] = &[
+    title!(7),
+    announced!("new"),
+    failed!("new" @ "2", "\\n# x\\n"),
+    announced!("other"),
+    failed!("other", "y\\nz"),
+    announced!("met"),
+    failed!("met", "x"),
+    announced!("any"),
+    failed!("any", "z"),
+    announced!("passed"),
+    passed!("passed"),
+    announced!(["\\u001b"] "a\\n\\\\u{41}"),
+    failed!(["\\u001b"] "a\\n\\\\u{41}", "x\\n# y"),
+    announced!(["k"] "new"),
+    failed!(["k"] "new"),
+    summary!("failed", 1, 6, 0, 0, 0, "0"),
+];
+
+const NEW: &[&str] = &[
+    "# Two failures of one kind\n",
+    "\n",
+    failed!("met" @ "1.5", "x"),
+    failed!("any"),
+    "# It goes\n",
+    failed!("other", "y\\nz"),
+    failed!(["\\u001b"] "a\\n\\\\u{41}", "x\\n# y"),
+    "#\n",
+    failed!("new", "\\n# x\\n"),
+    failed!(["k"] "new"),
+];
+
+// The lines of a file, inputs, whether known failures may pass, and the lines of the new file.
+static UPDATES: [(&[&str], &[Input], bool, &[&str]); 12] = [
+    (OLD, &[(NOW, None)], false, NEW),
+    (&[], &[(NONE, None)], false, &[]),
+    (
+        &[],
+        &[(Y_AND_X, None)],
+        false,
+        &[failed!("a", "y"), failed!("a", "x")],
+    ),
+    // The last line gets an end.
+    (
+        &["{ \"type\": \"test\", \"name\": \"a\", \"event\": \"failed\" }"],
+        &[(A_FAILED, None), (FINDINGS, None)],
+        false,
+        &[failed!("a"), failed!("a", "y"), failed!("b")],
+    ),
+    (&["# why"], &[(NONE, None)], false, &["# why\n"]),
+    // A failure of a known kind and name comes in its turn.
+    (
+        &[failed!("a", "x")],
+        &[(A_FAILED, None), (A_FAILED, None), (FINDINGS, None)],
+        false,
+        &[
+            failed!("a", "x"),
+            failed!("a", "x"),
+            failed!("a", "y"),
+            failed!("b"),
+        ],
+    ),
+    // What isn't judged stays.
+    (
+        &[failed!("a", "z")],
+        &[(A_IGNORED, None)],
+        false,
+        &[failed!("a", "z")],
+    ),
+    (
+        &[failed!("a", "z"), failed!("c")],
+        &[(NONE, None), (FILTERED, None)],
+        false,
+        &[failed!("a", "z"), failed!("c")],
+    ),
+    (
+        &[failed!("a", "z"), failed!("c")],
+        &[(A_FAILED, None), (FILTERED, None)],
+        false,
+        &[failed!("a", "x"), failed!("c")],
+    ),
+    (&[failed!("a")], &[(A_PASSED, None)], false, &[]),
+    // A known failure that may pass stays.
+    (&[failed!("a")], &[(A_PASSED, None)], true, &[failed!("a")]),
+    // One that is absent goes nevertheless.
+    (
+        &[failed!("c"), failed!("a", "z")],
+        &[(A_FAILED, None)],
+        true,
+        &[failed!("a", "x")],
+    ),
+];
+
+// Brings the lines of a file up to date, and returns the new text, and the verdict.
+fn updated(
+    alloc: Global,
+    lines: &[&str],
+    inputs: &[Input],
+    lax: bool,
+) -> Result<(String, UpdateVerdict), Fail> {
+    let text = text_of(alloc, lines)?;
+    let texts = texts_of(alloc, inputs)?;
+    let readers = readers_of(alloc, &texts, inputs)?;
+    let known = known_in(alloc, lines)??;
+    let (bytes, verdict) = update(alloc, text.as_str(), &known, readers, lax, Vec::new(alloc));
+    Ok((String::from_utf8(bytes)?, verdict?))
+}
+
+// By the new file nothing of the same reports is unexpected, and it stays as it is.
+#[test]
+fn brings_files_up_to_date(rt: HostRuntime) -> Result<(), Fail> {
+    let alloc = rt.alloc();
+    for (lines, inputs, lax, expected) in &UPDATES {
+        let expected = text_of(alloc, expected)?;
+        let (text, verdict) = updated(alloc, lines, inputs, *lax)?;
+        assert!(rt; verdict.is_written() && text == expected, "{text}");
+        let (verdict, printed) = judged(alloc, &[text.as_str()], inputs, *lax)?;
+        assert!(rt; verdict.status() == 0, "{printed}");
+        let (same, _) = updated(alloc, &[text.as_str()], inputs, *lax)?;
+        assert!(rt; same == text, "{same}");
+    }
+    Ok(())
+}
+
+// A writer that fails at a byte returns its fault, and has what comes before.
+#[test]
+fn updates_a_writer_that_fails(rt: HostRuntime) -> Result<(), Fail> {
+    let alloc = rt.alloc();
+    let (old, now, new) = (
+        text_of(alloc, OLD)?,
+        text_of(alloc, NOW)?,
+        text_of(alloc, NEW)?,
+    );
+    let known = read_known(alloc, old.as_bytes())?;
+    for count in 0..new.len() {
+        let inputs = vec![in alloc; Slow::of(now.as_str())]?;
+        let fault = Fault::Error(ErrorKind::StorageFull);
+        let writer = FaultyWriter::new(alloc).failing(FaultPlace::Byte(count), fault);
+        let (writer, updated) = update(alloc, old.as_str(), &known, inputs, false, writer);
+        let fault = updated.err().ok_or("written")?;
+        let shown = format!(in alloc; "{fault}")?;
+        assert!(rt; shown.as_str() == "no storage space", "{shown}");
+        let before = &new.as_bytes()[..count];
+        assert!(rt; writer.calls_after == 0 && writer.bytes.as_slice() == before);
+    }
+    Ok(())
+}
+
+// Inputs that are no whole reports, and how each ended.
+static NOT_WHOLE: [(&[Input], &str); 3] = [
+    (
+        &[(A_FAILED, None), (&[title!(1), announced!("a")], None)],
+        "whole\nthe report is cut\n",
+    ),
+    (
+        &[(&[title!(1), "what\n"], None)],
+        "line 2: not what a report has there\n",
+    ),
+    (
+        &[(NONE, None), (A_FAILED, Some(ErrorKind::BrokenPipe))],
+        "whole\nbroken pipe\n",
+    ),
+];
+
+#[test]
+fn updates_nothing_by_cut_reports(rt: HostRuntime) -> Result<(), Fail> {
+    let alloc = rt.alloc();
+    for (inputs, ends) in &NOT_WHOLE {
+        let (text, verdict) = updated(alloc, &[failed!("a")], inputs, false)?;
+        assert!(rt; !verdict.is_written() && text.is_empty(), "{text}");
         let shown = shown(alloc, &verdict.ends)?;
         assert!(rt; shown.as_str() == *ends, "{shown}");
     }

@@ -8,7 +8,7 @@ use super::reading::Slow;
 use super::times::TIMED;
 use mimic_compare::write_comparison;
 use mimic_events::{Ending, Report, Row, RowsRead, Stop, read_from, write_report};
-use mimic_expect::{write_known, write_unexpected};
+use mimic_expect::{ExpectOptions, Lines, write_known, write_unexpected};
 use mimic_join::join_reports;
 use mimic_printer::{Piece, Place, Sink, put_escaped, put_pieces};
 use mimic_reports::{
@@ -210,7 +210,11 @@ fn comparison(alloc: Global, writer: FaultyWriter) -> Written {
 // Of the first input all rows are judged, also if the writer fails in those of the second.
 fn unexpected(alloc: Global, text: &str, writer: FaultyWriter) -> Written {
     let inputs = vec![in alloc; Slow::of(text), Slow::of(text)]?;
-    written!(alloc, writer, sink => write_unexpected(alloc, &[], inputs, false, &mut sink))
+    let options = ExpectOptions {
+        lax: false,
+        lines: Lines::Readable,
+    };
+    written!(alloc, writer, sink => write_unexpected(alloc, &[], inputs, options, &mut sink))
 }
 
 fn known(alloc: Global, text: &str, writer: FaultyWriter) -> Written {

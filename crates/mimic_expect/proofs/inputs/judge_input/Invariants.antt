@@ -10,5 +10,5 @@ abbrev pub invariant-loop : goal.invariant-loop
 invariant-loop g l = record {
   ready : IsReady l.rows;
   come : (entries : List Entry) × HasCome g.I.Read.remaining (g.I.Read.remaining l.fn.input) l.rows entries
-      × Judges l.initial.judge l.judge entries l.failed (shown g.W.Write.contents l.initial.sink) (shown g.W.Write.contents l.sink);
+      × Judges l.lines l.initial.judge l.judge entries l.failed (shown g.W.Write.contents l.initial.sink) (shown g.W.Write.contents l.sink);
 }

@@ -13,5 +13,5 @@ invariant-loop-input g l = record {
   left : length l.yielded + into_iter_len l.input-iterator ≡ vec_len l.fn.inputs;
   few : l.failed ≤ length l.yielded * (2 ^ 64 - 1);
   done : (read : List InputRead) × AllZip (λ input r. IsReadOf (g.I.Read.remaining input) r) l.yielded read × (l.ends.items ≡ map (λ r. r.end) read)
-      × Judges l.initial.judge l.judge (rows_of read) l.failed (shown g.W.Write.contents l.initial.sink) (shown g.W.Write.contents l.sink);
+      × Judges l.lines l.initial.judge l.judge (rows_of read) l.failed (shown g.W.Write.contents l.initial.sink) (shown g.W.Write.contents l.sink);
 }

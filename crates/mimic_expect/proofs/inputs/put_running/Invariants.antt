@@ -5,4 +5,4 @@ use Rattle.mimic_expect.specs.FindingText.{running_text}
 use Rattle.mimic_expect.proofs.inputs.put_running.Given as goal
 
 abbrev pub invariant-loop-end : goal.invariant-loop-end
-invariant-loop-end g l = Put (shown g.W.Write.contents l.initial.sink) (shown g.W.Write.contents l.sink) (flat_map running_text (take l.end-index l.ends))
+invariant-loop-end g l = Put (shown g.W.Write.contents l.initial.sink) (shown g.W.Write.contents l.sink) (flat_map (running_text l.lines) (take l.end-index l.ends))

@@ -11,12 +11,12 @@ use Rattle.mimic_expect.proofs.inputs.write_unexpected.Goals.{then-failed-gt0, e
 
 pub returns-in_err-judge-clause-verdict : goal.returns-in_err-judge-clause-verdict
 returns-in_err-judge-clause-verdict g c =
-    memory_left g.I.Read.remaining (map expected_read c.args.known.now) c.args.inputs.items c.args.lax _ _ c.from_residual.result []
+    memory_left g.I.Read.remaining (map expected_read c.args.known.now) c.args.inputs.items c.args.options _ _ c.from_residual.result []
     c.from_residual.ensures.1 (none_read g.I.Read.remaining c.args.inputs.items) (Put-refl _)
 
 pub returns-in_err-failed-clause-verdict : goal.returns-in_err-failed-clause-verdict
 returns-in_err-failed-clause-verdict g c =
-    rows_left_by g.I.Read.remaining (map expected_read c.args.known.now) c.args.inputs.items c.args.lax _ _ c.from_residual-in_err-failed.result
+    rows_left_by g.I.Read.remaining (map expected_read c.args.known.now) c.args.inputs.items c.args.options _ _ c.from_residual-in_err-failed.result
     c.in_err-failed.field-0.0 _ (ap (λ (j : Judged). j.known) c.in_ok-judge.ensures) c.from_residual-in_err-failed.ensures.1 c.in_err-failed.ensures
 
 pub returns-in_err-judgement-clause-verdict : goal.returns-in_err-judgement-clause-verdict
@@ -24,7 +24,7 @@ returns-in_err-judgement-clause-verdict g c =
     let known = map expected_read c.args.known.now in
     let inputs = c.args.inputs.items in
     let came = c.in_ok-failed.ensures in
-    memory_left g.I.Read.remaining known inputs c.args.lax _ _ c.from_residual-in_err-judgement.result (rows_of came.0)
+    memory_left g.I.Read.remaining known inputs c.args.options _ _ c.from_residual-in_err-judgement.result (rows_of came.0)
     c.from_residual-in_err-judgement.ensures.1
     (inputs_read g.I.Read.remaining inputs inputs [] came.0 (sym (append-nil inputs)) came.1)
     (lines_put known c.in_ok-judge.judge c.judge_inputs.new.judge (rows_of came.0) c.in_ok-failed.failed _ _ c.in_ok-judge.ensures came.3)
@@ -33,25 +33,25 @@ pub returns-in_err-put_judgement-clause-verdict : goal.returns-in_err-put_judgem
 returns-in_err-put_judgement-clause-verdict g c =
     let known = map expected_read c.args.known.now in
     let came = c.in_ok-failed.ensures in
-    let whole = whole_text known c.in_ok-judge.judge c.judge_inputs.new.judge came.0 _ _ c.in_ok-failed.ends.items _ c.in_ok-failed.failed c.in_ok-judgement.judgement _ _
+    let whole = whole_text known c.in_ok-judge.judge c.judge_inputs.new.judge came.0 _ _ c.in_ok-failed.ends.items _ c.in_ok-failed.failed c.in_ok-judgement.judgement c.args.options.lines _ _
     c.in_ok-judge.ensures came.3 c.have_all.ensures c.deref.ensures.value c.deref-2.ensures.value came.2 c.in_ok-judgement.ensures.unexpected c.in_ok-judgement.ensures.met in
-    write_left g.I.Read.remaining known c.args.inputs.items c.args.lax _ _ c.from_residual-in_err-put_judgement.result c.in_err-put_judgement.field-0.0 came.0
+    write_left g.I.Read.remaining known c.args.inputs.items c.args.options _ _ c.from_residual-in_err-put_judgement.result c.in_err-put_judgement.field-0.0 came.0
     c.from_residual-in_err-put_judgement.ensures.1 came.1 (subst (Stopped _ _) whole.1 (Put-Stopped _ _ whole.0 c.in_err-put_judgement.ensures))
 
 pub returns-in_err-flush-clause-verdict : goal.returns-in_err-flush-clause-verdict
 returns-in_err-flush-clause-verdict g c =
     let known = map expected_read c.args.known.now in
     let came = c.in_ok-failed.ensures in
-    let whole = whole_text known c.in_ok-judge.judge c.judge_inputs.new.judge came.0 _ _ c.in_ok-failed.ends.items _ c.in_ok-failed.failed c.in_ok-judgement.judgement _ _
+    let whole = whole_text known c.in_ok-judge.judge c.judge_inputs.new.judge came.0 _ _ c.in_ok-failed.ends.items _ c.in_ok-failed.failed c.in_ok-judgement.judgement c.args.options.lines _ _
     c.in_ok-judge.ensures came.3 c.have_all.ensures c.deref.ensures.value c.deref-2.ensures.value came.2 c.in_ok-judgement.ensures.unexpected c.in_ok-judgement.ensures.met in
-    write_left g.I.Read.remaining known c.args.inputs.items c.args.lax _ _ c.from_residual-in_err-flush.result c.in_err-flush.field-0.0 came.0
+    write_left g.I.Read.remaining known c.args.inputs.items c.args.options _ _ c.from_residual-in_err-flush.result c.in_err-flush.field-0.0 came.0
     c.from_residual-in_err-flush.ensures.1 came.1 (subst (Stopped _ _) whole.1 (Stopped_after _ (Put-trans _ _ whole.0 c.in_ok-put_judgement.ensures) c.in_err-flush.ensures))
 
 pub returns-clause-verdict : goal.returns-clause-verdict
 returns-clause-verdict g c =
     let known = map expected_read c.args.known.now in
     let came = c.in_ok-failed.ensures in
-    let whole = whole_text known c.in_ok-judge.judge c.judge_inputs.new.judge came.0 _ _ c.in_ok-failed.ends.items _ c.in_ok-failed.failed c.in_ok-judgement.judgement _ _
+    let whole = whole_text known c.in_ok-judge.judge c.judge_inputs.new.judge came.0 _ _ c.in_ok-failed.ends.items _ c.in_ok-failed.failed c.in_ok-judgement.judgement c.args.options.lines _ _
     c.in_ok-judge.ensures came.3 c.have_all.ensures c.deref.ensures.value c.deref-2.ensures.value came.2 c.in_ok-judgement.ensures.unexpected c.in_ok-judgement.ensures.met in
     let begun = c.in_ok-judge.ensures in
     let failed = c.in_ok-failed.failed in
@@ -65,7 +65,7 @@ returns-clause-verdict g c =
       ends = came.2;
       put = subst (Put _ _) whole.1 (Put_after _ (Put-trans _ _ whole.0 c.in_ok-put_judgement.ensures) c.in_ok-flush.ensures);
       unexpected = elim c.if-failed-gt0.branch [
-        | then-failed-gt0 w ↦ w.result-is ∙ some_counts known c.in_ok-judge.judge new rows (have_all came.0) failed judgement begun came.3 says c.args.lax w.if-failed-gt0.true
-        | else-failed-gt0 w ↦ w.result-is ∙ rest_counts known c.in_ok-judge.judge new rows (have_all came.0) failed judgement begun came.3 says c.args.lax w.is_unexpected.result w.if-failed-gt0.false w.is_unexpected.ensures
+        | then-failed-gt0 w ↦ w.result-is ∙ some_counts known c.in_ok-judge.judge new rows (have_all came.0) failed judgement begun came.3 says c.args.options.lax w.if-failed-gt0.true
+        | else-failed-gt0 w ↦ w.result-is ∙ rest_counts known c.in_ok-judge.judge new rows (have_all came.0) failed judgement begun came.3 says c.args.options.lax w.is_unexpected.result w.if-failed-gt0.false w.is_unexpected.ensures
       ];
     }

@@ -5,6 +5,4 @@ pub returns-in_err-put : goal.returns-in_err-put
 returns-in_err-put g c = rw c.in-Some.is (Puts-stopped _ _ c.from_residual.ensures.0 (Stopped-more _ _ c.in_err-put.ensures.appends))
 
 pub returns : goal.returns
-returns g c =
-    rw (c.in-Some.is, ← c.as_str.ensures.value, ← c.as_str-2.ensures.value)
-    (Puts_then _ _ _ _ _ c.put_announcement.result c.in_ok-put.ensures.appends c.put_announcement.ensures)
+returns g c = rw c.in-Some.is (Puts_then _ _ _ _ _ c.put_announced.result c.in_ok-put.ensures.appends c.put_announced.ensures)

@@ -24,7 +24,7 @@ returns-in_err-put g c =
     let known = c.self.inside.known.now in
     let has = known_labels known (entry_read c.args.row) ∙ (sym (c.self.invariant (Trial (at_row c.args.row))) ∙ (sym c.contains.ensures ∙ c.if-contains.false)) in
     on_error _ (Write c.in_err-put.field-0.0) _ _ c.from_residual-in_err-put.ensures.1
-    (row_stopped c.args.self.now known c.self.inside.rows.items c.args.row c.in-Failed.field-0 _ _ (sym c.self.view_is) has c.in-Failed.is c.in_err-put.ensures)
+    (row_stopped c.args.lines c.args.self.now known c.self.inside.rows.items c.args.row c.in-Failed.field-0 _ _ (sym c.self.view_is) has c.in-Failed.is c.in_err-put.ensures)
 
 pub returns : goal.returns
 returns g c =

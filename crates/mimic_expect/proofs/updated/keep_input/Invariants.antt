@@ -1,0 +1,12 @@
+-- Of the rows that have come those were kept that matter.
+use Rattle.std.proofs.Common.{List}
+use Rattle.mimic_printer.specs.Json.{Entry}
+use Rattle.mimic_events.specs.RowByRow.{HasCome, IsReady}
+use Rattle.mimic_expect.specs.JudgedRows.{Keeps}
+use Rattle.mimic_expect.proofs.updated.keep_input.Given as goal
+
+abbrev pub invariant-loop : goal.invariant-loop
+invariant-loop g l = record {
+  ready : IsReady l.rows;
+  come : (entries : List Entry) × HasCome g.I.Read.remaining (g.I.Read.remaining l.fn.input) l.rows entries × Keeps l.initial.judge l.judge entries;
+}

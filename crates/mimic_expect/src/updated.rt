@@ -1,0 +1,281 @@
+//! Brings files of known failures up to date.
+ghost use Rattle.std.specs.Prelude.{◌≡◌, ◌∷◌, [], ◌++◌, ℕ, IfOk, IfSome, List, filter, map};
+ghost use Rattle.std.specs.List.{AllZip, flat_map, list_all};
+ghost use Rattle.std.specs.Option.{option_copied, option_map};
+ghost use Rattle.mimic_printer.specs.Json.{Entry};
+ghost use Rattle.mimic_printer.specs.Sink.{HasFaultLeft, Puts, shown};
+ghost use Rattle.mimic_expect.specs.Changes.{HasChanges, read_at};
+ghost use Rattle.mimic_expect.specs.Expect.{counts};
+ghost use Rattle.mimic_expect.specs.JudgedRows.{Keeps};
+ghost use Rattle.mimic_expect.specs.JudgementText.{finding_read};
+ghost use Rattle.mimic_expect.specs.Known.{expected_read, lines_of, says_nothing};
+ghost use Rattle.mimic_expect.specs.Updated.{line_of, replaced_by, updated_text, LeavesUpdate, UpdateLaws, added_line, kept_line, kept_lines, update_text};
+ghost use Rattle.mimic_expect.specs.Verdict.{InputRead, IsReadOf, ends_of, is_whole, rows_of, Reads};
+
+use crate::judge::Judge;
+use crate::judgement::Unexpected;
+use crate::known::{Expectation, first_line};
+use crate::unexpected::put_row;
+use crate::verdict::{InputEnd, have_all};
+use mimic_events::{InputRows, ReadFault};
+use mimic_printer::{OutputFault, Sink, WriteFault};
+use std::alloc::{AllocError, Global};
+use std::collections::HashMap;
+use std::io::{ErrorKind, Read, Write};
+
+/// What was read to bring a file of known failures up to date.
+#[derive(Debug, Drop)]
+pub struct UpdateVerdict {
+    /// How each input ended, in their order.
+    pub ends: Vec<InputEnd>,
+}
+
+impl UpdateVerdict {
+    /// Whether each input was a whole report, so that the new text was written.
+    pub fn is_written(&self) -> bool
+        ensures { result ≡ list_all is_whole self.now.ends.items }
+    {
+        self.ends.iter().all(|end| end.is_whole())
+    }
+}
+
+/// Writes the text of a file of known failures as reports have it now, and flushes it. `text` is the old one, and `known` what
+/// [`read_known`](crate::read_known) returns for it.
+///
+/// What becomes of a line is what [`write_unexpected`](crate::write_unexpected) finds about it. Comments, empty lines, and the lines
+/// of known failures about which nothing is found stay as they are. If a failure has another message now, the line that
+/// [`write_known`](crate::write_known) writes of it takes the place of the old one. The line of a trial that passed goes, but with
+/// `lax` it stays. That of an absent trial goes. Behind them come the lines of the failures that are not known, in the order of the
+/// reports. If the last line of the old text has no end, it gets one.
+///
+/// Failures and rows of known kinds and names are kept meanwhile, and no others.
+///
+/// If an input is no whole report, nothing is written: the verdict says how each ended. Without memory nothing was written either,
+/// and with a fault of the writer a beginning.
+#[tactic(auto, using(crate::proofs::UpdatedTexts::update_laws))]
+pub fn write_updated<I: Read + Drop, W: Write>(
+    alloc: Global,
+    text: &[u8],
+    known: &[Expectation],
+    inputs: Vec<I>,
+    lax: bool,
+    sink: &mut Sink<W>,
+) -> Result<UpdateVerdict, OutputFault>
+    requires { HasFaultLeft sink.old }
+    ensures update { LeavesUpdate I.remaining inputs.items
+        (λ read. update_text text.now (map expected_read known.now) read lax)
+        (shown W.contents sink.old) (shown W.contents sink.new) result }
+
+    // What the findings are about, and what the new text says.
+    ensures laws { UpdateLaws }
+{
+    let mut judge = Judge::new(alloc, known)?;
+    let ends = keep_inputs(alloc, inputs, &mut judge)?;
+    let verdict = UpdateVerdict { ends };
+    if !verdict.is_written() {
+        return Ok(verdict);
+    }
+    let judgement = judge.finish(alloc, have_all(&verdict.ends))?;
+    let found = counting(alloc, &judgement.unexpected, lax)?;
+    let changes = changes_of(alloc, &found)?;
+    put_updated(sink, text, &found, &changes)?;
+    Ok(verdict)
+}
+
+// Gives the judge the rows of the inputs that matter, and returns how each ended.
+fn keep_inputs<I: Read + Drop>(
+    alloc: Global,
+    inputs: Vec<I>,
+    judge: &mut Judge<'_>,
+) -> Result<Vec<InputEnd>, AllocError>
+    ensures { IfOk result (λ ends. (read : List InputRead)
+        × AllZip (λ input r. IsReadOf (I.remaining input) r) inputs.items read
+        × (ends.items ≡ ends_of read) × Keeps judge.old judge.new (rows_of read)) }
+{
+    let mut ends = Vec::new(alloc);
+    for input in inputs {
+        let end = keep_input(alloc, input, judge)?;
+        ends.push(end)?;
+    }
+    Ok(ends)
+}
+
+// Gives the judge the rows of an input that matter, and returns how it ended.
+fn keep_input<I: Read + Drop>(
+    alloc: Global,
+    input: I,
+    judge: &mut Judge<'_>,
+) -> Result<InputEnd, AllocError>
+    ensures { IfOk result (λ end. (entries : List Entry) × IfSome (I.remaining input) (Reads entries end)
+        × Keeps judge.old judge.new entries) }
+{
+    let mut rows = InputRows::new(alloc, input)?;
+    for _ in 0..u64::MAX {
+        match rows.next_row() {
+            Ok(Some(row)) => judge.keep(row)?,
+            Ok(None) => return Ok(InputEnd::Ended(rows.finish()?)),
+            Err(ReadFault::Input(error)) => return Ok(InputEnd::Failed(error)),
+            // Reading rows has no other fault.
+            Err(_) => return Err(AllocError),
+        }
+    }
+    Ok(InputEnd::Failed(ErrorKind::Other.into()))
+}
+
+// Returns what counts of what is unexpected.
+fn counting<'a>(
+    alloc: Global,
+    unexpected: &[Unexpected<'a>],
+    lax: bool,
+) -> Result<Vec<Unexpected<'a>>, AllocError>
+    ensures { IfOk result (λ found. found.items
+        ≡ filter (λ found. counts lax (finding_read found)) unexpected.now) }
+{
+    unexpected
+        .iter()
+        .copied()
+        .filter(|found| found.counts(lax))
+        .collect(alloc)
+}
+
+// Returns what was found about lines, to be found by their numbers.
+fn changes_of<'a>(
+    alloc: Global,
+    found: &[Unexpected<'a>],
+) -> Result<HashMap<usize, Unexpected<'a>>, AllocError>
+    ensures { IfOk result (λ changes. HasChanges changes (map finding_read found.now)) }
+{
+    let mut changes = HashMap::new(alloc);
+    for one in found {
+        if let Some(line) = one.line() {
+            changes.insert(line, *one)?;
+        }
+    }
+    Ok(changes)
+}
+
+// Writes the new text, and flushes it.
+fn put_updated<'a, W: Write>(
+    sink: &mut Sink<W>,
+    text: &[u8],
+    found: &[Unexpected<'a>],
+    changes: &HashMap<usize, Unexpected<'a>>,
+) -> Result<(), WriteFault>
+    requires fault { HasFaultLeft sink.old }
+    requires changes { HasChanges changes.now (map finding_read found.now) }
+    ensures { Puts W.contents sink.old sink.new
+        (updated_text text.now (map finding_read found.now)) result }
+{
+    put_kept(sink, text, changes)?;
+    put_added(sink, found)?;
+    sink.flush()
+}
+
+// Writes what becomes of the lines of the text.
+fn put_kept<'a, W: Write>(
+    sink: &mut Sink<W>,
+    text: &[u8],
+    changes: &HashMap<usize, Unexpected<'a>>,
+) -> Result<(), WriteFault>
+    requires { HasFaultLeft sink.old }
+    ensures { Puts W.contents sink.old sink.new
+        (kept_lines (read_at changes.now) 1 (lines_of text.now)) result }
+{
+    let mut rest = text;
+    let mut number = 1;
+    while let Some((line, after)) = first_line(rest) {
+        put_kept_line(sink, without_end(line), changes.get(&number))?;
+        number += 1;
+        rest = after;
+    }
+    if rest.is_empty() {
+        return Ok(());
+    }
+    put_kept_line(sink, rest, changes.get(&number))
+}
+
+// Returns the line without its end.
+fn without_end(line: &[u8]) -> &[u8]
+    ensures { (front : List ℕ) → line.now ≡ front ++ 10 ∷ [] → result.now ≡ front }
+{
+    &line[..line.len().saturating_sub(1)]
+}
+
+// Writes what becomes of a line, by what was found about it. It has no end, and gets one.
+fn put_kept_line<'a, W: Write>(
+    sink: &mut Sink<W>,
+    line: &[u8],
+    found: Option<&Unexpected<'a>>,
+) -> Result<(), WriteFault>
+    requires { HasFaultLeft sink.old }
+    ensures { Puts W.contents sink.old sink.new
+        (kept_line line.now (option_map finding_read (option_copied found.entry))) result }
+{
+    match found {
+        Some(found) if !says_nothing(line) => put_replacement(sink, found),
+        _ => put_line(sink, line),
+    }
+}
+
+// Writes the line, and its end.
+fn put_line<W: Write>(sink: &mut Sink<W>, line: &[u8]) -> Result<(), WriteFault>
+    requires { HasFaultLeft sink.old }
+    ensures { Puts W.contents sink.old sink.new (line.now ++ 10 ∷ []) result }
+{
+    sink.put(line)?;
+    sink.put(b"\n")
+}
+
+// Whether the line, which has no end, is empty or a comment.
+fn says_nothing(line: &[u8]) -> bool
+    ensures { result ≡ says_nothing line.now }
+{
+    matches!(line, [] | [b'#', ..])
+}
+
+// Writes what stands in the place of a line about which this was found.
+fn put_replacement<W: Write>(sink: &mut Sink<W>, found: &Unexpected<'_>) -> Result<(), WriteFault>
+    requires { HasFaultLeft sink.old }
+    ensures { Puts W.contents sink.old sink.new (replaced_by (finding_read found.now)) result }
+{
+    match found {
+        Unexpected::AnotherMessage { row, .. } => put_row(sink, row),
+        Unexpected::Failed(_) | Unexpected::Passed(_) | Unexpected::Absent(_) => Ok(()),
+    }
+}
+
+// Writes the lines of the failures that are not known.
+fn put_added<W: Write>(sink: &mut Sink<W>, found: &[Unexpected<'_>]) -> Result<(), WriteFault>
+    requires { HasFaultLeft sink.old }
+    ensures { Puts W.contents sink.old sink.new
+        (flat_map (λ one. added_line (finding_read one)) found.now) result }
+{
+    for one in found {
+        put_added_line(sink, one)?;
+    }
+    Ok(())
+}
+
+fn put_added_line<W: Write>(sink: &mut Sink<W>, found: &Unexpected<'_>) -> Result<(), WriteFault>
+    requires { HasFaultLeft sink.old }
+    ensures { Puts W.contents sink.old sink.new (added_line (finding_read found.now)) result }
+{
+    match found {
+        Unexpected::Failed(row) => put_row(sink, row),
+        Unexpected::AnotherMessage { .. } | Unexpected::Passed(_) | Unexpected::Absent(_) => Ok(()),
+    }
+}
+
+impl Unexpected<'_> {
+    // The number of the line that it is about.
+    fn line(&self) -> Option<usize>
+        ensures { result ≡ line_of (finding_read self.now) }
+    {
+        match self {
+            Unexpected::Failed(_) => None,
+            Unexpected::AnotherMessage { expectation, .. }
+            | Unexpected::Passed(expectation)
+            | Unexpected::Absent(expectation) => Some(expectation.line),
+        }
+    }
+}
