@@ -1,5 +1,5 @@
 -- Which benchmarks and trials take another time in a new report than in an old one (our own).
-use Rattle.std.specs.Prelude.{ℕ, ◌*◌, ◌==◌, ◌&&◌, ◌||◌, Bool, nat_le, nat_lt, if◌then◌else◌, List, [], ◌∷◌, ◌++◌, IsPermutation, Option, Some}
+use Rattle.std.specs.Prelude.{ℕ, ◌*◌, ◌==◌, ◌&&◌, ◌||◌, Bool, nat_le, nat_lt, if◌then◌else◌, List, [], ◌∷◌, ◌++◌, IsPermutation, Option, None, Some, option_to_list}
 use Rattle.std.specs.List.{flat_map}
 use Rattle.std.specs.List.Sorted.{IsSortedBy, IsStableBy}
 use Rattle.std.specs.Int.{abs_diff}
@@ -33,9 +33,27 @@ stands_out old new = nat_lt old.variance (abs_diff old.avg new.avg) && nat_lt ne
 abbrev pub is_noticeable : ℕ → ℕ → Bool
 is_noticeable old new = nat_le 10000000 (abs_diff old new)
 
+-- the one element of a list, if it has no other
+abbrev pub only : {X : Type 0} → List X → Option X
+only [] = None
+only (x ∷ []) = Some x
+only (x ∷ (y ∷ xs)) = None
+
+abbrev pub measurement_of : Outcome → List Measurement
+measurement_of (outcome.Measured m) = m ∷ []
+measurement_of other = []
+
+-- what was measured in the rows
+abbrev pub measurements : List Fate → List Measurement
+measurements fates = flat_map (λ fate. measurement_of fate.outcome) fates
+
+-- the times that the rows have
+abbrev pub times_taken : List Fate → List ℕ
+times_taken fates = flat_map (λ fate. option_to_list fate.nanos) fates
+
 -- the change of a benchmark's average, if it is beyond the factor and stands out
-abbrev pub average_changes : ℕ → Label → Outcome → Outcome → List Change
-average_changes factor label (outcome.Measured old) (outcome.Measured new) = if is_beyond factor old.avg new.avg && stands_out old new
+abbrev pub average_changes : ℕ → Label → Option Measurement → Option Measurement → List Change
+average_changes factor label (Some old) (Some new) = if is_beyond factor old.avg new.avg && stands_out old new
     then record { label = label; quantity = Average; old = old.avg; new = new.avg } ∷ [] else []
 average_changes factor label old new = []
 
@@ -45,14 +63,11 @@ time_changes factor label (Some old) (Some new) = if is_beyond factor old new &&
     then record { label = label; quantity = Time; old = old; new = new } ∷ [] else []
 time_changes factor label old new = []
 
--- the changes of a kind and a name with one row in each report
-abbrev pub row_changes : ℕ → Label → List Fate → List Fate → List Change
-row_changes factor label (old ∷ []) (new ∷ []) =
-    average_changes factor label old.outcome new.outcome ++ time_changes factor label old.nanos new.nanos
-row_changes factor label old new = []
-
+-- the changes of a kind and a name: of the average if it was measured once in each report, and of the time if one row in each has a
+-- time
 abbrev pub changes_of : ℕ → Compared → List Change
-changes_of factor c = row_changes factor c.label c.old c.new
+changes_of factor c = average_changes factor c.label (only (measurements c.old)) (only (measurements c.new))
+    ++ time_changes factor c.label (only (times_taken c.old)) (only (times_taken c.new))
 
 -- the changes of all kinds and names
 abbrev pub changes_in : ℕ → List Compared → List Change

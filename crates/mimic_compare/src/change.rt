@@ -1,11 +1,10 @@
 //! Finds benchmarks and trials that take another time in a new report than in an old one.
 ghost use Rattle.std.specs.Prelude.{◌≡◌, ◌++◌, IfOk, OnOk, option_to_list};
-ghost use Rattle.std.specs.Ordering.{is_lt};
-ghost use Rattle.mimic_compare.specs.Changes.{AreRanked, average_changes, changes_in, changes_of, is_beyond, is_greater, is_slower, numerator, time_changes};
+ghost use Rattle.mimic_compare.specs.Changes.{AreRanked, average_changes, changes_in, changes_of, is_beyond, measurements, only, time_changes, times_taken};
 
 use crate::fates::{KeptFate, Named};
 use crate::trials::Comparison;
-use mimic_trial::Outcome;
+use mimic_trial::Measurement;
 use std::alloc::{AllocError, Global};
 use std::cmp::Ordering;
 use std::marker::Model;
@@ -72,17 +71,48 @@ fn is_beyond(factor: u64, old: u64, new: u64) -> bool
     factor * old < 100 * new || factor * new < 100 * old
 }
 
-// Returns the change of a benchmark's average, if there is one that counts.
-fn average_change<'a>(
-    factor: u64,
-    label: &'a Named,
-    old: &KeptFate,
-    new: &KeptFate,
-) -> Option<Change<'a>>
-    ensures { option_to_list result ≡ average_changes factor label.now old.now.outcome new.now.outcome }
+// Returns what was measured if that was once.
+fn only_measurement(fates: &[KeptFate]) -> Option<Measurement>
+    ensures { result ≡ only (measurements fates.now) }
 {
-    let (Some(Outcome::Measured(old)), Some(Outcome::Measured(new))) = (old.other(), new.other())
-    else {
+    let mut found = None;
+    for fate in fates {
+        if let Some(measurement) = fate.measurement() {
+            if found.is_some() {
+                return None;
+            }
+            found = Some(measurement);
+        }
+    }
+    found
+}
+
+// Returns the time if one row has one.
+fn only_time(fates: &[KeptFate]) -> Option<u64>
+    ensures { result ≡ only (times_taken fates.now) }
+{
+    let mut found = None;
+    for fate in fates {
+        if let Some(nanos) = fate.nanos() {
+            if found.is_some() {
+                return None;
+            }
+            found = Some(nanos);
+        }
+    }
+    found
+}
+
+// Returns the change of a benchmark's average, if there is one that counts.
+fn average_change(
+    factor: u64,
+    label: &Named,
+    old: Option<Measurement>,
+    new: Option<Measurement>,
+) -> Option<Change<'_>>
+    ensures { option_to_list result ≡ average_changes factor label.now old new }
+{
+    let (Some(old), Some(new)) = (old, new) else {
         return None;
     };
     let distance = old.avg.abs_diff(new.avg);
@@ -102,15 +132,10 @@ fn average_change<'a>(
 const NOTICEABLE: u64 = 10_000_000;
 
 // Returns the change of a trial's time, if there is one that counts.
-fn time_change<'a>(
-    factor: u64,
-    label: &'a Named,
-    old: &KeptFate,
-    new: &KeptFate,
-) -> Option<Change<'a>>
-    ensures { option_to_list result ≡ time_changes factor label.now old.now.nanos new.now.nanos }
+fn time_change(factor: u64, label: &Named, old: Option<u64>, new: Option<u64>) -> Option<Change<'_>>
+    ensures { option_to_list result ≡ time_changes factor label.now old new }
 {
-    let (Some(old), Some(new)) = (old.nanos(), new.nanos()) else {
+    let (Some(old), Some(new)) = (old, new) else {
         return None;
     };
     if is_beyond(factor, old, new) && NOTICEABLE <= old.abs_diff(new) {
@@ -134,16 +159,15 @@ fn add_changes<'a>(
     ensures { OnOk result (changes.new.items ≡ changes.old.items ++ changes_of factor comparison.now) }
 {
     let label = comparison.label;
-    let ([old], [new]) = (
+    let (old, new) = (
         comparison.fates.old.as_slice(),
         comparison.fates.new.as_slice(),
-    ) else {
-        return Ok(());
-    };
-    if let Some(change) = average_change(factor, label, old, new) {
+    );
+    let (average, time) = (only_measurement(old), only_time(old));
+    if let Some(change) = average_change(factor, label, average, only_measurement(new)) {
         changes.push(change)?;
     }
-    if let Some(change) = time_change(factor, label, old, new) {
+    if let Some(change) = time_change(factor, label, time, only_time(new)) {
         changes.push(change)?;
     }
     Ok(())

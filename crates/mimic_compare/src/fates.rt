@@ -1,11 +1,12 @@
 //! What the rows of a kind and a name say, as it is kept.
-ghost use Rattle.std.specs.Prelude.{◌≡◌, ◌++◌, ◌∷◌, [], IfOk, MatchOption, OnOk, false, unwrap_or};
+ghost use Rattle.std.specs.Prelude.{◌≡◌, ◌++◌, ◌∷◌, [], IfOk, MatchOption, OnOk, false, option_to_list, unwrap_or};
 ghost use Rattle.std.specs.Option.{option_copied};
 ghost use Rattle.mimic_trial.specs.Count.{is_failed};
 ghost use Rattle.mimic_trial.specs.declared.outcome.Outcome.TheVariants as outcome;
+ghost use Rattle.mimic_compare.specs.Changes.{measurement_of};
 ghost use Rattle.mimic_compare.specs.Trials.{both, with_fate};
 
-use mimic_trial::{Failed, Outcome};
+use mimic_trial::{Failed, Measurement, Outcome};
 use std::alloc::{AllocError, Global};
 use std::hash::{Hash, Hasher};
 use std::marker::Model;
@@ -115,6 +116,16 @@ impl KeptFate {
     {
         match self.other() {
             Some(Outcome::Failed(failed)) => Some(failed),
+            _ => None,
+        }
+    }
+
+    // Returns what was measured, if anything was.
+    pub(crate) fn measurement(&self) -> Option<Measurement>
+        ensures { option_to_list result ≡ measurement_of self.now.outcome }
+    {
+        match self.other() {
+            Some(Outcome::Measured(measurement)) => Some(*measurement),
             _ => None,
         }
     }

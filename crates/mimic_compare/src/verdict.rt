@@ -17,7 +17,7 @@ use std::io::{Read, Write};
 /// What of a comparison is printed.
 #[derive(Clone, Copy, Debug, PartialEq, Eq)]
 pub struct ComparisonOptions {
-    /// The factor by which a time is slower or faster than before, in hundredths: 125 is 1.25. Below 100 it counts as no factor.
+    /// By what factor, in hundredths, a time must change to be printed: 125 is 1.25. With 100 or less no factor is too small.
     pub slower: u64,
     /// Whether kinds and names have lines that were not run in one report, since it is cut or trials were filtered out of it.
     pub lists_not_run: bool,
@@ -57,22 +57,23 @@ impl ComparisonVerdict {
 /// Compares two reports by kind and name, prints what became of each, and flushes it.
 ///
 /// Each kind and name is of the first [`Class`] that fits. The lines come class by class, and within a class in the order of the old
-/// report and then of the new one. `NotRun` and `NotRunBefore` have lines only if the options say so, and `StillFailing` and
-/// `Unchanged` have none. The lines of `Regressed` and `AnotherMessage` end with the first line of the message of the first failure
-/// in the new report.
+/// report and then of the new one. `StillFailing` and `Unchanged` have no lines, and `NotRun` and `NotRunBefore` have them only if the
+/// options say so. A line of `Regressed` or `AnotherMessage` ends with the first line of the message of the first failure in the new
+/// report.
 ///
-/// After them come the benchmarks and the times that changed by more than the factor, the greatest ratio of the new number to the
-/// old one first, and equal ratios in the order of the old report and then of the new one. Only kinds and names with one row in each
-/// report are compared so. Averages must also differ by more than either deviation, and times by ten milliseconds or more.
+/// After them come the averages and the times that changed by more than the factor, the greatest ratio of the new number to the old
+/// one first, and equal ratios in the order of the old report and then of the new one. An average is compared if the kind and the
+/// name were measured once in each report, and a time if one row of them in each report has one. Averages must also differ by more
+/// than either deviation, and times by ten milliseconds or more.
 ///
-/// The last line has the numbers of all classes, and how many are slower and faster. Control characters of names and messages are
-/// shown by their numbers, so that none of them ends a line.
+/// The last line has the numbers of all classes, and how many averages and times are slower and faster. Control characters of names
+/// and messages are shown by their numbers, so that none of them ends a line.
 ///
 /// A kind and a name can be missing or new only if both inputs are whole reports and nothing was filtered out of them. If an input
 /// fails or is cut, the rows are compared that have ended, and the verdict says how each input ended.
 ///
-/// What is kept of a row is its outcome and its time, and of all rows of a kind and a name these once. Time and memory are in
-/// proportion to the rows. If memory ran out, nothing was written. After a write fault, a beginning of the whole was written.
+/// Each kind and name is kept once, with the outcomes and the times of its rows. Time and memory are in proportion to the rows. If
+/// memory ran out, nothing was written. After a write fault, a beginning of the whole was written.
 #[tactic(auto, using(crate::proofs::Laws::comparison_laws))]
 pub fn write_comparison<I: Read + Drop, W: Write>(
     alloc: Global,

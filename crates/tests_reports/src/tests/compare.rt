@@ -264,7 +264,7 @@ static WHOLE: [Case; 17] = [
         1,
     ),
     (QUICK, SLOW, 0, SLOWED, 0, 7),
-    // Times of a name that has two rows in a report are not compared.
+    // A time is compared only if one row of the name has one.
     (
         QUICK,
         &[
