@@ -15,11 +15,11 @@ use Rattle.mimic_printer.specs.Json.{Entry}
 use Rattle.mimic_printer.specs.Row.{Label}
 use Rattle.mimic_events.specs.Key.{same_label}
 use Rattle.mimic_events.proofs.Keys.{same_label-decides, same_label-symm}
-use Rattle.mimic_events.specs.declared.rows_read.RowsRead.{RowsRead}
 use Rattle.mimic_printer.proofs.EscapeLaws.{lines_have_no_control}
 use Rattle.mimic_compare.specs.Classes.{Compared, compared, comparisons, distinct, labels_in}
+use Rattle.mimic_compare.specs.Fates.{fates_with}
 use Rattle.mimic_compare.specs.Text.{place_of, same_class}
-use Rattle.mimic_compare.specs.Written.{ArePartitioned, ComparisonLaws, SaysWorse, found_in, is_worse, labels_of, stands_in, verdict_of}
+use Rattle.mimic_compare.specs.Written.{ArePartitioned, ComparisonLaws, InputRead, SaysWorse, found_in, is_whole, is_worse, labels_of, stands_in, verdict_of}
 use Rattle.mimic_compare.specs.declared.class.Class.{Class}
 use Rattle.mimic_compare.specs.declared.class.Class.TheVariants.{Regressed, Missing}
 use Rattle.mimic_compare.specs.declared.verdict.ComparisonVerdict.{ComparisonVerdict}
@@ -36,7 +36,7 @@ apart (label ∷ labels) =
     (All-weaker (λ other. others other ≡ true) (λ other. label ≢ other) differs (filter others (distinct labels)) (filter_passes others (distinct labels)))
     (AllPairs-filter (λ a b. a ≢ b) others (distinct labels) (apart labels))
 
-distinct_stand : (label : Label) (labels : List Label) → stands_in label (distinct labels) ≡ stands_in label labels
+pub distinct_stand : (label : Label) (labels : List Label) → stands_in label (distinct labels) ≡ stands_in label labels
 distinct_stand label [] = refl
 distinct_stand label (first ∷ labels) =
     let kept : (other : Label) → same_label label other ≡ true → not (same_label first other) ≡ not (same_label first label) =
@@ -50,15 +50,10 @@ distinct_stand label (first ∷ labels) =
     at true b = refl
     at false b = refl
 
-labels_compared : (judged : Bool) (old new : List Entry) (labels : List Label) → labels_of (map (compared judged old new) labels) ≡ labels
+labels_compared : (judged : Bool) (old new : List Entry) (labels : List Label)
+    → labels_of (map (λ label. compared judged label (fates_with label old) (fates_with label new)) labels) ≡ labels
 labels_compared judged old new [] = refl
 labels_compared judged old new (label ∷ labels) = ap (λ (l : List Label). label ∷ l) (labels_compared judged old new labels)
-
-turned : (a b : Bool) → (a || b) ≡ (b || a)
-turned true true = refl
-turned true false = refl
-turned false true = refl
-turned false false = refl
 
 -- ---- classes
 
@@ -89,24 +84,23 @@ placed c k (suc n) found from to = elim (cases_eq (place c) k) [
       (IsPermutation-append_right (at_place k found) (c ∷ rest) (places (k + 1) n (c ∷ found)) (placed c (k + 1) n found (omega arith) (omega arith))))
 ]
 
-few : (class : Class) → place_of class < 9
+few : (class : Class) → place_of class < 10
 few Regressed = omega arith
 few class = omega arith
 
-in_places : (found : List Compared) → IsPermutation found (places 0 9 found)
+in_places : (found : List Compared) → IsPermutation found (places 0 10 found)
 in_places [] = IsPermutation-refl []
 in_places (c ∷ found) =
-    IsPermutation-trans (c ∷ found) (c ∷ places 0 9 found) (places 0 9 (c ∷ found)) (IsPermutation-cons c found (places 0 9 found) (in_places found))
-    (placed c 0 9 found (omega arith) (few c.class))
+    IsPermutation-trans (c ∷ found) (c ∷ places 0 10 found) (places 0 10 (c ∷ found)) (IsPermutation-cons c found (places 0 10 found) (in_places found))
+    (placed c 0 10 found (omega arith) (few c.class))
 
 partitioned : (judged : Bool) (old new : List Entry) → ArePartitioned judged old new
 partitioned judged old new =
-    let labels : List Label = labels_in new ++ labels_in old in
+    let labels : List Label = labels_in old ++ labels_in new in
     let read : labels_of (comparisons judged old new) ≡ distinct labels = labels_compared judged old new (distinct labels) in
     record {
       once = subst (IsDistinct same_label) (sym read) (IsDistinct-from_AllPairs same_label-decides (distinct labels) (apart labels));
-      all = λ label. ap (stands_in label) read ∙ distinct_stand label labels ∙ list_any-append (same_label label) (labels_in new) (labels_in old)
-          ∙ turned (stands_in label (labels_in new)) (stands_in label (labels_in old));
+      all = λ label. ap (stands_in label) read ∙ distinct_stand label labels ∙ list_any-append (same_label label) (labels_in old) (labels_in new);
       classes = in_places (comparisons judged old new);
     }
 
@@ -123,14 +117,14 @@ some_counted p q (c ∷ found) =
     at false true m n rest h = grind (arith, nat_tests)
     at false false m n rest h = grind (arith, nat_tests)
 
-says_worse : (old new : RowsRead) → SaysWorse old new
+says_worse : (old new : InputRead) → SaysWorse old new
 says_worse old new =
     let v : ComparisonVerdict = verdict_of old new in
     let found = found_in old new in
     let p : Compared → Bool = λ c. same_class c.class Regressed in
     let q : Compared → Bool = λ c. same_class c.class Missing in
     let worse : (nat_lt 0 v.regressed || nat_lt 0 v.missing) ≡ list_any is_worse found = some_counted p q found in
-    at (nat_lt 0 v.regressed || nat_lt 0 v.missing) (list_any is_worse found) v.are_whole worse
+    at (nat_lt 0 v.regressed || nat_lt 0 v.missing) (list_any is_worse found) (is_whole v.old && is_whole v.new) worse
   where
     at : (b w whole : Bool) → b ≡ w → (◌≡◌ {A = ℕ} (cond b 101 (cond whole 0 1)) 101) ↔ (w ≡ true)
     at true w whole e = (λ h. sym e, λ h. refl)

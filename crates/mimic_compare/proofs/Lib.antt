@@ -1,4 +1,6 @@
-mod Averages
+mod Counting
+mod FirstLines
+mod Found
 mod Laws
-mod Printed
+mod Ranks
 mod Steps

@@ -1,5 +1,8 @@
+pub mod Changes
 pub mod Classes
-pub mod Keys
-pub mod Tallies
+pub mod Fates
+pub mod Kept
+pub mod Messages
 pub mod Text
+pub mod Trials
 pub mod Written

@@ -1,58 +1,93 @@
 -- What a comparison of two reports leaves, and its laws (our own).
-use Rattle.std.specs.Prelude.{◌≡◌, ◌↔◌, ◌==◌, ◌&&◌, ◌||◌, ℕ, Bool, true, false, nat_lt, if◌then◌else◌, List, [], ◌∷◌, ◌++◌, map, filter, IsPermutation, Result, Ok, Err}
+use Rattle.std.specs.Prelude.{◌≡◌, ◌↔◌, ◌==◌, ◌&&◌, ◌||◌, ℕ, Bool, true, false, nat_lt, if◌then◌else◌, List, map, filter, IfSome, IsPermutation, Option, Result, Ok, Err}
 use Rattle.std.specs.List.{IsDistinct, flat_map, list_any}
 use Rattle.mimic_printer.specs.Json.{Entry}
 use Rattle.mimic_printer.specs.Row.{Label}
-use Rattle.mimic_printer.specs.Sink.{LeftBy, Put, Shown}
-use Rattle.mimic_printer.specs.declared.sink.OutputFault.{OutputFault}
-use Rattle.mimic_events.specs.Contents.{entry_read}
-use Rattle.mimic_events.specs.Key.{same_label}
-use Rattle.mimic_events.specs.declared.ending.Ending.{Ending}
-use Rattle.mimic_events.specs.declared.ending.Ending.TheVariants.{Whole, Cut}
-use Rattle.mimic_events.specs.declared.rows_read.RowsRead.{RowsRead}
-use Rattle.mimic_compare.specs.Classes.{Compared, comparisons, labels_in}
-use Rattle.mimic_compare.specs.Text.{changes, comparison_text, count_of, same_class}
 use Rattle.mimic_printer.specs.EscapeLaws.{HasNoControl}
+use Rattle.mimic_printer.specs.Sink.{Put, Shown, Stopped}
 use Rattle.mimic_printer.specs.declared.place.Place.TheVariants.{Line}
-use Rattle.mimic_compare.specs.declared.class.Class.{Class}
-use Rattle.mimic_compare.specs.declared.class.Class.TheVariants.{Regressed, Missing, Unchanged}
+use Rattle.mimic_printer.specs.declared.sink.OutputFault.{OutputFault}
+use Rattle.mimic_printer.specs.declared.sink.OutputFault.TheVariants.{OutOfMemory, Write}
+use Rattle.mimic_events.specs.Key.{same_label}
+use Rattle.mimic_events.specs.Readings.{HasEndedRows, IsReading}
+use Rattle.mimic_events.specs.declared.ending.Ending.TheVariants.{Whole}
+use Rattle.mimic_compare.specs.Changes.{AreRanked, Change, changes_in}
+use Rattle.mimic_compare.specs.Classes.{Compared, comparisons, labels_in}
+use Rattle.mimic_compare.specs.Text.{classes, comparison_text, count_of, same_class}
+use Rattle.mimic_compare.specs.declared.class.Class.TheVariants.{Regressed, Missing}
+use Rattle.mimic_compare.specs.declared.inputs.InputEnd.{InputEnd}
+use Rattle.mimic_compare.specs.declared.inputs.InputEnd.TheVariants.{Ended, Failed}
+use Rattle.mimic_compare.specs.declared.verdict.ComparisonOptions.{ComparisonOptions}
 use Rattle.mimic_compare.specs.declared.verdict.ComparisonVerdict.{ComparisonVerdict}
 
--- the report has its end
-abbrev pub is_whole : Ending → Bool
-is_whole (Whole filtered_out nanos) = true
-is_whole (Cut stop) = false
+-- ---- inputs
 
--- the report has its end, and nothing was filtered out
-abbrev pub is_full : Ending → Bool
-is_full (Whole filtered_out nanos) = filtered_out == 0
-is_full (Cut stop) = false
+-- what was read of an input: the rows that have ended, and how the input ended
+pub record InputRead : Type 0 where
+  pub entries : List Entry
+  pub end : InputEnd
+
+-- the bytes have these rows, and end so; with an error of the reader these rows have ended in a front of the bytes
+abbrev pub Reads : List Entry → InputEnd → List ℕ → Type 0
+Reads entries (Ended ending) bytes = IsReading entries ending bytes
+Reads entries (Failed error) bytes = HasEndedRows entries bytes
+
+-- the input, if its bytes are known, was read so
+abbrev pub IsReadOf : Option (List ℕ) → InputRead → Type 0
+IsReadOf input read = IfSome input (Reads read.entries read.end)
+
+-- the input was a whole report
+abbrev pub is_whole : InputEnd → Bool
+is_whole (Ended (Whole filtered_out nanos)) = true
+is_whole other = false
+
+-- it was, and no trial was filtered out
+abbrev pub has_all : InputEnd → Bool
+has_all (Ended (Whole filtered_out nanos)) = filtered_out == 0
+has_all other = false
+
+-- ---- what is left
 
 -- what is reported for the kinds and names of both reports
-abbrev pub found_in : RowsRead → RowsRead → List Compared
-found_in old new =
-    comparisons (is_full old.ending && is_full new.ending) (map entry_read old.rows.items) (map entry_read new.rows.items)
+abbrev pub found_in : InputRead → InputRead → List Compared
+found_in old new = comparisons (has_all old.end && has_all new.end) old.entries new.entries
 
-abbrev pub verdict_of : RowsRead → RowsRead → ComparisonVerdict
+-- what was read of both inputs, and the changes in the order in which they are printed
+pub record Comparing {I : Type 0} (remaining : I → Option (List ℕ)) (old new : I) (options : ComparisonOptions) : Type 0 where
+  pub before : InputRead
+  pub after : InputRead
+  pub is_old : IsReadOf (remaining old) before
+  pub is_new : IsReadOf (remaining new) after
+  pub ranked : List Change
+  pub order : AreRanked (changes_in options.slower (found_in before after)) ranked
+
+-- what is written of them
+abbrev pub text_of : {I : Type 0} {remaining : I → Option (List ℕ)} {old new : I} {options : ComparisonOptions}
+    → Comparing remaining old new options → List ℕ
+text_of {options = options} c = comparison_text options.lists_not_run (found_in c.before c.after) c.ranked
+
+abbrev pub verdict_of : InputRead → InputRead → ComparisonVerdict
 verdict_of old new = record {
   regressed = count_of Regressed (found_in old new);
   missing = count_of Missing (found_in old new);
-  are_whole = is_whole old.ending && is_whole new.ending;
+  old = old.end;
+  new = new.end;
 }
 
 -- with `Ok` the whole text was written, after a write fault a beginning of it, and if memory ran out nothing
-abbrev pub LeavesComparison : RowsRead → RowsRead → Shown → Shown → Result ComparisonVerdict OutputFault → Type 0
-LeavesComparison before after old new (Ok verdict) = Put old new (comparison_text (found_in before after)) × (verdict ≡ verdict_of before after)
-LeavesComparison before after old new (Err fault) = LeftBy fault old new (comparison_text (found_in before after))
+abbrev pub LeavesComparison : {I : Type 0} → (I → Option (List ℕ)) → I → I → ComparisonOptions → Shown → Shown
+    → Result ComparisonVerdict OutputFault → Type 0
+LeavesComparison remaining before after options old new (Ok verdict) = (c : Comparing remaining before after options)
+    × Put old new (text_of c) × (verdict ≡ verdict_of c.before c.after)
+LeavesComparison remaining before after options old new (Err OutOfMemory) = new ≡ old
+LeavesComparison remaining before after options old new (Err (Write fault)) =
+    (c : Comparing remaining before after options) × Stopped old new (text_of c)
 
--- the status of a program: 101 if something regressed or is missing, else 1 if a report is cut, else 0
+-- the status of a program: 101 if something regressed or is missing, else 1 if an input is no whole report, else 0
 abbrev pub status_of : ComparisonVerdict → ℕ
-status_of v = if nat_lt 0 v.regressed || nat_lt 0 v.missing then 101 else (if v.are_whole then 0 else 1)
+status_of v = if nat_lt 0 v.regressed || nat_lt 0 v.missing then 101 else (if is_whole v.old && is_whole v.new then 0 else 1)
 
 -- ---- laws
-
-abbrev pub all_classes : List Class
-all_classes = changes ++ Unchanged ∷ []
 
 abbrev pub labels_of : List Compared → List Label
 labels_of found = map (λ c. c.label) found
@@ -67,17 +102,17 @@ pub record ArePartitioned (judged : Bool) (old new : List Entry) : Type 0 where
   pub once : IsDistinct same_label (labels_of (comparisons judged old new))
   pub all : (label : Label) → stands_in label (labels_of (comparisons judged old new)) ≡ (stands_in label (labels_in old) || stands_in label (labels_in new))
   pub classes : IsPermutation (comparisons judged old new)
-      (flat_map (λ class. filter (λ c. same_class c.class class) (comparisons judged old new)) all_classes)
+      (flat_map (λ class. filter (λ c. same_class c.class class) (comparisons judged old new)) classes)
 
 -- the kind and the name regressed or are missing
 abbrev pub is_worse : Compared → Bool
 is_worse c = same_class c.class Regressed || same_class c.class Missing
 
 -- the status is 101 exactly if some kind and name regressed or is missing
-abbrev pub SaysWorse : RowsRead → RowsRead → Type 0
+abbrev pub SaysWorse : InputRead → InputRead → Type 0
 SaysWorse old new = (status_of (verdict_of old new) ≡ 101) ↔ (list_any is_worse (found_in old new) ≡ true)
 
 pub record ComparisonLaws : Type 0 where
   pub partition : (judged : Bool) (old new : List Entry) → ArePartitioned judged old new
-  pub status : (old new : RowsRead) → SaysWorse old new
+  pub status : (old new : InputRead) → SaysWorse old new
   pub lines : HasNoControl Line

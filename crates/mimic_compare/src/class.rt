@@ -1,10 +1,11 @@
 //! What became of a kind and a name from one report to another.
-ghost use Rattle.std.specs.Prelude.{◌≡◌, List};
-ghost use Rattle.mimic_trial.specs.declared.outcome.Outcome.{Outcome};
-ghost use Rattle.mimic_compare.specs.Classes.{class_of, have_other_messages};
-ghost use Rattle.mimic_compare.specs.Tallies.{tally_of};
+ghost use Rattle.std.specs.Prelude.{◌≡◌, IfOk};
+ghost use Rattle.mimic_compare.specs.Classes.{class_of, failures, ignored};
 
-use crate::tally::KeyTally;
+use crate::fates::{BothFates, KeptFate};
+use crate::messages::have_other_messages;
+use mimic_trial::Outcome;
+use std::alloc::{AllocError, Global};
 
 /// What became of a kind and a name from an old report to a new one.
 #[derive(Clone, Copy, Debug, PartialEq, Eq)]
@@ -25,44 +26,61 @@ pub enum Class {
     NewlyPassing,
     /// As many of its rows failed, with other messages.
     AnotherMessage,
+    /// As many of its rows failed, at least one, with the same messages.
+    StillFailing,
     /// None of these.
     Unchanged,
 }
 
 impl Class {
-    // Returns the class of a kind and a name with these tallies.
-    pub(crate) fn of(
-        old: &KeyTally,
-        new: &KeyTally,
-        has_other_messages: bool,
-        is_judged: bool,
-    ) -> Class
-        ensures { (before after : List Outcome) → old.now ≡ tally_of before → new.now ≡ tally_of after
-            → has_other_messages ≡ have_other_messages before after
-            → result ≡ class_of is_judged before after }
+    // Returns the class of a kind and a name with these rows.
+    pub(crate) fn of(alloc: Global, fates: &BothFates, is_judged: bool) -> Result<Class, AllocError>
+        ensures { IfOk result (λ class. class ≡ class_of is_judged fates.now.old fates.now.new) }
     {
-        if old.failed < new.failed {
+        let (old, new) = (fates.old.as_slice(), fates.new.as_slice());
+        let (old_failed, new_failed) = (failed_in(old), failed_in(new));
+        let (old_ignored, new_ignored) = (ignored_in(old), ignored_in(new));
+        Ok(if old_failed < new_failed {
             Class::Regressed
-        } else if new.rows < old.rows {
+        } else if new.len() < old.len() {
             if is_judged {
                 Class::Missing
             } else {
                 Class::NotRun
             }
-        } else if old.rows < new.rows {
+        } else if old.len() < new.len() {
             if is_judged {
                 Class::New
             } else {
                 Class::NotRunBefore
             }
-        } else if old.ignored < new.ignored {
+        } else if old_ignored < new_ignored {
             Class::NewlyIgnored
-        } else if new.failed < old.failed || new.ignored < old.ignored {
+        } else if new_failed < old_failed || new_ignored < old_ignored {
             Class::NewlyPassing
-        } else if has_other_messages {
+        } else if new_failed == 0 {
+            Class::Unchanged
+        } else if have_other_messages(alloc, old, new)? {
             Class::AnotherMessage
         } else {
-            Class::Unchanged
-        }
+            Class::StillFailing
+        })
     }
+}
+
+// Returns how many of the rows failed.
+fn failed_in(fates: &[KeptFate]) -> usize
+    ensures { result ≡ failures fates.now }
+{
+    fates.iter().filter(|fate| fate.failed().is_some()).count()
+}
+
+// Returns how many of the rows were ignored.
+fn ignored_in(fates: &[KeptFate]) -> usize
+    ensures { result ≡ ignored fates.now }
+{
+    fates
+        .iter()
+        .filter(|fate| matches!(fate.other(), Some(Outcome::Ignored)))
+        .count()
 }

@@ -1,22 +1,23 @@
 //! Compares two reports by kind and name, and prints what became of each.
 //!
 //! ```rust
-//! use mimic_compare::write_comparison;
-//! use mimic_events::read_rows;
+//! use mimic_compare::{ComparisonOptions, write_comparison};
 //!
-//! let old = read_rows(alloc, old_file)?;
-//! let new = read_rows(alloc, new_file)?;
-//! let verdict = write_comparison(alloc, &old, &new, &mut sink)?;
+//! let options = ComparisonOptions { slower: 125, lists_not_run: false };
+//! let verdict = write_comparison(alloc, old_file, new_file, &options, &mut sink)?;
 //! let status = verdict.status();
 //! ```
 #![tactic(auto)]
 
+mod change;
 mod class;
-mod comparison;
+mod fates;
+mod inputs;
 mod lines;
 mod messages;
-mod tally;
+mod trials;
 mod verdict;
 
 pub use class::Class;
-pub use verdict::{ComparisonVerdict, write_comparison};
+pub use inputs::InputEnd;
+pub use verdict::{ComparisonOptions, ComparisonVerdict, write_comparison};

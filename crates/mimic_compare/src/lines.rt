@@ -1,18 +1,20 @@
 //! Prints what became of kinds and names.
-ghost use Rattle.std.specs.Prelude.{◌≡◌, ◌∷◌, [], codes, count_by, decimal, map};
+ghost use Rattle.std.specs.Prelude.{◌≡◌, ◌∷◌, ◌++◌, [], codes, count_by, decimal, not};
 ghost use Rattle.std.specs.List.{concat, flat_map};
-ghost use Rattle.mimic_printer.specs.Piece.{pieces_text};
+ghost use Rattle.mimic_printer.specs.Piece.{first_line, pieces_text};
 ghost use Rattle.mimic_printer.specs.Sink.{HasFaultLeft, Puts};
-ghost use Rattle.mimic_compare.specs.Keys.{comparison_read};
-ghost use Rattle.mimic_compare.specs.Text.{benchmark_in, changes, comparison_text, count_of, line_in, lines_of, number_text, numbers_text, ratio_of, ratio_part, same_class, word};
+ghost use Rattle.mimic_compare.specs.Changes.{is_slower};
+ghost use Rattle.mimic_compare.specs.Text.{amount, change_text, change_word, classes, comparison_text, count_of, first_message, is_listed, line_in, lines_of, listed_lines, change_name, colon_before, shown_message, amounts_text, number_text, numbers_text, ratio_of, ratio_part, rounded_seconds, same_class, speeds_text, unit_part, word};
 
+use crate::change::{Change, Quantity};
 use crate::class::Class;
-use crate::comparison::Comparison;
+use crate::fates::KeptFate;
+use crate::trials::Comparison;
 use mimic_printer::{Piece, Place, Sink, WriteFault, put_pieces};
 use std::io::Write;
 
-// The classes whose kinds and names are printed, in the order in which they are printed.
-const CHANGES: [Class; 8] = [
+// All classes, in the order in which they are printed.
+const CLASSES: [Class; 10] = [
     Class::Regressed,
     Class::Missing,
     Class::NotRun,
@@ -21,6 +23,8 @@ const CHANGES: [Class; 8] = [
     Class::NewlyIgnored,
     Class::NewlyPassing,
     Class::AnotherMessage,
+    Class::StillFailing,
+    Class::Unchanged,
 ];
 
 fn word(class: Class) -> &'static str
@@ -35,8 +39,52 @@ fn word(class: Class) -> &'static str
         Class::NewlyIgnored => "newly ignored",
         Class::NewlyPassing => "newly passing",
         Class::AnotherMessage => "another message",
+        Class::StillFailing => "still failing",
         Class::Unchanged => "unchanged",
     }
+}
+
+// Whether the kinds and names of the class have lines.
+fn is_listed(lists_not_run: bool, class: Class) -> bool
+    ensures { result ≡ is_listed lists_not_run class }
+{
+    match class {
+        Class::NotRun | Class::NotRunBefore => lists_not_run,
+        Class::StillFailing | Class::Unchanged => false,
+        _ => true,
+    }
+}
+
+// Returns the message of the first failure, and an empty one if there is none.
+fn first_message(fates: &[KeptFate]) -> &str
+    ensures { result.now ≡ first_message fates.now }
+{
+    for fate in fates {
+        if let Some(failed) = fate.failed() {
+            return failed.message().unwrap_or("");
+        }
+    }
+    ""
+}
+
+// Returns the message whose first line is printed behind a name, which is empty for most classes.
+fn shown_message(class: Class, new: &[KeptFate]) -> &str
+    ensures { result.now ≡ shown_message class new.now }
+{
+    match class {
+        Class::Regressed | Class::AnotherMessage => first_message(new),
+        _ => "",
+    }
+}
+
+// Returns what comes before the first line of the message.
+fn colon_before(message: &str) -> &'static str
+    ensures { result.now ≡ colon_before (first_line message.now) }
+{
+    let Some(first) = message.as_bytes().first() else {
+        return "";
+    };
+    if *first == b'\n' { "" } else { ": " }
 }
 
 // Writes the line of a kind and a name if they are of the class.
@@ -47,16 +95,20 @@ fn put_line<'a, W: Write>(
     comparison: &Comparison<'a>,
 ) -> Result<(), WriteFault>
     requires { HasFaultLeft sink.old }
-    ensures { Puts W.contents sink.old sink.new (line_in class (comparison_read comparison.now)) result }
+    ensures { Puts W.contents sink.old sink.new (line_in class comparison.now) result }
 {
     if comparison.class != class {
         return Ok(());
     }
+    let label = comparison.label;
+    let message = shown_message(class, comparison.fates.new.as_slice());
     let pieces = [
         Piece::Text(word(class)),
         Piece::Text(": "),
-        Piece::Bracketed(Place::Line, comparison.row.kind.as_str()),
-        Piece::Escaped(Place::Line, comparison.row.name.as_str()),
+        Piece::Bracketed(Place::Line, label.kind.as_str()),
+        Piece::Escaped(Place::Line, label.name.as_str()),
+        Piece::Text(colon_before(message)),
+        Piece::FirstLine(Place::Line, message),
         Piece::Text("\n"),
     ];
     put_pieces(sink, &pieces)
@@ -69,7 +121,7 @@ fn put_lines<W: Write>(
     found: &[Comparison<'_>],
 ) -> Result<(), WriteFault>
     requires { HasFaultLeft sink.old }
-    ensures { Puts W.contents sink.old sink.new (lines_of (map comparison_read found.now) class) result }
+    ensures { Puts W.contents sink.old sink.new (lines_of found.now class) result }
 {
     for comparison in found {
         put_line(sink, class, comparison)?;
@@ -77,14 +129,34 @@ fn put_lines<W: Write>(
     Ok(())
 }
 
-// Writes the lines of all classes except `Unchanged`.
-fn put_changes<W: Write>(sink: &mut Sink<W>, found: &[Comparison<'_>]) -> Result<(), WriteFault>
+// Writes the lines of the class if it is listed.
+fn put_listed<W: Write>(
+    sink: &mut Sink<W>,
+    class: Class,
+    found: &[Comparison<'_>],
+    lists_not_run: bool,
+) -> Result<(), WriteFault>
+    requires { HasFaultLeft sink.old }
+    ensures { Puts W.contents sink.old sink.new (listed_lines lists_not_run found.now class) result }
+{
+    if is_listed(lists_not_run, class) {
+        put_lines(sink, class, found)?;
+    }
+    Ok(())
+}
+
+// Writes the lines of the classes that are listed.
+fn put_classes<W: Write>(
+    sink: &mut Sink<W>,
+    found: &[Comparison<'_>],
+    lists_not_run: bool,
+) -> Result<(), WriteFault>
     requires { HasFaultLeft sink.old }
     ensures { Puts W.contents sink.old sink.new
-        (flat_map (lines_of (map comparison_read found.now)) changes) result }
+        (flat_map (listed_lines lists_not_run found.now) classes) result }
 {
-    for class in &CHANGES {
-        put_lines(sink, *class, found)?;
+    for class in &CLASSES {
+        put_listed(sink, *class, found, lists_not_run)?;
     }
     Ok(())
 }
@@ -98,32 +170,6 @@ fn ratio_of(old: u64, new: u64) -> Option<u128>
     }
     let (old, new) = (u128::from(old), u128::from(new));
     Some((200 * new + old) / (2 * old))
-}
-
-// Writes the averages of what was measured once in both reports.
-fn put_benchmark<W: Write>(
-    sink: &mut Sink<W>,
-    comparison: &Comparison<'_>,
-) -> Result<(), WriteFault>
-    requires { HasFaultLeft sink.old }
-    ensures { Puts W.contents sink.old sink.new (benchmark_in (comparison_read comparison.now)) result }
-{
-    let row = comparison.row;
-    let Some((old, new)) = comparison.averages else {
-        return Ok(());
-    };
-    let pieces = [
-        Piece::Text("bench: "),
-        Piece::Bracketed(Place::Line, row.kind.as_str()),
-        Piece::Escaped(Place::Line, row.name.as_str()),
-        Piece::Text(": "),
-        Piece::Grouped(old),
-        Piece::Text(" -> "),
-        Piece::Grouped(new),
-        Piece::Text(" ns/iter ("),
-    ];
-    put_pieces(sink, &pieces)?;
-    put_ratio(sink, ratio_of(old, new))
 }
 
 // Writes the ratio with two decimals, or `-` if there is none, and the end of the line.
@@ -152,69 +198,185 @@ fn ratio_pieces(digits: &(u128, u128, u128)) -> [Piece<'_>; 5]
     ]
 }
 
-// Writes the averages of all that was measured once in both reports.
-fn put_benchmarks<W: Write>(sink: &mut Sink<W>, found: &[Comparison<'_>]) -> Result<(), WriteFault>
-    requires { HasFaultLeft sink.old }
-    ensures { Puts W.contents sink.old sink.new
-        (flat_map benchmark_in (map comparison_read found.now)) result }
+// Returns the pieces of a time in seconds, to the nearest thousandth.
+fn seconds_pieces<'a>(nanos: u64) -> [Piece<'a>; 5]
+    ensures { pieces_text result ≡ rounded_seconds nanos ++ codes "s" }
 {
-    for comparison in found {
-        put_benchmark(sink, comparison)?;
+    let thousandths = (u128::from(nanos) + 500_000) / 1_000_000;
+    [
+        Piece::Number((thousandths / 1000) as u64),
+        Piece::Text("."),
+        Piece::Number((thousandths / 100 % 10) as u64),
+        Piece::TwoDigits((thousandths % 100) as u8),
+        Piece::Text("s"),
+    ]
+}
+
+// Writes the number with the first part of its unit.
+fn put_amount<W: Write>(
+    sink: &mut Sink<W>,
+    quantity: Quantity,
+    nanos: u64,
+) -> Result<(), WriteFault>
+    requires { HasFaultLeft sink.old }
+    ensures { Puts W.contents sink.old sink.new (amount quantity nanos) result }
+{
+    match quantity {
+        Quantity::Average => put_pieces(sink, &[Piece::Grouped(nanos)]),
+        Quantity::Time => put_pieces(sink, &seconds_pieces(nanos)),
+    }
+}
+
+// Writes the second part of the unit, up to the ratio.
+fn put_unit<W: Write>(sink: &mut Sink<W>, quantity: Quantity) -> Result<(), WriteFault>
+    requires { HasFaultLeft sink.old }
+    ensures { Puts W.contents sink.old sink.new (unit_part quantity ++ codes " (") result }
+{
+    match quantity {
+        Quantity::Average => sink.put(b" ns/iter ("),
+        Quantity::Time => sink.put(b" ("),
+    }
+}
+
+// Writes whether the change is a slower or a faster one, and the kind and the name.
+#[tactic(auto, unfolding(crate::specs::Text::change_name))]
+fn put_change_name<'a, W: Write>(sink: &mut Sink<W>, change: &Change<'a>) -> Result<(), WriteFault>
+    requires { HasFaultLeft sink.old }
+    ensures { Puts W.contents sink.old sink.new (change_name change.now) result }
+{
+    let label = change.label;
+    let word = if change.is_slower() {
+        "slower: "
+    } else {
+        "faster: "
+    };
+    let pieces = [
+        Piece::Text(word),
+        Piece::Bracketed(Place::Line, label.kind.as_str()),
+        Piece::Escaped(Place::Line, label.name.as_str()),
+        Piece::Text(": "),
+    ];
+    put_pieces(sink, &pieces)
+}
+
+// Writes both numbers and their ratio.
+fn put_amounts<W: Write>(
+    sink: &mut Sink<W>,
+    quantity: Quantity,
+    old: u64,
+    new: u64,
+) -> Result<(), WriteFault>
+    requires { HasFaultLeft sink.old }
+    ensures { Puts W.contents sink.old sink.new (amounts_text quantity old new) result }
+{
+    put_amount(sink, quantity, old)?;
+    sink.put(b" -> ")?;
+    put_amount(sink, quantity, new)?;
+    put_unit(sink, quantity)?;
+    put_ratio(sink, ratio_of(old, new))
+}
+
+// Writes the line of a change.
+fn put_change<W: Write>(sink: &mut Sink<W>, change: &Change<'_>) -> Result<(), WriteFault>
+    requires { HasFaultLeft sink.old }
+    ensures { Puts W.contents sink.old sink.new (change_text change.now) result }
+{
+    put_change_name(sink, change)?;
+    put_amounts(sink, change.quantity, change.old, change.new)
+}
+
+// Writes the lines of the changes.
+fn put_changes<W: Write>(sink: &mut Sink<W>, changes: &[Change<'_>]) -> Result<(), WriteFault>
+    requires { HasFaultLeft sink.old }
+    ensures { Puts W.contents sink.old sink.new (flat_map change_text changes.now) result }
+{
+    for change in changes {
+        put_change(sink, change)?;
     }
     Ok(())
 }
 
 // Returns how many kinds and names are of the class.
 pub(crate) fn count_of(found: &[Comparison<'_>], class: Class) -> usize
-    ensures { result ≡ count_by (λ c. same_class c.class class) found.now }
+    ensures { result ≡ count_of class found.now }
 {
     found.iter().filter(|c| c.class == class).count()
 }
 
 // Writes how many kinds and names are of the class.
 #[tactic(auto, unfolding(crate::specs::Text::number_text))]
-fn put_number<'a, W: Write>(
+fn put_number<W: Write>(
     sink: &mut Sink<W>,
     found: &[Comparison<'_>],
     class: Class,
-    end: &'a str,
 ) -> Result<(), WriteFault>
     requires { HasFaultLeft sink.old }
-    ensures { Puts W.contents sink.old sink.new
-        (number_text (map comparison_read found.now) class end.now) result }
+    ensures { Puts W.contents sink.old sink.new (number_text found.now class) result }
 {
     let pieces = [
         Piece::Number(count_of(found, class) as u64),
         Piece::Text(" "),
         Piece::Text(word(class)),
-        Piece::Text(end),
+        Piece::Text("; "),
     ];
     put_pieces(sink, &pieces)
 }
 
-// Writes how many kinds and names are of each class.
-fn put_numbers<W: Write>(sink: &mut Sink<W>, found: &[Comparison<'_>]) -> Result<(), WriteFault>
-    requires { HasFaultLeft sink.old }
-    ensures { Puts W.contents sink.old sink.new
-        (numbers_text (map comparison_read found.now)) result }
+fn slower_in(changes: &[Change<'_>]) -> usize
+    ensures { result ≡ count_by is_slower changes.now }
 {
-    for class in &CHANGES {
-        put_number(sink, found, *class, "; ")?;
+    changes.iter().filter(|change| change.is_slower()).count()
+}
+
+fn faster_in(changes: &[Change<'_>]) -> usize
+    ensures { result ≡ count_by (λ change. not (is_slower change)) changes.now }
+{
+    changes.iter().filter(|change| !change.is_slower()).count()
+}
+
+// Writes how many changes are slower and how many faster.
+#[tactic(auto, unfolding(crate::specs::Text::speeds_text))]
+fn put_speeds<W: Write>(sink: &mut Sink<W>, changes: &[Change<'_>]) -> Result<(), WriteFault>
+    requires { HasFaultLeft sink.old }
+    ensures { Puts W.contents sink.old sink.new (speeds_text changes.now) result }
+{
+    let pieces = [
+        Piece::Number(slower_in(changes) as u64),
+        Piece::Text(" slower; "),
+        Piece::Number(faster_in(changes) as u64),
+        Piece::Text(" faster\n"),
+    ];
+    put_pieces(sink, &pieces)
+}
+
+// Writes the numbers of all classes and of the changes.
+fn put_numbers<W: Write>(
+    sink: &mut Sink<W>,
+    found: &[Comparison<'_>],
+    changes: &[Change<'_>],
+) -> Result<(), WriteFault>
+    requires { HasFaultLeft sink.old }
+    ensures { Puts W.contents sink.old sink.new (numbers_text found.now changes.now) result }
+{
+    for class in &CLASSES {
+        put_number(sink, found, *class)?;
     }
-    put_number(sink, found, Class::Unchanged, "\n")
+    put_speeds(sink, changes)
 }
 
 // Writes the whole comparison, and flushes it.
-pub(crate) fn put_comparisons<W: Write>(
+pub(crate) fn put_comparison<W: Write>(
     sink: &mut Sink<W>,
     found: &[Comparison<'_>],
+    changes: &[Change<'_>],
+    lists_not_run: bool,
 ) -> Result<(), WriteFault>
     requires { HasFaultLeft sink.old }
     ensures { Puts W.contents sink.old sink.new
-        (comparison_text (map comparison_read found.now)) result }
+        (comparison_text lists_not_run found.now changes.now) result }
 {
-    put_changes(sink, found)?;
-    put_benchmarks(sink, found)?;
-    put_numbers(sink, found)?;
+    put_classes(sink, found, lists_not_run)?;
+    put_changes(sink, changes)?;
+    put_numbers(sink, found, changes)?;
     sink.flush()
 }

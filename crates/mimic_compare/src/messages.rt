@@ -1,75 +1,73 @@
-//! Finds the kinds and names whose failures have other messages in one report than in another.
-ghost use Rattle.std.specs.Prelude.{◌≡◌, List, IfOk, OnOk, map};
-ghost use Rattle.mimic_printer.specs.Json.{Entry};
-ghost use Rattle.mimic_events.specs.Contents.{entry_read};
-ghost use Rattle.mimic_events.specs.Key.{key_in};
-ghost use Rattle.mimic_compare.specs.Keys.{AddsOthers, HasOthers, HasTimes, is_other, times_of};
+//! Finds out whether failures have other messages in one report than in another.
+ghost use Rattle.std.specs.Prelude.{◌≡◌, IfOk, List};
+ghost use Rattle.std.specs.List.{list_any};
+ghost use Rattle.std.specs.Option.{option_copied};
+ghost use Rattle.mimic_trial.specs.declared.outcome.Outcome.TheVariants as outcome;
+ghost use Rattle.mimic_compare.specs.Classes.{have_other_messages, is_other, times};
+ghost use Rattle.mimic_compare.specs.Fates.{Fate};
+ghost use Rattle.mimic_compare.specs.Messages.{HasTimes};
 
-use mimic_events::{Key, Row};
-use mimic_trial::Outcome;
+use crate::fates::KeptFate;
 use std::alloc::{AllocError, Global};
-use std::collections::{HashMap, HashSet};
+use std::collections::HashMap;
 
-// Returns how often the failure of the row was counted.
-fn times_of<'a>(failures: &HashMap<Key<'a>, u64>, row: &'a Row) -> u64
-    ensures { (entries : List Entry) → HasTimes failures.now entries
-        → result ≡ times_of (key_in (entry_read row.now)) entries }
+// How often each message comes in failures. Those without a message have `None`.
+type Times<'a> = HashMap<Option<&'a str>, u64>;
+
+// Returns how often the message was counted.
+fn times_of<'a>(counted: &Times<'a>, message: Option<&'a str>) -> u64
+    ensures { (fates : List Fate) → HasTimes counted.now fates
+        → result ≡ times (outcome.Failed (option_copied message.entry)) fates }
 {
-    failures.get(&Key::Failure(row)).copied().unwrap_or(0)
+    counted.get(&message).copied().unwrap_or(0)
 }
 
-// Counts how often each failure comes in the rows.
-fn failures_in(alloc: Global, rows: &[Row]) -> Result<HashMap<Key<'_>, u64>, AllocError>
-    ensures { IfOk result (λ failures. HasTimes failures (map entry_read rows.now)) }
+// Counts how often each message comes in the failures.
+fn times_in(alloc: Global, fates: &[KeptFate]) -> Result<Times<'_>, AllocError>
+    ensures { IfOk result (λ counted. HasTimes counted fates.now) }
 {
-    let mut failures = HashMap::new(alloc);
-    for row in rows {
-        if let Outcome::Failed(_) = &row.outcome {
-            let times = times_of(&failures, row);
-            failures.insert(Key::Failure(row), times + 1)?;
+    let mut counted = HashMap::new(alloc);
+    for fate in fates {
+        if let Some(failed) = fate.failed() {
+            let before = times_of(&counted, failed.message());
+            counted.insert(failed.message(), before + 1)?;
         }
     }
-    Ok(failures)
+    Ok(counted)
 }
 
-// Returns whether the row is a failure that comes more often in one report than in the other.
-fn is_other<'a>(row: &'a Row, old: &HashMap<Key<'a>, u64>, new: &HashMap<Key<'a>, u64>) -> bool
-    ensures { (before after : List Entry) → HasTimes old.now before → HasTimes new.now after
-        → result ≡ is_other before after (entry_read row.now) }
+// Whether the row is a failure whose message comes more often in one report than in the other.
+fn is_other<'a>(fate: &'a KeptFate, old: &Times<'a>, new: &Times<'a>) -> bool
+    ensures { (before after : List Fate) → HasTimes old.now before → HasTimes new.now after
+        → result ≡ is_other before after fate.now }
 {
-    matches!(row.outcome, Outcome::Failed(_)) && times_of(old, row) != times_of(new, row)
+    match fate.failed() {
+        Some(failed) => times_of(old, failed.message()) != times_of(new, failed.message()),
+        None => false,
+    }
 }
 
-// Adds the rows whose failure comes more often in one report than in the other.
-fn add_others<'a>(
-    others: &mut HashSet<Key<'a>>,
-    rows: &'a [Row],
-    old: &HashMap<Key<'a>, u64>,
-    new: &HashMap<Key<'a>, u64>,
-) -> Result<(), AllocError>
-    ensures { OnOk result ((before after : List Entry) → HasTimes old.now before → HasTimes new.now after
-        → AddsOthers others.old others.new before after (map entry_read rows.now)) }
+// Whether one of the rows is such a failure.
+fn are_other<'a>(fates: &'a [KeptFate], old: &Times<'a>, new: &Times<'a>) -> bool
+    ensures { (before after : List Fate) → HasTimes old.now before → HasTimes new.now after
+        → result ≡ list_any (is_other before after) fates.now }
 {
-    for row in rows {
-        if is_other(row, old, new) {
-            others.insert(Key::Trial(row))?;
+    for fate in fates {
+        if is_other(fate, old, new) {
+            return true;
         }
     }
-    Ok(())
+    false
 }
 
-// Returns the kinds and names whose failures have other messages in one report than in the other.
-pub(crate) fn others_in<'a>(
+// Whether one report has a failure more often than the other.
+pub(crate) fn have_other_messages(
     alloc: Global,
-    old: &'a [Row],
-    new: &'a [Row],
-) -> Result<HashSet<Key<'a>>, AllocError>
-    ensures { IfOk result (λ others. HasOthers others (map entry_read old.now) (map entry_read new.now)) }
+    old: &[KeptFate],
+    new: &[KeptFate],
+) -> Result<bool, AllocError>
+    ensures { IfOk result (λ other. other ≡ have_other_messages old.now new.now) }
 {
-    let old_failures = failures_in(alloc, old)?;
-    let new_failures = failures_in(alloc, new)?;
-    let mut others = HashSet::new(alloc);
-    add_others(&mut others, old, &old_failures, &new_failures)?;
-    add_others(&mut others, new, &old_failures, &new_failures)?;
-    Ok(others)
+    let (old_times, new_times) = (times_in(alloc, old)?, times_in(alloc, new)?);
+    Ok(are_other(old, &old_times, &new_times) || are_other(new, &old_times, &new_times))
 }

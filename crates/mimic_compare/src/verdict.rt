@@ -1,39 +1,52 @@
 //! Compares two reports and prints what became of each kind and name.
-ghost use Rattle.std.specs.Prelude.{◌≡◌, ◌&&◌};
 ghost use Rattle.mimic_printer.specs.Sink.{HasFaultLeft, shown};
-ghost use Rattle.mimic_compare.specs.Written.{ComparisonLaws, LeavesComparison, is_full, is_whole};
+ghost use Rattle.mimic_compare.specs.Written.{ComparisonLaws, LeavesComparison};
 
+use crate::change::ranked_changes;
 use crate::class::Class;
-use crate::comparison::compare_rows;
-use crate::lines::{count_of, put_comparisons};
-use mimic_events::{Ending, RowsRead};
+use crate::fates::Report;
+use crate::inputs::{InputEnd, have_all, keep_rows};
+use crate::lines::{count_of, put_comparison};
+use crate::trials::{Trials, compare_trials};
+use indexmap::IndexMap;
 use mimic_printer::{OutputFault, Sink};
 use mimic_trial::Conclusion;
 use std::alloc::Global;
-use std::io::Write;
+use std::io::{Read, Write};
 
-/// What a comparison found, in numbers.
+/// What of a comparison is printed.
 #[derive(Clone, Copy, Debug, PartialEq, Eq)]
+pub struct ComparisonOptions {
+    /// By what factor, in hundredths, a time must change to be printed: 125 is 1.25. With 100 or less no factor is too small.
+    pub slower: u64,
+    /// Whether kinds and names have lines that were not run in one report, since it is cut or trials were filtered out of it.
+    pub lists_not_run: bool,
+}
+
+/// What a comparison found.
+#[derive(Debug, Drop)]
 pub struct ComparisonVerdict {
     /// How many kinds and names regressed.
     pub regressed: usize,
     /// How many are missing.
     pub missing: usize,
-    /// Whether both reports have their end.
-    pub are_whole: bool,
+    /// How the old input ended.
+    pub old: InputEnd,
+    /// How the new input ended.
+    pub new: InputEnd,
 }
 
 impl ComparisonVerdict {
     ghost use Rattle.std.specs.Prelude.{◌≡◌};
     ghost use Rattle.mimic_compare.specs.Written.{status_of};
 
-    /// Returns the status of a program: 101 if something regressed or is missing, else 1 if a report is cut, else 0.
+    /// Returns the status of a program: 101 if something regressed or is missing, else 1 if an input is no whole report, else 0.
     pub fn status(&self) -> u8
         ensures { result ≡ status_of self.now }
     {
         if self.regressed > 0 || self.missing > 0 {
             Conclusion::FAILED
-        } else if self.are_whole {
+        } else if self.old.is_whole() && self.new.is_whole() {
             0
         } else {
             1
@@ -43,60 +56,49 @@ impl ComparisonVerdict {
 
 /// Compares two reports by kind and name, prints what became of each, and flushes it.
 ///
-/// Each kind and name is of the first [`Class`] that fits, and has a line unless that is `Unchanged`. The lines come class by
-/// class, and within a class in the order of the new report and then of the old one. After them come the averages of what was
-/// measured once in both reports, in nanoseconds, with the new one divided by the old one, and last a line of numbers. Control
-/// characters of names are shown by their numbers, so that no name ends a line.
+/// Each kind and name is of the first [`Class`] that fits. The lines come class by class, and within a class in the order of the old
+/// report and then of the new one. `StillFailing` and `Unchanged` have no lines, and `NotRun` and `NotRunBefore` have them only if the
+/// options say so. A line of `Regressed` or `AnotherMessage` ends with the first line of the message of the first failure in the new
+/// report.
 ///
-/// A kind and a name can be missing or new only if both reports are whole and nothing was filtered out of them.
+/// After them come the averages and the times that changed by more than the factor, the greatest ratio of the new number to the old
+/// one first, and equal ratios in the order of the old report and then of the new one. An average is compared if the kind and the
+/// name were measured once in each report, and a time if one row of them in each report has one. Averages must also differ by more
+/// than either deviation, and times by ten milliseconds or more.
 ///
-/// Time and memory are in proportion to the rows. Their texts aren't copied. If memory ran out, nothing was written. After a
-/// write fault, a beginning of the whole was written.
+/// The last line has the numbers of all classes, and how many averages and times are slower and faster. Control characters of names
+/// and messages are shown by their numbers, so that none of them ends a line.
+///
+/// A kind and a name can be missing or new only if both inputs are whole reports and nothing was filtered out of them. If an input
+/// fails or is cut, the rows are compared that have ended, and the verdict says how each input ended.
+///
+/// Each kind and name is kept once, with the outcomes and the times of its rows. Time and memory are in proportion to the rows. If
+/// memory ran out, nothing was written. After a write fault, a beginning of the whole was written.
 #[tactic(auto, using(crate::proofs::Laws::comparison_laws))]
-pub fn write_comparison<W: Write>(
+pub fn write_comparison<I: Read + Drop, W: Write>(
     alloc: Global,
-    old: &RowsRead,
-    new: &RowsRead,
+    old: I,
+    new: I,
+    options: &ComparisonOptions,
     sink: &mut Sink<W>,
 ) -> Result<ComparisonVerdict, OutputFault>
     requires { HasFaultLeft sink.old }
-    ensures written { LeavesComparison old.now new.now (shown W.contents sink.old)
+    ensures written { LeavesComparison I.remaining old new options.now (shown W.contents sink.old)
         (shown W.contents sink.new) result }
 
-    // Each kind and name is in one class, the status says whether one is worse, and no name ends a line.
+    // Each kind and name is in one class, the status says whether one is worse, and no name or message ends a line.
     ensures laws { ComparisonLaws }
 {
-    let is_judged = are_full(&old.ending, &new.ending);
-    let found = compare_rows(alloc, &old.rows, &new.rows, is_judged)?;
-    put_comparisons(sink, &found)?;
+    let mut trials: Trials = IndexMap::new(alloc);
+    let old = keep_rows(alloc, &mut trials, Report::Old, old)?;
+    let new = keep_rows(alloc, &mut trials, Report::New, new)?;
+    let found = compare_trials(alloc, &trials, have_all(&old, &new))?;
+    let changes = ranked_changes(alloc, options.slower, &found)?;
+    put_comparison(sink, &found, &changes, options.lists_not_run)?;
     Ok(ComparisonVerdict {
         regressed: count_of(&found, Class::Regressed),
         missing: count_of(&found, Class::Missing),
-        are_whole: are_whole(&old.ending, &new.ending),
+        old,
+        new,
     })
-}
-
-// Whether both reports have their end, and nothing was filtered out of them.
-fn are_full(old: &Ending, new: &Ending) -> bool
-    ensures { result ≡ (is_full old.now && is_full new.now) }
-{
-    matches!(
-        (old, new),
-        (
-            Ending::Whole {
-                filtered_out: 0,
-                ..
-            },
-            Ending::Whole {
-                filtered_out: 0,
-                ..
-            }
-        )
-    )
-}
-
-fn are_whole(old: &Ending, new: &Ending) -> bool
-    ensures { result ≡ (is_whole old.now && is_whole new.now) }
-{
-    matches!((old, new), (Ending::Whole { .. }, Ending::Whole { .. }))
 }

@@ -3,44 +3,50 @@ use crate::faults::{refuse, refuse_all};
 use crate::input::Input;
 use crate::line::Compare;
 use crate::{BLOCK, REFUSED};
-use mimic_compare::write_comparison;
-use mimic_events::{Ending, RowsRead, read_rows};
+use mimic_compare::{ComparisonOptions, ComparisonVerdict, InputEnd, write_comparison};
+use mimic_events::Ending;
 use mimic_printer::{OutputFault, Sink};
 use std::alloc::Global;
 use std::io::BufWriter;
 
-// Prints what became of each kind and name, and why a report isn't whole.
+// Prints what became of each kind and name, and why an input is no whole report.
 pub(crate) fn run(rt: &HostRuntime, alloc: Global, compare: &Compare) -> u8 {
-    let old = read(rt, alloc, compare.old.as_str());
-    let new = read(rt, alloc, compare.new.as_str());
-    match (old, new) {
-        (Some(old), Some(new)) => print(rt, alloc, &old, &new),
-        _ => REFUSED,
-    }
-}
-
-// Reads the rows of a file. It prints why they are cut, or why there are none.
-fn read(rt: &HostRuntime, alloc: Global, file: &str) -> Option<RowsRead> {
-    match read_rows(alloc, Input::new(rt, file)) {
-        Ok(read) => {
-            if let Ending::Cut(stop) = &read.ending {
-                refuse(rt, file, stop);
-            }
-            Some(read)
+    match print(rt, alloc, compare) {
+        Ok(verdict) => {
+            print_end(rt, compare.old.as_str(), &verdict.old);
+            print_end(rt, compare.new.as_str(), &verdict.new);
+            verdict.status()
         }
-        Err(fault) => {
-            refuse(rt, file, &fault);
-            None
-        }
-    }
-}
-
-fn print(rt: &HostRuntime, alloc: Global, old: &RowsRead, new: &RowsRead) -> u8 {
-    let Ok(out) = BufWriter::with_capacity(alloc, BLOCK, rt.stdout()) else {
-        return refuse_all(rt, &OutputFault::OutOfMemory);
-    };
-    match write_comparison(alloc, old, new, &mut Sink::new(out)) {
-        Ok(verdict) => verdict.status(),
         Err(fault) => refuse_all(rt, &fault),
+    }
+}
+
+fn print(
+    rt: &HostRuntime,
+    alloc: Global,
+    compare: &Compare,
+) -> Result<ComparisonVerdict, OutputFault> {
+    let old = Input::new(rt, compare.old.as_str());
+    let new = Input::new(rt, compare.new.as_str());
+    let options = ComparisonOptions {
+        slower: compare.slower,
+        lists_not_run: compare.lists_missing,
+    };
+    let Ok(out) = BufWriter::with_capacity(alloc, BLOCK, rt.stdout()) else {
+        return Err(OutputFault::OutOfMemory);
+    };
+    write_comparison(alloc, old, new, &options, &mut Sink::new(out))
+}
+
+// Prints why a file has no whole report, if it has none.
+fn print_end(rt: &HostRuntime, file: &str, end: &InputEnd) {
+    match end {
+        InputEnd::Ended(Ending::Whole { .. }) => {}
+        InputEnd::Ended(Ending::Cut(stop)) => {
+            refuse(rt, file, stop);
+        }
+        InputEnd::Failed(error) => {
+            refuse(rt, file, error);
+        }
     }
 }

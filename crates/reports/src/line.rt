@@ -14,6 +14,9 @@ static COLOURS: [&str; 3] = ["auto", "always", "never"];
 // What `--root` takes.
 static ROOTS: [&str; 2] = ["testsuites", "testsuite"];
 
+// The factor of `--slower` if the line doesn't say it.
+const SLOWER: &str = "1.25";
+
 // How many of the slowest trials are printed if the line doesn't say it.
 const SLOWEST: &str = "20";
 
@@ -86,6 +89,10 @@ pub(crate) struct Known {
 /// The reports in these two files are to be compared.
 #[derive(Debug, Drop)]
 pub(crate) struct Compare {
+    /// The factor by which a time is slower or faster than before, in hundredths.
+    pub(crate) slower: u64,
+    /// Whether those are listed that were not run in one report.
+    pub(crate) lists_missing: bool,
     pub(crate) old: String,
     pub(crate) new: String,
 }
@@ -286,7 +293,14 @@ impl Compare {
         if old == STANDARD && new == STANDARD {
             return Err(LineError::TwoInputs);
         }
+        // `--slower` has a default.
+        let factor = matches.get_str("slower").unwrap_or(SLOWER);
+        let Some(slower) = hundredths_of(factor) else {
+            return Err(LineError::Shown(wrong_factor(alloc, factor)?));
+        };
         Ok(Compare {
+            slower,
+            lists_missing: matches.get_flag("missing"),
             old: String::from_str(alloc, old)?,
             new: String::from_str(alloc, new)?,
         })
@@ -310,6 +324,45 @@ impl Slowest {
             files: files_of(alloc, matches)?,
         })
     }
+}
+
+// Returns the factor in hundredths. `None` if it is no number of at least 1 with at most two decimals, or if it is too great.
+fn hundredths_of(factor: &str) -> Option<u64> {
+    let (whole, decimals) = match factor.split_once('.') {
+        Some((whole, decimals)) => (whole, decimals_of(decimals)?),
+        None => (factor, 0),
+    };
+    if !whole.bytes().all(|byte| byte.is_ascii_digit()) {
+        return None;
+    }
+    let hundredths = whole
+        .parse::<u64>()
+        .ok()?
+        .checked_mul(100)?
+        .checked_add(decimals)?;
+    if hundredths < 100 {
+        return None;
+    }
+    Some(hundredths)
+}
+
+// Returns one or two decimals in hundredths.
+fn decimals_of(decimals: &str) -> Option<u64> {
+    match decimals.as_bytes() {
+        [tenths @ b'0'..=b'9'] => Some(u64::from(*tenths - b'0') * 10),
+        [tenths @ b'0'..=b'9', hundredths @ b'0'..=b'9'] => {
+            Some(u64::from(*tenths - b'0') * 10 + u64::from(*hundredths - b'0'))
+        }
+        _ => None,
+    }
+}
+
+// Returns the error of a line whose factor is none.
+fn wrong_factor(alloc: Global, factor: &str) -> Result<clap::Error, AllocError> {
+    let message = format!(in alloc;
+        "invalid value '{factor}' for '--slower <FACTOR>': a factor is a number of at least 1 with at most two decimals"
+    )?;
+    command(alloc)?.error(ErrorKind::ValueValidation, message.as_str())
 }
 
 // Returns the names of the files. At most one of them is standard input.
@@ -488,9 +541,18 @@ fn known_command<'a>(alloc: Global) -> Result<Command<'a>, AllocError> {
 fn compare_command<'a>(alloc: Global) -> Result<Command<'a>, AllocError> {
     let old = file(alloc, "OLD", "A report in JSON; - is standard input");
     let new = file(alloc, "NEW", "A later report in JSON; - is standard input");
+    let slower = Arg::new(alloc, "slower")
+        .long("slower")
+        .value_name("FACTOR")
+        .default_value(SLOWER)
+        .help("Print times that changed by more than this factor");
+    let missing = Arg::new(alloc, "missing")
+        .long("missing")
+        .action(ArgAction::SetTrue)
+        .help("Print also what a report lacks since it is cut or trials were filtered out");
     Command::new(alloc, "compare")
         .about("Print what is not in a report as in an older one")
-        .args(vec![in alloc; old, new]?)
+        .args(vec![in alloc; slower, missing, old, new]?)
 }
 
 fn page_command<'a>(alloc: Global) -> Result<Command<'a>, AllocError> {

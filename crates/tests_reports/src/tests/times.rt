@@ -1,6 +1,6 @@
 //! What is made of reports whose rows have times: what shows them, and what is the same without them. Expected texts are worked out
 //! by hand.
-use super::compare::compare;
+use super::compare::{OPTIONS, compare};
 use super::expect::{judged, numbers};
 use super::failures::failures_shown;
 use super::joining::join;
@@ -466,15 +466,16 @@ fn judges_the_same_without_times(rt: HostRuntime) -> Result<(), Fail> {
 }
 
 const UNCHANGED: &str =
-    "bench: m: 1,234 -> 1,234 ns/iter (1.00)\n0 regressed; 0 missing; 0 not run; 0 new; 0 not run before; 0 newly ignored; 0 newly passing; 0 another message; 8 unchanged\n";
+    "0 regressed; 0 missing; 0 not run; 0 new; 0 not run before; 0 newly ignored; 0 newly passing; 0 another message; 2 still failing; 6 unchanged; 0 slower; 0 faster\n";
 
 // What takes longer has not changed by that.
 #[test]
 fn compares_the_same_without_times(rt: HostRuntime) -> Result<(), Fail> {
     let alloc = rt.alloc();
     for (old, new) in [(TIMED, PLAIN), (PLAIN, TIMED), (TIMED, TIMED)] {
-        let (old, new) = (read(alloc, old)?, read(alloc, new)?);
-        let (bytes, compared) = compare(alloc, &old, &new, Vec::new(alloc));
+        let (old, new) = (text_of(alloc, old)?, text_of(alloc, new)?);
+        let (old, new) = (Slow::of(old.as_str()), Slow::of(new.as_str()));
+        let (bytes, compared) = compare(alloc, old, new, &OPTIONS, Vec::new(alloc));
         let status = compared?.status();
         let text = String::from_utf8(bytes)?;
         assert!(rt; status == 0 && text.as_str() == UNCHANGED, "{text}");

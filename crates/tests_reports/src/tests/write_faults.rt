@@ -1,6 +1,6 @@
 //! Calls whose writer fails: each returns the fault that the writer had, has written what comes before it, and doesn't call the
 //! writer again.
-use super::compare::{AFTER, BEFORE};
+use super::compare::{AFTER, BEFORE, OPTIONS};
 use super::cut::join_cut_into;
 use super::failures::KILLED;
 use super::lines::{read, text_of};
@@ -203,8 +203,9 @@ fn slowest(alloc: Global, writer: FaultyWriter) -> Written {
 }
 
 fn comparison(alloc: Global, writer: FaultyWriter) -> Written {
-    let (old, new) = (read(alloc, BEFORE)?, read(alloc, AFTER)?);
-    written!(alloc, writer, sink => write_comparison(alloc, &old, &new, &mut sink))
+    let (old, new) = (text_of(alloc, BEFORE)?, text_of(alloc, AFTER)?);
+    let (old, new) = (Slow::of(old.as_str()), Slow::of(new.as_str()));
+    written!(alloc, writer, sink => write_comparison(alloc, old, new, &OPTIONS, &mut sink))
 }
 
 // Of the first input all rows are judged, also if the writer fails in those of the second.

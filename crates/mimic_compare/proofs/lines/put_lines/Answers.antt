@@ -1,13 +1,8 @@
-use Rattle.mimic_printer.proofs.Appending.{Puts-stopped}
+use Rattle.mimic_printer.proofs.Appending.{Puts-stopped, Stopped-next}
 use Rattle.mimic_compare.specs.Text.{line_in}
-use Rattle.mimic_compare.proofs.Printed.{put_all, stopped_at}
 use Rattle.mimic_compare.proofs.lines.put_lines.Goals as goal
 
 pub returns-in_err-put_line : goal.returns-in_err-put_line
 returns-in_err-put_line g c =
     Puts-stopped _ _ c.from_residual.ensures.0
-    (stopped_at (line_in c.args.class) c.args.found.now c.loop-comparison.comparison-index c.comparison-item.result c.loop-comparison-test.true c.comparison-item.is c.loop-comparison.invariant
-    c.in_err-put_line.ensures)
-
-pub returns : goal.returns
-returns g c = put_all (line_in c.args.class) c.args.found.now c.loop-comparison.comparison-index c.loop-comparison-test.false c.loop-comparison.invariant
+    (Stopped-next (line_in c.args.class) c.args.found.now c.loop-comparison.comparison-index c.comparison-item.result c.loop-comparison-test.true c.loop-comparison.invariant (rw (← c.comparison-item.is) c.in_err-put_line.ensures))

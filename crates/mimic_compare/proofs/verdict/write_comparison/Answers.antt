@@ -1,29 +1,52 @@
-use Rattle.std.proofs.Common.{◌≡◌, ◌∙◌, List, ap, map, refl, subst}
-use Rattle.mimic_printer.specs.Sink.{Put, shown}
-use Rattle.mimic_compare.specs.Classes.{Compared}
-use Rattle.mimic_compare.specs.Keys.{comparison_read}
-use Rattle.mimic_compare.specs.Text.{comparison_text}
-use Rattle.mimic_compare.specs.Written.{found_in}
-use Rattle.mimic_compare.specs.declared.class.Class.TheVariants.{Regressed, Missing}
-use Rattle.mimic_compare.specs.declared.comparison.Comparison.{Comparison}
-use Rattle.mimic_compare.proofs.Printed.{counts_read}
+use Rattle.std.proofs.Common.{◌≡◌, ◌∙◌, ap}
+use Rattle.mimic_events.proofs.Results.{at_fault}
+use Rattle.mimic_printer.specs.Sink.{shown}
+use Rattle.mimic_printer.specs.declared.sink.OutputFault.TheVariants.{Write}
+use Rattle.mimic_compare.specs.Classes.{comparisons}
+use Rattle.mimic_compare.specs.Written.{Comparing, InputRead, LeavesComparison, found_in}
+use Rattle.mimic_compare.proofs.Found.{found_both}
 use Rattle.mimic_compare.proofs.verdict.write_comparison.Goals as goal
+
+pub returns-in_err-put_comparison-clause-written : goal.returns-in_err-put_comparison-clause-written
+returns-in_err-put_comparison-clause-written g c =
+    let before : InputRead = record { entries = c.in_ok-old.ensures.0; end = c.in_ok-old.old } in
+    let after : InputRead = record { entries = c.in_ok-new.ensures.0; end = c.in_ok-new.new } in
+    let found : c.in_ok-found.found.items ≡ found_in before after =
+    found_both _ _ _ before.entries after.entries _ c.in_ok-found.found.items c.new-trials.ensures.empty c.in_ok-old.ensures.2 c.in_ok-new.ensures.2 c.in_ok-found.ensures
+    ∙ ap (λ b. comparisons b before.entries after.entries) c.have_all.ensures in
+    let ranked = rw (c.deref.ensures.value, found) at c.in_ok-changes.ensures in
+    let whole : Comparing g.I.Read.remaining c.args.old c.args.new c.args.options.now = record {
+      before = before;
+      after = after;
+      is_old = c.in_ok-old.ensures.1;
+      is_new = c.in_ok-new.ensures.1;
+      ranked = c.in_ok-changes.changes.items;
+      order = ranked;
+    } in
+    let put = rw (c.deref-2.ensures.value, c.deref-3.ensures.value, found) at c.in_err-put_comparison.ensures in
+    at_fault
+    (LeavesComparison g.I.Read.remaining c.args.old c.args.new c.args.options.now (shown g.W.Write.contents c.args.sink.now) (shown g.W.Write.contents c.put_comparison.new.sink))
+    c.from_residual-in_err-put_comparison.result (Write c.in_err-put_comparison.field-0.0) c.from_residual-in_err-put_comparison.ensures.1
+    (whole, put)
 
 pub returns-clause-written : goal.returns-clause-written
 returns-clause-written g c =
-    let items : List Comparison = c.in_ok-found.found.items in
-    let found : List Compared = found_in c.args.old.now c.args.new.now in
-    let is : map comparison_read items ≡ found = c.in_ok-found.ensures ∙ rw (c.are_full-is_judged.ensures, c.deref.ensures.value, c.deref-2.ensures.value) refl in
-    let P : List Compared → Type 0 = λ f. Put (shown g.W.Write.contents c.args.sink.now) (shown g.W.Write.contents c.put_comparisons.new.sink) (comparison_text f) in (
-      subst P (ap (map comparison_read) c.deref-3.ensures.value ∙ is) c.in_ok-put_comparisons.ensures,
-      rw (
-        c.count_of.ensures,
-        c.deref-4.ensures.value,
-        counts_read Regressed items,
-        c.count_of-2.ensures,
-        c.deref-5.ensures.value,
-        counts_read Missing items,
-        is,
-        c.are_whole.ensures,
-      ),
+    let before : InputRead = record { entries = c.in_ok-old.ensures.0; end = c.in_ok-old.old } in
+    let after : InputRead = record { entries = c.in_ok-new.ensures.0; end = c.in_ok-new.new } in
+    let found : c.in_ok-found.found.items ≡ found_in before after =
+    found_both _ _ _ before.entries after.entries _ c.in_ok-found.found.items c.new-trials.ensures.empty c.in_ok-old.ensures.2 c.in_ok-new.ensures.2 c.in_ok-found.ensures
+    ∙ ap (λ b. comparisons b before.entries after.entries) c.have_all.ensures in
+    let ranked = rw (c.deref.ensures.value, found) at c.in_ok-changes.ensures in
+    let whole : Comparing g.I.Read.remaining c.args.old c.args.new c.args.options.now = record {
+      before = before;
+      after = after;
+      is_old = c.in_ok-old.ensures.1;
+      is_new = c.in_ok-new.ensures.1;
+      ranked = c.in_ok-changes.changes.items;
+      order = ranked;
+    } in
+    let put = rw (c.deref-2.ensures.value, c.deref-3.ensures.value, found) at c.in_ok-put_comparison.ensures in (
+      whole,
+      put,
+      rw (c.count_of.ensures, c.deref-4.ensures.value, c.count_of-2.ensures, c.deref-5.ensures.value, found),
     )
