@@ -60,10 +60,7 @@ pub(crate) struct Listing {
 /// Of a report that is cut or was not read to its end these are the rows that have ended, and the page says why, and how many are
 /// missing. With a fault a beginning of the page was written.
 #[tactic(auto, using(crate::proofs::PageLaws::page_laws))]
-pub fn write_page<W: Write>(
-    page: &PageContents<'_>,
-    sink: &mut Sink<W>,
-) -> Result<(), WriteFault>
+pub fn write_page<W: Write>(page: &PageContents<'_>, sink: &mut Sink<W>) -> Result<(), WriteFault>
     requires { HasFaultLeft sink.old }
     ensures page { Puts W.contents sink.old sink.new (page_text page.now) result }
 

@@ -122,20 +122,18 @@ pub(crate) fn put_ending<W: Write>(
     ensures { Puts W.contents sink.old sink.new (ending_text ended ending.now) result }
 {
     match ending {
-        SuiteEnding::Read(Ending::Whole {
-            filtered_out,
-            nanos,
-        }) => put_whole(sink, *filtered_out, *nanos),
+        SuiteEnding::Read(
+            Ending::Whole {
+                filtered_out,
+                nanos,
+            },
+        ) => put_whole(sink, *filtered_out, *nanos),
         SuiteEnding::Read(Ending::Cut(stop)) => put_stop(sink, ended, stop),
         SuiteEnding::Unread(cause) => put_unread(sink, ended, cause.as_str()),
     }
 }
 
-fn put_whole<W: Write>(
-    sink: &mut Sink<W>,
-    filtered_out: u64,
-    nanos: u64,
-) -> Result<(), WriteFault>
+fn put_whole<W: Write>(sink: &mut Sink<W>, filtered_out: u64, nanos: u64) -> Result<(), WriteFault>
     requires { HasFaultLeft sink.old }
     ensures { Puts W.contents sink.old sink.new (whole_text filtered_out nanos) result }
 {
@@ -245,7 +243,9 @@ fn put_total<W: Write>(sink: &mut Sink<W>, total: u64, slowest: u64) -> Result<(
 fn has_times(rows: &[Row]) -> bool
     ensures { result ≡ list_any is_some (map (λ row. row.nanos) rows.now) }
 {
-    rows.iter().map(|row| row.nanos).any(|nanos| nanos.is_some())
+    rows.iter()
+        .map(|row| row.nanos)
+        .any(|nanos| nanos.is_some())
 }
 
 fn total_time(rows: &[Row]) -> u64
@@ -306,10 +306,7 @@ pub(crate) fn put_counts<W: Write>(
 
 // Writes links to the groups that have rows, and the filter.
 #[tactic(auto, unfolding(crate::specs::Page::links_text))]
-pub(crate) fn put_links<W: Write>(
-    sink: &mut Sink<W>,
-    counts: &Conclusion,
-) -> Result<(), WriteFault>
+pub(crate) fn put_links<W: Write>(sink: &mut Sink<W>, counts: &Conclusion) -> Result<(), WriteFault>
     requires { HasFaultLeft sink.old }
     ensures { Puts W.contents sink.old sink.new (links_text counts.now) result }
 {
