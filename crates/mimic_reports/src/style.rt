@@ -124,7 +124,7 @@ meter::-webkit-meter-optimum-value { border-radius: .375rem; background: var(--m
 meter::-moz-meter-bar { border-radius: .375rem; background: var(--measured); }
 main .failed { margin: .5rem 0; padding: 0 1rem; border: 1px solid var(--line); border-left: .25rem solid var(--colour); border-radius: .4rem; }
 summary { position: relative; padding: .55rem 1.5rem .55rem 0; cursor: pointer; }
-summary::after { position: absolute; right: 0; color: var(--faint); content: "\25b8"; content: "\25b8" / ""; }
+summary::after { position: absolute; top: .55rem; right: 0; color: var(--faint); content: "\25b8"; content: "\25b8" / ""; }
 [open] summary::after { content: "\25be"; content: "\25be" / ""; }
 summary bdi:last-of-type { font-weight: 600; }
 main pre, main li p { padding: .6rem 0 .8rem; border-top: 1px solid var(--line); }
