@@ -19,7 +19,7 @@ use mimic_trial::Outcome;
 use std::io::Write;
 
 /// What a page shows.
-#[derive(Clone, Copy)]
+#[derive(Clone, Copy, Debug)]
 pub struct PageContents<'a> {
     /// What is in the heading and in the title, such as the name of the program.
     pub title: &'a str,
@@ -29,8 +29,8 @@ pub struct PageContents<'a> {
     pub rows: &'a [Row],
     /// How the reading of the report ended.
     pub ending: &'a SuiteEnding,
-    /// How many rows of trials that did not fail are listed at most. Failures are always listed, and the page says how many other
-    /// rows are not.
+    /// How many rows of trials that did not fail are listed at most: none with 0, and all with `u64::MAX`. Failures are always listed, and
+    /// the page says how many other rows are not.
     pub most: u64,
 }
 
@@ -53,9 +53,9 @@ pub(crate) struct Listing {
 
 /// Writes a report as a page of HTML, and flushes it. The page needs nothing from outside, and can be read without its script.
 ///
-/// Each failure is listed once, and each other row once up to the limit of the contents. A row has an id made of its kind and name, so
-/// that a link to it leads to the trial of that name on a later page too. Rows with the same kind and name have the same id, and a link
-/// leads to the first of them.
+/// Each failure is listed once, and so is each other row, up to the limit of the contents. Of these come first those that were measured.
+/// A row has an id that is made of its kind and name, so that a link to it leads to the trial of that name on a later page too. Rows with
+/// the same kind and name have the same id, and a link leads to the first of them.
 ///
 /// Of a report that is cut or was not read to its end these are the rows that have ended, and the page says why, and how many are
 /// missing. With a fault a beginning of the page was written.
@@ -64,8 +64,8 @@ pub fn write_page<W: Write>(page: &PageContents<'_>, sink: &mut Sink<W>) -> Resu
     requires { HasFaultLeft sink.old }
     ensures page { Puts W.contents sink.old sink.new (page_text page.now) result }
 
-    // Failures are never left out, nor is another row if the limit allows all, and none is there twice. Each text can be unescaped,
-    // and escaped text has no markup. Ids tell apart what has another kind or name.
+    // No failure is left out, nor any row if the limit is at least their number, and none is there twice. Each text can be unescaped,
+    // and escaped text has no markup. Rows with other kinds or names have other ids.
     ensures laws { PageLaws }
 {
     put_header(sink, page)?;

@@ -107,7 +107,7 @@ input[type="checkbox"] { accent-color: var(--colour); }
 output { margin-left: auto; color: var(--faint); }
 section:not(:has(li, .unlisted)), ol:not(:has(li)) { display: none; }
 ol { content-visibility: auto; contain-intrinsic-size: auto 60rem; }
-section, main li { scroll-margin-top: 4.5rem; }
+section, main li { scroll-margin-top: 7rem; }
 main li { border-bottom: 1px solid var(--line); }
 main li:target { background: var(--sheet); box-shadow: 0 0 0 .15rem var(--colour); }
 main li:not(.failed), summary { display: flex; gap: .75rem; align-items: baseline; padding: .35rem 0; }
