@@ -109,7 +109,7 @@ section:not(:has(li, .unlisted)), ol:not(:has(li)) { display: none; }
 ol { content-visibility: auto; contain-intrinsic-size: auto 60rem; }
 section, main li { scroll-margin-top: 7rem; }
 main li { border-bottom: 1px solid var(--line); }
-main li:target { background: var(--sheet); box-shadow: 0 0 0 .15rem var(--colour); }
+main li:target { background: var(--sheet); box-shadow: inset 0 0 0 .125rem var(--colour); }
 main li:not(.failed), summary { display: flex; gap: .75rem; align-items: baseline; padding: .35rem 0; }
 main a { flex: none; width: 4.25rem; color: var(--colour); font-size: .875rem; font-weight: 700; text-decoration: none; }
 main a:hover, main a:focus-visible { text-decoration: underline; }
