@@ -94,7 +94,7 @@ function order() {
   }
 }
 
-function open(whether) {
+function setOpen(whether) {
   for (const details of document.querySelectorAll("details")) {
     details.open = whether;
   }
@@ -105,8 +105,8 @@ form.addEventListener("input", () => {
   keep();
 });
 form.addEventListener("submit", (event) => event.preventDefault());
-fold.addEventListener("click", () => open(false));
-unfold.addEventListener("click", () => open(true));
+fold.addEventListener("click", () => setOpen(false));
+unfold.addEventListener("click", () => setOpen(true));
 sort.addEventListener("click", order);
 fold.hidden = unfold.hidden = document.querySelector("details") === null;
 sort.hidden = document.querySelector("main .time") === null;
@@ -115,4 +115,4 @@ form.hidden = false;
 "#;
 
 // The script's digest, by which the page allows it and no other. If the script changes, `checks/programs` prints the new one.
-pub(crate) const SCRIPT_DIGEST: &str = "sha256-yiQOUKWwUe1Pq0GwZwdY29UpCuG3CRfqHznTpTXLwJY=";
+pub(crate) const SCRIPT_DIGEST: &str = "sha256-cqfjaZmr/xN2aLSjBCwyh0FCwM7+XbJsLphZfpcEjPQ=";
