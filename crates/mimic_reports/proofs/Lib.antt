@@ -1,5 +1,6 @@
 pub mod Alone
 pub mod Documents
+pub mod Ids
 pub mod PageLaws
 pub mod Pages
 pub mod RowCounts

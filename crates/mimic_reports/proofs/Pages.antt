@@ -1,120 +1,160 @@
 -- The parts of a page, one after another.
-use Rattle.std.proofs.Common.{◌≡◌, arith, codes, ℕ, suc, ◌+◌, ◌<◌, ◌≤◌, append_assoc, drop, drop-cons, get_or, List, [], ◌++◌, Result, length, map, sym, ap, subst, ◌∙◌, append-nil}
+use Rattle.std.proofs.Common.{◌≡◌, arith, ℕ, zero, suc, ◌+◌, ◌-◌, ◌<◌, ◌≤◌, Bool, true, false, nat_lt, append_assoc, take, drop, drop-cons, get_or, List, [], ◌∷◌, ◌++◌, Result, length, map, refl, sym, ap, subst, ◌∙◌, append-nil}
+use Rattle.std.proofs.lemmas.Bool.{lt-ltb, ltb-true, ltb-false}
 use Rattle.std.proofs.lemmas.List.{drop_all, length-map}
-use Rattle.std.proofs.lemmas.Simd.{map-map}
-use Rattle.std.specs.Result.{IsErr}
-use Rattle.mimic_trial.specs.Count.{counts_of}
-use Rattle.mimic_trial.specs.declared.outcome.conclusion.Conclusion.{Conclusion}
+use Rattle.mimic_printer.specs.Json.{Entry}
 use Rattle.mimic_printer.specs.Sink.{Put, Shown, Stopped, Writes}
 use Rattle.mimic_printer.proofs.Appending.{Put-Stopped, Put-trans, Puts-stopped, Puts_then, Stopped-more}
 use Rattle.mimic_events.specs.Contents.{entry_read}
 use Rattle.mimic_events.specs.declared.report.Row.{Row}
-use Rattle.mimic_events.specs.declared.ending.Ending.{Ending}
+use Rattle.mimic_reports.specs.declared.page.Listing.{Listing}
+use Rattle.mimic_reports.specs.declared.page.PageContents.{PageContents}
 use Rattle.mimic_reports.specs.declared.page.Group.{Group}
-use Rattle.mimic_reports.specs.Page.{counts_text, end_text, ending_text, greatest_time, group_text, heading, list_end, missing_in, page_text, row_in, rows_after, rows_text, start_text}
+use Rattle.mimic_reports.specs.declared.page.Group.TheVariants.{Failed, Measured, Others}
+use Rattle.mimic_trial.specs.Count.{counts_of}
+use Rattle.mimic_trial.specs.declared.outcome.conclusion.Conclusion.{Conclusion}
+use Rattle.std.specs.Result.{IsErr}
+use Rattle.std.specs.List.{flat_map}
+use Rattle.std.specs.Prelude.{string_bytes}
+use Rattle.std.proofs.lemmas.Simd.{map-map}
+use Rattle.mimic_reports.specs.Page.{bar_of, counts_text, ending_text, found_after, greatest_time, group_text, header_text, heading, links_text, missing_in, note_text, rows_text, start_text, times_text, is_in, list_end, row_in, row_text, rows_after, rows_of, unlisted_text}
 
 -- ---- a group of rows
 
-module _ (group : Group) (longest : ℕ) (rows : List Row) where
-  abbrev all : List ℕ
-  all = group_text group (map entry_read rows) longest
+module _ (l : Listing) where
+  -- the texts of the rows that follow `found` rows of the group, and its end
+  abbrev rest : ℕ → List Entry → List ℕ
+  rest found entries = rows_after l.longest found (take (l.limit - found) (rows_of l.group entries))
+      ++ unlisted_text ((found + length (rows_of l.group entries)) - l.limit)
 
-  abbrev group_end : List ℕ
-  group_end = codes "</ol>\n</section>\n"
-
-  -- the texts of the rows from a place on, and the end
-  abbrev from : ℕ → List ℕ
-  from at = rows_after at group longest (map entry_read (drop at rows)) ++ group_end
-
-  -- the heading and the rows before it were written
-  pub record RowsWritten (old new : Shown) (at : ℕ) : Type 0 where
-    pub done : List ℕ
-    pub parts : all ≡ done ++ from at
-    pub put : Put old new done
-
-  pub stopped_heading : {a b : Shown} (start : List ℕ) → start ≡ heading group → Stopped a b start
-      → Stopped a b all
-  stopped_heading {a} {b} start is s =
-      subst (Stopped a b) (ap (λ (l : List ℕ). l ++ from 0) is) (Stopped-more start (from 0) s)
-
-  pub none_written : {a b : Shown} (start : List ℕ) → start ≡ heading group → Put a b start
-      → RowsWritten a b 0
-  none_written start is p = record {
-    done = start;
-    parts = ap (λ (l : List ℕ). l ++ from 0) (sym is);
-    put = p;
-  }
-
-  module _ (at : ℕ) (d : Row) (h : at < length rows) where
-    abbrev row : List ℕ
-    row = row_in group longest (entry_read (get_or rows at d))
-
-    one_row : from at ≡ row ++ (list_end (at + 1) ++ from (at + 1))
-    unfolding rows_after
-    one_row =
-        let next : suc at ≡ at + 1 = omega arith in
-        let rest : ℕ → List ℕ = λ n. rows_after n group longest (map entry_read (drop n rows)) in
-        ap (λ (l : List Row). rows_after at group longest (map entry_read l) ++ group_end)
-        (drop-cons rows at d h)
-        ∙ ap (λ (n : ℕ). (row ++ (list_end n ++ rest n)) ++ group_end) next
-        ∙ append_assoc row (list_end (at + 1) ++ rest (at + 1)) group_end
-        ∙ ap (λ (l : List ℕ). row ++ l) (append_assoc (list_end (at + 1)) (rest (at + 1)) group_end)
-
-    -- a fault in the row, or in what follows it
-    pub stopped_in : {a b c : Shown} → RowsWritten a b at
-        → Stopped b c (row ++ (list_end (at + 1) ++ from (at + 1))) → Stopped a c all
-    stopped_in {a} {b} {c} w s =
-        subst (Stopped a c) (ap (λ (l : List ℕ). w.done ++ l) (sym one_row) ∙ sym w.parts)
-        (Put-Stopped w.done _ w.put s)
-
-    pub more_rows : {a b c e : Shown} → RowsWritten a b at → Put b c row
-        → Put c e (list_end (at + 1)) → RowsWritten a e (at + 1)
-    more_rows w p q = record {
-      done = w.done ++ (row ++ list_end (at + 1));
-      parts = w.parts
-          ∙ ap (λ (l : List ℕ). w.done ++ l)
-          (one_row ∙ sym (append_assoc row (list_end (at + 1)) (from (at + 1))))
-          ∙ sym (append_assoc w.done (row ++ list_end (at + 1)) (from (at + 1)));
-      put = Put-trans w.done _ w.put (Put-trans row (list_end (at + 1)) p q);
-    }
-
-  end_left : (at : ℕ) → length rows ≤ at → from at ≡ group_end
+  next_row : (p q : Bool) (e : Entry) (entries : List Entry) (found : ℕ) → is_in l.group e.outcome ≡ p → nat_lt found l.limit ≡ q
+      → rest found (e ∷ entries) ≡ row_in l found e ++ rest (found_after l.group found e) entries
   unfolding rows_after
-  end_left at h =
-      ap (λ (l : List Row). rows_after at group longest (map entry_read l) ++ group_end)
-      (drop_all at rows h)
+  next_row false q e entries found h k = rw h refl
+  next_row true true e entries found h k =
+      let below : found < l.limit = ltb-true found l.limit k in
+      let left : l.limit - found ≡ suc (l.limit - (found + 1)) = omega (arith, below) in
+      let more : suc found ≡ found + 1 = omega arith in
+      let count : found + suc (length (rows_of l.group entries)) ≡ found + 1 + length (rows_of l.group entries) = omega arith in
+      rw (h, k, left, count, more) (simp append_assoc)
+  next_row true false e entries found h k =
+      let above : l.limit ≤ found = ltb-false found l.limit k in
+      let none : l.limit - found ≡ 0 = omega (arith, above) in
+      let still : l.limit - (found + 1) ≡ 0 = omega (arith, above) in
+      let count : found + suc (length (rows_of l.group entries)) ≡ found + 1 + length (rows_of l.group entries) = omega arith in
+      rw (h, k, none, still, count) refl
 
-  pub all_written : {E T : Type 0} (a b c : Shown) (at : ℕ) (result : Result T E)
-      → length rows ≤ at → RowsWritten a b at → Writes b c group_end result → Writes a c all result
-  all_written a b c at result h w p =
-      subst (λ (l : List ℕ). Writes a c l result)
-      (ap (λ (l : List ℕ). w.done ++ l) (sym (end_left at h)) ∙ sym w.parts)
-      (Puts_then a b c w.done group_end result w.put p)
+  pub listed_row : (found : ℕ) (e : Entry) → is_in l.group e.outcome ≡ true → found < l.limit
+      → row_text l.longest e ++ list_end (found + 1) ≡ row_in l found e
+  listed_row found e h k = rw (h, lt-ltb _ _ k) refl
 
--- the three groups
-pub groups_put : {E T : Type 0} (a b c d : Shown) (x y z : List ℕ) (result : Result T E)
+  module _ (rows : List Row) where
+    abbrev all : List ℕ
+    all = group_text l (map entry_read rows)
+
+    abbrev from : ℕ → ℕ → List ℕ
+    from at found = rest found (map entry_read (drop at rows))
+
+    -- the heading and the rows before it were written, of which `found` are in the group
+    pub record RowsWritten (old new : Shown) (at found : ℕ) : Type 0 where
+      pub within : found ≤ at
+      pub done : List ℕ
+      pub parts : all ≡ done ++ from at found
+      pub put : Put old new done
+
+    whole : (start : List ℕ) → start ≡ heading l.group → all ≡ start ++ from 0 0
+    unfolding group_text
+    whole start is =
+        let limit : l.limit - 0 ≡ l.limit = omega arith in
+        let count : 0 + length (rows_of l.group (map entry_read rows)) ≡ length (rows_of l.group (map entry_read rows)) = omega arith in
+        rw (is, limit, count, append-nil) refl
+
+    pub stopped_heading : {a b : Shown} (start : List ℕ) → start ≡ heading l.group → Stopped a b start → Stopped a b all
+    stopped_heading {a} {b} start is s = subst (Stopped a b) (sym (whole start is)) (Stopped-more start (from 0 0) s)
+
+    pub none_written : {a b : Shown} (start : List ℕ) → start ≡ heading l.group → Put a b start → RowsWritten a b 0 0
+    none_written start is p = record { within = omega arith; done = start; parts = whole start is; put = p }
+
+    module _ (at found : ℕ) (d : Row) (h : at < length rows) where
+      abbrev entry : Entry
+      entry = entry_read (get_or rows at d)
+
+      one_row : from at found ≡ row_in l found entry ++ from (at + 1) (found_after l.group found entry)
+      one_row =
+          let next : suc at ≡ at + 1 = omega arith in
+          ap (λ (r : List Row). rest found (map entry_read r)) (drop-cons rows at d h)
+          ∙ next_row (is_in l.group entry.outcome) (nat_lt found l.limit) entry (map entry_read (drop (suc at) rows)) found refl refl
+          ∙ ap (λ (n : ℕ). row_in l found entry ++ from n (found_after l.group found entry)) next
+
+      -- a fault in the row, or in what follows it
+      pub stopped_in : {a b c : Shown} → RowsWritten a b at found → Stopped b c (row_in l found entry) → Stopped a c all
+      stopped_in {a} {b} {c} w s =
+          subst (Stopped a c) (ap (λ (t : List ℕ). w.done ++ t) (sym one_row) ∙ sym w.parts)
+          (Put-Stopped w.done _ w.put (Stopped-more (row_in l found entry) _ s))
+
+      pub more_rows : {a b c : Shown} (count : ℕ) → count ≡ found_after l.group found entry → RowsWritten a b at found
+          → Put b c (row_in l found entry) → RowsWritten a c (at + 1) count
+      more_rows count is w p = record {
+        within = no_more (is_in l.group entry.outcome) refl;
+        done = w.done ++ row_in l found entry;
+        parts = w.parts ∙ ap (λ (t : List ℕ). w.done ++ t) (one_row ∙ ap (λ n. row_in l found entry ++ from (at + 1) n) (sym is))
+            ∙ sym (append_assoc w.done (row_in l found entry) (from (at + 1) count));
+        put = Put-trans w.done _ w.put p;
+      }
+        where
+          no_more : (p : Bool) → is_in l.group entry.outcome ≡ p → count ≤ at + 1
+          no_more true e = let n : count ≡ found + 1 = is ∙ rw e refl in omega (arith, w.within, n)
+          no_more false e = let n : count ≡ found = is ∙ rw e refl in omega (arith, w.within, n)
+
+    end_left : (at found : ℕ) → length rows ≤ at → from at found ≡ unlisted_text (found - l.limit)
+    unfolding rows_after
+    end_left at found h =
+        let none : found + 0 ≡ found = omega arith in
+        let empty : (n : ℕ) → take n (rows_of l.group []) ≡ [] = no_rows in
+        ap (λ (r : List Row). rest found (map entry_read r)) (drop_all at rows h) ∙ rw (empty (l.limit - found), none) refl
+      where
+        no_rows : (n : ℕ) → take n (rows_of l.group []) ≡ []
+        no_rows zero = refl
+        no_rows (suc n) = refl
+
+    pub all_written : {E T : Type 0} (a b c : Shown) (at found left : ℕ) (result : Result T E) → length rows ≤ at → left ≡ found - l.limit
+        → RowsWritten a b at found → Writes b c (unlisted_text left) result → Writes a c all result
+    all_written a b c at found left result h is w p =
+        subst (λ (t : List ℕ). Writes a c t result)
+        (ap (λ (t : List ℕ). w.done ++ t) (ap unlisted_text is ∙ sym (end_left at found h)) ∙ sym w.parts)
+        (Puts_then a b c w.done _ result w.put p)
+
+-- three parts
+pub three_put : {E T : Type 0} (a b c d : Shown) (x y z : List ℕ) (result : Result T E)
     → Put a b x → Put b c y → Writes c d z result → Writes a d (x ++ (y ++ (z ++ []))) result
-groups_put a b c d x y z result p q w =
-    subst (λ (l : List ℕ). Writes a d (x ++ (y ++ l)) result) (sym (append-nil z))
+three_put a b c d x y z result p q w =
+    subst (λ (t : List ℕ). Writes a d (x ++ (y ++ t)) result) (sym (append-nil z))
     (Puts_then a b d x _ result p (Puts_then b c d y z result q w))
 
--- ---- the whole page
+-- a text that is another one
+pub stopped_as : {E T : Type 0} {a b : Shown} (s t : List ℕ) → s ≡ t → (result : Result T E) → IsErr result → Stopped a b s → Writes a b t result
+stopped_as {a = a} {b = b} s t is result failed stopped = Puts-stopped t result failed (subst (Stopped a b) is stopped)
 
-module _ (program : List ℕ) (items rows : List Row) (ending : Ending) (counts : Conclusion) (missing : ℕ) (same : rows ≡ items)
-    (counted : counts ≡ counts_of (map (λ row. row.outcome) rows) 0) (left : missing ≡ missing_in (length rows) ending) where
-  abbrev page : List ℕ
-  page = page_text program (map entry_read items) ending
+pub put_as : {E T : Type 0} (a b : Shown) (s t : List ℕ) → s ≡ t → (result : Result T E) → Writes a b s result → Writes a b t result
+put_as a b s t is result w = subst (λ (l : List ℕ). Writes a b l result) is w
 
-  abbrev parts : List ℕ
-  parts = start_text program counts ending ++ (ending_text (length rows) ending ++ (counts_text counts missing
-      ++ (rows_text (map entry_read rows) (greatest_time (map (λ row. row.outcome) rows)) ++ (end_text ++ []))))
+-- ---- all groups
 
-  whole : parts ≡ page
-  unfolding page_text
-  whole = simp (counted, left, same, length-map, map-map)
+module _ (rows : List Row) (most longest left : ℕ) (long : longest ≡ bar_of (greatest_time (map (λ row. row.outcome) rows)))
+    (rest_of : left ≡ most - (counts_of (map (λ row. row.outcome) rows) 0).num_measured) where
+  abbrev pub group_of : Group → ℕ → List ℕ
+  group_of group limit = group_text (record { group = group; limit = limit; longest = longest }) (map entry_read rows)
 
-  pub stopped_page : {E T : Type 0} {a b : Shown} (result : Result T E) → IsErr result → Stopped a b parts → Writes a b page result
-  stopped_page {a} {b} result failed s = Puts-stopped page result failed (subst (Stopped a b) whole s)
+  pub groups_are : group_of Failed (length rows) ++ (group_of Measured most ++ (group_of Others left ++ [])) ≡ rows_text most (map entry_read rows)
+  unfolding rows_text
+  groups_are = simp (long, rest_of, length-map, map-map)
 
-  pub page_put : {E T : Type 0} (a b : Shown) (result : Result T E) → Writes a b parts result → Writes a b page result
-  page_put a b result w = subst (λ (l : List ℕ). Writes a b l result) whole w
+-- ---- what comes before the rows
+
+module _ (page : PageContents) (counts : Conclusion) (missing : ℕ) (counted : counts ≡ counts_of (map (λ row. row.outcome) page.rows.now) 0)
+    (left : missing ≡ missing_in (length page.rows.now) page.ending.now) where
+  pub header_is : start_text page.title.now counts page.ending.now ++ (flat_map (λ note. note_text (string_bytes note)) page.notes.now
+      ++ (ending_text (length page.rows.now) page.ending.now ++ (times_text (map (λ row. row.nanos) page.rows.now)
+      ++ (counts_text counts missing ++ (links_text counts ++ []))))) ≡ header_text page
+  unfolding header_text
+  header_is = simp (counted, left, length-map, map-map)

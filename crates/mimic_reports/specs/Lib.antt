@@ -1,6 +1,8 @@
 pub mod Cut
+pub mod HumanTime
 pub mod Junit
 pub mod Page
+pub mod RowIds
 pub mod Seconds
 pub mod Show
 pub mod Slowest

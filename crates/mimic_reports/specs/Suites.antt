@@ -101,6 +101,11 @@ abbrev pub KeepsRows : {I : Type 0} → SuiteRows I → List Entry → Type 0
 KeepsRows (Kept rows) entries = map entry_read rows.items ≡ entries
 KeepsRows (Again input counts) entries = ⊥
 
+-- the rows, if they are kept
+abbrev pub rows_kept : {I : Type 0} → SuiteRows I → Option (List Entry)
+rows_kept (Kept rows) = Some (map entry_read rows.items)
+rows_kept (Again input counts) = None
+
 -- why the input was not read to its end: with a fault of the reader these rows had ended in it, if its bytes are known
 abbrev pub KeepsBefore : Option (List ℕ) → SuiteFault → Type 0
 KeepsBefore input unread.OutOfMemory = ⊤

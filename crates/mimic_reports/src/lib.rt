@@ -4,21 +4,32 @@
 //! ```rust
 //! use mimic_events::{read_from, read_rows};
 //! use mimic_printer::Sink;
-//! use mimic_reports::{show_report, write_page};
+//! use mimic_reports::{PageContents, SuiteEnding, show_report, write_page};
 //!
 //! let report = read_from(alloc, &mut report_file)?;
 //! // In pretty, without colours:
 //! show_report(alloc, report, false, &mut terminal)?;
 //! let read = read_rows(alloc, any_file)?;
-//! write_page("harness", &read, &mut Sink::new(page_file))?;
+//! let page = PageContents {
+//!     title: "harness",
+//!     notes: &[],
+//!     rows: &read.rows,
+//!     ending: &SuiteEnding::Read(read.ending),
+//!     most: u64::MAX,
+//! };
+//! write_page(&page, &mut Sink::new(page_file))?;
 //! ```
 #![tactic(auto)]
 
+mod bar;
 mod cut;
+mod human_time;
 mod junit;
 mod junit_elements;
 mod page;
 mod page_elements;
+mod page_row;
+mod row_id;
 mod script;
 mod seconds;
 mod show;
@@ -28,7 +39,7 @@ mod suite;
 
 pub use cut::put_running;
 pub use junit::{JunitFault, write_junit, write_suite};
-pub use page::write_page;
+pub use page::{PageContents, write_page};
 pub use show::{show_cut, show_failures, show_report};
 pub use slowest::write_slowest;
 pub use suite::{Suite, SuiteEnding, SuiteFault, status_of};

@@ -1,17 +1,38 @@
 //! Writes the page of a report.
-ghost use Rattle.std.specs.Prelude.{◌≡◌, map};
+ghost use Rattle.std.specs.Prelude.{◌≡◌, ◌<◌, ◌^◌, ◌-◌, IfOk, count_by, length, map, string_bytes};
+ghost use Rattle.mimic_trial.specs.Count.{is_measured};
+ghost use Rattle.std.specs.List.{flat_map};
 ghost use Rattle.mimic_printer.specs.Sink.{HasFaultLeft, Puts};
 ghost use Rattle.mimic_events.specs.Contents.{entry_read};
-ghost use Rattle.mimic_reports.specs.Page.{PageLaws, greatest_time, group_text, list_end, missing_in, page_text, row_in, rows_text, time_of};
+ghost use Rattle.mimic_reports.specs.Page.{PageLaws, bar_of, found_after, greatest_time, group_text, header_text, missing_in, note_text, page_text, row_in, rows_text, time_of};
 
-use crate::page_elements::{put_counts, put_end, put_ending, put_row, put_start};
-use mimic_events::{Ending, Row, RowsRead, counts_of_rows};
+use crate::bar::bar_of;
+use crate::page_elements::{
+    put_counts, put_end, put_ending, put_links, put_list_end, put_note, put_start, put_times,
+    put_unlisted,
+};
+use crate::page_row::put_row;
+use crate::suite::SuiteEnding;
+use mimic_events::{Ending, Row, counts_of_rows};
 use mimic_printer::{Sink, WriteFault};
 use mimic_trial::Outcome;
 use std::io::Write;
 
-// How many rows of a report are in one list at most.
-const LIST: usize = 500;
+/// What a page shows.
+#[derive(Clone, Copy, Debug)]
+pub struct PageContents<'a> {
+    /// What is in the heading and in the title, such as the name of the program.
+    pub title: &'a str,
+    /// What is below the heading, such as the host and the commit. Each is a paragraph.
+    pub notes: &'a [String],
+    /// The rows that have ended.
+    pub rows: &'a [Row],
+    /// How the reading of the report ended.
+    pub ending: &'a SuiteEnding,
+    /// How many rows of trials that did not fail are listed at most: none with 0, and all with `u64::MAX`. Failures are always listed, and
+    /// the page says how many other rows are not.
+    pub most: u64,
+}
 
 // The rows that are under one heading.
 #[derive(Clone, Copy, Debug)]
@@ -22,74 +43,134 @@ pub(crate) enum Group {
     Others,
 }
 
-/// Writes a report of the program as a page of HTML, with each of its rows once, and flushes it. The page needs nothing from
-/// outside, and can be read without its script.
-///
-/// Of a report that is cut these are the rows that have ended, and the page says how many are missing. With a fault a beginning of
-/// the page was written.
-#[tactic(auto, using(crate::proofs::PageLaws::page_laws))]
-pub fn write_page<'a, W: Write>(
-    program: &'a str,
-    read: &'a RowsRead,
-    sink: &mut Sink<W>,
-) -> Result<(), WriteFault>
-    requires { HasFaultLeft sink.old }
-    ensures page { Puts W.contents sink.old sink.new
-        (page_text program.now (map entry_read read.now.rows.items) read.now.ending) result }
+// How the rows of a group are listed: how many at most, and how long the longest bar is.
+#[derive(Clone, Copy)]
+pub(crate) struct Listing {
+    pub(crate) group: Group,
+    pub(crate) limit: u64,
+    pub(crate) longest: u64,
+}
 
-    // No row is left out, and none is there twice. Each text can be unescaped, and escaped text has no markup.
+/// Writes a report as a page of HTML, and flushes it. The page needs nothing from outside, and can be read without its script.
+///
+/// Each failure is listed once, and so is each other row, up to the limit of the contents. Of these come first those that were measured.
+/// A row has an id that is made of its kind and name, so that a link to it leads to the trial of that name on a later page too. Rows with
+/// the same kind and name have the same id, and a link leads to the first of them.
+///
+/// Of a report that is cut or was not read to its end these are the rows that have ended, and the page says why, and how many are
+/// missing. With a fault a beginning of the page was written.
+#[tactic(auto, using(crate::proofs::PageLaws::page_laws))]
+pub fn write_page<W: Write>(page: &PageContents<'_>, sink: &mut Sink<W>) -> Result<(), WriteFault>
+    requires { HasFaultLeft sink.old }
+    ensures page { Puts W.contents sink.old sink.new (page_text page.now) result }
+
+    // No failure is left out, nor any row if the limit is at least their number, and none is there twice. Each text can be unescaped,
+    // and escaped text has no markup. Rows with other kinds or names have other ids.
     ensures laws { PageLaws }
 {
-    let RowsRead { rows, ending } = read;
-    let rows = rows.as_slice();
-    let counts = counts_of_rows(rows, 0);
-    let ended = rows.len() as u64;
-    put_start(sink, program, &counts, ending)?;
-    put_ending(sink, ended, ending)?;
-    put_counts(sink, &counts, missing(ended, ending))?;
-    put_groups(sink, rows)?;
+    put_header(sink, page)?;
+    put_groups(sink, page.rows, page.most)?;
     put_end(sink)
 }
 
+// Writes what comes before the rows.
+fn put_header<W: Write>(sink: &mut Sink<W>, page: &PageContents<'_>) -> Result<(), WriteFault>
+    requires { HasFaultLeft sink.old }
+    ensures { Puts W.contents sink.old sink.new (header_text page.now) result }
+{
+    let counts = counts_of_rows(page.rows, 0);
+    put_start(sink, page.title, &counts, page.ending)?;
+    put_notes(sink, page.notes)?;
+    put_ending(sink, page.rows.len() as u64, page.ending)?;
+    put_times(sink, page.rows)?;
+    put_counts(sink, &counts, missing(page.rows.len() as u64, page.ending))?;
+    put_links(sink, &counts)
+}
+
+fn put_notes<W: Write>(sink: &mut Sink<W>, notes: &[String]) -> Result<(), WriteFault>
+    requires { HasFaultLeft sink.old }
+    ensures { Puts W.contents sink.old sink.new (flat_map (λ note. note_text (string_bytes note)) notes.now) result }
+{
+    for note in notes {
+        put_note(sink, note.as_str())?;
+    }
+    Ok(())
+}
+
 // Returns how many rows are missing after `ended` rows.
-fn missing(ended: u64, ending: &Ending) -> u64
+fn missing(ended: u64, ending: &SuiteEnding) -> u64
     ensures { result ≡ missing_in ended ending.now }
 {
     match ending {
-        Ending::Whole { .. } => 0,
-        Ending::Cut(stop) => stop.announced.unwrap_or(0).saturating_sub(ended),
+        SuiteEnding::Read(Ending::Cut(stop)) => stop.announced.unwrap_or(0).saturating_sub(ended),
+        SuiteEnding::Read(Ending::Whole { .. }) | SuiteEnding::Unread(_) => 0,
     }
 }
 
 // Writes the rows, failures first.
-fn put_groups<W: Write>(sink: &mut Sink<W>, rows: &[Row]) -> Result<(), WriteFault>
+fn put_groups<W: Write>(sink: &mut Sink<W>, rows: &[Row], most: u64) -> Result<(), WriteFault>
     requires { HasFaultLeft sink.old }
-    ensures { Puts W.contents sink.old sink.new
-        (rows_text (map entry_read rows.now) (greatest_time (map (λ row. row.outcome) rows.now))) result }
+    ensures { Puts W.contents sink.old sink.new (rows_text most (map entry_read rows.now)) result }
 {
-    let longest = greatest_time(rows);
-    put_group(sink, Group::Failed, rows, longest)?;
-    put_group(sink, Group::Measured, rows, longest)?;
-    put_group(sink, Group::Others, rows, longest)
+    let longest = bar_of(greatest_time(rows));
+    let left = most.saturating_sub(counts_of_rows(rows, 0).num_measured);
+    let failed = Listing {
+        group: Group::Failed,
+        limit: rows.len() as u64,
+        longest,
+    };
+    let measured = Listing {
+        group: Group::Measured,
+        limit: most,
+        longest,
+    };
+    let others = Listing {
+        group: Group::Others,
+        limit: left,
+        longest,
+    };
+    put_group(sink, failed, rows)?;
+    put_group(sink, measured, rows)?;
+    put_group(sink, others, rows)
 }
 
-// Writes the rows of a group under its heading.
-fn put_group<W: Write>(
-    sink: &mut Sink<W>,
-    group: Group,
-    rows: &[Row],
-    longest: u64,
-) -> Result<(), WriteFault>
+// Writes the rows of a group under its heading, and how many are not listed.
+fn put_group<W: Write>(sink: &mut Sink<W>, listing: Listing, rows: &[Row]) -> Result<(), WriteFault>
     requires { HasFaultLeft sink.old }
     ensures { Puts W.contents sink.old sink.new
-        (group_text group (map entry_read rows.now) longest) result }
+        (group_text listing (map entry_read rows.now)) result }
 {
-    sink.put(group.heading())?;
-    for (at, row) in rows.iter().enumerate() {
-        put_row_of(sink, group, row, longest)?;
-        sink.put(list_end(at + 1))?;
+    sink.put(listing.group.heading())?;
+    let mut found = 0;
+    for row in rows {
+        found = put_row_of(sink, listing, found, row)?;
     }
-    sink.put(b"</ol>\n</section>\n")
+    put_unlisted(sink, found.saturating_sub(listing.limit))
+}
+
+// Writes the row if it is in the group, and is one of those that are listed. `found` rows of the group come before it. Returns how many
+// there are with it.
+fn put_row_of<W: Write>(
+    sink: &mut Sink<W>,
+    listing: Listing,
+    found: u64,
+    row: &Row,
+) -> Result<u64, WriteFault>
+    requires room { HasFaultLeft sink.old }
+    requires count { found < 2 ^ 64 - 1 }
+    ensures written { Puts W.contents sink.old sink.new
+        (row_in listing found (entry_read row.now)) result }
+    ensures count { IfOk result (λ count. count ≡ found_after listing.group found (entry_read row.now)) }
+{
+    if !listing.group.has(&row.outcome) {
+        return Ok(found);
+    }
+    if found >= listing.limit {
+        return Ok(found + 1);
+    }
+    put_row(sink, row, listing.longest)?;
+    put_list_end(sink, found + 1)?;
+    Ok(found + 1)
 }
 
 fn greatest_time(rows: &[Row]) -> u64
@@ -111,34 +192,6 @@ fn time_of(outcome: &Outcome) -> u64
     }
 }
 
-// Writes the row if it is in the group.
-fn put_row_of<W: Write>(
-    sink: &mut Sink<W>,
-    group: Group,
-    row: &Row,
-    longest: u64,
-) -> Result<(), WriteFault>
-    requires { HasFaultLeft sink.old }
-    ensures { Puts W.contents sink.old sink.new
-        (row_in group longest (entry_read row.now)) result }
-{
-    if group.has(&row.outcome) {
-        put_row(sink, row, longest)?;
-    }
-    Ok(())
-}
-
-// Returns what follows `count` rows.
-fn list_end(count: usize) -> &'static [u8]
-    ensures { result.now ≡ list_end count }
-{
-    if count % LIST == 0 {
-        b"</ol>\n<ol>\n"
-    } else {
-        b""
-    }
-}
-
 impl Group {
     ghost use Rattle.std.specs.Prelude.{◌≡◌};
     ghost use Rattle.mimic_reports.specs.Page.{heading, is_in};
@@ -157,9 +210,9 @@ impl Group {
         ensures { result.now ≡ heading self }
     {
         match self {
-            Group::Failed => b"<section>\n<h2>Failed</h2>\n<ol>\n",
-            Group::Measured => b"<section>\n<h2>Measured</h2>\n<ol>\n",
-            Group::Others => b"<section>\n<h2>Passed or ignored</h2>\n<ol>\n",
+            Group::Failed => b"<section id=\"failed\">\n<h2>Failed</h2>\n<ol>\n",
+            Group::Measured => b"<section id=\"measured\">\n<h2>Measured</h2>\n<ol>\n",
+            Group::Others => b"<section id=\"others\">\n<h2>Passed or ignored</h2>\n<ol>\n",
         }
     }
 }

@@ -1,35 +1,24 @@
-//! Writes the elements of a page.
-ghost use Rattle.std.specs.Prelude.{◌≡◌};
+//! Writes the elements of a page around its rows.
+ghost use Rattle.std.specs.Prelude.{◌≡◌, is_some, map};
+ghost use Rattle.std.specs.List.{list_any};
 ghost use Rattle.mimic_printer.specs.Sink.{HasFaultLeft, Puts};
-ghost use Rattle.mimic_events.specs.Contents.{entry_read};
-ghost use Rattle.mimic_reports.specs.Page.{counts_text, end_text, ending_text, kind_end, kind_start, missing_part, row_text, running_part, start_text, stop_text, verdict};
+ghost use Rattle.mimic_reports.specs.Page.{counts_text, end_text, ending_text, kind_end, kind_start, links_text, list_end, missing_part, note_text, running_part, slowest_time, start_text, stop_text, times_text, total_text, total_time, unlisted_text, unread_text, verdict, verdict_class, whole_text};
 
+use crate::human_time::human_pieces;
+use crate::page_row::put_label;
 use crate::script::{FILTER, SCRIPT, SCRIPT_DIGEST};
 use crate::style::STYLE;
+use crate::suite::SuiteEnding;
 use mimic_events::{Ending, Row, Stop};
 use mimic_printer::{Piece, Place, Sink, WriteFault, put_pieces};
-use mimic_trial::{Conclusion, Outcome};
+use mimic_trial::Conclusion;
 use std::io::Write;
 
-// Writes a kind and a name between what comes before and after them.
-macro_rules! put_label {
-    ($sink:expr, $label:expr, $start:expr, $($end:expr),+) => {{
-        let kind = $label.kind.as_str();
-        let (kind_start, kind_end) = kind_tags(kind);
-        let pieces = [
-            Piece::Text($start),
-            Piece::Text(kind_start),
-            Piece::Escaped(Place::Html, kind),
-            Piece::Text(kind_end),
-            Piece::Escaped(Place::Html, $label.name.as_str()),
-            $($end),+
-        ];
-        put_pieces($sink, &pieces)
-    }};
-}
+// How many rows are in one list at most.
+const LIST: u64 = 500;
 
 // Returns what comes before and after a kind.
-fn kind_tags(kind: &str) -> (&'static str, &'static str)
+pub(crate) fn kind_tags(kind: &str) -> (&'static str, &'static str)
     ensures start { result.0.now ≡ kind_start kind.now }
     ensures end { result.1.now ≡ kind_end kind.now }
 {
@@ -42,15 +31,15 @@ fn kind_tags(kind: &str) -> (&'static str, &'static str)
 
 // Writes the head and the heading.
 #[tactic(auto, unfolding(crate::specs::Page::start_text))]
-pub(crate) fn put_start<'a, W: Write>(
+pub(crate) fn put_start<W: Write>(
     sink: &mut Sink<W>,
-    program: &'a str,
+    title: &str,
     counts: &Conclusion,
-    ending: &Ending,
+    ending: &SuiteEnding,
 ) -> Result<(), WriteFault>
     requires { HasFaultLeft sink.old }
     ensures { Puts W.contents sink.old sink.new
-        (start_text program.now counts.now ending.now) result }
+        (start_text title.now counts.now ending.now) result }
 {
     let verdict = verdict(counts.num_failed, ending);
     let pieces = [
@@ -59,7 +48,7 @@ pub(crate) fn put_start<'a, W: Write>(
         ),
         Piece::Text(SCRIPT_DIGEST),
         Piece::Text("'\">\n<title>"),
-        Piece::Escaped(Place::Html, program),
+        Piece::Escaped(Place::Html, title),
         Piece::Text(": "),
         Piece::Text(verdict),
         Piece::Text(". "),
@@ -73,9 +62,9 @@ pub(crate) fn put_start<'a, W: Write>(
         Piece::Text(" measured</title>\n<style>\n"),
         Piece::Text(STYLE),
         Piece::Text("</style>\n</head>\n<body>\n<header>\n<h1><bdi>"),
-        Piece::Escaped(Place::Html, program),
+        Piece::Escaped(Place::Html, title),
         Piece::Text("</bdi> <strong class=\""),
-        Piece::Text(verdict),
+        Piece::Text(verdict_class(counts.num_failed, ending)),
         Piece::Text("\">"),
         Piece::Text(verdict),
         Piece::Text("</strong></h1>\n"),
@@ -83,44 +72,98 @@ pub(crate) fn put_start<'a, W: Write>(
     put_pieces(sink, &pieces)
 }
 
-fn verdict(failed: u64, ending: &Ending) -> &'static str
+fn verdict(failed: u64, ending: &SuiteEnding) -> &'static str
     ensures { result.now ≡ verdict failed ending.now }
 {
     match ending {
-        Ending::Whole { .. } => { if failed == 0 { "ok" } else { "FAILED" } }
-        Ending::Cut(stop) => match stop.announced {
+        SuiteEnding::Read(Ending::Whole { .. }) => { if failed == 0 { "ok" } else { "FAILED" } }
+        SuiteEnding::Read(Ending::Cut(stop)) => match stop.announced {
             None => "no report",
             Some(_) => "cut",
         },
+        SuiteEnding::Unread(_) => "unread",
     }
 }
 
+// Returns the class of the verdict, by which it has its colour.
+fn verdict_class(failed: u64, ending: &SuiteEnding) -> &'static str
+    ensures { result.now ≡ verdict_class failed ending.now }
+{
+    if failed > 0 {
+        return "failed";
+    }
+    match ending {
+        SuiteEnding::Read(Ending::Whole { .. }) => "passed",
+        SuiteEnding::Read(Ending::Cut(_)) | SuiteEnding::Unread(_) => "cut",
+    }
+}
+
+// Writes a paragraph below the heading.
+#[tactic(auto, unfolding(crate::specs::Page::note_text))]
+pub(crate) fn put_note<W: Write>(sink: &mut Sink<W>, note: &str) -> Result<(), WriteFault>
+    requires { HasFaultLeft sink.old }
+    ensures { Puts W.contents sink.old sink.new (note_text note.now) result }
+{
+    let pieces = [
+        Piece::Text("<p><bdi>"),
+        Piece::Escaped(Place::Html, note),
+        Piece::Text("</bdi></p>\n"),
+    ];
+    put_pieces(sink, &pieces)
+}
+
 // Writes how the report ended, after `ended` rows.
-#[tactic(auto, unfolding(crate::specs::Page::ending_text))]
 pub(crate) fn put_ending<W: Write>(
     sink: &mut Sink<W>,
     ended: u64,
-    ending: &Ending,
+    ending: &SuiteEnding,
 ) -> Result<(), WriteFault>
     requires { HasFaultLeft sink.old }
     ensures { Puts W.contents sink.old sink.new (ending_text ended ending.now) result }
 {
     match ending {
-        Ending::Whole {
-            filtered_out,
-            nanos,
-        } => {
-            let pieces = [
-                Piece::Text("<p>"),
-                Piece::Number(*filtered_out),
-                Piece::Text(" filtered out; finished in "),
-                Piece::Seconds(*nanos),
-                Piece::Text("s</p>\n"),
-            ];
-            put_pieces(sink, &pieces)
-        }
-        Ending::Cut(stop) => put_stop(sink, ended, stop),
+        SuiteEnding::Read(
+            Ending::Whole {
+                filtered_out,
+                nanos,
+            },
+        ) => put_whole(sink, *filtered_out, *nanos),
+        SuiteEnding::Read(Ending::Cut(stop)) => put_stop(sink, ended, stop),
+        SuiteEnding::Unread(cause) => put_unread(sink, ended, cause.as_str()),
     }
+}
+
+fn put_whole<W: Write>(sink: &mut Sink<W>, filtered_out: u64, nanos: u64) -> Result<(), WriteFault>
+    requires { HasFaultLeft sink.old }
+    ensures { Puts W.contents sink.old sink.new (whole_text filtered_out nanos) result }
+{
+    let (great, unit, small, small_unit) = human_pieces(nanos);
+    let pieces = [
+        Piece::Text("<p>"),
+        Piece::Number(filtered_out),
+        Piece::Text(" filtered out; finished in "),
+        great,
+        unit,
+        small,
+        small_unit,
+        Piece::Text("</p>\n"),
+    ];
+    put_pieces(sink, &pieces)
+}
+
+#[tactic(auto, unfolding(crate::specs::Page::unread_text))]
+fn put_unread<W: Write>(sink: &mut Sink<W>, ended: u64, cause: &str) -> Result<(), WriteFault>
+    requires { HasFaultLeft sink.old }
+    ensures { Puts W.contents sink.old sink.new (unread_text ended cause.now) result }
+{
+    let pieces = [
+        Piece::Text("<p class=\"cut\">the report can't be read to its end: <bdi>"),
+        Piece::Escaped(Place::Html, cause),
+        Piece::Text("</bdi>; trials that ended before: "),
+        Piece::Number(ended),
+        Piece::Text("</p>\n"),
+    ];
+    put_pieces(sink, &pieces)
 }
 
 fn put_stop<W: Write>(sink: &mut Sink<W>, ended: u64, stop: &Stop) -> Result<(), WriteFault>
@@ -159,10 +202,73 @@ fn put_running<W: Write>(sink: &mut Sink<W>, stop: &Stop) -> Result<(), WriteFau
     let Some(label) = &stop.running else {
         return Ok(());
     };
-    put_label!(sink, label, "; running: ", Piece::Text("</bdi>"))
+    sink.put(b"; running: ")?;
+    put_label(sink, label.kind.as_str(), label.name.as_str())
 }
 
-// Writes the counts and the filter.
+// Writes how long the trials took together, and the slowest of them, if the report says it of one.
+pub(crate) fn put_times<W: Write>(sink: &mut Sink<W>, rows: &[Row]) -> Result<(), WriteFault>
+    requires { HasFaultLeft sink.old }
+    ensures { Puts W.contents sink.old sink.new
+        (times_text (map (λ row. row.nanos) rows.now)) result }
+{
+    if !has_times(rows) {
+        return Ok(());
+    }
+    put_total(sink, total_time(rows), slowest_time(rows))
+}
+
+fn put_total<W: Write>(sink: &mut Sink<W>, total: u64, slowest: u64) -> Result<(), WriteFault>
+    requires { HasFaultLeft sink.old }
+    ensures { Puts W.contents sink.old sink.new (total_text total slowest) result }
+{
+    let (great, unit, small, small_unit) = human_pieces(total);
+    let (slow_great, slow_unit, slow_small, slow_small_unit) = human_pieces(slowest);
+    let pieces = [
+        Piece::Text("<p>total "),
+        great,
+        unit,
+        small,
+        small_unit,
+        Piece::Text(", slowest "),
+        slow_great,
+        slow_unit,
+        slow_small,
+        slow_small_unit,
+        Piece::Text("</p>\n"),
+    ];
+    put_pieces(sink, &pieces)
+}
+
+fn has_times(rows: &[Row]) -> bool
+    ensures { result ≡ list_any is_some (map (λ row. row.nanos) rows.now) }
+{
+    rows.iter()
+        .map(|row| row.nanos)
+        .any(|nanos| nanos.is_some())
+}
+
+fn total_time(rows: &[Row]) -> u64
+    ensures { result ≡ total_time (map (λ row. row.nanos) rows.now) }
+{
+    let mut total = 0_u64;
+    for row in rows {
+        total = total.saturating_add(row.nanos.unwrap_or(0));
+    }
+    total
+}
+
+fn slowest_time(rows: &[Row]) -> u64
+    ensures { result ≡ slowest_time (map (λ row. row.nanos) rows.now) }
+{
+    let mut slowest = 0;
+    for row in rows {
+        slowest = row.nanos.unwrap_or(0).max(slowest);
+    }
+    slowest
+}
+
+// Writes the counts, as a bar and in words.
 #[tactic(auto, unfolding(crate::specs::Page::counts_text))]
 pub(crate) fn put_counts<W: Write>(
     sink: &mut Sink<W>,
@@ -194,66 +300,63 @@ pub(crate) fn put_counts<W: Write>(
         Piece::Text(" ignored</li>\n<li class=\"measured\">"),
         Piece::Number(counts.num_measured),
         Piece::Text(" measured</li>\n</ul>\n</header>\n"),
+    ];
+    put_pieces(sink, &pieces)
+}
+
+// Writes links to the groups that have rows, and the filter.
+#[tactic(auto, unfolding(crate::specs::Page::links_text))]
+pub(crate) fn put_links<W: Write>(sink: &mut Sink<W>, counts: &Conclusion) -> Result<(), WriteFault>
+    requires { HasFaultLeft sink.old }
+    ensures { Puts W.contents sink.old sink.new (links_text counts.now) result }
+{
+    let others = u128::from(counts.num_passed) + u128::from(counts.num_ignored);
+    let pieces = [
+        Piece::Text("<nav>\n<a href=\"#failed\" data-rows=\""),
+        Piece::Number(counts.num_failed),
+        Piece::Text("\">Failed: "),
+        Piece::Number(counts.num_failed),
+        Piece::Text("</a>\n<a href=\"#measured\" data-rows=\""),
+        Piece::Number(counts.num_measured),
+        Piece::Text("\">Measured: "),
+        Piece::Number(counts.num_measured),
+        Piece::Text("</a>\n<a href=\"#others\" data-rows=\""),
+        Piece::Long(&others),
+        Piece::Text("\">Passed or ignored: "),
+        Piece::Long(&others),
+        Piece::Text("</a>\n</nav>\n"),
         Piece::Text(FILTER),
         Piece::Text("<main>\n"),
     ];
     put_pieces(sink, &pieces)
 }
 
-// Writes a row, if the longest bar is that of this time.
-#[tactic(auto, unfolding(crate::specs::Page::row_text))]
-pub(crate) fn put_row<'a, W: Write>(
-    sink: &mut Sink<W>,
-    row: &'a Row,
-    longest: u64,
-) -> Result<(), WriteFault>
+// Writes what follows `count` rows of a group.
+pub(crate) fn put_list_end<W: Write>(sink: &mut Sink<W>, count: u64) -> Result<(), WriteFault>
     requires { HasFaultLeft sink.old }
-    ensures { Puts W.contents sink.old sink.new (row_text longest (entry_read row.now)) result }
+    ensures { Puts W.contents sink.old sink.new (list_end count) result }
 {
-    match &row.outcome {
-        Outcome::Passed => put_label!(
-            sink,
-            row,
-            "<li class=\"passed\"><b>ok</b> ",
-            Piece::Text("</bdi></li>\n")
-        ),
-        Outcome::Ignored => put_label!(
-            sink,
-            row,
-            "<li class=\"ignored\"><b>ignored</b> ",
-            Piece::Text("</bdi></li>\n")
-        ),
-        Outcome::Failed(failed) => match failed.message() {
-            None => put_label!(
-                sink,
-                row,
-                "<li class=\"failed\"><details open><summary><b>FAILED</b> ",
-                Piece::Text("</bdi></summary><p>no message</p></details></li>\n")
-            ),
-            Some(message) => put_label!(
-                sink,
-                row,
-                "<li class=\"failed\"><details open><summary><b>FAILED</b> ",
-                Piece::Text("</bdi></summary><pre>\n"),
-                Piece::Escaped(Place::Html, message),
-                Piece::Text("</pre></details></li>\n")
-            ),
-        },
-        Outcome::Measured(measurement) => put_label!(
-            sink,
-            row,
-            "<li class=\"measured\"><b>bench</b> ",
-            Piece::Text("</bdi> <span>"),
-            Piece::Grouped(measurement.avg),
-            Piece::Text(" ns/iter (+/- "),
-            Piece::Grouped(measurement.variance),
-            Piece::Text(")</span> <meter aria-hidden=\"true\" max=\""),
-            Piece::Number(longest),
-            Piece::Text("\" value=\""),
-            Piece::Number(measurement.avg),
-            Piece::Text("\"></meter></li>\n")
-        ),
+    if count % LIST == 0 {
+        sink.put(b"</ol>\n<ol>\n")
+    } else {
+        Ok(())
     }
+}
+
+// Writes the end of a group, of which this many rows are not listed.
+pub(crate) fn put_unlisted<W: Write>(sink: &mut Sink<W>, count: u64) -> Result<(), WriteFault>
+    requires { HasFaultLeft sink.old }
+    ensures { Puts W.contents sink.old sink.new (unlisted_text count) result }
+{
+    if count == 0 {
+        return sink.put(b"</ol>\n</section>\n");
+    }
+    let pieces = [
+        Piece::Text("</ol>\n<p class=\"unlisted\">not listed: "),
+        Piece::Number(count),
+        Piece::Text("</p>\n</section>\n"),
+    ];
+    put_pieces(sink, &pieces)
 }
 
 // Writes what follows the rows, and flushes the page.

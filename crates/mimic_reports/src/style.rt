@@ -29,11 +29,11 @@ pub(crate) const STYLE: &str = r#":root {
     --cut: #e3a341;
   }
 }
-.failed, .FAILED { --colour: var(--failed); }
-.passed, .ok { --colour: var(--passed); }
+.failed { --colour: var(--failed); }
+.passed { --colour: var(--passed); }
 .ignored { --colour: var(--ignored); }
 .measured { --colour: var(--measured); }
-.cut, .report { --colour: var(--cut); }
+.cut { --colour: var(--cut); }
 [hidden] { display: none !important; }
 body {
   max-width: 64rem;
@@ -65,6 +65,9 @@ header p.cut { color: var(--colour); font-weight: 600; }
   border-radius: 50%;
   background: var(--colour);
 }
+nav { display: flex; flex-wrap: wrap; gap: .25rem 1.5rem; margin-top: 1rem; }
+nav [data-rows="0"] { display: none; }
+a { color: inherit; text-decoration-color: var(--line); }
 form {
   position: sticky;
   top: 0;
@@ -89,37 +92,57 @@ input[type="search"] {
   color: inherit;
   font: inherit;
 }
+button {
+  padding: .25rem .7rem;
+  border: 1px solid var(--line);
+  border-radius: .4rem;
+  background: var(--sheet);
+  color: inherit;
+  font: inherit;
+  font-size: .875rem;
+  cursor: pointer;
+}
+button[aria-pressed="true"] { border-color: var(--measured); }
 input[type="checkbox"] { accent-color: var(--colour); }
 output { margin-left: auto; color: var(--faint); }
-section:not(:has(li)), ol:not(:has(li)) { display: none; }
+section:not(:has(li, .unlisted)), ol:not(:has(li)) { display: none; }
 ol { content-visibility: auto; contain-intrinsic-size: auto 60rem; }
+section, main li { scroll-margin-top: 7rem; }
 main li { border-bottom: 1px solid var(--line); }
+main li:target { background: var(--sheet); box-shadow: inset 0 0 0 .125rem var(--colour); }
 main li:not(.failed), summary { display: flex; gap: .75rem; align-items: baseline; padding: .35rem 0; }
-main b { flex: none; width: 4.25rem; color: var(--colour); font-size: .875rem; }
+main a { flex: none; width: 4.25rem; color: var(--colour); font-size: .875rem; font-weight: 700; text-decoration: none; }
+main a:hover, main a:focus-visible { text-decoration: underline; }
 main bdi { min-width: 0; }
+main bdi:last-of-type { flex: 1; }
 main bdi.kind { flex: none; max-width: 40%; padding: 0 .5rem; border-radius: .3rem; background: var(--sheet); color: var(--faint); font-size: .875rem; }
-main span { margin-left: auto; color: var(--faint); font-size: .875rem; font-variant-numeric: tabular-nums; white-space: nowrap; }
+main span { color: var(--faint); font-size: .875rem; font-variant-numeric: tabular-nums; white-space: nowrap; }
+main .time { order: 1; min-width: 4.5rem; text-align: right; }
 meter { flex: none; align-self: center; width: 30%; height: .75rem; border: 0; border-radius: .375rem; background: var(--sheet); }
 meter::-webkit-meter-bar { height: .75rem; border: 0; border-radius: .375rem; background: var(--sheet); }
 meter::-webkit-meter-optimum-value { border-radius: .375rem; background: var(--measured); }
 meter::-moz-meter-bar { border-radius: .375rem; background: var(--measured); }
 main .failed { margin: .5rem 0; padding: 0 1rem; border: 1px solid var(--line); border-left: .25rem solid var(--colour); border-radius: .4rem; }
-summary { padding: .55rem 0; cursor: pointer; }
-summary::after { content: "\25b8"; margin-left: auto; color: var(--faint); }
-[open] summary::after { content: "\25be"; }
-summary bdi:last-child { font-weight: 600; }
-main pre, main p { padding: .6rem 0 .8rem; border-top: 1px solid var(--line); }
+summary { position: relative; padding: .55rem 1.5rem .55rem 0; cursor: pointer; }
+summary::after { position: absolute; top: .55rem; right: 0; color: var(--faint); content: "\25b8"; content: "\25b8" / ""; }
+[open] summary::after { content: "\25be"; content: "\25be" / ""; }
+summary bdi:last-of-type { font-weight: 600; }
+main pre, main li p { padding: .6rem 0 .8rem; border-top: 1px solid var(--line); }
 main pre { font: .875rem/1.5 ui-monospace, monospace; unicode-bidi: plaintext; tab-size: 8; }
-main p { color: var(--faint); font-style: italic; }
+main li p { color: var(--faint); font-style: italic; }
+.unlisted { padding: .35rem 0; color: var(--faint); }
 @media (max-width: 40rem) {
   body { padding: 1.25rem .9rem 3rem; }
   form { position: static; }
-  main li.measured { flex-wrap: wrap; row-gap: .25rem; }
-  main li.measured bdi:last-of-type { flex: 1; }
-  main span, meter { width: 100%; }
+  section, main li { scroll-margin-top: 1rem; }
+  main li:not(.failed), summary { display: grid; grid-template-columns: 4.25rem 1fr auto; gap: .2rem .75rem; }
+  main bdi.kind { grid-column: 2 / -1; justify-self: start; max-width: 100%; }
+  main bdi:last-of-type { grid-column: 2; }
+  main .time { grid-column: 3; order: 0; min-width: 0; }
+  main span:not(.time), meter { grid-column: 2 / -1; width: 100%; }
 }
 @media print {
-  form { display: none !important; }
+  form, nav { display: none !important; }
   ol { content-visibility: visible; }
 }
 "#;

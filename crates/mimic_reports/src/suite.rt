@@ -1,12 +1,12 @@
 //! Reads reports that are to be written in XML.
-ghost use Rattle.std.specs.Prelude.{◌≡◌, ◌<◌, ◌^◌, List, IfErr, IfOk, map};
+ghost use Rattle.std.specs.Prelude.{◌≡◌, ◌<◌, ◌^◌, List, IfErr, IfOk, map, option_map};
 ghost use Rattle.mimic_printer.specs.Json.{Entry};
 ghost use Rattle.mimic_events.specs.Contents.{entry_read};
 ghost use Rattle.mimic_events.specs.Inputs.{IsOfInput};
 ghost use Rattle.std.specs.List.{list_all, list_any};
 ghost use Rattle.mimic_reports.specs.declared.suite.SuiteEnding.TheVariants.{Unread};
 ghost use Rattle.mimic_reports.specs.declared.suite.SuiteFault.TheVariants.{OutOfMemory};
-ghost use Rattle.mimic_reports.specs.Suites.{IsReadFrom, KeepsAfter, KeepsBefore, KeepsRows, ReadsAgain, counts_in, has_failures, is_whole, numbers_counted, numbers_in, rows_counted, status_of};
+ghost use Rattle.mimic_reports.specs.Suites.{IsReadFrom, KeepsAfter, KeepsBefore, KeepsRows, ReadsAgain, counts_in, has_failures, is_whole, numbers_counted, numbers_in, rows_counted, rows_kept, status_of};
 
 use crate::junit_elements::Numbers;
 use mimic_events::{Ending, InputRows, ReadFault, Row, counts_of_rows};
@@ -167,6 +167,16 @@ impl<I: Read> Suite<'_, I> {
         ensures { result.now ≡ self.now.ending }
     {
         &self.ending
+    }
+
+    /// Returns the rows, if they are kept.
+    pub fn rows(&self) -> Option<&[Row]>
+        ensures { option_map (λ rows. map entry_read rows.now) result ≡ rows_kept self.now.rows }
+    {
+        match &self.rows {
+            SuiteRows::Kept(rows) => Some(rows.as_slice()),
+            SuiteRows::Again { .. } => None,
+        }
     }
 
     // Whether the report has its end.

@@ -100,6 +100,12 @@ pub(crate) struct Compare {
 /// The report in this file is to be printed as a page of HTML.
 #[derive(Debug, Drop)]
 pub(crate) struct Page {
+    /// What is in its heading. With `None`, it is the name of the file.
+    pub(crate) title: Option<String>,
+    /// What is below its heading.
+    pub(crate) notes: Vec<String>,
+    /// How many rows of trials that did not fail are listed at most.
+    pub(crate) most: u64,
     pub(crate) file: String,
 }
 
@@ -309,7 +315,22 @@ impl Compare {
 
 impl Page {
     fn from_matches(alloc: Global, matches: &ArgMatches<'_>) -> Result<Page, LineError> {
+        let title = match matches.get_str("title") {
+            Some(title) => Some(String::from_str(alloc, title)?),
+            None => None,
+        };
+        let mut notes = Vec::new(alloc);
+        for note in matches.get_strs("note").unwrap_or(&[]) {
+            notes.push(String::from_str(alloc, note)?)?;
+        }
         Ok(Page {
+            title,
+            notes,
+            most: if matches.get_flag("failed") {
+                0
+            } else {
+                matches.get_one::<u64>("rows").unwrap_or(u64::MAX)
+            },
             // `FILE` is required.
             file: String::from_str(alloc, matches.get_str("FILE").unwrap_or(STANDARD))?,
         })
@@ -556,9 +577,29 @@ fn compare_command<'a>(alloc: Global) -> Result<Command<'a>, AllocError> {
 }
 
 fn page_command<'a>(alloc: Global) -> Result<Command<'a>, AllocError> {
+    let title = Arg::new(alloc, "title")
+        .long("title")
+        .value_name("TEXT")
+        .help("What is in the heading; else the file's name, without its ending");
+    let note = Arg::new(alloc, "note")
+        .long("note")
+        .value_name("TEXT")
+        .action(ArgAction::Append)
+        .help("A line below the heading");
+    let failed = Arg::new(alloc, "failed")
+        .long("failed")
+        .action(ArgAction::SetTrue)
+        .help("List the failures alone");
+    let rows = Arg::new(alloc, "rows")
+        .long("rows")
+        .value_name("N")
+        .value_parser(value_parser!(u64))
+        .conflicts_with("failed")?
+        .help("How many trials that did not fail to list at most");
+    let file = file(alloc, "FILE", "A report in JSON; - is standard input");
     Command::new(alloc, "page")
         .about("Print a report as a page of HTML")
-        .arg(file(alloc, "FILE", "A report in JSON; - is standard input"))
+        .args(vec![in alloc; title, note, failed, rows, file]?)
 }
 
 fn slowest_command<'a>(alloc: Global) -> Result<Command<'a>, AllocError> {

@@ -3,35 +3,68 @@ use crate::faults::{refuse, refuse_all};
 use crate::input::{Input, name_of};
 use crate::line::Page;
 use crate::{BLOCK, SUCCESS};
-use mimic_events::{Ending, ReadFault, RowsRead, read_rows};
+use mimic_events::{Ending, ReadFault};
 use mimic_printer::Sink;
-use mimic_reports::write_page;
+use mimic_reports::{PageContents, Suite, SuiteEnding, SuiteFault, write_page};
 use std::alloc::Global;
 use std::io::BufWriter;
 
-// Prints the page of the file's report, and why it is cut, or why the file can't be read.
+// Prints the page of what could be read of the file's report, and why it is cut or could not be read to its end.
 pub(crate) fn run(rt: &HostRuntime, alloc: Global, page: &Page) -> u8 {
-    let file = page.file.as_str();
-    let read = match read_rows(alloc, Input::new(rt, file)) {
-        Ok(read) => read,
-        Err(fault) => return refuse(rt, file, &fault),
+    let suite = match read(rt, alloc, page) {
+        Ok(suite) => suite,
+        Err(fault) => return refuse(rt, page.file.as_str(), &fault),
     };
-    match print(rt, alloc, file, &read) {
-        Ok(()) => status_of(rt, file, &read.ending),
+    match print(rt, alloc, page, &suite) {
+        Ok(()) => status_of(rt, page.file.as_str(), suite.ending()),
         Err(status) => status,
     }
 }
 
-fn print(rt: &HostRuntime, alloc: Global, file: &str, read: &RowsRead) -> Result<(), u8> {
+// Reads the report, or what can be read of it.
+fn read<'a>(
+    rt: &'a HostRuntime,
+    alloc: Global,
+    page: &'a Page,
+) -> Result<Suite<'a, Input<'a>>, SuiteFault> {
+    let file = page.file.as_str();
+    match Suite::kept(alloc, name_of(file), Input::new(rt, file)) {
+        Ok(suite) => Ok(suite),
+        Err(SuiteFault::OutOfMemory) => Err(SuiteFault::OutOfMemory),
+        Err(SuiteFault::Input { rows, error }) => {
+            let cause = format!(in alloc; "{error}")?;
+            Ok(Suite::unread(name_of(file), rows, cause))
+        }
+    }
+}
+
+fn print(
+    rt: &HostRuntime,
+    alloc: Global,
+    page: &Page,
+    suite: &Suite<'_, Input<'_>>,
+) -> Result<(), u8> {
     let Ok(out) = BufWriter::with_capacity(alloc, BLOCK, rt.stdout()) else {
         return Err(refuse_all(rt, &ReadFault::OutOfMemory));
     };
-    write_page(name_of(file), read, &mut Sink::new(out)).map_err(|fault| refuse_all(rt, &fault))
+    let contents = PageContents {
+        title: match &page.title {
+            Some(title) => title.as_str(),
+            None => name_of(page.file.as_str()),
+        },
+        notes: page.notes.as_slice(),
+        // The rows were kept.
+        rows: suite.rows().unwrap_or(&[]),
+        ending: suite.ending(),
+        most: page.most,
+    };
+    write_page(&contents, &mut Sink::new(out)).map_err(|fault| refuse_all(rt, &fault))
 }
 
-fn status_of(rt: &HostRuntime, file: &str, ending: &Ending) -> u8 {
+fn status_of(rt: &HostRuntime, file: &str, ending: &SuiteEnding) -> u8 {
     match ending {
-        Ending::Whole { .. } => SUCCESS,
-        Ending::Cut(stop) => refuse(rt, file, stop),
+        SuiteEnding::Read(Ending::Whole { .. }) => SUCCESS,
+        SuiteEnding::Read(Ending::Cut(stop)) => refuse(rt, file, stop),
+        SuiteEnding::Unread(cause) => refuse(rt, file, cause),
     }
 }

@@ -378,13 +378,25 @@ fn has_the_same_report_without_times(rt: HostRuntime) -> Result<(), Fail> {
     Ok(())
 }
 
-// A page shows no times.
+// A page shows the time of each row that has one, and of all together. Without a time it shows none.
 #[test]
-fn has_the_same_page_without_times(rt: HostRuntime) -> Result<(), Fail> {
+fn shows_times_on_pages(rt: HostRuntime) -> Result<(), Fail> {
     let alloc = rt.alloc();
     let (timed, plain) = (page_of(alloc, TIMED)?, page_of(alloc, PLAIN)?);
-    assert!(rt; timed == plain, "{timed}");
-    assert!(rt; !timed.contains("0.35"));
+    for text in [
+        "<p>13 filtered out; finished in 62.5 s</p>\n<p>total 63.2 s, slowest 61.0 s</p>\n<div",
+        "<bdi>plain</bdi> <span class=\"time\" data-nanos=\"350000000\">350 ms</span></li>\n",
+        "<bdi>b</bdi> <span class=\"time\" data-nanos=\"1499999500\">1.5 s</span></summary><pre>",
+        "<bdi>d</bdi></li>\n",
+        "<bdi>m</bdi> <span class=\"time\" data-nanos=\"61000000000\">61.0 s</span> <span>1,234 ns",
+        "<bdi>z</bdi> <span class=\"time\" data-nanos=\"0\">0 ms</span></li>\n",
+        "<bdi>short</bdi> <span class=\"time\" data-nanos=\"499999\">0 ms</span></summary><p>no message</p>",
+    ] {
+        assert!(rt; timed.contains(text), "{text}");
+    }
+    assert!(rt;
+        plain.contains("finished in 62.5 s</p>\n<div") && !plain.contains("class=\"time\"")
+    );
     Ok(())
 }
 

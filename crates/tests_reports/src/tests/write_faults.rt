@@ -12,8 +12,8 @@ use mimic_expect::{ExpectOptions, Lines, write_known, write_unexpected};
 use mimic_join::join_reports;
 use mimic_printer::{Piece, Place, Sink, put_escaped, put_pieces};
 use mimic_reports::{
-    Suite, put_running, show_cut, show_failures, show_report, write_junit, write_page,
-    write_slowest, write_suite,
+    PageContents, Suite, SuiteEnding, put_running, show_cut, show_failures, show_report,
+    write_junit, write_page, write_slowest, write_suite,
 };
 use mimic_testkit::{Fault, FaultPlace, FaultyWriter};
 use mimic_watch::{Screen, watch};
@@ -183,8 +183,16 @@ fn failures(alloc: Global, writer: FaultyWriter) -> Written {
 }
 
 fn page(alloc: Global, writer: FaultyWriter) -> Written {
-    let rows = read(alloc, AFTER)?;
-    written!(alloc, writer, sink => write_page("a", &rows, &mut sink))
+    let RowsRead { rows, ending } = read(alloc, AFTER)?;
+    let ending = SuiteEnding::Read(ending);
+    let contents = PageContents {
+        title: "a",
+        notes: &[],
+        rows: rows.as_slice(),
+        ending: &ending,
+        most: u64::MAX,
+    };
+    written!(alloc, writer, sink => write_page(&contents, &mut sink))
 }
 
 fn junit(alloc: Global, text: &str, again: bool, writer: FaultyWriter) -> Written {
