@@ -1,8 +1,8 @@
 //! Prints how a report differs from an older one.
-use crate::faults::{refuse, refuse_all};
+use crate::faults::{refuse, refuse_output};
 use crate::input::Input;
 use crate::line::Compare;
-use crate::{BLOCK, REFUSED};
+use crate::BLOCK;
 use mimic_compare::{ComparisonOptions, ComparisonVerdict, InputEnd, write_comparison};
 use mimic_events::Ending;
 use mimic_printer::{OutputFault, Sink};
@@ -17,7 +17,7 @@ pub(crate) fn run(rt: &HostRuntime, alloc: Global, compare: &Compare) -> u8 {
             print_end(rt, compare.new.as_str(), &verdict.new);
             verdict.status()
         }
-        Err(fault) => refuse_all(rt, &fault),
+        Err(fault) => refuse_output(rt, &fault),
     }
 }
 

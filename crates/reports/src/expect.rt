@@ -1,5 +1,5 @@
 //! Prints what differs in reports from the known failures, and brings the file of these up to date.
-use crate::faults::{refuse, refuse_all};
+use crate::faults::{refuse, refuse_output};
 use crate::input::Input;
 use crate::line::Expect;
 use crate::{BLOCK, REFUSED, SUCCESS};
@@ -35,7 +35,7 @@ pub(crate) fn run(rt: &HostRuntime, alloc: Global, expect: &Expect) -> u8 {
     };
     match judged {
         Ok(verdict) => verdict.status(),
-        Err(fault) => refuse_all(rt, &fault),
+        Err(fault) => refuse_output(rt, &fault),
     }
 }
 
@@ -103,7 +103,7 @@ fn update(
     let new = match updated(rt, alloc, expect, text, known) {
         Ok(Some(new)) => new,
         Ok(None) => return REFUSED,
-        Err(fault) => return refuse_all(rt, &fault),
+        Err(fault) => return refuse_output(rt, &fault),
     };
     let file = expect.known.as_str();
     match replace(rt, alloc, file, text, &new) {

@@ -1,5 +1,5 @@
 //! Prints a report as a page of HTML.
-use crate::faults::{refuse, refuse_all};
+use crate::faults::{refuse, refuse_all, refuse_write};
 use crate::input::{Input, name_of};
 use crate::line::Page;
 use crate::{BLOCK, SUCCESS};
@@ -58,7 +58,7 @@ fn print(
         ending: suite.ending(),
         most: page.most,
     };
-    write_page(&contents, &mut Sink::new(out)).map_err(|fault| refuse_all(rt, &fault))
+    write_page(&contents, &mut Sink::new(out)).map_err(|fault| refuse_write(rt, &fault))
 }
 
 fn status_of(rt: &HostRuntime, file: &str, ending: &SuiteEnding) -> u8 {
