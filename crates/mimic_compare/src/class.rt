@@ -14,11 +14,11 @@ pub enum Class {
     Regressed,
     /// It has fewer rows, and all trials are in both reports.
     Missing,
-    /// It has fewer rows, but a report is cut, or trials were filtered out of one.
+    /// It has fewer rows, but an input is no whole report, or trials were filtered out of one.
     NotRun,
     /// It has more rows, and all trials are in both reports.
     New,
-    /// It has more rows, but a report is cut, or trials were filtered out of one.
+    /// It has more rows, but an input is no whole report, or trials were filtered out of one.
     NotRunBefore,
     /// More of its rows were ignored.
     NewlyIgnored,

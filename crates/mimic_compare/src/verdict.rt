@@ -19,7 +19,7 @@ use std::io::{Read, Write};
 pub struct ComparisonOptions {
     /// By what factor, in hundredths, a time must change to be printed: 125 is 1.25. With 100 or less no factor is too small.
     pub slower: u64,
-    /// Whether kinds and names have lines that were not run in one report, since it is cut or trials were filtered out of it.
+    /// Whether [`Class::NotRun`] and [`Class::NotRunBefore`] have lines.
     pub lists_not_run: bool,
 }
 
