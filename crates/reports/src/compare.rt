@@ -2,16 +2,22 @@
 use crate::faults::{refuse, refuse_output};
 use crate::input::Input;
 use crate::line::Compare;
-use crate::BLOCK;
+use crate::{BLOCK, REFUSED};
 use mimic_compare::{ComparisonOptions, ComparisonVerdict, InputEnd, write_comparison};
 use mimic_events::Ending;
 use mimic_printer::{OutputFault, Sink};
 use std::alloc::Global;
 use std::io::BufWriter;
 
-// Prints what became of each kind and name, and why an input is no whole report.
+// Prints what became of each kind and name, and why an input is no whole report. Nothing is compared if a file can't be opened: all that
+// the other one has would look new, or gone.
 pub(crate) fn run(rt: &HostRuntime, alloc: Global, compare: &Compare) -> u8 {
-    match print(rt, alloc, compare) {
+    let old = open(rt, compare.old.as_str());
+    let new = open(rt, compare.new.as_str());
+    let (Some(old), Some(new)) = (old, new) else {
+        return REFUSED;
+    };
+    match print(rt, alloc, compare, old, new) {
         Ok(verdict) => {
             print_end(rt, compare.old.as_str(), &verdict.old);
             print_end(rt, compare.new.as_str(), &verdict.new);
@@ -21,13 +27,24 @@ pub(crate) fn run(rt: &HostRuntime, alloc: Global, compare: &Compare) -> u8 {
     }
 }
 
-fn print(
-    rt: &HostRuntime,
+// Opens a file, or prints why it can't.
+fn open<'a>(rt: &'a HostRuntime, file: &'a str) -> Option<Input<'a>> {
+    match Input::open(rt, file) {
+        Ok(input) => Some(input),
+        Err(error) => {
+            refuse(rt, file, &error);
+            None
+        }
+    }
+}
+
+fn print<'a>(
+    rt: &'a HostRuntime,
     alloc: Global,
     compare: &Compare,
+    old: Input<'a>,
+    new: Input<'a>,
 ) -> Result<ComparisonVerdict, OutputFault> {
-    let old = Input::new(rt, compare.old.as_str());
-    let new = Input::new(rt, compare.new.as_str());
     let options = ComparisonOptions {
         slower: compare.slower,
         lists_not_run: compare.lists_missing,

@@ -29,6 +29,15 @@ impl<'a> Input<'a> {
         }
     }
 
+    /// The input of this name, which is opened here.
+    pub(crate) fn open(rt: &'a HostRuntime, path: &'a str) -> io::Result<Input<'a>> {
+        if path == STANDARD {
+            Ok(Input::Standard(rt.stdin()))
+        } else {
+            Ok(Input::Open(fs::open(rt, path)?))
+        }
+    }
+
     /// The inputs of these names, in their order.
     pub(crate) fn all(
         rt: &'a HostRuntime,
