@@ -19,7 +19,7 @@ use Rattle.mimic_events.specs.declared.ending.Ending.{Ending}
 use Rattle.mimic_events.specs.declared.ending.Stop.{Stop}
 use Rattle.mimic_events.specs.declared.report.Row.{Row}
 use Rattle.mimic_reports.specs.declared.show.KeptRow.{KeptRow}
-use Rattle.mimic_reports.specs.Show.{cut_line, cut_part, cut_report_text, failures_part, kept_row, kept_rows, labels_in, pretty_printer, printed_row, rows_and_failures, title_if_any}
+use Rattle.mimic_reports.specs.Show.{cut_line, cut_part, cut_report_text, failures_part, full_failure, kept_row, kept_rows, labels_in, pretty_printer, printed_row, rows_and_failures, title_if_any}
 
 -- ---- rows
 
@@ -37,6 +37,12 @@ printer-same colours rows n k names kinds =
 pub one-more : (before after : List KeptRow) (info : TestInfo) (rows : List Row) (row : Row) → label_of info ≡ (printed_row row).label → kept_rows before ≡ map printed_row rows
     → after ≡ before ++ record { info = info; outcome = row.outcome; nanos = row.nanos } ∷ [] → kept_rows after ≡ map printed_row (rows ++ row ∷ [])
 one-more before after info rows row label so_far e = simp (e, map-append, so_far, label)
+
+-- one more row under its full name
+pub one-named : (before after : List KeptRow) (named : KeptRow) (rows : List KeptRow) (row : KeptRow) → kept_row named ≡ full_failure (kept_row row)
+    → kept_rows before ≡ map full_failure (kept_rows rows) → after ≡ before ++ named ∷ []
+    → kept_rows after ≡ map full_failure (kept_rows (rows ++ row ∷ []))
+one-named before after named rows row label so_far e = simp (e, map-append, so_far, label)
 
 -- ---- failures
 

@@ -1,6 +1,8 @@
 -- Reports as the harness prints them in pretty.
-use Rattle.std.specs.Prelude.{ℕ, Bool, List, [], ◌∷◌, ◌++◌, codes, length, map, Option, None, Some, string_bytes}
+use Rattle.std.specs.Prelude.{ℕ, Bool, if◌then◌else◌, List, [], ◌∷◌, ◌++◌, codes, length, map, Option, None, Some, string_bytes}
 use Rattle.std.specs.List.{concat}
+use Rattle.mimic_trial.specs.Count.{is_failed}
+use Rattle.mimic_trial.specs.Text.{kind_part}
 use Rattle.mimic_trial.specs.declared.formats.FormatSetting.TheVariants.{Pretty}
 use Rattle.mimic_printer.specs.declared.Printer.{Printer}
 use Rattle.mimic_printer.specs.declared.place.Place.TheVariants.{Line}
@@ -57,9 +59,20 @@ cut_part ended (Cut stop) = cut_line ended stop
 abbrev pub failures_part : List PrintedRow → Ending → List ℕ
 failures_part rows ending = failures_if_any rows ++ cut_part (length rows) ending
 
--- and what the harness prints of the failures alone, if these rows have ended in a report, and it ended so
+-- a row under its full name, its kind in brackets and its name, if it failed
+abbrev pub full_failure : PrintedRow → PrintedRow
+full_failure row = record {
+  label = record {
+    kind = row.label.kind;
+    name = if is_failed row.outcome then kind_part row.label.kind ++ row.label.name else row.label.name;
+  };
+  outcome = row.outcome;
+  nanos = row.nanos;
+}
+
+-- what is printed of the failures alone, under their full names, if these rows have ended in a report, and it ended so
 abbrev pub pretty_failures : List Row → Ending → List ℕ
-pretty_failures rows ending = failures_part (map printed_row rows) ending
+pretty_failures rows ending = failures_part (map full_failure (map printed_row rows)) ending
 
 -- the title of a report that announces this number of trials, if its title was read
 abbrev pub title_if_any : Printer → Option ℕ → List ℕ

@@ -1,17 +1,18 @@
 //! Prints reports as the harness prints them in pretty, and how one ended that is cut.
-ghost use Rattle.std.specs.Prelude.{◌≡◌, IfOk, map, max};
+ghost use Rattle.std.specs.Prelude.{◌≡◌, ◌++◌, IfOk, map, max, string_bytes};
 ghost use Rattle.std.specs.List.{flat_map};
 ghost use Rattle.mimic_trial.specs.Count.{counts_of};
+ghost use Rattle.mimic_trial.specs.Text.{kind_part};
 ghost use Rattle.mimic_printer.specs.Report.{report_text, row_text};
 ghost use Rattle.mimic_printer.specs.Row.{label_of, outcomes_of};
 ghost use Rattle.mimic_printer.specs.Sink.{HasFaultLeft, LeavesText, Puts, shown};
 ghost use Rattle.mimic_printer.specs.Widths.{kind_chars, kind_width_of, name_chars, name_width_of};
-ghost use Rattle.mimic_reports.specs.Show.{cut_line, cut_part, cut_report_text, failures_part, kept_row, kept_rows, pretty_cut, pretty_failures, pretty_printer, pretty_report, printed_row, rows_and_failures, title_if_any};
+ghost use Rattle.mimic_reports.specs.Show.{cut_line, cut_part, cut_report_text, failures_part, full_failure, kept_row, kept_rows, pretty_cut, pretty_failures, pretty_printer, pretty_report, printed_row, rows_and_failures, title_if_any};
 
 use crate::cut::put_cut;
 use mimic_events::{Ending, Report, Row, Stop};
 use mimic_printer::{OutputFault, Place, Printer, ShownRows, Sink, WriteFault, widths};
-use mimic_trial::{Conclusion, FormatSetting, Outcome, TestInfo};
+use mimic_trial::{Conclusion, FormatSetting, Outcome, TestInfo, brackets};
 use std::alloc::{AllocError, Global};
 use std::io::Write;
 use std::slice;
@@ -36,8 +37,8 @@ pub fn show_report<W: Write>(
     Ok(())
 }
 
-/// Prints the failures among these rows, which have ended in a report, as the harness prints them in pretty, and flushes them. If the
-/// report is cut, an empty line follows, and one that says how far it goes: `the report ends after 1 of 3 trials; running: [kind] name`.
+/// Prints the failures among these rows, which have ended in a report, as the harness prints them in pretty, but each under its full
+/// name, `[kind] name`, and flushes them. If the report is cut, an empty line follows, and one that says how far it goes: `the report ends after 1 of 3 trials; running: [kind] name`.
 /// A trial is named if its announcement is the last line that has ended. Control characters of its kind and name are shown by their
 /// numbers.
 ///
@@ -53,6 +54,7 @@ pub fn show_failures<W: Write>(
         (shown W.contents sink.new) result }
 {
     let rows = rows_to_print(alloc, rows)?;
+    let rows = with_full_names(alloc, rows)?;
     put_failures(sink, &rows, ending)?;
     Ok(())
 }
@@ -108,6 +110,40 @@ impl<'a> ShownRows for KeptRows<'a> {
         let row = &self.rows[number];
         (&row.info, &row.outcome)
     }
+}
+
+// Returns the rows, with each failure under its full name.
+fn with_full_names(alloc: Global, rows: Vec<KeptRow>) -> Result<Vec<KeptRow>, AllocError>
+    ensures { IfOk result (λ named. kept_rows named.items ≡ map full_failure (kept_rows rows.items)) }
+{
+    let mut named = Vec::with_capacity(alloc, rows.len())?;
+    for row in rows {
+        named.push(with_full_name(alloc, row)?)?;
+    }
+    Ok(named)
+}
+
+fn with_full_name(alloc: Global, row: KeptRow) -> Result<KeptRow, AllocError>
+    ensures { IfOk result (λ named. kept_row named ≡ full_failure (kept_row row)) }
+{
+    let Outcome::Failed(_) = &row.outcome else {
+        return Ok(row);
+    };
+    let mut row = row;
+    row.info.name = full_name(alloc, row.info.kind.as_str(), row.info.name.as_str())?;
+    Ok(row)
+}
+
+// Returns a kind in brackets, if it isn't empty, and a name.
+fn full_name(alloc: Global, kind: &str, name: &str) -> Result<String, AllocError>
+    ensures { IfOk result (λ full. string_bytes full ≡ kind_part kind.now ++ name.now) }
+{
+    let (open, close) = brackets(kind);
+    let mut full = String::from_str(alloc, open)?;
+    full.push_str(kind)?;
+    full.push_str(close)?;
+    full.push_str(name)?;
+    Ok(full)
 }
 
 // Returns the rows as a printer takes them. Their texts stay where they are. A printer looks at neither flag.
