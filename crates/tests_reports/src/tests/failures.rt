@@ -23,8 +23,18 @@ pub(super) const KILLED: &[&str] = &[
 ];
 
 // The lines of a report, and what is shown.
-static SHOWN: [(&[&str], &str); 12] = [
+static SHOWN: [(&[&str], &str); 13] = [
     (A_PASSED, ""),
+    (
+        &[
+            title!(2),
+            announced!(["k"] "b"),
+            failed!(["k"] "b", "x"),
+            announced!(["k"] "c"),
+            passed!(["k"] "c"),
+        ],
+        "\nfailures:\n\n---- [k] b ----\nx\n\n\nfailures:\n    [k] b\n\nthe report ends after 2 of 2 trials\n",
+    ),
     (
         A_FAILED,
         "\nfailures:\n\n---- a ----\nx\n\n\nfailures:\n    a\n",
