@@ -96,15 +96,13 @@ fn check_counts(rt: &impl Abort, alloc: Global, page: &str, counts: &[u64; 4]) -
     Ok(())
 }
 
-// What is on a page of a group: its rows, and how many are not listed.
-type Listed = (&'static str, u64);
-
-// Checks that the rows are there, each once, under their headings, and nothing else is.
+// Checks that the rows of each group are there, each once, under their headings, with how many are not listed, and nothing else is.
 fn check_rows(
     rt: &impl Abort,
     alloc: Global,
     page: &str,
-    groups: &[Listed; 3],
+    groups: &[&str; 3],
+    unlisted: &[u64; 3],
 ) -> Result<(), Fail> {
     let mut expected = String::new(alloc);
     let headings = [
@@ -112,11 +110,11 @@ fn check_rows(
         ("measured", "Measured"),
         ("others", "Passed or ignored"),
     ];
-    for ((rows, unlisted), (id, heading)) in groups.iter().zip(headings) {
-        let more = if *unlisted == 0 {
+    for ((rows, count), (id, heading)) in groups.iter().zip(unlisted).zip(headings) {
+        let more = if *count == 0 {
             String::new(alloc)
         } else {
-            format!(in alloc; "<p class=\"unlisted\">not listed: {unlisted}</p>\n")?
+            format!(in alloc; "<p class=\"unlisted\">not listed: {count}</p>\n")?
         };
         let section = format!(in alloc;
             "<section id=\"{id}\">\n<h2>{heading}</h2>\n<ol>\n{rows}</ol>\n{more}</section>\n"
@@ -290,30 +288,28 @@ fn shows_reports(rt: HostRuntime) -> Result<(), Fail> {
         let page = page_of(alloc, lines)?;
         check_heading(&rt, alloc, page.as_str(), shown)?;
         check_counts(&rt, alloc, page.as_str(), &shown.counts)?;
-        let [failed, measured, others] = shown.rows;
-        let groups = [(failed, 0), (measured, 0), (others, 0)];
-        check_rows(&rt, alloc, page.as_str(), &groups)?;
+        check_rows(&rt, alloc, page.as_str(), &shown.rows, &[0, 0, 0])?;
     }
     Ok(())
 }
 
-// How many rows that did not fail are listed at most, and what is on the page of each group.
-static UP_TO: [(u64, [Listed; 3]); 5] = [
-    (0, [(FAILED, 0), ("", 2), ("", 2)]),
-    (1, [(FAILED, 0), (FIRST_MEASURED, 1), ("", 2)]),
-    (2, [(FAILED, 0), (MEASURED, 0), ("", 2)]),
-    (3, [(FAILED, 0), (MEASURED, 0), (PASSED, 1)]),
-    (4, [(FAILED, 0), (MEASURED, 0), (OTHERS, 0)]),
+// How many rows that did not fail are listed at most, those of each group, and how many of each group are not.
+static UP_TO: [(u64, [&str; 3], [u64; 3]); 5] = [
+    (0, [FAILED, "", ""], [0, 2, 2]),
+    (1, [FAILED, FIRST_MEASURED, ""], [0, 1, 2]),
+    (2, [FAILED, MEASURED, ""], [0, 0, 2]),
+    (3, [FAILED, MEASURED, PASSED], [0, 0, 1]),
+    (4, [FAILED, MEASURED, OTHERS], [0, 0, 0]),
 ];
 
 // The counts are those of all rows.
 #[test]
 fn lists_all_failures_and_some_other_rows(rt: HostRuntime) -> Result<(), Fail> {
     let alloc = rt.alloc();
-    for (most, groups) in &UP_TO {
+    for (most, groups, unlisted) in &UP_TO {
         let page = page_up_to(alloc, ALL, *most)?;
         check_counts(&rt, alloc, page.as_str(), &[2, 1, 1, 2])?;
-        check_rows(&rt, alloc, page.as_str(), groups)?;
+        check_rows(&rt, alloc, page.as_str(), groups, unlisted)?;
     }
     Ok(())
 }
