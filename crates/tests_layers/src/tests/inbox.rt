@@ -48,7 +48,7 @@ fn refuses_what_the_board_hands_back(rt: HostRuntime) -> Result<(), Fail> {
     Ok(())
 }
 
-static OUTCOMES: [Plain; 5] = [
+const OUTCOMES: [Plain; 5] = [
     Plain::Passed,
     Plain::Failed(None),
     Plain::Failed(Some("x")),
@@ -56,16 +56,16 @@ static OUTCOMES: [Plain; 5] = [
     Plain::Measured(2, 3),
 ];
 
-// A row of each outcome is reported as soon as its worker tells of it, with all that it says.
+// A row waits on the board as soon as its worker has reported it, with all that its outcome says.
 #[test]
 fn reports_each_outcome(rt: HostRuntime) -> Result<(), Fail> {
-    let mut inbox = Inbox::new(rt.alloc(), OUTCOMES.len(), 1)?;
-    let mut reports = inbox.reports(rt, rt.alloc())?;
-    for (place, outcome) in OUTCOMES.iter().enumerate() {
-        assert!(rt; reports.tell(place, &outcome.outcome(rt.alloc())?).is_ok());
-        assert!(rt; gives(&rt, &mut inbox, place, *outcome));
+    for outcome in OUTCOMES {
+        let mut inbox = Inbox::new(rt.alloc(), 1, 1)?;
+        let mut reports = inbox.reports(rt, rt.alloc())?;
+        assert!(rt; reports.tell(0, &outcome.outcome(rt.alloc())?).is_ok());
+        assert!(rt; gives(&rt, &mut inbox, 0, outcome));
+        assert!(rt; reports.refusals() == 0);
     }
-    assert!(rt; reports.refusals() == 0);
     Ok(())
 }
 
