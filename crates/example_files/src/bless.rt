@@ -38,6 +38,8 @@ pub(crate) fn bless(
         let _ = eprintln!(rt; "{NAME}: --bless: no case is selected");
         return ExitCode::from(REFUSED_LINE);
     }
-    let _ = println!(rt; "{written} of {selected} outputs were written");
-    status
+    match println!(rt; "{written} of {selected} outputs were written") {
+        Ok(()) => status,
+        Err(_) => ExitCode::from(CANNOT_BLESS),
+    }
 }

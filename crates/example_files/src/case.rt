@@ -37,7 +37,8 @@ impl<M: Files + AllocGlobal> FileCase<M> {
         }
     }
 
-    /// Makes the answer the output. Returns whether it was another one, or wasn't there.
+    /// Makes the answer the output. Returns whether it was another one, or wasn't there. The error says why there is no answer, or which
+    /// file can't be read or written. After a failed write, a part of the output may be there.
     pub(crate) fn bless(&self) -> Result<bool, Failed> {
         let answered = self.answered()?;
         match self.text("out") {

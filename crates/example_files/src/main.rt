@@ -50,7 +50,7 @@ fn main(rt: HostRuntime) -> ExitCode {
         Err(error) => (Err(error), Ok(Vec::new(alloc))),
     };
     match (options, trials) {
-        (Ok(options), Ok(trials)) if blesses => bless(&rt, &options, trials),
+        (Ok(options), Ok(trials)) if blesses && !options.list => bless(&rt, &options, trials),
         (options, trials) => {
             run_line(&rt, NAME, options, Sharding::from_env(&rt), trials).report(&rt)
         }

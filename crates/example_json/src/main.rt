@@ -56,9 +56,6 @@ fn trials_below<M: Files + AllocGlobal + Copy + Drop>(
         } = found;
         if let Some(expectation) = Expectation::of(name.as_str()) {
             let is_open = matches!(expectation, Expectation::Either);
-            let shown = Path::new(kind.as_str())
-                .join(alloc, name.as_str())?
-                .into_string();
             let file = JsonFile {
                 rt,
                 path,

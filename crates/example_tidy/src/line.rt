@@ -40,6 +40,7 @@ impl TidyLine {
             options: Arguments::from_matches(alloc, matches)?,
             folder: vec![in alloc; String::from_str(alloc, folder)?]?,
             rules: Rules {
+                // `--width` has a default.
                 width: matches.get_one::<usize>("width").unwrap_or(0),
                 allows_tabs: matches.get_flag("tabs"),
             },

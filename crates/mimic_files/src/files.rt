@@ -5,8 +5,8 @@ use std::{fs, io};
 
 /// Returns what the file at the path holds.
 ///
-/// What is no regular file, nor a link to one, is refused with `InvalidInput`. It isn't opened, since a FIFO would be waited for. No
-/// contract says what a disk holds.
+/// What is no regular file, nor a link to one, is refused with `InvalidInput`. It isn't opened, since a FIFO would be waited for. Other
+/// errors are the system's. No contract says what a disk holds.
 pub fn read_bytes<M: Files + AllocGlobal>(rt: &M, path: &str) -> io::Result<Vec<u8>> {
     refuse_unless_file(rt, path)?;
     fs::read(rt, path)

@@ -24,7 +24,7 @@ pub enum FolderError {
     /// An allocation failed.
     #[error("out of memory")]
     OutOfMemory,
-    /// A folder, or an entry of it, can't be read.
+    /// A folder, or an entry of it, can't be read. The error says why, also if there was no memory for it.
     #[error("cannot read the folder {path}: {error}")]
     Unreadable { path: String, error: io::Error },
 }
@@ -58,9 +58,9 @@ struct Folder {
 /// Returns the cases below the folders: those of each folder by name, and then those of its sub-folders, which come by name, too.
 /// `case_of` makes the name of a case of a file's name, or says that the file is of none; several files may be of one case.
 ///
-/// What is neither a folder nor a regular file is a case, too, such as a FIFO or a link that leads nowhere, so that no case is passed
-/// over: reading it fails. No link to a folder is followed, so that the walk can't go in circles. It returns an `Err` if a folder or an
-/// entry of it can't be read, if a name isn't UTF-8, or if an allocation failed.
+/// An entry that is neither a folder nor a regular file, such as a FIFO or a link that leads nowhere, is a case, too, if `case_of` makes
+/// a name of its name, so that no case is passed over: reading it fails. No link to a folder is followed, so that the walk can't go in
+/// circles. It returns an `Err` if a folder or an entry of it can't be read, if a name isn't UTF-8, or if an allocation failed.
 ///
 /// No contract says what a disk holds.
 pub fn cases_below<M: Files + AllocGlobal + Copy + Drop, F: Fn(&str) -> Option<&str> + Copy>(

@@ -130,7 +130,10 @@ fn updated(
     }
     let reports = slices_of(alloc, &copies)?;
     let mut sink = Sink::new(Vec::new(alloc));
-    write_updated(alloc, text, known, reports, expect.options.lax, &mut sink)?;
+    let verdict = write_updated(alloc, text, known, reports, expect.options.lax, &mut sink)?;
+    if !verdict.is_written() {
+        return Ok(None);
+    }
     Ok(Some(sink.into_inner()))
 }
 
@@ -201,7 +204,13 @@ fn replace(rt: &HostRuntime, alloc: Global, file: &str, old: &[u8], new: &[u8]) 
         target.as_path().as_str(),
         process::id(rt.process())
     )?;
-    let beside = File::create_new(rt, &path)?;
+    let beside = match File::create_new(rt, &path) {
+        Err(error) if error.kind() == ErrorKind::AlreadyExists => {
+            let cause = "a new file beside it, with .new behind its name, is there already";
+            return Err(Error::new(ErrorKind::AlreadyExists, cause));
+        }
+        created => created?,
+    };
     let replaced = fill(beside, new, permissions).and_then(|()| fs::rename(rt, &path, &target));
     if replaced.is_err() {
         let _ = fs::remove_file(rt, &path);
@@ -209,7 +218,8 @@ fn replace(rt: &HostRuntime, alloc: Global, file: &str, old: &[u8], new: &[u8]) 
     replaced
 }
 
-// Returns the path of the file that a path leads to through symbolic links, or the path itself if no file is there.
+// Returns the path of the file that a path leads to through symbolic links, or the path itself if nothing is there. A link that leads
+// nowhere is an error.
 fn target_of(rt: &HostRuntime, alloc: Global, file: &str) -> io::Result<PathBuf> {
     match fs::canonicalize(rt, file) {
         Err(error) if error.kind() == ErrorKind::NotFound && !Path::new(file).is_symlink(rt) => {

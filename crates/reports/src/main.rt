@@ -16,6 +16,7 @@ mod show;
 mod slowest;
 mod watch;
 
+use clap::error::ErrorKind;
 use faults::{refuse_all, refuse_write};
 use line::{Line, LineError};
 use mimic_printer::WriteFault;
@@ -65,6 +66,10 @@ fn refuse(rt: &HostRuntime, error: &LineError) -> u8 {
         | LineError::NoSubcommand => {
             refuse_all(rt, error);
             USAGE
+        }
+        LineError::Shown(error) if error.kind() == ErrorKind::OutOfMemory => {
+            let _ = error.print(rt);
+            REFUSED
         }
         LineError::Shown(error) => match error.print(rt) {
             _ if error.use_stderr() => USAGE,
