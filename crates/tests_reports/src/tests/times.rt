@@ -93,6 +93,10 @@ static SHOWN: [(&[&str], bool, &str); 3] = [
 const FAILURES: &str =
     "\nfailures:\n\n---- b ----\nno\nno\n\n---- short ----\n\n\nfailures:\n    b\n    short\n";
 
+// The same under full names, as they are shown alone.
+const NAMED_FAILURES: &str =
+    "\nfailures:\n\n---- [k] b ----\nno\nno\n\n---- short ----\n\n\nfailures:\n    [k] b\n    short\n";
+
 const SUMMARY: &str =
     ". 4 passed; 2 failed; 1 ignored; 1 measured; 13 filtered out; finished in 62.50s\n\n";
 
@@ -110,7 +114,7 @@ fn shows_times(rt: HostRuntime) -> Result<(), Fail> {
         let expected = format!(in alloc; "{rows}{FAILURES}\ntest result: {verdict}{SUMMARY}")?;
         assert!(rt; text == expected, "{text}");
         let text = failures_shown(alloc, lines)?;
-        assert!(rt; text.as_str() == FAILURES, "{text}");
+        assert!(rt; text.as_str() == NAMED_FAILURES, "{text}");
     }
     Ok(())
 }
