@@ -8,7 +8,7 @@ use Rattle.std.proofs.lemmas.Slice.Eq.{bytes_eq-Decides}
 use Rattle.mimic_trial.proofs.Bounded.{all_below, one_below}
 use Rattle.mimic_printer.specs.declared.place.Place.{Place}
 use Rattle.mimic_printer.specs.declared.place.Place.TheVariants.{Content, Value, Html, Line, Terminal}
-use Rattle.mimic_printer.specs.Places.{is_forbidden, is_xml}
+use Rattle.mimic_printer.specs.Places.{has_markup, is_forbidden, is_xml}
 use Rattle.mimic_printer.specs.Escapes.{begins_control, begins_number, begins_with, front, hexadecimal, is_line, numbered, spelled, spelled_byte}
 use Rattle.mimic_printer.specs.EscapeLaws.{begins_mark, character_of, ends_mark, is_harmless}
 
@@ -139,8 +139,8 @@ front_fine place b rest =
     let text : List ℕ = b ∷ rest in
     let all = constants place in
     chosen place text (begins_number text) _ _ (λ h. let begun = begun_by 92 117 123 text h in rw begun.1 (record { is_fine = all.0; within = omega arith }))
-    (chosen place text _ _ _ (three_fine place text _ 239 191 190 (is_xml place) all.1)
-    (chosen place text _ _ _ (three_fine place text _ 239 191 191 (is_xml place) all.2)
+    (chosen place text _ _ _ (three_fine place text _ 239 191 190 (has_markup place) all.1)
+    (chosen place text _ _ _ (three_fine place text _ 239 191 191 (has_markup place) all.2)
     (chosen place text _ _ _ (three_fine place text _ 226 128 168 (is_line place) all.3)
     (chosen place text _ _ _ (three_fine place text _ 226 128 169 (is_line place) all.4)
     (chosen place text _ _ _ (two_fine place text (not (is_xml place)))

@@ -2,7 +2,7 @@
 use Rattle.std.specs.Prelude.{◌≡◌, ℕ, zero, suc, ◌/◌, ◌%◌, ◌<◌, ◌≤◌, ◌==◌, ◌&&◌, not, nat_lt, length, take, drop, if◌then◌else◌, Bool, true, false, List, [], ◌∷◌, ◌++◌, codes, slice_index}
 use Rattle.std.specs.Char.{digit_char}
 use Rattle.std.specs.List.{concat}
-use Rattle.mimic_printer.specs.Places.{is_forbidden, is_xml}
+use Rattle.mimic_printer.specs.Places.{has_markup, is_forbidden, is_xml}
 use Rattle.mimic_printer.specs.declared.place.Place.{Place}
 use Rattle.mimic_printer.specs.declared.place.Place.TheVariants.{Line}
 use Rattle.mimic_printer.specs.declared.spelling.Spelling.{Spelling}
@@ -55,13 +55,13 @@ is_line Line = true
 is_line place = false
 
 -- how the front of a text is spelled, and how many bytes it has behind the first. By their numbers are spelled: a backslash that would be taken
--- for the beginning of a number, in XML the two characters of three bytes that no text of it has, in a line those that end one, and
--- control characters of two bytes, whose number is the second byte
+-- for the beginning of a number, in a document U+FFFE and U+FFFF, which XML doesn't have (section 2.2) and HTML calls noncharacters,
+-- in a line the two characters that end one, and control characters of two bytes, whose number is the second byte
 abbrev pub front : Place → List ℕ → List ℕ × ℕ
 front place text =
     if begins_number text then (numbered (codes "5c"), 0)
-    else (if begins_with 239 191 190 text && is_xml place then (numbered (codes "fffe"), 2)
-    else (if begins_with 239 191 191 text && is_xml place then (numbered (codes "ffff"), 2)
+    else (if begins_with 239 191 190 text && has_markup place then (numbered (codes "fffe"), 2)
+    else (if begins_with 239 191 191 text && has_markup place then (numbered (codes "ffff"), 2)
     else (if begins_with 226 128 168 text && is_line place then (numbered (codes "2028"), 2)
     else (if begins_with 226 128 169 text && is_line place then (numbered (codes "2029"), 2)
     else (if begins_control text && not (is_xml place) then (numbered (hexadecimal (slice_index text 1)), 1)

@@ -27,12 +27,18 @@ impl Place {
         matches!(self, Place::Content | Place::Value)
     }
 
+    pub(crate) fn has_markup(self) -> bool
+        ensures { result ≡ has_markup self }
+    {
+        !matches!(self, Place::Line | Place::Terminal)
+    }
+
     // Whether the byte can't be written there as it is.
     pub(crate) fn forbids(self, byte: u8) -> bool
         ensures { result ≡ is_forbidden self byte }
     {
         match byte {
-            b'&' | b'<' | b'>' => !matches!(self, Place::Line | Place::Terminal),
+            b'&' | b'<' | b'>' => self.has_markup(),
             b'"' => matches!(self, Place::Value | Place::Html),
             b'\t' | b'\n' => !matches!(self, Place::Content | Place::Html),
             127 => !self.is_xml(),

@@ -62,9 +62,9 @@ pub(crate) fn front(text: &[u8], place: Place) -> (Spelling, usize)
 {
     if begins_with(text, b'\\', b'u', b'{') {
         (Spelling::of(b"\\u{5c}"), 1)
-    } else if begins_with(text, 239, 191, 190) && place.is_xml() {
+    } else if begins_with(text, 239, 191, 190) && place.has_markup() {
         (Spelling::of(b"\\u{fffe}"), 3)
-    } else if begins_with(text, 239, 191, 191) && place.is_xml() {
+    } else if begins_with(text, 239, 191, 191) && place.has_markup() {
         (Spelling::of(b"\\u{ffff}"), 3)
     } else if begins_with(text, 226, 128, 168) && place == Place::Line {
         (Spelling::of(b"\\u{2028}"), 3)

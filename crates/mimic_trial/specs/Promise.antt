@@ -23,8 +23,12 @@ abbrev pub BenchAnswers : {X : Type 0} {F : X → Type 0} {g : _} → BenchRunne
     → Result (Option Measurement) (Option (List ℕ)) → Type 0
 BenchAnswers {X} {F} {g} b test_mode answer = g.post (b.boxed.vtable, b.boxed.value) (test_mode, tt) answer
 
+-- what a test returns: `Ok`, or a failure
+abbrev pub Answer : Type 0
+Answer = Result (Unit {0}) (Option (List ℕ))
+
 -- the outcome of a test's answer (the Rust crate's `Trial::test`)
-abbrev pub outcome_of_test : Result (Unit {0}) (Option (List ℕ)) → Outcome
+abbrev pub outcome_of_test : Answer → Outcome
 outcome_of_test (Ok u) = Passed
 outcome_of_test (Err f) = Failed f
 

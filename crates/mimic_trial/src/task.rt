@@ -1,7 +1,7 @@
 //! What a trial runs.
 ghost use Rattle.std.specs.Prelude.{◌≡◌, Bool};
 ghost use Rattle.mimic_trial.specs.declared.outcome.Outcome.{Outcome as AnOutcome};
-ghost use Rattle.mimic_trial.specs.Promise.{IsOutcomeOf};
+ghost use Rattle.mimic_trial.specs.Promise.{Answer, IsOutcomeOf};
 
 use crate::outcome::failed::Failed;
 use crate::outcome::{Outcome, run_single};
@@ -36,16 +36,42 @@ impl Task for Runner {
     }
 }
 
-/// A closure that no box holds is a test: it passes if it returns `Ok`.
-impl<F: FnOnce() -> Result<(), Failed> + Drop> Task for F {
+/// A test: something that is checked once, in either mode. It passes if its check returns `Ok`.
+///
+/// An `impl` may say which answers it gives, and a report then shows the outcome of one of these.
+pub trait Check: Drop {
+    /// Whether it may be checked. If an `impl` says nothing, it always may.
+    ghost can_check: { Self → Type 0 } = { λ _. Unit {0} };
+
+    /// The answers that it may give. If an `impl` says nothing, these are all.
+    ghost answers: { Self → Answer → Type 0 } = { λ _ _. Unit {0} };
+
+    /// Checks it.
+    fn check(self) -> Result<(), Failed>
+        requires { can_check self }
+        ensures { answers self result };
+}
+
+impl<C: Check> Task for C {
     ghost use Rattle.mimic_trial.specs.Promise.{outcome_of_test};
 
-    ghost can_run = { λ test. F.pre test };
+    ghost can_run = { λ test. C.can_check test };
 
-    ghost gives = { λ test _ o. (answer : _) × F.post test answer × (o ≡ outcome_of_test answer) };
+    ghost gives = { λ test _ o. (answer : _) × C.answers test answer × (o ≡ outcome_of_test answer) };
 
     fn run(self, _test_mode: bool) -> Outcome {
-        self().into()
+        self.check().into()
+    }
+}
+
+/// A closure that no box holds is a test: it passes if it returns `Ok`.
+impl<F: FnOnce() -> Result<(), Failed> + Drop> Check for F {
+    ghost can_check = { λ test. F.pre test };
+
+    ghost answers = { λ test answer. F.post test answer };
+
+    fn check(self) -> Result<(), Failed> {
+        self()
     }
 }
 

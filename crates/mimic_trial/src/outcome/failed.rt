@@ -4,7 +4,7 @@ ghost use Rattle.std.specs.Option.{option_copied};
 ghost use Rattle.std.specs.Result.{is_ok};
 ghost use Rattle.std.specs.Cmp.Rules.{comparing};
 ghost use Rattle.std.proofs.Common.{rules};
-ghost use Rattle.mimic_trial.specs.Failed.{not_measured_text, same_text};
+ghost use Rattle.mimic_trial.specs.Failed.{not_measured_text, out_of_memory_text, same_text};
 
 use crate::outcome::Outcome;
 use std::alloc::{AllocError, Global};
@@ -18,15 +18,18 @@ pub struct Failed {
     message: Message,
 }
 
-// What a failure says. One text takes no memory.
+// What a failure says. Two texts take no memory.
 #[derive(Drop)]
 enum Message {
     Nothing,
     NotMeasured,
+    OutOfMemory,
     Text(String),
 }
 
 const NOT_MEASURED: &str = "bench runner returned `Ok(None)` in bench mode";
+
+const OUT_OF_MEMORY: &str = "out of memory";
 
 impl Model for Failed {
     ghost use Rattle.std.specs.Prelude.{ℕ, List, Option, IfSome, IsUtf8};
@@ -113,6 +116,7 @@ impl Failed {
                 Ok(Failed::with_message(copy))
             }
             Message::NotMeasured => Ok(Failed::not_measured()),
+            Message::OutOfMemory => Ok(AllocError.into()),
             Message::Nothing => Ok(Failed::without_message()),
         }
     }
@@ -142,7 +146,19 @@ impl Failed {
         match &self.message {
             Message::Text(message) => Some(message.as_str()),
             Message::NotMeasured => Some(NOT_MEASURED),
+            Message::OutOfMemory => Some(OUT_OF_MEMORY),
             Message::Nothing => None,
+        }
+    }
+}
+
+/// A test whose allocation fails returns this with `?`. Its message, `out of memory`, takes no memory.
+impl From<AllocError> for Failed {
+    ghost from_gives = { λ _ f. f ≡ Some out_of_memory_text };
+
+    fn from(_error: AllocError) -> Failed {
+        Failed {
+            message: Message::OutOfMemory,
         }
     }
 }
