@@ -106,6 +106,19 @@ impl Failed {
         Failed::unless(alloc, left == right, &reason)
     }
 
+    /// Returns the value of an `Ok`, else a failure whose message is what the error displays, as `because` makes it.
+    pub fn unless_ok<T, X: Display + Drop>(alloc: Global, given: Result<T, X>) -> Result<T, Self>
+        ensures value { IfOk given (λ value. result ≡ Ok value) }
+        ensures failed { IfErr given (λ error. IfErr result
+            (λ f. IfSome f (λ text. IfSome (X.output error) (λ shown. text ≡ shown)))) }
+        ensures refused { is_ok result ≡ is_ok given }
+    {
+        match given {
+            Ok(value) => Ok(value),
+            Err(error) => Err(Failed::because(alloc, &error)),
+        }
+    }
+
     /// Returns an equal failure, or an `Err` if there is no memory for its message.
     pub fn try_clone(&self, alloc: Global) -> Result<Self, AllocError>
         ensures { IfOk result (λ f. f ≡ self.now) }
