@@ -39,7 +39,7 @@ pub use mimic_args::{
 pub use mimic_pool::{RunningTrials, Schedule, Spawner};
 pub use mimic_printer::{Sink, WriteFault};
 pub use mimic_trial::{
-    BenchRunner, Case, Conclusion, Failed, Measurement, Outcome, Runner, Task, TestInfo,
+    BenchRunner, Case, Check, Conclusion, Failed, Measurement, Outcome, Runner, Task, TestInfo,
     TestRunner, Trial, count_rows, run_single,
 };
 pub use running::{Request, RunError, run, run_as, run_from_queue, run_here};

@@ -1,5 +1,5 @@
 -- A command line with words of the program's own.
-use Rattle.std.specs.Prelude.{◌≡◌, ◌≢◌, ◌≤◌, ◌<◌, ◌+◌, ◌++◌, ◌⊎◌, ℕ, Bool, List, None, Some, codes, drop, get_or, IfErr, IfOk, length, map, nat_eq, string_bytes, take}
+use Rattle.std.specs.Prelude.{◌≡◌, ◌≢◌, ◌≤◌, ◌<◌, ◌+◌, ◌++◌, ◌∷◌, ◌⊎◌, [], ℕ, Bool, List, None, Option, Some, codes, drop, get_or, IfErr, IfOk, IfSome, length, map, nat_eq, string_bytes, take}
 use Rattle.std.specs.List.{find}
 use Rattle.clap.specs.Walk.{Text}
 use Rattle.mimic_args.specs.CommandLine.{IsMeaningOf, IsRefusalOf}
@@ -17,9 +17,9 @@ pub record IsOwnLength (words : List Text) (own : ℕ) : Type 0 where
   pub others : (k : ℕ) → k < own → get_or words k separator ≢ separator
   pub ended : get_or words own separator ≡ separator
 
--- the line that the harness gets: the program's name, and the words after the first `--` (our own)
+-- the line that the harness gets: the program's name, with ` .. --` behind it for the usage, and the words after the first `--` (our own)
 abbrev pub asked : List Text → ℕ → List Text
-asked words own = take 1 words ++ drop (own + 1) (drop 1 words)
+asked words own = (get_or words 0 [] ++ codes " .. --") ∷ drop (own + 1) (drop 1 words)
 
 -- a line has the program's name, its own words, and after the first `--` what is asked of the harness. If the options are
 -- arguments, they are the meaning of the line that the harness gets (our own)
@@ -32,6 +32,20 @@ pub record IsLine (words : List Text) (line : Line) : Type 0 where
 -- such a line; if its options are an error, the error is one for the line that the harness gets (our own)
 abbrev pub IsLineOf : List Text → Line → Type 0
 IsLineOf words line = (is : IsLine words line) × IfErr line.options (IsRefusalOf (asked words is.own_length))
+
+-- a text says why a line is refused, and how the program is used (our own, in `clap`'s form)
+abbrev pub says_why : Text → Text → Text
+says_why usage reason = codes "error: " ++ (reason ++ (codes "\n\n" ++ usage))
+
+-- it does so for some reason
+abbrev pub SaysWhy : Text → Text → Type 0
+SaysWhy usage text = (reason : Text) × (text ≡ says_why usage reason)
+
+-- the refusal of a line for a reason, which is shown if it can be, or no memory for it (our own)
+abbrev pub IsBecause : Option Text → Text → ArgumentsError → Type 0
+IsBecause shown usage OutOfMemory = Unit {0}
+IsBecause shown usage (Help text) = ⊥
+IsBecause shown usage (Refused text) = (reason : Text) × (string_bytes text ≡ says_why usage reason) × IfSome shown (λ s. reason ≡ s)
 
 -- the program's own words on a line
 abbrev pub own_words : Line → List Text
@@ -51,10 +65,10 @@ pub record AreOperands (least most : ℕ) (words : List Text) : Type 0 where
   pub enough : least ≤ length words
   pub no_more : length words ≤ most
 
--- why words are not taken as operands: an allocation failed, or the usage is shown, because help was asked for or because
--- the words are no operands (our own)
+-- why words are not taken as operands: an allocation failed, or help was asked for, which is the usage, or the words are no
+-- operands, which is said before the usage (our own)
 abbrev pub RefusesOperands : Text → ℕ → ℕ → List Text → ArgumentsError → Type 0
 RefusesOperands usage least most words OutOfMemory = Unit {0}
 RefusesOperands usage least most words (Help text) = (string_bytes text ≡ usage) × AsksForHelp words
-RefusesOperands usage least most words (Refused text) = (string_bytes text ≡ usage) × (AsksForHelp words → ⊥)
+RefusesOperands usage least most words (Refused text) = SaysWhy usage (string_bytes text) × (AsksForHelp words → ⊥)
     × (AreOperands least most words → ⊥)

@@ -112,8 +112,8 @@ impl Arguments {
 
 impl ArgumentsError {
     /// Returns the error for a line that `clap` refused, for a program that declares options of its own beside those of
-    /// [`Arguments::command`]. It is `Help`, with the text to print, if help or a version was asked for, `OutOfMemory` if `clap` had no
-    /// memory, and else `Refused`, with what is wrong and how the program is used.
+    /// [`Arguments::command`]. It is `Help`, with the text to print, if help or a version was asked for, `OutOfMemory` if
+    /// `clap` had no memory, and else `Refused`, with what is wrong and how the program is used.
     ///
     /// It returns an `Err` if there is no memory for the text.
     pub fn from_clap(alloc: Global, error: &clap::Error) -> Result<ArgumentsError, AllocError>

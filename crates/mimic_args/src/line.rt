@@ -30,10 +30,13 @@ impl Line {
         requires { 0 < length words.now }
         ensures { IfOk result (λ line. IsLineOf (map S.text words.now) line) }
     {
-        let (program, words) = words.split_at(1);
+        let mut name = String::from_str(alloc, words[0].as_str())?;
+        // So the usage that the harness prints shows where its options are.
+        name.push_str(" .. --")?;
+        let (_, words) = words.split_at(1);
         let own = own_length(words);
         let (_, asked) = words.split_at(words.len().min(own + 1));
-        let mut line = all_copied(alloc, program)?;
+        let mut line = vec![in alloc; name]?;
         line.append(&mut all_copied(alloc, asked)?)?;
         Ok(Line {
             own: all_copied(alloc, &words[..own])?,
@@ -59,9 +62,9 @@ impl Line {
     /// Returns what the options ask for, and the program's own words if they are as many operands as it takes.
     ///
     /// It takes the numbers of operands in `count`, and no operand begins with `-`. If the first own word that begins
-    /// with `-` is `--help` or `-h`, this returns `Help`. If it is another word, or if there are too few or too many
-    /// words, this returns `Refused`. Both errors have the text `usage`. If the options gave an error, that is returned
-    /// instead.
+    /// with `-` is `--help` or `-h`, this returns `Help` with the text `usage`. If it is another word, or if there are too
+    /// few or too many words, this returns the `Refused` of [`ArgumentsError::because`]. If the options gave an error, that
+    /// is returned instead.
     pub fn into_operands(
         self,
         alloc: Global,
@@ -78,13 +81,24 @@ impl Line {
     {
         let Line { own, options } = self;
         let options = options?;
-        let usage = String::from_str(alloc, usage)?;
+        let (found, least, most) = (own.len(), *count.start(), *count.end());
         match first_option(&own) {
             Some(option) if option == "--help" || option == "-h" => {
-                Err(ArgumentsError::Help(usage))
+                Err(ArgumentsError::Help(String::from_str(alloc, usage)?))
             }
-            None if *count.start() <= own.len() && own.len() <= *count.end() => Ok((options, own)),
-            _ => Err(ArgumentsError::Refused(usage)),
+            Some(option) => {
+                let reason = format_args!("unexpected argument '{option}' before '--'");
+                Err(ArgumentsError::because(alloc, &reason, usage))
+            }
+            None if found < least => {
+                let reason = format_args!("too few arguments: {found} of at least {least}");
+                Err(ArgumentsError::because(alloc, &reason, usage))
+            }
+            None if found > most => {
+                let reason = format_args!("too many arguments: {found} of at most {most}");
+                Err(ArgumentsError::because(alloc, &reason, usage))
+            }
+            None => Ok((options, own)),
         }
     }
 
