@@ -1,89 +1,65 @@
 //! One case: reads its files and compares.
 use crate::answer;
-use libtest_mimic::{Failed, Outcome, Task};
-use mimic_files::read_text;
+use libtest_mimic::{Check, Failed, check_ok, fail};
+use mimic_files::{CaseFiles, FileError};
+use std::fmt;
 use std::io::ErrorKind;
 use std::rt::Files;
-use std::{fmt, fs, io};
 
-/// What a trial runs: the pair of files at this path.
+/// What a trial runs: a pair of files.
 #[derive(Drop)]
 pub(crate) struct FileCase<M> {
     pub(crate) rt: M,
-    /// The files' path, without their ends.
-    pub(crate) path: String,
-    /// The same below the folder that was given. Failures have this one, so they are alike on every machine.
-    pub(crate) shown: String,
+    pub(crate) files: CaseFiles,
 }
 
-impl<M: Files + AllocGlobal + Drop> Task for FileCase<M> {
-    fn run(self, _test_mode: bool) -> Outcome {
-        self.check().into()
+impl<M: Files + AllocGlobal + Drop> Check for FileCase<M> {
+    fn check(self) -> Result<(), Failed> {
+        let alloc = self.rt.alloc();
+        let answered = self.answered()?;
+        let wanted = check_ok!(in alloc; self.files.read_text(&self.rt, "out"))?;
+        match first_difference(wanted.as_str(), answered.as_str()) {
+            None => Ok(()),
+            Some(difference) => {
+                let shown = &self.files.shown;
+                Err(fail!(in alloc; "{shown}.out: {difference}"))
+            }
+        }
     }
 }
 
 impl<M: Files + AllocGlobal> FileCase<M> {
-    fn check(&self) -> Result<(), Failed> {
-        let answered = self.answered()?;
-        let wanted = self
-            .text("out")
-            .map_err(|error| self.unread("out", &error))?;
-        match first_difference(wanted.as_str(), answered.as_str()) {
-            None => Ok(()),
-            Some(difference) => {
-                let shown = &self.shown;
-                Err(self.failed(format_args!("{shown}.out: {difference}")))
-            }
-        }
-    }
-
     /// Makes the answer the output. Returns whether it was another one, or wasn't there. The error says why there is no answer, or which
     /// file can't be read or written. After a failed write, a part of the output may be there.
     pub(crate) fn bless(&self) -> Result<bool, Failed> {
+        let alloc = self.rt.alloc();
         let answered = self.answered()?;
-        match self.text("out") {
+        match self.files.read_text(&self.rt, "out") {
             Ok(output) if output == answered => return Ok(false),
             Ok(_) => {}
             Err(error) if may_be_written(&error) => {}
-            Err(error) => return Err(self.unread("out", &error)),
+            Err(error) => return Err(fail!(in alloc; "{error}")),
         }
-        if let Err(error) = self.write_output(answered.as_str()) {
-            let shown = &self.shown;
-            return Err(self.failed(format_args!("cannot write {shown}.out: {error}")));
-        }
+        check_ok!(in alloc; self.files.write_text(&self.rt, "out", answered.as_str()))?;
         Ok(true)
     }
 
     // What the function under test makes of the input.
     fn answered(&self) -> Result<String, Failed> {
-        let given = self.text("in").map_err(|error| self.unread("in", &error))?;
-        answer(self.rt.alloc(), given.as_str()).map_err(|error| self.failed(error))
-    }
-
-    // The text of the file with this end.
-    fn text(&self, end: &str) -> io::Result<String> {
-        let path = format!(in self.rt.alloc(); "{}.{end}", self.path)?;
-        read_text(&self.rt, path.as_str())
-    }
-
-    fn write_output(&self, answered: &str) -> io::Result<()> {
-        let path = format!(in self.rt.alloc(); "{}.out", self.path)?;
-        fs::write(&self.rt, path.as_str(), answered)
-    }
-
-    fn unread(&self, end: &str, error: &io::Error) -> Failed {
-        let shown = &self.shown;
-        self.failed(format_args!("cannot read {shown}.{end}: {error}"))
-    }
-
-    fn failed<D: fmt::Display + Drop>(&self, reason: D) -> Failed {
-        Failed::because(self.rt.alloc(), &reason)
+        let alloc = self.rt.alloc();
+        let given = check_ok!(in alloc; self.files.read_text(&self.rt, "in"))?;
+        check_ok!(in alloc; answer(alloc, given.as_str()))
     }
 }
 
 // Whether the output that couldn't be read may be written anew: there is none, or it is no text.
-fn may_be_written(error: &io::Error) -> bool {
-    matches!(error.kind(), ErrorKind::NotFound | ErrorKind::InvalidData)
+fn may_be_written(error: &FileError) -> bool {
+    match error {
+        FileError::Unreadable { path: _, error } => {
+            matches!(error.kind(), ErrorKind::NotFound | ErrorKind::InvalidData)
+        }
+        _ => false,
+    }
 }
 
 // The first line, counted from 1, in which two texts differ.

@@ -9,8 +9,8 @@ mod case;
 use bless::bless;
 use case::FileCase;
 use libtest_mimic::{Line, Trial};
-use mimic_files::{FolderError, Found, cases_below};
-use mimic_main::{Sharding, run_line};
+use mimic_files::{FolderError, cases_below};
+use mimic_main::{Sharding, refuse_line, run_line};
 use std::alloc::{AllocError, Global};
 use std::path::Path;
 use std::process::{ExitCode, Termination};
@@ -45,15 +45,13 @@ fn main(rt: HostRuntime) -> ExitCode {
     let alloc = rt.alloc();
     let mut line = Line::from_args(&rt, alloc);
     let blesses = take_bless(&mut line.own);
-    let (options, trials) = match line.into_operands(alloc, 1..=usize::MAX, USAGE) {
-        Ok((options, folders)) => (Ok(options), trials_below(rt, folders.as_slice())),
-        Err(error) => (Err(error), Ok(Vec::new(alloc))),
+    let (options, folders) = match line.into_operands(alloc, 1..=usize::MAX, USAGE) {
+        Ok(words) => words,
+        Err(error) => return refuse_line(&rt, NAME, error).report(&rt),
     };
-    match (options, trials) {
-        (Ok(options), Ok(trials)) if blesses && !options.list => bless(&rt, &options, trials),
-        (options, trials) => {
-            run_line(&rt, NAME, options, Sharding::from_env(&rt), trials).report(&rt)
-        }
+    match trials_below(rt, &folders) {
+        Ok(trials) if blesses && !options.list => bless(&rt, &options, trials),
+        trials => run_line(&rt, NAME, Ok(options), Sharding::from_env(&rt), trials).report(&rt),
     }
 }
 
@@ -73,14 +71,11 @@ fn trials_below<M: Files + AllocGlobal + Copy + Drop>(
 ) -> Result<Vec<Trial<FileCase<M>>>, FolderError> {
     let mut trials = Vec::new(rt.alloc());
     for found in cases_below(&rt, folders, case_of)? {
-        let Found {
-            name,
-            path,
-            shown,
-            kind,
-        } = found;
-        let case = FileCase { rt, path, shown };
-        trials.push(Trial::new(name, case).with_kind(kind))?;
+        let case = FileCase {
+            rt,
+            files: found.files,
+        };
+        trials.push(Trial::new(found.name, case).with_kind(found.kind))?;
     }
     Ok(trials)
 }

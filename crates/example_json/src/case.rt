@@ -1,9 +1,8 @@
 //! One file: reads it, and parses it.
 use crate::report::check_report;
-use libtest_mimic::{Failed, Outcome, Task};
-use mimic_files::read_bytes;
+use libtest_mimic::{Check, Failed, check_ok, fail};
+use mimic_files::CaseFiles;
 use serde_json::Value;
-use std::io;
 use std::rt::Files;
 
 /// What the parser must do with a file.
@@ -17,14 +16,11 @@ pub(crate) enum Expectation {
     Report,
 }
 
-/// What a trial runs: the file at this path.
+/// What a trial runs: a file.
 #[derive(Drop)]
 pub(crate) struct JsonFile<M> {
     pub(crate) rt: M,
-    /// The file's path, without its end.
-    pub(crate) path: String,
-    /// The same below the folder that was given. Failures have this one, so they are alike on every machine.
-    pub(crate) shown: String,
+    pub(crate) files: CaseFiles,
     pub(crate) expectation: Expectation,
 }
 
@@ -41,40 +37,25 @@ impl Expectation {
     }
 }
 
-impl<M: Files + AllocGlobal + Drop> Task for JsonFile<M> {
-    fn run(self, _test_mode: bool) -> Outcome {
-        self.check().into()
-    }
-}
-
-impl<M: Files + AllocGlobal> JsonFile<M> {
-    fn check(&self) -> Result<(), Failed> {
+impl<M: Files + AllocGlobal + Drop> Check for JsonFile<M> {
+    // What is not UTF-8 is for the parser to refuse.
+    fn check(self) -> Result<(), Failed> {
         let alloc = self.rt.alloc();
-        let shown = &self.shown;
-        let bytes = self.bytes().map_err(|error| {
-            Failed::because(alloc, &format_args!("cannot read {shown}.json: {error}"))
-        })?;
+        let bytes = check_ok!(in alloc; self.files.read_bytes(&self.rt, "json"))?;
         if let Expectation::Report = self.expectation {
             return check_report(alloc, bytes.as_slice());
         }
+        let shown = &self.files.shown;
         match (self.expectation, Value::from_slice(alloc, bytes.as_slice())) {
             // A parser without memory has not judged the text.
             (_, Err(error)) if error.is_memory() => {
-                Err(Failed::because(alloc, &format_args!("cannot parse {shown}.json: {error}")))
+                Err(fail!(in alloc; "cannot parse {shown}.json: {error}"))
             }
             (Expectation::Accept, Err(error)) => {
-                Err(Failed::because(alloc, &format_args!("{shown}.json was refused: {error}")))
+                Err(fail!(in alloc; "{shown}.json was refused: {error}"))
             }
-            (Expectation::Refuse, Ok(_)) => {
-                Err(Failed::because(alloc, &format_args!("{shown}.json was accepted")))
-            }
+            (Expectation::Refuse, Ok(_)) => Err(fail!(in alloc; "{shown}.json was accepted")),
             _ => Ok(()),
         }
-    }
-
-    // What the file holds. What is not UTF-8 is for the parser to refuse.
-    fn bytes(&self) -> io::Result<Vec<u8>> {
-        let path = format!(in self.rt.alloc(); "{}.json", self.path)?;
-        read_bytes(&self.rt, path.as_str())
     }
 }

@@ -7,9 +7,11 @@ mod report;
 
 use case::{Expectation, JsonFile};
 use libtest_mimic::{Line, Trial};
-use mimic_files::{FolderError, Found, cases_below};
-use mimic_main::{Sharding, Status, run_line};
+use mimic_files::{FolderError, cases_below};
+use mimic_main::{Sharding, Status, refuse_line, run_line};
 use std::rt::Files;
+
+const NAME: &str = "example_json";
 
 const USAGE: &str = "\
 usage: example_json DIR [-- OPTIONS]
@@ -28,17 +30,12 @@ fn case_of(file: &str) -> Option<&str> {
 fn main(rt: HostRuntime) -> Status {
     let alloc = rt.alloc();
     let line = Line::from_args(&rt, alloc);
-    let (options, trials) = match line.into_operands(alloc, 1..=1, USAGE) {
-        Ok((options, folders)) => (Ok(options), trials_below(rt, folders.as_slice())),
-        Err(error) => (Err(error), Ok(Vec::new(alloc))),
+    let (options, folders) = match line.into_operands(alloc, 1..=1, USAGE) {
+        Ok(words) => words,
+        Err(error) => return refuse_line(&rt, NAME, error),
     };
-    run_line(
-        &rt,
-        "example_json",
-        options,
-        Sharding::from_env(&rt),
-        trials,
-    )
+    let trials = trials_below(rt, &folders);
+    run_line(&rt, NAME, Ok(options), Sharding::from_env(&rt), trials)
 }
 
 // A trial for each case below the folders whose name says what is expected.
@@ -48,23 +45,16 @@ fn trials_below<M: Files + AllocGlobal + Copy + Drop>(
 ) -> Result<Vec<Trial<JsonFile<M>>>, FolderError> {
     let mut trials = Vec::new(rt.alloc());
     for found in cases_below(&rt, folders, case_of)? {
-        let Found {
-            name,
-            path,
-            shown,
-            kind,
-        } = found;
-        if let Some(expectation) = Expectation::of(name.as_str()) {
+        if let Some(expectation) = Expectation::of(found.name.as_str()) {
             let is_open = matches!(expectation, Expectation::Either);
             let file = JsonFile {
                 rt,
-                path,
-                shown,
+                files: found.files,
                 expectation,
             };
             trials.push(
-                Trial::new(name, file)
-                    .with_kind(kind)
+                Trial::new(found.name, file)
+                    .with_kind(found.kind)
                     .with_ignored_flag(is_open),
             )?;
         }

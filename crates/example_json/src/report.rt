@@ -1,5 +1,5 @@
 //! Reads the report of a harness by two readers.
-use libtest_mimic::Failed;
+use libtest_mimic::{Failed, check_ok, fail};
 use mimic_events::{Row, read_report};
 use mimic_json::read_line;
 use serde_json::Value;
@@ -8,21 +8,19 @@ use std::alloc::Global;
 /// Fails unless the bytes are a report in JSON, and the parser finds the same trials in its lines as the reader of reports, in the
 /// same order.
 pub(crate) fn check_report(alloc: Global, bytes: &[u8]) -> Result<(), Failed> {
-    let report = match read_report(alloc, bytes) {
-        Ok(Some(report)) => report,
-        Ok(None) => return Err(Failed::because(alloc, &"it is no report")),
-        Err(error) => return Err(Failed::because(alloc, &error)),
+    let Some(report) = read_report(alloc, bytes)? else {
+        return Err(fail!(in alloc; "it is no report"));
     };
-    let text = str::from_utf8(bytes).map_err(|error| Failed::because(alloc, &error))?;
+    let text = check_ok!(in alloc; str::from_utf8(bytes))?;
     let mut rows = report.rows.iter();
     for line in text.lines() {
-        let value = read_line(alloc, line).map_err(|error| Failed::because(alloc, &error))?;
+        let value = check_ok!(in alloc; read_line(alloc, line))?;
         if is_of_outcome(&value) && !rows.next().is_some_and(|row| is_of(&value, row)) {
-            return Err(Failed::because(alloc, &format_args!("another trial: {line}")));
+            return Err(fail!(in alloc; "another trial: {line}"));
         }
     }
     match rows.next() {
-        Some(row) => Err(Failed::because(alloc, &format_args!("no line of {}", row.name))),
+        Some(row) => Err(fail!(in alloc; "no line of {}", row.name)),
         None => Ok(()),
     }
 }

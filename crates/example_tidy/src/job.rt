@@ -1,38 +1,48 @@
 //! What a trial runs.
 use crate::line::Rules;
-use libtest_mimic::{Failed, Measurement, Outcome, Task, check};
-use mimic_files::read_text;
+use libtest_mimic::{Failed, Measurement, Outcome, Task, check, check_ok};
+use mimic_files::CaseFiles;
 use std::alloc::Global;
-use std::io;
 use std::rt::{Clock, Files};
 use std::time::Instant;
 
-/// What is done with the text at a path, which is without `.txt`.
+/// What is done with a text.
 #[derive(Drop)]
 pub(crate) enum Job<M> {
     /// It must be tidy.
-    Check { rt: M, path: String, rules: Rules },
+    Check {
+        rt: M,
+        files: CaseFiles,
+        rules: Rules,
+    },
     /// It is measured how long reading it takes.
-    Read { rt: M, path: String },
+    Read {
+        rt: M,
+        files: CaseFiles,
+    },
 }
 
 impl<M: Files + Clock + AllocGlobal + Drop> Task for Job<M> {
     // A benchmark is tested by running it once.
     fn run(self, test_mode: bool) -> Outcome {
         match &self {
-            Job::Check { rt, path, rules } => check_text(rt, path, *rules).into(),
-            Job::Read { rt, path } => match nanos_to_read(rt, path) {
+            Job::Check { rt, files, rules } => check_text(rt, files, *rules).into(),
+            Job::Read { rt, files } => match nanos_to_read(rt, files) {
                 Ok(_) if test_mode => Outcome::Passed,
                 Ok(avg) => Outcome::Measured(Measurement { avg, variance: 0 }),
-                Err(error) => Outcome::Failed(Failed::because(rt.alloc(), &error)),
+                Err(failed) => Outcome::Failed(failed),
             },
         }
     }
 }
 
-fn check_text<M: Files + AllocGlobal>(rt: &M, path: &String, rules: Rules) -> Result<(), Failed> {
+fn check_text<M: Files + AllocGlobal>(
+    rt: &M,
+    files: &CaseFiles,
+    rules: Rules,
+) -> Result<(), Failed> {
     let alloc = rt.alloc();
-    let text = text_at(rt, path).map_err(|error| Failed::because(alloc, &error))?;
+    let text = check_ok!(in alloc; files.read_text(rt, "txt"))?;
     for (place, line) in text.lines().enumerate() {
         check_line(alloc, rules, place + 1, line)?;
     }
@@ -47,14 +57,10 @@ fn check_line(alloc: Global, rules: Rules, number: usize, line: &str) -> Result<
 }
 
 // How long it takes to read the text once.
-fn nanos_to_read<M: Files + Clock + AllocGlobal>(rt: &M, path: &String) -> io::Result<u64> {
-    let start = Instant::now(rt)?;
-    text_at(rt, path)?;
-    let elapsed = start.elapsed(rt)?;
+fn nanos_to_read<M: Files + Clock + AllocGlobal>(rt: &M, files: &CaseFiles) -> Result<u64, Failed> {
+    let alloc = rt.alloc();
+    let start = check_ok!(in alloc; Instant::now(rt))?;
+    check_ok!(in alloc; files.read_text(rt, "txt"))?;
+    let elapsed = check_ok!(in alloc; start.elapsed(rt))?;
     Ok(u64::try_from(elapsed.as_nanos()).unwrap_or(u64::MAX))
-}
-
-fn text_at<M: Files + AllocGlobal>(rt: &M, path: &String) -> io::Result<String> {
-    let path = format!(in rt.alloc(); "{path}.txt")?;
-    read_text(rt, path.as_str())
 }

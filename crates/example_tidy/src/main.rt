@@ -8,8 +8,10 @@ use job::Job;
 use libtest_mimic::{TestInfo, Trial};
 use line::{Rules, TidyLine};
 use mimic_files::{FolderError, Found, cases_below};
-use mimic_main::{Sharding, Status, run_line};
+use mimic_main::{Sharding, Status, refuse_line, run_line};
 use std::rt::{Clock, Files};
+
+const NAME: &str = "example_tidy";
 
 // The name of the case that a file of this name is.
 fn case_of(file: &str) -> Option<&str> {
@@ -18,17 +20,12 @@ fn case_of(file: &str) -> Option<&str> {
 
 fn main(rt: HostRuntime) -> Status {
     let alloc = rt.alloc();
-    let (options, trials) = match TidyLine::from_args(&rt, alloc) {
-        Ok(line) => (Ok(line.options), collect(rt, &line.folder, line.rules)),
-        Err(error) => (Err(error), Ok(Vec::new(alloc))),
+    let line = match TidyLine::from_args(&rt, alloc) {
+        Ok(line) => line,
+        Err(error) => return refuse_line(&rt, NAME, error),
     };
-    run_line(
-        &rt,
-        "example_tidy",
-        options,
-        Sharding::from_env(&rt),
-        trials,
-    )
+    let trials = collect(rt, &line.folder, line.rules);
+    run_line(&rt, NAME, Ok(line.options), Sharding::from_env(&rt), trials)
 }
 
 // A test for each text, and a benchmark of reading it.
@@ -40,12 +37,7 @@ fn collect<M: Files + Clock + AllocGlobal + Copy + Drop>(
     let alloc = rt.alloc();
     let mut trials = Vec::new(alloc);
     for found in cases_below(&rt, folders, case_of)? {
-        let Found {
-            name,
-            path,
-            shown: _,
-            kind,
-        } = found;
+        let Found { name, files, kind } = found;
         let info = TestInfo {
             name: format!(in alloc; "read {name}")?,
             kind: kind.clone()?,
@@ -54,9 +46,9 @@ fn collect<M: Files + Clock + AllocGlobal + Copy + Drop>(
         };
         let read = Job::Read {
             rt,
-            path: path.clone()?,
+            files: files.clone()?,
         };
-        let check = Job::Check { rt, path, rules };
+        let check = Job::Check { rt, files, rules };
         trials.push(Trial::new(name, check).with_kind(kind))?;
         trials.push(Trial::from_parts(info, read))?;
     }

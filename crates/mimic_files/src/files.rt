@@ -1,7 +1,89 @@
-//! Reads files.
+//! Reads and writes files.
+use std::alloc::{AllocError, Global};
 use std::io::ErrorKind;
 use std::rt::Files;
 use std::{fs, io};
+use thiserror::Error;
+
+/// The files of a case, which have one path but for their extensions.
+#[derive(Clone, Debug, Drop, PartialEq, Eq, PartialOrd, Ord)]
+pub struct CaseFiles {
+    /// Their path, without an extension.
+    pub path: String,
+    /// The same below the folder that was given. Errors have this one, so they are alike on every machine.
+    pub shown: String,
+}
+
+/// Why a file of a case can't be read or written.
+#[derive(Debug, Drop, Error)]
+pub enum FileError {
+    /// An allocation failed.
+    #[error("out of memory")]
+    OutOfMemory,
+    /// It can't be read. The path is the one below the folder that was given.
+    #[error("cannot read {path}: {error}")]
+    Unreadable { path: String, error: io::Error },
+    /// It can't be written.
+    #[error("cannot write {path}: {error}")]
+    Unwritable { path: String, error: io::Error },
+}
+
+impl From<AllocError> for FileError {
+    fn from(_error: AllocError) -> FileError {
+        FileError::OutOfMemory
+    }
+}
+
+impl CaseFiles {
+    /// Returns what the file with this extension holds, as [`read_bytes`] does.
+    pub fn read_bytes<M: Files + AllocGlobal>(
+        &self,
+        rt: &M,
+        extension: &str,
+    ) -> Result<Vec<u8>, FileError> {
+        let file = self.with_extension(rt.alloc(), extension)?;
+        read_bytes(rt, file.path.as_str()).map_err(|error| FileError::Unreadable {
+            path: file.shown,
+            error,
+        })
+    }
+
+    /// Returns the text of the file with this extension, as [`read_text`] does.
+    pub fn read_text<M: Files + AllocGlobal>(
+        &self,
+        rt: &M,
+        extension: &str,
+    ) -> Result<String, FileError> {
+        let file = self.with_extension(rt.alloc(), extension)?;
+        read_text(rt, file.path.as_str()).map_err(|error| FileError::Unreadable {
+            path: file.shown,
+            error,
+        })
+    }
+
+    /// Makes the text the content of the file with this extension. After an error a part of it may be there.
+    pub fn write_text<M: Files + AllocGlobal>(
+        &self,
+        rt: &M,
+        extension: &str,
+        text: &str,
+    ) -> Result<(), FileError> {
+        let file = self.with_extension(rt.alloc(), extension)?;
+        fs::write(rt, file.path.as_str(), text).map_err(|error| FileError::Unwritable {
+            path: file.shown,
+            error,
+        })
+    }
+
+    // The paths of the file with this extension.
+    fn with_extension(&self, alloc: Global, extension: &str) -> Result<CaseFiles, AllocError> {
+        let (path, shown) = (&self.path, &self.shown);
+        Ok(CaseFiles {
+            path: format!(in alloc; "{path}.{extension}")?,
+            shown: format!(in alloc; "{shown}.{extension}")?,
+        })
+    }
+}
 
 /// Returns what the file at the path holds.
 ///

@@ -1,4 +1,5 @@
 //! Finds the cases below folders.
+use crate::files::CaseFiles;
 use std::alloc::{AllocError, AllocFailed, Global};
 use std::path::Path;
 use std::rt::Files;
@@ -10,10 +11,8 @@ use thiserror::Error;
 pub struct Found {
     /// Its name, as the caller made it of a file's name.
     pub name: String,
-    /// The path of its folder, and then its name.
-    pub path: String,
-    /// The same below the folder that was given, so it is the same on every machine.
-    pub shown: String,
+    /// Its files. Their path is that of its folder, and then its name.
+    pub files: CaseFiles,
     /// The path of its folder below the one that was given. Empty for that one itself.
     pub kind: String,
 }
@@ -153,8 +152,10 @@ impl Folder {
     fn case(&self, alloc: Global, name: &str) -> Result<Found, AllocError> {
         Ok(Found {
             name: String::from_str(alloc, name)?,
-            path: joined(alloc, &self.path, name)?,
-            shown: joined(alloc, &self.kind, name)?,
+            files: CaseFiles {
+                path: joined(alloc, &self.path, name)?,
+                shown: joined(alloc, &self.kind, name)?,
+            },
             kind: self.kind.clone()?,
         })
     }

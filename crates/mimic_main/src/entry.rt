@@ -5,7 +5,7 @@ ghost use Rattle.std.specs.Result.{is_ok};
 ghost use Rattle.libtest_mimic.specs.Suite.{asking};
 ghost use Rattle.libtest_mimic.specs.Trial.{AllCanRun};
 ghost use Rattle.mimic_trial.specs.Case.{AreTestsOf};
-ghost use Rattle.mimic_main.specs.Ended.{EndsAsAsked, EndsByLine, EndsForLine, EndsInPart, EndsSomehow, IsOfReadLine, number_of};
+ghost use Rattle.mimic_main.specs.Ended.{EndsAsAsked, EndsByLine, EndsForLine, EndsInPart, EndsSomehow, IsOfReadLine, number_of, status_without};
 
 use crate::clock::MonotonicClock;
 use crate::colours::shows_colours;
@@ -30,7 +30,8 @@ use std::{io, thread};
 /// If the line does not say how many threads run them, it is as many as the machine can run at once. The report goes to
 /// standard output, in colours if [`shows_colours`](crate::shows_colours) says so, or into the logfile. A fault is printed on
 /// standard error with its cause. If the trials could not be made, the reason is printed there, and the status is 1. A trial that
-/// runs for over a minute is printed there, once, while it runs, and so is, before the run, a name that several trials have.
+/// runs for over a minute is printed there, once, while it runs, and so is, before the run, the first name that several of the
+/// selected trials have.
 ///
 /// No contract says which words and variables a process gets, so this one is about some of them, and never excludes the statuses
 /// 0, 1 and 2.
@@ -63,6 +64,15 @@ pub fn run_line<M: Machine, R: Task + Send + 'static, X: Display + Drop>(
     ensures refused { OnErr tests (number_of result ≡ 1) }
 {
     Program::on(machine, name).run_line(machine, line, sharding, tests)
+}
+
+/// Ends a program whose line asks for help or was refused: prints the help on standard output, or the reason on standard error, as
+/// [`run_line`] does, and returns what `main` is to return: 0 for help, 2 for a refusal, and 1 if there was no memory. It is for programs
+/// that make their trials only if their own words are right.
+pub fn refuse_line<M: Machine>(machine: &M, name: &str, error: ArgumentsError) -> Status
+    ensures { number_of result ≡ status_without error }
+{
+    Program::new(name, 1).status_without(error, &mut machine.stdout(), &mut machine.stderr())
 }
 
 /// Makes tests of a table for [`run_program`]: one for each case, in their order. A case is its name and its input, and passes if
@@ -144,8 +154,8 @@ impl<'a> Program<'a> {
     }
 
     /// Runs or lists the trials as the line and the variables ask, on the machine's streams and by its clock, and returns what
-    /// `main` is to return. A shard is named in one line on standard error, and so is a name that several trials have
-    /// ([`with_equal_names`](Program::with_equal_names)), and each trial that runs for too long, while it does
+    /// `main` is to return. A shard is named in one line on standard error, and so is the first name that several of its
+    /// selected trials have ([`with_equal_names`](Program::with_equal_names)), and each trial that runs for too long, while it does
     /// ([`with_slow_limit`](Program::with_slow_limit)).
     ///
     /// A fault is printed there, the first of these: the trials could not be made (status 1), the line was refused (2), the

@@ -10,8 +10,8 @@ use std::cmp::Ordering;
 use std::io::{BufWriter, Write};
 
 impl Program<'_> {
-    // Prints the first kind and name, in the order of kinds and names, that several trials have which these arguments select. Nothing
-    // is printed if there are none, if the trials are only listed, or if there is no memory for it.
+    // Prints the first kind and name, in the order of kinds and names, that several of the selected trials have. Nothing is printed
+    // if there are none, if the trials are only listed, or if there is no memory for it.
     pub(crate) fn print_equal_names<R, E: Write>(
         &self,
         alloc: Global,
@@ -43,7 +43,7 @@ fn put_equal_names<'a, R, E: Write>(
     Ok(())
 }
 
-// Writes the warning in one write, so that no other program's text comes between its parts.
+// Writes the warning, in one write if a block holds it, so that no other program's text comes between its parts.
 fn put_warning<'a, E: Write>(
     alloc: Global,
     program: &'a str,

@@ -37,7 +37,7 @@ mod status;
 
 pub use clock::{MonotonicClock, StillClock};
 pub use colours::shows_colours;
-pub use entry::{run_line, run_program, trials_of_cases};
+pub use entry::{refuse_line, run_line, run_program, trials_of_cases};
 pub use job::{Job, run_into};
 pub use machine::{Machine, Streams};
 pub use output::Output;
