@@ -1,5 +1,6 @@
 //! What no clause says: whole reports as texts, flushes, and which runners were called; and rows of selection.
 //! Expected texts are worked by hand from the format's rules, and those of the Rust crate.
+mod checks;
 mod first_page;
 mod in_memory;
 mod reports;

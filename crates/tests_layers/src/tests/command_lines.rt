@@ -322,47 +322,75 @@ fn reads_words_of_its_own(rt: HostRuntime) -> Result<(), Fail> {
 
 const USAGE: &str = "usage: program FILE..\n";
 
+// How the usage of the harness begins, which shows where its options are.
+const HARNESS_USAGE: &str = "\n\nUsage: program .. -- ";
+
 // What a program of one or two operands makes of a line.
 #[derive(Clone, Copy, Debug, PartialEq, Eq)]
-enum Took {
+enum Took<'a> {
     // The number of operands, and whether a list is asked.
     Operands(usize, bool),
     Help,
-    Refused,
-    // By its options: the text is theirs, not the usage.
+    // For this reason.
+    Refused(&'a str),
+    // By its options: the usage is that of the harness.
     Options,
 }
 
 // Lines, and what a program that takes one or two operands makes of them.
-static OPERANDS: [(&str, Took); 12] = [
-    ("program", Took::Refused),
+static OPERANDS: [(&str, Took<'static>); 13] = [
+    (
+        "program",
+        Took::Refused("too few arguments: 0 of at least 1"),
+    ),
     ("program a", Took::Operands(1, false)),
     ("program a b -- --list", Took::Operands(2, true)),
-    ("program a b c", Took::Refused),
+    (
+        "program a b c",
+        Took::Refused("too many arguments: 3 of at most 2"),
+    ),
+    (
+        "program a --list",
+        Took::Refused("unexpected argument '--list' before '--'"),
+    ),
     ("program --help", Took::Help),
     ("program -h", Took::Help),
     ("program a --help b c -- --list", Took::Help),
     ("program --help -x", Took::Help),
-    ("program -x --help", Took::Refused),
-    ("program -", Took::Refused),
+    (
+        "program -x --help",
+        Took::Refused("unexpected argument '-x' before '--'"),
+    ),
+    (
+        "program -",
+        Took::Refused("unexpected argument '-' before '--'"),
+    ),
     ("program a -- --nope", Took::Options),
     ("program --help -- --nope", Took::Options),
 ];
 
 // What a refusal of a line is. `None` is one for want of memory.
-fn refusal_of(error: &ArgumentsError) -> Option<Took> {
+fn refusal_of(error: &ArgumentsError) -> Option<Took<'_>> {
     match error {
-        ArgumentsError::Help(told) if told.as_str() == USAGE => Some(Took::Help),
-        ArgumentsError::Refused(told) if told.as_str() == USAGE => Some(Took::Refused),
-        ArgumentsError::Refused(_) => Some(Took::Options),
+        ArgumentsError::Help(text) if text.as_str() == USAGE => Some(Took::Help),
+        ArgumentsError::Refused(text) if text.contains(HARNESS_USAGE) => Some(Took::Options),
+        ArgumentsError::Refused(text) => Some(Took::Refused(reason_in(text.as_str())?)),
         _ => None,
     }
 }
 
-fn operands_of(alloc: Global, line: Line) -> Option<Took> {
+// The reason in the text of a refusal, which the usage follows.
+fn reason_in(text: &str) -> Option<&str> {
+    text.strip_prefix("error: ")?
+        .strip_suffix(USAGE)?
+        .strip_suffix("\n\n")
+}
+
+// Whether a program of one or two operands makes this of the line.
+fn is_taken_as(alloc: Global, line: Line, expected: Took<'static>) -> bool {
     match &line.into_operands(alloc, 1..=2, USAGE) {
-        Ok((args, operands)) => Some(Took::Operands(operands.len(), args.list)),
-        Err(error) => refusal_of(error),
+        Ok((args, operands)) => expected == Took::Operands(operands.len(), args.list),
+        Err(error) => refusal_of(error) == Some(expected),
     }
 }
 
@@ -370,7 +398,7 @@ fn operands_of(alloc: Global, line: Line) -> Option<Took> {
 fn takes_operands(rt: HostRuntime) -> Result<(), Fail> {
     for (text, expected) in &OPERANDS {
         let line = line_of(rt.alloc(), text)?;
-        assert!(rt; operands_of(rt.alloc(), line) == Some(*expected), "{text}");
+        assert!(rt; is_taken_as(rt.alloc(), line, *expected), "{text}");
     }
     Ok(())
 }

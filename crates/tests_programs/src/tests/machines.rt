@@ -1,8 +1,8 @@
 //! Whole programs, on a machine whose parts are known.
 use super::known_machine::{NO_OPTIONS, Streams, Variables, Words, known_machine, run_on};
 use super::runs::Host;
-use libtest_mimic::{Arguments, Failed, Line, Outcome, RunError, Task, Trial};
-use mimic_main::{Program, Sharding, Status, run_line, trials_of_cases};
+use libtest_mimic::{Arguments, ArgumentsError, Failed, Line, Outcome, RunError, Task, Trial};
+use mimic_main::{Program, Sharding, Status, refuse_line, run_line, trials_of_cases};
 use std::alloc::{AllocError, Global};
 use std::fmt::Display;
 use std::process::{ExitCode, Termination};
@@ -162,6 +162,53 @@ fn prints_under_its_name(rt: HostRuntime) -> Result<(), AllocError> {
         .report(&rt);
     assert!(rt; status == ExitCode::from(1));
     assert!(rt; streams.have_only_printed(alloc, "by_end: 2 of 7 lines are wrong\n"));
+    Ok(())
+}
+
+// What ends a program before it has trials, its status, and what it prints on standard output and on standard error.
+static ENDINGS: [(Ending, u8, &str, &str); 3] = [
+    (Ending::Help, 0, "usage: early FILE\n", ""),
+    (
+        Ending::Refused,
+        2,
+        "",
+        "error: no such suite: x\n\nusage: early FILE\n",
+    ),
+    (Ending::OutOfMemory, 1, "", "early: out of memory\n"),
+];
+
+#[derive(Clone, Copy)]
+enum Ending {
+    Help,
+    Refused,
+    OutOfMemory,
+}
+
+impl Ending {
+    fn error(self, alloc: Global) -> Result<ArgumentsError, AllocError> {
+        let usage = "usage: early FILE\n";
+        Ok(match self {
+            Ending::Help => ArgumentsError::Help(String::from_str(alloc, usage)?),
+            Ending::Refused => {
+                ArgumentsError::because(alloc, &format_args!("no such suite: {}", "x"), usage)
+            }
+            Ending::OutOfMemory => ArgumentsError::OutOfMemory,
+        })
+    }
+}
+
+#[test]
+fn ends_before_it_has_trials(rt: HostRuntime) -> Result<(), Fail> {
+    let alloc = rt.alloc();
+    for (ending, status, out, err) in &ENDINGS {
+        let streams = Streams::new(alloc)?;
+        let machine = known_machine(rt, alloc, NO_OPTIONS, &streams);
+        let ended = refuse_line(&machine, "early", ending.error(alloc)?).report(&rt);
+        assert!(rt; ended == ExitCode::from(*status));
+        let printed = String::from_utf8(streams.out.bytes.replace(Vec::new(alloc)))?;
+        assert!(rt; printed.as_str() == *out, "{printed}");
+        assert!(rt; streams.into_printed(alloc).as_slice() == err.as_bytes());
+    }
     Ok(())
 }
 
