@@ -12,7 +12,7 @@ use std::alloc::{AllocError, Global};
 pub(crate) struct RowReader {
     // What the lines that were taken said.
     progress: Progress,
-    // All that came after these lines, or what stands for it.
+    // All that came after these lines, or after `forget` one byte in its place.
     rest: Vec<u8>,
     // Whether the rest begins with a line that doesn't belong there. If not, it has no whole line.
     stuck: bool,
@@ -111,8 +111,8 @@ impl RowReader {
     }
 
     // Forgets the bytes from a line on that no report has there, also of a line that hasn't ended if no line of a report
-    // begins as it does. One byte stands for them: an empty line for lines that have ended. After an `Err` the reader is of
-    // no use.
+    // begins as it does. One byte takes their place: an empty line that of lines that have ended. After an `Err` the
+    // reader is of no use.
     pub(crate) fn forget(&mut self) -> Result<(), AllocError>
         ensures { OnOk result (Forgets self.old self.new) }
     {

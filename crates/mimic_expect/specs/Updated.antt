@@ -33,7 +33,7 @@ abbrev pub found_at : List Finding → ℕ → Option Finding
 found_at [] number = None
 found_at (f ∷ found) number = option_or (found_at found number) (cond (is_number number (line_of f)) (Some f) None)
 
--- what stands in the place of a line that a finding is about: the line of the failure that has another message, and nothing if the
+-- what replaces a line that a finding is about: the line of the failure that has another message, and nothing if the
 -- trial passed or is absent
 abbrev pub replaced_by : Finding → List ℕ
 replaced_by (OtherMessage e row) = row_line row

@@ -233,7 +233,7 @@ fn says_nothing(line: &[u8]) -> bool
     matches!(line, [] | [b'#', ..])
 }
 
-// Writes what stands in the place of a line about which this was found.
+// Writes what replaces a line about which this was found.
 fn put_replacement<W: Write>(sink: &mut Sink<W>, found: &Unexpected<'_>) -> Result<(), WriteFault>
     requires { HasFaultLeft sink.old }
     ensures { Puts W.contents sink.old sink.new (replaced_by (finding_read found.now)) result }

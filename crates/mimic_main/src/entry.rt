@@ -33,8 +33,7 @@ use std::{io, thread};
 /// runs for over a minute is printed there, once, while it runs, and so is, before the run, the first name that several of the
 /// selected trials have.
 ///
-/// No contract says which words and variables a process gets, so this one is about some of them, and never excludes the statuses
-/// 0, 1 and 2.
+/// The process's words and variables are unknown to a contract, so the statuses 0, 1 and 2 stay possible.
 pub fn run_program<M: Machine, R: Task + Send + 'static, X: Display + Drop>(
     machine: &M,
     name: &str,

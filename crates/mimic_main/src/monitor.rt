@@ -44,7 +44,7 @@ struct Notifier<E> {
 }
 
 impl Monitor {
-    // Starts the thread, for a run of these trials on so many threads if its arguments leave it open. `None` if no notices are asked
+    // Starts the thread, for a run of these trials on `threads` threads, if its arguments leave that open. `None` if no notices are asked
     // for, if no trial runs, if the thread can't be started, or if there is no memory for it.
     pub(crate) fn start<T: Spawner + 'static, R, E: Write + Send + Drop + 'static>(
         rt: &T,

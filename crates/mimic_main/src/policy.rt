@@ -14,8 +14,7 @@ pub enum FlushPolicy {
     OnFlush,
     /// After each text that ends a line.
     OnLineEnd,
-    /// After the second such text, and each second one from there: so before each trial runs, if its row is two lines, the
-    /// first of which announces it.
+    /// After every second such text: in JSON with one thread, just before each trial runs.
     OnEvenLineEnd,
     /// At no other time.
     WhenFull,

@@ -179,7 +179,7 @@ fn shard_place(alloc: Global, files: &[String]) -> Result<Option<usize>, AllocEr
     )
 }
 
-// Returns the number from which on shards count, 0 or 1, if these can be numbers of so many shards.
+// Returns the number from which on shards count, 0 or 1, if these can be the numbers of `shards` shards.
 fn first_number(numbers: &[u64], shards: u64) -> Option<u64> {
     if !numbers.is_sorted_by(|one, next| one < next) {
         return None;

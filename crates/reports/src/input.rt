@@ -1,7 +1,7 @@
 //! Where a report is read from.
 use std::alloc::{AllocError, Global};
 use std::fs::File;
-use std::io::{Read, Stdin};
+use std::io::{ErrorKind, Read, Stdin};
 use std::path::Path;
 use std::{fs, io};
 
@@ -13,7 +13,14 @@ const NAMELESS: &str = "report";
 
 /// A file, which is opened at the first read, or standard input.
 #[derive(Drop)]
-pub(crate) enum Input<'a> {
+pub(crate) struct Input<'a> {
+    source: Source<'a>,
+    // How many more bytes may be read.
+    left: u64,
+}
+
+#[derive(Drop)]
+enum Source<'a> {
     Named { rt: &'a HostRuntime, path: &'a str },
     Open(File),
     Standard(Stdin),
@@ -22,20 +29,33 @@ pub(crate) enum Input<'a> {
 impl<'a> Input<'a> {
     /// The input of this name.
     pub(crate) fn new(rt: &'a HostRuntime, path: &'a str) -> Input<'a> {
-        if path == STANDARD {
-            Input::Standard(rt.stdin())
+        Input::limited(rt, path, u64::MAX)
+    }
+
+    /// The input of this name, whose reading fails if it has more bytes than these.
+    pub(crate) fn limited(rt: &'a HostRuntime, path: &'a str, bytes: u64) -> Input<'a> {
+        let source = if path == STANDARD {
+            Source::Standard(rt.stdin())
         } else {
-            Input::Named { rt, path }
+            Source::Named { rt, path }
+        };
+        Input {
+            source,
+            left: bytes,
         }
     }
 
     /// The input of this name, which is opened here.
     pub(crate) fn open(rt: &'a HostRuntime, path: &'a str) -> io::Result<Input<'a>> {
-        if path == STANDARD {
-            Ok(Input::Standard(rt.stdin()))
+        let source = if path == STANDARD {
+            Source::Standard(rt.stdin())
         } else {
-            Ok(Input::Open(fs::open(rt, path)?))
-        }
+            Source::Open(fs::open(rt, path)?)
+        };
+        Ok(Input {
+            source,
+            left: u64::MAX,
+        })
     }
 
     /// The inputs of these names, in their order.
@@ -62,15 +82,25 @@ pub(crate) fn name_of(file: &str) -> &str {
 
 impl Read for Input<'_> {
     fn read(&mut self, buf: &mut [u8]) -> io::Result<usize> {
-        if let Input::Named { rt, path } = self {
+        if let Source::Named { rt, path } = &self.source {
             let file = fs::open(*rt, *path)?;
-            *self = Input::Open(file);
+            self.source = Source::Open(file);
         }
-        match self {
-            Input::Open(file) => file.read(buf),
-            Input::Standard(stdin) => stdin.read(buf),
+        let count = match &mut self.source {
+            Source::Open(file) => file.read(buf)?,
+            Source::Standard(stdin) => stdin.read(buf)?,
             // The file was opened above.
-            Input::Named { .. } => Ok(0),
+            Source::Named { .. } => 0,
+        };
+        match self.left.checked_sub(count as u64) {
+            Some(left) => {
+                self.left = left;
+                Ok(count)
+            }
+            None => Err(io::Error::new(
+                ErrorKind::Other,
+                "it is too long to be kept; write it into a file",
+            )),
         }
     }
 }

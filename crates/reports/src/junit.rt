@@ -12,6 +12,9 @@ use std::alloc::Global;
 use std::fs;
 use std::io::{BufWriter, Write};
 
+// How many bytes a report may have that can be read only once, since its rows are kept.
+const KEPT_BYTES: u64 = 256 << 20;
+
 // Prints the document of all reports, with what could be read of them. It also prints why a report is cut or could not be read. The
 // status says that, and, if the line asks for it, else whether a trial failed.
 pub(crate) fn run(rt: &HostRuntime, alloc: Global, junit: &Junit) -> u8 {
@@ -106,21 +109,23 @@ fn refuse_at(rt: &HostRuntime, files: &[&str], fault: &JunitFault) -> u8 {
     }
 }
 
-// Reads a report, or what can be read of it. A regular file is read again when its report is written, so that its rows are not kept.
+// Reads a report, or what can be read of it. A regular file is read again when its report is written, so its rows are not kept.
 fn read<'a>(
     rt: &'a HostRuntime,
     alloc: Global,
     name: &'a str,
     file: &'a str,
 ) -> Result<Suite<'a, Input<'a>>, SuiteFault> {
+    let mut limit = KEPT_BYTES;
     if file != STANDARD && is_regular(rt, file) {
         let (input, again) = (Input::new(rt, file), Input::new(rt, file));
         if let Ok(suite) = Suite::counted(alloc, name, input, again) {
             return Ok(suite);
         }
         // It is read once more, and what can be read of it is kept.
+        limit = u64::MAX;
     }
-    match Suite::kept(alloc, name, Input::new(rt, file)) {
+    match Suite::kept(alloc, name, Input::limited(rt, file, limit)) {
         Ok(suite) => Ok(suite),
         Err(SuiteFault::OutOfMemory) => Err(SuiteFault::OutOfMemory),
         Err(SuiteFault::Input { rows, error }) => {
