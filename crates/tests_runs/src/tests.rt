@@ -3,6 +3,7 @@
 mod checks;
 mod first_page;
 mod in_memory;
+mod large;
 mod reports;
 mod runners;
 mod runs;
