@@ -1,0 +1,74 @@
+//! The suite toml-test: documents that are valid, with their values in tagged JSON beside them, and documents that are not.
+use crate::case::Case;
+use crate::error::SuiteError;
+use crate::tagged::{check_same, tagged_table};
+use libtest_mimic::{Failed, Trial, fail};
+use mimic_files::{CaseFiles, cases_below};
+use serde_json::Value;
+use std::rt::Files;
+use std::slice;
+
+/// A document.
+#[derive(Drop)]
+pub(crate) struct TomlCase {
+    document: Vec<u8>,
+    /// Its value in tagged JSON, or nothing if it must be refused.
+    expected: Option<Value>,
+}
+
+// The name of the case that a file of this name is.
+fn case_of(file: &str) -> Option<&str> {
+    file.strip_suffix(".toml")
+}
+
+/// A trial for each document below the folder.
+pub(crate) fn trials<M: Files + AllocGlobal + Copy + Drop>(
+    rt: &M,
+    folder: &String,
+) -> Result<Vec<Trial<Case>>, SuiteError> {
+    let mut trials = Vec::new(rt.alloc());
+    for found in cases_below(rt, slice::from_ref(folder), case_of).map_err(SuiteError::Folder)? {
+        let files = found.files;
+        let expected = match found.kind.split('/').next() {
+            Some("valid") => Some(expected_value(rt, &files)?),
+            Some("invalid") => None,
+            _ => return Err(SuiteError::Elsewhere(files.path)),
+        };
+        let document = files.read_bytes(rt, "toml").map_err(SuiteError::File)?;
+        let case = Case::Toml(TomlCase { document, expected });
+        trials.push(Trial::new(found.name, case).with_kind(found.kind))?;
+    }
+    Ok(trials)
+}
+
+// The tagged JSON beside a document.
+fn expected_value<M: Files + AllocGlobal>(rt: &M, files: &CaseFiles) -> Result<Value, SuiteError> {
+    let alloc = rt.alloc();
+    let text = files.read_text(rt, "json").map_err(SuiteError::File)?;
+    match Value::from_str(alloc, text.as_str()) {
+        Ok(value) => Ok(value),
+        Err(error) => Err(SuiteError::Json {
+            path: format!(in alloc; "{}.json", files.path)?,
+            error,
+        }),
+    }
+}
+
+impl TomlCase {
+    pub(crate) fn check(&self) -> Result<(), Failed> {
+        let alloc = *self.document.allocator();
+        match (
+            toml::table_from_slice(alloc, self.document.as_slice()),
+            &self.expected,
+        ) {
+            // A parser without memory has not judged the document.
+            (Err(error), _) if error.is_memory() => Err(fail!(in alloc; "{error}")),
+            (Err(_), None) => Ok(()),
+            (Err(error), Some(_)) => Err(fail!(in alloc; "the document was refused: {error}")),
+            (Ok(_), None) => Err(fail!(in alloc; "the document was accepted")),
+            (Ok(table), Some(expected)) => {
+                check_same(alloc, "", expected, &tagged_table(alloc, &table)?)
+            }
+        }
+    }
+}
