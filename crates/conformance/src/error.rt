@@ -1,6 +1,6 @@
 //! Why a suite can't be run.
 use mimic_files::{FileError, FolderError};
-use std::alloc::{AllocError, AllocFailed};
+use std::alloc::AllocError;
 use std::io;
 use thiserror::Error;
 
@@ -8,11 +8,11 @@ use thiserror::Error;
 #[derive(Debug, Drop, Error)]
 pub(crate) enum SuiteError {
     #[error("out of memory")]
-    OutOfMemory,
+    OutOfMemory(#[from(alloc)] AllocError),
     #[error("{0}")]
-    Folder(FolderError),
+    Folder(#[from] FolderError),
     #[error("{0}")]
-    File(FileError),
+    File(#[from] FileError),
     #[error("cannot read {path}: {error}")]
     Unreadable {
         path: String,
@@ -67,16 +67,4 @@ pub(crate) enum EntryError {
     Base,
     #[error("it has neither href nor failure")]
     Outcome,
-}
-
-impl From<AllocError> for SuiteError {
-    fn from(_error: AllocError) -> SuiteError {
-        SuiteError::OutOfMemory
-    }
-}
-
-impl<T: Drop> From<AllocFailed<T>> for SuiteError {
-    fn from(_error: AllocFailed<T>) -> SuiteError {
-        SuiteError::OutOfMemory
-    }
 }

@@ -5,6 +5,7 @@ use crate::tagged::{check_same, tagged_table};
 use libtest_mimic::{Failed, Trial, fail};
 use mimic_files::{CaseFiles, cases_below};
 use serde_json::Value;
+use std::alloc::AllocError;
 use std::rt::Files;
 use std::slice;
 
@@ -27,14 +28,14 @@ pub(crate) fn trials<M: Files + AllocGlobal + Copy + Drop>(
     folder: &String,
 ) -> Result<Vec<Trial<Case>>, SuiteError> {
     let mut trials = Vec::new(rt.alloc());
-    for found in cases_below(rt, slice::from_ref(folder), case_of).map_err(SuiteError::Folder)? {
+    for found in cases_below(rt, slice::from_ref(folder), case_of)? {
         let files = found.files;
         let expected = match found.kind.split('/').next() {
             Some("valid") => Some(expected_value(rt, &files)?),
             Some("invalid") => None,
-            _ => return Err(SuiteError::Elsewhere(files.path)),
+            _ => return Err(SuiteError::Elsewhere(files.shown)),
         };
-        let document = files.read_bytes(rt, "toml").map_err(SuiteError::File)?;
+        let document = files.read_bytes(rt, "toml")?;
         let case = Case::Toml(TomlCase { document, expected });
         trials.push(Trial::new(found.name, case).with_kind(found.kind))?;
     }
@@ -44,11 +45,11 @@ pub(crate) fn trials<M: Files + AllocGlobal + Copy + Drop>(
 // The tagged JSON beside a document.
 fn expected_value<M: Files + AllocGlobal>(rt: &M, files: &CaseFiles) -> Result<Value, SuiteError> {
     let alloc = rt.alloc();
-    let text = files.read_text(rt, "json").map_err(SuiteError::File)?;
+    let text = files.read_text(rt, "json")?;
     match Value::from_str(alloc, text.as_str()) {
         Ok(value) => Ok(value),
         Err(error) => Err(SuiteError::Json {
-            path: format!(in alloc; "{}.json", files.path)?,
+            path: format!(in alloc; "{}.json", files.shown)?,
             error,
         }),
     }
@@ -57,15 +58,18 @@ fn expected_value<M: Files + AllocGlobal>(rt: &M, files: &CaseFiles) -> Result<V
 impl TomlCase {
     pub(crate) fn check(&self) -> Result<(), Failed> {
         let alloc = *self.document.allocator();
-        match (
-            toml::table_from_slice(alloc, self.document.as_slice()),
-            &self.expected,
-        ) {
+        let parsed = toml::table_from_slice(alloc, self.document.as_slice());
+        match (parsed, self.expected.as_ref()) {
             // A parser without memory has not judged the document.
-            (Err(error), _) if error.is_memory() => Err(fail!(in alloc; "{error}")),
+            (Err(error), _) if error.is_memory() => Err(AllocError.into()),
             (Err(_), None) => Ok(()),
-            (Err(error), Some(_)) => Err(fail!(in alloc; "the document was refused: {error}")),
-            (Ok(_), None) => Err(fail!(in alloc; "the document was accepted")),
+            (Err(error), Some(expected)) => {
+                Err(fail!(in alloc; "expected {expected}, answered a refusal: {error}"))
+            }
+            (Ok(table), None) => {
+                let answered = tagged_table(alloc, &table)?;
+                Err(fail!(in alloc; "expected a refusal, answered {answered}"))
+            }
             (Ok(table), Some(expected)) => {
                 check_same(alloc, "", expected, &tagged_table(alloc, &table)?)
             }
