@@ -7,9 +7,10 @@ use std::fmt;
 pub(crate) fn text_of(alloc: Global, digits: &str, separator: char) -> Result<String, LineError> {
     let mut text = String::new(alloc);
     for word in digits.split(separator) {
-        let code_point = u32::from_str_radix(word.trim(), 16).ok();
+        let word = word.trim();
+        let code_point = u32::from_str_radix(word, 16).ok();
         let Some(character) = code_point.and_then(char::from_u32) else {
-            return Err(LineError::CodePoint);
+            return Err(LineError::CodePoint(String::from_str(alloc, word)?));
         };
         text.push(character)?;
     }
@@ -25,11 +26,11 @@ pub(crate) struct CodePoints<'a> {
 
 impl fmt::Display for CodePoints<'_> {
     fn fmt<W: fmt::Write>(&self, f: &mut fmt::Formatter<W>) -> fmt::Result {
-        let mut separator = "";
-        for character in self.text.chars() {
-            let code_point = u32::from(character);
-            write!(f, "{separator}{code_point:04X}")?;
-            separator = self.separator;
+        for (index, character) in self.text.chars().enumerate() {
+            if index > 0 {
+                f.write_str(self.separator)?;
+            }
+            write!(f, "{:04X}", u32::from(character))?;
         }
         Ok(())
     }

@@ -29,7 +29,7 @@ pub(crate) enum SuiteError {
         number: u64,
         error: LineError,
     },
-    #[error("{0}: it is no list")]
+    #[error("{0}: it isn't a list")]
     NoList(String),
     #[error("{path}: case {number}: {error}")]
     Entry {
@@ -48,12 +48,12 @@ pub(crate) enum SuiteError {
 pub(crate) enum LineError {
     #[error("out of memory")]
     OutOfMemory(#[from(alloc)] AllocError),
-    #[error("it has no five columns that each end with a semicolon")]
+    #[error("it doesn't have five columns that each end with a semicolon")]
     Columns,
-    #[error("it does not begin and end with ÷")]
+    #[error("it doesn't begin and end with ÷")]
     Ends,
-    #[error("no code point in hexadecimal is between two separators")]
-    CodePoint,
+    #[error("{0:?} is not the code point of a character")]
+    CodePoint(String),
 }
 
 /// Why an entry of the list of URLs is no case.

@@ -30,22 +30,17 @@ pub(crate) fn trials(path: &String, file: &String) -> Result<Vec<Trial<Case>>, S
 
 impl NormalizationCase {
     fn read(alloc: Global, line: &str) -> Result<NormalizationCase, LineError> {
-        let mut columns = line.split(';');
-        let mut next = || match columns.next() {
-            Some(column) => text_of(alloc, column, ' '),
-            None => Err(LineError::Columns),
+        let columns: Vec<&str> = line.split(';').collect(alloc)?;
+        let [source, nfc, nfd, nfkc, nfkd, ""] = columns.as_slice() else {
+            return Err(LineError::Columns);
         };
-        let case = NormalizationCase {
-            source: next()?,
-            nfc: next()?,
-            nfd: next()?,
-            nfkc: next()?,
-            nfkd: next()?,
-        };
-        match (columns.next(), columns.next()) {
-            (Some(""), None) => Ok(case),
-            _ => Err(LineError::Columns),
-        }
+        Ok(NormalizationCase {
+            source: text_of(alloc, source, ' ')?,
+            nfc: text_of(alloc, nfc, ' ')?,
+            nfd: text_of(alloc, nfd, ' ')?,
+            nfkc: text_of(alloc, nfkc, ' ')?,
+            nfkd: text_of(alloc, nfkd, ' ')?,
+        })
     }
 
     /// Fails at the first of the twenty equations in the file's head that does not hold.

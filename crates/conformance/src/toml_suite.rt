@@ -58,21 +58,22 @@ fn expected_value<M: Files + AllocGlobal>(rt: &M, files: &CaseFiles) -> Result<V
 impl TomlCase {
     pub(crate) fn check(&self) -> Result<(), Failed> {
         let alloc = *self.document.allocator();
-        let parsed = toml::table_from_slice(alloc, self.document.as_slice());
-        match (parsed, self.expected.as_ref()) {
-            // A parser without memory has not judged the document.
-            (Err(error), _) if error.is_memory() => Err(AllocError.into()),
-            (Err(_), None) => Ok(()),
-            (Err(error), Some(expected)) => {
-                Err(fail!(in alloc; "expected {expected}, answered a refusal: {error}"))
-            }
-            (Ok(table), None) => {
+        match toml::table_from_slice(alloc, self.document.as_slice()) {
+            Ok(table) => {
                 let answered = tagged_table(alloc, &table)?;
-                Err(fail!(in alloc; "expected a refusal, answered {answered}"))
+                match &self.expected {
+                    Some(expected) => check_same(alloc, "", expected, &answered),
+                    None => Err(fail!(in alloc; "expected a refusal, answered {answered}")),
+                }
             }
-            (Ok(table), Some(expected)) => {
-                check_same(alloc, "", expected, &tagged_table(alloc, &table)?)
-            }
+            // A parser without memory has not judged the document.
+            Err(error) if error.is_memory() => Err(AllocError.into()),
+            Err(error) => match &self.expected {
+                Some(expected) => {
+                    Err(fail!(in alloc; "expected {expected}, answered a refusal: {error}"))
+                }
+                None => Ok(()),
+            },
         }
     }
 }
