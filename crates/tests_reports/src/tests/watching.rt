@@ -10,7 +10,8 @@ use std::io::{ErrorKind, Read};
 use std::test::Fail;
 use std::time::Duration;
 
-// Gives these pieces, one a read. At an empty piece it times out, at `BLOCKED` it would block, and at `BROKEN` it fails.
+// Gives these pieces, one a read. At an empty piece it times out, at `BLOCKED` it would block, at `INTERRUPTED` it is interrupted, and
+// at `BROKEN` it fails.
 #[derive(Drop)]
 struct Pieces<'a> {
     pieces: &'a [&'a str],
@@ -28,6 +29,9 @@ impl Read for Pieces<'_> {
         }
         if *piece == BLOCKED {
             return Err(io::Error::from(ErrorKind::WouldBlock));
+        }
+        if *piece == INTERRUPTED {
+            return Err(io::Error::from(ErrorKind::Interrupted));
         }
         if *piece == BROKEN {
             return Err(io::Error::from(ErrorKind::BrokenPipe));
@@ -103,6 +107,8 @@ pub(super) const TERMINAL: Screen = Screen {
 
 const BLOCKED: &str = "blocked";
 
+const INTERRUPTED: &str = "interrupted";
+
 const BROKEN: &str = "broken";
 
 const TITLE: &str = "{ \"type\": \"suite\", \"event\": \"started\", \"test_count\": 2 }\n";
@@ -131,6 +137,17 @@ fn plain(rt: HostRuntime) -> Result<(), Fail> {
     // The third reading after the one at the start is 12 seconds later.
     let line = "[      ] 0/2 12s; waiting 12s for [k] a\\u{1b}b\n";
     let expected = format!(in alloc; "{line}{FAILURE}{BENCH}{SUMMARY}")?;
+    assert!(rt; status == 101, "{status}");
+    assert!(rt; text == expected, "{text}");
+    Ok(())
+}
+
+// A read that is interrupted is tried again.
+#[test]
+fn interrupted(rt: HostRuntime) -> Result<(), Fail> {
+    let pieces = [TITLE, INTERRUPTED, ANNOUNCED, INTERRUPTED, FAILED, REST];
+    let (status, text) = watched_pieces(rt.alloc(), &pieces, 1, LOG)?;
+    let expected = format!(in rt.alloc(); "{FAILURE}{BENCH}{SUMMARY}")?;
     assert!(rt; status == 101, "{status}");
     assert!(rt; text == expected, "{text}");
     Ok(())
