@@ -65,6 +65,6 @@ pub(crate) enum EntryError {
     Input,
     #[error("its base is neither a text nor null")]
     Base,
-    #[error("it has neither href nor failure")]
+    #[error("it needs either a text as its href or true as its failure")]
     Outcome,
 }

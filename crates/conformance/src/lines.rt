@@ -41,8 +41,8 @@ impl CaseLine<'_> {
     ) -> Result<Trial<Case>, SuiteError> {
         let CaseLine {
             number,
-            text: _,
             comment,
+            ..
         } = *self;
         let alloc = *path.allocator();
         match read {

@@ -6,15 +6,15 @@ use std::alloc::{AllocError, Global};
 use std::fmt::Display;
 use toml::value::{Array, Datetime, Table};
 
-/// The tagged JSON of a value.
+// The tagged JSON of a value.
 #[cycle(tagged)]
-pub(crate) fn tagged(alloc: Global, value: &toml::Value) -> Result<Value, AllocError> {
+fn tagged(alloc: Global, value: &toml::Value) -> Result<Value, AllocError> {
     match value {
-        toml::Value::String(text) => leaf(alloc, "string", text),
-        toml::Value::Integer(number) => leaf(alloc, "integer", number),
-        toml::Value::Float(number) => leaf(alloc, "float", number),
-        toml::Value::Boolean(flag) => leaf(alloc, "bool", flag),
-        toml::Value::Datetime(moment) => leaf(alloc, type_of(moment), moment),
+        toml::Value::String(text) => tagged_leaf(alloc, "string", text),
+        toml::Value::Integer(number) => tagged_leaf(alloc, "integer", number),
+        toml::Value::Float(number) => tagged_leaf(alloc, "float", number),
+        toml::Value::Boolean(flag) => tagged_leaf(alloc, "bool", flag),
+        toml::Value::Datetime(moment) => tagged_leaf(alloc, type_of(moment), moment),
         toml::Value::Array(values) => tagged_array(alloc, values),
         toml::Value::Table(table) => tagged_table(alloc, table),
     }
@@ -39,7 +39,7 @@ pub(crate) fn tagged_table(alloc: Global, table: &Table) -> Result<Value, AllocE
     Ok(Value::Object(members))
 }
 
-fn leaf<T: Display>(alloc: Global, type_name: &str, value: &T) -> Result<Value, AllocError> {
+fn tagged_leaf<T: Display>(alloc: Global, type_name: &str, value: &T) -> Result<Value, AllocError> {
     let mut members = Map::new(alloc);
     let type_name = String::from_str(alloc, type_name)?;
     members.insert(String::from_str(alloc, "type")?, Value::String(type_name))?;
@@ -57,6 +57,36 @@ fn type_of(moment: &Datetime) -> &'static str {
     }
 }
 
+// A value that is no array and no table.
+#[derive(Clone, Copy)]
+struct Leaf<'a> {
+    type_name: &'a str,
+    text: &'a str,
+}
+
+impl<'a> Leaf<'a> {
+    // The members of a table are values, and those of a leaf are texts.
+    fn of(members: &'a Map<String, Value>) -> Option<Leaf<'a>> {
+        Some(Leaf {
+            type_name: members.get("type")?.as_str()?,
+            text: members.get("value")?.as_str()?,
+        })
+    }
+
+    // Floats and times have several texts.
+    fn is_same(self, other: Leaf<'_>) -> bool {
+        let (text, other_text) = (self.text, other.text);
+        self.type_name == other.type_name
+            && match self.type_name {
+                "float" => is_same_float(text, other_text),
+                "datetime" | "datetime-local" | "date-local" | "time-local" => {
+                    is_same_moment(text, other_text)
+                }
+                _ => text == other_text,
+            }
+    }
+}
+
 /// Fails at the first value that is another one. The place is that of the values in their documents: the keys and indices that lead
 /// there, with a slash before each.
 #[cycle(check)]
@@ -71,10 +101,10 @@ pub(crate) fn check_same(
             return check_items(alloc, place, expected, answered);
         }
         (Value::Object(expected), Value::Object(answered)) => match (
-            leaf_of(expected),
-            leaf_of(answered),
+            Leaf::of(expected),
+            Leaf::of(answered),
         ) {
-            (Some(expected), Some(answered)) => is_same_leaf(expected, answered),
+            (Some(expected), Some(answered)) => expected.is_same(answered),
             (None, None) => return check_members(alloc, place, expected, answered),
             _ => false,
         },
@@ -120,26 +150,6 @@ fn check_members(
         }
         None => Ok(()),
     }
-}
-
-// A type's name and the text of the value, if the members are those of a leaf.
-fn leaf_of(members: &Map<String, Value>) -> Option<(&str, &str)> {
-    let type_name = members.get("type")?.as_str()?;
-    Some((type_name, members.get("value")?.as_str()?))
-}
-
-// Floats and times have several texts.
-fn is_same_leaf(expected: (&str, &str), answered: (&str, &str)) -> bool {
-    let (expected_type, expected) = expected;
-    let (answered_type, answered) = answered;
-    expected_type == answered_type
-        && match expected_type {
-            "float" => is_same_float(expected, answered),
-            "datetime" | "datetime-local" | "date-local" | "time-local" => {
-                is_same_moment(expected, answered)
-            }
-            _ => expected == answered,
-        }
 }
 
 fn is_same_float(expected: &str, answered: &str) -> bool {
