@@ -1,6 +1,6 @@
-//! Runs conformance suites as they are published, against the crates that read TOML and URLs, normalize text and cut it into parts.
+//! Runs conformance suites, as they are published, against the crates that read TOML and URLs, normalize text and split it.
 //!
-//! A suite of one's own is a module with a case, a line in `Case` and one in `Suite`.
+//! To add a suite of your own, write a module that reads its cases and checks one, and name it in `Suite` and in `Case`.
 #![tactic(auto)]
 
 mod case;

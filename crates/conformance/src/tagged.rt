@@ -87,8 +87,8 @@ impl<'a> Leaf<'a> {
     }
 }
 
-/// Fails at the first value that is another one. The place is that of the values in their documents: the keys and indices that lead
-/// there, with a slash before each.
+/// Fails at the first value that is another one. The place is where the values are in their documents: the keys and indices that
+/// lead there, with a slash before each.
 #[cycle(check)]
 pub(crate) fn check_same(
     alloc: Global,
