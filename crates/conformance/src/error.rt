@@ -1,7 +1,6 @@
 //! Why a suite can't be run.
 use mimic_files::{FileError, FolderError};
 use std::alloc::AllocError;
-use std::io;
 use thiserror::Error;
 
 /// Why the cases of a suite are not known: a file or folder can't be read, or isn't as the suite has it.
@@ -13,11 +12,6 @@ pub(crate) enum SuiteError {
     Folder(#[from] FolderError),
     #[error("{0}")]
     File(#[from] FileError),
-    #[error("cannot read {path}: {error}")]
-    Unreadable {
-        path: String,
-        error: io::Error,
-    },
     #[error("{path}: {error}")]
     Json {
         path: String,

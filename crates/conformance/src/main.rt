@@ -1,4 +1,4 @@
-//! Runs conformance suites, as they are published, against the crates that read TOML and URLs, normalize text and split it.
+//! Runs suites, as they are published, against the crates that read TOML and URLs, normalize text and split it.
 //!
 //! To add a suite of your own, write a module that reads its cases and checks one, and name it in `Suite` and in `Case`.
 #![tactic(auto)]
@@ -23,7 +23,7 @@ const NAME: &str = "conformance";
 const USAGE: &str = "\
 usage: conformance SUITE PATH [-- OPTIONS]
 
-Runs a trial for each case of a conformance suite:
+Runs a trial for each case of a suite:
 
   toml           the folder tests of toml-test, with valid and invalid below it
   url            the file urltestdata.json of the web-platform-tests

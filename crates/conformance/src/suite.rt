@@ -7,7 +7,7 @@ use libtest_mimic::Trial;
 use mimic_files::read_text;
 use std::rt::Files;
 
-/// A conformance suite.
+/// A suite.
 #[derive(Clone, Copy)]
 pub(crate) enum Suite {
     Toml,
@@ -38,24 +38,18 @@ impl Suite {
     ) -> Result<Vec<Trial<Case>>, SuiteError> {
         let trials = match self {
             Suite::Toml => toml_suite::trials(rt, path)?,
-            Suite::Url => url_suite::trials(path, &read(rt, path)?)?,
-            Suite::Normalization => normalization::trials(path, &read(rt, path)?)?,
-            Suite::Graphemes => segmentation::trials(Unit::Grapheme, path, &read(rt, path)?)?,
-            Suite::Words => segmentation::trials(Unit::Word, path, &read(rt, path)?)?,
+            Suite::Url => url_suite::trials(path, &read_text(rt, path.as_str())?)?,
+            Suite::Normalization => normalization::trials(path, &read_text(rt, path.as_str())?)?,
+            Suite::Graphemes => segmentation::trials(
+                Unit::Grapheme,
+                path,
+                &read_text(rt, path.as_str())?,
+            )?,
+            Suite::Words => segmentation::trials(Unit::Word, path, &read_text(rt, path.as_str())?)?,
         };
         if trials.is_empty() {
             return Err(SuiteError::Empty(path.clone()?));
         }
         Ok(trials)
-    }
-}
-
-fn read<M: Files + AllocGlobal>(rt: &M, path: &String) -> Result<String, SuiteError> {
-    match read_text(rt, path.as_str()) {
-        Ok(text) => Ok(text),
-        Err(error) => Err(SuiteError::Unreadable {
-            path: path.clone()?,
-            error,
-        }),
     }
 }

@@ -7,7 +7,6 @@ use mimic_files::{CaseFiles, cases_below};
 use serde_json::Value;
 use std::alloc::AllocError;
 use std::rt::Files;
-use std::slice;
 
 /// A document.
 #[derive(Drop)]
@@ -28,7 +27,7 @@ pub(crate) fn trials<M: Files + AllocGlobal + Copy + Drop>(
     folder: &String,
 ) -> Result<Vec<Trial<Case>>, SuiteError> {
     let mut trials = Vec::new(rt.alloc());
-    for found in cases_below(rt, slice::from_ref(folder), case_of)? {
+    for found in cases_below(rt, &[folder.as_str()], case_of)? {
         let files = found.files;
         let expected = match found.kind.split('/').next() {
             Some("valid") => Some(expected_value(rt, &files)?),

@@ -20,12 +20,21 @@ pub enum FileError {
     /// An allocation failed.
     #[error("out of memory")]
     OutOfMemory,
-    /// It can't be read. The path is the one below the folder that was given.
+    /// It can't be read. The path of a case's file is the one below the folder that was given.
     #[error("cannot read {path}: {error}")]
     Unreadable { path: String, error: io::Error },
     /// It can't be written.
     #[error("cannot write {path}: {error}")]
     Unwritable { path: String, error: io::Error },
+}
+
+impl FileError {
+    fn unreadable(alloc: Global, path: &str, error: io::Error) -> FileError {
+        match String::from_str(alloc, path) {
+            Ok(path) => FileError::Unreadable { path, error },
+            Err(error) => error.into(),
+        }
+    }
 }
 
 impl From<AllocError> for FileError {
@@ -42,7 +51,7 @@ impl CaseFiles {
         extension: &str,
     ) -> Result<Vec<u8>, FileError> {
         let file = self.with_extension(rt.alloc(), extension)?;
-        read_bytes(rt, file.path.as_str()).map_err(|error| FileError::Unreadable {
+        bytes_at(rt, file.path.as_str()).map_err(|error| FileError::Unreadable {
             path: file.shown,
             error,
         })
@@ -55,7 +64,7 @@ impl CaseFiles {
         extension: &str,
     ) -> Result<String, FileError> {
         let file = self.with_extension(rt.alloc(), extension)?;
-        read_text(rt, file.path.as_str()).map_err(|error| FileError::Unreadable {
+        text_at(rt, file.path.as_str()).map_err(|error| FileError::Unreadable {
             path: file.shown,
             error,
         })
@@ -89,14 +98,28 @@ impl CaseFiles {
 ///
 /// What is no regular file, nor a link to one, is refused with `InvalidInput`. It isn't opened, since a FIFO would be waited for. Other
 /// errors are the system's. No contract says what a disk holds.
-pub fn read_bytes<M: Files + AllocGlobal>(rt: &M, path: &str) -> io::Result<Vec<u8>> {
-    refuse_unless_file(rt, path)?;
-    fs::read(rt, path)
+pub fn read_bytes<M: Files + AllocGlobal>(rt: &M, path: &str) -> Result<Vec<u8>, FileError> {
+    match bytes_at(rt, path) {
+        Ok(bytes) => Ok(bytes),
+        Err(error) => Err(FileError::unreadable(rt.alloc(), path, error)),
+    }
 }
 
 /// Returns the text of the file at the path. It is read and refused as by [`read_bytes`]; what isn't UTF-8 is refused with
 /// `InvalidData`.
-pub fn read_text<M: Files + AllocGlobal>(rt: &M, path: &str) -> io::Result<String> {
+pub fn read_text<M: Files + AllocGlobal>(rt: &M, path: &str) -> Result<String, FileError> {
+    match text_at(rt, path) {
+        Ok(text) => Ok(text),
+        Err(error) => Err(FileError::unreadable(rt.alloc(), path, error)),
+    }
+}
+
+fn bytes_at<M: Files + AllocGlobal>(rt: &M, path: &str) -> io::Result<Vec<u8>> {
+    refuse_unless_file(rt, path)?;
+    fs::read(rt, path)
+}
+
+fn text_at<M: Files + AllocGlobal>(rt: &M, path: &str) -> io::Result<String> {
     refuse_unless_file(rt, path)?;
     fs::read_to_string(rt, path)
 }

@@ -1,6 +1,7 @@
 //! Finds the cases below folders.
 use crate::files::CaseFiles;
 use std::alloc::{AllocError, AllocFailed, Global};
+use std::convert::AsStr;
 use std::path::Path;
 use std::rt::Files;
 use std::{fs, io};
@@ -62,11 +63,11 @@ struct Folder {
 /// circles. It returns an `Err` if a folder or an entry of it can't be read, if a name isn't UTF-8, or if an allocation failed.
 ///
 /// No contract says what a disk holds.
-pub fn cases_below<M: Files + AllocGlobal + Copy + Drop, F: Fn(&str) -> Option<&str> + Copy>(
-    rt: &M,
-    folders: &[String],
-    case_of: F,
-) -> Result<Vec<Found>, FolderError>
+pub fn cases_below<
+    M: Files + AllocGlobal + Copy + Drop,
+    S: AsStr,
+    F: Fn(&str) -> Option<&str> + Copy,
+>(rt: &M, folders: &[S], case_of: F) -> Result<Vec<Found>, FolderError>
     requires { F.IsAlwaysCallable case_of }
 {
     let alloc = rt.alloc();
@@ -85,10 +86,10 @@ pub fn cases_below<M: Files + AllocGlobal + Copy + Drop, F: Fn(&str) -> Option<&
 }
 
 // The folders, the first of them last.
-fn given(alloc: Global, folders: &[String]) -> Result<Vec<Entry>, AllocError> {
+fn given<S: AsStr>(alloc: Global, folders: &[S]) -> Result<Vec<Entry>, AllocError> {
     let mut left = Vec::new(alloc);
     for folder in folders.iter().rev() {
-        let path = folder.clone()?;
+        let path = String::from_str(alloc, folder.as_str())?;
         let kind = String::new(alloc);
         left.push(Entry::Folder(Folder { path, kind }))?;
     }
