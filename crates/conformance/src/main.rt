@@ -1,6 +1,13 @@
 //! Runs suites, as they are published, against the crates that read TOML and URLs, normalize text and split it.
 //!
-//! To add a suite of your own, write a module that reads its cases and checks one, and name it in `Suite` and in `Case`.
+//! A suite of your own needs these:
+//!
+//! 1. A module with a case, which has a `check`, and `trials`, which reads the cases. A parser that had no memory has not judged
+//!    a case: then `check` returns the failure of an `AllocError`, also if the case must be refused.
+//! 2. In `Case` a variant and an arm; in `Suite` a variant, its name, and its `trials`; here its `mod` and a line of the usage.
+//! 3. In `SuiteError` what may be wrong with its files, and in `crates.txt` the crate that it tests.
+//!
+//! `code_points` and `lines` are for Unicode's files, and `tagged` is for TOML. All suites use the other modules.
 #![tactic(auto)]
 
 mod case;

@@ -87,10 +87,10 @@ impl<'a> Leaf<'a> {
     }
 }
 
-/// Fails at the first value that is another one. The place is where the values are in their documents: the keys and indices that
-/// lead there, with a slash before each.
+/// Fails at the first value of tagged JSON that is another one. The place is where the values are in their documents: the keys and
+/// indices that lead there, with a slash before each.
 #[cycle(check)]
-pub(crate) fn check_same(
+pub(crate) fn check_tagged(
     alloc: Global,
     place: &str,
     expected: &Value,
@@ -122,7 +122,7 @@ fn check_items(
 ) -> Result<(), Failed> {
     for (index, (expected, answered)) in expected.iter().zip(answered).enumerate() {
         let place = format!(in alloc; "{place}/{index}")?;
-        check_same(alloc, place.as_str(), expected, answered)?;
+        check_tagged(alloc, place.as_str(), expected, answered)?;
     }
     Ok(())
 }
@@ -137,7 +137,7 @@ fn check_members(
     for (key, expected) in expected {
         let place = format!(in alloc; "{place}/{key}")?;
         match answered.get(key) {
-            Some(answered) => check_same(alloc, place.as_str(), expected, answered)?,
+            Some(answered) => check_tagged(alloc, place.as_str(), expected, answered)?,
             None => return Err(fail!(in alloc; "{place}: expected {expected}, answered nothing")),
         }
     }

@@ -1,7 +1,7 @@
 //! The suite toml-test: documents that are valid, with their values in tagged JSON beside them, and documents that are not.
 use crate::case::Case;
 use crate::error::SuiteError;
-use crate::tagged::{check_same, tagged_table};
+use crate::tagged::{check_tagged, tagged_table};
 use libtest_mimic::{Failed, Trial, fail};
 use mimic_files::{CaseFiles, cases_below};
 use serde_json::Value;
@@ -61,7 +61,7 @@ impl TomlCase {
             Ok(table) => {
                 let answered = tagged_table(alloc, &table)?;
                 match &self.expected {
-                    Some(expected) => check_same(alloc, "", expected, &answered),
+                    Some(expected) => check_tagged(alloc, "", expected, &answered),
                     None => Err(fail!(in alloc; "expected a refusal, answered {answered}")),
                 }
             }
