@@ -34,14 +34,25 @@ impl<M: Files + AllocGlobal> FileCase<M> {
     pub(crate) fn bless(&self) -> Result<bool, Failed> {
         let alloc = self.rt.alloc();
         let answered = self.answered()?;
-        match self.files.read_text(&self.rt, "out") {
-            Ok(output) if output == answered => return Ok(false),
-            Ok(_) => {}
-            Err(error) if may_be_written(&error) => {}
-            Err(error) => return Err(fail!(in alloc; "{error}")),
+        if self.is_output(&answered)? {
+            return Ok(false);
         }
         check_ok!(in alloc; self.files.write_text(&self.rt, "out", answered.as_str()))?;
         Ok(true)
+    }
+
+    // Whether the answer is the output already. The error says why the output can't be read nor written.
+    fn is_output(&self, answered: &String) -> Result<bool, Failed> {
+        match self.files.read_text(&self.rt, "out") {
+            Ok(output) => Ok(output == *answered),
+            Err(error) => {
+                if may_be_written(&error) {
+                    Ok(false)
+                } else {
+                    Err(fail!(in self.rt.alloc(); "{error}"))
+                }
+            }
+        }
     }
 
     // What the function under test makes of the input.
