@@ -15,9 +15,7 @@ use crate::monitor::{Monitor, Notices};
 use crate::program::Program;
 use crate::sharding::{ShardError, Sharding};
 use crate::status::Status;
-use libtest_mimic::{
-    Arguments, ArgumentsError, Case, Failed, RunError, Schedule, Spawner, Task, Trial,
-};
+use libtest_mimic::{Arguments, ArgumentsError, Case, Failed, RunError, Schedule, Task, Trial};
 use std::alloc::Global;
 use std::convert::AsStr;
 use std::fmt::Display;
@@ -99,13 +97,6 @@ pub fn trials_of_cases<
     }
 }
 
-// How many threads the machine can run at once, and 1 if it does not say.
-fn threads_at_once<T: Spawner>(rt: &T) -> usize
-    ensures { 1 ≤ result }
-{
-    count_or_one(thread::available_parallelism(rt))
-}
-
 // The count that the machine gave, and 1 if it gave none.
 fn count_or_one(given: io::Result<NonZeroUsize>) -> usize
     ensures some { 1 ≤ result }
@@ -128,10 +119,20 @@ impl<'a> Program<'a> {
         ensures schedule { result.schedule ≡ Schedule.Queue }
         ensures terminal { result.on_terminal ≡ false }
     {
-        Program::new(name, threads_at_once(&machine.host())).with_colours(shows_colours(
-            machine,
-            &machine.stdout(),
-        ))
+        let count = thread::available_parallelism(&machine.host());
+        Program::of_machine(name, count, shows_colours(machine, &machine.stdout()))
+    }
+
+    // A program of this name on a machine that gives this count of threads, and shows colours or not.
+    fn of_machine(name: &'a str, count: io::Result<NonZeroUsize>, colours: bool) -> Program<'a>
+        ensures name { result.name.now ≡ name.now }
+        ensures threads { IfOk count (λ given. result.threads ≡ non_zero_usize_get given) }
+        ensures colours { result.auto_colours ≡ colours }
+        ensures causes { result.prints_causes ≡ true }
+        ensures schedule { result.schedule ≡ Schedule.Queue }
+        ensures terminal { result.on_terminal ≡ false }
+    {
+        Program::new(name, count_or_one(count)).with_colours(colours)
     }
 
     /// Runs or lists the trials as the machine's command line asks, whatever the variables of its environment hold, and returns

@@ -5,10 +5,9 @@ ghost use Rattle.libtest_mimic.specs.Trial.{AllCanRun};
 ghost use Rattle.mimic_main.specs.Ended.{Ended, GotWithout, number_of, status_of, status_without, status_without_part};
 
 use crate::job::Job;
-use crate::output::BLOCK;
+use crate::lines::{print_line, print_text};
 use crate::sharding::ShardError;
 use crate::status::Status;
-use arrayvec::ArrayVec;
 use libtest_mimic::{
     Arguments, ArgumentsError, Clock, Conclusion, RunError, Schedule, Spawner, Stopwatch, Task,
     Trial,
@@ -257,7 +256,7 @@ impl Program<'_> {
             }
             ArgumentsError::Refused(text) => {
                 // The texts of `clap` end with a line end, and others do not.
-                print_line(text.as_str().trim_end(), err);
+                print_text(text.as_str().trim_end(), err);
                 Status::REFUSED_LINE
             }
         }
@@ -320,14 +319,4 @@ impl Program<'_> {
             Fault::Run(error) => print_line(format_args!("{name}: {error}"), err),
         }
     }
-}
-
-// Prints a line, if it can be written. A line that a block holds is one write, so that no other program's text comes between its
-// parts.
-fn print_line<L: Display + Drop, E: Write>(line: L, err: &mut E) {
-    let mut text: ArrayVec<u8, BLOCK> = ArrayVec::new();
-    let _ = match writeln!(text, "{line}") {
-        Ok(()) => err.write_all(text.as_slice()),
-        Err(_) => writeln!(err, "{line}"),
-    };
 }

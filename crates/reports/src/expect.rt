@@ -42,7 +42,7 @@ pub(crate) fn run(rt: &HostRuntime, alloc: Global, expect: &Expect) -> u8 {
 // Returns the text of the file of known failures. One that is to be brought up to date is empty if it isn't there.
 fn known_text(rt: &HostRuntime, alloc: Global, expect: &Expect) -> io::Result<Vec<u8>> {
     let mut text = Vec::new(alloc);
-    match Input::new(rt, expect.known.as_str()).read_to_end(&mut text) {
+    match Input::text(rt, expect.known.as_str()).read_to_end(&mut text) {
         Err(error) if !expect.updates || error.kind() != ErrorKind::NotFound => Err(error),
         _ => Ok(text),
     }
@@ -82,13 +82,12 @@ fn print_ends(rt: &HostRuntime, expect: &Expect, verdict: &ExpectationVerdict) {
 
 // Prints why no known failures can be read from the file, and what makes some of a report, and returns the status.
 fn refuse_known(rt: &HostRuntime, file: &str, fault: &KnownFault) -> u8 {
-    if let KnownFault::Line(line) = fault {
-        let _ = eprintln!(rt;
-            "reports: {file}: line {line}: {fault}; reports known makes such lines of a report"
-        );
-        REFUSED
-    } else {
-        refuse(rt, file, fault)
+    match fault {
+        KnownFault::Line(line) => {
+            let hint = "reports known makes such lines of a report";
+            refuse(rt, file, &format_args!("line {line}: {fault}; {hint}"))
+        }
+        _ => refuse(rt, file, fault),
     }
 }
 

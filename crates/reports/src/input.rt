@@ -11,12 +11,16 @@ pub(crate) const STANDARD: &str = "-";
 // The name of the program whose report is read from standard input.
 const NAMELESS: &str = "report";
 
+// How many bytes are read at most of a first line that doesn't end. A report's title has fewer than 100.
+const LONGEST_TITLE: usize = 4096;
+
 /// A file, which is opened at the first read, or standard input.
 #[derive(Drop)]
 pub(crate) struct Input<'a> {
     source: Source<'a>,
     // How many more bytes may be read.
     left: u64,
+    first_line: FirstLine,
 }
 
 #[derive(Drop)]
@@ -26,26 +30,76 @@ enum Source<'a> {
     Standard(Stdin),
 }
 
+impl<'a> Source<'a> {
+    fn new(rt: &'a HostRuntime, path: &'a str) -> Source<'a> {
+        if path == STANDARD {
+            Source::Standard(rt.stdin())
+        } else {
+            Source::Named { rt, path }
+        }
+    }
+}
+
+/// How much was read of the first line of what is to be a report. Readers keep a line until it ends.
+#[derive(Clone, Copy, Debug)]
+pub(crate) enum FirstLine {
+    /// It has not ended, and has this many bytes so far.
+    Open(usize),
+    Ended,
+}
+
+impl FirstLine {
+    /// That of an input of which nothing was read.
+    pub(crate) fn new() -> FirstLine {
+        FirstLine::Open(0)
+    }
+
+    /// Takes the next piece of the input. It is refused if the line is longer than that of any report, and hasn't ended.
+    pub(crate) fn read_on(&mut self, piece: &[u8]) -> io::Result<()> {
+        let FirstLine::Open(before) = *self else {
+            return Ok(());
+        };
+        if piece.contains(&b'\n') {
+            *self = FirstLine::Ended;
+            return Ok(());
+        }
+        let count = before.saturating_add(piece.len());
+        *self = FirstLine::Open(count);
+        if count > LONGEST_TITLE {
+            return Err(io::Error::new(
+                ErrorKind::InvalidData,
+                "its first line is too long for a report",
+            ));
+        }
+        Ok(())
+    }
+}
+
 impl<'a> Input<'a> {
-    /// The input of this name.
+    /// The report of this name.
     pub(crate) fn new(rt: &'a HostRuntime, path: &'a str) -> Input<'a> {
         Input::limited(rt, path, u64::MAX)
     }
 
-    /// The input of this name, whose reading fails if it has more bytes than these.
+    /// The report of this name, whose reading fails if it has more bytes than these.
     pub(crate) fn limited(rt: &'a HostRuntime, path: &'a str, bytes: u64) -> Input<'a> {
-        let source = if path == STANDARD {
-            Source::Standard(rt.stdin())
-        } else {
-            Source::Named { rt, path }
-        };
         Input {
-            source,
+            source: Source::new(rt, path),
             left: bytes,
+            first_line: FirstLine::new(),
         }
     }
 
-    /// The input of this name, which is opened here.
+    /// The text of this name, which need be no report.
+    pub(crate) fn text(rt: &'a HostRuntime, path: &'a str) -> Input<'a> {
+        Input {
+            source: Source::new(rt, path),
+            left: u64::MAX,
+            first_line: FirstLine::Ended,
+        }
+    }
+
+    /// The report of this name, which is opened here.
     pub(crate) fn open(rt: &'a HostRuntime, path: &'a str) -> io::Result<Input<'a>> {
         let source = if path == STANDARD {
             Source::Standard(rt.stdin())
@@ -55,10 +109,11 @@ impl<'a> Input<'a> {
         Ok(Input {
             source,
             left: u64::MAX,
+            first_line: FirstLine::new(),
         })
     }
 
-    /// The inputs of these names, in their order.
+    /// The reports of these names, in their order.
     pub(crate) fn all(
         rt: &'a HostRuntime,
         alloc: Global,
@@ -92,15 +147,14 @@ impl Read for Input<'_> {
             // The file was opened above.
             Source::Named { .. } => 0,
         };
-        match self.left.checked_sub(count as u64) {
-            Some(left) => {
-                self.left = left;
-                Ok(count)
-            }
-            None => Err(io::Error::new(
+        let Some(left) = self.left.checked_sub(count as u64) else {
+            return Err(io::Error::new(
                 ErrorKind::Other,
                 "it is too long to be kept; write it into a file",
-            )),
-        }
+            ));
+        };
+        self.left = left;
+        self.first_line.read_on(&buf[..count])?;
+        Ok(count)
     }
 }

@@ -65,8 +65,8 @@ fn refuse_fault(rt: &HostRuntime, alloc: Global, join: &Join, fault: &JoinFault)
     if let JoinFault::Write(fault) = fault {
         return refuse_write(rt, fault);
     }
-    let hint = hint_of(fault);
-    let _ = eprintln!(rt; "reports: {}{hint}", fault.with_names(&join.files));
+    let (named, hint) = (fault.with_names(&join.files), hint_of(fault));
+    refuse_all(rt, &format_args!("{named}{hint}"));
     if let JoinFault::Refused(Refusal::Number { .. }) = fault
         && join.by_name
         && let Some(absent) = Absent::of(alloc, join)

@@ -18,64 +18,43 @@ const KEPT_BYTES: u64 = 256 << 20;
 // Prints the document of all reports, with what could be read of them. It also prints why a report is cut or could not be read. The
 // status says that, and, if the line asks for it, else whether a trial failed.
 pub(crate) fn run(rt: &HostRuntime, alloc: Global, junit: &Junit) -> u8 {
-    let mut sources = Sources {
-        files: Vec::new(alloc),
-        suites: Vec::new(alloc),
-        status: SUCCESS,
-    };
+    let mut suites = Vec::new(alloc);
+    let mut status = SUCCESS;
     for file in &junit.files {
         let file = file.as_str();
         let name = match &junit.name {
             Some(name) => name.as_str(),
             None => name_of(file),
         };
+        // A place among the suites is one among the files.
         match read(rt, alloc, name, file) {
-            Ok(suite) => sources = sources.with(rt, file, suite),
-            Err(fault) => sources.status = refuse(rt, file, &fault),
+            Ok(suite) => {
+                status = status.max(status_of_suite(rt, file, &suite));
+                if suites.push(suite).is_err() {
+                    return refuse(rt, file, &ReadFault::OutOfMemory);
+                }
+            }
+            Err(fault) => return refuse(rt, file, &fault),
         }
     }
-    if junit.shows_failures && sources.status == SUCCESS {
-        sources.status = status_of(sources.suites.as_slice());
+    if junit.shows_failures && status == SUCCESS {
+        status = status_of(suites.as_slice());
     }
-    sources.print(rt, alloc, junit.root)
+    let Ok(out) = BufWriter::with_capacity(alloc, BLOCK, rt.stdout()) else {
+        return refuse_all(rt, &ReadFault::OutOfMemory);
+    };
+    match write(alloc, junit.root, suites, out) {
+        Ok(()) => status,
+        Err(fault) => refuse_at(rt, &junit.files, &fault),
+    }
 }
 
-// What could be read of the reports, and the names of their files.
-#[derive(Drop)]
-struct Sources<'a> {
-    files: Vec<&'a str>,
-    suites: Vec<Suite<'a, Input<'a>>>,
-    status: u8,
-}
-
-impl<'a> Sources<'a> {
-    fn with(self, rt: &HostRuntime, file: &'a str, suite: Suite<'a, Input<'a>>) -> Sources<'a> {
-        let mut sources = self;
-        match suite.ending() {
-            SuiteEnding::Read(Ending::Whole { .. }) => {}
-            SuiteEnding::Read(Ending::Cut(stop)) => sources.status = refuse(rt, file, stop),
-            SuiteEnding::Unread(cause) => sources.status = refuse(rt, file, cause),
-        }
-        // A place in one list is a place in the other.
-        if sources.suites.push(suite).is_err() || sources.files.push(file).is_err() {
-            sources.status = refuse(rt, file, &ReadFault::OutOfMemory);
-        }
-        sources
-    }
-
-    fn print(self, rt: &HostRuntime, alloc: Global, root: Root) -> u8 {
-        let Sources {
-            files,
-            suites,
-            status,
-        } = self;
-        let Ok(out) = BufWriter::with_capacity(alloc, BLOCK, rt.stdout()) else {
-            return refuse_all(rt, &ReadFault::OutOfMemory);
-        };
-        match write(alloc, root, suites, out) {
-            Ok(()) => status,
-            Err(fault) => refuse_at(rt, &files, &fault),
-        }
+// Prints why a report isn't whole, and returns the status.
+fn status_of_suite(rt: &HostRuntime, file: &str, suite: &Suite<'_, Input<'_>>) -> u8 {
+    match suite.ending() {
+        SuiteEnding::Read(Ending::Whole { .. }) => SUCCESS,
+        SuiteEnding::Read(Ending::Cut(stop)) => refuse(rt, file, stop),
+        SuiteEnding::Unread(cause) => refuse(rt, file, cause),
     }
 }
 
@@ -93,18 +72,21 @@ fn write<W: Write + Drop>(
     let mut suites = suites;
     match suites.pop() {
         Some(suite) => write_suite(alloc, suite, &mut sink),
-        // There was no memory for it.
+        // A line names at least one file.
         None => Ok(()),
     }
 }
 
 // Prints why the document has no end, and returns the status.
-fn refuse_at(rt: &HostRuntime, files: &[&str], fault: &JunitFault) -> u8 {
+fn refuse_at(rt: &HostRuntime, files: &[String], fault: &JunitFault) -> u8 {
     if let JunitFault::Write(fault) = fault {
         return refuse_write(rt, fault);
     }
     match fault.place() {
-        Some(place) => refuse(rt, files.get(place).unwrap_or(&STANDARD), fault),
+        Some(place) => {
+            let file = files.get(place).map_or(STANDARD, |file| file.as_str());
+            refuse(rt, file, fault)
+        }
         None => refuse_all(rt, fault),
     }
 }

@@ -21,6 +21,7 @@ use faults::{refuse_all, refuse_write};
 use line::{Line, LineError};
 use mimic_printer::WriteFault;
 use mimic_trial::Conclusion;
+use std::io;
 use std::process::ExitCode;
 
 // How many bytes of a report are buffered at most before they are written.
@@ -56,6 +57,9 @@ fn main(rt: HostRuntime) -> ExitCode {
 fn refuse(rt: &HostRuntime, error: &LineError) -> u8 {
     match error {
         LineError::OutOfMemory(_) => refuse_all(rt, error),
+        LineError::Unread(cause) if cause.kind() == io::ErrorKind::OutOfMemory => {
+            refuse_all(rt, error)
+        }
         LineError::Unread(_)
         | LineError::TwoInputs
         | LineError::NoName

@@ -1,4 +1,5 @@
 //! Bytes on their way from the thread that reads to the one that shows.
+use crate::input::FirstLine;
 use std::alloc::{AllocError, Global};
 use std::io::{ErrorKind, Read};
 use std::rt::Clock;
@@ -80,15 +81,22 @@ impl Pipe {
     }
 }
 
-/// Reads the input to its end, and puts it into the pipe for the other thread. An input that says that it would block, or that it
-/// timed out, is asked again after a pause.
+/// Reads the input to its end, or until its first line is too long for a report, and puts it into the pipe for the other thread. An
+/// input that says that it would block, or that it timed out, is asked again after a pause.
 pub(crate) fn pump<R: Wait + Clock, I: Read>(rt: &R, input: &mut I, pipe: &Pipe) {
     let mut piece = [0; PIECE];
+    let mut first_line = FirstLine::new();
     let mut fault = None;
     for _ in 0..u64::MAX {
         match input.read(&mut piece) {
             Ok(0) => break,
-            Ok(count) => pipe.put(rt, &piece[..count]),
+            Ok(count) => {
+                if let Err(error) = first_line.read_on(&piece[..count]) {
+                    fault = Some(error);
+                    break;
+                }
+                pipe.put(rt, &piece[..count]);
+            }
             Err(error) => match error.kind() {
                 ErrorKind::Interrupted => {}
                 ErrorKind::WouldBlock | ErrorKind::TimedOut => {

@@ -3,11 +3,11 @@ use crate::faults::{refuse_all, refuse_format, refuse_output};
 use crate::line::Watch;
 use crate::pump::{Incoming, Pipe, pump};
 use mimic_events::{Ending, ReadFault, Stop};
-use mimic_main::shows_colours;
+use mimic_main::{Streams, shows_colours};
 use mimic_printer::Sink;
 use mimic_watch::{ERASE, Screen, WatchFault, watch};
 use std::alloc::Global;
-use std::io::{Eprint, IsTerminal, Stdin, Stdout, Write};
+use std::io::{IsTerminal, Stdin, Stdout, Write};
 use std::rt::{Clock, Env};
 use std::sync::{Arc, Wait};
 use std::thread::Threads;
@@ -25,13 +25,13 @@ pub(crate) trait Host: Threads
     + Clock
     + Env
     + AllocGlobal
-    + Eprint
+    + Streams
     + Copy
     + Drop
     + Send
     + 'static {}
 
-impl<H: Threads + Wait + Clock + Env + AllocGlobal + Eprint + Copy + Drop + Send + 'static> Host
+impl<H: Threads + Wait + Clock + Env + AllocGlobal + Streams + Copy + Drop + Send + 'static> Host
     for H {}
 
 /// Shows the report while another thread reads it, and returns the status of the run. If there is none, it prints why and
