@@ -23,6 +23,7 @@ mod measured;
 mod waits;
 mod xorshift;
 
+ghost use Rattle.std.specs.Prelude.{◌≡◌, ◌*◌, ◌^◌, ◌-◌, min};
 ghost use Rattle.libtest_mimic.specs.Trial.{AllCanRun};
 
 use asked::{Asked, Runners};
@@ -76,11 +77,18 @@ macro_rules! boxed_tests {
 // Goes through `work` thousand rounds of xorshift64 from the test's number, none of which ends in 0.
 fn works(number: usize, work: u64) -> Result<(), Failed> {
     let state = (number as u64).wrapping_add(1);
-    if rounds(state, work.saturating_mul(1000)) == 0 {
+    if rounds(state, rounds_of(work)) == 0 {
         Err(Failed::without_message())
     } else {
         Ok(())
     }
+}
+
+// How many rounds `work K` asks for.
+fn rounds_of(work: u64) -> u64
+    ensures { result ≡ min (work * 1000) (2 ^ 64 - 1) }
+{
+    work.saturating_mul(1000)
 }
 
 // A test that waits, and passes then.

@@ -1,7 +1,9 @@
 //! What a trial runs: a way to sort, and numbers.
+ghost use Rattle.std.specs.Prelude.{◌≡◌, ◌↔◌, IsOk};
+
 use crate::numbers::Numbers;
 use libtest_mimic::{Failed, Measurement, Outcome, Task, check_eq};
-use std::alloc::AllocError;
+use std::alloc::{AllocError, Global};
 use std::collections::BinaryHeap;
 use std::io;
 use std::rt::Clock;
@@ -64,10 +66,8 @@ impl<M: Clock + AllocGlobal + Drop> Task for Sorting<M> {
 impl<M: Clock + AllocGlobal> Sorting<M> {
     fn check(&self) -> Result<(), Failed> {
         let alloc = self.rt.alloc();
-        let pair = self
-            .sorted_pair()
-            .map_err(|error| Failed::because(alloc, &error))?;
-        check_eq!(in alloc; pair.0, pair.1)
+        let (sorted, wanted) = self.sorted_pair()?;
+        unless_equal(alloc, &sorted, &wanted)
     }
 
     // The numbers as they were sorted, and as they are to be.
@@ -103,4 +103,11 @@ impl<M: Clock + AllocGlobal> Sorting<M> {
         let elapsed = start.elapsed(&self.rt)?;
         Ok(u64::try_from(elapsed.as_nanos()).unwrap_or(u64::MAX))
     }
+}
+
+// Fails if the numbers aren't sorted as they are to be.
+fn unless_equal(alloc: Global, sorted: &[u32], wanted: &[u32]) -> Result<(), Failed>
+    ensures { IsOk result ↔ (sorted.now ≡ wanted.now) }
+{
+    check_eq!(in alloc; sorted, wanted)
 }

@@ -10,7 +10,8 @@
 //! ```
 #![tactic(auto)]
 
-ghost use Rattle.std.specs.Prelude.{◌≡◌, ◌∷◌, ◌++◌, [], IfErr, IfOk, List};
+ghost use Rattle.std.specs.Prelude.{◌≡◌, ◌∷◌, ◌++◌, [], IfErr, IfOk, List, Some};
+ghost use Rattle.serde_json.specs.Read.{read as read_text};
 ghost use Rattle.serde_json.specs.Errors.{IsMemory};
 ghost use Rattle.serde_json.specs.View.{view};
 ghost use Rattle.mimic_json.specs.Fields.{Field, object_of};
@@ -25,6 +26,7 @@ use std::alloc::Global;
 /// has the fields of that object, and no others. An error then says that memory was refused.
 pub fn read_line(alloc: Global, line: &str) -> Result<Value, Error>
     ensures law { LinesAreObjects }
+    ensures read { IfOk result (λ value. read_text line.now ≡ Some (view value)) }
     ensures fields { (fields : List Field) → IsReadAs (line.now ++ 10 ∷ []) fields
         → IfOk result (λ value. view value ≡ object_of fields) }
     ensures memory { (fields : List Field) → IsReadAs (line.now ++ 10 ∷ []) fields
