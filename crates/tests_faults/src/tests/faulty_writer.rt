@@ -87,3 +87,9 @@ fn fails_where_it_is_to(rt: HostRuntime) {
         assert!(rt; writer.writes == 3 && writer.flushes == 2);
     }
 }
+
+// What other tests go through: an error that stays one, one that is no reason to give up, and a write of nothing.
+#[test]
+fn has_each_fault(rt: HostRuntime) {
+    assert!(rt; Fault::ALL == [FULL, INTERRUPTED, Fault::TakesNone]);
+}

@@ -418,17 +418,17 @@ fn two_workers_lose_nothing(rt: HostRuntime) -> Result<(), Fail> {
 // Each task, each of one worker's share, or each third awaits as many rows as there are lower places, so the taking thread is
 // often asleep when one ends, or about to be. A wake-up that is lost leaves it asleep while rows wait. Then a task waits in vain,
 // and fails.
+//
+// A run that asked too early whether a row waits lost one in some 7 of 100 rounds.
 #[test]
 fn no_wake_up_is_lost(rt: HostRuntime) -> Result<(), Fail> {
-    for schedule in SCHEDULES {
-        for step in [1, 2, 3] {
-            let asked = Asked {
-                schedule,
-                trials: 6_000,
-                step,
-            };
-            check_rows(&rt, rt.alloc(), asked)?;
-        }
+    for round in 0..66 {
+        let asked = Asked {
+            schedule: SCHEDULES[round % 2],
+            trials: 6_000,
+            step: 1 + round % 3,
+        };
+        check_rows(&rt, rt.alloc(), asked)?;
     }
     Ok(())
 }

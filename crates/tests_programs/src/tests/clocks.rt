@@ -31,6 +31,8 @@ fn reads_nanoseconds(rt: HostRuntime) -> Result<(), Fail> {
         assert!(rt; clock.now() == *nanos);
     }
     assert!(rt; machine.count() == 7);
+    // After the last one all readings fail.
+    assert!(rt; std::rt::Clock::monotonic(&machine).is_err());
     Ok(())
 }
 

@@ -2,6 +2,7 @@
 //! are worked out by hand.
 use mimic_events::ReadFault;
 use mimic_printer::Sink;
+use mimic_testkit::KnownReadings;
 use mimic_watch::{Screen, WatchFault, watch};
 use std::alloc::Global;
 use std::cell::Cell;
@@ -62,18 +63,14 @@ impl std::rt::Clock for Steps {
 }
 
 // Watches the input, and returns the status, or 99 for a fault of the input, and what was written.
-fn watched<I: Read>(
+fn watched<I: Read, C: std::rt::Clock>(
     alloc: Global,
     input: &mut I,
-    step: u64,
+    clock: &C,
     screen: Screen,
 ) -> Result<(u8, String), Fail> {
     let mut sink = Sink::new(Vec::new(alloc));
-    let clock = Steps {
-        now: Cell::new(0),
-        step,
-    };
-    let status = match watch(alloc, input, &mut sink, &clock, screen) {
+    let status = match watch(alloc, input, &mut sink, clock, screen) {
         Ok(verdict) => verdict.status(),
         Err(WatchFault::Read(ReadFault::Input(error))) if error.kind() == ErrorKind::BrokenPipe =>
             99,
@@ -82,14 +79,18 @@ fn watched<I: Read>(
     Ok((status, String::from_utf8(sink.into_inner())?))
 }
 
-// Watches these pieces.
+// Watches these pieces, by a clock of such steps.
 pub(super) fn watched_pieces(
     alloc: Global,
     pieces: &[&str],
     step: u64,
     screen: Screen,
 ) -> Result<(u8, String), Fail> {
-    watched(alloc, &mut Pieces { pieces, at: 0 }, step, screen)
+    let clock = Steps {
+        now: Cell::new(0),
+        step,
+    };
+    watched(alloc, &mut Pieces { pieces, at: 0 }, &clock, screen)
 }
 
 // A log, and a terminal.
@@ -197,6 +198,8 @@ fn coloured(rt: HostRuntime) -> Result<(), Fail> {
 }
 
 const FOUR: &str = "{ \"type\": \"suite\", \"event\": \"started\", \"test_count\": 4 }\n";
+
+const TWENTY: &str = "{ \"type\": \"suite\", \"event\": \"started\", \"test_count\": 20 }\n";
 
 const PASSES: &str =
     "{ \"type\": \"test\", \"event\": \"started\", \"name\": \"p\" }\n{ \"type\": \"test\", \"name\": \"p\", \"event\": \"ok\" }\n";
@@ -308,6 +311,35 @@ fn times(rt: HostRuntime) -> Result<(), Fail> {
     check_turns(alloc, &HOURS, 3_730, 79)
 }
 
+// The estimate goes by the last ten marks. The tenth row ends 90 seconds after the first, and as many are to come.
+#[test]
+fn long_run(rt: HostRuntime) -> Result<(), Fail> {
+    let mut pieces = [PASSES; 11];
+    pieces[0] = TWENTY;
+    let (_, text) = watched_pieces(rt.alloc(), &pieces, 10_000, TERMINAL)?;
+    assert!(rt;
+        text.as_str()
+            .contains("\r[===   ] 10/20 1:50 1:40 left\x1b[J"),
+        "{text:?}"
+    );
+    Ok(())
+}
+
+// A reading that fails repeats the one before: the row ends at two seconds, and five have gone by at the end.
+#[test]
+fn failing_clock(rt: HostRuntime) -> Result<(), Fail> {
+    let seconds = |count| Some(Duration::from_secs(count));
+    let clock = KnownReadings::new([seconds(1), seconds(2), None, seconds(5), None, None]);
+    let mut input = Pieces {
+        pieces: &[FOUR, PASSES, ""],
+        at: 0,
+    };
+    let (_, text) = watched(rt.alloc(), &mut input, &clock, TERMINAL)?;
+    assert!(rt; text.as_str().contains("\r[=     ] 1/4 4s"), "{text:?}");
+    assert!(rt; text.as_str().contains("nothing ended for 3s"), "{text:?}");
+    Ok(())
+}
+
 // How many columns there are, and the first line that is drawn in them: the fullest that fits.
 static NARROW: [(usize, &str); 6] = [
     (36, "[=     ] 1/4 1 failed 2:00 6:00 left"),
@@ -403,12 +435,13 @@ fn quiet_log(rt: HostRuntime) -> Result<(), Fail> {
 }
 
 // Pieces, the status, and what is shown.
-static NO_REPORTS: [(&[&str], u8, &str); 6] = [
+static NO_REPORTS: [(&[&str], u8, &str); 7] = [
     (&[], 1, ""),
     (&["what"], 1, ""),
     (&[TITLE, ANNOUNCED, FAILED], 1, FAILURE),
     (&[TITLE, ANNOUNCED, FAILED, BROKEN, REST], 99, FAILURE),
     (&[TITLE, ANNOUNCED, FAILED, FAILED, REST], 1, FAILURE),
+    (&[TITLE, ANNOUNCED, FAILED, FAILED, BROKEN], 1, FAILURE),
     (
         &[TITLE, ANNOUNCED, FAILED, REST, "\n"],
         1,
@@ -501,7 +534,11 @@ fn many_rows(rt: HostRuntime) -> Result<(), Fail> {
         rows: 100_000,
         begun: false,
     };
-    let (status, text) = watched(alloc, &mut input, 1, TERMINAL)?;
+    let clock = Steps {
+        now: Cell::new(0),
+        step: 1,
+    };
+    let (status, text) = watched(alloc, &mut input, &clock, TERMINAL)?;
     assert!(rt; status == 1, "{status}");
     let mut drawn = 0_u32;
     for frame in text.as_str().split("\x1b[?7l\r").skip(1) {
