@@ -1,10 +1,13 @@
 /* Preloaded into a program, it refuses the request for memory whose number REFUSED holds, counted from 1 over all threads.
-   The file descriptor TOLD gets one byte then, so that bench/refuse_memory sees whether there was such a request. */
+   The file descriptor TOLD gets one byte then, so that bench/refuse_memory sees whether there was such a request. When the program
+   ends, COUNTED gets the number of all requests, for checks/programs. */
 
 #define _GNU_SOURCE
 #include <errno.h>
 #include <stdatomic.h>
+#include <stdio.h>
 #include <stdlib.h>
+#include <sys/syscall.h>
 #include <unistd.h>
 
 void *__libc_malloc(size_t size);
@@ -14,6 +17,15 @@ void *__libc_memalign(size_t alignment, size_t size);
 
 static atomic_ulong requests;
 static atomic_ulong refused;
+
+void _exit(int status)
+{
+    const char *counted = getenv("COUNTED");
+    if (counted)
+        dprintf(atoi(counted), "%lu", atomic_load(&requests));
+    syscall(SYS_exit_group, status);
+    __builtin_unreachable();
+}
 
 static int is_refused(void)
 {
