@@ -26,7 +26,7 @@ fn put_line<L: Display, W: Write>(out: &mut W, line: &L) -> io::Result<()> {
     out.write_all(b"\n")
 }
 
-// A writer of texts, which writes control characters by number.
+// A writer of texts, which writes control characters by number, and by number too a backslash that looks like such a number.
 #[derive(Drop)]
 struct Numbering<'a, W>(&'a mut W);
 
@@ -34,8 +34,8 @@ impl<W: Write> fmt::Write for Numbering<'_, W> {
     ghost write_str_gives = { λ s bs t. t.0.ghost_name ≡ s.0.ghost_name };
 
     fn write_str(&mut self, text: &str) -> fmt::Result {
-        for c in text.chars() {
-            let put = if is_numbered(c) {
+        for (at, c) in text.char_indices() {
+            let put = if is_numbered(c) || begins_number(text, at) {
                 write!(self.0, "\\u{{{:x}}}", u32::from(c))
             } else {
                 self.0.write_all(c.encode_utf8(&mut [0; 4]).as_bytes())
@@ -51,6 +51,11 @@ impl<W: Write> fmt::Write for Numbering<'_, W> {
 // Whether a character acts on a terminal or ends a line.
 fn is_numbered(c: char) -> bool {
     c.is_control() || matches!(c, '\u{2028}' | '\u{2029}')
+}
+
+// Whether the text has there what a number begins with.
+fn begins_number(text: &str, at: usize) -> bool {
+    text.get(at..).is_some_and(|rest| rest.starts_with("\\u{"))
 }
 
 /// Prints a text and a line end, if they can be written, in one write as a line.
