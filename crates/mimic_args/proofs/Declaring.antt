@@ -41,6 +41,10 @@ abbrev pub AreLocal : List Arg → Type 0
 AreLocal [] = Unit {0}
 AreLocal (a ∷ rest) = (a.global ≡ false) × AreLocal rest
 
+-- what a list holds behind one more element
+pub pushed : {A : Type 0} (old new held : List A) (x : A) → new ≡ old ++ x ∷ [] → old ≡ held → new ≡ held ++ x ∷ []
+pushed old new held x e h = e ∙ ap (λ l. l ++ x ∷ []) h
+
 -- the options with each argument added in turn
 abbrev pub plus_all : Options → List Arg → Options
 plus_all options [] = options

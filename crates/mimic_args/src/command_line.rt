@@ -15,7 +15,7 @@ use crate::matches::{
     colour_of, format_of, is_set, text_of, text_under, texts_of, threads_of, unstable_of,
 };
 use crate::options::{
-    colour, excluded, filter, format, logfile, quiet, skip, test, test_threads, unstable,
+    add, colour, excluded, filter, format, logfile, quiet, skip, test, test_threads, unstable,
     with_flags,
 };
 use crate::{Arguments, ArgumentsError};
@@ -153,15 +153,14 @@ fn command_of<'a>(alloc: Global, test: Arg<'a>, quiet: Arg<'a>) -> Result<Comman
         × AreReaders u c f × (options_of r
         ≡ options_with (declared_of test.entry) (declared_of quiet.entry) u c f)) }
 {
-    let options = vec![in alloc;
-        unstable(alloc),
-        test_threads(alloc),
-        logfile(alloc),
-        skip(alloc),
-        colour(alloc),
-        format(alloc),
-        filter(alloc),
-    ]?;
+    let mut options = Vec::with_capacity(alloc, 7)?;
+    add(&mut options, unstable(alloc))?;
+    add(&mut options, test_threads(alloc))?;
+    add(&mut options, logfile(alloc))?;
+    add(&mut options, skip(alloc))?;
+    add(&mut options, colour(alloc))?;
+    add(&mut options, format(alloc))?;
+    add(&mut options, filter(alloc))?;
     with_flags(alloc, test, quiet)?.args(options)
 }
 

@@ -1,5 +1,5 @@
 //! The options of a harness, as they are declared to `clap`.
-ghost use Rattle.std.specs.Prelude.{◌≡◌, false, IfOk, Some, codes, map};
+ghost use Rattle.std.specs.Prelude.{◌≡◌, ◌++◌, ◌∷◌, [], false, IfOk, Some, codes, map};
 ghost use Rattle.clap.specs.Walk.{texts};
 ghost use Rattle.mimic_args.specs.CommandLine.{ReadsOnly, alone, colour_rule, declared_of, excluding, filter_rule, format_rule, quiet_rule, flag_options, flag_rule, option_rule, options_of, read_by, skip_rule, test_rule, threads_rule, unstable_rule};
 ghost use Rattle.mimic_args.specs.Matched.{colour_name, colours, unstable_name, unstables};
@@ -27,23 +27,29 @@ pub(super) fn with_flags<'a>(
     let exact = "Match each FILTER exactly, not as a part of a full name";
     let nocapture = "Print output of tests at once (no effect: it is never held back)";
     let show_output = "Print output of tests that pass (no effect: it is never held back)";
-    let flags = vec![in alloc;
-        flag(alloc, "include-ignored", "Run ignored tests as well"),
-        flag(alloc, "ignored", "Run only ignored tests"),
-        test,
-        flag(
-            alloc,
-            "bench",
-            "Run and measure benchmarks; tests count as ignored"
-        ),
-        flag(alloc, "list", "List tests and benchmarks, and run none"),
-        flag(alloc, "nocapture", nocapture),
-        flag(alloc, "show-output", show_output),
-        flag(alloc, "report-time", "Show how long each test ran"),
-        flag(alloc, "exact", exact),
-        quiet,
-    ]?;
+    let bench = "Run and measure benchmarks; tests count as ignored";
+    let list = "List tests and benchmarks, and run none";
+    let mut flags = Vec::with_capacity(alloc, 10)?;
+    add(&mut flags, flag(alloc, "include-ignored", "Run ignored tests as well"))?;
+    add(&mut flags, flag(alloc, "ignored", "Run only ignored tests"))?;
+    add(&mut flags, test)?;
+    add(&mut flags, flag(alloc, "bench", bench))?;
+    add(&mut flags, flag(alloc, "list", list))?;
+    add(&mut flags, flag(alloc, "nocapture", nocapture))?;
+    add(&mut flags, flag(alloc, "show-output", show_output))?;
+    add(&mut flags, flag(alloc, "report-time", "Show how long each test ran"))?;
+    add(&mut flags, flag(alloc, "exact", exact))?;
+    add(&mut flags, quiet)?;
     Command::new(alloc, "harness").args(flags)
+}
+
+// Adds an argument. A vector gives back what it finds no memory for, so a caller of its own would have a place for each.
+#[inline(never)]
+pub(super) fn add<'a>(args: &mut Vec<Arg<'a>>, arg: Arg<'a>) -> Result<(), AllocError>
+    ensures { IfOk result (λ _. args.new.items ≡ args.old.items ++ arg.entry ∷ []) }
+{
+    args.push(arg)?;
+    Ok(())
 }
 
 // Forbids a line to use the argument together with the other one.
@@ -55,6 +61,9 @@ pub(super) fn excluded<'a>(arg: Arg<'a>, other: &'a str) -> Result<Arg<'a>, Allo
     arg.conflicts_with(other)
 }
 
+// Each call of `clap` moves the argument that it adds to. If the functions that make arguments were inlined, the stack of who
+// declares them all would have a place for each of these copies, some 65 KB.
+#[inline(never)]
 fn flag<'a>(alloc: Global, name: &'a str, help: &'a str) -> Arg<'a>
     ensures declared { declared_of result ≡ alone (flag_rule name.entry.now) }
     ensures local { result.global ≡ false }
@@ -89,6 +98,7 @@ pub(super) fn quiet<'a>(alloc: Global) -> Arg<'a>
     flag(alloc, "quiet", "Use the terse format").short('q')
 }
 
+#[inline(never)]
 pub(super) fn unstable<'a>(alloc: Global) -> Arg<'a>
     ensures declared { ReadsOnly (map unstable_name unstables) (alone unstable_rule)
         (declared_of result) }
@@ -99,6 +109,7 @@ pub(super) fn unstable<'a>(alloc: Global) -> Arg<'a>
     one_of(arg.help(help), UNSTABLE.as_slice())
 }
 
+#[inline(never)]
 pub(super) fn test_threads<'a>(alloc: Global) -> Arg<'a>
     ensures declared { declared_of result ≡ alone threads_rule }
     ensures local { result.global ≡ false }
@@ -108,6 +119,7 @@ pub(super) fn test_threads<'a>(alloc: Global) -> Arg<'a>
     arg.value_parser(value_parser!(usize))
 }
 
+#[inline(never)]
 pub(super) fn logfile<'a>(alloc: Global) -> Arg<'a>
     ensures declared { declared_of result ≡ alone (option_rule (codes "logfile")) }
     ensures local { result.global ≡ false }
@@ -116,6 +128,7 @@ pub(super) fn logfile<'a>(alloc: Global) -> Arg<'a>
     option(alloc, "logfile", "PATH", help)
 }
 
+#[inline(never)]
 pub(super) fn skip<'a>(alloc: Global) -> Arg<'a>
     ensures declared { declared_of result ≡ alone skip_rule }
     ensures local { result.global ≡ false }
@@ -124,6 +137,7 @@ pub(super) fn skip<'a>(alloc: Global) -> Arg<'a>
     option(alloc, "skip", "FILTER", help).action(ArgAction::Append)
 }
 
+#[inline(never)]
 pub(super) fn colour<'a>(alloc: Global) -> Arg<'a>
     ensures declared { ReadsOnly (map colour_name colours) (alone colour_rule)
         (declared_of result) }
@@ -133,6 +147,7 @@ pub(super) fn colour<'a>(alloc: Global) -> Arg<'a>
     one_of(option(alloc, "color", "WHEN", help), COLOURS.as_slice())
 }
 
+#[inline(never)]
 pub(super) fn format<'a>(alloc: Global) -> Arg<'a>
     ensures declared { ReadsOnly (map format_name formats) (alone format_rule)
         (declared_of result) }
@@ -142,6 +157,7 @@ pub(super) fn format<'a>(alloc: Global) -> Arg<'a>
     one_of(option(alloc, "format", "FORMAT", help), FORMATS.as_slice())
 }
 
+#[inline(never)]
 pub(super) fn filter<'a>(alloc: Global) -> Arg<'a>
     ensures declared { declared_of result ≡ alone filter_rule }
     ensures local { result.global ≡ false }

@@ -113,6 +113,9 @@ impl<'a> Program<'a> {
     /// A program of this name that leaves to the machine what a line leaves open: as many threads as that can run at once, and
     /// colours if [`shows_colours`](crate::shows_colours) is true of its standard output. It prints faults with their causes, trials
     /// that run for over a minute and a warning if trials have equal names, and its workers take trials from one queue.
+    //
+    // What counts the threads reads files, into a block on its stack.
+    #[inline(never)]
     pub fn on<M: Machine>(machine: &M, name: &'a str) -> Program<'a>
         ensures name { result.name.now ≡ name.now }
         ensures causes { result.prints_causes ≡ true }

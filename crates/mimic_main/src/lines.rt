@@ -8,7 +8,7 @@ use std::io::Write;
 use std::{fmt, io};
 
 /// Prints a line, if it can be written. Control characters in it, as a path may have them, are by number, like `\u{1b}`: so it is
-/// one line, and none acts on a terminal. A line of at most 8192 bytes is one write, so that no other program's text comes between
+/// one line, and none acts on a terminal. A line of at most 4096 bytes is one write, so that no other program's text comes between
 /// its parts.
 pub fn print_line<L: Display + Drop, E: Write>(line: L, err: &mut E) {
     let mut text: ArrayVec<u8, BLOCK> = ArrayVec::new();
@@ -58,11 +58,12 @@ fn begins_number(text: &str, at: usize) -> bool {
     text.get(at..).is_some_and(|rest| rest.starts_with("\\u{"))
 }
 
-/// Prints a text and a line end, if they can be written, in one write as a line.
-pub(crate) fn print_text<E: Write>(text: &str, err: &mut E) {
-    let mut block: ArrayVec<u8, BLOCK> = ArrayVec::new();
-    let _ = match writeln!(block, "{text}") {
-        Ok(()) => err.write_all(block.as_slice()),
-        Err(_) => writeln!(err, "{text}"),
+/// Prints a text, and a line end if it has none, if they can be written. It is one write if there is memory for the line end.
+pub(crate) fn print_text<E: Write>(text: String, err: &mut E) {
+    let mut text = text;
+    let _ = if text.as_str().ends_with('\n') || text.push('\n').is_ok() {
+        err.write_all(text.as_bytes())
+    } else {
+        writeln!(err, "{text}")
     };
 }

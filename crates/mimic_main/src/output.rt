@@ -11,10 +11,10 @@ use arrayvec::ArrayVec;
 use std::io;
 use std::io::{ErrorKind, Write};
 
-// How many bytes wait at most.
-pub(crate) const BLOCK: usize = 8192;
+// How many bytes wait at most: as many as a pipe on Linux takes at once, with no other program's bytes between them.
+pub(crate) const BLOCK: usize = 4096;
 
-/// A buffered writer, in which up to 8192 bytes wait. It allocates nothing. What waits in one that is dropped and not finished
+/// A buffered writer, in which up to 4096 bytes wait. It allocates nothing. What waits in one that is dropped and not finished
 /// is lost.
 ///
 /// A write error is returned by the call that met it, or by the next call if part of the text was accepted. After it nothing

@@ -256,7 +256,7 @@ impl Program<'_> {
             }
             ArgumentsError::Refused(text) => {
                 // The texts of `clap` end with a line end, and others do not.
-                print_text(text.as_str().trim_end(), err);
+                print_text(text, err);
                 Status::REFUSED_LINE
             }
         }

@@ -224,7 +224,7 @@ fn fails_after_a_fault(rt: HostRuntime) -> Result<(), Fail> {
     for policy in &POLICIES {
         let writer = FaultyWriter::new(rt.alloc()).failing(FaultPlace::Write(1), Fault::ALL[0]);
         let mut output = Output::new(*policy, writer);
-        assert!(rt; output.write_all(&[0; 8192]).is_err());
+        assert!(rt; output.write_all(&[0; 4096]).is_err());
         assert!(rt; output.flush().is_err());
         assert!(rt; output.write_all(b"a").is_err());
         let (writer, finished) = output.finish();

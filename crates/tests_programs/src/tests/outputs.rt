@@ -102,14 +102,14 @@ fn flushes_its_writer_if_nothing_waits(rt: HostRuntime) -> Result<(), Fail> {
 #[test]
 fn hands_on_whole_blocks(rt: HostRuntime) -> Result<(), Fail> {
     let mut output = marking(&rt, FlushPolicy::WhenFull);
-    output.write_all(&[0; 8000])?;
-    output.write_all(&[0; 192])?;
+    output.write_all(&[0; 4000])?;
+    output.write_all(&[0; 96])?;
     output.write_all(&[0; 1])?;
-    output.write_all(&[0; 8192])?;
+    output.write_all(&[0; 4096])?;
     output.write_all(&[0; 2])?;
     let (writer, finished) = output.finish();
     finished?;
-    assert!(rt; writer.marks.as_slice() == [8192, 8193, 16385, 16387].as_slice());
+    assert!(rt; writer.marks.as_slice() == [4096, 4097, 8193, 8195].as_slice());
     Ok(())
 }
 
