@@ -24,20 +24,22 @@ pub(super) fn with_flags<'a>(
     ensures { IfOk result (λ r. options_of r
         ≡ flag_options (declared_of test.entry) (declared_of quiet.entry)) }
 {
-    let exact = "Match each FILTER exactly, not as a part of a full name";
-    let nocapture = "Print output of tests at once (no effect: it is never held back)";
-    let show_output = "Print output of tests that pass (no effect: it is never held back)";
+    let include_ignored = "Run ignored tests as well";
     let bench = "Run and measure benchmarks; tests count as ignored";
     let list = "List tests and benchmarks, and run none";
+    let nocapture = "Print output of tests at once (no effect: it is never held back)";
+    let show_output = "Print output of tests that pass (no effect: it is never held back)";
+    let report_time = "Show how long each test ran";
+    let exact = "Match each FILTER exactly, not as a part of a full name";
     let mut flags = Vec::with_capacity(alloc, 10)?;
-    add(&mut flags, flag(alloc, "include-ignored", "Run ignored tests as well"))?;
+    add(&mut flags, flag(alloc, "include-ignored", include_ignored))?;
     add(&mut flags, flag(alloc, "ignored", "Run only ignored tests"))?;
     add(&mut flags, test)?;
     add(&mut flags, flag(alloc, "bench", bench))?;
     add(&mut flags, flag(alloc, "list", list))?;
     add(&mut flags, flag(alloc, "nocapture", nocapture))?;
     add(&mut flags, flag(alloc, "show-output", show_output))?;
-    add(&mut flags, flag(alloc, "report-time", "Show how long each test ran"))?;
+    add(&mut flags, flag(alloc, "report-time", report_time))?;
     add(&mut flags, flag(alloc, "exact", exact))?;
     add(&mut flags, quiet)?;
     Command::new(alloc, "harness").args(flags)
