@@ -41,7 +41,7 @@ abbrev pub AreLocal : List Arg → Type 0
 AreLocal [] = Unit {0}
 AreLocal (a ∷ rest) = (a.global ≡ false) × AreLocal rest
 
--- what a list holds behind one more element
+-- a list with one more element has what the old one held, and that element
 pub pushed : {A : Type 0} (old new held : List A) (x : A) → new ≡ old ++ x ∷ [] → old ≡ held → new ≡ held ++ x ∷ []
 pushed old new held x e h = e ∙ ap (λ l. l ++ x ∷ []) h
 

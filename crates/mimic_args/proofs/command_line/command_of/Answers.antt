@@ -16,7 +16,7 @@ returns c =
     let local : AreLocal options = (c.unstable.ensures.local, (c.test_threads.ensures.local, (c.logfile.ensures.local, (c.skip.ensures.local, (c.colour.ensures.local, (c.format.ensures.local, (c.filter.ensures.local, tt))))))) in
     let declared = ap₂ plus (ap₂ plus (ap₂ plus (ap₂ plus (ap₂ plus (ap₂ plus (ap₂ plus c.in_ok-with_flags.ensures unstable.2)
     c.test_threads.ensures.declared) c.logfile.ensures.declared) c.skip.ensures.declared) colour.2) format.2) c.filter.ensures.declared in
-    let all = pushed _ _ _ c.filter.result c.in_ok-add-7.ensures
+    let added = pushed _ _ _ c.filter.result c.in_ok-add-7.ensures
     (pushed _ _ _ c.format.result c.in_ok-add-6.ensures
     (pushed _ _ _ c.colour.result c.in_ok-add-5.ensures
     (pushed _ _ _ c.skip.result c.in_ok-add-4.ensures
@@ -30,6 +30,6 @@ returns c =
       colour.0,
       format.0,
       record { unstable = unstable.1; color = colour.1; format = format.1 },
-      options-in_turn options start r (subst (λ all. AddsInTurn AddsArg start all r) all h) local ∙ declared,
+      options-in_turn options start r (subst (λ all. AddsInTurn AddsArg start all r) added h) local ∙ declared,
     ))
     c.args-2.ensures

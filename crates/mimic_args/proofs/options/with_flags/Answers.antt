@@ -11,7 +11,7 @@ returns c =
     ∷ c.flag-7.result ∷ c.flag-8.result ∷ c.args.quiet ∷ [] in
     let none = options-none start _ c.new.ensures.app c.new.ensures.empty.0 in
     let local : AreLocal flags = (c.flag.ensures.local, (c.flag-2.ensures.local, (c.requires.0, (c.flag-3.ensures.local, (c.flag-4.ensures.local, (c.flag-5.ensures.local, (c.flag-6.ensures.local, (c.flag-7.ensures.local, (c.flag-8.ensures.local, (c.requires.1, tt)))))))))) in
-    let all = pushed _ _ _ c.args.quiet c.in_ok-add-10.ensures
+    let added = pushed _ _ _ c.args.quiet c.in_ok-add-10.ensures
     (pushed _ _ _ c.flag-8.result c.in_ok-add-9.ensures
     (pushed _ _ _ c.flag-7.result c.in_ok-add-8.ensures
     (pushed _ _ _ c.flag-6.result c.in_ok-add-7.ensures
@@ -23,5 +23,5 @@ returns c =
     (pushed _ _ _ c.flag.result c.in_ok-add.ensures
     (c.in_ok-flags.ensures.items)))))))))) in
     IfOk-weaker c.args-2.result _ _
-    (λ r h. options-in_turn flags start r (subst (λ all. AddsInTurn AddsArg start all r) all h) local ∙ cc none)
+    (λ r h. options-in_turn flags start r (subst (λ all. AddsInTurn AddsArg start all r) added h) local ∙ cc none)
     c.args-2.ensures
