@@ -45,7 +45,8 @@ pub(super) fn with_flags<'a>(
     Command::new(alloc, "harness").args(flags)
 }
 
-// Adds an argument. A vector gives back what it finds no memory for, so a caller of its own would have a place for each.
+// Adds an argument. `push` returns the argument if there is no memory, and inlined, each call would have a place for that on the
+// stack of who adds them all.
 #[inline(never)]
 pub(super) fn add<'a>(args: &mut Vec<Arg<'a>>, arg: Arg<'a>) -> Result<(), AllocError>
     ensures { IfOk result (λ _. args.new.items ≡ args.old.items ++ arg.entry ∷ []) }

@@ -114,7 +114,7 @@ impl<'a> Program<'a> {
     /// colours if [`shows_colours`](crate::shows_colours) is true of its standard output. It prints faults with their causes, trials
     /// that run for over a minute and a warning if trials have equal names, and its workers take trials from one queue.
     //
-    // What counts the threads reads files, into a block on its stack.
+    // To count the machine's threads takes a block of 4 KB, which isn't to be on the stack while trials run.
     #[inline(never)]
     pub fn on<M: Machine>(machine: &M, name: &'a str) -> Program<'a>
         ensures name { result.name.now ≡ name.now }

@@ -59,8 +59,7 @@ fn begins_number(text: &str, at: usize) -> bool {
 }
 
 /// Prints a text, and a line end if it has none, if they can be written. It is one write if there is memory for the line end.
-pub(crate) fn print_text<E: Write>(text: String, err: &mut E) {
-    let mut text = text;
+pub(crate) fn print_text<E: Write>(mut text: String, err: &mut E) {
     let _ = if text.as_str().ends_with('\n') || text.push('\n').is_ok() {
         err.write_all(text.as_bytes())
     } else {
