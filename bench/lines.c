@@ -2,7 +2,7 @@
 
        lines FILE LINES
 
-   With the lines of one trial at a time, no report whose rows go out one by one is written faster. bench/compare runs it. */
+   With the lines of one trial at a time, no report whose rows go out one by one is written faster. bench/table runs it. */
 
 #define _GNU_SOURCE
 #include <fcntl.h>
