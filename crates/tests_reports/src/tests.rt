@@ -3,7 +3,6 @@
 mod compare;
 mod cut;
 mod expect;
-mod failures;
 mod joining;
 mod lines;
 mod page;

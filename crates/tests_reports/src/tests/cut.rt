@@ -1,6 +1,6 @@
-//! What is shown of reports that are cut, and what of them is joined, as after runs were killed. Expected texts are worked out by hand.
-use super::failures::KILLED;
-use super::lines::{announced, failed, passed, read, summary, text_of, title};
+//! What is joined of reports that are cut, as after runs were killed, and what is shown of a text that is none. Expected texts are
+//! worked out by hand.
+use super::lines::{KILLED, announced, failed, passed, read, summary, text_of, title};
 use super::reading::Slow;
 use mimic_events::{Ending, RowsRead};
 use mimic_join::{JoinFault, Joined, ShardRead, join_cut_reports};
@@ -11,37 +11,21 @@ use std::io::{ErrorKind, Read, Write};
 use std::test::Fail;
 
 // What is shown of these lines. It promises nothing, so that no test carries the contract of `show_cut`.
-fn cut_shown(alloc: Global, lines: &[&str], colours: bool) -> Result<String, Fail> {
+fn cut_shown(alloc: Global, lines: &[&str]) -> Result<String, Fail> {
     let RowsRead { rows, ending } = read(alloc, lines)?;
     let Ending::Cut(stop) = ending else {
         return Err("a whole report".into());
     };
     let mut sink = Sink::new(Vec::new(alloc));
-    show_cut(alloc, rows, &stop, colours, &mut sink)?;
+    show_cut(alloc, rows, &stop, false, &mut sink)?;
     Ok(String::from_utf8(sink.into_inner())?)
 }
 
-// The lines of a report, whether it is shown in colours, and what is shown.
-static SHOWN: [(&[&str], bool, &str); 3] = [
-    (
-        KILLED,
-        false,
-        "\nrunning 3 tests\ntest a ... FAILED\n\nfailures:\n\n---- a ----\nx\n\n\nfailures:\n    a\n\nthe report ends after 1 of 3 trials; running: [k] b\n",
-    ),
-    (
-        KILLED,
-        true,
-        "\nrunning 3 tests\ntest a ... \x1b[31mFAILED\x1b[0m\n\nfailures:\n\n---- a ----\nx\n\n\nfailures:\n    a\n\nthe report ends after 1 of 3 trials; running: [k] b\n",
-    ),
-    (&[], false, "\nno report\n"),
-];
-
+// The program shows nothing then.
 #[test]
-fn shows_what_has_ended(rt: HostRuntime) -> Result<(), Fail> {
-    for (lines, colours, expected) in &SHOWN {
-        let text = cut_shown(rt.alloc(), lines, *colours)?;
-        assert!(rt; text.as_str() == *expected, "{text}");
-    }
+fn shows_no_report(rt: HostRuntime) -> Result<(), Fail> {
+    let text = cut_shown(rt.alloc(), &[])?;
+    assert!(rt; text.as_str() == "\nno report\n", "{text}");
     Ok(())
 }
 
@@ -103,17 +87,5 @@ fn joins_what_has_ended(rt: HostRuntime) -> Result<(), Fail> {
     assert!(rt; rows.len() == 1 && stop.announced == Some(3) && stop.wrong_line.is_none());
     assert!(rt; matches!(&stop.running, Some(label) if label.name.as_str() == "b"));
     assert!(rt; error.kind() == ErrorKind::TimedOut && report.rows.len() == 1);
-    Ok(())
-}
-
-// A whole report of the one shard is written as it is.
-#[test]
-fn joins_whole_reports(rt: HostRuntime) -> Result<(), Fail> {
-    let alloc = rt.alloc();
-    let ended = text_of(alloc, ENDED)?;
-    let inputs = vec![in alloc; Slow::of(ended.as_str())]?;
-    let (bytes, joined) = join_cut_into(alloc, inputs, 1, Vec::new(alloc));
-    assert!(rt; str::from_utf8(&bytes)? == ended.as_str());
-    assert!(rt; matches!(joined?, Joined::Whole(counts) if counts.num_passed == 1));
     Ok(())
 }

@@ -1,9 +1,6 @@
-//! What no clause states about known failures: the status of each case, what is printed, what is no file of known failures, and
-//! how such a file is brought up to date. Expected texts are worked out by hand.
-use super::lines::{
-    A_FAILED, A_IGNORED, A_MEASURED, A_PASSED, A_SILENT, FILTERED, NONE, Y_AND_X, announced,
-    failed, passed, summary, text_of, title,
-};
+//! What no clause states about known failures: what inputs give that are cut or fail, what is no file of known failures, and what is
+//! written of a new one if the writer fails or a report is cut. Expected texts are worked out by hand.
+use super::lines::{A_FAILED, FILTERED, NONE, announced, failed, passed, summary, text_of, title};
 use super::reading::Slow;
 use mimic_events::Ending;
 use mimic_expect::{
@@ -125,10 +122,7 @@ pub(super) fn judged(
     judged_as(alloc, known, inputs, options)
 }
 
-// Known failures, a report, and what is printed: first the failure that isn't known, and then what became of the known
-// failures, in the order of their lines.
-const KNOWN: &[&str] = &[failed!("c"), "# why\n", failed!("a", "z")];
-
+// A report of two failures.
 const FINDINGS: &[&str] = &[
     title!(2),
     announced!("a"),
@@ -137,165 +131,6 @@ const FINDINGS: &[&str] = &[
     failed!("b"),
     summary!("failed", 0, 2, 0, 0, 0, "0"),
 ];
-
-const FOUND: &[&str] = &[
-    "failed: ",
-    failed!("b"),
-    "absent, line 1 can go: ",
-    failed!("c"),
-    "another message, line 3 can go: ",
-    failed!("a", "y"),
-    numbers!(0, 1, 0, 1, 1),
-];
-
-// The lines of known failures, the lines of a report, the status, and what is printed.
-static RULES: [(&[&str], &[&str], u8, &[&str]); 11] = [
-    // A line without a message expects any, and the last line needs no end.
-    (
-        &["{ \"type\": \"test\", \"name\": \"a\", \"event\": \"failed\" }"],
-        A_FAILED,
-        0,
-        &[numbers!(1, 0, 0, 0, 0)],
-    ),
-    (
-        &[],
-        A_FAILED,
-        101,
-        &["failed: ", failed!("a", "x"), numbers!(0, 1, 0, 0, 0)],
-    ),
-    // An empty message is a message too.
-    (
-        &[failed!("a", "")],
-        A_SILENT,
-        101,
-        &[
-            "another message, line 1 can go: ",
-            failed!("a"),
-            numbers!(0, 0, 0, 1, 0),
-        ],
-    ),
-    // A trial of another kind is another trial.
-    (
-        &[failed!(["k"] "a", "x")],
-        A_FAILED,
-        101,
-        &[
-            "failed: ",
-            failed!("a", "x"),
-            "absent, line 1 can go: ",
-            failed!(["k"] "a", "x"),
-            numbers!(0, 1, 0, 0, 1),
-        ],
-    ),
-    (
-        &["# why\n", "\n", failed!("a", "x")],
-        A_PASSED,
-        101,
-        &[
-            "passed, line 3 can go: ",
-            failed!("a", "x"),
-            numbers!(0, 0, 1, 0, 0),
-        ],
-    ),
-    (
-        &[failed!(["k"] "a")],
-        A_MEASURED,
-        101,
-        &[
-            "passed, line 1 can go: ",
-            failed!(["k"] "a"),
-            numbers!(0, 0, 1, 0, 0),
-        ],
-    ),
-    (&[failed!("a")], A_IGNORED, 0, &[numbers!(0, 0, 0, 0, 0)]),
-    // The first failure meets the line of its message, though the line before expects any.
-    (
-        &[failed!("a"), failed!("a", "y")],
-        Y_AND_X,
-        0,
-        &[numbers!(2, 0, 0, 0, 0)],
-    ),
-    // A line expects one failure.
-    (
-        &[failed!("a"), failed!("a")],
-        A_FAILED,
-        101,
-        &[
-            "absent, line 2 can go: ",
-            failed!("a"),
-            numbers!(1, 0, 0, 0, 1),
-        ],
-    ),
-    (KNOWN, FINDINGS, 101, FOUND),
-    // A name is printed as a report has it, so that it ends no line.
-    (
-        &[failed!(["\\u001b"] "a\\n\\\"\\\\")],
-        &[
-            title!(1),
-            announced!(["\\u001b"] "a\\n\\\"\\\\"),
-            passed!(["\\u001b"] "a\\n\\\"\\\\"),
-            summary!("ok", 1, 0, 0, 0, 0, "0"),
-        ],
-        101,
-        &[
-            "passed, line 1 can go: ",
-            failed!(["\\u001b"] "a\\n\\\"\\\\"),
-            numbers!(0, 0, 1, 0, 0),
-        ],
-    ),
-];
-
-#[test]
-fn judges_a_report(rt: HostRuntime) -> Result<(), Fail> {
-    let alloc = rt.alloc();
-    for (known, report, status, expected) in &RULES {
-        let (verdict, printed) = judged(alloc, known, &[(*report, None)], false)?;
-        let expected = text_of(alloc, expected)?;
-        assert!(rt;
-            verdict.status() == *status && printed == expected,
-            "{printed}"
-        );
-    }
-    Ok(())
-}
-
-// The lines of known failures, the lines of a report, the status, and the status with `lax`.
-static LAX: [(&[&str], &[&str], u8, u8); 4] = [
-    (&[failed!("a", "x")], A_PASSED, 101, 0),
-    (&[failed!("a")], NONE, 101, 101),
-    (
-        &[failed!("b")],
-        &[
-            title!(2),
-            announced!("a"),
-            failed!("a"),
-            announced!("b"),
-            passed!("b"),
-            summary!("failed", 1, 1, 0, 0, 0, "0"),
-        ],
-        101,
-        101,
-    ),
-    (
-        &[failed!("a")],
-        &[title!(1), announced!("a"), passed!("a")],
-        1,
-        1,
-    ),
-];
-
-// With `lax` the same is printed.
-#[test]
-fn lets_known_failures_pass(rt: HostRuntime) -> Result<(), Fail> {
-    let alloc = rt.alloc();
-    for (known, report, strict, lax) in &LAX {
-        let (verdict, printed) = judged(alloc, known, &[(*report, None)], false)?;
-        assert!(rt; verdict.status() == *strict, "{printed}");
-        let (verdict, same) = judged(alloc, known, &[(*report, None)], true)?;
-        assert!(rt; verdict.status() == *lax && same == printed, "{same}");
-    }
-    Ok(())
-}
 
 // Inputs, the status, how each ended, and what is printed if `a` is known to fail with `x`.
 static INPUTS: [(&[Input], u8, &str, &[&str]); 10] = [
@@ -451,109 +286,6 @@ fn judges_what_inputs_give(rt: HostRuntime) -> Result<(), Fail> {
     Ok(())
 }
 
-// Lines of known failures, inputs, and the lines for people.
-static READABLE: [(&[&str], &[Input], &[&str]); 9] = [
-    (
-        &[],
-        &[(A_FAILED, None)],
-        &["failed: a: x\n", numbers!(0, 1, 0, 0, 0)],
-    ),
-    (
-        &[],
-        &[(A_SILENT, None)],
-        &["failed: a\n", numbers!(0, 1, 0, 0, 0)],
-    ),
-    // Of a message the first line is printed, if it isn't empty.
-    (
-        &[],
-        &[(
-            &[
-                title!(3),
-                announced!(["k"] "b"),
-                failed!(["k"] "b", "no: 1\\nyes"),
-                announced!("c"),
-                failed!("c", ""),
-                announced!("d"),
-                failed!("d", "\\nyes"),
-                summary!("failed", 0, 3, 0, 0, 0, "0"),
-            ],
-            None,
-        )],
-        &[
-            "failed: [k] b: no: 1\n",
-            "failed: c\n",
-            "failed: d\n",
-            numbers!(0, 3, 0, 0, 0),
-        ],
-    ),
-    // Control characters are numbers, and so is a backslash that begins one. So nothing ends a line or looks like another one.
-    (
-        &[],
-        &[(
-            &[
-                title!(1),
-                announced!(["\\u001b"] "a\\n\\\\u{41}\\\"<\u{85}"),
-                failed!(["\\u001b"] "a\\n\\\\u{41}\\\"<\u{85}", "\\r\\u0007\u{2028}x\\ny"),
-                summary!("failed", 0, 1, 0, 0, 0, "0"),
-            ],
-            None,
-        )],
-        &[
-            "failed: [\\u{1b}] a\\u{a}\\u{5c}u{41}\"<\\u{85}: \\u{d}\\u{7}\\u{2028}x\n",
-            numbers!(0, 1, 0, 0, 0),
-        ],
-    ),
-    (
-        &[failed!("a", "z")],
-        &[(A_FAILED, None)],
-        &[
-            "another message, line 1 can go: a: x\n",
-            numbers!(0, 0, 0, 1, 0),
-        ],
-    ),
-    // No message is printed that didn't come.
-    (
-        &["# why\n", failed!(["k"] "a", "z")],
-        &[(A_MEASURED, None)],
-        &["passed, line 2 can go: [k] a\n", numbers!(0, 0, 1, 0, 0)],
-    ),
-    (
-        &[failed!("c", "z")],
-        &[(NONE, None)],
-        &["absent, line 1 can go: c\n", numbers!(0, 0, 0, 0, 1)],
-    ),
-    (
-        &[],
-        &[(&[title!(1), announced!(["k"] "b\\n")], None)],
-        &["running: [k] b\\u{a}\n", numbers!(0, 0, 0, 0, 0)],
-    ),
-    (
-        KNOWN,
-        &[(FINDINGS, None)],
-        &[
-            "failed: b\n",
-            "absent, line 1 can go: c\n",
-            "another message, line 3 can go: a: y\n",
-            numbers!(0, 1, 0, 1, 1),
-        ],
-    ),
-];
-
-#[test]
-fn prints_lines_for_people(rt: HostRuntime) -> Result<(), Fail> {
-    let alloc = rt.alloc();
-    let options = ExpectOptions {
-        lax: false,
-        lines: Lines::Readable,
-    };
-    for (known, inputs, expected) in &READABLE {
-        let (_, printed) = judged_as(alloc, known, inputs, options)?;
-        let expected = text_of(alloc, expected)?;
-        assert!(rt; printed == expected, "{printed}");
-    }
-    Ok(())
-}
-
 // A file, a report, and the new file.
 const OLD: &[&str] = &[
     "# Two failures of one kind\n",
@@ -600,67 +332,6 @@ const NEW: &[&str] = &[
     failed!(["k"] "new"),
 ];
 
-// The lines of a file, inputs, whether known failures may pass, and the lines of the new file.
-static UPDATES: [(&[&str], &[Input], bool, &[&str]); 12] = [
-    (OLD, &[(NOW, None)], false, NEW),
-    (&[], &[(NONE, None)], false, &[]),
-    (
-        &[],
-        &[(Y_AND_X, None)],
-        false,
-        &[failed!("a", "y"), failed!("a", "x")],
-    ),
-    // The last line gets an end.
-    (
-        &["{ \"type\": \"test\", \"name\": \"a\", \"event\": \"failed\" }"],
-        &[(A_FAILED, None), (FINDINGS, None)],
-        false,
-        &[failed!("a"), failed!("a", "y"), failed!("b")],
-    ),
-    (&["# why"], &[(NONE, None)], false, &["# why\n"]),
-    // A failure of a known kind and name comes in its turn.
-    (
-        &[failed!("a", "x")],
-        &[(A_FAILED, None), (A_FAILED, None), (FINDINGS, None)],
-        false,
-        &[
-            failed!("a", "x"),
-            failed!("a", "x"),
-            failed!("a", "y"),
-            failed!("b"),
-        ],
-    ),
-    // What isn't judged stays.
-    (
-        &[failed!("a", "z")],
-        &[(A_IGNORED, None)],
-        false,
-        &[failed!("a", "z")],
-    ),
-    (
-        &[failed!("a", "z"), failed!("c")],
-        &[(NONE, None), (FILTERED, None)],
-        false,
-        &[failed!("a", "z"), failed!("c")],
-    ),
-    (
-        &[failed!("a", "z"), failed!("c")],
-        &[(A_FAILED, None), (FILTERED, None)],
-        false,
-        &[failed!("a", "x"), failed!("c")],
-    ),
-    (&[failed!("a")], &[(A_PASSED, None)], false, &[]),
-    // A known failure that may pass stays.
-    (&[failed!("a")], &[(A_PASSED, None)], true, &[failed!("a")]),
-    // One that is absent goes nevertheless.
-    (
-        &[failed!("c"), failed!("a", "z")],
-        &[(A_FAILED, None)],
-        true,
-        &[failed!("a", "x")],
-    ),
-];
-
 // Brings the lines of a file up to date, and returns the new text, and the verdict.
 fn updated(
     alloc: Global,
@@ -674,22 +345,6 @@ fn updated(
     let known = known_in(alloc, lines)??;
     let (bytes, verdict) = update(alloc, text.as_str(), &known, readers, lax, Vec::new(alloc));
     Ok((String::from_utf8(bytes)?, verdict?))
-}
-
-// By the new file nothing of the same reports is unexpected, and it stays as it is.
-#[test]
-fn brings_files_up_to_date(rt: HostRuntime) -> Result<(), Fail> {
-    let alloc = rt.alloc();
-    for (lines, inputs, lax, expected) in &UPDATES {
-        let expected = text_of(alloc, expected)?;
-        let (text, verdict) = updated(alloc, lines, inputs, *lax)?;
-        assert!(rt; verdict.is_written() && text == expected, "{text}");
-        let (verdict, printed) = judged(alloc, &[text.as_str()], inputs, *lax)?;
-        assert!(rt; verdict.status() == 0, "{printed}");
-        let (same, _) = updated(alloc, &[text.as_str()], inputs, *lax)?;
-        assert!(rt; same == text, "{same}");
-    }
-    Ok(())
 }
 
 // A writer that fails at a byte returns its fault, and has what comes before.

@@ -136,39 +136,11 @@ pub(super) const NONE: &[&str] = &[title!(0), summary!("ok", 0, 0, 0, 0, 0, "0")
 
 pub(super) const FILTERED: &[&str] = &[title!(0), summary!("ok", 0, 0, 0, 0, 1, "0")];
 
-// Reports of one trial, and of two with the same name.
-pub(super) const A_PASSED: &[&str] = &[
-    title!(1),
-    announced!("a"),
-    passed!("a"),
-    summary!("ok", 1, 0, 0, 0, 0, "0"),
-];
-
-pub(super) const A_IGNORED: &[&str] = &[
-    title!(1),
-    announced!("a"),
-    ignored!("a"),
-    summary!("ok", 0, 0, 1, 0, 0, "0"),
-];
-
-pub(super) const A_MEASURED: &[&str] = &[
-    title!(1),
-    announced!(["k"] "a"),
-    measured!(["k"] "a", 1234, 5),
-    summary!("ok", 0, 0, 0, 1, 0, "0"),
-];
-
+// A report of one trial, and one of two with the same name.
 pub(super) const A_FAILED: &[&str] = &[
     title!(1),
     announced!("a"),
     failed!("a", "x"),
-    summary!("failed", 0, 1, 0, 0, 0, "0"),
-];
-
-pub(super) const A_SILENT: &[&str] = &[
-    title!(1),
-    announced!("a"),
-    failed!("a"),
     summary!("failed", 0, 1, 0, 0, 0, "0"),
 ];
 
@@ -179,4 +151,12 @@ pub(super) const Y_AND_X: &[&str] = &[
     announced!("a"),
     failed!("a", "x"),
     summary!("failed", 0, 2, 0, 0, 0, "0"),
+];
+
+// A run with one thread that was killed after a failure, in the next trial.
+pub(super) const KILLED: &[&str] = &[
+    title!(3),
+    announced!("a"),
+    failed!("a", "x"),
+    announced!(["k"] "b"),
 ];

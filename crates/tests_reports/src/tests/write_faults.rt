@@ -2,8 +2,7 @@
 //! writer again.
 use super::compare::{AFTER, BEFORE, OPTIONS};
 use super::cut::join_cut_into;
-use super::failures::KILLED;
-use super::lines::{read, text_of};
+use super::lines::{KILLED, read, text_of};
 use super::reading::Slow;
 use super::times::TIMED;
 use mimic_compare::write_comparison;
