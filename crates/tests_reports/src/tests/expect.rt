@@ -55,11 +55,10 @@ fn update<I: Read + Drop, W: Write>(
     text: &str,
     known: &[Expectation],
     inputs: Vec<I>,
-    lax: bool,
     writer: W,
 ) -> (W, Result<UpdateVerdict, OutputFault>) {
     let mut sink = Sink::new(writer);
-    let updated = write_updated(alloc, text.as_bytes(), known, inputs, lax, &mut sink);
+    let updated = write_updated(alloc, text.as_bytes(), known, inputs, false, &mut sink);
     (sink.into_inner(), updated)
 }
 
@@ -94,32 +93,21 @@ fn texts_of(alloc: Global, inputs: &[Input]) -> Result<Vec<String>, AllocError> 
     Ok(texts)
 }
 
-// Judges the inputs by known failures, and returns the verdict, and what is printed.
-fn judged_as(
-    alloc: Global,
-    known: &[&str],
-    inputs: &[Input],
-    options: ExpectOptions,
-) -> Result<(ExpectationVerdict, String), Fail> {
-    let known = known_in(alloc, known)??;
-    let texts = texts_of(alloc, inputs)?;
-    let readers = readers_of(alloc, &texts, inputs)?;
-    let (bytes, verdict) = judge(alloc, &known, readers, options, Vec::new(alloc));
-    Ok((verdict?, String::from_utf8(bytes)?))
-}
-
-// The same, with lines in JSON.
+// Judges the inputs by known failures, and returns the verdict, and what is printed, in JSON.
 pub(super) fn judged(
     alloc: Global,
     known: &[&str],
     inputs: &[Input],
-    lax: bool,
 ) -> Result<(ExpectationVerdict, String), Fail> {
+    let known = known_in(alloc, known)??;
+    let texts = texts_of(alloc, inputs)?;
+    let readers = readers_of(alloc, &texts, inputs)?;
     let options = ExpectOptions {
-        lax,
+        lax: false,
         lines: Lines::Json,
     };
-    judged_as(alloc, known, inputs, options)
+    let (bytes, verdict) = judge(alloc, &known, readers, options, Vec::new(alloc));
+    Ok((verdict?, String::from_utf8(bytes)?))
 }
 
 // A report of two failures.
@@ -274,7 +262,7 @@ fn shown(alloc: Global, ends: &[InputEnd]) -> Result<String, AllocError> {
 fn judges_what_inputs_give(rt: HostRuntime) -> Result<(), Fail> {
     let alloc = rt.alloc();
     for (inputs, status, ends, expected) in &INPUTS {
-        let (verdict, printed) = judged(alloc, &[failed!("a", "x")], inputs, false)?;
+        let (verdict, printed) = judged(alloc, &[failed!("a", "x")], inputs)?;
         let expected = text_of(alloc, expected)?;
         assert!(rt;
             verdict.status() == *status && printed == expected,
@@ -337,13 +325,12 @@ fn updated(
     alloc: Global,
     lines: &[&str],
     inputs: &[Input],
-    lax: bool,
 ) -> Result<(String, UpdateVerdict), Fail> {
     let text = text_of(alloc, lines)?;
     let texts = texts_of(alloc, inputs)?;
     let readers = readers_of(alloc, &texts, inputs)?;
     let known = known_in(alloc, lines)??;
-    let (bytes, verdict) = update(alloc, text.as_str(), &known, readers, lax, Vec::new(alloc));
+    let (bytes, verdict) = update(alloc, text.as_str(), &known, readers, Vec::new(alloc));
     Ok((String::from_utf8(bytes)?, verdict?))
 }
 
@@ -361,7 +348,7 @@ fn updates_a_writer_that_fails(rt: HostRuntime) -> Result<(), Fail> {
         let inputs = vec![in alloc; Slow::of(now.as_str())]?;
         let fault = Fault::Error(ErrorKind::StorageFull);
         let writer = FaultyWriter::new(alloc).failing(FaultPlace::Byte(count), fault);
-        let (writer, updated) = update(alloc, old.as_str(), &known, inputs, false, writer);
+        let (writer, updated) = update(alloc, old.as_str(), &known, inputs, writer);
         let fault = updated.err().ok_or("written")?;
         let shown = format!(in alloc; "{fault}")?;
         assert!(rt; shown.as_str() == "no storage space", "{shown}");
@@ -391,7 +378,7 @@ static NOT_WHOLE: [(&[Input], &str); 3] = [
 fn updates_nothing_by_cut_reports(rt: HostRuntime) -> Result<(), Fail> {
     let alloc = rt.alloc();
     for (inputs, ends) in &NOT_WHOLE {
-        let (text, verdict) = updated(alloc, &[failed!("a")], inputs, false)?;
+        let (text, verdict) = updated(alloc, &[failed!("a")], inputs)?;
         assert!(rt; !verdict.is_written() && text.is_empty(), "{text}");
         let shown = shown(alloc, &verdict.ends)?;
         assert!(rt; shown.as_str() == *ends, "{shown}");

@@ -146,7 +146,7 @@ fn judges_the_same_without_times(rt: HostRuntime) -> Result<(), Fail> {
     for (known, status, expected) in &JUDGED {
         let expected = text_of(alloc, expected)?;
         for lines in [TIMED, PLAIN] {
-            let (verdict, printed) = judged(alloc, known, &[(lines, None)], false)?;
+            let (verdict, printed) = judged(alloc, known, &[(lines, None)])?;
             assert!(rt;
                 verdict.status() == *status && printed == expected,
                 "{printed}"
