@@ -1,16 +1,16 @@
 -- Lemmas on calls that write to a sink.
-use Rattle.std.proofs.Common.{◌≡◌, ℕ, ◌+◌, List, [], ◌++◌, Option, None, Some, Result, Ok, Err, refl, sym, ap, ◌∙◌, append_assoc, append-nil, subst, take, drop, take-append-drop, arith, ◌≤◌, ◌-◌, length, length-drop, ◌<◌, get_or, drop-cons, suc, ◌∷◌}
+use Rattle.std.proofs.Common.{◌≡◌, ℕ, ◌+◌, List, [], ◌++◌, Option, Result, Ok, Err, refl, sym, ap, ◌∙◌, append_assoc, append-nil, subst, take, drop, take-append-drop, arith, ◌≤◌, ◌-◌, length, length-drop, ◌<◌, get_or, drop-cons, suc, ◌∷◌}
 use Rattle.std.specs.List.{flat_map}
 use Rattle.std.specs.Result.{IsErr}
 use Rattle.std.proofs.lemmas.Result.{MatchResult-from_err}
-use Rattle.std.proofs.lemmas.List.{replicate-append-replicate, take-replicate}
+use Rattle.std.proofs.lemmas.List.{take-replicate}
 use Rattle.std.specs.Prelude.{replicate}
 use Rattle.mimic_trial.specs.Text.{spaces}
 use Rattle.std.proofs.lemmas.List.{take_more}
 use Rattle.std.proofs.lemmas.List.Concat.{flat_map-append}
 use Rattle.std.proofs.lemmas.List.{take_all}
-use Rattle.std.specs.Io.KnownBytes.{Appends, Keeps}
-use Rattle.std.proofs.KnownBytes.{Appends-nil, Appends-trans, Appends-kept}
+use Rattle.std.specs.Io.KnownBytes.{Appends}
+use Rattle.std.proofs.KnownBytes.{Appends-nil, Appends-trans}
 use Rattle.mimic_printer.specs.Sink.{Shown, Put, Stopped, Writes}
 
 -- nothing was appended
@@ -58,30 +58,6 @@ Gone-write a b c piece rest n h p q =
       Appends-trans a b c p.0 (take n rest) p.2 q,
     )
 
--- a write that took none or failed, after a part that was appended
-pub Stopped-from_Gone : (old mid new : Shown) (piece rest : List ℕ) → Gone old.bytes mid.bytes piece rest → mid.faults ≡ old.faults
-    → Keeps mid.bytes new.bytes → new.faults ≡ mid.faults + 1 → Stopped old new piece
-Stopped-from_Gone old mid new piece rest p e k f = record {
-  front = p.0;
-  rest = rest;
-  beginning = p.1;
-  appended = Appends-kept old.bytes mid.bytes new.bytes p.0 p.2 k;
-  faults = f ∙ ap (λ n. n + 1) e;
-}
-
--- nothing is left
-pub Put-from_Gone : (old new : Shown) (piece rest : List ℕ) → Gone old.bytes new.bytes piece rest → rest ≡ [] → new.faults ≡ old.faults → Put old new piece
-Put-from_Gone old new piece rest p n e = record {
-  appended = subst (Appends old.bytes new.bytes) (sym (p.1 ∙ ap (λ l. p.0 ++ l) n ∙ append-nil p.0)) p.2;
-  faults = e;
-}
-
--- appending nothing is keeping
-pub Keeps-from_nil : (a b : Option (List ℕ)) → Appends a b [] → Keeps a b
-Keeps-from_nil None b p = tt
-Keeps-from_nil (Some x) None p = p
-Keeps-from_nil (Some x) (Some y) p = p ∙ append-nil x
-
 -- a loop that writes a text for each element of a list
 module _ {X : Type 0} (f : X → List ℕ) where
   -- one more element's text
@@ -109,21 +85,6 @@ Puts-stopped {a} {b} t r e s = MatchResult-from_err r (λ _. Put a b t) (λ _. S
 -- `n` of the spaces that are written at once
 pub take-blanks : (n : ℕ) → n ≤ 32 → take n (replicate 32 32) ≡ spaces n
 take-blanks n h = take-replicate n 32 32 h
-
--- some spaces and then some more
-pub Put-spaces : {a b c : Shown} (i n m : ℕ) → m ≡ i + n → Put a b (spaces i) → Put b c (spaces n) → Put a c (spaces m)
-Put-spaces {a} {b} {c} i n m e p q =
-    let P : List ℕ → Type 0 = λ l. Put a c l in
-    subst P (replicate-append-replicate i n 32 ∙ ap spaces (sym e)) (Put-trans (spaces i) (spaces n) p q)
-
--- some spaces and then a beginning of some more, if not all spaces would have been written then
-pub Stopped-spaces : {a b c : Shown} (i n m : ℕ) → i + n ≤ m → Put a b (spaces i) → Stopped b c (spaces n) → Stopped a c (spaces m)
-Stopped-spaces {a} {b} {c} i n m h p q =
-    let P : List ℕ → Type 0 = λ l. Stopped a c l in
-    let rest : ℕ = m - (i + n) in
-    let split : spaces (i + n) ++ spaces rest ≡ spaces m = replicate-append-replicate (i + n) rest 32 ∙ ap spaces (omega arith) in
-    let first : spaces i ++ spaces n ≡ spaces (i + n) = replicate-append-replicate i n 32 in
-    subst P split (Stopped-more (spaces (i + n)) (spaces rest) (subst P first (Put-Stopped (spaces i) (spaces n) p q)))
 
 -- a text, and then a call that may append more of it
 pub Puts_then : {E T : Type 0} (a b c : Shown) (s t : List ℕ) (r : Result T E) → Put a b s → Writes b c t r → Writes a c (s ++ t) r

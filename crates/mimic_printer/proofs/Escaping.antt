@@ -1,48 +1,37 @@
 -- Texts that are written with their escapes, and what is between these at once.
-use Rattle.std.proofs.Common.{false, None, Some, is_some, MatchOption, ◌≡◌, ℕ, suc, ◌+◌, ◌-◌, ◌<◌, ◌≤◌, List, [], ◌∷◌, ◌++◌, Option, Result, length, get_or, take, drop, drop-cons, take-append-drop, length-drop, length-take-le, refl, sym, ap, ◌∙◌, subst, arith, append_assoc, append-nil}
+use Rattle.std.proofs.Common.{false, None, Some, is_some, MatchOption, ◌≡◌, ℕ, suc, ◌+◌, ◌-◌, ◌<◌, ◌≤◌, List, [], ◌∷◌, ◌++◌, Option, length, get_or, take, drop, drop-cons, take-append-drop, length-drop, length-take-le, refl, sym, ap, ◌∙◌, subst, arith, append_assoc, append-nil}
 use Rattle.std.proofs.lemmas.List.{take_all}
 use Rattle.std.proofs.lemmas.List.Concat.{flat_map-append}
-use Rattle.mimic_printer.specs.Sink.{Shown, Put, Stopped, Writes}
+use Rattle.mimic_printer.specs.declared.sink.Sink.{Sink}
+use Rattle.mimic_printer.specs.Sink.{Adds}
 use Rattle.mimic_trial.specs.Escape.{ArePlain, escape, escaped}
 use Rattle.mimic_trial.proofs.Escapes.{escaped-plain}
-use Rattle.mimic_printer.proofs.Appending.{Put-refl, Put-trans, Put-Stopped, Puts_then, Stopped-more}
+use Rattle.mimic_printer.proofs.Adding.{adds_nothing, adds_then}
 
 -- ---- what is left of a text
 
--- of the whole text this is left to be written
-pub record WrittenSoFar (old new : Shown) (whole left : List ℕ) : Type 0 where
+-- of the whole text this is left to be added
+pub record AddedSoFar {W : Type 0} (contents : W → Option (List ℕ)) (old new : Sink W) (whole left : List ℕ) : Type 0 where
   pub done : List ℕ
   pub parts : whole ≡ done ++ left
-  pub put : Put old new done
+  pub added : Adds contents old new done
 
-pub nothing_written : (s : Shown) (whole : List ℕ) → WrittenSoFar s s whole whole
-nothing_written s whole = record { done = []; parts = refl; put = Put-refl s }
+pub added_none : {W : Type 0} {contents : W → Option (List ℕ)} (s : Sink W) (text : List ℕ) → AddedSoFar contents s s text text
+added_none s text = record { done = []; parts = refl; added = adds_nothing s }
 
--- what is left is written by one more call
-pub rest_written : {E T : Type 0} (a b c : Shown) (whole left rest : List ℕ) (r : Result T E) → WrittenSoFar a b whole left → left ≡ rest
-    → Writes b c rest r → Writes a c whole r
-rest_written a b c whole left rest r h e p =
-    subst (λ (t : List ℕ). Writes a c t r) (ap (λ (l : List ℕ). h.done ++ l) (sym e) ∙ sym h.parts) (Puts_then a b c h.done rest r h.put p)
-
--- a fault in what comes before the next escape
-pub stopped_before : (a b c : Shown) (whole left front after : List ℕ) → left ≡ front ++ after → WrittenSoFar a b whole left → Stopped b c front → Stopped a c whole
-stopped_before a b c whole left front after split h s =
-    subst (Stopped a c) (ap (λ (l : List ℕ). h.done ++ l) (sym split) ∙ sym h.parts) (Put-Stopped h.done _ h.put (Stopped-more front after s))
-
-module _ (whole left front mark more : List ℕ) (split : left ≡ front ++ (mark ++ more)) where
-  -- a fault in the next escape
-  pub stopped_at : (a b c d : Shown) → WrittenSoFar a b whole left → Put b c front → Stopped c d mark → Stopped a d whole
-  stopped_at a b c d h p s =
-      subst (Stopped a d) (ap (λ (l : List ℕ). h.done ++ l) (sym split) ∙ sym h.parts)
-      (Put-Stopped h.done _ h.put (Put-Stopped front _ p (Stopped-more mark more s)))
-
-  -- both were written
-  pub more_written : (a b c d : Shown) → WrittenSoFar a b whole left → Put b c front → Put c d mark → WrittenSoFar a d whole more
-  more_written a b c d h p q = record {
+module _ {W : Type 0} {contents : W → Option (List ℕ)} {whole left : List ℕ} where
+  -- what comes before the next escape, and the escape
+  pub added_more : {a b c d : Sink W} {front mark more : List ℕ} → left ≡ front ++ (mark ++ more) → AddedSoFar contents a b whole left
+      → Adds contents b c front → Adds contents c d mark → AddedSoFar contents a d whole more
+  added_more {front} {mark} split h p q = record {
     done = h.done ++ (front ++ mark);
     parts = h.parts ∙ ap (λ (l : List ℕ). h.done ++ l) split ∙ simp append_assoc;
-    put = Put-trans h.done (front ++ mark) h.put (Put-trans front mark p q);
+    added = adds_then h.done (front ++ mark) h.added (adds_then front mark p q);
   }
+
+  -- what is left
+  pub added_rest : {a b c : Sink W} {rest : List ℕ} → left ≡ rest → AddedSoFar contents a b whole left → Adds contents b c rest → Adds contents a c whole
+  added_rest {a} {b} {c} {rest} e h p = subst (Adds contents a c) (ap (λ (l : List ℕ). h.done ++ l) (sym e) ∙ sym h.parts) (adds_then h.done rest h.added p)
 
 -- what follows a place is no longer than the text
 pub shorter : (text : List ℕ) (at : ℕ) → length (take (length text - at) (drop at text)) ≤ length text

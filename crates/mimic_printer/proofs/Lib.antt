@@ -1,3 +1,4 @@
+pub mod Adding
 pub mod Appending
 pub mod Characters
 pub mod EscapeLaws

@@ -1,6 +1,5 @@
 -- The line of an outcome: what was measured, as the pieces that are written, and the parts of the line.
-use Rattle.std.proofs.Common.{◌≡◌, ◌∷◌, [], ◌++◌, List, Option, append_assoc, ℕ}
-use Rattle.std.specs.List.{concat}
+use Rattle.std.proofs.Common.{◌≡◌, [], ◌++◌, Option, append_assoc, ℕ}
 use Rattle.std.specs.Prelude.{codes, decimal}
 use Rattle.mimic_trial.specs.declared.outcome.Outcome.{Outcome}
 use Rattle.mimic_trial.specs.declared.outcome.Outcome.TheVariants.{Measured}

@@ -1,5 +1,5 @@
--- What a call that writes to a sink does: it appends its text, or a beginning of it and counts one more fault.
-use Rattle.std.specs.Prelude.{◌≡◌, ◌<◌, ℕ, ◌+◌, ◌-◌, ◌^◌, List, ◌++◌, Option, Result, Ok, Err, MatchResult}
+-- What a call that writes to a sink does: it appends its text, or a beginning of it, and counts one more fault or keeps it.
+use Rattle.std.specs.Prelude.{◌≡◌, ◌<◌, ℕ, ◌+◌, ◌-◌, ◌^◌, Bool, true, false, is_some, List, [], ◌++◌, Option, Result, Ok, Err, MatchResult}
 use Rattle.std.specs.Io.KnownBytes.{Appends}
 use Rattle.mimic_printer.specs.declared.sink.OutputFault.{OutputFault}
 use Rattle.mimic_printer.specs.declared.sink.OutputFault.TheVariants.{OutOfMemory, Write}
@@ -57,3 +57,27 @@ LeftBy (Write error) old new text = Stopped old new text
 abbrev pub LeavesText : {T : Type 0} → List ℕ → Shown → Shown → Result T OutputFault → Type 0
 LeavesText text old new (Ok value) = Put old new text
 LeavesText text old new (Err fault) = LeftBy fault old new text
+
+-- ---- texts that are added part by part
+
+-- the sink keeps a fault
+abbrev pub keeps_fault : {W : Type 0} → Sink W → Bool
+keeps_fault s = is_some s.fault
+
+-- a beginning of the text was appended, and no fault was counted: the whole text if no fault is kept now, and nothing if one was
+-- kept before
+pub record Adds {W : Type 0} (contents : W → Option (List ℕ)) (old new : Sink W) (text : List ℕ) : Type 0 where
+  pub front : List ℕ
+  pub rest : List ℕ
+  pub parts : text ≡ front ++ rest
+  pub appended : Appends (contents (writer_of old)) (contents (writer_of new)) front
+  pub faults : faults_of new ≡ faults_of old
+  pub whole : keeps_fault new ≡ false → (keeps_fault old ≡ false) × (rest ≡ [])
+  pub nothing : keeps_fault old ≡ true → front ≡ []
+
+-- a kept fault was handed out and counted, none was kept if there is no error, and none is kept now
+pub record Ends {W E T : Type 0} (old new : Sink W) (result : Result T E) : Type 0 where
+  pub writer : writer_of new ≡ writer_of old
+  pub ready : keeps_fault new ≡ false
+  pub counted : MatchResult result (λ _. (keeps_fault old ≡ false) × (faults_of new ≡ faults_of old))
+      (λ _. faults_of new ≡ faults_of old + 1)

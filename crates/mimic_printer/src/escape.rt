@@ -1,6 +1,6 @@
 //! Writes texts with their escapes.
 ghost use Rattle.std.specs.Prelude.{◌≡◌, ◌++◌, MatchOption, OnOk};
-ghost use Rattle.mimic_printer.specs.Sink.{HasFaultLeft, Puts};
+ghost use Rattle.mimic_printer.specs.Sink.{Adds, HasFaultLeft, Puts};
 ghost use Rattle.mimic_printer.specs.Escapes.{IsNextEscape, escaped};
 ghost use Rattle.mimic_printer.specs.EscapeLaws.{EscapeLaws};
 
@@ -36,8 +36,8 @@ pub(crate) fn first_escape(text: &[u8], place: Place) -> Option<Escape>
     None
 }
 
-/// Writes the text as it is spelled in the place: what is between its escapes at once.
-#[tactic(auto, using(crate::proofs::EscapeLaws::escape_laws))]
+/// Writes the text as it is spelled in the place, as `add_escaped` does, and ends the sink.
+#[tactic(auto, using(crate::proofs::EscapeLaws::escape_laws, crate::proofs::Adding::puts_added))]
 pub fn put_escaped<W: Write>(
     sink: &mut Sink<W>,
     text: &[u8],
@@ -49,13 +49,25 @@ pub fn put_escaped<W: Write>(
     // Each text can be unescaped, what is written has no markup, and in `Line` and `Terminal` no control character.
     ensures laws { EscapeLaws }
 {
+    add_escaped(sink, text, place);
+    sink.end()
+}
+
+/// Adds the text as it is spelled in the place: what is between its escapes at once.
+#[tactic(auto, using(crate::proofs::EscapeLaws::escape_laws))]
+pub fn add_escaped<W: Write>(sink: &mut Sink<W>, text: &[u8], place: Place)
+    ensures written { Adds W.contents sink.old sink.new (escaped place text.now) }
+
+    // Each text can be unescaped, what is written has no markup, and in `Line` and `Terminal` no control character.
+    ensures laws { EscapeLaws }
+{
     let mut rest = text;
     while let Some(found) = first_escape(rest, place) {
-        sink.put(&rest[..found.at])?;
-        sink.put(found.spelling.as_bytes())?;
+        sink.add(&rest[..found.at]);
+        sink.add(found.spelling.as_bytes());
         rest = &rest[found.end..];
     }
-    sink.put(rest)
+    sink.add(rest);
 }
 
 /// Appends the text as it is spelled in the place.

@@ -4,11 +4,11 @@ ghost use Rattle.std.specs.List.{flat_map, list_any};
 ghost use Rattle.mimic_trial.specs.Count.{is_failed};
 ghost use Rattle.mimic_printer.specs.Row.{PrintedRow, label_of, outcomes_of, row_of};
 ghost use Rattle.mimic_printer.specs.Failures.{row_part};
-ghost use Rattle.mimic_printer.specs.Report.{failed_name, failure_text, failures_if_any, failures_of};
-ghost use Rattle.mimic_printer.specs.Sink.{HasFaultLeft, Puts};
+ghost use Rattle.mimic_printer.specs.Report.{failed_name, failure_text, failures_if_any};
+ghost use Rattle.mimic_printer.specs.Sink.{Adds};
 
-use crate::piece::{Piece, put_pieces};
-use crate::sink::{Sink, WriteFault};
+use crate::piece::{Piece, add_pieces};
+use crate::sink::Sink;
 use mimic_trial::{Outcome, TestInfo};
 use std::io::Write;
 
@@ -92,19 +92,16 @@ enum Part {
     Name,
 }
 
-// Writes the failures of the rows, and nothing if none failed.
-pub(crate) fn put_if_any<W: Write, R: ShownRows>(
-    sink: &mut Sink<W>,
-    rows: &R,
-) -> Result<(), WriteFault>
-    requires room { HasFaultLeft sink.old }
-    requires can_show { R.can_show rows.now }
-    ensures { Puts W.contents sink.old sink.new (failures_if_any (R.rows_of rows.now)) result }
+// Adds the failures of the rows, and nothing if none failed.
+pub(crate) fn add_failures<W: Write, R: ShownRows>(sink: &mut Sink<W>, rows: &R)
+    requires { R.can_show rows.now }
+    ensures { Adds W.contents sink.old sink.new (failures_if_any (R.rows_of rows.now)) }
 {
     if any_failed(rows) {
-        put_failures(sink, rows)
-    } else {
-        Ok(())
+        sink.add(b"\nfailures:\n\n");
+        add_each(sink, rows, Part::Message);
+        sink.add(b"\nfailures:\n");
+        add_each(sink, rows, Part::Name);
     }
 }
 
@@ -121,68 +118,42 @@ fn any_failed<R: ShownRows>(rows: &R) -> bool
     false
 }
 
-// Writes the failures of the rows, of which one at least failed.
-fn put_failures<W: Write, R: ShownRows>(sink: &mut Sink<W>, rows: &R) -> Result<(), WriteFault>
-    requires room { HasFaultLeft sink.old }
-    requires can_show { R.can_show rows.now }
-    ensures { Puts W.contents sink.old sink.new (failures_of (R.rows_of rows.now)) result }
-{
-    sink.put(b"\nfailures:\n\n")?;
-    put_each(sink, rows, Part::Message)?;
-    sink.put(b"\nfailures:\n")?;
-    put_each(sink, rows, Part::Name)
-}
-
-// Writes this part of each row that failed.
-fn put_each<W: Write, R: ShownRows>(
-    sink: &mut Sink<W>,
-    rows: &R,
-    part: Part,
-) -> Result<(), WriteFault>
-    requires room { HasFaultLeft sink.old }
-    requires can_show { R.can_show rows.now }
-    ensures { Puts W.contents sink.old sink.new
-        (flat_map (row_part part) (R.rows_of rows.now)) result }
+// Adds this part of each row that failed.
+fn add_each<W: Write, R: ShownRows>(sink: &mut Sink<W>, rows: &R, part: Part)
+    requires { R.can_show rows.now }
+    ensures { Adds W.contents sink.old sink.new
+        (flat_map (row_part part) (R.rows_of rows.now)) }
 {
     for number in 0..rows.len() {
+        if sink.has_fault() {
+            break;
+        }
         let (info, outcome) = rows.row(number);
-        put_part(sink, part, info, outcome)?;
+        add_part(sink, part, info, outcome);
     }
-    Ok(())
 }
 
-fn put_part<'a, W: Write>(
-    sink: &mut Sink<W>,
-    part: Part,
-    info: &'a TestInfo,
-    outcome: &'a Outcome,
-) -> Result<(), WriteFault>
-    requires { HasFaultLeft sink.old }
-    ensures { Puts W.contents sink.old sink.new
-        (row_part part (row_of info.now outcome.now)) result }
+fn add_part<'a, W: Write>(sink: &mut Sink<W>, part: Part, info: &'a TestInfo, outcome: &'a Outcome)
+    ensures { Adds W.contents sink.old sink.new
+        (row_part part (row_of info.now outcome.now)) }
 {
     match part {
-        Part::Message => put_message(sink, info, outcome),
-        Part::Name => put_name(sink, info, outcome),
+        Part::Message => add_message(sink, info, outcome),
+        Part::Name => add_name(sink, info, outcome),
     }
 }
 
-fn put_message<'a, W: Write>(
-    sink: &mut Sink<W>,
-    info: &'a TestInfo,
-    outcome: &'a Outcome,
-) -> Result<(), WriteFault>
-    requires { HasFaultLeft sink.old }
-    ensures { Puts W.contents sink.old sink.new
-        (failure_text (label_of info.now) outcome.now) result }
+fn add_message<'a, W: Write>(sink: &mut Sink<W>, info: &'a TestInfo, outcome: &'a Outcome)
+    ensures { Adds W.contents sink.old sink.new
+        (failure_text (label_of info.now) outcome.now) }
 {
     let Outcome::Failed(failed) = outcome else {
-        return Ok(());
+        return;
     };
     let start = Piece::Text("---- ");
     let name = Piece::Text(info.name.as_str());
     match failed.message() {
-        None => put_pieces(sink, &[start, name, Piece::Text(" ----\n\n")]),
+        None => add_pieces(sink, &[start, name, Piece::Text(" ----\n\n")]),
         Some(message) => {
             let pieces = [
                 start,
@@ -191,25 +162,17 @@ fn put_message<'a, W: Write>(
                 Piece::Text(message),
                 Piece::Text("\n\n"),
             ];
-            put_pieces(sink, &pieces)
+            add_pieces(sink, &pieces)
         }
     }
 }
 
-fn put_name<W: Write>(
-    sink: &mut Sink<W>,
-    info: &TestInfo,
-    outcome: &Outcome,
-) -> Result<(), WriteFault>
-    requires { HasFaultLeft sink.old }
-    ensures { Puts W.contents sink.old sink.new
-        (failed_name (label_of info.now) outcome.now) result }
+fn add_name<W: Write>(sink: &mut Sink<W>, info: &TestInfo, outcome: &Outcome)
+    ensures { Adds W.contents sink.old sink.new
+        (failed_name (label_of info.now) outcome.now) }
 {
-    match outcome {
-        Outcome::Failed(_) => {
-            let name = Piece::Text(info.name.as_str());
-            put_pieces(sink, &[Piece::Text("    "), name, Piece::Text("\n")])
-        }
-        _ => Ok(()),
+    if matches!(outcome, Outcome::Failed(_)) {
+        let name = Piece::Text(info.name.as_str());
+        add_pieces(sink, &[Piece::Text("    "), name, Piece::Text("\n")]);
     }
 }

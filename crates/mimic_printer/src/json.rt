@@ -1,20 +1,22 @@
 //! Writes the lines of a report in JSON, of trials that need no `TestInfo`. With a fault a beginning of a line was written.
+//!
+//! A call `add_..` keeps the fault in the sink, and a call `put_..` is `add_..` and then `Sink::end`.
 ghost use Rattle.std.specs.Prelude.{◌≡◌, ◌∷◌, ◌++◌, [], None, Some, codes, drop, false, take};
 ghost use Rattle.std.specs.List.{concat};
 ghost use Rattle.mimic_printer.specs.Json.{json_announcement, json_end, json_outcome, json_summary, json_title, json_verdict, kind_field, outcome_front, time_field};
 ghost use Rattle.mimic_printer.specs.Lines.{announced_before, json_lines};
-ghost use Rattle.mimic_printer.specs.Sink.{HasFaultLeft, Puts};
+ghost use Rattle.mimic_printer.specs.Sink.{Adds, HasFaultLeft, Puts};
 ghost use Rattle.mimic_trial.specs.Escape.{escaped};
 ghost use Rattle.mimic_trial.specs.declared.outcome.Outcome.TheVariants.{Failed, Measured};
 
-use crate::piece::{Piece, name_piece, put_pieces};
+use crate::piece::{Piece, add_pieces, name_piece};
 use crate::sink::{Sink, WriteFault};
 use mimic_trial::{Conclusion, Measurement, Outcome};
 use std::io::Write;
 
-// Writes the line of an outcome, and before it the line that announces its trial if that was not written: then no piece ends a line
+// Adds the line of an outcome, and before it the line that announces its trial if that was not written: then no piece ends a line
 // but the last, so that both lines go out at once.
-macro_rules! put_trial {
+macro_rules! add_trial {
     ($sink:expr, $both:expr, $type:literal, $name:expr, $kind:expr, $($end:expr),+) => {{
         let name = name_piece($name);
         if $both {
@@ -27,29 +29,26 @@ macro_rules! put_trial {
                 Piece::Kind($kind),
                 $($end),+
             ];
-            put_pieces($sink, &pieces)
+            add_pieces($sink, &pieces)
         } else {
             let front = concat!("{ \"type\": \"", $type, "\", \"name\": \"");
-            put_pieces($sink, &[Piece::Text(front), name, Piece::Kind($kind), $($end),+])
+            add_pieces($sink, &[Piece::Text(front), name, Piece::Kind($kind), $($end),+])
         }
     }};
 }
 
 /// Writes the line that begins a report: how many trials it shows.
-#[tactic(auto, unfolding(crate::specs::Json::json_title))]
+#[tactic(auto, using(crate::proofs::Adding::puts_added))]
 pub fn put_title<W: Write>(sink: &mut Sink<W>, num_tests: u64) -> Result<(), WriteFault>
     requires { HasFaultLeft sink.old }
     ensures { Puts W.contents sink.old sink.new (json_title num_tests) result }
 {
-    let pieces = [
-        Piece::Text("{ \"type\": \"suite\", \"event\": \"started\", \"test_count\": "),
-        Piece::Number(num_tests),
-        Piece::Text(" }\n"),
-    ];
-    put_pieces(sink, &pieces)
+    add_title(sink, num_tests);
+    sink.end()
 }
 
 /// Writes the line that announces a trial, with its kind if that isn't empty.
+#[tactic(auto, using(crate::proofs::Adding::puts_added))]
 pub fn put_announcement<'a, W: Write>(
     sink: &mut Sink<W>,
     name: &'a str,
@@ -59,16 +58,12 @@ pub fn put_announcement<'a, W: Write>(
     ensures { Puts W.contents sink.old sink.new
         (json_announcement (record { kind = kind.now; name = name.now })) result }
 {
-    let pieces = [
-        Piece::Text("{ \"type\": \"test\", \"event\": \"started\", \"name\": \""),
-        Piece::Json(name),
-        Piece::Kind(kind),
-        Piece::Text("\" }\n"),
-    ];
-    put_pieces(sink, &pieces)
+    add_announcement(sink, name, kind);
+    sink.end()
 }
 
 /// Writes the line of a trial's outcome, with its kind if that isn't empty, and with the nanoseconds that it took if there are any.
+#[tactic(auto, using(crate::proofs::Adding::puts_added))]
 pub fn put_outcome<'a, W: Write>(
     sink: &mut Sink<W>,
     name: &'a str,
@@ -80,12 +75,13 @@ pub fn put_outcome<'a, W: Write>(
     ensures { Puts W.contents sink.old sink.new
         (json_outcome (record { kind = kind.now; name = name.now }) outcome.now nanos) result }
 {
-    put_lines(sink, false, name, kind, outcome, nanos)
+    add_outcome(sink, name, kind, outcome, nanos);
+    sink.end()
 }
 
 /// Writes both lines of a trial that has ended: the one that announces it, and the one of its outcome. No piece ends a line but
 /// the last.
-#[inline(never)]
+#[tactic(auto, using(crate::proofs::Adding::puts_added))]
 pub fn put_row<'a, W: Write>(
     sink: &mut Sink<W>,
     name: &'a str,
@@ -98,115 +94,183 @@ pub fn put_row<'a, W: Write>(
         (json_announcement (record { kind = kind.now; name = name.now })
         ++ json_outcome (record { kind = kind.now; name = name.now }) outcome.now nanos) result }
 {
-    put_lines(sink, true, name, kind, outcome, nanos)
+    add_row(sink, name, kind, outcome, nanos);
+    sink.end()
 }
 
-// Writes the line of an outcome, and before it the line that announces its trial if that was not written.
+/// Writes the line that ends a report: its verdict, its counts, and the time in nanoseconds as seconds.
+#[tactic(auto, using(crate::proofs::Adding::puts_added))]
+pub fn put_summary<W: Write>(
+    sink: &mut Sink<W>,
+    conclusion: &Conclusion,
+    nanos: u64,
+) -> Result<(), WriteFault>
+    requires { HasFaultLeft sink.old }
+    ensures { Puts W.contents sink.old sink.new (json_summary conclusion.now nanos) result }
+{
+    add_summary(sink, conclusion, nanos);
+    sink.end()
+}
+
+/// Adds the line that begins a report: how many trials it shows.
+#[tactic(auto, unfolding(crate::specs::Json::json_title))]
+pub fn add_title<W: Write>(sink: &mut Sink<W>, num_tests: u64)
+    ensures { Adds W.contents sink.old sink.new (json_title num_tests) }
+{
+    let pieces = [
+        Piece::Text("{ \"type\": \"suite\", \"event\": \"started\", \"test_count\": "),
+        Piece::Number(num_tests),
+        Piece::Text(" }\n"),
+    ];
+    add_pieces(sink, &pieces);
+}
+
+/// Adds the line that announces a trial, with its kind if that isn't empty.
+pub fn add_announcement<'a, W: Write>(sink: &mut Sink<W>, name: &'a str, kind: &'a str)
+    ensures { Adds W.contents sink.old sink.new
+        (json_announcement (record { kind = kind.now; name = name.now })) }
+{
+    let pieces = [
+        Piece::Text("{ \"type\": \"test\", \"event\": \"started\", \"name\": \""),
+        Piece::Json(name),
+        Piece::Kind(kind),
+        Piece::Text("\" }\n"),
+    ];
+    add_pieces(sink, &pieces);
+}
+
+/// Adds the line of a trial's outcome, with its kind if that isn't empty, and with the nanoseconds that it took if there are any.
+pub fn add_outcome<'a, W: Write>(
+    sink: &mut Sink<W>,
+    name: &'a str,
+    kind: &'a str,
+    outcome: &'a Outcome,
+    nanos: Option<u64>,
+)
+    ensures { Adds W.contents sink.old sink.new
+        (json_outcome (record { kind = kind.now; name = name.now }) outcome.now nanos) }
+{
+    add_lines(sink, false, name, kind, outcome, nanos);
+}
+
+/// Adds both lines of a trial that has ended: the one that announces it, and the one of its outcome. No piece ends a line but
+/// the last.
+#[inline(never)]
+pub fn add_row<'a, W: Write>(
+    sink: &mut Sink<W>,
+    name: &'a str,
+    kind: &'a str,
+    outcome: &'a Outcome,
+    nanos: Option<u64>,
+)
+    ensures { Adds W.contents sink.old sink.new
+        (json_announcement (record { kind = kind.now; name = name.now })
+        ++ json_outcome (record { kind = kind.now; name = name.now }) outcome.now nanos) }
+{
+    add_lines(sink, true, name, kind, outcome, nanos);
+}
+
+// Adds the line of an outcome, and before it the line that announces its trial if that was not written.
 #[inline(always)]
-fn put_lines<'a, W: Write>(
+fn add_lines<'a, W: Write>(
     sink: &mut Sink<W>,
     both: bool,
     name: &'a str,
     kind: &'a str,
     outcome: &'a Outcome,
     nanos: Option<u64>,
-) -> Result<(), WriteFault>
-    requires { HasFaultLeft sink.old }
-    ensures { Puts W.contents sink.old sink.new (json_lines both
-        (record { kind = kind.now; name = name.now }) outcome.now nanos) result }
+)
+    ensures { Adds W.contents sink.old sink.new (json_lines both
+        (record { kind = kind.now; name = name.now }) outcome.now nanos) }
 {
     match nanos {
-        None => put_untimed(sink, both, name, kind, outcome),
-        Some(nanos) => put_timed(sink, both, name, kind, outcome, nanos),
+        None => add_untimed(sink, both, name, kind, outcome),
+        Some(nanos) => add_timed(sink, both, name, kind, outcome, nanos),
     }
 }
 
 #[inline(always)]
-fn put_untimed<'a, W: Write>(
+fn add_untimed<'a, W: Write>(
     sink: &mut Sink<W>,
     both: bool,
     name: &'a str,
     kind: &'a str,
     outcome: &'a Outcome,
-) -> Result<(), WriteFault>
-    requires { HasFaultLeft sink.old }
-    ensures { Puts W.contents sink.old sink.new (json_lines both
-        (record { kind = kind.now; name = name.now }) outcome.now None) result }
+)
+    ensures { Adds W.contents sink.old sink.new (json_lines both
+        (record { kind = kind.now; name = name.now }) outcome.now None) }
 {
     match outcome {
-        Outcome::Passed => put_word(sink, both, name, kind, "\", \"event\": \"ok\" }\n"),
-        Outcome::Ignored => put_word(sink, both, name, kind, "\", \"event\": \"ignored\" }\n"),
+        Outcome::Passed => add_word(sink, both, name, kind, "\", \"event\": \"ok\" }\n"),
+        Outcome::Ignored => add_word(sink, both, name, kind, "\", \"event\": \"ignored\" }\n"),
         Outcome::Measured(measurement) => {
-            put_measurement(sink, both, name, kind, measurement, None)
+            add_measurement(sink, both, name, kind, measurement, None)
         }
         Outcome::Failed(failed) => match failed.message() {
-            None => put_word(sink, both, name, kind, "\", \"event\": \"failed\" }\n"),
-            Some(message) => put_failure(sink, both, name, kind, message, None),
+            None => add_word(sink, both, name, kind, "\", \"event\": \"failed\" }\n"),
+            Some(message) => add_failure(sink, both, name, kind, message, None),
         },
     }
 }
 
 #[inline(never)]
-fn put_timed<'a, W: Write>(
+fn add_timed<'a, W: Write>(
     sink: &mut Sink<W>,
     both: bool,
     name: &'a str,
     kind: &'a str,
     outcome: &'a Outcome,
     nanos: u64,
-) -> Result<(), WriteFault>
-    requires { HasFaultLeft sink.old }
-    ensures { Puts W.contents sink.old sink.new (json_lines both
-        (record { kind = kind.now; name = name.now }) outcome.now (Some nanos)) result }
+)
+    ensures { Adds W.contents sink.old sink.new (json_lines both
+        (record { kind = kind.now; name = name.now }) outcome.now (Some nanos)) }
 {
     match outcome {
-        Outcome::Passed => put_timed_word(sink, both, name, kind, "ok", nanos),
-        Outcome::Ignored => put_timed_word(sink, both, name, kind, "ignored", nanos),
+        Outcome::Passed => add_timed_word(sink, both, name, kind, "ok", nanos),
+        Outcome::Ignored => add_timed_word(sink, both, name, kind, "ignored", nanos),
         Outcome::Measured(measurement) => {
-            put_measurement(sink, both, name, kind, measurement, Some(nanos))
+            add_measurement(sink, both, name, kind, measurement, Some(nanos))
         }
         Outcome::Failed(failed) => match failed.message() {
-            None => put_timed_word(sink, both, name, kind, "failed", nanos),
-            Some(message) => put_failure(sink, both, name, kind, message, Some(nanos)),
+            None => add_timed_word(sink, both, name, kind, "failed", nanos),
+            Some(message) => add_failure(sink, both, name, kind, message, Some(nanos)),
         },
     }
 }
 
 // The same of an outcome that is one word. `end` begins with the quote after the name or the kind.
 #[inline(always)]
-fn put_word<'a, W: Write>(
+fn add_word<'a, W: Write>(
     sink: &mut Sink<W>,
     both: bool,
     name: &'a str,
     kind: &'a str,
     end: &'a str,
-) -> Result<(), WriteFault>
-    requires faults { HasFaultLeft sink.old }
-    requires quote { take 1 end.now ≡ codes "\"" }
-    ensures { Puts W.contents sink.old sink.new
+)
+    requires { take 1 end.now ≡ codes "\"" }
+    ensures { Adds W.contents sink.old sink.new
         (announced_before both (record { kind = kind.now; name = name.now })
         ++ concat (outcome_front false ∷ escaped name.now ∷ codes "\"" ∷ kind_field kind.now
-        ∷ drop 1 end.now ∷ [])) result }
+        ∷ drop 1 end.now ∷ [])) }
 {
-    put_trial!(sink, both, "test", name, kind, Piece::Text(end))
+    add_trial!(sink, both, "test", name, kind, Piece::Text(end))
 }
 
 // The same of a word and a time. `word` has no quotes.
-fn put_timed_word<'a, W: Write>(
+fn add_timed_word<'a, W: Write>(
     sink: &mut Sink<W>,
     both: bool,
     name: &'a str,
     kind: &'a str,
     word: &'a str,
     nanos: u64,
-) -> Result<(), WriteFault>
-    requires { HasFaultLeft sink.old }
-    ensures { Puts W.contents sink.old sink.new
+)
+    ensures { Adds W.contents sink.old sink.new
         (announced_before both (record { kind = kind.now; name = name.now })
         ++ concat (outcome_front false ∷ escaped name.now ∷ codes "\"" ∷ kind_field kind.now
-        ∷ codes ", \"event\": \"" ∷ word.now ∷ codes "\"" ∷ time_field (Some nanos) ∷ json_end ∷ [])) result }
+        ∷ codes ", \"event\": \"" ∷ word.now ∷ codes "\"" ∷ time_field (Some nanos) ∷ json_end ∷ [])) }
 {
-    put_trial!(
+    add_trial!(
         sink,
         both,
         "test",
@@ -217,23 +281,22 @@ fn put_timed_word<'a, W: Write>(
         Piece::Text("\""),
         Piece::Time(Some(nanos)),
         Piece::Text(" }\n")
-    )
+    );
 }
 
-fn put_failure<'a, W: Write>(
+fn add_failure<'a, W: Write>(
     sink: &mut Sink<W>,
     both: bool,
     name: &'a str,
     kind: &'a str,
     message: &'a str,
     nanos: Option<u64>,
-) -> Result<(), WriteFault>
-    requires { HasFaultLeft sink.old }
-    ensures { Puts W.contents sink.old sink.new
+)
+    ensures { Adds W.contents sink.old sink.new
         (json_lines both (record { kind = kind.now; name = name.now })
-        (Failed (Some message.now)) nanos) result }
+        (Failed (Some message.now)) nanos) }
 {
-    put_trial!(
+    add_trial!(
         sink,
         both,
         "test",
@@ -244,23 +307,22 @@ fn put_failure<'a, W: Write>(
         Piece::Text(", \"stdout\": \"Error: \\\""),
         Piece::Json(message),
         Piece::Text("\\\"\\n\" }\n")
-    )
+    );
 }
 
-fn put_measurement<'a, W: Write>(
+fn add_measurement<'a, W: Write>(
     sink: &mut Sink<W>,
     both: bool,
     name: &'a str,
     kind: &'a str,
     measurement: &Measurement,
     nanos: Option<u64>,
-) -> Result<(), WriteFault>
-    requires { HasFaultLeft sink.old }
-    ensures { Puts W.contents sink.old sink.new
+)
+    ensures { Adds W.contents sink.old sink.new
         (json_lines both (record { kind = kind.now; name = name.now })
-        (Measured measurement.now) nanos) result }
+        (Measured measurement.now) nanos) }
 {
-    put_trial!(
+    add_trial!(
         sink,
         both,
         "bench",
@@ -272,18 +334,13 @@ fn put_measurement<'a, W: Write>(
         Piece::Number(measurement.variance),
         Piece::Time(nanos),
         Piece::Text(" }\n")
-    )
+    );
 }
 
-/// Writes the line that ends a report: its verdict, its counts, and the time in nanoseconds as seconds.
+/// Adds the line that ends a report: its verdict, its counts, and the time in nanoseconds as seconds.
 #[tactic(auto, unfolding(crate::specs::Json::json_summary))]
-pub fn put_summary<W: Write>(
-    sink: &mut Sink<W>,
-    conclusion: &Conclusion,
-    nanos: u64,
-) -> Result<(), WriteFault>
-    requires { HasFaultLeft sink.old }
-    ensures { Puts W.contents sink.old sink.new (json_summary conclusion.now nanos) result }
+pub fn add_summary<W: Write>(sink: &mut Sink<W>, conclusion: &Conclusion, nanos: u64)
+    ensures { Adds W.contents sink.old sink.new (json_summary conclusion.now nanos) }
 {
     let pieces = [
         Piece::Text("{ \"type\": \"suite\", \"event\": \""),
@@ -302,7 +359,7 @@ pub fn put_summary<W: Write>(
         Piece::Seconds(nanos),
         Piece::Text(" }\n"),
     ];
-    put_pieces(sink, &pieces)
+    add_pieces(sink, &pieces);
 }
 
 /// Returns the word for a whole run in the line that ends its report: `failed` if a trial failed, else `ok`.

@@ -1,18 +1,17 @@
 //! Writes the lines of a list of trials.
 ghost use Rattle.std.specs.Prelude.{◌≡◌};
 ghost use Rattle.mimic_printer.specs.List.{list_line, sort_word};
-ghost use Rattle.mimic_printer.specs.Sink.{HasFaultLeft, Puts};
+ghost use Rattle.mimic_printer.specs.Sink.{Adds};
 
-use crate::piece::{Piece, put_pieces};
-use crate::sink::{Sink, WriteFault};
+use crate::piece::{Piece, add_pieces};
+use crate::sink::Sink;
 use mimic_trial::TestInfo;
 use std::io::Write;
 
-// Writes the line of a trial.
+// Adds the line of a trial.
 #[tactic(auto, unfolding(crate::specs::List::list_line))]
-pub(super) fn put_line<W: Write>(sink: &mut Sink<W>, info: &TestInfo) -> Result<(), WriteFault>
-    requires { HasFaultLeft sink.old }
-    ensures { Puts W.contents sink.old sink.new (list_line info.now) result }
+pub(super) fn add_line<W: Write>(sink: &mut Sink<W>, info: &TestInfo)
+    ensures { Adds W.contents sink.old sink.new (list_line info.now) }
 {
     let pieces = [
         Piece::PlainKind(info.kind.as_str()),
@@ -21,7 +20,7 @@ pub(super) fn put_line<W: Write>(sink: &mut Sink<W>, info: &TestInfo) -> Result<
         Piece::Text(sort_word(info.is_bench)),
         Piece::Text("\n"),
     ];
-    put_pieces(sink, &pieces)
+    add_pieces(sink, &pieces);
 }
 
 fn sort_word(is_bench: bool) -> &'static str

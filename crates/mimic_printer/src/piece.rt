@@ -1,7 +1,7 @@
 //! Writes texts piece by piece, with no memory.
 ghost use Rattle.std.specs.Prelude.{◌≡◌, ◌≤◌, ◌++◌, IfSome, decimal, length, slice_index, take};
 ghost use Rattle.std.specs.Option.{MatchOption};
-ghost use Rattle.mimic_printer.specs.Sink.{HasFaultLeft, Puts};
+ghost use Rattle.mimic_printer.specs.Sink.{Adds, HasFaultLeft, Puts};
 ghost use Rattle.mimic_trial.specs.Escape.{escaped as json_escaped};
 ghost use Rattle.mimic_trial.specs.Seconds.{exact_seconds};
 ghost use Rattle.mimic_trial.specs.Text.{spaces, right_aligned, grouped, kind_part};
@@ -9,7 +9,7 @@ ghost use Rattle.mimic_printer.specs.Escapes.{escaped};
 ghost use Rattle.mimic_printer.specs.Json.{time_field};
 ghost use Rattle.mimic_printer.specs.Piece.{bracketed, first_line, kind_text, piece_text, pieces_text};
 
-use crate::escape::{first_escape, put_escaped};
+use crate::escape::{add_escaped, first_escape};
 use crate::place::Place;
 use crate::sink::{Sink, WriteFault};
 use itoa::Buffer;
@@ -69,33 +69,38 @@ pub(crate) fn name_piece<'a>(name: &'a str) -> Piece<'a>
     }
 }
 
-// A text of at most this many bytes, as most rows are, is gathered first and put at once.
+// A text of at most this many bytes, as most rows are, is gathered first and added at once.
 const ROW: usize = 256;
 
-/// Writes the pieces one after another.
+/// Writes the pieces one after another, as `add_pieces` does, and ends the sink.
+#[tactic(auto, using(crate::proofs::Adding::puts_added))]
 pub fn put_pieces<W: Write>(sink: &mut Sink<W>, pieces: &[Piece<'_>]) -> Result<(), WriteFault>
     requires { HasFaultLeft sink.old }
     ensures { Puts W.contents sink.old sink.new (pieces_text pieces.now) result }
 {
-    let mut row = [0; ROW];
-    let Some(len) = gather(pieces, &mut row) else {
-        return put_each(sink, pieces);
-    };
-    // A fault is large: to return the whole result costs more than to ask whether it is one.
-    sink.put(&row[..len])?;
-    Ok(())
+    add_pieces(sink, pieces);
+    sink.end()
 }
 
-// Puts the pieces one after another, which few rows need.
+/// Adds the pieces one after another. A short text goes to the writer at once.
+pub fn add_pieces<W: Write>(sink: &mut Sink<W>, pieces: &[Piece<'_>])
+    ensures { Adds W.contents sink.old sink.new (pieces_text pieces.now) }
+{
+    let mut row = [0; ROW];
+    match gather(pieces, &mut row) {
+        Some(len) => sink.add(&row[..len]),
+        None => add_each(sink, pieces),
+    }
+}
+
+// Adds the pieces one after another, which few rows need.
 #[inline(never)]
-fn put_each<W: Write>(sink: &mut Sink<W>, pieces: &[Piece<'_>]) -> Result<(), WriteFault>
-    requires { HasFaultLeft sink.old }
-    ensures { Puts W.contents sink.old sink.new (pieces_text pieces.now) result }
+fn add_each<W: Write>(sink: &mut Sink<W>, pieces: &[Piece<'_>])
+    ensures { Adds W.contents sink.old sink.new (pieces_text pieces.now) }
 {
     for piece in pieces {
-        piece.put(sink)?;
+        piece.add(sink);
     }
-    Ok(())
 }
 
 // Gathers the pieces at the front of the row, and returns where they end. `None` if one of them doesn't fit or has no short text.
@@ -110,7 +115,7 @@ fn gather(pieces: &[Piece<'_>], row: &mut [u8; ROW]) -> Option<usize>
     Some(len)
 }
 
-// Writes the text after the first `len` bytes of the row, and returns where it ends. `None` if it doesn't fit.
+// Adds the text after the first `len` bytes of the row, and returns where it ends. `None` if it doesn't fit.
 fn append(row: &mut [u8; ROW], len: usize, text: &[u8]) -> Option<usize>
     requires { len ≤ 256 }
     ensures { IfSome result
@@ -211,7 +216,7 @@ const TIME_KEY: &str = ", \"exec_time\": ";
 
 impl Piece<'_> {
     ghost use Rattle.std.specs.Prelude.{◌≡◌, ◌≤◌, ◌++◌, IfSome, take};
-    ghost use Rattle.mimic_printer.specs.Sink.{HasFaultLeft, Puts};
+    ghost use Rattle.mimic_printer.specs.Sink.{Adds};
     ghost use Rattle.mimic_printer.specs.Piece.{piece_text};
 
     // Writes the piece after the first `len` bytes of the row, and returns where it ends. `None` if it doesn't fit,
@@ -246,28 +251,27 @@ impl Piece<'_> {
         }
     }
 
-    fn put<W: Write>(self, sink: &mut Sink<W>) -> Result<(), WriteFault>
-        requires { HasFaultLeft sink.old }
-        ensures { Puts W.contents sink.old sink.new (piece_text self.entry) result }
+    fn add<W: Write>(self, sink: &mut Sink<W>)
+        ensures { Adds W.contents sink.old sink.new (piece_text self.entry) }
     {
         match self {
-            Piece::Text(text) => sink.put(text.as_bytes()),
-            Piece::Number(number) => sink.put(Buffer::new().format(number).as_bytes()),
-            Piece::Long(number) => sink.put(Buffer::new().format(*number).as_bytes()),
-            Piece::TwoDigits(number) => sink.put(&[b'0' + number / 10, b'0' + number % 10]),
-            Piece::Spaces(count) => put_spaces(sink, count),
-            Piece::Grouped(number) => sink.put(thousands(number, &mut [0; 26]).as_bytes()),
-            Piece::Aligned { number, width } => put_aligned(sink, number, width),
-            Piece::Seconds(nanos) => put_seconds(sink, nanos),
-            Piece::Time(nanos) => put_time(sink, nanos),
-            Piece::Json(text) => put_json(sink, text.as_bytes()),
-            Piece::Kind(kind) => put_kind(sink, kind),
-            Piece::Escaped(place, text) => put_escaped(sink, text.as_bytes(), place),
+            Piece::Text(text) => sink.add(text.as_bytes()),
+            Piece::Number(number) => sink.add(Buffer::new().format(number).as_bytes()),
+            Piece::Long(number) => sink.add(Buffer::new().format(*number).as_bytes()),
+            Piece::TwoDigits(number) => sink.add(&[b'0' + number / 10, b'0' + number % 10]),
+            Piece::Spaces(count) => add_spaces(sink, count),
+            Piece::Grouped(number) => sink.add(thousands(number, &mut [0; 26]).as_bytes()),
+            Piece::Aligned { number, width } => add_aligned(sink, number, width),
+            Piece::Seconds(nanos) => add_seconds(sink, nanos),
+            Piece::Time(nanos) => add_time(sink, nanos),
+            Piece::Json(text) => add_json(sink, text.as_bytes()),
+            Piece::Kind(kind) => add_kind(sink, kind),
+            Piece::Escaped(place, text) => add_escaped(sink, text.as_bytes(), place),
             Piece::FirstLine(place, text) => {
-                put_escaped(sink, first_line(text.as_bytes()), place)
+                add_escaped(sink, first_line(text.as_bytes()), place)
             }
-            Piece::Bracketed(place, kind) => put_bracketed(sink, kind, place),
-            Piece::PlainKind(kind) => put_plain_kind(sink, kind),
+            Piece::Bracketed(place, kind) => add_bracketed(sink, kind, place),
+            Piece::PlainKind(kind) => add_plain_kind(sink, kind),
         }
     }
 }
@@ -275,95 +279,82 @@ impl Piece<'_> {
 // The spaces that are written at once.
 const SPACES: [u8; 32] = [b' '; 32];
 
-fn put_spaces<W: Write>(sink: &mut Sink<W>, count: usize) -> Result<(), WriteFault>
-    requires { HasFaultLeft sink.old }
-    ensures { Puts W.contents sink.old sink.new (spaces count) result }
+fn add_spaces<W: Write>(sink: &mut Sink<W>, count: usize)
+    ensures { Adds W.contents sink.old sink.new (spaces count) }
 {
     let mut left = count;
     while left > 0 {
         let now = left.min(SPACES.len());
-        sink.put(&SPACES[..now])?;
+        sink.add(&SPACES[..now]);
         left -= now;
     }
-    Ok(())
 }
 
-fn put_aligned<W: Write>(sink: &mut Sink<W>, number: u64, width: usize) -> Result<(), WriteFault>
-    requires { HasFaultLeft sink.old }
-    ensures { Puts W.contents sink.old sink.new
-        (right_aligned width (grouped (decimal number))) result }
+#[tactic(auto, using(crate::proofs::Adding::adds_then, crate::proofs::Adding::adds_last))]
+fn add_aligned<W: Write>(sink: &mut Sink<W>, number: u64, width: usize)
+    ensures { Adds W.contents sink.old sink.new
+        (right_aligned width (grouped (decimal number))) }
 {
     let mut buf = [0; 26];
     let text = thousands(number, &mut buf);
-    put_spaces(sink, width.saturating_sub(text.len()))?;
-    sink.put(text.as_bytes())
+    add_spaces(sink, width.saturating_sub(text.len()));
+    sink.add(text.as_bytes());
 }
 
-// Writes the text with its escapes in JSON, and what is between them at once.
-fn put_json<W: Write>(sink: &mut Sink<W>, text: &[u8]) -> Result<(), WriteFault>
-    requires { HasFaultLeft sink.old }
-    ensures { Puts W.contents sink.old sink.new (json_escaped text.now) result }
+// Adds the text with its escapes in JSON, and what is between them at once.
+fn add_json<W: Write>(sink: &mut Sink<W>, text: &[u8])
+    ensures { Adds W.contents sink.old sink.new (json_escaped text.now) }
 {
     let mut rest = text;
     while let Some(at) = next_escape(rest) {
-        sink.put(&rest[..at])?;
-        sink.put(escape_byte(rest[at]).as_str().as_bytes())?;
+        sink.add(&rest[..at]);
+        sink.add(escape_byte(rest[at]).as_str().as_bytes());
         rest = &rest[at + 1..];
     }
-    sink.put(rest)
+    sink.add(rest);
 }
 
-fn put_kind<W: Write>(sink: &mut Sink<W>, kind: &str) -> Result<(), WriteFault>
-    requires { HasFaultLeft sink.old }
-    ensures { Puts W.contents sink.old sink.new (kind_text kind.now) result }
+fn add_kind<W: Write>(sink: &mut Sink<W>, kind: &str)
+    ensures { Adds W.contents sink.old sink.new (kind_text kind.now) }
 {
-    if kind.is_empty() {
-        return Ok(());
-    }
-    sink.put(KIND_KEY.as_bytes())?;
-    put_json(sink, kind.as_bytes())
-}
-
-fn put_time<W: Write>(sink: &mut Sink<W>, nanos: Option<u64>) -> Result<(), WriteFault>
-    requires { HasFaultLeft sink.old }
-    ensures { Puts W.contents sink.old sink.new (time_field nanos) result }
-{
-    match nanos {
-        None => Ok(()),
-        Some(nanos) => {
-            sink.put(TIME_KEY.as_bytes())?;
-            put_seconds(sink, nanos)
-        }
+    if !kind.is_empty() {
+        sink.add(KIND_KEY.as_bytes());
+        add_json(sink, kind.as_bytes());
     }
 }
 
-fn put_seconds<W: Write>(sink: &mut Sink<W>, nanos: u64) -> Result<(), WriteFault>
-    requires { HasFaultLeft sink.old }
-    ensures { Puts W.contents sink.old sink.new (exact_seconds nanos) result }
+fn add_time<W: Write>(sink: &mut Sink<W>, nanos: Option<u64>)
+    ensures { Adds W.contents sink.old sink.new (time_field nanos) }
 {
-    sink.put(exact_seconds(nanos, &mut [0; 32]).as_bytes())
-}
-
-fn put_bracketed<W: Write>(sink: &mut Sink<W>, kind: &str, place: Place) -> Result<(), WriteFault>
-    requires { HasFaultLeft sink.old }
-    ensures { Puts W.contents sink.old sink.new (bracketed place kind.now) result }
-{
-    if kind.is_empty() {
-        return Ok(());
+    if let Some(nanos) = nanos {
+        sink.add(TIME_KEY.as_bytes());
+        add_seconds(sink, nanos);
     }
-    sink.put(b"[")?;
-    put_escaped(sink, kind.as_bytes(), place)?;
-    sink.put(b"] ")
 }
 
-fn put_plain_kind<W: Write>(sink: &mut Sink<W>, kind: &str) -> Result<(), WriteFault>
-    requires { HasFaultLeft sink.old }
-    ensures { Puts W.contents sink.old sink.new (kind_part kind.now) result }
+fn add_seconds<W: Write>(sink: &mut Sink<W>, nanos: u64)
+    ensures { Adds W.contents sink.old sink.new (exact_seconds nanos) }
+{
+    sink.add(exact_seconds(nanos, &mut [0; 32]).as_bytes());
+}
+
+fn add_bracketed<W: Write>(sink: &mut Sink<W>, kind: &str, place: Place)
+    ensures { Adds W.contents sink.old sink.new (bracketed place kind.now) }
+{
+    if !kind.is_empty() {
+        sink.add(b"[");
+        add_escaped(sink, kind.as_bytes(), place);
+        sink.add(b"] ");
+    }
+}
+
+fn add_plain_kind<W: Write>(sink: &mut Sink<W>, kind: &str)
+    ensures { Adds W.contents sink.old sink.new (kind_part kind.now) }
 {
     let (open, close) = brackets(kind);
-    sink.put(open.as_bytes())?;
-    sink.put(kind.as_bytes())?;
-    sink.put(close.as_bytes())
+    sink.add(open.as_bytes());
+    sink.add(kind.as_bytes());
+    sink.add(close.as_bytes());
 }
 
 // Returns the text up to its first line end.

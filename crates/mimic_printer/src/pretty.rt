@@ -1,29 +1,28 @@
 //! Writes the parts of a report in pretty. Its title, its measurements and its summary are those of terse too.
 ghost use Rattle.std.specs.Prelude.{◌≡◌, ◌++◌, Some, codes};
 ghost use Rattle.mimic_printer.specs.Report.{noun_text, outcome_line, outcome_word, pretty_announcement, result_summary, running_title, time_mark, untimed_line, verdict_of};
-ghost use Rattle.mimic_printer.specs.Sink.{HasFaultLeft, Puts};
+ghost use Rattle.mimic_printer.specs.Sink.{Adds};
 ghost use Rattle.mimic_printer.specs.Row.{label_of};
 
 use crate::Printer;
 use crate::colour::{colour_end, colour_start};
 use crate::columns::{kind_len, name_len};
-use crate::piece::{Piece, put_pieces};
-use crate::sink::{Sink, WriteFault};
+use crate::piece::{Piece, add_pieces};
+use crate::sink::Sink;
 use mimic_trial::{Conclusion, Failed, Outcome, TestInfo, hundredths};
 use std::io::Write;
 
-// Writes how many trials are run.
+// Adds how many trials are run.
 #[tactic(auto, unfolding(crate::specs::Report::running_title))]
-pub(super) fn put_title<W: Write>(sink: &mut Sink<W>, num_tests: u64) -> Result<(), WriteFault>
-    requires { HasFaultLeft sink.old }
-    ensures { Puts W.contents sink.old sink.new (running_title num_tests) result }
+pub(super) fn add_title<W: Write>(sink: &mut Sink<W>, num_tests: u64)
+    ensures { Adds W.contents sink.old sink.new (running_title num_tests) }
 {
     let pieces = [
         Piece::Text("\nrunning "),
         Piece::Number(num_tests),
         Piece::Text(noun(num_tests)),
     ];
-    put_pieces(sink, &pieces)
+    add_pieces(sink, &pieces);
 }
 
 fn noun(count: u64) -> &'static str
@@ -32,17 +31,12 @@ fn noun(count: u64) -> &'static str
     if count == 1 { " test\n" } else { " tests\n" }
 }
 
-// Writes a trial's kind and name, each padded to its column.
+// Adds a trial's kind and name, each padded to its column.
 #[tactic(auto, using(crate::proofs::Characters::text_small), unfolding(crate::specs::Report::pretty_announcement))]
 #[inline(always)]
-pub(super) fn put_announcement<W: Write>(
-    sink: &mut Sink<W>,
-    printer: &Printer,
-    info: &TestInfo,
-) -> Result<(), WriteFault>
-    requires { HasFaultLeft sink.old }
-    ensures { Puts W.contents sink.old sink.new
-        (pretty_announcement printer.now (label_of info.now)) result }
+pub(super) fn add_announcement<W: Write>(sink: &mut Sink<W>, printer: &Printer, info: &TestInfo)
+    ensures { Adds W.contents sink.old sink.new
+        (pretty_announcement printer.now (label_of info.now)) }
 {
     let pieces = [
         Piece::Text("test "),
@@ -52,54 +46,40 @@ pub(super) fn put_announcement<W: Write>(
         Piece::Spaces(printer.name_width.saturating_sub(name_len(info))),
         Piece::Text(" ... "),
     ];
-    put_pieces(sink, &pieces)?;
-    Ok(())
+    add_pieces(sink, &pieces);
 }
 
-// Writes an outcome's word, what was measured, the time that the trial took if there is one, and a line end.
+// Adds an outcome's word, what was measured, the time that the trial took if there is one, and a line end.
 #[tactic(auto, unfolding(crate::specs::Report::outcome_line))]
 #[inline(always)]
-pub(super) fn put_outcome<W: Write>(
+pub(super) fn add_outcome<W: Write>(
     sink: &mut Sink<W>,
     printer: &Printer,
     outcome: &Outcome,
     nanos: Option<u64>,
-) -> Result<(), WriteFault>
-    requires { HasFaultLeft sink.old }
-    ensures { Puts W.contents sink.old sink.new (outcome_line printer.now outcome.now nanos) result }
+)
+    ensures { Adds W.contents sink.old sink.new (outcome_line printer.now outcome.now nanos) }
 {
     match outcome {
         // Most rows end so, and need not be gathered.
-        Outcome::Passed if !printer.colour && nanos.is_none() => sink.put(b"ok\n")?,
-        _ => put_parts(sink, printer, outcome, nanos)?,
+        Outcome::Passed if !printer.colour && nanos.is_none() => sink.add(b"ok\n"),
+        _ => add_parts(sink, printer, outcome, nanos),
     }
-    Ok(())
 }
 
 // The same of any outcome, part by part.
 #[inline(never)]
-fn put_parts<W: Write>(
-    sink: &mut Sink<W>,
-    printer: &Printer,
-    outcome: &Outcome,
-    nanos: Option<u64>,
-) -> Result<(), WriteFault>
-    requires { HasFaultLeft sink.old }
-    ensures { Puts W.contents sink.old sink.new (outcome_line printer.now outcome.now nanos) result }
+fn add_parts<W: Write>(sink: &mut Sink<W>, printer: &Printer, outcome: &Outcome, nanos: Option<u64>)
+    ensures { Adds W.contents sink.old sink.new (outcome_line printer.now outcome.now nanos) }
 {
-    put_word(sink, printer, outcome)?;
-    put_end(sink, nanos)
+    add_word(sink, printer, outcome);
+    add_end(sink, nanos);
 }
 
-// Writes an outcome's word, and what was measured.
+// Adds an outcome's word, and what was measured.
 #[tactic(auto, unfolding(crate::specs::Report::untimed_line))]
-fn put_word<W: Write>(
-    sink: &mut Sink<W>,
-    printer: &Printer,
-    outcome: &Outcome,
-) -> Result<(), WriteFault>
-    requires { HasFaultLeft sink.old }
-    ensures { Puts W.contents sink.old sink.new (untimed_line printer.now outcome.now) result }
+fn add_word<W: Write>(sink: &mut Sink<W>, printer: &Printer, outcome: &Outcome)
+    ensures { Adds W.contents sink.old sink.new (untimed_line printer.now outcome.now) }
 {
     let start = Piece::Text(colour_start(printer, outcome));
     let word = Piece::Text(word(outcome));
@@ -119,27 +99,25 @@ fn put_word<W: Write>(
                 Piece::Grouped(measurement.variance),
                 Piece::Text(")"),
             ];
-            put_pieces(sink, &pieces)
+            add_pieces(sink, &pieces)
         }
-        _ => put_pieces(sink, &[start, word, end]),
+        _ => add_pieces(sink, &[start, word, end]),
     }
 }
 
-// Writes the time that a trial took, if there is one, and a line end.
-fn put_end<W: Write>(sink: &mut Sink<W>, nanos: Option<u64>) -> Result<(), WriteFault>
-    requires { HasFaultLeft sink.old }
-    ensures { Puts W.contents sink.old sink.new (time_mark nanos ++ codes "\n") result }
+// Adds the time that a trial took, if there is one, and a line end.
+fn add_end<W: Write>(sink: &mut Sink<W>, nanos: Option<u64>)
+    ensures { Adds W.contents sink.old sink.new (time_mark nanos ++ codes "\n") }
 {
     match nanos {
-        None => sink.put(b"\n"),
-        Some(nanos) => put_time(sink, nanos),
+        None => sink.add(b"\n"),
+        Some(nanos) => add_time(sink, nanos),
     }
 }
 
-// Writes the time that a trial took, in seconds to the nearest thousandth, and a line end.
-fn put_time<W: Write>(sink: &mut Sink<W>, nanos: u64) -> Result<(), WriteFault>
-    requires { HasFaultLeft sink.old }
-    ensures { Puts W.contents sink.old sink.new (time_mark (Some nanos) ++ codes "\n") result }
+// Adds the time that a trial took, in seconds to the nearest thousandth, and a line end.
+fn add_time<W: Write>(sink: &mut Sink<W>, nanos: u64)
+    ensures { Adds W.contents sink.old sink.new (time_mark (Some nanos) ++ codes "\n") }
 {
     let all = (u128::from(nanos) + 500_000) / 1_000_000;
     let pieces = [
@@ -150,7 +128,7 @@ fn put_time<W: Write>(sink: &mut Sink<W>, nanos: u64) -> Result<(), WriteFault>
         Piece::TwoDigits((all % 100) as u8),
         Piece::Text("s>\n"),
     ];
-    put_pieces(sink, &pieces)
+    add_pieces(sink, &pieces);
 }
 
 fn word(outcome: &Outcome) -> &'static str
@@ -164,17 +142,16 @@ fn word(outcome: &Outcome) -> &'static str
     }
 }
 
-// Writes whether the run passed, its counts, and its time in seconds.
+// Adds whether the run passed, its counts, and its time in seconds.
 #[tactic(auto, unfolding(crate::specs::Report::result_summary))]
-pub(super) fn put_summary<W: Write>(
+pub(super) fn add_summary<W: Write>(
     sink: &mut Sink<W>,
     printer: &Printer,
     conclusion: &Conclusion,
     nanos: u64,
-) -> Result<(), WriteFault>
-    requires { HasFaultLeft sink.old }
-    ensures { Puts W.contents sink.old sink.new
-        (result_summary printer.now conclusion.now nanos) result }
+)
+    ensures { Adds W.contents sink.old sink.new
+        (result_summary printer.now conclusion.now nanos) }
 {
     let verdict = verdict(conclusion.num_failed);
     let (seconds, rest) = hundredths(nanos);
@@ -199,7 +176,7 @@ pub(super) fn put_summary<W: Write>(
         Piece::TwoDigits(rest),
         Piece::Text("s\n\n"),
     ];
-    put_pieces(sink, &pieces)
+    add_pieces(sink, &pieces);
 }
 
 // Returns the outcome that the whole run is shown with.

@@ -2,46 +2,35 @@
 ghost use Rattle.std.specs.Prelude.{◌≡◌, IfNone, IfSome, None};
 ghost use Rattle.mimic_printer.specs.declared.Printer.{Printer};
 ghost use Rattle.mimic_printer.specs.Report.{outcome_line, outcome_mark, terse_outcome};
-ghost use Rattle.mimic_printer.specs.Sink.{HasFaultLeft, Puts};
+ghost use Rattle.mimic_printer.specs.Sink.{Adds};
 
 use crate::colour::{colour_end, colour_start};
-use crate::piece::{Piece, put_pieces};
-use crate::sink::{Sink, WriteFault};
+use crate::piece::{Piece, add_pieces};
+use crate::sink::Sink;
 use crate::{Printer, pretty};
 use mimic_trial::Outcome;
 use std::io::Write;
 
-// Writes the mark of an outcome, or the whole line of a measurement, as pretty has it.
+// Adds the mark of an outcome, or the whole line of a measurement, as pretty has it.
 #[tactic(auto, unfolding(crate::specs::Report::outcome_mark))]
 #[inline(always)]
-pub(super) fn put_outcome<W: Write>(
-    sink: &mut Sink<W>,
-    printer: &Printer,
-    outcome: &Outcome,
-) -> Result<(), WriteFault>
-    requires { HasFaultLeft sink.old }
-    ensures { Puts W.contents sink.old sink.new (terse_outcome printer.now outcome.now) result }
+pub(super) fn add_outcome<W: Write>(sink: &mut Sink<W>, printer: &Printer, outcome: &Outcome)
+    ensures { Adds W.contents sink.old sink.new (terse_outcome printer.now outcome.now) }
 {
     match mark(outcome) {
-        Some(mark) if !printer.colour => sink.put(mark.as_bytes())?,
-        _ => put_coloured_or_measured(sink, printer, outcome)?,
+        Some(mark) if !printer.colour => sink.add(mark.as_bytes()),
+        _ => add_coloured_or_measured(sink, printer, outcome),
     }
-    Ok(())
 }
 
-// Writes a mark with its colour, or the line of a measurement. It isn't inlined: a plain mark would pay for the room of its pieces.
+// Adds a mark with its colour, or the line of a measurement. It isn't inlined: a plain mark would pay for the room of its pieces.
 #[inline(never)]
-fn put_coloured_or_measured<W: Write>(
-    sink: &mut Sink<W>,
-    printer: &Printer,
-    outcome: &Outcome,
-) -> Result<(), WriteFault>
-    requires { HasFaultLeft sink.old }
-    ensures { Puts W.contents sink.old sink.new (terse_outcome printer.now outcome.now) result }
+fn add_coloured_or_measured<W: Write>(sink: &mut Sink<W>, printer: &Printer, outcome: &Outcome)
+    ensures { Adds W.contents sink.old sink.new (terse_outcome printer.now outcome.now) }
 {
     match mark(outcome) {
-        Some(mark) => put_mark(sink, printer, outcome, mark),
-        None => pretty::put_outcome(sink, printer, outcome, None),
+        Some(mark) => add_mark(sink, printer, outcome, mark),
+        None => pretty::add_outcome(sink, printer, outcome, None),
     }
 }
 
@@ -62,15 +51,9 @@ fn mark(outcome: &Outcome) -> Option<&'static str>
 
 #[tactic(auto, unfolding(crate::specs::Report::outcome_mark))]
 #[inline(always)]
-fn put_mark<W: Write>(
-    sink: &mut Sink<W>,
-    printer: &Printer,
-    outcome: &Outcome,
-    mark: &str,
-) -> Result<(), WriteFault>
-    requires { HasFaultLeft sink.old }
-    ensures { Puts W.contents sink.old sink.new
-        (outcome_mark printer.now outcome.now mark.now) result }
+fn add_mark<W: Write>(sink: &mut Sink<W>, printer: &Printer, outcome: &Outcome, mark: &str)
+    ensures { Adds W.contents sink.old sink.new
+        (outcome_mark printer.now outcome.now mark.now) }
 {
     if printer.colour {
         let pieces = [
@@ -78,9 +61,8 @@ fn put_mark<W: Write>(
             Piece::Text(mark),
             Piece::Text(colour_end(printer)),
         ];
-        put_pieces(sink, &pieces)?;
+        add_pieces(sink, &pieces);
     } else {
-        sink.put(mark.as_bytes())?;
+        sink.add(mark.as_bytes());
     }
-    Ok(())
 }
