@@ -1,5 +1,5 @@
 -- What is declared of an argument that excludes one more, and of a command with one more argument.
-use Rattle.std.proofs.Common.{◌≡◌, ◌∙◌, ◌++◌, ◌∷◌, ◌&&◌, [], ap, ap₂, arith, Bool, false, flat_map, length, length-append, List, not, refl, sym, true, ℕ}
+use Rattle.std.proofs.Common.{◌≡◌, ◌∙◌, ◌++◌, ◌∷◌, ◌&&◌, [], ap, ap₂, append_assoc, arith, Bool, false, flat_map, fold, length, length-append, List, map, not, refl, sym, true, ℕ}
 use Rattle.std.proofs.lemmas.Bool.{ne_eqb}
 use Rattle.std.proofs.lemmas.List.{map-append, append-nil}
 use Rattle.std.proofs.lemmas.List.Concat.{flat_map-append}
@@ -9,7 +9,7 @@ use Rattle.clap.specs.Words.{AddsArg, AddsInTurn, app_of, args_of, new_app}
 use Rattle.clap.specs.Walk.{Rule, Text, is_empty, rule_of, texts}
 use Rattle.clap.specs.declared.builder.arg.Arg.{Arg}
 use Rattle.clap.specs.declared.builder.command.Command.{Command}
-use Rattle.mimic_args.specs.CommandLine.{Options, declared_of, excluding, options_of, pairs, plus}
+use Rattle.mimic_args.specs.CommandLine.{AddsLocal, Declared, declared_of, excluding, local, options_of, pairs, placed_of, plus}
 
 and-false : (b : Bool) → b && false ≡ false
 and-false true = refl
@@ -36,23 +36,35 @@ options-plus old a new h local =
     let all = ap (flat_map pairs_in) h.args ∙ flat_map-append pairs_in (args_of old) (h.arg ∷ []) ∙ ap (λ z. flat_map pairs_in (args_of old) ++ z) same in
     ap₂ (λ x y. (x, y)) (h.shape local) all
 
--- each argument is for this command alone, and not for its subcommands
-abbrev pub AreLocal : List Arg → Type 0
-AreLocal [] = Unit {0}
-AreLocal (a ∷ rest) = (a.global ≡ false) × AreLocal rest
+-- one more argument for the command alone
+pub adds-one : {old new : List Arg} {declared : Declared} (a : Arg) → new ≡ old ++ a ∷ [] → declared_of a ≡ declared → a.global ≡ false
+    → AddsLocal old (declared ∷ []) new
+adds-one {old} a e is here = record {
+  same = ap (map placed_of) e ∙ (map-append placed_of old (a ∷ []) ∙ ap₂ (λ d g. map placed_of old ++ (d, g) ∷ []) is here);
+}
 
--- a list with one more element has what the old one held, and that element
-pub pushed : {A : Type 0} (old new held : List A) (x : A) → new ≡ old ++ x ∷ [] → old ≡ held → new ≡ held ++ x ∷ []
-pushed old new held x e h = e ∙ ap (λ l. l ++ x ∷ []) h
+pub adds-more : {old middle new : List Arg} {first more : List Declared} → AddsLocal old first middle → AddsLocal middle more new
+    → AddsLocal old (first ++ more) new
+adds-more {old} {first = first} {more = more} h k = record {
+  same = k.same ∙ (ap (λ l. l ++ map local more) h.same ∙ (append_assoc (map placed_of old) (map local first) (map local more)
+      ∙ ap (λ l. map placed_of old ++ l) (sym (map-append local first more))));
+}
 
--- the options with each argument added in turn
-abbrev pub plus_all : Options → List Arg → Options
-plus_all options [] = options
-plus_all options (a ∷ rest) = plus_all (plus options (declared_of a)) rest
+in_turn : (args : List Arg) (declared : List Declared) (old new : Command) → AddsInTurn AddsArg old args new → map placed_of args ≡ map local declared
+    → options_of new ≡ fold plus (options_of old) declared
+in_turn [] [] old new h same = ap options_of (sym h)
+in_turn [] (d ∷ ds) old new h same = cc
+in_turn (a ∷ rest) [] old new h same = cc
+in_turn (a ∷ rest) (d ∷ ds) old new h same =
+    let here : placed_of a ≡ local d = cc in
+    let more : map placed_of rest ≡ map local ds = cc in
+    in_turn rest ds h.0 new h.2 more
+    ∙ ap (λ o. fold plus o ds) (options-plus old a h.0 h.1 (ap (λ p. p.1) here) ∙ ap (λ (p : Declared × Bool). plus (options_of old) p.0) here)
 
-pub options-in_turn : (args : List Arg) (old new : Command) → AddsInTurn AddsArg old args new → AreLocal args → options_of new ≡ plus_all (options_of old) args
-options-in_turn [] old new h local = ap options_of (sym h)
-options-in_turn (a ∷ rest) old new h local = options-in_turn rest h.0 new h.2 local.1 ∙ ap (λ o. plus_all o rest) (options-plus old a h.0 h.1 local.0)
+-- a command with arguments that are added in turn has their declarations
+pub options-in_turn : {declared : List Declared} (args : List Arg) (old new : Command) → AddsInTurn AddsArg old args new → AddsLocal [] declared args
+    → options_of new ≡ fold plus (options_of old) declared
+options-in_turn {declared} args old new h added = in_turn args declared old new h added.same
 
 pub options-none : (c : Command) (name : Text) → app_of c ≡ new_app name → args_of c ≡ [] → options_of c ≡ (new_app name, [])
 unfolding pairs_in

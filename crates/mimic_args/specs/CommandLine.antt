@@ -1,5 +1,5 @@
 -- The command line of a harness, as `clap` reads it: the options and how they are written, and what a line means.
-use Rattle.std.specs.Prelude.{◌≡◌, ◌⊎◌, ◌++◌, ◌∷◌, [], false, true, flat_map, List, map, Some, codes}
+use Rattle.std.specs.Prelude.{◌≡◌, ◌⊎◌, ◌++◌, ◌∷◌, [], Bool, false, true, flat_map, fold, List, map, Some, codes}
 use Rattle.std.specs.Borrow.{Bor}
 use Rattle.clap.specs.Words.{args_of, Kinds, fault_of}
 use Rattle.clap.specs.Walk.{Rule, Text, rule_of, texts}
@@ -24,6 +24,18 @@ Declared = Rule × List Text
 -- what an argument declares (`clap`'s)
 abbrev pub declared_of : Arg → Declared
 declared_of a = (rule_of a, texts a.conflicts.items)
+
+-- what an argument declares, and whether subcommands have it too (`clap`'s)
+abbrev pub placed_of : Arg → Declared × Bool
+placed_of a = (declared_of a, a.global)
+
+-- a declaration for the command alone (our own)
+abbrev pub local : Declared → Declared × Bool
+local d = (d, false)
+
+-- `new` has the arguments of `old`, and behind them some that have these declarations, each for the command alone (our own)
+pub record AddsLocal (old : List Arg) (declared : List Declared) (new : List Arg) : Type 0 where
+  pub same : map placed_of new ≡ map placed_of old ++ map local declared
 
 -- what is declared of a command: how a parse reads it, and the pairs of its arguments that exclude one another, by their ids
 -- (our own)
@@ -57,6 +69,10 @@ plus c a = (with_rule c.0 a.0, c.1 ++ pairs a.0.id a.1)
 -- a flag `--name`
 abbrev pub flag_rule : Text → Rule
 flag_rule name = record (new_rule name) { long = Some name; action = Some SetTrue }
+
+-- a flag by its name, which is given with what help says of it (our own)
+abbrev pub named_flag : Bor Text × Bor Text → Declared
+named_flag named = alone (flag_rule named.0.now)
 
 -- an option `--name VALUE`
 abbrev pub option_rule : Text → Rule
@@ -95,30 +111,34 @@ abbrev pub format_rule : Rule
 format_rule = option_rule (codes "format")
 
 -- all flags, with these declarations of `--test` and `--quiet` (the Rust crate's, and `--report-time`, which rustc's harness has)
-abbrev pub flag_options : Declared → Declared → Options
-flag_options test quiet = plus (plus (plus (plus (plus (plus (plus (plus (plus (plus (new_app (codes "harness"), [])
-    (alone (flag_rule (codes "include-ignored"))))
-    (alone (flag_rule (codes "ignored"))))
-    test)
-    (alone (flag_rule (codes "bench"))))
-    (alone (flag_rule (codes "list"))))
-    (alone (flag_rule (codes "nocapture"))))
-    (alone (flag_rule (codes "show-output"))))
-    (alone (flag_rule (codes "report-time"))))
-    (alone (flag_rule (codes "exact"))))
-    quiet
+abbrev pub flags : Declared → Declared → List Declared
+flags test quiet = alone (flag_rule (codes "include-ignored"))
+    ∷ alone (flag_rule (codes "ignored"))
+    ∷ test
+    ∷ alone (flag_rule (codes "bench"))
+    ∷ alone (flag_rule (codes "list"))
+    ∷ alone (flag_rule (codes "nocapture"))
+    ∷ alone (flag_rule (codes "show-output"))
+    ∷ alone (flag_rule (codes "report-time"))
+    ∷ alone (flag_rule (codes "exact"))
+    ∷ quiet
+    ∷ []
 
--- all options, with these two flags and readers of the values of `-Z`, `--color` and `--format` (the Rust crate's, but for
--- `--report-time` and several filters)
+-- the options that have values, and the filters, with these readers of the values of `-Z`, `--color` and `--format`
+abbrev pub valued : ValueParser → ValueParser → ValueParser → List Declared
+valued unstable color format = read_by unstable (alone unstable_rule)
+    ∷ alone threads_rule
+    ∷ alone (option_rule (codes "logfile"))
+    ∷ alone skip_rule
+    ∷ read_by color (alone colour_rule)
+    ∷ read_by format (alone format_rule)
+    ∷ alone filter_rule
+    ∷ []
+
+-- all options, with these two flags and readers (the Rust crate's, but for `--report-time` and several filters)
 abbrev pub options_with : Declared → Declared → ValueParser → ValueParser → ValueParser → Options
-options_with test quiet unstable color format = plus (plus (plus (plus (plus (plus (plus (flag_options test quiet)
-    (read_by unstable (alone unstable_rule)))
-    (alone threads_rule))
-    (alone (option_rule (codes "logfile"))))
-    (alone skip_rule))
-    (read_by color (alone colour_rule)))
-    (read_by format (alone format_rule)))
-    (alone filter_rule)
+options_with test quiet unstable color format =
+    fold plus (new_app (codes "harness"), []) (flags test quiet ++ valued unstable color format)
 
 -- what a harness declares: `test` excludes `bench`, and `quiet`, also `-q`, excludes `format` (the Rust crate's)
 abbrev pub harness_options : ValueParser → ValueParser → ValueParser → Options

@@ -14,10 +14,7 @@ ghost use Rattle.mimic_args.specs.Matched.{IsReadFrom, asks_for_excluded, entrie
 use crate::matches::{
     colour_of, format_of, is_set, text_of, text_under, texts_of, threads_of, unstable_of,
 };
-use crate::options::{
-    add, colour, excluded, filter, format, logfile, quiet, skip, test, test_threads, unstable,
-    with_flags,
-};
+use crate::options::{add_flags, add_valued, excluded, quiet, test};
 use crate::{Arguments, ArgumentsError};
 use clap::error::ErrorKind;
 use clap::{Arg, ArgMatches, Command};
@@ -153,15 +150,10 @@ fn command_of<'a>(alloc: Global, test: Arg<'a>, quiet: Arg<'a>) -> Result<Comman
         × AreReaders u c f × (options_of r
         ≡ options_with (declared_of test.entry) (declared_of quiet.entry) u c f)) }
 {
-    let mut options = Vec::with_capacity(alloc, 7)?;
-    add(&mut options, unstable(alloc))?;
-    add(&mut options, test_threads(alloc))?;
-    add(&mut options, logfile(alloc))?;
-    add(&mut options, skip(alloc))?;
-    add(&mut options, colour(alloc))?;
-    add(&mut options, format(alloc))?;
-    add(&mut options, filter(alloc))?;
-    with_flags(alloc, test, quiet)?.args(options)
+    let mut args = Vec::with_capacity(alloc, 17)?;
+    add_flags(alloc, &mut args, test, quiet)?;
+    add_valued(alloc, &mut args)?;
+    Command::new(alloc, "harness").args(args)
 }
 
 // Returns whether the matches ask for two options that exclude one another.

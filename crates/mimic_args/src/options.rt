@@ -1,11 +1,12 @@
 //! The options of a harness, as they are declared to `clap`.
 ghost use Rattle.std.specs.Prelude.{◌≡◌, ◌++◌, ◌∷◌, [], false, IfOk, Some, codes, map};
 ghost use Rattle.clap.specs.Walk.{texts};
-ghost use Rattle.mimic_args.specs.CommandLine.{ReadsOnly, alone, colour_rule, declared_of, excluding, filter_rule, format_rule, quiet_rule, flag_options, flag_rule, option_rule, options_of, read_by, skip_rule, test_rule, threads_rule, unstable_rule};
+ghost use Rattle.mimic_args.specs.CommandLine.{AddsLocal, AreReaders, ReadsOnly, alone, colour_rule, declared_of, excluding, filter_rule, flag_rule, flags, format_rule, named_flag, option_rule, quiet_rule, read_by, skip_rule, test_rule, threads_rule, unstable_rule, valued};
+ghost use Rattle.clap.specs.declared.builder.value_parser.ValueParser.{ValueParser};
 ghost use Rattle.mimic_args.specs.Matched.{colour_name, colours, unstable_name, unstables};
 ghost use Rattle.mimic_trial.specs.Formats.{format_name, formats};
 
-use clap::{Arg, ArgAction, Command, value_parser};
+use clap::{Arg, ArgAction, value_parser};
 use std::alloc::{AllocError, Global};
 
 static COLOURS: [&str; 3] = ["auto", "always", "never"];
@@ -14,41 +15,83 @@ static FORMATS: [&str; 3] = ["pretty", "terse", "json"];
 
 static UNSTABLE: [&str; 1] = ["unstable-options"];
 
-// Makes a command with all flags. The caller passes `--test` and `--quiet`.
-pub(super) fn with_flags<'a>(
+// The flags before `--test`, and those between it and `--quiet`: their names, and what help says of them.
+static IGNORED_FLAGS: [(&str, &str); 2] = [
+    ("include-ignored", "Run ignored tests as well"),
+    ("ignored", "Run only ignored tests"),
+];
+
+static OTHER_FLAGS: [(&str, &str); 6] = [
+    (
+        "bench",
+        "Run and measure benchmarks; tests count as ignored",
+    ),
+    ("list", "List tests and benchmarks, and run none"),
+    (
+        "nocapture",
+        "Print output of tests at once (no effect: it is never held back)",
+    ),
+    (
+        "show-output",
+        "Print output of tests that pass (no effect: it is never held back)",
+    ),
+    ("report-time", "Show how long each test ran"),
+    (
+        "exact",
+        "Match each FILTER exactly, not as a part of a full name",
+    ),
+];
+
+// Adds all flags. The caller passes `--test` and `--quiet`.
+pub(super) fn add_flags<'a>(
     alloc: Global,
+    args: &mut Vec<Arg<'a>>,
     test: Arg<'a>,
     quiet: Arg<'a>,
-) -> Result<Command<'a>, AllocError>
+) -> Result<(), AllocError>
     requires { (test.global ≡ false) × (quiet.global ≡ false) }
-    ensures { IfOk result (λ r. options_of r
-        ≡ flag_options (declared_of test.entry) (declared_of quiet.entry)) }
+    ensures { IfOk result (λ _. AddsLocal args.old.items
+        (flags (declared_of test.entry) (declared_of quiet.entry)) args.new.items) }
 {
-    let include_ignored = "Run ignored tests as well";
-    let bench = "Run and measure benchmarks; tests count as ignored";
-    let list = "List tests and benchmarks, and run none";
-    let nocapture = "Print output of tests at once (no effect: it is never held back)";
-    let show_output = "Print output of tests that pass (no effect: it is never held back)";
-    let report_time = "Show how long each test ran";
-    let exact = "Match each FILTER exactly, not as a part of a full name";
-    let mut flags = Vec::with_capacity(alloc, 10)?;
-    add(&mut flags, flag(alloc, "include-ignored", include_ignored))?;
-    add(&mut flags, flag(alloc, "ignored", "Run only ignored tests"))?;
-    add(&mut flags, test)?;
-    add(&mut flags, flag(alloc, "bench", bench))?;
-    add(&mut flags, flag(alloc, "list", list))?;
-    add(&mut flags, flag(alloc, "nocapture", nocapture))?;
-    add(&mut flags, flag(alloc, "show-output", show_output))?;
-    add(&mut flags, flag(alloc, "report-time", report_time))?;
-    add(&mut flags, flag(alloc, "exact", exact))?;
-    add(&mut flags, quiet)?;
-    Command::new(alloc, "harness").args(flags)
+    add_named(alloc, args, IGNORED_FLAGS.as_slice())?;
+    add(args, test)?;
+    add_named(alloc, args, OTHER_FLAGS.as_slice())?;
+    add(args, quiet)
+}
+
+// Adds a flag for each of these names.
+fn add_named<'a>(
+    alloc: Global,
+    args: &mut Vec<Arg<'a>>,
+    named: &[(&'a str, &'a str)],
+) -> Result<(), AllocError>
+    ensures { IfOk result
+        (λ _. AddsLocal args.old.items (map named_flag named.now) args.new.items) }
+{
+    for (name, help) in named {
+        add(args, flag(alloc, name, help))?;
+    }
+    Ok(())
+}
+
+// Adds the options that have values, and the filters.
+pub(super) fn add_valued<'a>(alloc: Global, args: &mut Vec<Arg<'a>>) -> Result<(), AllocError>
+    ensures { IfOk result (λ _. (u : ValueParser) × (c : ValueParser) × (f : ValueParser)
+        × AreReaders u c f × AddsLocal args.old.items (valued u c f) args.new.items) }
+{
+    add(args, unstable(alloc))?;
+    add(args, test_threads(alloc))?;
+    add(args, logfile(alloc))?;
+    add(args, skip(alloc))?;
+    add(args, colour(alloc))?;
+    add(args, format(alloc))?;
+    add(args, filter(alloc))
 }
 
 // Adds an argument. `push` returns the argument if there is no memory, and inlined, each call would have a place for that on the
 // stack of who adds them all.
 #[inline(never)]
-pub(super) fn add<'a>(args: &mut Vec<Arg<'a>>, arg: Arg<'a>) -> Result<(), AllocError>
+fn add<'a>(args: &mut Vec<Arg<'a>>, arg: Arg<'a>) -> Result<(), AllocError>
     ensures { IfOk result (λ _. args.new.items ≡ args.old.items ++ arg.entry ∷ []) }
 {
     args.push(arg)?;
@@ -102,7 +145,7 @@ pub(super) fn quiet<'a>(alloc: Global) -> Arg<'a>
 }
 
 #[inline(never)]
-pub(super) fn unstable<'a>(alloc: Global) -> Arg<'a>
+fn unstable<'a>(alloc: Global) -> Arg<'a>
     ensures declared { ReadsOnly (map unstable_name unstables) (alone unstable_rule)
         (declared_of result) }
     ensures local { result.global ≡ false }
@@ -113,7 +156,7 @@ pub(super) fn unstable<'a>(alloc: Global) -> Arg<'a>
 }
 
 #[inline(never)]
-pub(super) fn test_threads<'a>(alloc: Global) -> Arg<'a>
+fn test_threads<'a>(alloc: Global) -> Arg<'a>
     ensures declared { declared_of result ≡ alone threads_rule }
     ensures local { result.global ≡ false }
 {
@@ -123,7 +166,7 @@ pub(super) fn test_threads<'a>(alloc: Global) -> Arg<'a>
 }
 
 #[inline(never)]
-pub(super) fn logfile<'a>(alloc: Global) -> Arg<'a>
+fn logfile<'a>(alloc: Global) -> Arg<'a>
     ensures declared { declared_of result ≡ alone (option_rule (codes "logfile")) }
     ensures local { result.global ≡ false }
 {
@@ -132,7 +175,7 @@ pub(super) fn logfile<'a>(alloc: Global) -> Arg<'a>
 }
 
 #[inline(never)]
-pub(super) fn skip<'a>(alloc: Global) -> Arg<'a>
+fn skip<'a>(alloc: Global) -> Arg<'a>
     ensures declared { declared_of result ≡ alone skip_rule }
     ensures local { result.global ≡ false }
 {
@@ -141,7 +184,7 @@ pub(super) fn skip<'a>(alloc: Global) -> Arg<'a>
 }
 
 #[inline(never)]
-pub(super) fn colour<'a>(alloc: Global) -> Arg<'a>
+fn colour<'a>(alloc: Global) -> Arg<'a>
     ensures declared { ReadsOnly (map colour_name colours) (alone colour_rule)
         (declared_of result) }
     ensures local { result.global ≡ false }
@@ -151,7 +194,7 @@ pub(super) fn colour<'a>(alloc: Global) -> Arg<'a>
 }
 
 #[inline(never)]
-pub(super) fn format<'a>(alloc: Global) -> Arg<'a>
+fn format<'a>(alloc: Global) -> Arg<'a>
     ensures declared { ReadsOnly (map format_name formats) (alone format_rule)
         (declared_of result) }
     ensures local { result.global ≡ false }
@@ -161,7 +204,7 @@ pub(super) fn format<'a>(alloc: Global) -> Arg<'a>
 }
 
 #[inline(never)]
-pub(super) fn filter<'a>(alloc: Global) -> Arg<'a>
+fn filter<'a>(alloc: Global) -> Arg<'a>
     ensures declared { declared_of result ≡ alone filter_rule }
     ensures local { result.global ≡ false }
 {

@@ -1,35 +1,16 @@
-use Rattle.std.proofs.Common.{◌∙◌, ◌∷◌, [], ap₂, subst}
+use Rattle.std.proofs.Common.{◌∙◌, ◌++◌, ap, fold, subst}
 use Rattle.std.proofs.lemmas.Result.{IfOk-weaker}
-use Rattle.clap.specs.Words.{AddsArg, AddsInTurn}
-use Rattle.mimic_args.specs.CommandLine.{plus}
-use Rattle.mimic_args.proofs.Declaring.{AreLocal, options-in_turn, pushed}
+use Rattle.mimic_args.specs.CommandLine.{AddsLocal, declared_of, flags, plus, valued}
+use Rattle.mimic_args.proofs.Declaring.{adds-more, options-in_turn, options-none}
 use Rattle.mimic_args.proofs.command_line.command_of.Goals as goal
 
 pub returns : goal.returns
 returns c =
-    let unstable = c.unstable.ensures.declared in
-    let colour = c.colour.ensures.declared in
-    let format = c.format.ensures.declared in
-    let start = c.in_ok-with_flags.field-0 in
-    let options = c.unstable.result ∷ c.test_threads.result ∷ c.logfile.result ∷ c.skip.result ∷ c.colour.result ∷ c.format.result
-    ∷ c.filter.result ∷ [] in
-    let local : AreLocal options = (c.unstable.ensures.local, (c.test_threads.ensures.local, (c.logfile.ensures.local, (c.skip.ensures.local, (c.colour.ensures.local, (c.format.ensures.local, (c.filter.ensures.local, tt))))))) in
-    let declared = ap₂ plus (ap₂ plus (ap₂ plus (ap₂ plus (ap₂ plus (ap₂ plus (ap₂ plus c.in_ok-with_flags.ensures unstable.2)
-    c.test_threads.ensures.declared) c.logfile.ensures.declared) c.skip.ensures.declared) colour.2) format.2) c.filter.ensures.declared in
-    let added = pushed _ _ _ c.filter.result c.in_ok-add-7.ensures
-    (pushed _ _ _ c.format.result c.in_ok-add-6.ensures
-    (pushed _ _ _ c.colour.result c.in_ok-add-5.ensures
-    (pushed _ _ _ c.skip.result c.in_ok-add-4.ensures
-    (pushed _ _ _ c.logfile.result c.in_ok-add-3.ensures
-    (pushed _ _ _ c.test_threads.result c.in_ok-add-2.ensures
-    (pushed _ _ _ c.unstable.result c.in_ok-add.ensures
-    (c.in_ok-options.ensures.items))))))) in
+    let start = c.new.result in
+    let none = options-none start _ c.new.ensures.app c.new.ensures.empty.0 in
+    let made = c.in_ok-add_valued.ensures in
+    let declared = flags (declared_of c.args.test) (declared_of c.args.quiet) ++ valued made.0 made.1 made.2 in
+    let all = c.add_valued.new.args.items in
+    let added = subst (λ l. AddsLocal l declared all) c.in_ok-args.ensures.items (adds-more c.in_ok-add_flags.ensures made.4) in
     IfOk-weaker c.args-2.result _ _
-    (λ r h. (
-      unstable.0,
-      colour.0,
-      format.0,
-      record { unstable = unstable.1; color = colour.1; format = format.1 },
-      options-in_turn options start r (subst (λ all. AddsInTurn AddsArg start all r) added h) local ∙ declared,
-    ))
-    c.args-2.ensures
+    (λ r h. (made.0, made.1, made.2, made.3, options-in_turn all start r h added ∙ ap (λ o. fold plus o declared) none)) c.args-2.ensures
