@@ -14,7 +14,7 @@ ghost use Rattle.mimic_args.specs.Matched.{IsReadFrom, asks_for_excluded, entrie
 use crate::matches::{
     colour_of, format_of, is_set, text_of, text_under, texts_of, threads_of, unstable_of,
 };
-use crate::options::{add_flags, add_valued, excluded, quiet, test};
+use crate::options::{IGNORED_FLAGS, OTHER_FLAGS, add_flags, add_valued, excluded, quiet, test};
 use crate::{Arguments, ArgumentsError};
 use clap::error::ErrorKind;
 use clap::{Arg, ArgMatches, Command};
@@ -151,7 +151,8 @@ fn command_of<'a>(alloc: Global, test: Arg<'a>, quiet: Arg<'a>) -> Result<Comman
         ≡ options_with (declared_of test.entry) (declared_of quiet.entry) u c f)) }
 {
     let mut args = Vec::with_capacity(alloc, 17)?;
-    add_flags(alloc, &mut args, test, quiet)?;
+    add_flags(alloc, &mut args, IGNORED_FLAGS.as_slice(), test)?;
+    add_flags(alloc, &mut args, OTHER_FLAGS.as_slice(), quiet)?;
     add_valued(alloc, &mut args)?;
     Command::new(alloc, "harness").args(args)
 }

@@ -1,7 +1,7 @@
 //! The options of a harness, as they are declared to `clap`.
 ghost use Rattle.std.specs.Prelude.{◌≡◌, ◌++◌, ◌∷◌, [], false, IfOk, Some, codes, map};
 ghost use Rattle.clap.specs.Walk.{texts};
-ghost use Rattle.mimic_args.specs.CommandLine.{AddsLocal, AreReaders, ReadsOnly, alone, colour_rule, declared_of, excluding, filter_rule, flag_rule, flags, format_rule, named_flag, option_rule, quiet_rule, read_by, skip_rule, test_rule, threads_rule, unstable_rule, valued};
+ghost use Rattle.mimic_args.specs.CommandLine.{AddsLocal, AreReaders, ReadsOnly, alone, colour_rule, declared_of, excluding, filter_rule, flag_rule, format_rule, named_flag, option_rule, quiet_rule, read_by, skip_rule, test_rule, threads_rule, unstable_rule, valued};
 ghost use Rattle.clap.specs.declared.builder.value_parser.ValueParser.{ValueParser};
 ghost use Rattle.mimic_args.specs.Matched.{colour_name, colours, unstable_name, unstables};
 ghost use Rattle.mimic_trial.specs.Formats.{format_name, formats};
@@ -16,12 +16,12 @@ static FORMATS: [&str; 3] = ["pretty", "terse", "json"];
 static UNSTABLE: [&str; 1] = ["unstable-options"];
 
 // The flags before `--test`, and those between it and `--quiet`: their names, and what help says of them.
-static IGNORED_FLAGS: [(&str, &str); 2] = [
+pub(super) static IGNORED_FLAGS: [(&str, &str); 2] = [
     ("include-ignored", "Run ignored tests as well"),
     ("ignored", "Run only ignored tests"),
 ];
 
-static OTHER_FLAGS: [(&str, &str); 6] = [
+pub(super) static OTHER_FLAGS: [(&str, &str); 6] = [
     (
         "bench",
         "Run and measure benchmarks; tests count as ignored",
@@ -42,36 +42,21 @@ static OTHER_FLAGS: [(&str, &str); 6] = [
     ),
 ];
 
-// Adds all flags. The caller passes `--test` and `--quiet`.
+// Adds a flag for each of these names, and then the last one.
 pub(super) fn add_flags<'a>(
     alloc: Global,
     args: &mut Vec<Arg<'a>>,
-    test: Arg<'a>,
-    quiet: Arg<'a>,
-) -> Result<(), AllocError>
-    requires { (test.global ≡ false) × (quiet.global ≡ false) }
-    ensures { IfOk result (λ _. AddsLocal args.old.items
-        (flags (declared_of test.entry) (declared_of quiet.entry)) args.new.items) }
-{
-    add_named(alloc, args, IGNORED_FLAGS.as_slice())?;
-    add(args, test)?;
-    add_named(alloc, args, OTHER_FLAGS.as_slice())?;
-    add(args, quiet)
-}
-
-// Adds a flag for each of these names.
-fn add_named<'a>(
-    alloc: Global,
-    args: &mut Vec<Arg<'a>>,
     named: &[(&'a str, &'a str)],
+    last: Arg<'a>,
 ) -> Result<(), AllocError>
-    ensures { IfOk result
-        (λ _. AddsLocal args.old.items (map named_flag named.now) args.new.items) }
+    requires { last.global ≡ false }
+    ensures { IfOk result (λ _. AddsLocal args.old.items
+        (map named_flag named.now ++ declared_of last.entry ∷ []) args.new.items) }
 {
     for (name, help) in named {
         add(args, flag(alloc, name, help))?;
     }
-    Ok(())
+    add(args, last)
 }
 
 // Adds the options that have values, and the filters.

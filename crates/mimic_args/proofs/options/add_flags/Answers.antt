@@ -1,13 +1,24 @@
-use Rattle.std.proofs.Common.{map, refl, subst}
+use Rattle.std.proofs.Common.{◌∙◌, ◌∷◌, [], ap, append-nil, get_or, map, refl, subst, sym, take}
+use Rattle.std.proofs.lemmas.List.{map-append, take_all, take_more}
 use Rattle.std.proofs.lemmas.Result.{IfOk-weaker}
-use Rattle.mimic_args.specs.CommandLine.{AddsLocal, named_flag}
+use Rattle.mimic_args.specs.CommandLine.{AddsLocal, behind, named_flag}
 use Rattle.mimic_args.proofs.Declaring.{adds-more, adds-one}
 use Rattle.mimic_args.proofs.options.add_flags.Goals as goal
 
+pub loop-name-init : goal.loop-name-init
+loop-name-init c = record { same = sym (append-nil _) }
+
+pub loop-name-preserved : goal.loop-name-preserved
+loop-name-preserved c =
+    let named = c.args.named.now in
+    let index = c.loop-name.name-index in
+    let flag = get_or named index (behind [], behind []) in
+    let seen = ap (map named_flag) (take_more named index _ c.loop-name-test.true) ∙ map-append named_flag (take index named) (flag ∷ []) in
+    subst (λ l. AddsLocal c.args.args.now.items l c.add.new.args.items) (sym seen)
+    (adds-more c.loop-name.invariant (adds-one c.flag.result c.in_ok-add.ensures c.flag.ensures.declared c.flag.ensures.local))
+
 pub returns : goal.returns
 returns c =
-    let ignored = subst (λ l. AddsLocal c.args.args.now.items (map named_flag l) c.add_named.new.args.items) c.as_slice.ensures c.in_ok-add_named.ensures in
-    let test = adds-one c.args.test c.in_ok-add.ensures refl c.requires.0 in
-    let others = subst (λ l. AddsLocal c.add.new.args.items (map named_flag l) c.add_named-2.new.args.items) c.as_slice-2.ensures c.in_ok-add_named-2.ensures in
-    let before = adds-more ignored (adds-more test others) in
-    IfOk-weaker c.add-2.result _ _ (λ _ h. adds-more before (adds-one c.args.quiet h refl c.requires.1)) c.add-2.ensures
+    let named = subst (λ l. AddsLocal c.args.args.now.items (map named_flag l) c.loop-name.args.items) (take_all _ c.args.named.now c.loop-name-test.false)
+    c.loop-name.invariant in
+    IfOk-weaker c.add-2.result _ _ (λ _ h. adds-more named (adds-one c.args.last h refl c.requires)) c.add-2.ensures
