@@ -1,11 +1,7 @@
 -- A worker's end of a queue hands out a trial, and ends.
-use Rattle.std.proofs.Common.{◌≡◌, ◌∙◌, ◌∷◌, ◌++◌, ◌+◌, ℕ, [], All, Bool, List, ap, append-nil, append_assoc, refl, subst, sym}
+use Rattle.std.proofs.Common.{◌≡◌, ◌∙◌, ◌∷◌, ◌++◌, ◌+◌, ℕ, [], All, List, ap, append_assoc, refl, subst, sym}
 use Rattle.std.specs.Prelude.{IfSome, MatchOption, None, Option, Some}
 use Rattle.std.proofs.lemmas.List.Elements.{All-head}
-use Rattle.mimic_trial.specs.Places.{Placed}
-use Rattle.mimic_trial.specs.Promise.{Gives}
-use Rattle.mimic_pool.specs.Answers.{Answers, HasWorked}
-use Rattle.mimic_pool.specs.Passes.{account_of}
 use Rattle.mimic_pool.specs.Queue.{GoesOn, MayTake}
 use Rattle.mimic_pool.specs.Taking.{goes_on_twice}
 use Rattle.mimic_pool.specs.declared.share.Assigned.{Assigned}
@@ -38,11 +34,3 @@ module _ {X R : Type 0} where
   may_take_rest can_run (Some item) mid rest room was is = λ left more.
       let may = rest_may_run can_run (Some item) mid.left rest room is (was.runnable, was.fits) left more in
       record { ours = was.ours; some_part = was.some_part; runnable = may.0; fits = may.1 }
-
-  -- if nothing is left, all that was taken was handed out, and the rows answer it
-  pub all_taken : (gives : Gives X) (mode : Bool) (heard now : List Placed → Type 0) (first last : Taker X R) (old new : List Placed) → (account_of first.pass).taken ≡ [] → first.left ≡ [] → last.left ≡ [] → old ≡ []
-      → HasWorked GoesOn gives mode heard now first last old new → Answers gives mode (account_of last.pass).taken new
-  all_taken gives mode heard now first last old new none empty ended no_rows worked =
-      let given = worked.given in
-      let taken : (account_of last.pass).taken ≡ given = worked.went_on.taken [] (none ∙ sym empty) ∙ ap (λ l. given ++ l) ended ∙ append-nil given in
-      subst (λ l. Answers gives mode l new) (sym taken) (subst (λ l. Answers gives mode given l) (sym (worked.added ∙ ap (λ l. l ++ worked.rows) no_rows)) worked.answers)

@@ -5,7 +5,7 @@ use Rattle.std.proofs.lemmas.List.Elements.{All-head, All-tail}
 use Rattle.mimic_trial.specs.Places.{Placed}
 use Rattle.mimic_trial.specs.Promise.{Gives}
 use Rattle.mimic_pool.specs.declared.share.Assigned.{Assigned}
-use Rattle.mimic_pool.specs.Answers.{Answers, HasWorked}
+use Rattle.mimic_pool.specs.Answers.{Answers}
 
 module _ {X : Type 0} (can_run : X → Type 0) where
   abbrev pub MayRun : Assigned X → Type 0
@@ -21,14 +21,11 @@ module _ {X : Type 0} (can_run : X → Type 0) where
   rest_may_run None old new room is may = tt
   rest_may_run (Some item) old new room is may = λ left more. (All-tail MayRun item new (subst (All MayRun) is may.0), let len = ap length is in let fits = may.1 in omega arith)
 
-module _ {X : Type 0} (gives : Gives X) (mode : Bool) (heard now : List Placed → Type 0) (share left : List (Assigned X)) (old new : List Placed)
-    (worked : HasWorked (λ first items last. first ≡ items ++ last) gives mode heard now share left old new) (none : left ≡ []) where
+module _ {X : Type 0} (gives : Gives X) (mode : Bool) (share given left : List (Assigned X)) (rows : List Placed) (is : share ≡ given ++ left) (none : left ≡ []) (answers : Answers gives mode given rows) where
   -- if nothing is left of a share, all of it was answered
-  pub all_answered : Answers gives mode share worked.rows
-  all_answered =
-      let whole : worked.given ≡ share = sym (append-nil worked.given) ∙ ap (λ l. worked.given ++ l) (sym none) ∙ sym worked.went_on in
-      subst (λ l. Answers gives mode l worked.rows) whole worked.answers
+  pub all_answered : Answers gives mode share rows
+  all_answered = subst (λ l. Answers gives mode l rows) (sym (is ∙ ap (λ l. given ++ l) none ∙ append-nil given)) answers
 
   -- and if there was no row before, by all rows
-  pub all_returned : old ≡ [] → Answers gives mode share new
-  all_returned empty = subst (λ l. Answers gives mode share l) (sym (worked.added ∙ ap (λ l. l ++ worked.rows) empty)) all_answered
+  pub all_returned : (old new : List Placed) → new ≡ old ++ rows → old ≡ [] → Answers gives mode share new
+  all_returned old new added empty = subst (λ l. Answers gives mode share l) (sym (added ∙ ap (λ l. l ++ rows) empty)) all_answered

@@ -39,8 +39,8 @@ loop-start-preserved-in-Ok g c =
       parts = search rules;
       put = was.put;
       answered = was.answered;
-      jobs = with_one (IsJob q c.args.test_mode) c.in-Ok.handle c.loop-start.handles.items _ c.push_reserved.ensures.items was.jobs (subst (λ q. IsJob q c.args.test_mode c.in-Ok.handle) same c.in-Ok.ensures.started);
-      left = rest_of (IsFresh q) c.in-Some.start (into_iter_items c.next.new.self) _ next.0 was.left;
+      jobs = with_one (IsJob q c.args.test_mode) c.in-Ok.handle c.loop-start.handles.items c.push_reserved.new.self.items c.push_reserved.ensures.items was.jobs (subst (λ q. IsJob q c.args.test_mode c.in-Ok.handle) same c.in-Ok.ensures.started);
+      left = rest_of (IsFresh q) c.in-Some.start (into_iter_items c.next.new.self) (into_iter_items c.loop-start.start-iterator) next.0 was.left;
       fits = search rules;
       fits_joined = search rules;
     }
@@ -58,9 +58,9 @@ loop-start-preserved g c =
       some_part = omega (arith, parts, was.some_part);
       parts = omega (arith, parts, was.parts, worked.parts, next.1);
       put = ap (λ (v : Account _). v.put) both ∙ ap (λ l. (account_of c.loop-start.pass).put ++ l) worked.put ∙ append-nil (account_of c.loop-start.pass).put ∙ was.put;
-      answered = takes_both g.T.Task.gives c.args.test_mode true _ _ _ _ _ _ (ap (λ (v : Account _). v.taken) both) (rows_pushed (λ rows. rows.items) c.loop-start.joined.items _ c.in-Err.taken.rows c.push_reserved-in-Err.ensures.items) worked.answers was.answered;
+      answered = takes_both g.T.Task.gives c.args.test_mode true (account_of c.loop-start.pass).taken (account_of c.in-Err.taken.pass).taken (account_of c.absorb.new.pass).taken (flat_map (λ rows. rows.items) c.loop-start.joined.items) c.in-Err.taken.rows.items (flat_map (λ rows. rows.items) c.push_reserved-in-Err.new.self.items) (ap (λ (v : Account _). v.taken) both) (rows_pushed (λ rows. rows.items) c.loop-start.joined.items c.push_reserved-in-Err.new.self.items c.in-Err.taken.rows c.push_reserved-in-Err.ensures.items) worked.answers was.answered;
       jobs = was.jobs;
-      left = rest_of (IsFresh q) c.in-Some.start (into_iter_items c.next.new.self) _ next.0 was.left;
+      left = rest_of (IsFresh q) c.in-Some.start (into_iter_items c.next.new.self) (into_iter_items c.loop-start.start-iterator) next.0 was.left;
       fits = search rules;
       fits_joined = search rules;
     }

@@ -23,6 +23,6 @@ loop-number-preserved g c =
       parts = search rules;
       put = ap (λ (v : Account _). v.put) left ∙ was.put;
       taken = ap (λ (v : Account _). v.taken) left ∙ was.taken;
-      starts = with_one (IsFresh queue) start c.loop-number.starts.items _
+      starts = with_one (IsFresh queue) start c.loop-number.starts.items c.push_reserved.new.self.items
           c.push_reserved.ensures.items was.starts fresh;
     }

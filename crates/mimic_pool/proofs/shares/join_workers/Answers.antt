@@ -10,7 +10,7 @@ pub loop-handle-preserved : goal.loop-handle-preserved
 loop-handle-preserved g c =
     let pushed = ap (map rows_in) c.push_reserved.ensures.items ∙ map-append rows_in c.loop-handle.joined.items (c.join.result ∷ []) in
     record {
-      answered = job_answered g.T.Task.gives _ _ _ (map rows_in c.loop-handle.joined.items) _ _ (rows_in c.join.result) (ap (map job_of) c.in-Some.ensures.steps.0) pushed c.join.ensures c.loop-handle.invariant.answered;
+      answered = job_answered g.T.Task.gives (map job_of c.args.handles.items) (map job_of (into_iter_items c.loop-handle.handle-iterator)) (map job_of (into_iter_items c.next.new.self)) (map rows_in c.loop-handle.joined.items) (map rows_in c.push_reserved.new.self.items) (job_of c.in-Some.handle) (rows_in c.join.result) (ap (map job_of) c.in-Some.ensures.steps.0) pushed c.join.ensures c.loop-handle.invariant.answered;
       len = search rules;
       room = search rules;
     }
@@ -19,4 +19,4 @@ pub returns : goal.returns
 returns g c =
     let left = into_iter_items c.loop-handle.handle-iterator in
     let none : length left ≡ 0 = sym c.loop-handle.handle-iterator.rest.ok.0 ∙ c.in-None.ensures.steps.0 in
-    jobs_done g.T.Task.gives _ (map job_of left) _ (length-map left job_of ∙ none) c.loop-handle.invariant.answered
+    jobs_done g.T.Task.gives (map job_of c.args.handles.items) (map job_of left) (map rows_in c.loop-handle.joined.items) (length-map left job_of ∙ none) c.loop-handle.invariant.answered

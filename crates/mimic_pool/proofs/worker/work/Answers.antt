@@ -1,5 +1,5 @@
 use Rattle.std.proofs.Common.{◌≡◌, ◌∙◌, ◌++◌, ap, arith, length, rules, subst, sym}
-use Rattle.mimic_pool.specs.Answers.{Answers}
+use Rattle.mimic_pool.specs.Share.{items_of}
 use Rattle.mimic_pool.proofs.Elements.{none_of}
 use Rattle.mimic_pool.proofs.Sources.{all_returned}
 use Rattle.mimic_pool.proofs.Working.{answers_length}
@@ -8,13 +8,13 @@ use Rattle.mimic_pool.proofs.worker.work.Goals as goal
 pub returns-clause-answers : goal.returns-clause-answers
 returns-clause-answers g c =
     let empty : length c.args.room.items ≡ 0 = search rules in
-    subst (λ l. Answers g.T.Task.gives c.args.test_mode l c.work_from-rows.result.1.items) c.into_remaining.ensures
-    (all_returned g.T.Task.gives c.args.test_mode _ _ _ _ _ _ c.work_from-rows.ensures.worked c.work_from-rows.ensures.ended (none_of c.args.room.items empty))
+    let worked = c.work_from-rows.ensures.worked in
+    all_returned g.T.Task.gives c.args.test_mode (items_of c.args.share) worked.given c.work_from-rows.result.0 worked.rows (sym c.into_remaining.ensures ∙ worked.went_on) c.work_from-rows.ensures.ended worked.answers c.args.room.items c.work_from-rows.result.1.items worked.added (none_of c.args.room.items empty)
 
 pub returns-clause-counted : goal.returns-clause-counted
 returns-clause-counted g c =
     let empty : length c.args.room.items ≡ 0 = search rules in
-    let rows = answers_length g.T.Task.gives c.args.test_mode _ _ (returns-clause-answers g c) in
+    let rows = answers_length g.T.Task.gives c.args.test_mode (items_of c.args.share) c.work_from-rows.result.1.items (returns-clause-answers g c) in
     let counted = c.work_from-rows.ensures.counted in
     omega (arith, rows, counted, empty)
 
