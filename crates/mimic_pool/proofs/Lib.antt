@@ -18,3 +18,5 @@ pub mod Handing
 pub mod Emptying
 pub mod Filling
 pub mod Elements
+pub mod Accounts
+pub mod Moving

@@ -1,7 +1,7 @@
-use Rattle.std.proofs.Common.{◌∙◌, ◌++◌, ap, append-nil, arith, map, refl, rules, subst, sym}
+use Rattle.std.proofs.Common.{◌∙◌, ◌++◌, map, refl, rules, subst, sym, vec_capacity, vec_len}
 use Rattle.std.specs.Arc.{arc_value}
 use Rattle.std.specs.List.{flat_map}
-use Rattle.std.specs.Vec.Iter.{into_iter_items}
+use Rattle.std.specs.Vec.Iter.{into_iter_items, into_iter_len}
 use Rattle.std.proofs.lemmas.List.Folds.{flat_map-map}
 use Rattle.crossbeam_queue.specs.SegTies.{IsSegPassOf}
 use Rattle.mimic_pool.specs.Answers.{Answers}
@@ -9,9 +9,10 @@ use Rattle.mimic_pool.specs.Joined.{AreJoined}
 use Rattle.mimic_pool.specs.Passes.{account_of}
 use Rattle.mimic_pool.specs.Queue.{IsJob}
 use Rattle.mimic_pool.specs.Rows.{rows_in}
-use Rattle.mimic_pool.specs.declared.shared_queue.Account.{Account}
+use Rattle.mimic_pool.proofs.Accounts.{absorbed}
 use Rattle.mimic_pool.proofs.Elements.{first_of, rest_of}
 use Rattle.mimic_pool.proofs.Emptying.{rows_pushed, takes_any, takes_both, takes_whole}
+use Rattle.mimic_pool.proofs.Moving.{moved, moved_below}
 use Rattle.mimic_pool.proofs.queue.join_takers.Goals as goal
 
 pub absorb-requires-clause-other : goal.absorb-requires-clause-other
@@ -37,20 +38,27 @@ pub loop-handle-preserved : goal.loop-handle-preserved
 loop-handle-preserved g c =
     let was = c.loop-handle.invariant in
     let next = c.in-Some.ensures.steps in
+    let left = c.loop-handle.handle-iterator in
+    let rest = c.next.new.self in
+    let joined = c.loop-handle.joined in
+    let more = c.push_reserved.new.self in
+    let pushed = c.push_reserved.ensures in
     let IsMine = IsJob (arc_value c.args.crew.queue).queue c.args.crew.test_mode in
-    let job = first_of IsMine c.in-Some.handle (into_iter_items c.next.new.self) (into_iter_items c.loop-handle.handle-iterator) next.0 was.jobs in
+    let job = first_of IsMine c.in-Some.handle (into_iter_items rest) (into_iter_items left) next.0 was.jobs in
     let worked = c.join-rows.ensures in
-    let both = c.absorb.ensures.both in
-    let parts = ap (λ (v : Account _). v.parts) both in
-    let answers = subst (λ mode. Answers g.T.Task.gives mode (account_of c.join-rows.result.pass).taken c.join-rows.result.rows.items) job.mode_is worked.answers in
+    let old = account_of c.loop-handle.pass in
+    let other = account_of c.join-rows.result.pass in
+    let new = account_of c.absorb.new.pass in
+    let both = absorbed new old other c.absorb.ensures.both worked.parts worked.put in
+    let answers = subst (λ mode. Answers g.T.Task.gives mode other.taken c.join-rows.result.rows.items) job.mode_is worked.answers in
     record {
       ours = search rules;
-      some_part = omega (arith, parts, was.some_part);
-      parts = omega (arith, parts, was.parts, worked.parts, next.1);
-      put = ap (λ (v : Account _). v.put) both ∙ ap (λ l. (account_of c.loop-handle.pass).put ++ l) worked.put ∙ append-nil (account_of c.loop-handle.pass).put ∙ was.put;
-      answered = takes_both g.T.Task.gives c.args.crew.test_mode c.args.whole (account_of c.loop-handle.pass).taken (account_of c.join-rows.result.pass).taken (account_of c.absorb.new.pass).taken (flat_map (λ rows. rows.items) c.loop-handle.joined.items) c.join-rows.result.rows.items (flat_map (λ rows. rows.items) c.push_reserved.new.self.items) (ap (λ (v : Account _). v.taken) both) (rows_pushed (λ rows. rows.items) c.loop-handle.joined.items c.push_reserved.new.self.items c.join-rows.result.rows c.push_reserved.ensures.items) answers was.answered;
-      jobs = rest_of IsMine c.in-Some.handle (into_iter_items c.next.new.self) (into_iter_items c.loop-handle.handle-iterator) next.0 was.jobs;
-      fits = search rules;
+      some_part = both.some_part;
+      parts = moved old.parts new.parts (into_iter_len left) (into_iter_len rest) both.parts_are next.1 ∙ was.parts;
+      put = both.put_is ∙ was.put;
+      answered = takes_both g.T.Task.gives c.args.crew.test_mode c.args.whole old.taken other.taken new.taken (flat_map (λ rows. rows.items) joined.items) c.join-rows.result.rows.items (flat_map (λ rows. rows.items) more.items) both.taken_is (rows_pushed (λ rows. rows.items) joined.items more.items c.join-rows.result.rows pushed.items) answers was.answered;
+      jobs = rest_of IsMine c.in-Some.handle (into_iter_items rest) (into_iter_items left) next.0 was.jobs;
+      fits = moved_below (vec_len joined) (vec_len more) (into_iter_len left) (into_iter_len rest) pushed.len next.1 (vec_capacity joined) (vec_capacity more) pushed.capacity was.fits;
     }
 
 pub returns : goal.returns

@@ -1,19 +1,20 @@
-use Rattle.std.proofs.Common.{◌≡◌, ◌∙◌, ◌++◌, [], ap, append-nil, arith, length, refl, rules, subst, sym, true}
+use Rattle.std.proofs.Common.{◌≡◌, ◌∙◌, [], ap, length, refl, rules, subst, sym, true, vec_capacity, vec_len}
 use Rattle.std.specs.Arc.{arc_value}
 use Rattle.std.specs.List.{flat_map}
-use Rattle.std.specs.Vec.Iter.{into_iter_items}
+use Rattle.std.specs.Vec.Iter.{into_iter_items, into_iter_len}
 use Rattle.mimic_pool.specs.Joined.{AnswersSome}
 use Rattle.mimic_pool.specs.Passes.{account_of}
 use Rattle.mimic_pool.specs.Queue.{IsFresh, IsJob}
-use Rattle.mimic_pool.specs.declared.shared_queue.Account.{Account}
+use Rattle.mimic_pool.proofs.Accounts.{absorbed}
 use Rattle.mimic_pool.proofs.Elements.{none_of, rest_of, with_one}
 use Rattle.mimic_pool.proofs.Emptying.{rows_pushed, takes_both, takes_none}
+use Rattle.mimic_pool.proofs.Moving.{fits_rest, moved_before, moved_before_below, moved_behind, moved_behind_below, moved_fits}
 use Rattle.mimic_pool.proofs.queue.start_takers.Goals as goal
 
 pub loop-start-init : goal.loop-start-init
 loop-start-init g c =
     let ready = c.requires.ready.1 in
-    let none : length c.args.starts.joined.items ≡ 0 = search rules in
+    let none : length c.args.starts.joined.items ≡ 0 = sym c.args.starts.joined.ok.0 ∙ ready.none_joined in
     let rows : flat_map (λ rows. rows.items) c.args.starts.joined.items ≡ [] = ap (flat_map (λ rows. rows.items)) (none_of c.args.starts.joined.items none) in
     record {
       ours = ready.ours;
@@ -32,17 +33,22 @@ loop-start-preserved-in-Ok g c =
     let was = c.loop-start.invariant in
     let q = (arc_value c.args.starts.queue).queue in
     let next = c.in-Some.ensures.steps in
+    let left = c.loop-start.start-iterator in
+    let rest = c.next.new.self in
+    let handles = c.loop-start.handles in
+    let more = c.push_reserved.new.self in
+    let pushed = c.push_reserved.ensures in
     let same : c.deref.result.now.queue ≡ q = search rules in
     record {
       ours = was.ours;
       some_part = was.some_part;
-      parts = search rules;
+      parts = moved_behind (vec_len handles) (vec_len more) (into_iter_len left) (into_iter_len rest) pushed.len next.1 (account_of c.loop-start.pass).parts ∙ was.parts;
       put = was.put;
       answered = was.answered;
-      jobs = with_one (IsJob q c.args.test_mode) c.in-Ok.handle c.loop-start.handles.items c.push_reserved.new.self.items c.push_reserved.ensures.items was.jobs (subst (λ q. IsJob q c.args.test_mode c.in-Ok.handle) same c.in-Ok.ensures.started);
-      left = rest_of (IsFresh q) c.in-Some.start (into_iter_items c.next.new.self) (into_iter_items c.loop-start.start-iterator) next.0 was.left;
-      fits = search rules;
-      fits_joined = search rules;
+      jobs = with_one (IsJob q c.args.test_mode) c.in-Ok.handle handles.items more.items pushed.items was.jobs (subst (λ q. IsJob q c.args.test_mode c.in-Ok.handle) same c.in-Ok.ensures.started);
+      left = rest_of (IsFresh q) c.in-Some.start (into_iter_items rest) (into_iter_items left) next.0 was.left;
+      fits = moved_fits (vec_len handles) (vec_len more) (into_iter_len left) (into_iter_len rest) pushed.len next.1 (vec_capacity handles) (vec_capacity more) pushed.capacity was.fits;
+      fits_joined = moved_behind_below (vec_len handles) (vec_len more) (into_iter_len left) (into_iter_len rest) pushed.len next.1 (vec_len c.loop-start.joined) (vec_capacity c.loop-start.joined) was.fits_joined;
     }
 
 pub loop-start-preserved : goal.loop-start-preserved
@@ -50,17 +56,24 @@ loop-start-preserved g c =
     let was = c.loop-start.invariant in
     let q = (arc_value c.args.starts.queue).queue in
     let next = c.in-Some.ensures.steps in
+    let left = c.loop-start.start-iterator in
+    let rest = c.next.new.self in
+    let joined = c.loop-start.joined in
+    let more = c.push_reserved-in-Err.new.self in
+    let pushed = c.push_reserved-in-Err.ensures in
     let worked = c.in-Err.ensures.ended in
-    let both = c.absorb.ensures.both in
-    let parts = ap (λ (v : Account _). v.parts) both in
+    let old = account_of c.loop-start.pass in
+    let other = account_of c.in-Err.taken.pass in
+    let new = account_of c.absorb.new.pass in
+    let both = absorbed new old other c.absorb.ensures.both worked.parts worked.put in
     record {
       ours = search rules;
-      some_part = omega (arith, parts, was.some_part);
-      parts = omega (arith, parts, was.parts, worked.parts, next.1);
-      put = ap (λ (v : Account _). v.put) both ∙ ap (λ l. (account_of c.loop-start.pass).put ++ l) worked.put ∙ append-nil (account_of c.loop-start.pass).put ∙ was.put;
-      answered = takes_both g.T.Task.gives c.args.test_mode true (account_of c.loop-start.pass).taken (account_of c.in-Err.taken.pass).taken (account_of c.absorb.new.pass).taken (flat_map (λ rows. rows.items) c.loop-start.joined.items) c.in-Err.taken.rows.items (flat_map (λ rows. rows.items) c.push_reserved-in-Err.new.self.items) (ap (λ (v : Account _). v.taken) both) (rows_pushed (λ rows. rows.items) c.loop-start.joined.items c.push_reserved-in-Err.new.self.items c.in-Err.taken.rows c.push_reserved-in-Err.ensures.items) worked.answers was.answered;
+      some_part = both.some_part;
+      parts = moved_before old.parts new.parts (into_iter_len left) (into_iter_len rest) both.parts_are next.1 (vec_len c.loop-start.handles) ∙ was.parts;
+      put = both.put_is ∙ was.put;
+      answered = takes_both g.T.Task.gives c.args.test_mode true old.taken other.taken new.taken (flat_map (λ rows. rows.items) joined.items) c.in-Err.taken.rows.items (flat_map (λ rows. rows.items) more.items) both.taken_is (rows_pushed (λ rows. rows.items) joined.items more.items c.in-Err.taken.rows pushed.items) worked.answers was.answered;
       jobs = was.jobs;
-      left = rest_of (IsFresh q) c.in-Some.start (into_iter_items c.next.new.self) (into_iter_items c.loop-start.start-iterator) next.0 was.left;
-      fits = search rules;
-      fits_joined = search rules;
+      left = rest_of (IsFresh q) c.in-Some.start (into_iter_items rest) (into_iter_items left) next.0 was.left;
+      fits = fits_rest (vec_len c.loop-start.handles) (into_iter_len left) (into_iter_len rest) (vec_capacity c.loop-start.handles) next.1 was.fits;
+      fits_joined = moved_before_below (vec_len joined) (vec_len more) (into_iter_len left) (into_iter_len rest) pushed.len next.1 (vec_len c.loop-start.handles) (vec_capacity joined) (vec_capacity more) pushed.capacity was.fits_joined;
     }

@@ -1,16 +1,18 @@
-use Rattle.std.proofs.Common.{◌≡◌, ◌∙◌, ap, rules}
+use Rattle.std.proofs.Common.{◌≡◌, ◌∙◌, ◌-◌, rules}
 use Rattle.std.specs.Arc.{arc_value}
 use Rattle.crossbeam_queue.specs.SegTies.{IsSegPassOf}
 use Rattle.mimic_pool.specs.Queue.{IsFresh}
-use Rattle.mimic_pool.specs.declared.shared_queue.Account.{Account}
+use Rattle.mimic_pool.specs.Passes.{account_of}
 use Rattle.mimic_pool.specs.declared.taker.TakerStart.{TakerStart}
+use Rattle.mimic_pool.proofs.Accounts.{fields_of}
 use Rattle.mimic_pool.proofs.Elements.{with_one}
 use Rattle.mimic_pool.proofs.queue.starts_at.Goals as goal
 
 pub loop-number-preserved : goal.loop-number-preserved
 loop-number-preserved g c =
     let was = c.loop-number.invariant in
-    let left = c.another.ensures.left in
+    let old = account_of c.loop-number.pass in
+    let left = fields_of (account_of c.another.new.pass) (old.parts - 1) old.put old.taken c.another.ensures.left in
     let queue = (arc_value c.args.queue.now).queue in
     let same : (arc_value c.in_ok-shared.shared).queue ≡ queue = search rules in
     let ours : IsSegPassOf (arc_value c.in_ok-shared.shared).queue c.another.result = search rules in
@@ -21,8 +23,8 @@ loop-number-preserved g c =
       len = search rules;
       fits = search rules;
       parts = search rules;
-      put = ap (λ (v : Account _). v.put) left ∙ was.put;
-      taken = ap (λ (v : Account _). v.taken) left ∙ was.taken;
+      put = left.put_is ∙ was.put;
+      taken = left.taken_is ∙ was.taken;
       starts = with_one (IsFresh queue) start c.loop-number.starts.items c.push_reserved.new.self.items
           c.push_reserved.ensures.items was.starts fresh;
     }
