@@ -1,5 +1,5 @@
 -- One runner more is dealt.
-use Rattle.std.proofs.Common.{◌≡◌, ◌≢◌, ◌∙◌, ℕ, ◌+◌, ◌%◌, ◌<◌, ◌==◌, Bool, true, false, List, [], ◌∷◌, ◌++◌, cond, length, slice_index_or, slice_set, map, suc, zero, refl, sym, ap, arith}
+use Rattle.std.proofs.Common.{◌≡◌, ◌≢◌, ◌∙◌, ℕ, ◌+◌, ◌%◌, ◌<◌, ◌==◌, Bool, true, false, List, [], ◌∷◌, ◌++◌, cond, length, length-append, slice_index_or, slice_set, map, suc, zero, refl, sym, ap, arith}
 use Rattle.std.specs.Prelude.{Ok, Err, OnErr, Result}
 use Rattle.std.proofs.lemmas.Grind.{get_or-set_at}
 use Rattle.std.proofs.lemmas.List.{append-nil, get_or_default, get_or-set_other}
@@ -7,7 +7,8 @@ use Rattle.std.proofs.lemmas.List.Elements.{filter-append}
 use Rattle.std.proofs.lemmas.Bool.Decides.{nat_tests}
 use Rattle.mimic_pool.specs.declared.share.Assigned.{Assigned}
 use Rattle.mimic_pool.specs.declared.share.Share.{Share}
-use Rattle.mimic_pool.specs.Share.{AreShares, assigned_from, items_of, share_of}
+use Rattle.mimic_pool.specs.Share.{AreShares, IsDealt, assigned_from, items_of, share_of}
+use Rattle.mimic_pool.proofs.Elements.{with_one}
 
 -- what holds anyhow holds of a refusal
 pub on_refusal : {T E P : Type 0} (r : Result T E) → P → OnErr r P
@@ -15,6 +16,12 @@ on_refusal (Ok x) p = tt
 on_refusal (Err e) p = p
 
 module _ {X : Type 0} where
+  -- a share more, to which nothing was dealt either
+  pub none_dealt : (n : ℕ) (S new : List (Share X)) (s : Share X) → length S ≡ n → new ≡ S ++ s ∷ [] → items_of s ≡ [] → IsDealt [] [] n S → IsDealt [] [] (n + 1) new
+  none_dealt n S new s len is none dealt = λ w d low.
+      let count = ap length is in
+      with_one (λ s. items_of s ≡ []) s S new is (λ k d below. dealt k d (omega (arith, below, len))) none w d (omega (arith, low, len, count, length-append S (s ∷ [])))
+
   -- a runner more is assigned behind the others
   pub assigned_more : (k p : ℕ) (rs : List X) (bs : List Bool) (r : X) (b : Bool) → k + length rs ≡ p → length rs ≡ length bs
       → assigned_from k (rs ++ r ∷ []) (bs ++ b ∷ []) ≡ assigned_from k rs bs ++ record { place = p; runner = r; ignored = b } ∷ []

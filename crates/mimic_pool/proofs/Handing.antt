@@ -1,10 +1,18 @@
 -- A worker's end of a queue hands out a trial, and ends.
-use Rattle.std.proofs.Common.{◌≡◌, ◌∙◌, ◌∷◌, ◌++◌, ◌+◌, ℕ, [], All, List, ap, append_assoc, refl, subst, sym}
+use Rattle.std.proofs.Common.{◌≡◌, ◌∙◌, ◌∷◌, ◌++◌, ◌+◌, ℕ, [], All, Bool, List, ap, append_assoc, refl, subst, sym}
 use Rattle.std.specs.Prelude.{IfSome, MatchOption, None, Option, Some}
 use Rattle.std.proofs.lemmas.List.Elements.{All-head}
-use Rattle.mimic_pool.specs.Queue.{GoesOn, MayTake}
+use Rattle.std.specs.declared.alloc.Global.{Global}
+use Rattle.std.specs.declared.thread.PromisedHandle.{PromisedHandle}
+use Rattle.crossbeam_queue.specs.SegTies.{IsSegPassOf, SegId}
+use Rattle.mimic_trial.specs.Promise.{Gives}
+use Rattle.mimic_pool.specs.Answers.{Answers}
+use Rattle.mimic_pool.specs.Passes.{account_of}
+use Rattle.mimic_pool.specs.Queue.{GoesOn, HasTaken, IsJob, MayTake}
 use Rattle.mimic_pool.specs.Taking.{goes_on_twice}
 use Rattle.mimic_pool.specs.declared.share.Assigned.{Assigned}
+use Rattle.mimic_pool.specs.declared.taker.AnswersTaken.{AnswersTaken}
+use Rattle.mimic_pool.specs.declared.taker.Taken.{Taken}
 use Rattle.mimic_pool.specs.declared.taker.Taker.{Taker}
 use Rattle.mimic_pool.proofs.Sources.{MayRun, rest_may_run}
 
@@ -34,3 +42,14 @@ module _ {X R : Type 0} where
   may_take_rest can_run (Some item) mid rest room was is = λ left more.
       let may = rest_may_run can_run (Some item) mid.left rest room is (was.runnable, was.fits) left more in
       record { ours = was.ours; some_part = was.some_part; runnable = may.0; fits = may.1 }
+
+module _ {X T : Type 0} where
+  -- what the worker of a job returned
+  pub job_done : (gives : Gives X) (queue : SegId Global) (mode : Bool) (handle : PromisedHandle T (AnswersTaken X)) (taken : Taken X) → IsJob queue mode handle
+      → HasTaken gives handle.promise.test_mode handle.promise.queue.value.queue taken → HasTaken gives mode queue taken
+  job_done gives queue mode handle taken job worked = record {
+    ours = subst (λ q. IsSegPassOf q taken.pass) job.same worked.ours;
+    parts = worked.parts;
+    put = worked.put;
+    answers = subst (λ mode. Answers gives mode (account_of taken.pass).taken taken.rows.items) job.mode_is worked.answers;
+  }

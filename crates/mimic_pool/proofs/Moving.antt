@@ -27,3 +27,7 @@ module _ (n n' left rest : ℕ) (one : n' ≡ n + 1) (next : rest + 1 ≡ left) 
 -- one of those that are left is gone
 pub fits_rest : (n left rest c : ℕ) → rest + 1 ≡ left → n + left ≤ c → n + rest ≤ c
 fits_rest n left rest c next fits = omega arith
+
+-- room that is kept
+pub room_kept : (n c c' : ℕ) → c' ≡ c → n ≤ c → n ≤ c'
+room_kept n c c' same fits = omega arith

@@ -1,9 +1,11 @@
 -- If each place agrees with the joined outcomes, the rows of a desk are the joined outcomes.
-use Rattle.std.proofs.Common.{◌≡◌, ◌<◌, ◌∙◌, ◌++◌, ℕ, List, [], ◌∷◌, Option, None, Some, ap, is_some, refl, subst, sym}
+use Rattle.std.proofs.Common.{◌≡◌, ◌<◌, ◌∙◌, ◌++◌, ℕ, List, [], ◌∷◌, Bor, Option, None, Some, ap, is_some, length, refl, slice_index_or, subst, sym}
 use Rattle.std.specs.Prelude.{slice_get}
+use Rattle.std.specs.Option.{option_copied}
+use Rattle.std.proofs.lemmas.Option.{slice_get-get_or}
 use Rattle.mimic_trial.specs.declared.outcome.Outcome.{Outcome}
 use Rattle.mimic_trial.specs.Places.{Placed, placed_at, placed_if, places_of}
-use Rattle.mimic_pool.specs.Arrivals.{AgreesAt, Arrived}
+use Rattle.mimic_pool.specs.Arrivals.{AgreesAt, Arrived, arrived_at}
 use Rattle.mimic_pool.specs.Seats.{IsSeated, arrived_of, lying_at, seated_at}
 use Rattle.mimic_pool.specs.declared.desk.Desk.TheInside.{Inside}
 use Rattle.mimic_pool.proofs.Seating.{lies_below, row_shown}
@@ -46,3 +48,8 @@ settled desk shown joined seated is = subst (λ (d : Arrived). ((p : ℕ) → p 
 -- two outcomes are the same if they are so in `Some`
 pub some_same : (a b : Outcome) → Some a ≡ Some b → a ≡ b
 some_same a b e = cc
+
+-- what was found at the place is the joined outcome there
+pub agrees_here : (rows : List Placed) (joined : List Outcome) (place : ℕ) (seat : Option (Bor Outcome)) (found : Outcome) → place < length joined → option_copied seat ≡ arrived_at place rows → found ≡ slice_index_or joined place found
+    → ((o : Outcome) → option_copied seat ≡ Some o → found ≡ o) → AgreesAt rows joined place
+agrees_here rows joined place seat found low sees value agrees = λ o at. slice_get-get_or joined place found low ∙ ap Some (sym value ∙ agrees o (sees ∙ at))

@@ -161,8 +161,6 @@ fn report_behind(board: &mut Board, place: usize, outcome: Outcome) -> Result<bo
 // Room for a time of each of `count` trials.
 pub(crate) fn zero_times(alloc: Global, count: usize) -> Result<Vec<AtomicU64>, AllocError> {
     let mut times = Vec::with_capacity(alloc, count)?;
-    for _ in 0..count {
-        times.push(AtomicU64::new(0))?;
-    }
+    times.resize_with(count, || AtomicU64::new(0))?;
     Ok(times)
 }

@@ -3,8 +3,7 @@ use Rattle.std.specs.Arc.{arc_value}
 use Rattle.std.specs.List.{flat_map}
 use Rattle.std.specs.Vec.Iter.{into_iter_items, into_iter_len}
 use Rattle.std.proofs.lemmas.List.Folds.{flat_map-map}
-use Rattle.crossbeam_queue.specs.SegTies.{IsSegPassOf}
-use Rattle.mimic_pool.specs.Answers.{Answers}
+use Rattle.mimic_pool.specs.Balance.{all_parts}
 use Rattle.mimic_pool.specs.Joined.{AreJoined}
 use Rattle.mimic_pool.specs.Passes.{account_of}
 use Rattle.mimic_pool.specs.Queue.{IsJob}
@@ -12,13 +11,14 @@ use Rattle.mimic_pool.specs.Rows.{rows_in}
 use Rattle.mimic_pool.proofs.Accounts.{absorbed}
 use Rattle.mimic_pool.proofs.Elements.{first_of, rest_of}
 use Rattle.mimic_pool.proofs.Emptying.{rows_pushed, takes_any, takes_both, takes_whole}
+use Rattle.mimic_pool.proofs.Handing.{job_done}
 use Rattle.mimic_pool.proofs.Moving.{moved, moved_below}
 use Rattle.mimic_pool.proofs.queue.join_takers.Goals as goal
 
 pub absorb-requires-clause-other : goal.absorb-requires-clause-other
 absorb-requires-clause-other g c =
     let job = first_of (IsJob (arc_value c.args.crew.queue).queue c.args.crew.test_mode) c.in-Some.handle (into_iter_items c.next.new.self) (into_iter_items c.loop-handle.handle-iterator) c.in-Some.ensures.steps.0 c.loop-handle.invariant.jobs in
-    let ours = subst (λ q. IsSegPassOf q c.join-rows.result.pass) job.same c.join-rows.ensures.ours in
+    let ours = (job_done g.T.Task.gives (arc_value c.args.crew.queue).queue c.args.crew.test_mode c.in-Some.handle c.join-rows.result job c.join-rows.ensures).ours in
     search rules
 
 pub loop-handle-init : goal.loop-handle-init
@@ -45,18 +45,17 @@ loop-handle-preserved g c =
     let pushed = c.push_reserved.ensures in
     let IsMine = IsJob (arc_value c.args.crew.queue).queue c.args.crew.test_mode in
     let job = first_of IsMine c.in-Some.handle (into_iter_items rest) (into_iter_items left) next.0 was.jobs in
-    let worked = c.join-rows.ensures in
+    let worked = job_done g.T.Task.gives (arc_value c.args.crew.queue).queue c.args.crew.test_mode c.in-Some.handle c.join-rows.result job c.join-rows.ensures in
     let old = account_of c.loop-handle.pass in
     let other = account_of c.join-rows.result.pass in
     let new = account_of c.absorb.new.pass in
     let both = absorbed new old other c.absorb.ensures.both worked.parts worked.put in
-    let answers = subst (λ mode. Answers g.T.Task.gives mode other.taken c.join-rows.result.rows.items) job.mode_is worked.answers in
     record {
       ours = search rules;
       some_part = both.some_part;
-      parts = moved old.parts new.parts (into_iter_len left) (into_iter_len rest) both.parts_are next.1 ∙ was.parts;
-      put = both.put_is ∙ was.put;
-      answered = takes_both g.T.Task.gives c.args.crew.test_mode c.args.whole old.taken other.taken new.taken (flat_map (λ rows. rows.items) joined.items) c.join-rows.result.rows.items (flat_map (λ rows. rows.items) more.items) both.taken_is (rows_pushed (λ rows. rows.items) joined.items more.items c.join-rows.result.rows pushed.items) answers was.answered;
+      parts = ◌∙◌ {c = all_parts} (moved old.parts new.parts (into_iter_len left) (into_iter_len rest) both.parts_are next.1) was.parts;
+      put = ◌∙◌ {c = (account_of c.args.crew.pass).put} both.put_is was.put;
+      answered = takes_both g.T.Task.gives c.args.crew.test_mode c.args.whole old.taken other.taken new.taken (flat_map (λ rows. rows.items) joined.items) c.join-rows.result.rows.items (flat_map (λ rows. rows.items) more.items) both.taken_is (rows_pushed (λ rows. rows.items) joined.items more.items c.join-rows.result.rows pushed.items) worked.answers was.answered;
       jobs = rest_of IsMine c.in-Some.handle (into_iter_items rest) (into_iter_items left) next.0 was.jobs;
       fits = moved_below (vec_len joined) (vec_len more) (into_iter_len left) (into_iter_len rest) pushed.len next.1 (vec_capacity joined) (vec_capacity more) pushed.capacity was.fits;
     }
@@ -69,6 +68,7 @@ returns g c = record {
       let joined = c.push_reserved-2.new.self.items in
       let before = flat_map (λ rows. rows.items) c.loop-handle.joined.items in
       let rows = rows_pushed (λ rows. rows.items) c.loop-handle.joined.items joined c.take_left-rows.result c.push_reserved-2.ensures.items in
-      let all = takes_whole g.T.Task.gives c.args.crew.test_mode c.args.whole trials (account_of c.take_left-rows.new.pass).put (account_of c.take_left-rows.new.pass).taken (map rows_in joined) (before ++ c.take_left-rows.result.items) (whole.put ∙ was.put ∙ runs.put) whole.all (sym rows ∙ sym (flat_map-map (λ (rows : _). rows) rows_in joined)) (whole.answers before was.answered) in
+      let put = ◌∙◌ {b = (account_of c.loop-handle.pass).put} whole.put (◌∙◌ {b = (account_of c.args.crew.pass).put} was.put runs.put) in
+      let all = takes_whole g.T.Task.gives c.args.crew.test_mode c.args.whole trials (account_of c.take_left-rows.new.pass).put (account_of c.take_left-rows.new.pass).taken (map rows_in joined) (before ++ c.take_left-rows.result.items) put whole.all (sym rows ∙ sym (flat_map-map (λ (rows : _). rows) rows_in joined)) (whole.answers before was.answered) in
       subst (λ mode. AreJoined g.T.Task.gives mode trials c.args.whole (map rows_in joined)) runs.mode_is all;
 }

@@ -2,6 +2,7 @@ use Rattle.std.proofs.Common.{◌≡◌, ◌∙◌, [], ap, length, refl, rules,
 use Rattle.std.specs.Arc.{arc_value}
 use Rattle.std.specs.List.{flat_map}
 use Rattle.std.specs.Vec.Iter.{into_iter_items, into_iter_len}
+use Rattle.mimic_pool.specs.Balance.{all_parts}
 use Rattle.mimic_pool.specs.Joined.{AnswersSome}
 use Rattle.mimic_pool.specs.Passes.{account_of}
 use Rattle.mimic_pool.specs.Queue.{IsFresh, IsJob}
@@ -42,7 +43,7 @@ loop-start-preserved-in-Ok g c =
     record {
       ours = was.ours;
       some_part = was.some_part;
-      parts = moved_behind (vec_len handles) (vec_len more) (into_iter_len left) (into_iter_len rest) pushed.len next.1 (account_of c.loop-start.pass).parts ∙ was.parts;
+      parts = ◌∙◌ {c = all_parts} (moved_behind (vec_len handles) (vec_len more) (into_iter_len left) (into_iter_len rest) pushed.len next.1 (account_of c.loop-start.pass).parts) was.parts;
       put = was.put;
       answered = was.answered;
       jobs = with_one (IsJob q c.args.test_mode) c.in-Ok.handle handles.items more.items pushed.items was.jobs (subst (λ q. IsJob q c.args.test_mode c.in-Ok.handle) same c.in-Ok.ensures.started);
@@ -69,8 +70,8 @@ loop-start-preserved g c =
     record {
       ours = search rules;
       some_part = both.some_part;
-      parts = moved_before old.parts new.parts (into_iter_len left) (into_iter_len rest) both.parts_are next.1 (vec_len c.loop-start.handles) ∙ was.parts;
-      put = both.put_is ∙ was.put;
+      parts = ◌∙◌ {c = all_parts} (moved_before old.parts new.parts (into_iter_len left) (into_iter_len rest) both.parts_are next.1 (vec_len c.loop-start.handles)) was.parts;
+      put = ◌∙◌ {c = (account_of c.args.starts.pass).put} both.put_is was.put;
       answered = takes_both g.T.Task.gives c.args.test_mode true old.taken other.taken new.taken (flat_map (λ rows. rows.items) joined.items) c.in-Err.taken.rows.items (flat_map (λ rows. rows.items) more.items) both.taken_is (rows_pushed (λ rows. rows.items) joined.items more.items c.in-Err.taken.rows pushed.items) worked.answers was.answered;
       jobs = was.jobs;
       left = rest_of (IsFresh q) c.in-Some.start (into_iter_items rest) (into_iter_items left) next.0 was.left;

@@ -1,4 +1,5 @@
 use Rattle.std.proofs.Common.{◌∙◌, ◌++◌, subst, sym}
+use Rattle.mimic_pool.specs.Balance.{all_parts}
 use Rattle.mimic_pool.specs.Joined.{AnswersSome}
 use Rattle.mimic_pool.specs.Passes.{account_of}
 use Rattle.mimic_pool.specs.Share.{items_of}
@@ -24,8 +25,8 @@ loop-preserved g c =
     let rows = c.end_batch-rows.result in
     record {
       ours = c.take.ensures.ours;
-      parts = took.parts_are ∙ was.parts;
-      put = took.put_is ∙ was.put;
+      parts = ◌∙◌ {c = all_parts} took.parts_are was.parts;
+      put = ◌∙◌ {c = (account_of c.args.pass.now).put} took.put_is was.put;
       fits = room_left old.put old.taken items c.loop.rows.room was.fits new.put new.taken took.put_is took.taken_is rows.room c.end_batch-rows.ensures.room;
       answers = λ before answered. subst (λ l. AnswersSome g.T.Task.gives c.args.test_mode c.args.whole l (before ++ rows.items)) (sym took.taken_is) (c.end_batch-rows.ensures.answers old.taken before (was.answers before answered));
     }
