@@ -55,7 +55,7 @@ pub(crate) fn after_quoted<'a>(line: &'a [u8], front: &[u8], text: &str) -> Opti
 }
 
 // Returns what follows the escaped form of this text, if the line begins with it.
-#[tactic(auto, using(crate::proofs::QuotedTexts::plain_then, crate::proofs::QuotedTexts::first_then, crate::proofs::QuotedTexts::behind_first))]
+#[tactic(auto, using(crate::proofs::QuotedTexts::behind_first))]
 fn after_escaped<'a>(line: &'a [u8], text: &[u8]) -> Option<&'a [u8]>
     ensures { Follows (escaped text.now) line.now result }
 {

@@ -1,5 +1,6 @@
-use Rattle.std.proofs.Common.{rules, ◌≡◌, ◌≤◌, get_or, drop, arith, add-zero}
-use Rattle.std.proofs.lemmas.List.{get_or-drop, get_or_past}
+use Rattle.std.proofs.Common.{rules, ◌≡◌, ◌≤◌, get_or, drop, arith, add-zero, below_more, sym}
+use Rattle.std.specs.Int.{IsInRange}
+use Rattle.std.proofs.lemmas.List.{get_or-drop, get_or_past, take-append-drop}
 use Rattle.mimic_events.proofs.Digits.{ends_at, front_digits, one_more, too_large}
 use Rattle.mimic_events.proofs.numbers.digits_at.Goals as goal
 use Rattle.mimic_events.proofs.numbers.digits_at.Goals.{then-loop-len-test+else-is_ascii_digit, else-loop-len-test}
@@ -19,7 +20,7 @@ returns-in_err-number c =
 pub loop-len-preserved : goal.loop-len-preserved
 loop-len-preserved c = record {
   within = omega arith;
-  digits = λ i lt. search (rules, c.if-is_ascii_digit.ensures.cases);
+  digits = below_more (λ i. IsInRange 48 57 (get_or c.args.bytes.now i 0)) c.loop-len.len c.loop-len.invariant.digits c.if-is_ascii_digit.ensures.cases;
   fits = omega (arith, c.in_ok-number.ensures);
   value = omega (
     arith,
@@ -42,7 +43,7 @@ returns c =
       c.loop-len.invariant.fits,
       c.loop-len.invariant.value,
       record {
-        parts = search rules;
+        parts = sym (take-append-drop c.loop-len.len c.args.bytes.now);
         digits = front_digits c.args.bytes.now c.loop-len.len c.loop-len.invariant.within c.loop-len.invariant.digits;
         stop = ends_at (drop c.loop-len.len c.args.bytes.now) (rw (get_or-drop c.loop-len.len c.args.bytes.now 0 0, add-zero) stop);
       },

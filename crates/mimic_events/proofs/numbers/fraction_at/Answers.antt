@@ -1,7 +1,10 @@
 use Rattle.std.proofs.Common.{◌*◌, arith, rules}
-use Rattle.mimic_events.proofs.Digits.{fraction_found, fraction_over, fraction_wrong}
+use Rattle.mimic_events.proofs.Digits.{fraction_found, fraction_over, fraction_wrong, no_point}
 use Rattle.mimic_events.proofs.numbers.fraction_at.Goals as goal
 use Rattle.mimic_events.proofs.numbers.fraction_at.Goals.{then-is_empty-via-then-is_empty, then-is_empty-via-else-is_empty+then-digits-gt9, then-is_empty-via-else-is_empty+else-digits-gt9+then-digits-eq48}
+
+pub returns-in_default : goal.returns-in_default
+returns-in_default c = no_point c.args.bytes.now c.in_default.ensures
 
 pub returns-in_err-digits : goal.returns-in_err-digits
 returns-in_err-digits c = rw c.from_residual.ensures (fraction_over c.args.bytes.now c.in-Some.rest.now c.in-Some.ensures c.in_err-digits.ensures)

@@ -1,5 +1,5 @@
 use Rattle.std.proofs.Common.{rules, ◌≡◌, ◌++◌, ◌∙◌, Some, None, drop, sym}
-use Rattle.mimic_events.proofs.QuotedTexts.{plain_same, plain_stop, first_then, first_stop, behind_first, nothing_left}
+use Rattle.mimic_events.proofs.QuotedTexts.{plain_same, plain_stop, plain_then, first_then, first_stop, behind_first, nothing_left}
 use Rattle.mimic_events.proofs.quoted_text.after_escaped.Goals as goal
 
 pub returns-in_err-rest : goal.returns-in_err-rest
@@ -26,3 +26,15 @@ pub returns-then-eq : goal.returns-then-eq
 returns-then-eq c =
     let same : c.plain_at.result.0.now ≡ c.args.text.now = search rules in
     plain_same c.args.text.now c.plain_at.result.0.now c.plain_at.result.1.now c.args.line.now c.plain_at.ensures.parts c.plain_at.ensures.plain same
+
+pub loop-left-init : goal.loop-left-init
+loop-left-init c = λ o h.
+    plain_then c.args.text.now c.plain_at-2.result.0.now c.plain_at-2.result.1.now c.args.line.now c.in_ok-rest.rest.now o c.plain_at-2.ensures.parts c.plain_at-2.ensures.plain c.in_ok-rest.ensures h
+
+pub loop-left-preserved : goal.loop-left-preserved
+loop-left-preserved c = λ o h.
+    let left = c.loop-left.left.now in
+    let parts : drop 1 left ≡ c.plain_at-in-len1-up.result.0.now ++ c.plain_at-in-len1-up.result.1.now = sym (behind_first left) ∙ c.plain_at-in-len1-up.ensures.parts in
+    c.loop-left.invariant o (first_then left c.loop-left.rest.now c.in_ok-rest-2.rest.now o c.in-len1-up.len_at_least c.in_ok-rest-2.ensures
+    (plain_then (drop 1 left) c.plain_at-in-len1-up.result.0.now c.plain_at-in-len1-up.result.1.now c.in_ok-rest-2.rest.now c.in_ok-rest-3.rest.now o parts c.plain_at-in-len1-up.ensures.plain
+    c.in_ok-rest-3.ensures h))
