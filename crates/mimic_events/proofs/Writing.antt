@@ -1,6 +1,6 @@
 -- A report that is written: its text, part by part.
 use Rattle.std.proofs.Common.{◌≡◌, ℕ, List, [], ◌∷◌, ◌++◌, length, map, refl, sym, ap, subst, ◌∙◌, append-nil}
-use Rattle.std.specs.Prelude.{Result, Ok, Err, OnOk, Option, None, Some, All, ◌<◌, ◌^◌}
+use Rattle.std.specs.Prelude.{false, Result, Ok, Err, OnOk, Option, None, Some, All, ◌<◌, ◌^◌}
 use Rattle.std.specs.List.{concat, flat_map}
 use Rattle.std.proofs.lemmas.List.{length-map}
 use Rattle.std.proofs.lemmas.List.Elements.{All-map, recursion_from_All}
@@ -10,8 +10,9 @@ use Rattle.mimic_trial.specs.declared.outcome.conclusion.Conclusion.{Conclusion}
 use Rattle.mimic_trial.specs.Count.{counts_of}
 use Rattle.mimic_printer.specs.Json.{Entry, conclusion_of, entry_lines, FitsEntry, IsJsonReport, json_announcement, json_outcome, json_report, json_summary, json_title}
 use Rattle.mimic_printer.specs.Row.{Label}
-use Rattle.mimic_printer.specs.Sink.{Shown, Put, Stopped, Writes}
-use Rattle.mimic_printer.proofs.Appending.{Puts_then, Stopped-more, stop2}
+use Rattle.mimic_printer.specs.Sink.{Adds, Ends, keeps_fault}
+use Rattle.mimic_printer.specs.declared.sink.Sink.{Sink}
+use Rattle.mimic_printer.proofs.Adding.{adds_then}
 use Rattle.mimic_events.specs.Contents.{contents_read, entry_read}
 use Rattle.mimic_events.specs.Reading.{Decodes, IsReadAs}
 use Rattle.mimic_events.specs.declared.report.Report.{Report}
@@ -20,11 +21,9 @@ use Rattle.mimic_events.specs.Written.{FitsRow, row_lines}
 
 -- ---- a row
 
-pub row_put : {E T : Type 0} (a b : Shown) (l m : Label) (o : Outcome) (time : Option ℕ) (r : Result T E) → l ≡ m
-    → Writes a b (json_announcement l ++ json_outcome l o time) r → Writes a b (json_announcement m ++ (json_outcome m o time ++ [])) r
-row_put a b l m o time r e p =
-    subst (λ (x : Label). Writes a b (json_announcement x ++ (json_outcome x o time ++ [])) r) e
-    (subst (λ (t : List ℕ). Writes a b (json_announcement l ++ t) r) (sym (append-nil (json_outcome l o time))) p)
+pub row_added : {W : Type 0} {contents : W → Option (List ℕ)} {a b : Sink W} (l m : Label) (o : Outcome) (time : Option ℕ) → l ≡ m
+    → Adds contents a b (json_announcement l ++ json_outcome l o time) → Adds contents a b (json_announcement m ++ (json_outcome m o time ++ []))
+row_added l m o time e p = rw (append-nil, ← e) p
 
 -- ---- the text
 
@@ -54,28 +53,22 @@ spells r rows e fit h k = record {
 
 -- ---- its parts one after another
 
-pub stopped_title : {a b : Shown} (r : Report) (n : ℕ) → n ≡ length r.rows.items → Stopped a b (json_title n) → Stopped a b (json_report (contents_read r))
-stopped_title {a} {b} r n e h = subst (Stopped a b) (sym (report_parts r)) (Stopped-more _ _ (subst (λ (k : ℕ). Stopped a b (json_title k)) e h))
-
-pub stopped_rows : {a b c : Shown} (r : Report) (n : ℕ) (rows : List Row) → n ≡ length r.rows.items → rows ≡ r.rows.items → Put a b (json_title n) → Stopped b c (flat_map row_lines rows)
-    → Stopped a c (json_report (contents_read r))
-stopped_rows {a} {b} {c} r n rows e f p q =
-    subst (Stopped a c) (sym (report_parts r)) (stop2 _ _ _ (subst (λ (k : ℕ). Put a b (json_title k)) e p) (subst (λ (l : List Row). Stopped b c (flat_map row_lines l)) f q))
-
-pub all_put : {E T : Type 0} (a b c d : Shown) (r : Report) (n : ℕ) (rows : List Row) (counts : Conclusion) (x : Result T E) → n ≡ length r.rows.items → rows ≡ r.rows.items → counts ≡ conclusion_of (contents_read r)
-    → Put a b (json_title n) → Put b c (flat_map row_lines rows) → Writes c d (json_summary counts r.nanos) x → Writes a d (json_report (contents_read r)) x
-all_put a b c d r n rows counts x e f k o p q =
-    subst (λ (t : List ℕ). Writes a d t x) (sym (report_parts r))
-    (Puts_then a b d _ _ x (subst (λ (m : ℕ). Put a b (json_title m)) e o)
-    (Puts_then b c d _ _ x (subst (λ (l : List Row). Put b c (flat_map row_lines l)) f p) (subst (λ (m : Conclusion). Writes c d (json_summary m r.nanos) x) k q)))
+pub all_added : {W : Type 0} {contents : W → Option (List ℕ)} {a b c d : Sink W} (r : Report) (n : ℕ) (rows : List Row) (counts : Conclusion)
+    → n ≡ length r.rows.items → rows ≡ r.rows.items → counts ≡ conclusion_of (contents_read r)
+    → Adds contents a b (json_title n) → Adds contents b c (flat_map row_lines rows) → Adds contents c d (json_summary counts r.nanos)
+    → Adds contents a d (json_report (contents_read r))
+all_added r n rows counts e f k o p q =
+    rw (report_parts r, ← k, ← e, ← f) (adds_then _ _ o (adds_then _ _ p q))
 
 pub same_counts : (r : Report) (rows : List Row) (counts : Conclusion) → rows ≡ r.rows.items → counts ≡ counts_of (map (λ (row : Row). row.outcome) rows) r.filtered_out
     → counts ≡ conclusion_of (contents_read r)
 same_counts r rows counts same e = rw same at e ∙ ap (λ (os : List Outcome). counts_of os r.filtered_out) (sym (outcomes_same r.rows.items))
 
-pub on_ok : {E T : Type 0} (r : Result T E) (P : Type 0) → P → OnOk r P
-on_ok (Ok x) P p = p
-on_ok (Err e) P p = tt
+-- what holds if no fault was kept before the last part holds if the text was written to its end
+pub on_ended : {W E T : Type 0} {contents : W → Option (List ℕ)} {a b c : Sink W} {text : List ℕ} {r : Result T E} → Adds contents a b text → Ends b c r
+    → (P : Type 0) → (keeps_fault a ≡ false → P) → OnOk r P
+on_ended {r = Ok x} last end P p = p (last.whole end.counted.0).0
+on_ended {r = Err e} last end P p = tt
 
 -- ---- read back
 

@@ -1,8 +1,8 @@
 //! Writes reports, as those that were read or built.
-ghost use Rattle.std.specs.Prelude.{◌≡◌, All, OnOk, true};
+ghost use Rattle.std.specs.Prelude.{◌≡◌, All, OnOk, false, true};
 ghost use Rattle.std.specs.List.{flat_map};
 ghost use Rattle.mimic_printer.specs.Json.{FitsTime, json_report};
-ghost use Rattle.mimic_printer.specs.Sink.{HasFaultLeft, Puts};
+ghost use Rattle.mimic_printer.specs.Sink.{Adds, HasFaultLeft, Puts, keeps_fault};
 ghost use Rattle.mimic_trial.specs.Promise.{FitsTypes};
 ghost use Rattle.mimic_events.specs.Contents.{Spells, contents_read};
 ghost use Rattle.mimic_events.specs.Reading.{IsReadAs};
@@ -10,7 +10,7 @@ ghost use Rattle.mimic_events.specs.Written.{FitsRow, row_lines};
 
 use crate::counts::counts_of_rows;
 use crate::report::{Report, Row};
-use mimic_printer::json::{put_summary, put_title};
+use mimic_printer::json::{add_summary, add_title};
 use mimic_printer::{Sink, WriteFault, json};
 use mimic_trial::Outcome;
 use std::io::Write;
@@ -18,7 +18,6 @@ use std::io::Write;
 /// Writes the report in JSON: the one text that `read_report` reads as this report. It takes no memory.
 ///
 /// With a fault a beginning of the text was written.
-#[tactic(auto, using(crate::proofs::Writing::stopped_title))]
 pub fn write_report<W: Write>(report: &Report, sink: &mut Sink<W>) -> Result<(), WriteFault>
     requires { HasFaultLeft sink.old }
     ensures written { Puts W.contents sink.old sink.new
@@ -33,39 +32,52 @@ pub fn write_report<W: Write>(report: &Report, sink: &mut Sink<W>) -> Result<(),
         filtered_out,
         nanos,
     } = report;
-    put_title(sink, rows.len() as u64)?;
-    put_rows(sink, rows)?;
-    put_summary(sink, &counts_of_rows(rows, *filtered_out), *nanos)
+    add_title(sink, rows.len() as u64);
+    add_rows(sink, rows);
+    add_summary(sink, &counts_of_rows(rows, *filtered_out), *nanos);
+    sink.end()
 }
 
-fn put_rows<W: Write>(sink: &mut Sink<W>, rows: &[Row]) -> Result<(), WriteFault>
-    requires { HasFaultLeft sink.old }
-    ensures written { Puts W.contents sink.old sink.new (flat_map row_lines rows.now) result }
-    ensures fits { OnOk result (All FitsRow rows.now) }
+// Adds the rows up to a fault. Without one all were looked at.
+fn add_rows<W: Write>(sink: &mut Sink<W>, rows: &[Row])
+    ensures written { Adds W.contents sink.old sink.new (flat_map row_lines rows.now) }
+    ensures fits { keeps_fault sink.new ≡ false → All FitsRow rows.now }
 {
     for row in rows {
-        put_row(sink, row)?;
+        if sink.has_fault() {
+            break;
+        }
+        add_row(sink, row);
     }
-    Ok(())
 }
 
 /// Writes the two lines of a row in JSON: its announcement and its outcome. It takes no memory.
 ///
 /// With a fault a beginning of the lines was written.
-#[tactic(auto, using(crate::proofs::Writing::row_put))]
+#[tactic(auto, using(mimic_printer::proofs::Adding::puts_added))]
 pub fn put_row<W: Write>(sink: &mut Sink<W>, row: &Row) -> Result<(), WriteFault>
     requires { HasFaultLeft sink.old }
     ensures written { Puts W.contents sink.old sink.new (row_lines row.now) result }
     ensures fits { OnOk result (FitsRow row.now) }
 {
+    add_row(sink, row);
+    sink.end()
+}
+
+/// Adds the two lines of a row in JSON, as `put_row` writes them.
+#[tactic(auto, using(crate::proofs::Writing::row_added))]
+pub fn add_row<W: Write>(sink: &mut Sink<W>, row: &Row)
+    ensures written { Adds W.contents sink.old sink.new (row_lines row.now) }
+    ensures fits { FitsRow row.now }
+{
     prove!(row_fits(row));
-    json::put_row(
+    json::add_row(
         sink,
         row.name.as_str(),
         row.kind.as_str(),
         &row.outcome,
         row.nanos,
-    )
+    );
 }
 
 // Shows that the name, the kind and the message of a row are text, and that its numbers fit.
