@@ -43,11 +43,6 @@ pub on_err : {T E : Type 0} (r : Result T E) (error : E) (Q : E → Type 0) → 
 on_err (Ok x) error Q e q = absurd e
 on_err (Err x) error Q e q = subst Q (sym e) q
 
--- what follows of an answer, either way
-pub match_more : {T E : Type 0} (r : Result T E) (P P' : T → Type 0) (Q Q' : E → Type 0) → MatchResult r P Q → ((x : T) → P x → P' x) → ((e : E) → Q e → Q' e) → MatchResult r P' Q'
-match_more (Ok x) P P' Q Q' m f h = f x m
-match_more (Err e) P P' Q Q' m f h = h e m
-
 -- whatever was written comes after what was there before
 pub follows : {E T : Type 0} (a b c : Shown) (s t : List ℕ) (r : Result T E) → Put a b s → Writes b c t r → Follows a c
 follows a b c s t (Ok x) p q =
@@ -184,7 +179,7 @@ module _ {R : Type 0} (gives : Gives R) (mode : Bool) (items : List (Assigned R)
   titled = subst (λ (k : ℕ). Put a b (title_text p k)) count title
 
   -- what was written if rows were refused that came after the title
-  pub after_title : (all asked : Bool) (e : RunError) → GatheringRefused gives mode items all asked p infos b c e → RowsRefused gives mode items asked p infos a c e
+  after_title : (all asked : Bool) (e : RunError) → GatheringRefused gives mode items all asked p infos b c e → RowsRefused gives mode items asked p infos a c e
   after_title all asked OutOfMemory h = absurd h
   after_title all asked (Write fault) (placed, left, rows, some, none, timed, s) = inr (placed, left, rows, some, timed, Put-Stopped _ _ titled s)
   after_title all asked ZeroThreads h = absurd h
@@ -193,8 +188,15 @@ module _ {R : Type 0} (gives : Gives R) (mode : Bool) (items : List (Assigned R)
       (low, record { text = title_text p (length infos) ++ h.text; appended = Appends-trans a.bytes b.bytes c.bytes (title_text p (length infos)) h.text titled.appended h.appended; kept = omega (arith, titled.faults, h.kept); one = omega (arith, titled.faults, h.one) })
 
   -- and what was written if they were not
-  pub titled_all : (asked : Bool) (desk : Arrived) → IsGathered gives mode items desk × PutsArrived asked p infos desk b c → IsGathered gives mode items desk × PutsTitled asked p infos desk a c
+  titled_all : (asked : Bool) (desk : Arrived) → IsGathered gives mode items desk × PutsArrived asked p infos desk b c → IsGathered gives mode items desk × PutsTitled asked p infos desk a c
   titled_all asked desk (gathered, put) = (gathered, (put.0, put.1, Put-trans _ _ titled put.2))
+
+  -- either way, with times as they are noted
+  pub rows_titled : (all timed asked : Bool) → timed ≡ asked → (r : Result Arrived RunError)
+      → MatchResult r (λ desk. IsGathered gives mode items desk × PutsArrived timed p infos desk b c) (λ e. GatheringRefused gives mode items all timed p infos b c e)
+      → MatchResult r (λ desk. IsGathered gives mode items desk × PutsTitled asked p infos desk a c) (λ e. RowsRefused gives mode items asked p infos a c e)
+  rows_titled all timed asked noted (Ok desk) h = subst (λ (t : Bool). IsGathered gives mode items desk × PutsTitled t p infos desk a c) noted (titled_all timed desk h)
+  rows_titled all timed asked noted (Err e) h = subst (λ (t : Bool). RowsRefused gives mode items t p infos a c e) noted (after_title all timed e h)
 
 -- ---- a difference
 
@@ -266,3 +268,12 @@ written_before (Err (Write fault)) P h = tt
 written_before (Err ZeroThreads) P h = absurd h
 written_before (Err Spawn) P h = absurd h
 written_before (Err (Arrival place)) P h = tt
+
+-- such a refusal comes when nothing was
+pub not_written : {T : Type 0} (r : Result T RunError) (P : Type 0) → P → OnNothingWritten r P
+not_written (Ok x) P p = tt
+not_written (Err OutOfMemory) P p = p
+not_written (Err (Write fault)) P p = tt
+not_written (Err ZeroThreads) P p = p
+not_written (Err Spawn) P p = tt
+not_written (Err (Arrival place)) P p = tt

@@ -68,11 +68,6 @@ module _ {R : Type 0} (gives : Gives R) (suite : Suite R) (can_run : R → Type 
   flags_of_infos : length bs ≡ length infos
   flags_of_infos = sym (flags_length suite.args suite.trials bs parts.each_flag) ∙ sym count
 
-  -- what holds of all runners and flags that were put holds of those of the trials
-  pub of_held : {P : List R → List Bool → Type 0}
-      → ((rs' : List R) (bs' : List Bool) → length rs' ≡ length infos → length bs' ≡ length infos → Holds can_run supply (assigned_from 0 rs' bs') → P rs' bs') → P rs bs
-  of_held said = said rs bs runners_of_infos flags_of_infos supplied.held
-
   pub held_of : (rs' : List R) × (bs' : List Bool) × (length rs' ≡ length infos) × (length bs' ≡ length infos) × Holds can_run supply (assigned_from 0 rs' bs')
   held_of = (rs, bs, runners_of_infos, flags_of_infos, supplied.held)
 
@@ -108,7 +103,7 @@ module _ {R : Type 0} (gives : Gives R) (suite : Suite R) (can_run : R → Type 
     as_many_infos = count ∙ sym (length_gathered gives suite.args suite.trials bs outs order parts.each_flag (of_trials order outs gathered))
 
     -- each place has its info
-    pub below : All (λ p. p < length infos) order
+    below : All (λ p. p < length infos) order
     below = subst (λ (n : ℕ). All (λ p. p < n) order) (sym as_many_infos) (order_below (length outs) order whole)
 
   -- ---- the report of some threads
@@ -121,22 +116,41 @@ module _ {R : Type 0} (gives : Gives R) (suite : Suite R) (can_run : R → Type 
     some_thread none = absurd (omega (arith, none, several))
 
     -- what is left if title and rows were refused
-    pub rows_refused : (asked : Bool) → asked ≡ suite.args.report_time → (a b : Shown) (w : Watched) (e : RunError) → IsRunning w
+    refused_by : (asked : Bool) → asked ≡ suite.args.report_time → (a b : Shown) (w : Watched) (e : RunError) → IsRunning w
         → RowsRefused gives (not suite.args.bench) (assigned_from 0 rs bs) asked suite.printer infos a b e → ReportRefused gives threads suite a b w e
-    rows_refused asked is a b w OutOfMemory r h = (some, h, r)
-    rows_refused asked is a b w (Write fault) r (inl s) =
+    refused_by asked is a b w OutOfMemory r h = (some, h, r)
+    refused_by asked is a b w (Write fault) r (inl s) =
         (in_order suite, IsPermutation-refl (in_order suite), (λ one. refl), some_thread, starts_title gives suite (in_order suite) a b w (length infos) count r s)
-    rows_refused asked is a b w (Write fault) r (inr (placed, left, rows, gathered, timed, s)) =
+    refused_by asked is a b w (Write fault) r (inr (placed, left, rows, gathered, timed, s)) =
         let P : List ℕ → Type 0 = λ t. Stopped a b t in
         let order = subst (λ (n : ℕ). IsPermutation (places_of placed ++ left) (range_with_len 0 n)) as_many_put gathered.places in
         let start = starts_some gives suite placed left rows (placed_own placed gathered.own) (timed_same asked is placed rows timed) a b w r (subst P (titled_same (rows_text suite.printer rows)) s) in
         (places_of placed ++ left, order, in_some_order, some_thread, start)
-    rows_refused asked is a b w ZeroThreads r h = absurd h
-    rows_refused asked is a b w Spawn r h = (several, some, subst (λ (n : ℕ). Put a b (title_text suite.printer n)) count h, r)
-    rows_refused asked is a b w (Arrival place) r (low, h) = (several, subst (λ (n : ℕ). place < n) count low, h, r)
+    refused_by asked is a b w ZeroThreads r h = absurd h
+    refused_by asked is a b w Spawn r h = (several, some, subst (λ (n : ℕ). Put a b (title_text suite.printer n)) count h, r)
+    refused_by asked is a b w (Arrival place) r (low, h) = (several, subst (λ (n : ℕ). place < n) count low, h, r)
 
-    module _ (asked : Bool) (is : asked ≡ suite.args.report_time) (desk : Arrived) (gathered : IsGathered gives (not suite.args.bench) (assigned_from 0 rs bs) desk) (a c : Shown)
-        (put : PutsTitled asked suite.printer infos desk a c) where
+    pub rows_refused : (asked : Bool) → asked ≡ suite.args.report_time → (a b : Shown) (w : Watched) (e : RunError) → IsRunning w
+        → ((rs' : List R) (bs' : List Bool) → length rs' ≡ length infos → length bs' ≡ length infos → Holds can_run supply (assigned_from 0 rs' bs')
+        → RowsRefused gives (not suite.args.bench) (assigned_from 0 rs' bs') asked suite.printer infos a b e) → ReportRefused gives threads suite a b w e
+    rows_refused asked is a b w e r said = refused_by asked is a b w e r (said rs bs runners_of_infos flags_of_infos supplied.held)
+
+    module _ (asked : Bool) (is : asked ≡ suite.args.report_time) (desk : Arrived) (a c : Shown)
+        (said : (rs' : List R) (bs' : List Bool) → length rs' ≡ length infos → length bs' ≡ length infos → Holds can_run supply (assigned_from 0 rs' bs')
+        → IsGathered gives (not suite.args.bench) (assigned_from 0 rs' bs') desk × PutsTitled asked suite.printer infos desk a c) where
+      gathered : IsGathered gives (not suite.args.bench) (assigned_from 0 rs bs) desk
+      gathered = (said rs bs runners_of_infos flags_of_infos supplied.held).0
+
+      put : PutsTitled asked suite.printer infos desk a c
+      put = (said rs bs runners_of_infos flags_of_infos supplied.held).1
+
+      -- the rows were written without a fault, and each place has its info
+      pub no_fault : c.faults ≡ a.faults
+      no_fault = put.2.faults
+
+      pub can_show : All (λ p. p < length infos) (places_of desk.rows)
+      can_show = below (places_of desk.rows) gathered.outcomes gathered.gathered
+
       abbrev placed : List Placed
       placed = placed_at (places_of desk.rows) gathered.outcomes
 

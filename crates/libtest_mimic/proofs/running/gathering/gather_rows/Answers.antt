@@ -7,7 +7,7 @@ use Rattle.mimic_pool.specs.Rows.{rows_in}
 use Rattle.mimic_pool.specs.Share.{assigned_from}
 use Rattle.mimic_pool.specs.Supply.{Runs, runs_all}
 use Rattle.mimic_printer.specs.Sink.{shown}
-use Rattle.libtest_mimic.specs.Gathering.{Gathered}
+use Rattle.libtest_mimic.specs.Gathering.{Gathered, GatheringRefused}
 use Rattle.mimic_pool.specs.Inbox.{is_timed}
 use Rattle.libtest_mimic.specs.Steps.{PutsArrived, WritesArrived}
 use Rattle.libtest_mimic.proofs.Arranged.{order_below}
@@ -53,7 +53,9 @@ gathered g c mode rs bs runners flags runs =
 pub returns-in_err-complete-clause-rows : goal.returns-in_err-complete-clause-rows
 returns-in_err-complete-clause-rows g c = λ rs bs mode runners flags runs.
     let arrivals = (goal.at.returns-in_err-complete-clause-rows g c).After-write_arrivals-written in
-    on_error c.from_residual.result _ _ _ c.from_residual.ensures.1
+    on_error c.from_residual.result _ _
+    (GatheringRefused g.R.Task.gives mode (assigned_from 0 rs bs) (runs_all c.args.started.crew) (is_timed c.args.started.inbox) c.args.printer.now c.args.infos.now (shown g.W.Write.contents c.args.sink.now) (shown g.W.Write.contents c.write_arrivals-written.new.sink))
+    c.from_residual.ensures.1
     (differs_refused g.R.Task.gives mode rs bs (runs_all c.args.started.crew) c.is_ok-whole.result (is_timed c.args.started.inbox) c.write_arrivals-written.result c.args.printer.now c.args.infos.now _ _ _ _ (places g arrivals)
     c.is_ok-whole.ensures.value c.order-arrived.ensures.whole (arrived g arrivals) (c.join_all-joined.ensures.joined mode _ runs) _ c.in_err-complete.ensures.completed)
 
@@ -65,7 +67,9 @@ returns-in_err-written-clause-rows g c = λ rs bs mode runners flags runs.
     let asked = is_timed c.args.started.inbox in
     let stopped = subst (λ r. WritesArrived asked c.args.printer.now c.args.infos.now c.write_arrivals-written.new.desk before after r) c.in_err-written.was (arrived g arrivals) in
     let part : c.is_ok-whole.result ≡ false = c.is_ok-whole.ensures.value ∙ ap is_ok c.in_err-written.was in
-    on_error c.from_residual-in_err-written.result _ _ _ c.from_residual-in_err-written.ensures.1
+    on_error c.from_residual-in_err-written.result _ _
+    (GatheringRefused g.R.Task.gives mode (assigned_from 0 rs bs) (runs_all c.args.started.crew) asked c.args.printer.now c.args.infos.now before after)
+    c.from_residual-in_err-written.ensures.1
     (arrival_refused g.R.Task.gives mode rs bs (runners ∙ sym flags) asked c.args.printer.now c.args.infos.now (runs_all c.args.started.crew) c.is_ok-whole.result _ _ _ c.in_ok-complete.ensures.completed part
     (c.join_all-joined.ensures.joined mode _ runs) (places g arrivals ∙ sym runners) before _ stopped)
 
@@ -92,7 +96,9 @@ returns-in_err-write_missing-clause-rows g c = λ rs bs mode runners flags runs.
     let count = ap length c.order-arrived.ensures.places ∙ length-map c.write_arrivals-written.new.desk.rows (λ r. r.0) in
     let asked = is_timed c.args.started.inbox in
     let stopped = stopped_missing asked c.args.printer.now c.args.infos.now _ _ _ _ done _ _ _ (all_arrived g whole) _ count (rw c.write_arrivals-written.ensures.timed at c.in_err-write_missing.ensures) in
-    on_error c.from_residual-in_err-write_missing.result _ _ _ c.from_residual-in_err-write_missing.ensures.1 (
+    on_error c.from_residual-in_err-write_missing.result _ _
+    (GatheringRefused g.R.Task.gives mode (assigned_from 0 rs bs) (runs_all c.args.started.crew) asked c.args.printer.now c.args.infos.now (shown g.W.Write.contents c.args.sink.now) (shown g.W.Write.contents c.write_missing.new.sink))
+    c.from_residual-in_err-write_missing.ensures.1 (
       c.complete.new.desk.rows,
       [],
       stopped.0,

@@ -1,7 +1,7 @@
 use Rattle.std.proofs.Common.{arith, refl}
 use Rattle.libtest_mimic.specs.Steps.{selected_suite}
 use Rattle.libtest_mimic.proofs.Gathering.{on_error}
-use Rattle.libtest_mimic.proofs.InWorkers.{below, failures_refused, held_of, of_held, reported_by, rows_refused, summary_refused}
+use Rattle.libtest_mimic.proofs.InWorkers.{can_show, failures_refused, held_of, no_fault, reported_by, rows_refused, summary_refused}
 use Rattle.libtest_mimic.proofs.running.in_workers.run_in_workers.Goals as goal
 
 pub write_rows-requires-clause-held : goal.write_rows-requires-clause-held
@@ -14,52 +14,48 @@ returns-in_err-desk-clause-reported g c =
     let suite = selected_suite c.args.selected in
     let shows = c.as_slice-infos.ensures.value in
     let supplied = c.in_ok-infos.ensures in
-    let rows = of_held g.R.Task.gives suite _ _ _ _ shows supplied c.in_err-desk.ensures.rows in
     on_error c.from_residual-in_err-desk.result _ _ _ c.from_residual-in_err-desk.ensures.1
-    (rows_refused _ suite _ _ _ _ shows supplied _ c.requires.several c.requires.some _ refl _ _ _ _ c.requires.running rows)
+    (rows_refused _ suite _ _ _ _ shows supplied _ c.requires.several c.requires.some _ refl _ _ _ _ c.requires.running c.in_err-desk.ensures.rows)
 
 pub print_failures_in-requires-clause-room : goal.print_failures_in-requires-clause-room
 print_failures_in-requires-clause-room g c =
     let suite = selected_suite c.args.selected in
     let shows = c.as_slice-infos.ensures.value in
     let supplied = c.in_ok-infos.ensures in
-    let rows = of_held g.R.Task.gives suite _ _ _ _ shows supplied c.in_ok-desk.ensures.rows in
-    omega (arith, rows.1.2.faults, c.requires.room)
+    let kept = no_fault g.R.Task.gives suite _ _ _ _ shows supplied _ c.requires.several c.requires.some _ refl _ _ _ c.in_ok-desk.ensures.rows in
+    omega (arith, kept, c.requires.room)
 
 pub print_failures_in-requires-clause-can_show : goal.print_failures_in-requires-clause-can_show
 print_failures_in-requires-clause-can_show g c =
     let suite = selected_suite c.args.selected in
     let shows = c.as_slice-infos.ensures.value in
     let supplied = c.in_ok-infos.ensures in
-    let rows = of_held g.R.Task.gives suite _ _ _ _ shows supplied c.in_ok-desk.ensures.rows in
-    below _ suite _ _ _ _ shows supplied _ _ rows.0.gathered
+    can_show g.R.Task.gives suite _ _ _ _ shows supplied _ c.requires.several c.requires.some _ refl _ _ _ c.in_ok-desk.ensures.rows
 
 pub write_summary-requires-clause-room : goal.write_summary-requires-clause-room
 write_summary-requires-clause-room g c =
     let suite = selected_suite c.args.selected in
     let shows = c.as_slice-infos.ensures.value in
     let supplied = c.in_ok-infos.ensures in
-    let rows = of_held g.R.Task.gives suite _ _ _ _ shows supplied c.in_ok-desk.ensures.rows in
-    omega (arith, rows.1.2.faults, c.in_ok-print_failures_in.ensures.faults, c.requires.room)
+    let kept = no_fault g.R.Task.gives suite _ _ _ _ shows supplied _ c.requires.several c.requires.some _ refl _ _ _ c.in_ok-desk.ensures.rows in
+    omega (arith, kept, c.in_ok-print_failures_in.ensures.faults, c.requires.room)
 
 pub returns-in_err-print_failures_in-clause-reported : goal.returns-in_err-print_failures_in-clause-reported
 returns-in_err-print_failures_in-clause-reported g c =
     let suite = selected_suite c.args.selected in
     let shows = c.as_slice-infos.ensures.value in
     let supplied = c.in_ok-infos.ensures in
-    let rows = of_held g.R.Task.gives suite _ _ _ _ shows supplied c.in_ok-desk.ensures.rows in
     on_error c.from_residual-in_err-print_failures_in.result _ _ _ c.from_residual-in_err-print_failures_in.ensures.1
-    (failures_refused _ suite _ _ _ _ shows supplied _ c.requires.several c.requires.some _ refl _ rows.0 _ _ rows.1 _ _ c.in_err-print_failures_in.field-0.0 c.requires.running c.in_err-print_failures_in.ensures)
+    (failures_refused _ suite _ _ _ _ shows supplied _ c.requires.several c.requires.some _ refl _ _ _ c.in_ok-desk.ensures.rows _ _ c.in_err-print_failures_in.field-0.0 c.requires.running c.in_err-print_failures_in.ensures)
 
 pub returns-in_err-write_summary-clause-reported : goal.returns-in_err-write_summary-clause-reported
 returns-in_err-write_summary-clause-reported g c =
     let suite = selected_suite c.args.selected in
     let shows = c.as_slice-infos.ensures.value in
     let supplied = c.in_ok-infos.ensures in
-    let rows = of_held g.R.Task.gives suite _ _ _ _ shows supplied c.in_ok-desk.ensures.rows in
     let summary = c.in_err-write_summary.ensures in
     on_error c.from_residual-in_err-write_summary.result _ _ _ c.from_residual-in_err-write_summary.ensures.1
-    (summary_refused _ suite _ _ _ _ shows supplied _ c.requires.several c.requires.some _ refl _ rows.0 _ _ rows.1 _ c.in_ok-print_failures_in.ensures
+    (summary_refused _ suite _ _ _ _ shows supplied _ c.requires.several c.requires.some _ refl _ _ _ c.in_ok-desk.ensures.rows _ c.in_ok-print_failures_in.ensures
     _ c.count_outcomes-conclusion.ensures _ _ _ summary.elapsed c.in_err-write_summary.field-0.0 summary.text)
 
 pub returns-clause-reported : goal.returns-clause-reported
@@ -67,7 +63,6 @@ returns-clause-reported g c =
     let suite = selected_suite c.args.selected in
     let shows = c.as_slice-infos.ensures.value in
     let supplied = c.in_ok-infos.ensures in
-    let rows = of_held g.R.Task.gives suite _ _ _ _ shows supplied c.in_ok-desk.ensures.rows in
     let summary = c.in_ok-write_summary.ensures in
-    reported_by _ suite _ _ _ _ shows supplied _ c.requires.several c.requires.some _ refl _ rows.0 _ _ rows.1 _ c.in_ok-print_failures_in.ensures
+    reported_by _ suite _ _ _ _ shows supplied _ c.requires.several c.requires.some _ refl _ _ _ c.in_ok-desk.ensures.rows _ c.in_ok-print_failures_in.ensures
     _ c.count_outcomes-conclusion.ensures _ _ _ summary.elapsed summary.fits summary.text

@@ -1,13 +1,41 @@
-use Rattle.std.proofs.Common.{◌≡◌, ◌≤◌, ◌∙◌, ℕ, Bool, List, arith, length, refl, sym}
+use Rattle.std.proofs.Common.{◌≡◌, ◌≤◌, ◌∙◌, ℕ, Bool, List, arith, inl, length, refl, sym}
 use Rattle.mimic_pool.specs.Inbox.{is_timed}
 use Rattle.mimic_pool.specs.Share.{assigned_from}
 use Rattle.mimic_pool.specs.Supply.{runs_all}
 use Rattle.libtest_mimic.proofs.Arranged.{length_assigned}
-use Rattle.libtest_mimic.proofs.Gathering.{after_title, match_more, titled_all, written_before}
+use Rattle.libtest_mimic.specs.Gathering.{IsOfRows}
+use Rattle.libtest_mimic.specs.declared.running.RunError.TheVariants.{OutOfMemory, Write}
+use Rattle.libtest_mimic.proofs.Gathering.{not_written, on_err, on_error, rows_titled, written_before}
 use Rattle.libtest_mimic.proofs.running.in_workers.write_rows.Goals as goal
 
 put_fits : {X : Type 0} (rs : List X) (bs : List Bool) (n : ℕ) → length rs ≡ n → length bs ≡ n → length (assigned_from 0 rs bs) ≤ n
 put_fits rs bs n runners flags = omega (arith, length_assigned 0 rs bs (runners ∙ sym flags), runners)
+
+pub returns-in_err-inbox-clause-rows : goal.returns-in_err-inbox-clause-rows
+returns-in_err-inbox-clause-rows g c = λ rs bs runners flags held. on_error c.from_residual.result OutOfMemory _ _ c.from_residual.ensures.1 refl
+
+pub returns-in_err-inbox-clause-unwritten : goal.returns-in_err-inbox-clause-unwritten
+returns-in_err-inbox-clause-unwritten g c = not_written c.from_residual.result _ refl
+
+pub returns-in_err-desk-clause-rows : goal.returns-in_err-desk-clause-rows
+returns-in_err-desk-clause-rows g c = λ rs bs runners flags held. on_error c.from_residual-in_err-desk.result OutOfMemory _ _ c.from_residual-in_err-desk.ensures.1 refl
+
+pub returns-in_err-desk-clause-unwritten : goal.returns-in_err-desk-clause-unwritten
+returns-in_err-desk-clause-unwritten g c = not_written c.from_residual-in_err-desk.result _ refl
+
+pub returns-in_err-room-clause-rows : goal.returns-in_err-room-clause-rows
+returns-in_err-room-clause-rows g c = λ rs bs runners flags held. on_error c.from_residual-in_err-room.result OutOfMemory _ _ c.from_residual-in_err-room.ensures.1 refl
+
+pub returns-in_err-room-clause-unwritten : goal.returns-in_err-room-clause-unwritten
+returns-in_err-room-clause-unwritten g c = not_written c.from_residual-in_err-room.result _ refl
+
+pub returns-in_err-print_title-clause-rows : goal.returns-in_err-print_title-clause-rows
+returns-in_err-print_title-clause-rows g c = λ rs bs runners flags held. on_error c.from_residual-in_err-print_title.result (Write c.in_err-print_title.field-0.0) _ _ c.from_residual-in_err-print_title.ensures.1 (inl c.in_err-print_title.ensures)
+
+pub returns-in_err-print_title-clause-unwritten : goal.returns-in_err-print_title-clause-unwritten
+returns-in_err-print_title-clause-unwritten g c =
+    let r = c.from_residual-in_err-print_title.result in
+    written_before r _ (on_err r (Write c.in_err-print_title.field-0.0) IsOfRows c.from_residual-in_err-print_title.ensures.1 tt)
 
 pub start_all-requires-clause-ready : goal.start_all-requires-clause-ready
 start_all-requires-clause-ready g c κs within =
@@ -21,12 +49,9 @@ gather_rows-requires-clause-running g c κs within =
 
 pub returns-clause-rows : goal.returns-clause-rows
 returns-clause-rows g c = λ rs bs runners flags held.
-    let runs = c.in-Some.ensures.started _ (c.in_ok-inbox.ensures.ready _ (put_fits rs bs _ runners flags) held) in
-    let asked = c.in_ok-inbox.ensures.timed in
-    match_more c.gather_rows.result _ _ _ _
-    (c.gather_rows.ensures.rows rs bs c.args.test_mode runners flags runs)
-    (λ desk rows. rw asked at (titled_all g.R.Task.gives c.args.test_mode (assigned_from 0 rs bs) c.args.printer.now c.args.infos.now _ _ _ _ refl c.in_ok-print_title.ensures (is_timed c.in_ok-inbox.inbox) desk rows))
-    (λ e refused. rw asked at (after_title g.R.Task.gives c.args.test_mode (assigned_from 0 rs bs) c.args.printer.now c.args.infos.now _ _ _ _ refl c.in_ok-print_title.ensures (runs_all c.in-Some.crew) (is_timed c.in_ok-inbox.inbox) e refused))
+    rows_titled g.R.Task.gives c.args.test_mode (assigned_from 0 rs bs) c.args.printer.now c.args.infos.now _ _ _ _ refl c.in_ok-print_title.ensures
+    (runs_all c.in-Some.crew) (is_timed c.in_ok-inbox.inbox) _ c.in_ok-inbox.ensures.timed c.gather_rows.result
+    (c.gather_rows.ensures.rows rs bs c.args.test_mode runners flags (c.in-Some.ensures.started _ (c.in_ok-inbox.ensures.ready _ (put_fits rs bs _ runners flags) held)))
 
 pub returns-clause-unwritten : goal.returns-clause-unwritten
 returns-clause-unwritten g c = written_before _ _ c.gather_rows.ensures.refused
