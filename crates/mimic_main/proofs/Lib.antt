@@ -2,4 +2,5 @@ pub mod Cases
 pub mod HandedOn
 pub mod Mapped
 pub mod Parts
+pub mod SomeThread
 pub mod TakenBack

@@ -1,6 +1,7 @@
 pub mod Ended
 pub mod Output
 pub mod Policy
+pub mod Program
 pub mod Run
 pub mod ShardVariables
 pub mod Sharding

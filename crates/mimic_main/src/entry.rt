@@ -1,11 +1,12 @@
 //! A whole program on a machine: the calls of its `main`.
-ghost use Rattle.std.specs.Prelude.{◌≡◌, ◌≤◌, All, IfOk, OnErr, false, true};
+ghost use Rattle.std.specs.Prelude.{◌≡◌, ◌≤◌, All, IfOk, OnErr, false};
 ghost use Rattle.std.specs.NonZero.{non_zero_usize_get};
 ghost use Rattle.std.specs.Result.{is_ok};
 ghost use Rattle.libtest_mimic.specs.Suite.{asking};
 ghost use Rattle.libtest_mimic.specs.Trial.{AllCanRun};
 ghost use Rattle.mimic_trial.specs.Case.{AreTestsOf};
 ghost use Rattle.mimic_main.specs.Ended.{EndsAsAsked, EndsByLine, EndsForLine, EndsInPart, EndsSomehow, IsOfReadLine, number_of, status_without};
+ghost use Rattle.mimic_main.specs.Program.{HasDefaults};
 
 use crate::clock::MonotonicClock;
 use crate::colours::shows_colours;
@@ -15,7 +16,7 @@ use crate::monitor::{Monitor, Notices};
 use crate::program::Program;
 use crate::sharding::{ShardError, Sharding};
 use crate::status::Status;
-use libtest_mimic::{Arguments, ArgumentsError, Case, Failed, RunError, Schedule, Task, Trial};
+use libtest_mimic::{Arguments, ArgumentsError, Case, Failed, RunError, Task, Trial};
 use std::alloc::Global;
 use std::convert::AsStr;
 use std::fmt::Display;
@@ -118,9 +119,7 @@ impl<'a> Program<'a> {
     #[inline(never)]
     pub fn on<M: Machine>(machine: &M, name: &'a str) -> Program<'a>
         ensures name { result.name.now ≡ name.now }
-        ensures causes { result.prints_causes ≡ true }
-        ensures schedule { result.schedule ≡ Schedule.Queue }
-        ensures terminal { result.on_terminal ≡ false }
+        ensures rest { HasDefaults result }
     {
         let count = thread::available_parallelism(&machine.host());
         Program::of_machine(name, count, shows_colours(machine, &machine.stdout()))
@@ -131,9 +130,7 @@ impl<'a> Program<'a> {
         ensures name { result.name.now ≡ name.now }
         ensures threads { IfOk count (λ given. result.threads ≡ non_zero_usize_get given) }
         ensures colours { result.auto_colours ≡ colours }
-        ensures causes { result.prints_causes ≡ true }
-        ensures schedule { result.schedule ≡ Schedule.Queue }
-        ensures terminal { result.on_terminal ≡ false }
+        ensures rest { HasDefaults result }
     {
         Program::new(name, count_or_one(count)).with_colours(colours)
     }

@@ -1,5 +1,5 @@
 //! A program around a run, but for the machine that it runs on.
-ghost use Rattle.std.specs.Prelude.{◌≡◌, ◌≤◌, false, true};
+ghost use Rattle.std.specs.Prelude.{◌≡◌, ◌≤◌, false};
 ghost use Rattle.libtest_mimic.specs.Suite.{asking};
 ghost use Rattle.libtest_mimic.specs.Trial.{AllCanRun};
 ghost use Rattle.mimic_main.specs.Ended.{Ended, GotWithout, number_of, status_of, status_without, status_without_part};
@@ -46,6 +46,8 @@ pub struct Program<'a> {
 }
 
 impl<'a> Program<'a> {
+    ghost use Rattle.mimic_main.specs.Program.{HasDefaults};
+
     /// Makes a program of this name, which is printed before a fault. This number of threads runs its trials if the line leaves it
     /// open. Its reports have no colours, it prints faults with their causes, trials that run for over a minute and a warning if
     /// trials have equal names, its workers take trials from one queue, and an output that [`harness_run`](Program::harness_run) is
@@ -55,10 +57,7 @@ impl<'a> Program<'a> {
         ensures name { result.name.now ≡ name.now }
         ensures threads { result.threads ≡ threads }
         ensures colours { result.auto_colours ≡ false }
-        ensures causes { result.prints_causes ≡ true }
-        ensures schedule { result.schedule ≡ Schedule.Queue }
-        ensures terminal { result.on_terminal ≡ false }
-        ensures warns { result.warns_of_equal_names ≡ true }
+        ensures rest { HasDefaults result }
     {
         Program {
             name,
@@ -74,14 +73,7 @@ impl<'a> Program<'a> {
 
     /// Says whether its reports have colours if the line leaves it open and no logfile is set.
     pub fn with_colours(mut self, auto_colours: bool) -> Program<'a>
-        ensures name { result.name ≡ self.entry.name }
-        ensures threads { result.threads ≡ self.entry.threads }
-        ensures colours { result.auto_colours ≡ auto_colours }
-        ensures causes { result.prints_causes ≡ self.entry.prints_causes }
-        ensures schedule { result.schedule ≡ self.entry.schedule }
-        ensures terminal { result.on_terminal ≡ self.entry.on_terminal }
-        ensures limit { result.slow_limit ≡ self.entry.slow_limit }
-        ensures warns { result.warns_of_equal_names ≡ self.entry.warns_of_equal_names }
+        ensures { result ≡ record self.entry { auto_colours = auto_colours } }
     {
         self.auto_colours = auto_colours;
         self
@@ -89,14 +81,7 @@ impl<'a> Program<'a> {
 
     /// Leaves out of what it prints of a fault the path of the logfile, and what the system said.
     pub fn without_causes(mut self) -> Program<'a>
-        ensures name { result.name ≡ self.entry.name }
-        ensures threads { result.threads ≡ self.entry.threads }
-        ensures colours { result.auto_colours ≡ self.entry.auto_colours }
-        ensures causes { result.prints_causes ≡ false }
-        ensures schedule { result.schedule ≡ self.entry.schedule }
-        ensures terminal { result.on_terminal ≡ self.entry.on_terminal }
-        ensures limit { result.slow_limit ≡ self.entry.slow_limit }
-        ensures warns { result.warns_of_equal_names ≡ self.entry.warns_of_equal_names }
+        ensures { result ≡ record self.entry { prints_causes = false } }
     {
         self.prints_causes = false;
         self
@@ -104,14 +89,7 @@ impl<'a> Program<'a> {
 
     /// Says how its trials come to workers if more than one thread runs them.
     pub fn with_schedule(mut self, schedule: Schedule) -> Program<'a>
-        ensures name { result.name ≡ self.entry.name }
-        ensures threads { result.threads ≡ self.entry.threads }
-        ensures colours { result.auto_colours ≡ self.entry.auto_colours }
-        ensures causes { result.prints_causes ≡ self.entry.prints_causes }
-        ensures schedule { result.schedule ≡ schedule }
-        ensures terminal { result.on_terminal ≡ self.entry.on_terminal }
-        ensures limit { result.slow_limit ≡ self.entry.slow_limit }
-        ensures warns { result.warns_of_equal_names ≡ self.entry.warns_of_equal_names }
+        ensures { result ≡ record self.entry { schedule = schedule } }
     {
         self.schedule = schedule;
         self
@@ -120,14 +98,7 @@ impl<'a> Program<'a> {
     /// Says whether the output that [`harness_run`](Program::harness_run) is given is a terminal, to which a report in terse goes
     /// mark by mark. Calls that are given a machine ask its standard output.
     pub fn with_terminal(mut self, on_terminal: bool) -> Program<'a>
-        ensures name { result.name ≡ self.entry.name }
-        ensures threads { result.threads ≡ self.entry.threads }
-        ensures colours { result.auto_colours ≡ self.entry.auto_colours }
-        ensures causes { result.prints_causes ≡ self.entry.prints_causes }
-        ensures schedule { result.schedule ≡ self.entry.schedule }
-        ensures terminal { result.on_terminal ≡ on_terminal }
-        ensures limit { result.slow_limit ≡ self.entry.slow_limit }
-        ensures warns { result.warns_of_equal_names ≡ self.entry.warns_of_equal_names }
+        ensures { result ≡ record self.entry { on_terminal = on_terminal } }
     {
         self.on_terminal = on_terminal;
         self
@@ -136,14 +107,7 @@ impl<'a> Program<'a> {
     /// Says how long a trial runs before it is printed on standard error, once: `PROGRAM: [kind] name has been running for over 60
     /// seconds`. `None` prints none. Without this call it is a minute. Only calls that are given a machine print them.
     pub fn with_slow_limit(mut self, limit: Option<Duration>) -> Program<'a>
-        ensures name { result.name ≡ self.entry.name }
-        ensures threads { result.threads ≡ self.entry.threads }
-        ensures colours { result.auto_colours ≡ self.entry.auto_colours }
-        ensures causes { result.prints_causes ≡ self.entry.prints_causes }
-        ensures schedule { result.schedule ≡ self.entry.schedule }
-        ensures terminal { result.on_terminal ≡ self.entry.on_terminal }
-        ensures limit { result.slow_limit ≡ limit }
-        ensures warns { result.warns_of_equal_names ≡ self.entry.warns_of_equal_names }
+        ensures { result ≡ record self.entry { slow_limit = limit } }
     {
         self.slow_limit = limit;
         self
@@ -153,14 +117,7 @@ impl<'a> Program<'a> {
     /// standard error before they run, since no reader of the report can tell their rows apart. Only calls that are given a machine
     /// print it, and none if a list is asked for.
     pub fn with_equal_names(mut self) -> Program<'a>
-        ensures name { result.name ≡ self.entry.name }
-        ensures threads { result.threads ≡ self.entry.threads }
-        ensures colours { result.auto_colours ≡ self.entry.auto_colours }
-        ensures causes { result.prints_causes ≡ self.entry.prints_causes }
-        ensures schedule { result.schedule ≡ self.entry.schedule }
-        ensures terminal { result.on_terminal ≡ self.entry.on_terminal }
-        ensures limit { result.slow_limit ≡ self.entry.slow_limit }
-        ensures warns { result.warns_of_equal_names ≡ false }
+        ensures { result ≡ record self.entry { warns_of_equal_names = false } }
     {
         self.warns_of_equal_names = false;
         self
