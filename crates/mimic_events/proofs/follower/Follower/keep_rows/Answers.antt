@@ -35,7 +35,9 @@ loop-row-preserved c =
           let before = c.loop-row.invariant.read sound in
           let after = row.read.read rows before.0 in
           subst (λ (es : List Entry). IsSound c.next_row.new.self es
-              × (bytes_of c.next_row.new.self es ++ c.in-Some.after.now ≡ bytes_of c.args.self.now.reader (map entry_read c.args.rows.now.items) ++ c.args.piece.now)) (sym more)
-          (after.0, ap (λ (x : List ℕ). x ++ c.in-Some.after.now) after.1 ∙ append_assoc (bytes_of reader rows) row.read.front c.in-Some.after.now
-              ∙ ap (λ (x : List ℕ). bytes_of reader rows ++ x) (sym row.read.parts) ∙ before.1);
+          × (bytes_of c.next_row.new.self es ++ c.in-Some.after.now ≡ bytes_of c.args.self.now.reader (map entry_read c.args.rows.now.items) ++ c.args.piece.now)) (sym more) (
+            after.0,
+            ap (λ (x : List ℕ). x ++ c.in-Some.after.now) after.1 ∙ append_assoc (bytes_of reader rows) row.read.front c.in-Some.after.now
+                ∙ ap (λ (x : List ℕ). bytes_of reader rows ++ x) (sym row.read.parts) ∙ before.1,
+          );
     }
