@@ -86,6 +86,5 @@ fn sorted_infos<'a, R>(
 }
 
 fn by_kind_and_name(a: &&TestInfo, b: &&TestInfo) -> Ordering {
-    let kinds = a.kind.as_str().cmp(b.kind.as_str());
-    kinds.then_with(|| a.name.as_str().cmp(b.name.as_str()))
+    (a.kind.as_str(), a.name.as_str()).cmp(&(b.kind.as_str(), b.name.as_str()))
 }

@@ -266,9 +266,9 @@ fn put_notice<W: Write>(
 
 // A time as people say it: whole seconds, if it is some, else milliseconds.
 fn in_words(time: Duration) -> (u64, &'static str) {
-    match time.as_secs() {
-        1 if time.subsec_nanos() == 0 => (1, " second"),
-        seconds if seconds > 1 && time.subsec_nanos() == 0 => (seconds, " seconds"),
+    match (time.as_secs(), time.subsec_nanos()) {
+        (1, 0) => (1, " second"),
+        (seconds @ 2.., 0) => (seconds, " seconds"),
         _ => (millis_of(time), " ms"),
     }
 }
