@@ -32,7 +32,12 @@ impl FullNames {
     }
 
     fn push(&mut self, info: &TestInfo) -> Result<(), AllocError> {
-        push_full_name(&mut self.names, info)?;
+        if !info.kind.is_empty() {
+            self.names.extend_from_slice(b"[")?;
+            self.names.extend_from_slice(info.kind.as_bytes())?;
+            self.names.extend_from_slice(b"] ")?;
+        }
+        self.names.extend_from_slice(info.name.as_bytes())?;
         self.ends.push(self.names.len())?;
         Ok(())
     }
@@ -51,18 +56,4 @@ impl FullNames {
         let end = *self.ends.get(place)?;
         self.names.get(start..end)
     }
-}
-
-fn push_full_name(names: &mut Vec<u8>, info: &TestInfo) -> Result<(), AllocError> {
-    if !info.kind.is_empty() {
-        push_kind(names, info.kind.as_bytes())?;
-    }
-    names.extend_from_slice(info.name.as_bytes())
-}
-
-// In brackets, and a space after them.
-fn push_kind(names: &mut Vec<u8>, kind: &[u8]) -> Result<(), AllocError> {
-    names.extend_from_slice(b"[")?;
-    names.extend_from_slice(kind)?;
-    names.extend_from_slice(b"] ")
 }
