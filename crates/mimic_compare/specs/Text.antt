@@ -101,13 +101,9 @@ line_text class label line = concat (word class ∷ codes ": " ∷ bracketed Lin
 abbrev pub line_in : Class → Compared → List ℕ
 line_in class c = if same_class c.class class then line_text class c.label (first_line (shown_message class c.new)) else []
 
--- the lines of this class
-abbrev pub lines_of : List Compared → Class → List ℕ
-lines_of found class = flat_map (line_in class) found
-
--- its lines, if it is listed
+-- the lines of this class, if it is listed
 abbrev pub listed_lines : Bool → List Compared → Class → List ℕ
-listed_lines missing found class = if is_listed missing class then lines_of found class else []
+listed_lines missing found class = if is_listed missing class then flat_map (line_in class) found else []
 
 -- ---- changes
 

@@ -2,15 +2,15 @@
 ghost use Rattle.std.specs.Prelude.{◌≡◌, ◌∷◌, ◌++◌, [], codes, count_by, decimal, not};
 ghost use Rattle.std.specs.List.{concat, flat_map};
 ghost use Rattle.mimic_printer.specs.Piece.{first_line, pieces_text};
-ghost use Rattle.mimic_printer.specs.Sink.{HasFaultLeft, Puts};
+ghost use Rattle.mimic_printer.specs.Sink.{Adds};
 ghost use Rattle.mimic_compare.specs.Changes.{is_slower};
-ghost use Rattle.mimic_compare.specs.Text.{amount, change_text, change_word, classes, comparison_text, count_of, first_message, is_listed, line_in, lines_of, listed_lines, change_name, colon_before, shown_message, amounts_text, number_text, numbers_text, ratio_of, ratio_part, rounded_seconds, same_class, speeds_text, unit_part, word};
+ghost use Rattle.mimic_compare.specs.Text.{amount, change_text, change_word, classes, comparison_text, count_of, first_message, is_listed, line_in, listed_lines, change_name, colon_before, shown_message, amounts_text, number_text, numbers_text, ratio_of, ratio_part, rounded_seconds, same_class, speeds_text, unit_part, word};
 
 use crate::change::{Change, Quantity};
 use crate::class::Class;
 use crate::fates::KeptFate;
 use crate::trials::Comparison;
-use mimic_printer::{Piece, Place, Sink, WriteFault, put_pieces};
+use mimic_printer::{Piece, Place, Sink, add_pieces};
 use std::io::Write;
 
 // All classes, in the order in which they are printed.
@@ -87,18 +87,13 @@ fn colon_before(message: &str) -> &'static str
     if *first == b'\n' { "" } else { ": " }
 }
 
-// Writes the line of a kind and a name if they are of the class.
+// Adds the line of a kind and a name if they are of the class.
 #[tactic(auto, unfolding(crate::specs::Text::line_text))]
-fn put_line<'a, W: Write>(
-    sink: &mut Sink<W>,
-    class: Class,
-    comparison: &Comparison<'a>,
-) -> Result<(), WriteFault>
-    requires { HasFaultLeft sink.old }
-    ensures { Puts W.contents sink.old sink.new (line_in class comparison.now) result }
+fn add_line<'a, W: Write>(sink: &mut Sink<W>, class: Class, comparison: &Comparison<'a>)
+    ensures { Adds W.contents sink.old sink.new (line_in class comparison.now) }
 {
     if comparison.class != class {
-        return Ok(());
+        return;
     }
     let label = comparison.label;
     let message = shown_message(class, comparison.fates.new.as_slice());
@@ -111,54 +106,37 @@ fn put_line<'a, W: Write>(
         Piece::FirstLine(Place::Line, message),
         Piece::Text("\n"),
     ];
-    put_pieces(sink, &pieces)
+    add_pieces(sink, &pieces);
 }
 
-// Writes the lines of the class.
-fn put_lines<W: Write>(
+// Adds the lines of the class if it is listed.
+fn add_lines<W: Write>(
     sink: &mut Sink<W>,
     class: Class,
     found: &[Comparison<'_>],
-) -> Result<(), WriteFault>
-    requires { HasFaultLeft sink.old }
-    ensures { Puts W.contents sink.old sink.new (lines_of found.now class) result }
+    lists_not_run: bool,
+)
+    ensures { Adds W.contents sink.old sink.new (listed_lines lists_not_run found.now class) }
 {
+    if !is_listed(lists_not_run, class) {
+        return;
+    }
     for comparison in found {
-        put_line(sink, class, comparison)?;
+        if sink.has_fault() {
+            break;
+        }
+        add_line(sink, class, comparison);
     }
-    Ok(())
 }
 
-// Writes the lines of the class if it is listed.
-fn put_listed<W: Write>(
-    sink: &mut Sink<W>,
-    class: Class,
-    found: &[Comparison<'_>],
-    lists_not_run: bool,
-) -> Result<(), WriteFault>
-    requires { HasFaultLeft sink.old }
-    ensures { Puts W.contents sink.old sink.new (listed_lines lists_not_run found.now class) result }
-{
-    if is_listed(lists_not_run, class) {
-        put_lines(sink, class, found)?;
-    }
-    Ok(())
-}
-
-// Writes the lines of the classes that are listed.
-fn put_classes<W: Write>(
-    sink: &mut Sink<W>,
-    found: &[Comparison<'_>],
-    lists_not_run: bool,
-) -> Result<(), WriteFault>
-    requires { HasFaultLeft sink.old }
-    ensures { Puts W.contents sink.old sink.new
-        (flat_map (listed_lines lists_not_run found.now) classes) result }
+// Adds the lines of the classes that are listed.
+fn add_classes<W: Write>(sink: &mut Sink<W>, found: &[Comparison<'_>], lists_not_run: bool)
+    ensures { Adds W.contents sink.old sink.new
+        (flat_map (listed_lines lists_not_run found.now) classes) }
 {
     for class in &CLASSES {
-        put_listed(sink, *class, found, lists_not_run)?;
+        add_lines(sink, *class, found, lists_not_run);
     }
-    Ok(())
 }
 
 // Returns the new number divided by the old one, in hundredths.
@@ -172,16 +150,17 @@ fn ratio_of(old: u64, new: u64) -> Option<u128>
     Some((200 * new + old) / (2 * old))
 }
 
-// Writes the ratio with two decimals, or `-` if there is none, and the end of the line.
-fn put_ratio<W: Write>(sink: &mut Sink<W>, ratio: Option<u128>) -> Result<(), WriteFault>
-    requires { HasFaultLeft sink.old }
-    ensures { Puts W.contents sink.old sink.new (concat (ratio_part ratio)) result }
+// Adds the ratio with two decimals, or `-` if there is none, and the end of the line.
+fn add_ratio<W: Write>(sink: &mut Sink<W>, ratio: Option<u128>)
+    ensures { Adds W.contents sink.old sink.new (concat (ratio_part ratio)) }
 {
-    let Some(ratio) = ratio else {
-        return sink.put(b"-)\n");
-    };
-    let digits = (ratio / 100, ratio / 10 % 10, ratio % 10);
-    put_pieces(sink, &ratio_pieces(&digits))
+    match ratio {
+        None => sink.add(b"-)\n"),
+        Some(ratio) => {
+            let digits = (ratio / 100, ratio / 10 % 10, ratio % 10);
+            add_pieces(sink, &ratio_pieces(&digits));
+        }
+    }
 }
 
 // Returns the pieces of a ratio: the whole part and two decimals, and the end of the line.
@@ -212,37 +191,30 @@ fn seconds_pieces<'a>(nanos: u64) -> [Piece<'a>; 5]
     ]
 }
 
-// Writes the number with the first part of its unit.
-fn put_amount<W: Write>(
-    sink: &mut Sink<W>,
-    quantity: Quantity,
-    nanos: u64,
-) -> Result<(), WriteFault>
-    requires { HasFaultLeft sink.old }
-    ensures { Puts W.contents sink.old sink.new (amount quantity nanos) result }
+// Adds the number with the first part of its unit.
+fn add_amount<W: Write>(sink: &mut Sink<W>, quantity: Quantity, nanos: u64)
+    ensures { Adds W.contents sink.old sink.new (amount quantity nanos) }
 {
     match quantity {
-        Quantity::Average => put_pieces(sink, &[Piece::Grouped(nanos)]),
-        Quantity::Time => put_pieces(sink, &seconds_pieces(nanos)),
+        Quantity::Average => add_pieces(sink, &[Piece::Grouped(nanos)]),
+        Quantity::Time => add_pieces(sink, &seconds_pieces(nanos)),
     }
 }
 
-// Writes the second part of the unit, up to the ratio.
-fn put_unit<W: Write>(sink: &mut Sink<W>, quantity: Quantity) -> Result<(), WriteFault>
-    requires { HasFaultLeft sink.old }
-    ensures { Puts W.contents sink.old sink.new (unit_part quantity ++ codes " (") result }
+// Adds the second part of the unit, up to the ratio.
+fn add_unit<W: Write>(sink: &mut Sink<W>, quantity: Quantity)
+    ensures { Adds W.contents sink.old sink.new (unit_part quantity ++ codes " (") }
 {
     match quantity {
-        Quantity::Average => sink.put(b" ns/iter ("),
-        Quantity::Time => sink.put(b" ("),
+        Quantity::Average => sink.add(b" ns/iter ("),
+        Quantity::Time => sink.add(b" ("),
     }
 }
 
-// Writes whether the change is a slower or a faster one, and the kind and the name.
+// Adds whether the change is a slower or a faster one, and the kind and the name.
 #[tactic(auto, unfolding(crate::specs::Text::change_name))]
-fn put_change_name<'a, W: Write>(sink: &mut Sink<W>, change: &Change<'a>) -> Result<(), WriteFault>
-    requires { HasFaultLeft sink.old }
-    ensures { Puts W.contents sink.old sink.new (change_name change.now) result }
+fn add_change_name<'a, W: Write>(sink: &mut Sink<W>, change: &Change<'a>)
+    ensures { Adds W.contents sink.old sink.new (change_name change.now) }
 {
     let label = change.label;
     let word = if change.is_slower() {
@@ -256,44 +228,38 @@ fn put_change_name<'a, W: Write>(sink: &mut Sink<W>, change: &Change<'a>) -> Res
         Piece::Escaped(Place::Line, label.name.as_str()),
         Piece::Text(": "),
     ];
-    put_pieces(sink, &pieces)
+    add_pieces(sink, &pieces);
 }
 
-// Writes both numbers and their ratio.
-fn put_amounts<W: Write>(
-    sink: &mut Sink<W>,
-    quantity: Quantity,
-    old: u64,
-    new: u64,
-) -> Result<(), WriteFault>
-    requires { HasFaultLeft sink.old }
-    ensures { Puts W.contents sink.old sink.new (amounts_text quantity old new) result }
+// Adds both numbers and their ratio.
+fn add_amounts<W: Write>(sink: &mut Sink<W>, quantity: Quantity, old: u64, new: u64)
+    ensures { Adds W.contents sink.old sink.new (amounts_text quantity old new) }
 {
-    put_amount(sink, quantity, old)?;
-    sink.put(b" -> ")?;
-    put_amount(sink, quantity, new)?;
-    put_unit(sink, quantity)?;
-    put_ratio(sink, ratio_of(old, new))
+    add_amount(sink, quantity, old);
+    sink.add(b" -> ");
+    add_amount(sink, quantity, new);
+    add_unit(sink, quantity);
+    add_ratio(sink, ratio_of(old, new));
 }
 
-// Writes the line of a change.
-fn put_change<W: Write>(sink: &mut Sink<W>, change: &Change<'_>) -> Result<(), WriteFault>
-    requires { HasFaultLeft sink.old }
-    ensures { Puts W.contents sink.old sink.new (change_text change.now) result }
+// Adds the line of a change.
+fn add_change<W: Write>(sink: &mut Sink<W>, change: &Change<'_>)
+    ensures { Adds W.contents sink.old sink.new (change_text change.now) }
 {
-    put_change_name(sink, change)?;
-    put_amounts(sink, change.quantity, change.old, change.new)
+    add_change_name(sink, change);
+    add_amounts(sink, change.quantity, change.old, change.new);
 }
 
-// Writes the lines of the changes.
-fn put_changes<W: Write>(sink: &mut Sink<W>, changes: &[Change<'_>]) -> Result<(), WriteFault>
-    requires { HasFaultLeft sink.old }
-    ensures { Puts W.contents sink.old sink.new (flat_map change_text changes.now) result }
+// Adds the lines of the changes.
+fn add_changes<W: Write>(sink: &mut Sink<W>, changes: &[Change<'_>])
+    ensures { Adds W.contents sink.old sink.new (flat_map change_text changes.now) }
 {
     for change in changes {
-        put_change(sink, change)?;
+        if sink.has_fault() {
+            break;
+        }
+        add_change(sink, change);
     }
-    Ok(())
 }
 
 // Returns how many kinds and names are of the class.
@@ -303,15 +269,10 @@ pub(crate) fn count_of(found: &[Comparison<'_>], class: Class) -> usize
     found.iter().filter(|c| c.class == class).count()
 }
 
-// Writes how many kinds and names are of the class.
+// Adds how many kinds and names are of the class.
 #[tactic(auto, unfolding(crate::specs::Text::number_text))]
-fn put_number<W: Write>(
-    sink: &mut Sink<W>,
-    found: &[Comparison<'_>],
-    class: Class,
-) -> Result<(), WriteFault>
-    requires { HasFaultLeft sink.old }
-    ensures { Puts W.contents sink.old sink.new (number_text found.now class) result }
+fn add_number<W: Write>(sink: &mut Sink<W>, found: &[Comparison<'_>], class: Class)
+    ensures { Adds W.contents sink.old sink.new (number_text found.now class) }
 {
     let pieces = [
         Piece::Number(count_of(found, class) as u64),
@@ -319,7 +280,7 @@ fn put_number<W: Write>(
         Piece::Text(word(class)),
         Piece::Text("; "),
     ];
-    put_pieces(sink, &pieces)
+    add_pieces(sink, &pieces);
 }
 
 fn slower_in(changes: &[Change<'_>]) -> usize
@@ -334,11 +295,10 @@ fn faster_in(changes: &[Change<'_>]) -> usize
     changes.iter().filter(|change| !change.is_slower()).count()
 }
 
-// Writes how many changes are slower and how many faster.
+// Adds how many changes are slower and how many faster.
 #[tactic(auto, unfolding(crate::specs::Text::speeds_text))]
-fn put_speeds<W: Write>(sink: &mut Sink<W>, changes: &[Change<'_>]) -> Result<(), WriteFault>
-    requires { HasFaultLeft sink.old }
-    ensures { Puts W.contents sink.old sink.new (speeds_text changes.now) result }
+fn add_speeds<W: Write>(sink: &mut Sink<W>, changes: &[Change<'_>])
+    ensures { Adds W.contents sink.old sink.new (speeds_text changes.now) }
 {
     let pieces = [
         Piece::Number(slower_in(changes) as u64),
@@ -346,37 +306,31 @@ fn put_speeds<W: Write>(sink: &mut Sink<W>, changes: &[Change<'_>]) -> Result<()
         Piece::Number(faster_in(changes) as u64),
         Piece::Text(" faster\n"),
     ];
-    put_pieces(sink, &pieces)
+    add_pieces(sink, &pieces);
 }
 
-// Writes the numbers of all classes and of the changes.
-fn put_numbers<W: Write>(
-    sink: &mut Sink<W>,
-    found: &[Comparison<'_>],
-    changes: &[Change<'_>],
-) -> Result<(), WriteFault>
-    requires { HasFaultLeft sink.old }
-    ensures { Puts W.contents sink.old sink.new (numbers_text found.now changes.now) result }
+// Adds the numbers of all classes and of the changes.
+fn add_numbers<W: Write>(sink: &mut Sink<W>, found: &[Comparison<'_>], changes: &[Change<'_>])
+    ensures { Adds W.contents sink.old sink.new (numbers_text found.now changes.now) }
 {
     for class in &CLASSES {
-        put_number(sink, found, *class)?;
+        add_number(sink, found, *class);
     }
-    put_speeds(sink, changes)
+    add_speeds(sink, changes);
 }
 
-// Writes the whole comparison, and flushes it.
-pub(crate) fn put_comparison<W: Write>(
+// Adds the whole comparison, and flushes it.
+pub(crate) fn add_comparison<W: Write>(
     sink: &mut Sink<W>,
     found: &[Comparison<'_>],
     changes: &[Change<'_>],
     lists_not_run: bool,
-) -> Result<(), WriteFault>
-    requires { HasFaultLeft sink.old }
-    ensures { Puts W.contents sink.old sink.new
-        (comparison_text lists_not_run found.now changes.now) result }
+)
+    ensures { Adds W.contents sink.old sink.new
+        (comparison_text lists_not_run found.now changes.now) }
 {
-    put_classes(sink, found, lists_not_run)?;
-    put_changes(sink, changes)?;
-    put_numbers(sink, found, changes)?;
-    sink.flush()
+    add_classes(sink, found, lists_not_run);
+    add_changes(sink, changes);
+    add_numbers(sink, found, changes);
+    sink.add_flush();
 }

@@ -6,7 +6,7 @@ use crate::change::ranked_changes;
 use crate::class::Class;
 use crate::fates::Report;
 use crate::inputs::{InputEnd, have_all, keep_rows};
-use crate::lines::{count_of, put_comparison};
+use crate::lines::{add_comparison, count_of};
 use crate::trials::{Trials, compare_trials};
 use indexmap::IndexMap;
 use mimic_printer::{OutputFault, Sink};
@@ -94,7 +94,8 @@ pub fn write_comparison<I: Read + Drop, W: Write>(
     let new = keep_rows(alloc, &mut trials, Report::New, new)?;
     let found = compare_trials(alloc, &trials, have_all(&old, &new))?;
     let changes = ranked_changes(alloc, options.slower, &found)?;
-    put_comparison(sink, &found, &changes, options.lists_not_run)?;
+    add_comparison(sink, &found, &changes, options.lists_not_run);
+    sink.end()?;
     Ok(ComparisonVerdict {
         regressed: count_of(&found, Class::Regressed),
         missing: count_of(&found, Class::Missing),

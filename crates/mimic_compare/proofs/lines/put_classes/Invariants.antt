@@ -1,8 +1,0 @@
-use Rattle.std.proofs.Common.{take}
-use Rattle.std.specs.List.{flat_map}
-use Rattle.mimic_printer.specs.Sink.{Put, shown}
-use Rattle.mimic_compare.specs.Text.{classes, listed_lines}
-use Rattle.mimic_compare.proofs.lines.put_classes.Given as goal
-
-abbrev pub invariant-loop-class : goal.invariant-loop-class
-invariant-loop-class g l = Put (shown g.W.Write.contents l.initial.sink) (shown g.W.Write.contents l.sink) (flat_map (listed_lines l.lists_not_run l.found) (take l.class-index classes))
