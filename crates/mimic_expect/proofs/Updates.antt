@@ -1,6 +1,7 @@
 -- The text of a file that is brought up to date, line after line.
 use Rattle.std.proofs.Common.{◌≡◌, ◌==◌, ◌∙◌, ◌||◌, append_assoc, subst, ℕ, ◌+◌, ◌<◌, Bool, true, false, cond, List, [], ◌∷◌, ◌++◌, append-nil, length, map, None, Option, Some, ap, ap₂, arith, refl, sym}
 use Rattle.std.specs.Prelude.{filter}
+use Rattle.std.specs.HashMap.{HashMap}
 use Rattle.std.specs.List.{flat_map, list_all}
 use Rattle.std.specs.Option.{option_map, option_or}
 use Rattle.std.proofs.lemmas.List.{map-append}
@@ -9,7 +10,11 @@ use Rattle.std.proofs.lemmas.List.Elements.{filter-append}
 use Rattle.std.proofs.lemmas.List.Folds.{flat_map-map}
 use Rattle.std.proofs.lemmas.List.Splits.{length-slice_split}
 use Rattle.mimic_printer.specs.Json.{Entry, IsLine}
+use Rattle.mimic_printer.specs.Sink.{Adds}
+use Rattle.mimic_printer.specs.declared.sink.Sink.{Sink}
+use Rattle.mimic_printer.proofs.Adding.{adds_then}
 use Rattle.mimic_trial.specs.Count.{is_failed}
+use Rattle.mimic_expect.specs.Changes.{HasChanges, read_at}
 use Rattle.mimic_expect.specs.Expect.{Finding, counts, findings, is_known}
 use Rattle.mimic_expect.specs.JudgedRows.{Judged, Keeps, matters}
 use Rattle.mimic_expect.specs.JudgementText.{finding_read}
@@ -69,7 +74,7 @@ pub kept_last : (found : Found) (number : ℕ) (line : List ℕ) → 0 < length 
 kept_last found number [] some = absurd (omega (arith, some))
 kept_last found number (b ∷ line) some = append-nil (kept_line (b ∷ line) (found number))
 
-pub kept_lines-same : (f g : Found) → ((n : ℕ) → f n ≡ g n) → (number : ℕ) (lines : List (List ℕ)) → kept_lines f number lines ≡ kept_lines g number lines
+kept_lines-same : (f g : Found) → ((n : ℕ) → f n ≡ g n) → (number : ℕ) (lines : List (List ℕ)) → kept_lines f number lines ≡ kept_lines g number lines
 kept_lines-same f g same number [] = refl
 kept_lines-same f g same number ([] ∷ []) = refl
 kept_lines-same f g same number ([] ∷ next ∷ lines) = ap₂ (λ (a : Option Finding) (b : List ℕ). kept_line [] a ++ b) (same number) (kept_lines-same f g same (number + 1) (next ∷ lines))
@@ -84,8 +89,13 @@ kept_off found number rest line after e l =
 
 -- ---- all that is written
 
-pub added_read : (found : List Unexpected) → flat_map added_line (map finding_read found) ≡ flat_map (λ (one : Unexpected). added_line (finding_read one)) found
-added_read found = flat_map-map added_line finding_read found
+-- what becomes of the lines was added, and then the failures that are not known
+pub update_added : {W S : Type 0} {contents : W → Option (List ℕ)} {a b c : Sink W} (text : List ℕ) (found : List Unexpected) (changes : HashMap ℕ Unexpected S) → HasChanges changes (map finding_read found)
+    → Adds contents a b (kept_lines (read_at changes) 1 (lines_of text)) → Adds contents b c (flat_map (λ (one : Unexpected). added_line (finding_read one)) found)
+    → Adds contents a c (updated_text text (map finding_read found))
+update_added text found changes has kept added =
+    adds_then _ _ (subst (Adds _ _ _) (kept_lines-same (read_at changes) (found_at (map finding_read found)) has 1 (lines_of text)) kept)
+    (subst (Adds _ _ _) (sym (flat_map-map added_line finding_read found)) added)
 
 counting_read : (lax : Bool) (unexpected : List Unexpected)
     → map finding_read (filter (λ (u : Unexpected). counts lax (finding_read u)) unexpected) ≡ filter (counts lax) (map finding_read unexpected)

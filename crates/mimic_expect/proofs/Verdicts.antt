@@ -1,19 +1,17 @@
 -- What is written at the end, and what it says.
-use Rattle.std.proofs.Common.{◌≡◌, ◌||◌, inl, inr, ℕ, ◌+◌, ◌<◌, ◌≤◌, suc, Bool, false, cond, List, [], ◌∷◌, ◌++◌, length, map, get_or, take, codes, decimal, Option, Result, refl, sym, ap, ap₂, subst, ◌∙◌, append_assoc, arith}
+use Rattle.std.proofs.Common.{◌≡◌, ◌||◌, inl, inr, ℕ, ◌+◌, ◌<◌, ◌≤◌, suc, Bool, false, cond, List, [], ◌∷◌, ◌++◌, length, map, codes, decimal, Option, Result, refl, sym, ap, ap₂, subst, ◌∙◌, append_assoc, arith}
 use Rattle.std.specs.Prelude.{count_by, nat_lt}
 use Rattle.std.specs.List.{AllZip, flat_map, list_all, list_any}
 use Rattle.std.specs.Result.{IsErrAnd}
 use Rattle.std.proofs.lemmas.Bool.Decides.{nat_tests}
-use Rattle.std.proofs.lemmas.List.{take_all}
 use Rattle.std.proofs.lemmas.List.Concat.{flat_map-append}
 use Rattle.std.proofs.lemmas.List.Folds.{flat_map-map, list_all-map, list_any-append}
 use Rattle.std.proofs.lemmas.List.Sorted.{list_any-IsPermutation}
 use Rattle.std.proofs.lemmas.List.Sums.{sum_by-append, sum_by-cons}
 use Rattle.mimic_trial.specs.Count.{is_failed}
 use Rattle.mimic_printer.specs.Json.{Entry}
-use Rattle.mimic_printer.specs.Sink.{Put, Shown, Stopped, Writes}
+use Rattle.mimic_printer.specs.Sink.{Put, Shown, Stopped}
 use Rattle.mimic_printer.specs.declared.sink.WriteFault.{WriteFault}
-use Rattle.mimic_printer.proofs.Appending.{Puts_then, Stopped-more, Stopped-next, stop2}
 use Rattle.mimic_expect.specs.Expect.{FailedRow, Finding, counts, findings, findings_in_turn, is_absent_line, is_failed_row, is_other_message, is_passed_line, keyed, known_rows, met_by, rows_with, unknown_failures}
 use Rattle.mimic_expect.specs.FindingText.{finding_text, numbers_text, rows_text, running_text, unknown_text}
 use Rattle.mimic_expect.specs.JudgedRows.{HasLines, Judged, Judges}
@@ -37,40 +35,11 @@ use Rattle.mimic_expect.proofs.Strangers.{has_same}
 abbrev line_of : Lines → Unexpected → List ℕ
 line_of form found = finding_text form (finding_read found)
 
-pub stopped_at : {a b c : Shown} (form : Lines) (judgement : Judgement) (failed : ℕ) (ends : List InputEnd) (items : List Unexpected) (i : ℕ) (found : Unexpected) → items ≡ judgement.unexpected.items → i < length items → found ≡ get_or items i found
-    → Put a b (flat_map (line_of form) (take i judgement.unexpected.items)) → Stopped b c (line_of form found) → Stopped a c (judgement_text form judgement failed ends)
-stopped_at form judgement failed ends items i found e lt is p q =
-    Stopped-more (flat_map (line_of form) judgement.unexpected.items) (flat_map (running_text form) ends ++ judgement_numbers judgement failed)
-    (rw (← e) (Stopped-next (line_of form) items i found lt (rw e p) (rw is at q)))
-
--- all findings
-found_all : (judgement : Judgement) (items : List Unexpected) (i : ℕ) → items ≡ judgement.unexpected.items → length items ≤ i → take i judgement.unexpected.items ≡ judgement.unexpected.items
-found_all judgement items i e le = take_all i judgement.unexpected.items (omega (arith, le, ap length e))
-
--- a fault in the lines behind them
-pub stopped_behind : {a b c : Shown} (form : Lines) (judgement : Judgement) (failed : ℕ) (ends : List InputEnd) (items : List Unexpected) (i : ℕ) → items ≡ judgement.unexpected.items → length items ≤ i
-    → Put a b (flat_map (line_of form) (take i judgement.unexpected.items)) → Stopped b c (flat_map (running_text form) ends) → Stopped a c (judgement_text form judgement failed ends)
-stopped_behind form judgement failed ends items i e le p q =
-    let all = found_all judgement items i e le in
-    stop2 (flat_map (line_of form) judgement.unexpected.items) (flat_map (running_text form) ends) (judgement_numbers judgement failed) (rw all at p) q
-
-numbers_are : (judgement : Judgement) (before failed passed other absent : ℕ) → failed ≡ count_in is_failed_row judgement → passed ≡ count_in is_passed_line judgement
+pub numbers_are : (judgement : Judgement) (before failed passed other absent : ℕ) → failed ≡ count_in is_failed_row judgement → passed ≡ count_in is_passed_line judgement
     → other ≡ count_in is_other_message judgement → absent ≡ count_in is_absent_line judgement
     → (decimal judgement.met ++ codes " known failures; ") ++ ((decimal (before + failed) ++ codes " failed; ") ++ ((decimal passed ++ codes " passed; ")
     ++ ((decimal other ++ codes " with another message; ") ++ ((decimal absent ++ codes " absent\n") ++ [])))) ≡ judgement_numbers judgement before
 numbers_are judgement before failed passed other absent f p o a = rw (f, p, o, a) (simp append_assoc)
-
-pub judgement_put : {E T : Type 0} (a b c d : Shown) (form : Lines) (judgement : Judgement) (before failed passed other absent : ℕ) (ends : List InputEnd) (items : List Unexpected) (i : ℕ) (result : Result T E) → items ≡ judgement.unexpected.items
-    → length items ≤ i → failed ≡ count_in is_failed_row judgement → passed ≡ count_in is_passed_line judgement → other ≡ count_in is_other_message judgement
-    → absent ≡ count_in is_absent_line judgement → Put a b (flat_map (line_of form) (take i judgement.unexpected.items)) → Put b c (flat_map (running_text form) ends)
-    → Writes c d ((decimal judgement.met ++ codes " known failures; ") ++ ((decimal (before + failed) ++ codes " failed; ") ++ ((decimal passed ++ codes " passed; ")
-    ++ ((decimal other ++ codes " with another message; ") ++ ((decimal absent ++ codes " absent\n") ++ []))))) result
-    → Writes a d (judgement_text form judgement before ends) result
-judgement_put a b c d form judgement before failed passed other absent ends items i result e le f p o n put running numbers =
-    let all = found_all judgement items i e le in
-    Puts_then a b d (flat_map (line_of form) judgement.unexpected.items) (flat_map (running_text form) ends ++ judgement_numbers judgement before) result (rw all at put)
-    (Puts_then b c d (flat_map (running_text form) ends) (judgement_numbers judgement before) result running
-    (rw (numbers_are judgement before failed passed other absent f p o n) at numbers))
 
 -- ---- counts
 

@@ -2,7 +2,7 @@
 ghost use Rattle.std.specs.Prelude.{◌≡◌, ◌<◌, ◌-◌, ◌^◌, ◌++◌, ℕ, List, IfSome, MatchResult, decimal, map};
 ghost use Rattle.std.specs.List.{AllZip, flat_map};
 ghost use Rattle.mimic_printer.specs.Json.{Entry};
-ghost use Rattle.mimic_printer.specs.Sink.{HasFaultLeft, Puts, shown};
+ghost use Rattle.mimic_printer.specs.Sink.{Adds, HasFaultLeft, shown};
 ghost use Rattle.mimic_events.specs.Readings.{HasEndedRows};
 ghost use Rattle.mimic_expect.specs.Expect.{ExpectLaws};
 ghost use Rattle.mimic_expect.specs.FindingText.{finding_text, running_text};
@@ -12,13 +12,13 @@ ghost use Rattle.mimic_expect.specs.Known.{expected_read};
 ghost use Rattle.mimic_expect.specs.Verdict.{AreBegun, InputRead, IsReadOf, LeavesVerdict, Reads, ends_of, rows_of};
 
 use crate::judge::Judge;
-use crate::judgement::Judgement;
+use crate::judgement::{Judgement, Unexpected};
 use crate::known::Expectation;
 use crate::options::{ExpectOptions, Lines};
 use crate::verdict::{ExpectationVerdict, InputEnd, have_all};
 use itoa::Buffer;
 use mimic_events::{InputRows, ReadFault};
-use mimic_printer::{OutputFault, Sink, WriteFault};
+use mimic_printer::{OutputFault, Sink};
 use std::alloc::Global;
 use std::io::{ErrorKind, Read, Write};
 
@@ -57,8 +57,9 @@ pub fn write_unexpected<I: Read + Drop, W: Write>(
     let mut judge = Judge::new(alloc, known)?;
     let (failed, ends) = judge_inputs(alloc, inputs, &mut judge, options.lines, sink)?;
     let judgement = judge.finish(alloc, have_all(&ends))?;
-    put_judgement(sink, options.lines, &judgement, failed, &ends)?;
-    sink.flush()?;
+    add_judgement(sink, options.lines, &judgement, failed, &ends);
+    sink.add_flush();
+    sink.end()?;
     Ok(ExpectationVerdict {
         is_unexpected: failed > 0 || judgement.is_unexpected(options.lax),
         ends,
@@ -128,25 +129,21 @@ fn judge_input<I: Read + Drop, W: Write>(
     Ok((failed, InputEnd::Failed(ErrorKind::Other.into())))
 }
 
-// Writes what the judgement says, the trials that were running at these ends, and the numbers, to which these failures count that
+// Adds what the judgement says, the trials that were running at these ends, and the numbers, to which these failures count that
 // were written before.
-fn put_judgement<W: Write>(
+fn add_judgement<W: Write>(
     sink: &mut Sink<W>,
     lines: Lines,
     judgement: &Judgement<'_>,
     failed: u128,
     ends: &[InputEnd],
-) -> Result<(), WriteFault>
-    requires fault { HasFaultLeft sink.old }
-    requires room { failed < 2 ^ 128 - 2 ^ 64 }
-    ensures { Puts W.contents sink.old sink.new
-        (judgement_text lines judgement.now failed ends.now) result }
+)
+    requires { failed < 2 ^ 128 - 2 ^ 64 }
+    ensures { Adds W.contents sink.old sink.new (judgement_text lines judgement.now failed ends.now) }
 {
-    for found in &judgement.unexpected {
-        found.put(lines, sink)?;
-    }
-    put_running(sink, lines, ends)?;
-    put_numbers(
+    add_unexpected(sink, lines, &judgement.unexpected);
+    add_running(sink, lines, ends);
+    add_numbers(
         sink,
         &[
             (judgement.met as u128, " known failures; "),
@@ -158,33 +155,38 @@ fn put_judgement<W: Write>(
             ),
             (judgement.absent() as u128, " absent\n"),
         ],
-    )
+    );
 }
 
-// Writes a line of each trial that was running when its report was cut.
-fn put_running<W: Write>(
-    sink: &mut Sink<W>,
-    lines: Lines,
-    ends: &[InputEnd],
-) -> Result<(), WriteFault>
-    requires { HasFaultLeft sink.old }
-    ensures { Puts W.contents sink.old sink.new (flat_map (running_text lines) ends.now) result }
+// Adds a line of each.
+fn add_unexpected<W: Write>(sink: &mut Sink<W>, lines: Lines, unexpected: &[Unexpected<'_>])
+    ensures { Adds W.contents sink.old sink.new
+        (flat_map (λ found. finding_text lines (finding_read found)) unexpected.now) }
+{
+    for found in unexpected {
+        if sink.has_fault() {
+            break;
+        }
+        found.add_to(sink, lines);
+    }
+}
+
+// Adds a line of each trial that was running when its report was cut.
+fn add_running<W: Write>(sink: &mut Sink<W>, lines: Lines, ends: &[InputEnd])
+    ensures { Adds W.contents sink.old sink.new (flat_map (running_text lines) ends.now) }
 {
     for end in ends {
-        end.put_running(lines, sink)?;
+        end.add_running(sink, lines);
     }
-    Ok(())
 }
 
-// Writes each number in decimal, and its words.
-fn put_numbers<W: Write>(sink: &mut Sink<W>, numbers: &[(u128, &str)]) -> Result<(), WriteFault>
-    requires { HasFaultLeft sink.old }
-    ensures { Puts W.contents sink.old sink.new
-        (flat_map (λ x. decimal x.0 ++ x.1.now) numbers.now) result }
+// Adds each number in decimal, and its words.
+fn add_numbers<W: Write>(sink: &mut Sink<W>, numbers: &[(u128, &str)])
+    ensures { Adds W.contents sink.old sink.new
+        (flat_map (λ x. decimal x.0 ++ x.1.now) numbers.now) }
 {
     for (number, words) in numbers {
-        sink.put(Buffer::new().format(*number).as_bytes())?;
-        sink.put(words.as_bytes())?;
+        sink.add(Buffer::new().format(*number).as_bytes());
+        sink.add(words.as_bytes());
     }
-    Ok(())
 }

@@ -83,7 +83,8 @@ impl<'a> Judge<'a> {
         let Outcome::Failed(_) = &row.outcome else {
             return Ok(false);
         };
-        Unexpected::Failed(&row).put(lines, sink)?;
+        Unexpected::Failed(&row).add_to(sink, lines);
+        sink.end()?;
         Ok(true)
     }
 

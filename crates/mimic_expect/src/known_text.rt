@@ -1,13 +1,13 @@
 //! Writes the failures of a report as known ones.
 ghost use Rattle.std.specs.Prelude.{◌∷◌, []};
-ghost use Rattle.mimic_printer.specs.Sink.{HasFaultLeft, Puts, shown};
+ghost use Rattle.mimic_printer.specs.Sink.{Adds, HasFaultLeft, shown};
 ghost use Rattle.mimic_events.specs.Contents.{entry_read};
 ghost use Rattle.mimic_expect.specs.KnownText.{LeavesKnown, SayFailures, known_text};
 
-use crate::unexpected::put_row;
+use crate::unexpected::add_row;
 use crate::verdict::InputEnd;
 use mimic_events::{InputRows, ReadFault, Row};
-use mimic_printer::{OutputFault, Sink, WriteFault};
+use mimic_printer::{OutputFault, Sink};
 use mimic_trial::Outcome;
 use std::alloc::Global;
 use std::io::{ErrorKind, Read, Write};
@@ -34,7 +34,10 @@ pub fn write_known<I: Read + Drop, W: Write>(
     let mut rows = InputRows::new(alloc, input)?;
     for _ in 0..u64::MAX {
         match rows.next_row() {
-            Ok(Some(row)) => put_if_failed(sink, &row)?,
+            Ok(Some(row)) => {
+                add_if_failed(sink, &row);
+                sink.end()?;
+            }
             Ok(None) => return Ok(InputEnd::Ended(rows.finish()?)),
             Err(ReadFault::Input(error)) => return Ok(InputEnd::Failed(error)),
             // Reading rows has no other fault.
@@ -44,12 +47,10 @@ pub fn write_known<I: Read + Drop, W: Write>(
     Ok(InputEnd::Failed(ErrorKind::Other.into()))
 }
 
-fn put_if_failed<W: Write>(sink: &mut Sink<W>, row: &Row) -> Result<(), WriteFault>
-    requires { HasFaultLeft sink.old }
-    ensures { Puts W.contents sink.old sink.new (known_text (entry_read row.now ∷ [])) result }
+fn add_if_failed<W: Write>(sink: &mut Sink<W>, row: &Row)
+    ensures { Adds W.contents sink.old sink.new (known_text (entry_read row.now ∷ [])) }
 {
-    match &row.outcome {
-        Outcome::Failed(_) => put_row(sink, row),
-        Outcome::Passed | Outcome::Ignored | Outcome::Measured(_) => Ok(()),
+    if let Outcome::Failed(_) = &row.outcome {
+        add_row(sink, row);
     }
 }

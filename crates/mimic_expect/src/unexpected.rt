@@ -1,7 +1,7 @@
 //! Prints what is unexpected, and the trials that were running.
 ghost use Rattle.std.specs.Prelude.{◌≡◌};
 ghost use Rattle.mimic_printer.specs.Piece.{first_line};
-ghost use Rattle.mimic_printer.specs.Sink.{HasFaultLeft, Puts};
+ghost use Rattle.mimic_printer.specs.Sink.{Adds};
 ghost use Rattle.mimic_events.specs.Contents.{entry_read, label_read};
 ghost use Rattle.mimic_expect.specs.FindingText.{announced_text, colon, failure_text, finding_text, message_in, place_text, row_line, running_line, running_text, trial_line, trial_text};
 ghost use Rattle.mimic_expect.specs.JudgementText.{finding_read};
@@ -10,113 +10,90 @@ use crate::judgement::Unexpected;
 use crate::options::Lines;
 use crate::verdict::InputEnd;
 use mimic_events::{Ending, Label, Row};
-use mimic_printer::json::{put_announcement, put_outcome};
-use mimic_printer::{Piece, Place, Sink, WriteFault, put_pieces};
+use mimic_printer::json::{add_announcement, add_outcome};
+use mimic_printer::{Piece, Place, Sink, add_pieces};
 use mimic_trial::Outcome;
 use std::io::Write;
 
 impl Unexpected<'_> {
-    // Writes it as one line: what it is, which line of the known failures can go, and the row, or that line if there is no row
+    // Adds it as one line: what it is, which line of the known failures can go, and the row, or that line if there is no row
     // to show. Nothing in a name or a message ends the line or makes another.
-    pub(crate) fn put<W: Write>(&self, lines: Lines, sink: &mut Sink<W>) -> Result<(), WriteFault>
-        requires { HasFaultLeft sink.old }
-        ensures { Puts W.contents sink.old sink.new (finding_text lines (finding_read self.now)) result }
+    pub(crate) fn add_to<W: Write>(&self, sink: &mut Sink<W>, lines: Lines)
+        ensures { Adds W.contents sink.old sink.new (finding_text lines (finding_read self.now)) }
     {
         match self {
             Unexpected::Failed(row) => {
-                sink.put(b"failed: ")?;
-                put_failure(sink, lines, row)
+                sink.add(b"failed: ");
+                add_failure(sink, lines, row);
             }
             Unexpected::AnotherMessage { expectation, row } => {
-                put_place(sink, "another message, line ", expectation.line)?;
-                put_failure(sink, lines, row)
+                add_place(sink, "another message, line ", expectation.line);
+                add_failure(sink, lines, row);
             }
             Unexpected::Passed(expectation) => {
-                put_place(sink, "passed, line ", expectation.line)?;
-                put_trial(sink, lines, &expectation.row)
+                add_place(sink, "passed, line ", expectation.line);
+                add_trial(sink, lines, &expectation.row);
             }
             Unexpected::Absent(expectation) => {
-                put_place(sink, "absent, line ", expectation.line)?;
-                put_trial(sink, lines, &expectation.row)
+                add_place(sink, "absent, line ", expectation.line);
+                add_trial(sink, lines, &expectation.row);
             }
         }
     }
 }
 
 impl InputEnd {
-    // Writes a line of the trial that was running when the report was cut, if one was.
-    pub(crate) fn put_running<W: Write>(
-        &self,
-        lines: Lines,
-        sink: &mut Sink<W>,
-    ) -> Result<(), WriteFault>
-        requires { HasFaultLeft sink.old }
-        ensures { Puts W.contents sink.old sink.new (running_text lines self.now) result }
+    // Adds a line of the trial that was running when the report was cut, if one was.
+    pub(crate) fn add_running<W: Write>(&self, sink: &mut Sink<W>, lines: Lines)
+        ensures { Adds W.contents sink.old sink.new (running_text lines self.now) }
     {
         match self {
-            InputEnd::Ended(Ending::Cut(stop)) => put_running_line(sink, lines, &stop.running),
-            InputEnd::Ended(Ending::Whole { .. }) | InputEnd::Failed(_) => Ok(()),
+            InputEnd::Ended(Ending::Cut(stop)) => add_running_line(sink, lines, &stop.running),
+            InputEnd::Ended(Ending::Whole { .. }) | InputEnd::Failed(_) => {}
         }
     }
 }
 
-// Writes a word, and the trial.
-fn put_running_line<W: Write>(
-    sink: &mut Sink<W>,
-    lines: Lines,
-    running: &Option<Label>,
-) -> Result<(), WriteFault>
-    requires { HasFaultLeft sink.old }
-    ensures { Puts W.contents sink.old sink.new (running_line lines running.now) result }
+// Adds a word, and the trial.
+fn add_running_line<W: Write>(sink: &mut Sink<W>, lines: Lines, running: &Option<Label>)
+    ensures { Adds W.contents sink.old sink.new (running_line lines running.now) }
 {
-    let Some(label) = running else {
-        return Ok(());
-    };
-    sink.put(b"running: ")?;
-    put_announced(sink, lines, label)
-}
-
-// Writes a trial that was announced.
-fn put_announced<W: Write>(
-    sink: &mut Sink<W>,
-    lines: Lines,
-    label: &Label,
-) -> Result<(), WriteFault>
-    requires { HasFaultLeft sink.old }
-    ensures { Puts W.contents sink.old sink.new (announced_text lines (label_read label.now)) result }
-{
-    match lines {
-        Lines::Json => put_announcement(sink, label.name.as_str(), label.kind.as_str()),
-        Lines::Readable => put_trial_line(sink, label.kind.as_str(), label.name.as_str(), ""),
+    if let Some(label) = running {
+        sink.add(b"running: ");
+        add_announced(sink, lines, label);
     }
 }
 
-// Writes what was found about a line of the known failures, and its number.
+// Adds a trial that was announced.
+fn add_announced<W: Write>(sink: &mut Sink<W>, lines: Lines, label: &Label)
+    ensures { Adds W.contents sink.old sink.new (announced_text lines (label_read label.now)) }
+{
+    match lines {
+        Lines::Json => add_announcement(sink, label.name.as_str(), label.kind.as_str()),
+        Lines::Readable => add_trial_line(sink, label.kind.as_str(), label.name.as_str(), ""),
+    }
+}
+
+// Adds what was found about a line of the known failures, and its number.
 #[tactic(auto, unfolding(crate::specs::FindingText::place_text))]
-fn put_place<'a, W: Write>(
-    sink: &mut Sink<W>,
-    words: &'a str,
-    line: usize,
-) -> Result<(), WriteFault>
-    requires { HasFaultLeft sink.old }
-    ensures { Puts W.contents sink.old sink.new (place_text words.now line) result }
+fn add_place<'a, W: Write>(sink: &mut Sink<W>, words: &'a str, line: usize)
+    ensures { Adds W.contents sink.old sink.new (place_text words.now line) }
 {
     let pieces = [
         Piece::Text(words),
         Piece::Number(line as u64),
         Piece::Text(" can go: "),
     ];
-    put_pieces(sink, &pieces)
+    add_pieces(sink, &pieces);
 }
 
-// Writes a failed trial, with its message.
-fn put_failure<W: Write>(sink: &mut Sink<W>, lines: Lines, row: &Row) -> Result<(), WriteFault>
-    requires { HasFaultLeft sink.old }
-    ensures { Puts W.contents sink.old sink.new (failure_text lines (entry_read row.now)) result }
+// Adds a failed trial, with its message.
+fn add_failure<W: Write>(sink: &mut Sink<W>, lines: Lines, row: &Row)
+    ensures { Adds W.contents sink.old sink.new (failure_text lines (entry_read row.now)) }
 {
     match lines {
-        Lines::Json => put_row(sink, row),
-        Lines::Readable => put_trial_line(
+        Lines::Json => add_row(sink, row),
+        Lines::Readable => add_trial_line(
             sink,
             row.kind.as_str(),
             row.name.as_str(),
@@ -125,14 +102,13 @@ fn put_failure<W: Write>(sink: &mut Sink<W>, lines: Lines, row: &Row) -> Result<
     }
 }
 
-// Writes a trial whose message doesn't matter. In JSON it is there nevertheless.
-fn put_trial<W: Write>(sink: &mut Sink<W>, lines: Lines, row: &Row) -> Result<(), WriteFault>
-    requires { HasFaultLeft sink.old }
-    ensures { Puts W.contents sink.old sink.new (trial_text lines (entry_read row.now)) result }
+// Adds a trial whose message doesn't matter. In JSON it is there nevertheless.
+fn add_trial<W: Write>(sink: &mut Sink<W>, lines: Lines, row: &Row)
+    ensures { Adds W.contents sink.old sink.new (trial_text lines (entry_read row.now)) }
 {
     match lines {
-        Lines::Json => put_row(sink, row),
-        Lines::Readable => put_trial_line(sink, row.kind.as_str(), row.name.as_str(), ""),
+        Lines::Json => add_row(sink, row),
+        Lines::Readable => add_trial_line(sink, row.kind.as_str(), row.name.as_str(), ""),
     }
 }
 
@@ -146,16 +122,10 @@ fn message_in(row: &Row) -> &str
     }
 }
 
-// Writes the kind, the name and the first line of the message, and the end of the line.
+// Adds the kind, the name and the first line of the message, and the end of the line.
 #[tactic(auto, unfolding(crate::specs::FindingText::trial_line))]
-fn put_trial_line<'a, W: Write>(
-    sink: &mut Sink<W>,
-    kind: &'a str,
-    name: &'a str,
-    message: &'a str,
-) -> Result<(), WriteFault>
-    requires { HasFaultLeft sink.old }
-    ensures { Puts W.contents sink.old sink.new (trial_line kind.now name.now message.now) result }
+fn add_trial_line<'a, W: Write>(sink: &mut Sink<W>, kind: &'a str, name: &'a str, message: &'a str)
+    ensures { Adds W.contents sink.old sink.new (trial_line kind.now name.now message.now) }
 {
     let pieces = [
         Piece::Bracketed(Place::Line, kind),
@@ -164,7 +134,7 @@ fn put_trial_line<'a, W: Write>(
         Piece::FirstLine(Place::Line, message),
         Piece::Text("\n"),
     ];
-    put_pieces(sink, &pieces)
+    add_pieces(sink, &pieces);
 }
 
 // Returns what comes before the first line of a message: nothing if that line is empty.
@@ -178,17 +148,15 @@ fn colon(message: &str) -> &'static str
     }
 }
 
-// Writes the line that a report in JSON has of the outcome, without a time.
-pub(crate) fn put_row<W: Write>(sink: &mut Sink<W>, row: &Row) -> Result<(), WriteFault>
-    requires { HasFaultLeft sink.old }
-    ensures { Puts W.contents sink.old sink.new
-        (row_line (entry_read row.now)) result }
+// Adds the line that a report in JSON has of the outcome, without a time.
+pub(crate) fn add_row<W: Write>(sink: &mut Sink<W>, row: &Row)
+    ensures { Adds W.contents sink.old sink.new (row_line (entry_read row.now)) }
 {
-    put_outcome(
+    add_outcome(
         sink,
         row.name.as_str(),
         row.kind.as_str(),
         &row.outcome,
         None,
-    )
+    );
 }

@@ -3,22 +3,22 @@ ghost use Rattle.std.specs.Prelude.{◌≡◌, ◌∷◌, [], ◌++◌, ℕ, IfO
 ghost use Rattle.std.specs.List.{AllZip, flat_map, list_all};
 ghost use Rattle.std.specs.Option.{option_copied, option_map};
 ghost use Rattle.mimic_printer.specs.Json.{Entry};
-ghost use Rattle.mimic_printer.specs.Sink.{HasFaultLeft, Puts, shown};
+ghost use Rattle.mimic_printer.specs.Sink.{Adds, HasFaultLeft, shown};
 ghost use Rattle.mimic_expect.specs.Changes.{HasChanges, read_at};
 ghost use Rattle.mimic_expect.specs.Expect.{counts};
 ghost use Rattle.mimic_expect.specs.JudgedRows.{Keeps};
 ghost use Rattle.mimic_expect.specs.JudgementText.{finding_read};
 ghost use Rattle.mimic_expect.specs.Known.{expected_read, lines_of, says_nothing};
-ghost use Rattle.mimic_expect.specs.Updated.{line_of, replaced_by, updated_text, LeavesUpdate, UpdateLaws, added_line, kept_line, kept_lines, update_text};
+ghost use Rattle.mimic_expect.specs.Updated.{line_of, replaced_by, LeavesUpdate, UpdateLaws, added_line, kept_line, kept_lines, update_text};
 ghost use Rattle.mimic_expect.specs.Verdict.{InputRead, IsReadOf, ends_of, is_whole, rows_of, Reads};
 
 use crate::judge::Judge;
 use crate::judgement::Unexpected;
 use crate::known::{Expectation, first_line};
-use crate::unexpected::put_row;
+use crate::unexpected::add_row;
 use crate::verdict::{InputEnd, have_all};
 use mimic_events::{InputRows, ReadFault};
-use mimic_printer::{OutputFault, Sink, WriteFault};
+use mimic_printer::{OutputFault, Sink};
 use std::alloc::{AllocError, Global};
 use std::collections::HashMap;
 use std::io::{ErrorKind, Read, Write};
@@ -78,7 +78,10 @@ pub fn write_updated<I: Read + Drop, W: Write>(
     let judgement = judge.finish(alloc, have_all(&verdict.ends))?;
     let found = counting(alloc, &judgement.unexpected, lax)?;
     let changes = changes_of(alloc, &found)?;
-    put_updated(sink, text, &found, &changes)?;
+    add_kept(sink, text, &changes);
+    add_unknown(sink, &found);
+    sink.add_flush();
+    sink.end()?;
     Ok(verdict)
 }
 
@@ -154,44 +157,24 @@ fn changes_of<'a>(
     Ok(changes)
 }
 
-// Writes the new text, and flushes it.
-fn put_updated<'a, W: Write>(
-    sink: &mut Sink<W>,
-    text: &[u8],
-    found: &[Unexpected<'a>],
-    changes: &HashMap<usize, Unexpected<'a>>,
-) -> Result<(), WriteFault>
-    requires fault { HasFaultLeft sink.old }
-    requires changes { HasChanges changes.now (map finding_read found.now) }
-    ensures { Puts W.contents sink.old sink.new
-        (updated_text text.now (map finding_read found.now)) result }
-{
-    put_kept(sink, text, changes)?;
-    put_added(sink, found)?;
-    sink.flush()
-}
-
-// Writes what becomes of the lines of the text.
-fn put_kept<'a, W: Write>(
-    sink: &mut Sink<W>,
-    text: &[u8],
-    changes: &HashMap<usize, Unexpected<'a>>,
-) -> Result<(), WriteFault>
-    requires { HasFaultLeft sink.old }
-    ensures { Puts W.contents sink.old sink.new
-        (kept_lines (read_at changes.now) 1 (lines_of text.now)) result }
+// Adds what becomes of the lines of the text.
+fn add_kept<'a, W: Write>(sink: &mut Sink<W>, text: &[u8], changes: &HashMap<usize, Unexpected<'a>>)
+    ensures { Adds W.contents sink.old sink.new
+        (kept_lines (read_at changes.now) 1 (lines_of text.now)) }
 {
     let mut rest = text;
     let mut number = 1;
     while let Some((line, after)) = first_line(rest) {
-        put_kept_line(sink, without_end(line), changes.get(&number))?;
+        if sink.has_fault() {
+            return;
+        }
+        add_kept_line(sink, without_end(line), changes.get(&number));
         number += 1;
         rest = after;
     }
-    if rest.is_empty() {
-        return Ok(());
+    if !rest.is_empty() {
+        add_kept_line(sink, rest, changes.get(&number));
     }
-    put_kept_line(sink, rest, changes.get(&number))
 }
 
 // Returns the line without its end.
@@ -201,29 +184,24 @@ fn without_end(line: &[u8]) -> &[u8]
     &line[..line.len().saturating_sub(1)]
 }
 
-// Writes what becomes of a line, by what was found about it. It has no end, and gets one.
-fn put_kept_line<'a, W: Write>(
-    sink: &mut Sink<W>,
-    line: &[u8],
-    found: Option<&Unexpected<'a>>,
-) -> Result<(), WriteFault>
-    requires { HasFaultLeft sink.old }
-    ensures { Puts W.contents sink.old sink.new
-        (kept_line line.now (option_map finding_read (option_copied found.entry))) result }
+// Adds what becomes of a line, by what was found about it. It has no end, and gets one.
+fn add_kept_line<'a, W: Write>(sink: &mut Sink<W>, line: &[u8], found: Option<&Unexpected<'a>>)
+    ensures { Adds W.contents sink.old sink.new
+        (kept_line line.now (option_map finding_read (option_copied found.entry))) }
 {
     match found {
-        Some(found) if !says_nothing(line) => put_replacement(sink, found),
-        _ => put_line(sink, line),
+        Some(found) if !says_nothing(line) => add_replacement(sink, found),
+        _ => add_line(sink, line),
     }
 }
 
-// Writes the line, and its end.
-fn put_line<W: Write>(sink: &mut Sink<W>, line: &[u8]) -> Result<(), WriteFault>
-    requires { HasFaultLeft sink.old }
-    ensures { Puts W.contents sink.old sink.new (line.now ++ 10 ∷ []) result }
+// Adds the line, and its end.
+#[tactic(auto, using(mimic_printer::proofs::Adding::adds_then))]
+fn add_line<W: Write>(sink: &mut Sink<W>, line: &[u8])
+    ensures { Adds W.contents sink.old sink.new (line.now ++ 10 ∷ []) }
 {
-    sink.put(line)?;
-    sink.put(b"\n")
+    sink.add(line);
+    sink.add(b"\n");
 }
 
 // Whether the line, which has no end, is empty or a comment.
@@ -233,36 +211,33 @@ fn says_nothing(line: &[u8]) -> bool
     matches!(line, [] | [b'#', ..])
 }
 
-// Writes what replaces a line about which this was found.
-fn put_replacement<W: Write>(sink: &mut Sink<W>, found: &Unexpected<'_>) -> Result<(), WriteFault>
-    requires { HasFaultLeft sink.old }
-    ensures { Puts W.contents sink.old sink.new (replaced_by (finding_read found.now)) result }
+// Adds what replaces a line about which this was found.
+fn add_replacement<W: Write>(sink: &mut Sink<W>, found: &Unexpected<'_>)
+    ensures { Adds W.contents sink.old sink.new (replaced_by (finding_read found.now)) }
 {
-    match found {
-        Unexpected::AnotherMessage { row, .. } => put_row(sink, row),
-        Unexpected::Failed(_) | Unexpected::Passed(_) | Unexpected::Absent(_) => Ok(()),
+    if let Unexpected::AnotherMessage { row, .. } = found {
+        add_row(sink, row);
     }
 }
 
-// Writes the lines of the failures that are not known.
-fn put_added<W: Write>(sink: &mut Sink<W>, found: &[Unexpected<'_>]) -> Result<(), WriteFault>
-    requires { HasFaultLeft sink.old }
-    ensures { Puts W.contents sink.old sink.new
-        (flat_map (λ one. added_line (finding_read one)) found.now) result }
+// Adds the lines of the failures that are not known.
+fn add_unknown<W: Write>(sink: &mut Sink<W>, found: &[Unexpected<'_>])
+    ensures { Adds W.contents sink.old sink.new
+        (flat_map (λ one. added_line (finding_read one)) found.now) }
 {
     for one in found {
-        put_added_line(sink, one)?;
+        if sink.has_fault() {
+            break;
+        }
+        add_if_unknown(sink, one);
     }
-    Ok(())
 }
 
-fn put_added_line<W: Write>(sink: &mut Sink<W>, found: &Unexpected<'_>) -> Result<(), WriteFault>
-    requires { HasFaultLeft sink.old }
-    ensures { Puts W.contents sink.old sink.new (added_line (finding_read found.now)) result }
+fn add_if_unknown<W: Write>(sink: &mut Sink<W>, found: &Unexpected<'_>)
+    ensures { Adds W.contents sink.old sink.new (added_line (finding_read found.now)) }
 {
-    match found {
-        Unexpected::Failed(row) => put_row(sink, row),
-        Unexpected::AnotherMessage { .. } | Unexpected::Passed(_) | Unexpected::Absent(_) => Ok(()),
+    if let Unexpected::Failed(row) = found {
+        add_row(sink, row);
     }
 }
 

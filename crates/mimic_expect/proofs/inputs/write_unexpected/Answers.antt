@@ -1,6 +1,7 @@
 use Rattle.std.proofs.Common.{◌∙◌, [], ap, append-nil, map, subst, sym}
 use Rattle.mimic_printer.specs.Sink.{Put, Stopped}
-use Rattle.mimic_printer.proofs.Appending.{Put-Stopped, Put-refl, Put-trans, Put_after, Stopped_after}
+use Rattle.mimic_printer.proofs.Adding.{adds_last, puts_added}
+use Rattle.mimic_printer.proofs.Appending.{Put-Stopped, Put-refl, Put-trans}
 use Rattle.mimic_expect.specs.Known.{expected_read}
 use Rattle.mimic_expect.specs.JudgedRows.{Judged}
 use Rattle.mimic_expect.specs.Verdict.{have_all, rows_of}
@@ -29,23 +30,15 @@ returns-in_err-judgement-clause-verdict g c =
     (inputs_read g.I.Read.remaining inputs inputs [] came.0 (sym (append-nil inputs)) came.1)
     (lines_put known c.in_ok-judge.judge c.judge_inputs.new.judge (rows_of came.0) c.in_ok-failed.failed _ _ c.in_ok-judge.ensures came.3)
 
-pub returns-in_err-put_judgement-clause-verdict : goal.returns-in_err-put_judgement-clause-verdict
-returns-in_err-put_judgement-clause-verdict g c =
+pub returns-in_err-end-clause-verdict : goal.returns-in_err-end-clause-verdict
+returns-in_err-end-clause-verdict g c =
     let known = map expected_read c.args.known.now in
     let came = c.in_ok-failed.ensures in
     let whole = whole_text known c.in_ok-judge.judge c.judge_inputs.new.judge came.0 _ _ c.in_ok-failed.ends.items _ c.in_ok-failed.failed c.in_ok-judgement.judgement c.args.options.lines _ _
     c.in_ok-judge.ensures came.3 c.have_all.ensures c.deref.ensures.value c.deref-2.ensures.value came.2 c.in_ok-judgement.ensures.unexpected c.in_ok-judgement.ensures.met in
-    write_left g.I.Read.remaining known c.args.inputs.items c.args.options _ _ c.from_residual-in_err-put_judgement.result c.in_err-put_judgement.field-0.0 came.0
-    c.from_residual-in_err-put_judgement.ensures.1 came.1 (subst (Stopped _ _) whole.1 (Put-Stopped _ _ whole.0 c.in_err-put_judgement.ensures))
-
-pub returns-in_err-flush-clause-verdict : goal.returns-in_err-flush-clause-verdict
-returns-in_err-flush-clause-verdict g c =
-    let known = map expected_read c.args.known.now in
-    let came = c.in_ok-failed.ensures in
-    let whole = whole_text known c.in_ok-judge.judge c.judge_inputs.new.judge came.0 _ _ c.in_ok-failed.ends.items _ c.in_ok-failed.failed c.in_ok-judgement.judgement c.args.options.lines _ _
-    c.in_ok-judge.ensures came.3 c.have_all.ensures c.deref.ensures.value c.deref-2.ensures.value came.2 c.in_ok-judgement.ensures.unexpected c.in_ok-judgement.ensures.met in
-    write_left g.I.Read.remaining known c.args.inputs.items c.args.options _ _ c.from_residual-in_err-flush.result c.in_err-flush.field-0.0 came.0
-    c.from_residual-in_err-flush.ensures.1 came.1 (subst (Stopped _ _) whole.1 (Stopped_after _ (Put-trans _ _ whole.0 c.in_ok-put_judgement.ensures) c.in_err-flush.ensures))
+    let put = puts_added _ _ (adds_last _ c.add_judgement.ensures c.add_flush.ensures) c.in_err-end.ensures in
+    write_left g.I.Read.remaining known c.args.inputs.items c.args.options _ _ c.from_residual-in_err-end.result c.in_err-end.field-0.0 came.0
+    c.from_residual-in_err-end.ensures.1 came.1 (subst (Stopped _ _) whole.1 (Put-Stopped _ _ whole.0 put))
 
 pub returns-clause-verdict : goal.returns-clause-verdict
 returns-clause-verdict g c =
@@ -59,11 +52,12 @@ returns-clause-verdict g c =
     let judgement = c.in_ok-judgement.judgement in
     let new = c.judge_inputs.new.judge in
     let says = says_of judgement new came.0 _ c.in_ok-failed.ends.items _ c.have_all.ensures c.deref.ensures.value came.2 c.in_ok-judgement.ensures.unexpected in
+    let put = puts_added _ _ (adds_last _ c.add_judgement.ensures c.add_flush.ensures) c.in_ok-end.ensures in
     record {
       read = came.0;
       each = came.1;
       ends = came.2;
-      put = subst (Put _ _) whole.1 (Put_after _ (Put-trans _ _ whole.0 c.in_ok-put_judgement.ensures) c.in_ok-flush.ensures);
+      put = subst (Put _ _) whole.1 (Put-trans _ _ whole.0 put);
       unexpected = elim c.if-failed-gt0.branch [
         | then-failed-gt0 w ↦ w.result-is ∙ some_counts known c.in_ok-judge.judge new rows (have_all came.0) failed judgement begun came.3 says c.args.options.lax w.if-failed-gt0.true
         | else-failed-gt0 w ↦ w.result-is ∙ rest_counts known c.in_ok-judge.judge new rows (have_all came.0) failed judgement begun came.3 says c.args.options.lax w.is_unexpected.result w.if-failed-gt0.false w.is_unexpected.ensures

@@ -1,19 +1,20 @@
 use Rattle.std.proofs.Common.{◌≡◌, ◌∙◌, ap, map, subst, true}
 use Rattle.std.specs.Prelude.{filter}
 use Rattle.std.specs.List.{list_all}
-use Rattle.mimic_printer.specs.Sink.{Put, Stopped}
+use Rattle.mimic_printer.specs.Sink.{Adds}
+use Rattle.mimic_printer.proofs.Adding.{adds_last, puts_added}
 use Rattle.mimic_printer.specs.declared.sink.OutputFault.TheVariants.{Write}
 use Rattle.mimic_events.proofs.Results.{at_fault}
 use Rattle.mimic_expect.specs.Expect.{counts}
 use Rattle.mimic_expect.specs.JudgementText.{finding_read}
 use Rattle.mimic_expect.specs.Known.{expected_read}
-use Rattle.mimic_expect.specs.Updated.{LeavesUpdate, updated_text}
+use Rattle.mimic_expect.specs.Updated.{LeavesUpdate}
 use Rattle.mimic_expect.specs.Verdict.{has_all, is_whole}
-use Rattle.mimic_expect.proofs.Updates.{update_is}
+use Rattle.mimic_expect.proofs.Updates.{update_added, update_is}
 use Rattle.mimic_expect.proofs.updated.write_updated.Goals as goal
 
-pub returns-in_err-put_updated-clause-update : goal.returns-in_err-put_updated-clause-update
-returns-in_err-put_updated-clause-update g c =
+pub returns-in_err-end-clause-update : goal.returns-in_err-end-clause-update
+returns-in_err-end-clause-update g c =
     let came = c.in_ok-ends.ensures in
     let known = map expected_read c.args.known.now in
     let whole : list_all is_whole c.in_ok-ends.ends.items ≡ true = let e = c.is_written.ensures in let f = c.if-not-is_written.false in cc in
@@ -22,9 +23,11 @@ returns-in_err-put_updated-clause-update g c =
     let is = update_is c.args.text.now known c.args.lax came.0 c.in_ok-ends.ends.items c.in_ok-judge.judge c.keep_inputs.new.judge c.have_all.result
     c.in_ok-judgement.judgement.unexpected.items c.in_ok-found.found.items came.2 whole c.in_ok-judge.ensures came.3
     (c.have_all.ensures ∙ ap (list_all has_all) c.deref.ensures.value) says counted in
-    let same = ap (λ l. updated_text c.args.text.now (map finding_read l)) c.deref-4.ensures.value ∙ is in
-    at_fault (LeavesUpdate _ _ _ _ _) _ (Write c.in_err-put_updated.field-0.0) c.from_residual-in_err-put_updated.ensures.1
-    (record { read = came.0; each = came.1; written = subst (Stopped _ _) same c.in_err-put_updated.ensures })
+    let added = update_added c.args.text.now c.in_ok-found.found.items c.in_ok-changes.changes (rw c.deref-3.ensures.value at c.in_ok-changes.ensures) c.add_kept.ensures
+    (rw c.deref-4.ensures.value at c.add_unknown.ensures) in
+    let put = puts_added _ _ (subst (Adds _ _ _) is (adds_last _ added c.add_flush.ensures)) c.in_err-end.ensures in
+    at_fault (LeavesUpdate _ _ _ _ _) _ (Write c.in_err-end.field-0.0) c.from_residual-in_err-end.ensures.1
+    (record { read = came.0; each = came.1; written = put })
 
 pub returns-clause-update : goal.returns-clause-update
 returns-clause-update g c =
@@ -36,5 +39,7 @@ returns-clause-update g c =
     let is = update_is c.args.text.now known c.args.lax came.0 c.in_ok-ends.ends.items c.in_ok-judge.judge c.keep_inputs.new.judge c.have_all.result
     c.in_ok-judgement.judgement.unexpected.items c.in_ok-found.found.items came.2 whole c.in_ok-judge.ensures came.3
     (c.have_all.ensures ∙ ap (list_all has_all) c.deref.ensures.value) says counted in
-    let same = ap (λ l. updated_text c.args.text.now (map finding_read l)) c.deref-4.ensures.value ∙ is in
-    record { read = came.0; each = came.1; written = (came.2, subst (Put _ _) same c.in_ok-put_updated.ensures) }
+    let added = update_added c.args.text.now c.in_ok-found.found.items c.in_ok-changes.changes (rw c.deref-3.ensures.value at c.in_ok-changes.ensures) c.add_kept.ensures
+    (rw c.deref-4.ensures.value at c.add_unknown.ensures) in
+    let put = puts_added _ _ (subst (Adds _ _ _) is (adds_last _ added c.add_flush.ensures)) c.in_ok-end.ensures in
+    record { read = came.0; each = came.1; written = (came.2, put) }
