@@ -1,10 +1,11 @@
 -- The parts of a page, one after another.
-use Rattle.std.proofs.Common.{◌≡◌, arith, ℕ, zero, suc, ◌+◌, ◌-◌, ◌<◌, ◌≤◌, Bool, true, false, nat_lt, append_assoc, take, drop, drop-cons, get_or, List, [], ◌∷◌, ◌++◌, Result, length, map, refl, sym, ap, subst, ◌∙◌, append-nil}
+use Rattle.std.proofs.Common.{◌≡◌, arith, ℕ, zero, suc, ◌+◌, ◌-◌, ◌<◌, ◌≤◌, Bool, true, false, nat_lt, append_assoc, take, drop, drop-cons, get_or, List, [], ◌∷◌, ◌++◌, Option, length, map, refl, sym, ap, subst, ◌∙◌, append-nil}
 use Rattle.std.proofs.lemmas.Bool.{lt-ltb, ltb-true, ltb-false}
 use Rattle.std.proofs.lemmas.List.{drop_all, length-map}
 use Rattle.mimic_printer.specs.Json.{Entry}
-use Rattle.mimic_printer.specs.Sink.{Put, Shown, Stopped, Writes}
-use Rattle.mimic_printer.proofs.Appending.{Put-Stopped, Put-trans, Puts-stopped, Puts_then, Stopped-more}
+use Rattle.mimic_printer.specs.Sink.{Adds, keeps_fault}
+use Rattle.mimic_printer.specs.declared.sink.Sink.{Sink}
+use Rattle.mimic_printer.proofs.Adding.{adds_more, adds_then}
 use Rattle.mimic_events.specs.Contents.{entry_read}
 use Rattle.mimic_events.specs.declared.report.Row.{Row}
 use Rattle.mimic_reports.specs.declared.page.Listing.{Listing}
@@ -13,7 +14,6 @@ use Rattle.mimic_reports.specs.declared.page.Group.{Group}
 use Rattle.mimic_reports.specs.declared.page.Group.TheVariants.{Failed, Measured, Others}
 use Rattle.mimic_trial.specs.Count.{counts_of}
 use Rattle.mimic_trial.specs.declared.outcome.conclusion.Conclusion.{Conclusion}
-use Rattle.std.specs.Result.{IsErr}
 use Rattle.std.specs.List.{flat_map}
 use Rattle.std.specs.Prelude.{string_bytes}
 use Rattle.std.proofs.lemmas.Simd.{map-map}
@@ -55,12 +55,12 @@ module _ (l : Listing) where
     abbrev from : ℕ → ℕ → List ℕ
     from at found = rest found (map entry_read (drop at rows))
 
-    -- the heading and the rows before it were written, of which `found` are in the group
-    pub record RowsWritten (old new : Shown) (at found : ℕ) : Type 0 where
+    -- the heading and the rows before it were added, of which `found` are in the group
+    pub record RowsAdded {W : Type 0} (contents : W → Option (List ℕ)) (old new : Sink W) (at found : ℕ) : Type 0 where
       pub within : found ≤ at
       pub done : List ℕ
       pub parts : all ≡ done ++ from at found
-      pub put : Put old new done
+      pub added : Adds contents old new done
 
     whole : (start : List ℕ) → start ≡ heading l.group → all ≡ start ++ from 0 0
     unfolding group_text
@@ -68,12 +68,6 @@ module _ (l : Listing) where
         let limit : l.limit - 0 ≡ l.limit = omega arith in
         let count : 0 + length (rows_of l.group (map entry_read rows)) ≡ length (rows_of l.group (map entry_read rows)) = omega arith in
         rw (is, limit, count, append-nil) refl
-
-    pub stopped_heading : {a b : Shown} (start : List ℕ) → start ≡ heading l.group → Stopped a b start → Stopped a b all
-    stopped_heading {a} {b} start is s = subst (Stopped a b) (sym (whole start is)) (Stopped-more start (from 0 0) s)
-
-    pub none_written : {a b : Shown} (start : List ℕ) → start ≡ heading l.group → Put a b start → RowsWritten a b 0 0
-    none_written start is p = record { within = omega arith; done = start; parts = whole start is; put = p }
 
     module _ (at found : ℕ) (d : Row) (h : at < length rows) where
       abbrev entry : Entry
@@ -86,25 +80,9 @@ module _ (l : Listing) where
           ∙ next_row (is_in l.group entry.outcome) (nat_lt found l.limit) entry (map entry_read (drop (suc at) rows)) found refl refl
           ∙ ap (λ (n : ℕ). row_in l found entry ++ from n (found_after l.group found entry)) next
 
-      -- a fault in the row, or in what follows it
-      pub stopped_in : {a b c : Shown} → RowsWritten a b at found → Stopped b c (row_in l found entry) → Stopped a c all
-      stopped_in {a} {b} {c} w s =
-          subst (Stopped a c) (ap (λ (t : List ℕ). w.done ++ t) (sym one_row) ∙ sym w.parts)
-          (Put-Stopped w.done _ w.put (Stopped-more (row_in l found entry) _ s))
-
-      pub more_rows : {a b c : Shown} (count : ℕ) → count ≡ found_after l.group found entry → RowsWritten a b at found
-          → Put b c (row_in l found entry) → RowsWritten a c (at + 1) count
-      more_rows count is w p = record {
-        within = no_more (is_in l.group entry.outcome) refl;
-        done = w.done ++ row_in l found entry;
-        parts = w.parts ∙ ap (λ (t : List ℕ). w.done ++ t) (one_row ∙ ap (λ n. row_in l found entry ++ from (at + 1) n) (sym is))
-            ∙ sym (append_assoc w.done (row_in l found entry) (from (at + 1) count));
-        put = Put-trans w.done _ w.put p;
-      }
-        where
-          no_more : (p : Bool) → is_in l.group entry.outcome ≡ p → count ≤ at + 1
-          no_more true e = let n : count ≡ found + 1 = is ∙ rw e refl in omega (arith, w.within, n)
-          no_more false e = let n : count ≡ found = is ∙ rw e refl in omega (arith, w.within, n)
+      no_more : (count : ℕ) (p : Bool) → found ≤ at → count ≡ found_after l.group found entry → is_in l.group entry.outcome ≡ p → count ≤ at + 1
+      no_more count true within is e = let n : count ≡ found + 1 = is ∙ rw e refl in omega (arith, within, n)
+      no_more count false within is e = let n : count ≡ found = is ∙ rw e refl in omega (arith, within, n)
 
     end_left : (at found : ℕ) → length rows ≤ at → from at found ≡ unlisted_text (found - l.limit)
     unfolding rows_after
@@ -117,26 +95,31 @@ module _ (l : Listing) where
         no_rows zero = refl
         no_rows (suc n) = refl
 
-    pub all_written : {E T : Type 0} (a b c : Shown) (at found left : ℕ) (result : Result T E) → length rows ≤ at → left ≡ found - l.limit
-        → RowsWritten a b at found → Writes b c (unlisted_text left) result → Writes a c all result
-    all_written a b c at found left result h is w p =
-        subst (λ (t : List ℕ). Writes a c t result)
-        (ap (λ (t : List ℕ). w.done ++ t) (ap unlisted_text is ∙ sym (end_left at found h)) ∙ sym w.parts)
-        (Puts_then a b c w.done _ result w.put p)
+    module _ {W : Type 0} {contents : W → Option (List ℕ)} where
+      pub none_added : {a b : Sink W} (start : List ℕ) → start ≡ heading l.group → Adds contents a b start → RowsAdded contents a b 0 0
+      none_added start is p = record { within = omega arith; done = start; parts = whole start is; added = p }
 
--- three parts
-pub three_put : {E T : Type 0} (a b c d : Shown) (x y z : List ℕ) (result : Result T E)
-    → Put a b x → Put b c y → Writes c d z result → Writes a d (x ++ (y ++ (z ++ []))) result
-three_put a b c d x y z result p q w =
-    subst (λ (t : List ℕ). Writes a d (x ++ (y ++ t)) result) (sym (append-nil z))
-    (Puts_then a b d x _ result p (Puts_then b c d y z result q w))
+      pub more_rows : {a b c : Sink W} (at found count : ℕ) (d : Row) (h : at < length rows) → count ≡ found_after l.group found (entry at found d h)
+          → RowsAdded contents a b at found → Adds contents b c (row_in l found (entry at found d h)) → RowsAdded contents a c (at + 1) count
+      more_rows at found count d h is w p =
+          let e : Entry = entry at found d h in
+          record {
+            within = no_more at found d h count (is_in l.group e.outcome) w.within is refl;
+            done = w.done ++ row_in l found e;
+            parts = w.parts ∙ ap (λ (t : List ℕ). w.done ++ t) (one_row at found d h ∙ ap (λ n. row_in l found e ++ from (at + 1) n) (sym is))
+                ∙ sym (append_assoc w.done (row_in l found e) (from (at + 1) count));
+            added = adds_then w.done (row_in l found e) w.added p;
+          }
 
--- a text that is another one
-pub stopped_as : {E T : Type 0} {a b : Shown} (s t : List ℕ) → s ≡ t → (result : Result T E) → IsErr result → Stopped a b s → Writes a b t result
-stopped_as {a = a} {b = b} s t is result failed stopped = Puts-stopped t result failed (subst (Stopped a b) is stopped)
+      -- a fault is kept, and nothing more is added
+      pub some_added : {a b : Sink W} (at found : ℕ) → keeps_fault b ≡ true → RowsAdded contents a b at found → Adds contents a b all
+      some_added {a} {b} at found kept w = subst (Adds contents a b) (sym w.parts) (adds_more w.done (from at found) kept w.added)
 
-pub put_as : {E T : Type 0} (a b : Shown) (s t : List ℕ) → s ≡ t → (result : Result T E) → Writes a b s result → Writes a b t result
-put_as a b s t is result w = subst (λ (l : List ℕ). Writes a b l result) is w
+      pub all_added : {a b c : Sink W} (at found left : ℕ) → length rows ≤ at → left ≡ found - l.limit → RowsAdded contents a b at found
+          → Adds contents b c (unlisted_text left) → Adds contents a c all
+      all_added {a} {c} at found left h is w p =
+          subst (Adds contents a c) (ap (λ (t : List ℕ). w.done ++ t) (ap unlisted_text is ∙ sym (end_left at found h)) ∙ sym w.parts)
+          (adds_then w.done (unlisted_text left) w.added p)
 
 -- ---- all groups
 

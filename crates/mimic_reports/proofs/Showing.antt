@@ -1,4 +1,4 @@
--- Reports as they are printed: the parts of their text, and how printing stops.
+-- Reports as they are printed: the parts of their text.
 use Rattle.std.proofs.Common.{◌≡◌, ℕ, Bool, List, [], ◌∷◌, ◌++◌, append_assoc, length, map, refl}
 use Rattle.std.proofs.lemmas.List.{length-map, map-append}
 use Rattle.std.proofs.lemmas.List.Folds.{flat_map-map}
@@ -12,9 +12,7 @@ use Rattle.mimic_trial.specs.declared.trial.TestInfo.{TestInfo}
 use Rattle.mimic_printer.specs.declared.Printer.{Printer}
 use Rattle.mimic_printer.specs.Report.{failures_if_any, failures_in, failures_text, report_text, row_text, summary_text, title_text}
 use Rattle.mimic_printer.specs.Row.{PrintedRow, label_of, outcomes_of, row_of}
-use Rattle.mimic_printer.specs.Sink.{Put, Shown}
 use Rattle.mimic_printer.specs.Widths.{kind_width_of, name_width_of}
-use Rattle.mimic_printer.proofs.Appending.{Put-refl, Put-trans}
 use Rattle.mimic_events.specs.declared.ending.Ending.{Ending}
 use Rattle.mimic_events.specs.declared.ending.Stop.{Stop}
 use Rattle.mimic_events.specs.declared.report.Row.{Row}
@@ -70,10 +68,6 @@ failures_in-untimed Json rows = refl
 pub both-parts : (p : Printer) (rows : List KeptRow)
     → rows_and_failures p (kept_rows rows) ≡ flat_map (λ row. row_text p (kept_row row)) rows ++ failures_text p (untimed rows)
 both-parts p rows = simp (flat_map-map, failures_in-untimed)
-
--- three parts, put one after another
-pub put3 : {a b c d : Shown} (r s t : List ℕ) → Put a b r → Put b c s → Put c d t → Put a d (r ++ (s ++ (t ++ [])))
-put3 r s t first second third = Put-trans r _ first (Put-trans s _ second (Put-trans t [] third (Put-refl _)))
 
 -- the text of a report, part by part
 pub text-parts : (p : Printer) (rows : List KeptRow) (n : ℕ) (counts : Conclusion) (nanos : ℕ) → n ≡ length rows → counts ≡ counts_of (outcomes_of (kept_rows rows)) counts.num_filtered_out

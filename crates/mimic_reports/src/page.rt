@@ -1,17 +1,16 @@
 //! Writes the page of a report.
-ghost use Rattle.std.specs.Prelude.{◌≡◌, ◌<◌, ◌^◌, ◌-◌, IfOk, count_by, length, map, string_bytes};
-ghost use Rattle.mimic_trial.specs.Count.{is_measured};
+ghost use Rattle.std.specs.Prelude.{◌≡◌, ◌<◌, ◌^◌, ◌-◌, map, string_bytes};
 ghost use Rattle.std.specs.List.{flat_map};
-ghost use Rattle.mimic_printer.specs.Sink.{HasFaultLeft, Puts};
+ghost use Rattle.mimic_printer.specs.Sink.{Adds, HasFaultLeft, Puts};
 ghost use Rattle.mimic_events.specs.Contents.{entry_read};
 ghost use Rattle.mimic_reports.specs.Page.{PageLaws, bar_of, found_after, greatest_time, group_text, header_text, missing_in, note_text, page_text, row_in, rows_text, time_of};
 
 use crate::bar::bar_of;
 use crate::page_elements::{
-    put_counts, put_end, put_ending, put_links, put_list_end, put_note, put_start, put_times,
-    put_unlisted,
+    add_counts, add_end, add_ending, add_links, add_list_end, add_note, add_start, add_times,
+    add_unlisted,
 };
-use crate::page_row::put_row;
+use crate::page_row::add_row;
 use crate::suite::SuiteEnding;
 use mimic_events::{Ending, Row, counts_of_rows};
 use mimic_printer::{Sink, WriteFault};
@@ -68,33 +67,31 @@ pub fn write_page<W: Write>(page: &PageContents<'_>, sink: &mut Sink<W>) -> Resu
     // and escaped text has no markup. Rows with other kinds or names have other ids.
     ensures laws { PageLaws }
 {
-    put_header(sink, page)?;
-    put_groups(sink, page.rows, page.most)?;
-    put_end(sink)
+    add_header(sink, page);
+    add_groups(sink, page.rows, page.most);
+    add_end(sink);
+    sink.end()
 }
 
-// Writes what comes before the rows.
-fn put_header<W: Write>(sink: &mut Sink<W>, page: &PageContents<'_>) -> Result<(), WriteFault>
-    requires { HasFaultLeft sink.old }
-    ensures { Puts W.contents sink.old sink.new (header_text page.now) result }
+// Adds what comes before the rows.
+fn add_header<W: Write>(sink: &mut Sink<W>, page: &PageContents<'_>)
+    ensures { Adds W.contents sink.old sink.new (header_text page.now) }
 {
     let counts = counts_of_rows(page.rows, 0);
-    put_start(sink, page.title, &counts, page.ending)?;
-    put_notes(sink, page.notes)?;
-    put_ending(sink, page.rows.len() as u64, page.ending)?;
-    put_times(sink, page.rows)?;
-    put_counts(sink, &counts, missing(page.rows.len() as u64, page.ending))?;
-    put_links(sink, &counts)
+    add_start(sink, page.title, &counts, page.ending);
+    add_notes(sink, page.notes);
+    add_ending(sink, page.rows.len() as u64, page.ending);
+    add_times(sink, page.rows);
+    add_counts(sink, &counts, missing(page.rows.len() as u64, page.ending));
+    add_links(sink, &counts);
 }
 
-fn put_notes<W: Write>(sink: &mut Sink<W>, notes: &[String]) -> Result<(), WriteFault>
-    requires { HasFaultLeft sink.old }
-    ensures { Puts W.contents sink.old sink.new (flat_map (λ note. note_text (string_bytes note)) notes.now) result }
+fn add_notes<W: Write>(sink: &mut Sink<W>, notes: &[String])
+    ensures { Adds W.contents sink.old sink.new (flat_map (λ note. note_text (string_bytes note)) notes.now) }
 {
     for note in notes {
-        put_note(sink, note.as_str())?;
+        add_note(sink, note.as_str());
     }
-    Ok(())
 }
 
 // Returns how many rows are missing after `ended` rows.
@@ -107,10 +104,9 @@ fn missing(ended: u64, ending: &SuiteEnding) -> u64
     }
 }
 
-// Writes the rows, failures first.
-fn put_groups<W: Write>(sink: &mut Sink<W>, rows: &[Row], most: u64) -> Result<(), WriteFault>
-    requires { HasFaultLeft sink.old }
-    ensures { Puts W.contents sink.old sink.new (rows_text most (map entry_read rows.now)) result }
+// Adds the rows, failures first.
+fn add_groups<W: Write>(sink: &mut Sink<W>, rows: &[Row], most: u64)
+    ensures { Adds W.contents sink.old sink.new (rows_text most (map entry_read rows.now)) }
 {
     let longest = bar_of(greatest_time(rows));
     let left = most.saturating_sub(counts_of_rows(rows, 0).num_measured);
@@ -129,48 +125,44 @@ fn put_groups<W: Write>(sink: &mut Sink<W>, rows: &[Row], most: u64) -> Result<(
         limit: left,
         longest,
     };
-    put_group(sink, failed, rows)?;
-    put_group(sink, measured, rows)?;
-    put_group(sink, others, rows)
+    add_group(sink, failed, rows);
+    add_group(sink, measured, rows);
+    add_group(sink, others, rows);
 }
 
-// Writes the rows of a group under its heading, and how many are not listed.
-fn put_group<W: Write>(sink: &mut Sink<W>, listing: Listing, rows: &[Row]) -> Result<(), WriteFault>
-    requires { HasFaultLeft sink.old }
-    ensures { Puts W.contents sink.old sink.new
-        (group_text listing (map entry_read rows.now)) result }
+// Adds the rows of a group under its heading, and how many are not listed.
+fn add_group<W: Write>(sink: &mut Sink<W>, listing: Listing, rows: &[Row])
+    ensures { Adds W.contents sink.old sink.new
+        (group_text listing (map entry_read rows.now)) }
 {
-    sink.put(listing.group.heading())?;
+    sink.add(listing.group.heading());
     let mut found = 0;
     for row in rows {
-        found = put_row_of(sink, listing, found, row)?;
+        if sink.has_fault() {
+            return;
+        }
+        found = add_row_of(sink, listing, found, row);
     }
-    put_unlisted(sink, found.saturating_sub(listing.limit))
+    add_unlisted(sink, found.saturating_sub(listing.limit));
 }
 
-// Writes the row if it is in the group, and is one of those that are listed. `found` rows of the group come before it. Returns how many
+// Adds the row if it is in the group, and is one of those that are listed. `found` rows of the group come before it. Returns how many
 // there are with it.
-fn put_row_of<W: Write>(
-    sink: &mut Sink<W>,
-    listing: Listing,
-    found: u64,
-    row: &Row,
-) -> Result<u64, WriteFault>
-    requires room { HasFaultLeft sink.old }
-    requires count { found < 2 ^ 64 - 1 }
-    ensures written { Puts W.contents sink.old sink.new
-        (row_in listing found (entry_read row.now)) result }
-    ensures count { IfOk result (λ count. count ≡ found_after listing.group found (entry_read row.now)) }
+fn add_row_of<W: Write>(sink: &mut Sink<W>, listing: Listing, found: u64, row: &Row) -> u64
+    requires { found < 2 ^ 64 - 1 }
+    ensures written { Adds W.contents sink.old sink.new
+        (row_in listing found (entry_read row.now)) }
+    ensures count { result ≡ found_after listing.group found (entry_read row.now) }
 {
     if !listing.group.has(&row.outcome) {
-        return Ok(found);
+        return found;
     }
     if found >= listing.limit {
-        return Ok(found + 1);
+        return found + 1;
     }
-    put_row(sink, row, listing.longest)?;
-    put_list_end(sink, found + 1)?;
-    Ok(found + 1)
+    add_row(sink, row, listing.longest);
+    add_list_end(sink, found + 1);
+    found + 1
 }
 
 fn greatest_time(rows: &[Row]) -> u64

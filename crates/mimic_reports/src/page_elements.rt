@@ -1,16 +1,16 @@
 //! Writes the elements of a page around its rows.
 ghost use Rattle.std.specs.Prelude.{◌≡◌, is_some, map};
 ghost use Rattle.std.specs.List.{list_any};
-ghost use Rattle.mimic_printer.specs.Sink.{HasFaultLeft, Puts};
-ghost use Rattle.mimic_reports.specs.Page.{counts_text, end_text, ending_text, kind_end, kind_start, links_text, list_end, missing_part, note_text, running_part, slowest_time, start_text, stop_text, times_text, total_text, total_time, unlisted_text, unread_text, verdict, verdict_class, whole_text};
+ghost use Rattle.mimic_printer.specs.Sink.{Adds};
+ghost use Rattle.mimic_reports.specs.Page.{counts_text, end_text, ending_text, kind_end, kind_start, links_text, list_end, missing_part, note_text, running_part, slowest_time, start_text, stop_text, times_text, total_time, unlisted_text, unread_text, verdict, verdict_class, whole_text};
 
 use crate::human_time::human_pieces;
-use crate::page_row::put_label;
+use crate::page_row::add_label;
 use crate::script::{FILTER, SCRIPT, SCRIPT_DIGEST};
 use crate::style::STYLE;
 use crate::suite::SuiteEnding;
 use mimic_events::{Ending, Row, Stop};
-use mimic_printer::{Piece, Place, Sink, WriteFault, put_pieces};
+use mimic_printer::{Piece, Place, Sink, add_pieces};
 use mimic_trial::Conclusion;
 use std::io::Write;
 
@@ -29,17 +29,16 @@ pub(crate) fn kind_tags(kind: &str) -> (&'static str, &'static str)
     }
 }
 
-// Writes the head and the heading.
+// Adds the head and the heading.
 #[tactic(auto, unfolding(crate::specs::Page::start_text))]
-pub(crate) fn put_start<W: Write>(
+pub(crate) fn add_start<W: Write>(
     sink: &mut Sink<W>,
     title: &str,
     counts: &Conclusion,
     ending: &SuiteEnding,
-) -> Result<(), WriteFault>
-    requires { HasFaultLeft sink.old }
-    ensures { Puts W.contents sink.old sink.new
-        (start_text title.now counts.now ending.now) result }
+)
+    ensures { Adds W.contents sink.old sink.new
+        (start_text title.now counts.now ending.now) }
 {
     let verdict = verdict(counts.num_failed, ending);
     let pieces = [
@@ -69,7 +68,7 @@ pub(crate) fn put_start<W: Write>(
         Piece::Text(verdict),
         Piece::Text("</strong></h1>\n"),
     ];
-    put_pieces(sink, &pieces)
+    add_pieces(sink, &pieces);
 }
 
 fn verdict(failed: u64, ending: &SuiteEnding) -> &'static str
@@ -98,28 +97,22 @@ fn verdict_class(failed: u64, ending: &SuiteEnding) -> &'static str
     }
 }
 
-// Writes a paragraph below the heading.
+// Adds a paragraph below the heading.
 #[tactic(auto, unfolding(crate::specs::Page::note_text))]
-pub(crate) fn put_note<W: Write>(sink: &mut Sink<W>, note: &str) -> Result<(), WriteFault>
-    requires { HasFaultLeft sink.old }
-    ensures { Puts W.contents sink.old sink.new (note_text note.now) result }
+pub(crate) fn add_note<W: Write>(sink: &mut Sink<W>, note: &str)
+    ensures { Adds W.contents sink.old sink.new (note_text note.now) }
 {
     let pieces = [
         Piece::Text("<p><bdi>"),
         Piece::Escaped(Place::Html, note),
         Piece::Text("</bdi></p>\n"),
     ];
-    put_pieces(sink, &pieces)
+    add_pieces(sink, &pieces);
 }
 
-// Writes how the report ended, after `ended` rows.
-pub(crate) fn put_ending<W: Write>(
-    sink: &mut Sink<W>,
-    ended: u64,
-    ending: &SuiteEnding,
-) -> Result<(), WriteFault>
-    requires { HasFaultLeft sink.old }
-    ensures { Puts W.contents sink.old sink.new (ending_text ended ending.now) result }
+// Adds how the report ended, after `ended` rows.
+pub(crate) fn add_ending<W: Write>(sink: &mut Sink<W>, ended: u64, ending: &SuiteEnding)
+    ensures { Adds W.contents sink.old sink.new (ending_text ended ending.now) }
 {
     match ending {
         SuiteEnding::Read(
@@ -127,15 +120,14 @@ pub(crate) fn put_ending<W: Write>(
                 filtered_out,
                 nanos,
             },
-        ) => put_whole(sink, *filtered_out, *nanos),
-        SuiteEnding::Read(Ending::Cut(stop)) => put_stop(sink, ended, stop),
-        SuiteEnding::Unread(cause) => put_unread(sink, ended, cause.as_str()),
+        ) => add_whole(sink, *filtered_out, *nanos),
+        SuiteEnding::Read(Ending::Cut(stop)) => add_stop(sink, ended, stop),
+        SuiteEnding::Unread(cause) => add_unread(sink, ended, cause.as_str()),
     }
 }
 
-fn put_whole<W: Write>(sink: &mut Sink<W>, filtered_out: u64, nanos: u64) -> Result<(), WriteFault>
-    requires { HasFaultLeft sink.old }
-    ensures { Puts W.contents sink.old sink.new (whole_text filtered_out nanos) result }
+fn add_whole<W: Write>(sink: &mut Sink<W>, filtered_out: u64, nanos: u64)
+    ensures { Adds W.contents sink.old sink.new (whole_text filtered_out nanos) }
 {
     let (great, unit, small, small_unit) = human_pieces(nanos);
     let pieces = [
@@ -148,13 +140,12 @@ fn put_whole<W: Write>(sink: &mut Sink<W>, filtered_out: u64, nanos: u64) -> Res
         small_unit,
         Piece::Text("</p>\n"),
     ];
-    put_pieces(sink, &pieces)
+    add_pieces(sink, &pieces);
 }
 
 #[tactic(auto, unfolding(crate::specs::Page::unread_text))]
-fn put_unread<W: Write>(sink: &mut Sink<W>, ended: u64, cause: &str) -> Result<(), WriteFault>
-    requires { HasFaultLeft sink.old }
-    ensures { Puts W.contents sink.old sink.new (unread_text ended cause.now) result }
+fn add_unread<W: Write>(sink: &mut Sink<W>, ended: u64, cause: &str)
+    ensures { Adds W.contents sink.old sink.new (unread_text ended cause.now) }
 {
     let pieces = [
         Piece::Text("<p class=\"cut\">the report can't be read to its end: <bdi>"),
@@ -163,67 +154,52 @@ fn put_unread<W: Write>(sink: &mut Sink<W>, ended: u64, cause: &str) -> Result<(
         Piece::Number(ended),
         Piece::Text("</p>\n"),
     ];
-    put_pieces(sink, &pieces)
+    add_pieces(sink, &pieces);
 }
 
-fn put_stop<W: Write>(sink: &mut Sink<W>, ended: u64, stop: &Stop) -> Result<(), WriteFault>
-    requires { HasFaultLeft sink.old }
-    ensures { Puts W.contents sink.old sink.new (stop_text ended stop.now) result }
+fn add_stop<W: Write>(sink: &mut Sink<W>, ended: u64, stop: &Stop)
+    ensures { Adds W.contents sink.old sink.new (stop_text ended stop.now) }
 {
-    sink.put(b"<p class=\"cut\">")?;
-    stop.put_extent(sink, u128::from(ended))?;
-    put_missing(sink, ended, stop.announced)?;
-    put_running(sink, stop)?;
-    sink.put(b"</p>\n")
+    sink.add(b"<p class=\"cut\">");
+    stop.add_extent(sink, u128::from(ended));
+    add_missing(sink, ended, stop.announced);
+    add_running(sink, stop);
+    sink.add(b"</p>\n");
 }
 
-fn put_missing<W: Write>(
-    sink: &mut Sink<W>,
-    ended: u64,
-    announced: Option<u64>,
-) -> Result<(), WriteFault>
-    requires { HasFaultLeft sink.old }
-    ensures { Puts W.contents sink.old sink.new (missing_part ended announced) result }
+fn add_missing<W: Write>(sink: &mut Sink<W>, ended: u64, announced: Option<u64>)
+    ensures { Adds W.contents sink.old sink.new (missing_part ended announced) }
 {
     let Some(announced) = announced else {
-        return Ok(());
+        return;
     };
     let pieces = [
         Piece::Text("; missing: "),
         Piece::Number(announced.saturating_sub(ended)),
     ];
-    put_pieces(sink, &pieces)
+    add_pieces(sink, &pieces);
 }
 
-fn put_running<W: Write>(sink: &mut Sink<W>, stop: &Stop) -> Result<(), WriteFault>
-    requires { HasFaultLeft sink.old }
-    ensures { Puts W.contents sink.old sink.new (running_part stop.now.running) result }
+fn add_running<W: Write>(sink: &mut Sink<W>, stop: &Stop)
+    ensures { Adds W.contents sink.old sink.new (running_part stop.now.running) }
 {
     let Some(label) = &stop.running else {
-        return Ok(());
+        return;
     };
-    sink.put(b"; running: ")?;
-    put_label(sink, label.kind.as_str(), label.name.as_str())
+    sink.add(b"; running: ");
+    add_label(sink, label.kind.as_str(), label.name.as_str());
 }
 
-// Writes how long the trials took together, and the slowest of them, if the report says it of one.
-pub(crate) fn put_times<W: Write>(sink: &mut Sink<W>, rows: &[Row]) -> Result<(), WriteFault>
-    requires { HasFaultLeft sink.old }
-    ensures { Puts W.contents sink.old sink.new
-        (times_text (map (λ row. row.nanos) rows.now)) result }
+// Adds how long the trials took together, and the slowest of them, if the report says it of one.
+pub(crate) fn add_times<W: Write>(sink: &mut Sink<W>, rows: &[Row])
+    ensures { Adds W.contents sink.old sink.new
+        (times_text (map (λ row. row.nanos) rows.now)) }
 {
     if !has_times(rows) {
-        return Ok(());
+        return;
     }
-    put_total(sink, total_time(rows), slowest_time(rows))
-}
-
-fn put_total<W: Write>(sink: &mut Sink<W>, total: u64, slowest: u64) -> Result<(), WriteFault>
-    requires { HasFaultLeft sink.old }
-    ensures { Puts W.contents sink.old sink.new (total_text total slowest) result }
-{
-    let (great, unit, small, small_unit) = human_pieces(total);
-    let (slow_great, slow_unit, slow_small, slow_small_unit) = human_pieces(slowest);
+    let (great, unit, small, small_unit) = human_pieces(total_time(rows));
+    let (slow_great, slow_unit, slow_small, slow_small_unit) = human_pieces(slowest_time(rows));
     let pieces = [
         Piece::Text("<p>total "),
         great,
@@ -237,7 +213,7 @@ fn put_total<W: Write>(sink: &mut Sink<W>, total: u64, slowest: u64) -> Result<(
         slow_small_unit,
         Piece::Text("</p>\n"),
     ];
-    put_pieces(sink, &pieces)
+    add_pieces(sink, &pieces);
 }
 
 fn has_times(rows: &[Row]) -> bool
@@ -268,15 +244,10 @@ fn slowest_time(rows: &[Row]) -> u64
     slowest
 }
 
-// Writes the counts, as a bar and in words.
+// Adds the counts, as a bar and in words.
 #[tactic(auto, unfolding(crate::specs::Page::counts_text))]
-pub(crate) fn put_counts<W: Write>(
-    sink: &mut Sink<W>,
-    counts: &Conclusion,
-    missing: u64,
-) -> Result<(), WriteFault>
-    requires { HasFaultLeft sink.old }
-    ensures { Puts W.contents sink.old sink.new (counts_text counts.now missing) result }
+pub(crate) fn add_counts<W: Write>(sink: &mut Sink<W>, counts: &Conclusion, missing: u64)
+    ensures { Adds W.contents sink.old sink.new (counts_text counts.now missing) }
 {
     let pieces = [
         Piece::Text(
@@ -301,14 +272,13 @@ pub(crate) fn put_counts<W: Write>(
         Piece::Number(counts.num_measured),
         Piece::Text(" measured</li>\n</ul>\n</header>\n"),
     ];
-    put_pieces(sink, &pieces)
+    add_pieces(sink, &pieces);
 }
 
-// Writes links to the groups that have rows, and the filter.
+// Adds links to the groups that have rows, and the filter.
 #[tactic(auto, unfolding(crate::specs::Page::links_text))]
-pub(crate) fn put_links<W: Write>(sink: &mut Sink<W>, counts: &Conclusion) -> Result<(), WriteFault>
-    requires { HasFaultLeft sink.old }
-    ensures { Puts W.contents sink.old sink.new (links_text counts.now) result }
+pub(crate) fn add_links<W: Write>(sink: &mut Sink<W>, counts: &Conclusion)
+    ensures { Adds W.contents sink.old sink.new (links_text counts.now) }
 {
     let others = u128::from(counts.num_passed) + u128::from(counts.num_ignored);
     let pieces = [
@@ -328,47 +298,43 @@ pub(crate) fn put_links<W: Write>(sink: &mut Sink<W>, counts: &Conclusion) -> Re
         Piece::Text(FILTER),
         Piece::Text("<main>\n"),
     ];
-    put_pieces(sink, &pieces)
+    add_pieces(sink, &pieces);
 }
 
-// Writes what follows `count` rows of a group.
-pub(crate) fn put_list_end<W: Write>(sink: &mut Sink<W>, count: u64) -> Result<(), WriteFault>
-    requires { HasFaultLeft sink.old }
-    ensures { Puts W.contents sink.old sink.new (list_end count) result }
+// Adds what follows `count` rows of a group.
+pub(crate) fn add_list_end<W: Write>(sink: &mut Sink<W>, count: u64)
+    ensures { Adds W.contents sink.old sink.new (list_end count) }
 {
     if count % LIST == 0 {
-        sink.put(b"</ol>\n<ol>\n")
-    } else {
-        Ok(())
+        sink.add(b"</ol>\n<ol>\n");
     }
 }
 
-// Writes the end of a group, of which this many rows are not listed.
-pub(crate) fn put_unlisted<W: Write>(sink: &mut Sink<W>, count: u64) -> Result<(), WriteFault>
-    requires { HasFaultLeft sink.old }
-    ensures { Puts W.contents sink.old sink.new (unlisted_text count) result }
+// Adds the end of a group, of which this many rows are not listed.
+pub(crate) fn add_unlisted<W: Write>(sink: &mut Sink<W>, count: u64)
+    ensures { Adds W.contents sink.old sink.new (unlisted_text count) }
 {
     if count == 0 {
-        return sink.put(b"</ol>\n</section>\n");
+        sink.add(b"</ol>\n</section>\n");
+        return;
     }
     let pieces = [
         Piece::Text("</ol>\n<p class=\"unlisted\">not listed: "),
         Piece::Number(count),
         Piece::Text("</p>\n</section>\n"),
     ];
-    put_pieces(sink, &pieces)
+    add_pieces(sink, &pieces);
 }
 
-// Writes what follows the rows, and flushes the page.
-pub(crate) fn put_end<W: Write>(sink: &mut Sink<W>) -> Result<(), WriteFault>
-    requires { HasFaultLeft sink.old }
-    ensures { Puts W.contents sink.old sink.new end_text result }
+// Adds what follows the rows, and flushes the page.
+pub(crate) fn add_end<W: Write>(sink: &mut Sink<W>)
+    ensures { Adds W.contents sink.old sink.new end_text }
 {
     let pieces = [
         Piece::Text("</main>\n<script>"),
         Piece::Text(SCRIPT),
         Piece::Text("</script>\n</body>\n</html>\n"),
     ];
-    put_pieces(sink, &pieces)?;
-    sink.flush()
+    add_pieces(sink, &pieces);
+    sink.add_flush();
 }

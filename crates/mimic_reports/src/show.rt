@@ -1,17 +1,16 @@
 //! Prints reports as the harness prints them in pretty, and how one ended that is cut.
 ghost use Rattle.std.specs.Prelude.{◌≡◌, ◌++◌, IfOk, map, max, string_bytes};
-ghost use Rattle.std.specs.List.{flat_map};
 ghost use Rattle.mimic_trial.specs.Count.{counts_of};
 ghost use Rattle.mimic_trial.specs.Text.{kind_part};
-ghost use Rattle.mimic_printer.specs.Report.{report_text, row_text};
+ghost use Rattle.mimic_printer.specs.Report.{report_text};
 ghost use Rattle.mimic_printer.specs.Row.{label_of, outcomes_of};
-ghost use Rattle.mimic_printer.specs.Sink.{HasFaultLeft, LeavesText, Puts, shown};
+ghost use Rattle.mimic_printer.specs.Sink.{Adds, HasFaultLeft, LeavesText, shown};
 ghost use Rattle.mimic_printer.specs.Widths.{kind_chars, kind_width_of, name_chars, name_width_of};
 ghost use Rattle.mimic_reports.specs.Show.{cut_line, cut_part, cut_report_text, failures_part, full_failure, kept_row, kept_rows, pretty_cut, pretty_failures, pretty_printer, pretty_report, printed_row, rows_and_failures, title_if_any};
 
-use crate::cut::put_cut;
+use crate::cut::add_cut;
 use mimic_events::{Ending, Report, Row, Stop};
-use mimic_printer::{OutputFault, Place, Printer, ShownRows, Sink, WriteFault, widths};
+use mimic_printer::{OutputFault, Place, Printer, ShownRows, Sink, widths};
 use mimic_trial::{Conclusion, FormatSetting, Outcome, TestInfo, brackets};
 use std::alloc::{AllocError, Global};
 use std::io::Write;
@@ -21,6 +20,7 @@ use std::slice;
 /// in its order with the time that its trial took, if the report says so, the failures and the summary.
 ///
 /// Memory is taken for the list of the rows, and none for their texts.
+#[tactic(auto, using(mimic_printer::proofs::Adding::puts_added))]
 pub fn show_report<W: Write>(
     alloc: Global,
     report: Report,
@@ -33,7 +33,8 @@ pub fn show_report<W: Write>(
 {
     let (counts, nanos) = (report.counts(), report.nanos);
     let rows = rows_to_print(alloc, report.rows)?;
-    put_report(sink, &printer_for(&rows, colours), &rows, &counts, nanos)?;
+    add_report(sink, &printer_for(&rows, colours), &rows, &counts, nanos);
+    sink.end()?;
     Ok(())
 }
 
@@ -43,6 +44,7 @@ pub fn show_report<W: Write>(
 /// numbers.
 ///
 /// Nothing is written of a whole report if no trial failed.
+#[tactic(auto, using(mimic_printer::proofs::Adding::puts_added))]
 pub fn show_failures<W: Write>(
     alloc: Global,
     rows: Vec<Row>,
@@ -55,7 +57,8 @@ pub fn show_failures<W: Write>(
 {
     let rows = rows_to_print(alloc, rows)?;
     let rows = with_full_names(alloc, rows)?;
-    put_failures(sink, &rows, ending)?;
+    add_failures(sink, &rows, ending);
+    sink.end()?;
     Ok(())
 }
 
@@ -66,6 +69,7 @@ pub fn show_failures<W: Write>(
 /// [`show_failures`] prints it. The columns are as wide as these rows need.
 ///
 /// Without a title the report has no rows, and these two lines are all that is printed.
+#[tactic(auto, using(mimic_printer::proofs::Adding::puts_added))]
 pub fn show_cut<W: Write>(
     alloc: Global,
     rows: Vec<Row>,
@@ -78,7 +82,8 @@ pub fn show_cut<W: Write>(
         (shown W.contents sink.new) result }
 {
     let rows = rows_to_print(alloc, rows)?;
-    put_cut_report(sink, &printer_for(&rows, colours), &rows, stop)?;
+    add_cut_report(sink, &printer_for(&rows, colours), &rows, stop);
+    sink.end()?;
     Ok(())
 }
 
@@ -204,117 +209,83 @@ fn wide_enough(columns: (usize, usize), info: &TestInfo) -> (usize, usize)
     (name.max(columns.0), kind.max(columns.1))
 }
 
-// Writes the whole report of the rows, if these are its counts.
-fn put_report<W: Write>(
+// Adds the whole report of the rows, if these are its counts.
+fn add_report<W: Write>(
     sink: &mut Sink<W>,
     printer: &Printer,
     rows: &[KeptRow],
     counts: &Conclusion,
     nanos: u64,
-) -> Result<(), WriteFault>
-    requires room { HasFaultLeft sink.old }
-    requires counts { counts.now
+)
+    requires { counts.now
         ≡ counts_of (outcomes_of (kept_rows rows.now)) counts.now.num_filtered_out }
-    ensures { Puts W.contents sink.old sink.new
-        (report_text printer.now (kept_rows rows.now) counts.now.num_filtered_out nanos) result }
+    ensures { Adds W.contents sink.old sink.new
+        (report_text printer.now (kept_rows rows.now) counts.now.num_filtered_out nanos) }
 {
-    printer.print_title(sink, rows.len() as u64)?;
-    put_rows_and_failures(sink, printer, rows)?;
-    printer.print_summary(sink, counts, nanos)?;
-    sink.flush()
+    printer.add_title(sink, rows.len() as u64);
+    add_rows_and_failures(sink, printer, rows);
+    printer.add_summary(sink, counts, nanos);
+    sink.add_flush();
 }
 
-// Writes each row, and then the failures among them.
-fn put_rows_and_failures<W: Write>(
-    sink: &mut Sink<W>,
-    printer: &Printer,
-    rows: &[KeptRow],
-) -> Result<(), WriteFault>
-    requires { HasFaultLeft sink.old }
-    ensures { Puts W.contents sink.old sink.new
-        (rows_and_failures printer.now (kept_rows rows.now)) result }
-{
-    put_rows(sink, printer, rows)?;
-    printer.print_failures_in(sink, &KeptRows { rows })
-}
-
-fn put_rows<W: Write>(
-    sink: &mut Sink<W>,
-    printer: &Printer,
-    rows: &[KeptRow],
-) -> Result<(), WriteFault>
-    requires { HasFaultLeft sink.old }
-    ensures { Puts W.contents sink.old sink.new
-        (flat_map (λ row. row_text printer.now (kept_row row)) rows.now) result }
+// Adds each row, and then the failures among them.
+fn add_rows_and_failures<W: Write>(sink: &mut Sink<W>, printer: &Printer, rows: &[KeptRow])
+    ensures { Adds W.contents sink.old sink.new
+        (rows_and_failures printer.now (kept_rows rows.now)) }
 {
     for row in rows {
-        printer.print_timed_row(sink, &row.info, &row.outcome, row.nanos)?;
+        if sink.has_fault() {
+            return;
+        }
+        printer.add_row(sink, &row.info, &row.outcome, row.nanos);
     }
-    Ok(())
+    printer.add_failures(sink, &KeptRows { rows });
 }
 
-fn put_failures<W: Write>(
-    sink: &mut Sink<W>,
-    rows: &[KeptRow],
-    ending: &Ending,
-) -> Result<(), WriteFault>
-    requires { HasFaultLeft sink.old }
-    ensures { Puts W.contents sink.old sink.new
-        (failures_part (kept_rows rows.now) ending.now) result }
+// Adds the failures among the rows, and how the report ended.
+fn add_failures<W: Write>(sink: &mut Sink<W>, rows: &[KeptRow], ending: &Ending)
+    ensures { Adds W.contents sink.old sink.new
+        (failures_part (kept_rows rows.now) ending.now) }
 {
-    Printer::new(FormatSetting::Pretty, false, 0, 0).print_failures_in(sink, &KeptRows { rows })?;
-    put_ending(sink, rows.len(), ending)?;
-    sink.flush()
+    Printer::new(FormatSetting::Pretty, false, 0, 0).add_failures(sink, &KeptRows { rows });
+    add_ending(sink, rows.len(), ending);
+    sink.add_flush();
 }
 
-// Writes what was read of a report that is cut, if these are the rows that have ended in it.
-fn put_cut_report<W: Write>(
-    sink: &mut Sink<W>,
-    printer: &Printer,
-    rows: &[KeptRow],
-    stop: &Stop,
-) -> Result<(), WriteFault>
-    requires { HasFaultLeft sink.old }
-    ensures { Puts W.contents sink.old sink.new
-        (cut_report_text printer.now (kept_rows rows.now) stop.now) result }
+// Adds what was read of a report that is cut, if these are the rows that have ended in it.
+fn add_cut_report<W: Write>(sink: &mut Sink<W>, printer: &Printer, rows: &[KeptRow], stop: &Stop)
+    ensures { Adds W.contents sink.old sink.new
+        (cut_report_text printer.now (kept_rows rows.now) stop.now) }
 {
-    put_title_if_any(sink, printer, stop.announced)?;
-    put_rows_and_failures(sink, printer, rows)?;
-    put_cut_line(sink, rows.len(), stop)?;
-    sink.flush()
+    add_title_if_any(sink, printer, stop.announced);
+    add_rows_and_failures(sink, printer, rows);
+    add_cut_line(sink, rows.len(), stop);
+    sink.add_flush();
 }
 
-fn put_title_if_any<W: Write>(
-    sink: &mut Sink<W>,
-    printer: &Printer,
-    announced: Option<u64>,
-) -> Result<(), WriteFault>
-    requires { HasFaultLeft sink.old }
-    ensures { Puts W.contents sink.old sink.new (title_if_any printer.now announced) result }
+fn add_title_if_any<W: Write>(sink: &mut Sink<W>, printer: &Printer, announced: Option<u64>)
+    ensures { Adds W.contents sink.old sink.new (title_if_any printer.now announced) }
 {
-    match announced {
-        Some(announced) => printer.print_title(sink, announced),
-        None => Ok(()),
+    if let Some(announced) = announced {
+        printer.add_title(sink, announced);
     }
 }
 
-// Writes how a report ended, after `ended` rows: nothing of a whole one.
-fn put_ending<W: Write>(sink: &mut Sink<W>, ended: usize, ending: &Ending) -> Result<(), WriteFault>
-    requires { HasFaultLeft sink.old }
-    ensures { Puts W.contents sink.old sink.new (cut_part ended ending.now) result }
+// Adds how a report ended, after `ended` rows: nothing of a whole one.
+fn add_ending<W: Write>(sink: &mut Sink<W>, ended: usize, ending: &Ending)
+    ensures { Adds W.contents sink.old sink.new (cut_part ended ending.now) }
 {
     match ending {
-        Ending::Whole { .. } => Ok(()),
-        Ending::Cut(stop) => put_cut_line(sink, ended, stop),
+        Ending::Whole { .. } => {}
+        Ending::Cut(stop) => add_cut_line(sink, ended, stop),
     }
 }
 
-// Writes how far a report goes that is cut, behind an empty line, after `ended` rows.
-fn put_cut_line<W: Write>(sink: &mut Sink<W>, ended: usize, stop: &Stop) -> Result<(), WriteFault>
-    requires { HasFaultLeft sink.old }
-    ensures { Puts W.contents sink.old sink.new (cut_line ended stop.now) result }
+// Adds how far a report goes that is cut, behind an empty line, after `ended` rows.
+fn add_cut_line<W: Write>(sink: &mut Sink<W>, ended: usize, stop: &Stop)
+    ensures { Adds W.contents sink.old sink.new (cut_line ended stop.now) }
 {
-    sink.put(b"\n")?;
-    put_cut(sink, Place::Line, ended as u128, stop)?;
-    sink.put(b"\n")
+    sink.add(b"\n");
+    add_cut(sink, Place::Line, ended as u128, stop);
+    sink.add(b"\n");
 }

@@ -1,12 +1,12 @@
 //! Prints the trials that took longest.
 ghost use Rattle.std.specs.Prelude.{◌≡◌, ◌++◌, IfOk, OnOk, map};
 ghost use Rattle.std.specs.List.{flat_map};
-ghost use Rattle.mimic_printer.specs.Sink.{HasFaultLeft, Puts, shown};
+ghost use Rattle.mimic_printer.specs.Sink.{Adds, HasFaultLeft, shown};
 ghost use Rattle.mimic_reports.specs.Slowest.{IsSlowestFirst, LeavesSlowest, line_text, timed_among, timed_of, timed_read};
 
 use crate::seconds::rounded_pieces;
 use mimic_events::{Row, RowsRead};
-use mimic_printer::{OutputFault, Piece, Place, Sink, WriteFault, put_pieces};
+use mimic_printer::{OutputFault, Piece, Place, Sink, add_pieces};
 use std::alloc::{AllocError, Global};
 use std::cmp::Reverse;
 use std::io::Write;
@@ -30,8 +30,9 @@ pub fn write_slowest<W: Write>(
 {
     let mut rows = timed_rows(alloc, reports)?;
     sort(&mut rows)?;
-    put_lines(sink, &rows[..count.min(rows.len())])?;
-    sink.flush()?;
+    add_lines(sink, &rows[..count.min(rows.len())]);
+    sink.add_flush();
+    sink.end()?;
     Ok(())
 }
 
@@ -73,21 +74,21 @@ fn sort(rows: &mut Vec<TimedRow<'_>>) -> Result<(), AllocError>
     Ok(())
 }
 
-fn put_lines<W: Write>(sink: &mut Sink<W>, rows: &[TimedRow<'_>]) -> Result<(), WriteFault>
-    requires { HasFaultLeft sink.old }
-    ensures { Puts W.contents sink.old sink.new
-        (flat_map (λ timed. line_text (timed_read timed)) rows.now) result }
+fn add_lines<W: Write>(sink: &mut Sink<W>, rows: &[TimedRow<'_>])
+    ensures { Adds W.contents sink.old sink.new
+        (flat_map (λ timed. line_text (timed_read timed)) rows.now) }
 {
     for timed in rows {
-        put_line(sink, timed)?;
+        if sink.has_fault() {
+            break;
+        }
+        add_line(sink, timed);
     }
-    Ok(())
 }
 
 #[tactic(auto, unfolding(crate::specs::Slowest::line_text))]
-fn put_line<'a, W: Write>(sink: &mut Sink<W>, timed: &TimedRow<'a>) -> Result<(), WriteFault>
-    requires { HasFaultLeft sink.old }
-    ensures { Puts W.contents sink.old sink.new (line_text (timed_read timed.now)) result }
+fn add_line<'a, W: Write>(sink: &mut Sink<W>, timed: &TimedRow<'a>)
+    ensures { Adds W.contents sink.old sink.new (line_text (timed_read timed.now)) }
 {
     let (seconds, dot, tenths, hundredths) = rounded_pieces(timed.nanos);
     let pieces = [
@@ -100,5 +101,5 @@ fn put_line<'a, W: Write>(sink: &mut Sink<W>, timed: &TimedRow<'a>) -> Result<()
         Piece::Escaped(Place::Line, timed.row.name.as_str()),
         Piece::Text("\n"),
     ];
-    put_pieces(sink, &pieces)
+    add_pieces(sink, &pieces);
 }

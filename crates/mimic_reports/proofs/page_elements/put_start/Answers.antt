@@ -1,6 +1,0 @@
-use Rattle.mimic_reports.specs.Page.{start_text}
-use Rattle.mimic_reports.proofs.page_elements.put_start.Goals as goal
-
-pub returns : goal.returns
-unfolding start_text
-returns g c = rw (← c.verdict-verdict.ensures, ← c.verdict_class.ensures) c.put_pieces.ensures

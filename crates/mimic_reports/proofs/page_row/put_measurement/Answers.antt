@@ -1,4 +1,0 @@
-use Rattle.mimic_reports.proofs.page_row.put_measurement.Goals as goal
-
-pub returns : goal.returns
-returns g c = rw (← c.bar_of.ensures) c.put_pieces.ensures
