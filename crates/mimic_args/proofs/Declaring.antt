@@ -43,6 +43,7 @@ adds-one {old} a e is here = record {
   same = ap (map placed_of) e ∙ (map-append placed_of old (a ∷ []) ∙ ap₂ (λ d g. map placed_of old ++ (d, g) ∷ []) is here);
 }
 
+-- what is added in two steps is added in one
 pub adds-more : {old middle new : List Arg} {first more : List Declared} → AddsLocal old first middle → AddsLocal middle more new
     → AddsLocal old (first ++ more) new
 adds-more {old} {first = first} {more = more} h k = record {

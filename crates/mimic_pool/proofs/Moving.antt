@@ -1,23 +1,30 @@
 -- What is counted when one goes from those that are left to those that were added.
 use Rattle.std.proofs.Common.{◌≡◌, ◌+◌, ◌<◌, ◌≤◌, ℕ, arith}
 
+-- of those that are left one was added
 module _ (n n' left rest : ℕ) (one : n' ≡ n + 1) (next : rest + 1 ≡ left) where
+  -- the sum stays
   pub moved : n' + rest ≡ n + left
   moved = omega (arith, one, next)
 
+  -- the room is still enough
   pub moved_fits : (c c' : ℕ) → c' ≡ c → n + left ≤ c → n' + rest ≤ c'
   moved_fits c c' same fits = omega (arith, one, next)
 
+  -- the room is still more than enough
   pub moved_below : (c c' : ℕ) → c' ≡ c → n + left < c → n' + rest < c'
   moved_below c c' same fits = omega (arith, one, next)
 
+  -- beside others, which stay
   module _ (more : ℕ) where
+    -- the sum stays, if the others are counted second or first
     pub moved_before : n' + more + rest ≡ n + more + left
     moved_before = omega (arith, one, next)
 
     pub moved_behind : more + n' + rest ≡ more + n + left
     moved_behind = omega (arith, one, next)
 
+    -- and the bound above it
     pub moved_before_below : (c c' : ℕ) → c' ≡ c → n + more + left < c → n' + more + rest < c'
     moved_before_below c c' same fits = omega (arith, one, next)
 
