@@ -1,11 +1,11 @@
-//! Writes texts with their escapes.
+//! Adds texts with their escapes.
 ghost use Rattle.std.specs.Prelude.{◌≡◌, ◌++◌, MatchOption, OnOk};
-ghost use Rattle.mimic_printer.specs.Sink.{Adds, HasFaultLeft, Puts};
+ghost use Rattle.mimic_printer.specs.Sink.{Adds};
 ghost use Rattle.mimic_printer.specs.Escapes.{IsNextEscape, escaped};
 ghost use Rattle.mimic_printer.specs.EscapeLaws.{EscapeLaws};
 
 use crate::place::{Place, is_plain};
-use crate::sink::{Sink, WriteFault};
+use crate::sink::Sink;
 use crate::spelling::{Spelling, front};
 use std::alloc::AllocError;
 use std::io::Write;
@@ -34,23 +34,6 @@ pub(crate) fn first_escape(text: &[u8], place: Place) -> Option<Escape>
         }
     }
     None
-}
-
-/// Writes the text as it is spelled in the place, as `add_escaped` does, and ends the sink.
-#[tactic(auto, using(crate::proofs::EscapeLaws::escape_laws, crate::proofs::Adding::puts_added))]
-pub fn put_escaped<W: Write>(
-    sink: &mut Sink<W>,
-    text: &[u8],
-    place: Place,
-) -> Result<(), WriteFault>
-    requires { HasFaultLeft sink.old }
-    ensures written { Puts W.contents sink.old sink.new (escaped place text.now) result }
-
-    // Each text can be unescaped, what is written has no markup, and in `Line` and `Terminal` no control character.
-    ensures laws { EscapeLaws }
-{
-    add_escaped(sink, text, place);
-    sink.end()
 }
 
 /// Adds the text as it is spelled in the place: what is between its escapes at once.

@@ -1,16 +1,14 @@
-//! Writes the lines of a report in JSON, of trials that need no `TestInfo`. With a fault a beginning of a line was written.
-//!
-//! A call `add_..` keeps the fault in the sink, and a call `put_..` is `add_..` and then `Sink::end`.
-ghost use Rattle.std.specs.Prelude.{◌≡◌, ◌∷◌, ◌++◌, [], None, Some, codes, drop, false, take};
+//! Adds the lines of a report in JSON, of trials that need no `TestInfo`.
+ghost use Rattle.std.specs.Prelude.{◌≡◌, ◌∷◌, ◌++◌, [], Some, codes, drop, false, take};
 ghost use Rattle.std.specs.List.{concat};
 ghost use Rattle.mimic_printer.specs.Json.{json_announcement, json_end, json_outcome, json_summary, json_title, json_verdict, kind_field, outcome_front, time_field};
 ghost use Rattle.mimic_printer.specs.Lines.{announced_before, json_lines};
-ghost use Rattle.mimic_printer.specs.Sink.{Adds, HasFaultLeft, Puts};
+ghost use Rattle.mimic_printer.specs.Sink.{Adds};
 ghost use Rattle.mimic_trial.specs.Escape.{escaped};
 ghost use Rattle.mimic_trial.specs.declared.outcome.Outcome.TheVariants.{Failed, Measured};
 
 use crate::piece::{Piece, add_pieces, name_piece};
-use crate::sink::{Sink, WriteFault};
+use crate::sink::Sink;
 use mimic_trial::{Conclusion, Measurement, Outcome};
 use std::io::Write;
 
@@ -35,81 +33,6 @@ macro_rules! add_trial {
             add_pieces($sink, &[Piece::Text(front), name, Piece::Kind($kind), $($end),+])
         }
     }};
-}
-
-/// Writes the line that begins a report: how many trials it shows.
-#[tactic(auto, using(crate::proofs::Adding::puts_added))]
-pub fn put_title<W: Write>(sink: &mut Sink<W>, num_tests: u64) -> Result<(), WriteFault>
-    requires { HasFaultLeft sink.old }
-    ensures { Puts W.contents sink.old sink.new (json_title num_tests) result }
-{
-    add_title(sink, num_tests);
-    sink.end()
-}
-
-/// Writes the line that announces a trial, with its kind if that isn't empty.
-#[tactic(auto, using(crate::proofs::Adding::puts_added))]
-pub fn put_announcement<'a, W: Write>(
-    sink: &mut Sink<W>,
-    name: &'a str,
-    kind: &'a str,
-) -> Result<(), WriteFault>
-    requires { HasFaultLeft sink.old }
-    ensures { Puts W.contents sink.old sink.new
-        (json_announcement (record { kind = kind.now; name = name.now })) result }
-{
-    add_announcement(sink, name, kind);
-    sink.end()
-}
-
-/// Writes the line of a trial's outcome, with its kind if that isn't empty, and with the nanoseconds that it took if there are any.
-#[tactic(auto, using(crate::proofs::Adding::puts_added))]
-pub fn put_outcome<'a, W: Write>(
-    sink: &mut Sink<W>,
-    name: &'a str,
-    kind: &'a str,
-    outcome: &'a Outcome,
-    nanos: Option<u64>,
-) -> Result<(), WriteFault>
-    requires { HasFaultLeft sink.old }
-    ensures { Puts W.contents sink.old sink.new
-        (json_outcome (record { kind = kind.now; name = name.now }) outcome.now nanos) result }
-{
-    add_outcome(sink, name, kind, outcome, nanos);
-    sink.end()
-}
-
-/// Writes both lines of a trial that has ended: the one that announces it, and the one of its outcome. No piece ends a line but
-/// the last.
-#[tactic(auto, using(crate::proofs::Adding::puts_added))]
-pub fn put_row<'a, W: Write>(
-    sink: &mut Sink<W>,
-    name: &'a str,
-    kind: &'a str,
-    outcome: &'a Outcome,
-    nanos: Option<u64>,
-) -> Result<(), WriteFault>
-    requires { HasFaultLeft sink.old }
-    ensures { Puts W.contents sink.old sink.new
-        (json_announcement (record { kind = kind.now; name = name.now })
-        ++ json_outcome (record { kind = kind.now; name = name.now }) outcome.now nanos) result }
-{
-    add_row(sink, name, kind, outcome, nanos);
-    sink.end()
-}
-
-/// Writes the line that ends a report: its verdict, its counts, and the time in nanoseconds as seconds.
-#[tactic(auto, using(crate::proofs::Adding::puts_added))]
-pub fn put_summary<W: Write>(
-    sink: &mut Sink<W>,
-    conclusion: &Conclusion,
-    nanos: u64,
-) -> Result<(), WriteFault>
-    requires { HasFaultLeft sink.old }
-    ensures { Puts W.contents sink.old sink.new (json_summary conclusion.now nanos) result }
-{
-    add_summary(sink, conclusion, nanos);
-    sink.end()
 }
 
 /// Adds the line that begins a report: how many trials it shows.
@@ -183,92 +106,33 @@ fn add_lines<'a, W: Write>(
     ensures { Adds W.contents sink.old sink.new (json_lines both
         (record { kind = kind.now; name = name.now }) outcome.now nanos) }
 {
-    match nanos {
-        None => add_untimed(sink, both, name, kind, outcome),
-        Some(nanos) => add_timed(sink, both, name, kind, outcome, nanos),
-    }
-}
-
-#[inline(always)]
-fn add_untimed<'a, W: Write>(
-    sink: &mut Sink<W>,
-    both: bool,
-    name: &'a str,
-    kind: &'a str,
-    outcome: &'a Outcome,
-)
-    ensures { Adds W.contents sink.old sink.new (json_lines both
-        (record { kind = kind.now; name = name.now }) outcome.now None) }
-{
     match outcome {
-        Outcome::Passed => add_word(sink, both, name, kind, "\", \"event\": \"ok\" }\n"),
-        Outcome::Ignored => add_word(sink, both, name, kind, "\", \"event\": \"ignored\" }\n"),
+        Outcome::Passed => add_word(sink, both, name, kind, "\", \"event\": \"ok\"", nanos),
+        Outcome::Ignored => add_word(sink, both, name, kind, "\", \"event\": \"ignored\"", nanos),
         Outcome::Measured(measurement) => {
-            add_measurement(sink, both, name, kind, measurement, None)
+            add_measurement(sink, both, name, kind, measurement, nanos)
         }
         Outcome::Failed(failed) => match failed.message() {
-            None => add_word(sink, both, name, kind, "\", \"event\": \"failed\" }\n"),
-            Some(message) => add_failure(sink, both, name, kind, message, None),
+            None => add_word(sink, both, name, kind, "\", \"event\": \"failed\"", nanos),
+            Some(message) => add_failure(sink, both, name, kind, message, nanos),
         },
     }
 }
 
-#[inline(never)]
-fn add_timed<'a, W: Write>(
-    sink: &mut Sink<W>,
-    both: bool,
-    name: &'a str,
-    kind: &'a str,
-    outcome: &'a Outcome,
-    nanos: u64,
-)
-    ensures { Adds W.contents sink.old sink.new (json_lines both
-        (record { kind = kind.now; name = name.now }) outcome.now (Some nanos)) }
-{
-    match outcome {
-        Outcome::Passed => add_timed_word(sink, both, name, kind, "ok", nanos),
-        Outcome::Ignored => add_timed_word(sink, both, name, kind, "ignored", nanos),
-        Outcome::Measured(measurement) => {
-            add_measurement(sink, both, name, kind, measurement, Some(nanos))
-        }
-        Outcome::Failed(failed) => match failed.message() {
-            None => add_timed_word(sink, both, name, kind, "failed", nanos),
-            Some(message) => add_failure(sink, both, name, kind, message, Some(nanos)),
-        },
-    }
-}
-
-// The same of an outcome that is one word. `end` begins with the quote after the name or the kind.
-#[inline(always)]
+// The same of an outcome that is one word. `word` begins with the quote after the name or the kind.
 fn add_word<'a, W: Write>(
     sink: &mut Sink<W>,
     both: bool,
     name: &'a str,
     kind: &'a str,
-    end: &'a str,
-)
-    requires { take 1 end.now ≡ codes "\"" }
-    ensures { Adds W.contents sink.old sink.new
-        (announced_before both (record { kind = kind.now; name = name.now })
-        ++ concat (outcome_front false ∷ escaped name.now ∷ codes "\"" ∷ kind_field kind.now
-        ∷ drop 1 end.now ∷ [])) }
-{
-    add_trial!(sink, both, "test", name, kind, Piece::Text(end))
-}
-
-// The same of a word and a time. `word` has no quotes.
-fn add_timed_word<'a, W: Write>(
-    sink: &mut Sink<W>,
-    both: bool,
-    name: &'a str,
-    kind: &'a str,
     word: &'a str,
-    nanos: u64,
+    nanos: Option<u64>,
 )
+    requires { take 1 word.now ≡ codes "\"" }
     ensures { Adds W.contents sink.old sink.new
         (announced_before both (record { kind = kind.now; name = name.now })
         ++ concat (outcome_front false ∷ escaped name.now ∷ codes "\"" ∷ kind_field kind.now
-        ∷ codes ", \"event\": \"" ∷ word.now ∷ codes "\"" ∷ time_field (Some nanos) ∷ json_end ∷ [])) }
+        ∷ drop 1 word.now ∷ time_field nanos ∷ json_end ∷ [])) }
 {
     add_trial!(
         sink,
@@ -276,10 +140,8 @@ fn add_timed_word<'a, W: Write>(
         "test",
         name,
         kind,
-        Piece::Text("\", \"event\": \""),
         Piece::Text(word),
-        Piece::Text("\""),
-        Piece::Time(Some(nanos)),
+        Piece::Time(nanos),
         Piece::Text(" }\n")
     );
 }

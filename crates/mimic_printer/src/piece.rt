@@ -1,7 +1,7 @@
 //! Writes texts piece by piece, with no memory.
 ghost use Rattle.std.specs.Prelude.{◌≡◌, ◌≤◌, ◌++◌, IfSome, decimal, length, slice_index, take};
 ghost use Rattle.std.specs.Option.{MatchOption};
-ghost use Rattle.mimic_printer.specs.Sink.{Adds, HasFaultLeft, Puts};
+ghost use Rattle.mimic_printer.specs.Sink.{Adds};
 ghost use Rattle.mimic_trial.specs.Escape.{escaped as json_escaped};
 ghost use Rattle.mimic_trial.specs.Seconds.{exact_seconds};
 ghost use Rattle.mimic_trial.specs.Text.{spaces, right_aligned, grouped, kind_part};
@@ -11,7 +11,7 @@ ghost use Rattle.mimic_printer.specs.Piece.{bracketed, first_line, kind_text, pi
 
 use crate::escape::{add_escaped, first_escape};
 use crate::place::Place;
-use crate::sink::{Sink, WriteFault};
+use crate::sink::Sink;
 use itoa::Buffer;
 use mimic_trial::{brackets, escape_byte, exact_seconds, next_escape, thousands};
 use std::io::Write;
@@ -72,16 +72,6 @@ pub(crate) fn name_piece<'a>(name: &'a str) -> Piece<'a>
 // A text of at most this many bytes, as most rows are, is gathered first and added at once.
 const ROW: usize = 256;
 
-/// Writes the pieces one after another, as `add_pieces` does, and ends the sink.
-#[tactic(auto, using(crate::proofs::Adding::puts_added))]
-pub fn put_pieces<W: Write>(sink: &mut Sink<W>, pieces: &[Piece<'_>]) -> Result<(), WriteFault>
-    requires { HasFaultLeft sink.old }
-    ensures { Puts W.contents sink.old sink.new (pieces_text pieces.now) result }
-{
-    add_pieces(sink, pieces);
-    sink.end()
-}
-
 /// Adds the pieces one after another. A short text goes to the writer at once.
 pub fn add_pieces<W: Write>(sink: &mut Sink<W>, pieces: &[Piece<'_>])
     ensures { Adds W.contents sink.old sink.new (pieces_text pieces.now) }
@@ -115,7 +105,7 @@ fn gather(pieces: &[Piece<'_>], row: &mut [u8; ROW]) -> Option<usize>
     Some(len)
 }
 
-// Adds the text after the first `len` bytes of the row, and returns where it ends. `None` if it doesn't fit.
+// Appends the text after the first `len` bytes of the row, and returns where it ends. `None` if it doesn't fit.
 fn append(row: &mut [u8; ROW], len: usize, text: &[u8]) -> Option<usize>
     requires { len ≤ 256 }
     ensures { IfSome result

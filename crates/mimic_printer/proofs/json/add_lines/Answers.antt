@@ -1,7 +1,7 @@
 use Rattle.std.proofs.Common.{◌∙◌, ap, sym}
 use Rattle.std.specs.Option.{option_copied}
 use Rattle.mimic_printer.specs.Json.{json_outcome}
-use Rattle.mimic_printer.proofs.json.add_untimed.Goals as goal
+use Rattle.mimic_printer.proofs.json.add_lines.Goals as goal
 
 pub returns-in-Passed : goal.returns-in-Passed
 unfolding json_outcome
