@@ -5,7 +5,7 @@ ghost use Rattle.mimic_events.specs.Contents.{label_read};
 ghost use Rattle.mimic_events.specs.Stops.{ended_part, wrong_part};
 
 use crate::{Follower, Label};
-use mimic_printer::{Piece, Sink, WriteFault, add_pieces};
+use mimic_printer::{Piece, Sink, add_pieces};
 use std::alloc::{AllocError, Global};
 use std::fmt;
 use std::io::Write;
@@ -86,21 +86,11 @@ impl fmt::Display for Stop {
 }
 
 impl Stop {
-    ghost use Rattle.mimic_printer.specs.Sink.{Adds, HasFaultLeft, Puts};
+    ghost use Rattle.mimic_printer.specs.Sink.{Adds};
     ghost use Rattle.mimic_events.specs.Stops.{extent_text};
 
-    /// Writes which line is wrong, if one is, and how far the report goes: `line 7 is no line of a report; the report ends after
+    /// Adds which line is wrong, if one is, and how far the report goes: `line 7 is no line of a report; the report ends after
     /// 2 of 5 trials`, or `no report` in place of the second part if it has no title. `ended` is how many trials have rows.
-    #[tactic(auto, using(mimic_printer::proofs::Adding::puts_added))]
-    pub fn put_extent<W: Write>(&self, sink: &mut Sink<W>, ended: u128) -> Result<(), WriteFault>
-        requires { HasFaultLeft sink.old }
-        ensures { Puts W.contents sink.old sink.new (extent_text ended self.now) result }
-    {
-        self.add_extent(sink, ended);
-        sink.end()
-    }
-
-    /// Adds which line is wrong, if one is, and how far the report goes, as `put_extent` writes them.
     pub fn add_extent<W: Write>(&self, sink: &mut Sink<W>, ended: u128)
         ensures { Adds W.contents sink.old sink.new (extent_text ended self.now) }
     {

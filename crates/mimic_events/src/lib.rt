@@ -75,4 +75,4 @@ pub use report::{Label, Report, Row, Totals};
 pub use rows::InputRows;
 pub use rows_read::{RowsRead, read_rows};
 pub use tally::Tally;
-pub use write::{add_row, put_row, write_report};
+pub use write::{add_row, write_report};

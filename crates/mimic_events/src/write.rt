@@ -51,20 +51,7 @@ fn add_rows<W: Write>(sink: &mut Sink<W>, rows: &[Row])
     }
 }
 
-/// Writes the two lines of a row in JSON: its announcement and its outcome. It takes no memory.
-///
-/// With a fault a beginning of the lines was written.
-#[tactic(auto, using(mimic_printer::proofs::Adding::puts_added))]
-pub fn put_row<W: Write>(sink: &mut Sink<W>, row: &Row) -> Result<(), WriteFault>
-    requires { HasFaultLeft sink.old }
-    ensures written { Puts W.contents sink.old sink.new (row_lines row.now) result }
-    ensures fits { OnOk result (FitsRow row.now) }
-{
-    add_row(sink, row);
-    sink.end()
-}
-
-/// Adds the two lines of a row in JSON, as `put_row` writes them.
+/// Adds the two lines of a row in JSON: its announcement and its outcome. It takes no memory.
 #[tactic(auto, using(crate::proofs::Writing::row_added))]
 pub fn add_row<W: Write>(sink: &mut Sink<W>, row: &Row)
     ensures written { Adds W.contents sink.old sink.new (row_lines row.now) }
