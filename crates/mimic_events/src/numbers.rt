@@ -1,5 +1,5 @@
 //! Reads numbers and seconds, as a report spells them.
-ghost use Rattle.std.specs.Prelude.{◌≡◌, ◌<◌, ◌+◌, ◌*◌, ◌^◌, option_map, SomeIff};
+ghost use Rattle.std.specs.Prelude.{◌<◌, ◌+◌, ◌*◌, ◌^◌, option_map, SomeIff};
 ghost use Rattle.mimic_events.specs.Reading.{Decodes, IsSeconds};
 ghost use Rattle.mimic_events.specs.LineParts.{ReadsDigits, ReadsFraction, ReadsNumber, ReadsSeconds, ReadsTime};
 
