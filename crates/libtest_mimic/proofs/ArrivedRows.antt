@@ -1,5 +1,5 @@
 -- Rows that workers reported, in the order in which they came, and rows by place.
-use Rattle.std.proofs.Common.{◌≡◌, ◌∙◌, ℕ, suc, zero, ◌-◌, ◌<◌, ◌≤◌, drop, nat_lt, not, ◌&&◌, Bool, true, false, Option, cond, List, [], ◌∷◌, ◌++◌, None, Some, length, map, refl, sym, ap, subst, append-nil, take, take-append-drop, drop-cons, ◌+◌, arith, slice_index_or}
+use Rattle.std.proofs.Common.{◌≡◌, ◌∙◌, ℕ, suc, zero, ◌-◌, ◌<◌, ◌≤◌, drop, nat_lt, not, ◌&&◌, Bool, true, false, Option, cond, List, [], ◌∷◌, ◌++◌, None, Some, length, map, refl, sym, ap, subst, append-nil, take, ◌+◌, arith, slice_index_or}
 use Rattle.std.specs.Prelude.{All, slice_get}
 use Rattle.std.proofs.lemmas.Bool.Decides.{nat_tests}
 use Rattle.std.proofs.lemmas.List.{length-map, map-append, take_more}
@@ -13,13 +13,12 @@ use Rattle.mimic_pool.specs.declared.desk.Arrival.TheVariants.{First, Again, Str
 use Rattle.mimic_printer.specs.declared.Printer.{Printer}
 use Rattle.mimic_printer.specs.Report.{row_text, rows_text}
 use Rattle.mimic_printer.specs.Row.{Label, PrintedRow, label_at, label_of, row_of, rows_at, timed_row}
-use Rattle.mimic_printer.specs.Sink.{Put, Shown, Stopped, Writes}
-use Rattle.mimic_printer.proofs.Appending.{Put-Stopped, Put-trans, Puts-stopped, Puts_then, Stopped-more}
-use Rattle.std.specs.Result.{IsErr}
-use Rattle.std.specs.Prelude.{Result}
-use Rattle.libtest_mimic.specs.Steps.{PutsArrived, WritesArrived}
+use Rattle.mimic_printer.specs.declared.sink.Sink.{Sink}
+use Rattle.mimic_printer.specs.Sink.{Adds}
+use Rattle.mimic_printer.proofs.Adding.{adds_then}
+use Rattle.libtest_mimic.specs.Steps.{AddsRows, AreArrived}
 use Rattle.libtest_mimic.specs.Suite.{AreTimed, IsTime, IsTimed, has_time}
-use Rattle.libtest_mimic.proofs.Timed.{any_times, are_any_times, timed-append}
+use Rattle.libtest_mimic.proofs.Timed.{timed-append}
 
 -- ---- a first arrival
 
@@ -57,6 +56,11 @@ timed_joined asked labels xs ys us vs before behind =
     let P : List PrintedRow → Type 0 = λ l. AreTimed asked l (us ++ vs) in
     subst P (sym (map-append (λ (q : Placed). record { label = label_at labels q.0; outcome = q.1; nanos = None }) xs ys)) (timed-append asked (rows_at labels xs) us (rows_at labels ys) vs before behind)
 
+-- one more row
+pub rows_text-push : (p : Printer) (rows : List PrintedRow) (row : PrintedRow) → rows_text p (rows ++ row ∷ []) ≡ rows_text p rows ++ row_text p row
+rows_text-push p rows row =
+    flat_map-append (row_text p) rows (row ∷ []) ∙ ap (λ l. rows_text p rows ++ l) (append-nil (row_text p row))
+
 pub rows_text-append : (p : Printer) (us vs : List PrintedRow) → rows_text p (us ++ vs) ≡ rows_text p us ++ rows_text p vs
 rows_text-append p us vs = flat_map-append (row_text p) us vs
 
@@ -66,18 +70,16 @@ shown_time asked there shown o time e same fits =
     subst (λ (b : Bool). IsTime (b && has_time o) time) e (subst (λ (x : Outcome). IsTime (there && has_time x) time) same fits)
 
 -- one more row that was reported
-pub arrived_more : {E T : Type 0} (asked : Bool) (p : Printer) (infos : List TestInfo) (old new : Arrived) (place : ℕ) (o : Outcome) (info : TestInfo) (time : Option ℕ)
+pub arrived_more : {W : Type 0} {contents : W → Option (List ℕ)} (asked : Bool) (p : Printer) (infos : List TestInfo) (old new : Arrived) (place : ℕ) (o : Outcome) (info : TestInfo) (time : Option ℕ)
     → new.rows ≡ old.rows ++ (place, o) ∷ [] → label_at (map label_of infos) place ≡ label_of info → IsTime (asked && has_time o) time
-    → (a b c : Shown) (r : Result T E) → PutsArrived asked p infos old a b → Writes b c (row_text p (timed_row info o time)) r → WritesArrived asked p infos new a c r
-arrived_more asked p infos old new place o info time rows label fits a b c r (before, timed, put) writes =
+    → {a b c : Sink W} → AddsRows contents p (AreArrived asked infos old) a b → Adds contents b c (row_text p (timed_row info o time)) → AddsRows contents p (AreArrived asked infos new) a c
+arrived_more {W} {contents} asked p infos old new place o info time rows label fits {a} {b} {c} (before, timed, put) adds =
     let labels = map label_of infos in
     let row : PrintedRow = timed_row info o time in
-    let P : List Placed → Type 0 = λ l. AreTimed asked (rows_at labels l) (before ++ row ∷ []) in
-    let Q : List ℕ → Type 0 = λ t. Writes a c t r in
-    let text : rows_text p before ++ row_text p row ≡ rows_text p (before ++ row ∷ []) = ap (λ t. rows_text p before ++ t) (sym (append-nil (row_text p row))) ∙ sym (rows_text-append p before (row ∷ [])) in (
+    let P : List Placed → Type 0 = λ l. AreTimed asked (rows_at labels l) (before ++ row ∷ []) in (
       before ++ row ∷ [],
       subst P (sym rows) (timed_joined asked labels old.rows ((place, o) ∷ []) before (row ∷ []) timed (record { label = sym label; outcome = refl; time = fits }, tt)),
-      subst Q text (Puts_then a b c (rows_text p before) (row_text p row) r put writes),
+      subst (Adds contents a c) (sym (rows_text-push p before row)) (adds_then (rows_text p before) (row_text p row) put adds),
     )
 
 pub slice_get-at : (os : List Outcome) (p : ℕ) (o : Outcome) → p < length os → o ≡ slice_index_or os p o → slice_get os p ≡ Some o
@@ -140,35 +142,12 @@ module _ (infos : List TestInfo) (rows : List Placed) (number place : ℕ) (o : 
 
 -- ---- rows that are written one after another
 
--- a fault in some rows is what an answer that is a fault leaves
-pub on_fault : {E T : Type 0} (p : Printer) (P : List PrintedRow → Type 0) (a b : Shown) (r : Result T E) → IsErr r → (rows : List PrintedRow) × P rows × Stopped a b (rows_text p rows)
-    → (rows : List PrintedRow) × P rows × Writes a b (rows_text p rows) r
-on_fault p P a b r e stopped = (stopped.0, stopped.1, Puts-stopped (rows_text p stopped.0) r e stopped.2)
-
--- the first of these rows were written, with times as asked
-abbrev pub AreWritten : Bool → Printer → List PrintedRow → ℕ → Shown → Shown → Type 0
-AreWritten asked p xs count a b = (rows : List PrintedRow) × AreTimed asked (take count xs) rows × Put a b (rows_text p rows)
-
-module _ (asked : Bool) (p : Printer) (xs : List PrintedRow) (i : ℕ) (d row : PrintedRow) (low : i < length xs) (is : IsTimed asked (slice_index_or xs i d) row) (a b c : Shown) (so_far : AreWritten asked p xs i a b) where
-  pub next_written : Put b c (row_text p row) → AreWritten asked p xs (i + 1) a c
-  next_written put =
-      let P : List PrintedRow → Type 0 = λ l. AreTimed asked l (so_far.0 ++ row ∷ []) in
-      let Q : List ℕ → Type 0 = λ t. Put a c t in
-      let text : rows_text p so_far.0 ++ row_text p row ≡ rows_text p (so_far.0 ++ row ∷ []) = ap (λ t. rows_text p so_far.0 ++ t) (sym (append-nil (row_text p row))) ∙ sym (rows_text-append p so_far.0 (row ∷ [])) in (
-        so_far.0 ++ row ∷ [],
-        subst P (sym (take_more xs i d low)) (timed-append asked (take i xs) so_far.0 (slice_index_or xs i d ∷ []) (row ∷ []) so_far.1 (is, tt)),
-        subst Q text (Put-trans (rows_text p so_far.0) (row_text p row) so_far.2 put),
-      )
-
-  -- a fault in the next one. Nothing shows the times of those behind it
-  pub next_stopped : Stopped b c (row_text p row) → (rows : List PrintedRow) × AreTimed asked xs rows × Stopped a c (rows_text p rows)
-  next_stopped stopped =
-      let rest = drop (suc i) xs in
-      let more : List PrintedRow = row ∷ any_times asked rest in
-      let all : take i xs ++ (slice_index_or xs i d ∷ rest) ≡ xs = ap (λ l. take i xs ++ l) (sym (drop-cons xs i d low)) ∙ take-append-drop i xs in
-      let P : List PrintedRow → Type 0 = λ l. AreTimed asked l (so_far.0 ++ more) in
-      let Q : List ℕ → Type 0 = λ t. Stopped a c t in (
-        so_far.0 ++ more,
-        subst P all (timed-append asked (take i xs) so_far.0 (slice_index_or xs i d ∷ rest) more so_far.1 (is, are_any_times asked rest)),
-        subst Q (sym (rows_text-append p so_far.0 more)) (Put-Stopped (rows_text p so_far.0) _ so_far.2 (Stopped-more (row_text p row) (rows_text p (any_times asked rest)) stopped)),
-      )
+-- with the next one they are one more
+pub next_added : {W : Type 0} {contents : W → Option (List ℕ)} {a b c : Sink W} (asked : Bool) (p : Printer) (xs : List PrintedRow) (i : ℕ) (d row : PrintedRow) → i < length xs → IsTimed asked (slice_index_or xs i d) row
+    → AddsRows contents p (AreTimed asked (take i xs)) a b → Adds contents b c (row_text p row) → AddsRows contents p (AreTimed asked (take (i + 1) xs)) a c
+next_added {W} {contents} {a} {b} {c} asked p xs i d row low is (rows, timed, text) adds =
+    let P : List PrintedRow → Type 0 = λ l. AreTimed asked l (rows ++ row ∷ []) in (
+      rows ++ row ∷ [],
+      subst P (sym (take_more xs i d low)) (timed-append asked (take i xs) rows (slice_index_or xs i d ∷ []) (row ∷ []) timed (is, tt)),
+      subst (Adds contents a c) (sym (rows_text-push p rows row)) (adds_then (rows_text p rows) (row_text p row) text adds),
+    )

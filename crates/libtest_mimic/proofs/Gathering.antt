@@ -1,5 +1,5 @@
 -- What workers reported and answered: the title, the rows that were reported, and then those that were missing.
-use Rattle.std.proofs.Common.{◌≡◌, ◌∙◌, ℕ, ◌<◌, ◌||◌, Bool, true, false, inl, inr, List, [], ◌∷◌, ◌++◌, Option, None, Some, Result, Ok, Err, length, map, drop, refl, sym, ap, subst, arith}
+use Rattle.std.proofs.Common.{◌≡◌, ◌∙◌, ℕ, ◌<◌, ◌||◌, Bool, true, false, inl, inr, List, [], ◌∷◌, ◌++◌, Option, None, Some, Result, Ok, Err, length, map, drop, refl, sym, ap, subst, append_assoc, arith}
 use Rattle.std.specs.List.{range_with_len}
 use Rattle.std.specs.List.Sorted.{IsPermutation}
 use Rattle.std.specs.Prelude.{IfErr, IsErrAnd, MatchResult, is_ok, slice_get}
@@ -18,14 +18,16 @@ use Rattle.mimic_trial.specs.Promise.{Gives}
 use Rattle.mimic_printer.specs.declared.Printer.{Printer}
 use Rattle.mimic_printer.specs.Report.{rows_text, title_text}
 use Rattle.mimic_printer.specs.Row.{Label, PrintedRow, label_at, label_of, rows_at}
-use Rattle.mimic_printer.specs.Sink.{Put, Shown, Stopped, Writes}
+use Rattle.mimic_printer.specs.declared.sink.Sink.{Sink}
+use Rattle.mimic_printer.specs.Sink.{Ends, Put, Shown, Stopped, Writes, shown}
 use Rattle.std.proofs.KnownBytes.{Appends-trans}
-use Rattle.mimic_printer.proofs.Appending.{Put-Stopped, Put-refl, Put-trans, Stopped-more}
+use Rattle.mimic_printer.proofs.Adding.{adds_nothing, puts_added}
+use Rattle.mimic_printer.proofs.Appending.{Put-Stopped, Put-refl, Put-trans}
 use Rattle.libtest_mimic.specs.Run.{Follows, OnNothingWritten}
 use Rattle.libtest_mimic.specs.declared.running.RunError.{RunError}
 use Rattle.libtest_mimic.specs.declared.running.RunError.TheVariants.{OutOfMemory, Write, ZeroThreads, Spawn, Arrival}
 use Rattle.libtest_mimic.specs.Gathering.{Gathered, GatheredSome, GatheringRefused, IsCompleted, IsDifference, IsGathered, IsLeastDifference, IsOfRows, IsReturned, WrittenAndReturned}
-use Rattle.libtest_mimic.specs.Steps.{AreArrived, PutsArrived, PutsTitled, RowsRefused, WritesArrived}
+use Rattle.libtest_mimic.specs.Steps.{AddsRows, AreArrived, PutsArrived, PutsTitled, RowsRefused}
 use Rattle.libtest_mimic.specs.Suite.{AreTimed}
 use Rattle.libtest_mimic.proofs.Arranged.{length_assigned}
 use Rattle.std.proofs.lemmas.Bool.{false≢true}
@@ -106,8 +108,28 @@ rest_of labels xs ys k e =
 -- ---- the texts
 
 -- an empty desk has no rows to write
-pub nothing_arrived : (asked : Bool) (p : Printer) (infos : List TestInfo) (desk : Arrived) (n : ℕ) → desk ≡ record { places = n; rows = [] } → (s : Shown) → PutsArrived asked p infos desk s s
-nothing_arrived asked p infos desk n e s = ([], subst (λ (d : Arrived). AreArrived asked infos d []) (sym e) tt, Put-refl s)
+pub nothing_arrived : {W : Type 0} {contents : W → Option (List ℕ)} (asked : Bool) (p : Printer) (infos : List TestInfo) (desk : Arrived) (n : ℕ) → desk ≡ record { places = n; rows = [] } → (s : Sink W)
+    → AddsRows contents p (AreArrived asked infos desk) s s
+nothing_arrived asked p infos desk n e s = ([], subst (λ (d : Arrived). AreArrived asked infos d []) (sym e) tt, adds_nothing s)
+
+-- rows of which this holds were appended, or a beginning of them
+abbrev pub WritesRows : {E T : Type 0} → Printer → (List PrintedRow → Type 0) → Shown → Shown → Result T E → Type 0
+WritesRows p Are old new r = (rows : List PrintedRow) × Are rows × Writes old new (rows_text p rows) r
+
+-- so it is once rows were added and the sink was ended
+pub rows_ended : {W E T : Type 0} {contents : W → Option (List ℕ)} {a b c : Sink W} (p : Printer) (Are : List PrintedRow → Type 0) (r : Result T E) → AddsRows contents p Are a b → Ends b c r
+    → WritesRows p Are (shown contents a) (shown contents c) r
+rows_ended p Are r (rows, are, text) ends = (rows, are, puts_added (rows_text p rows) r text ends)
+
+-- a beginning of a text is one of a longer text
+pub Stopped-more : {a b : Shown} (s t : List ℕ) → Stopped a b s → Stopped a b (s ++ t)
+Stopped-more s t p = record {
+  front = p.front;
+  rest = p.rest ++ t;
+  beginning = ap (λ l. l ++ t) p.beginning ∙ append_assoc p.front p.rest t;
+  appended = p.appended;
+  faults = p.faults;
+}
 
 -- a beginning of the rows that arrived was appended
 abbrev pub StopsArrived : Bool → Printer → List TestInfo → Arrived → Shown → Shown → Type 0
@@ -242,7 +264,7 @@ module _ {R : Type 0} (gives : Gives R) (mode : Bool) (rs : List R) (bs : List B
   -- a difference that is named
   pub differs_refused : {E T : Type 0} (all whole asked : Bool) (r : Result T E) (p : Printer) (infos : List TestInfo) (a b : Shown) (desk : Arrived) (joined : List (List Placed)) → desk.places ≡ length infos → whole ≡ is_ok r
       → IsPermutation (places_of desk.rows ++ missing_of desk) (range_with_len 0 desk.places)
-      → WritesArrived asked p infos desk a b r → AreJoined gives mode trials (all || whole) joined → (e : RunError) → IsDifference desk joined e → GatheringRefused gives mode trials all asked p infos a b e
+      → WritesRows p (AreArrived asked infos desk) a b r → AreJoined gives mode trials (all || whole) joined → (e : RunError) → IsDifference desk joined e → GatheringRefused gives mode trials all asked p infos a b e
   differs_refused all whole asked r p infos a b desk joined places is once (rows, timed, written) are e difference =
       let named = difference.named in
       subst (GatheringRefused gives mode trials all asked p infos a b) (sym named.named) (

@@ -25,14 +25,14 @@ use Rattle.mimic_printer.specs.Sink.{Put, Shown, Stopped}
 use Rattle.libtest_mimic.specs.declared.running.RunError.{RunError}
 use Rattle.libtest_mimic.specs.declared.running.RunError.TheVariants.{OutOfMemory, Write, ZeroThreads, Spawn, Arrival}
 use Rattle.libtest_mimic.specs.Arrangement.{IsArrangement, IsOwnAt}
-use Rattle.libtest_mimic.specs.Run.{ReportRefused, ReportedBy}
+use Rattle.libtest_mimic.specs.Run.{ReportRefused, ReportedBy, start_text}
 use Rattle.libtest_mimic.specs.Gathering.{Gathered, IsGathered, IsRowOf}
 use Rattle.libtest_mimic.specs.Steps.{AreParts, AreSupplied, PutsTitled, RowsRefused}
 use Rattle.libtest_mimic.specs.Stopwatch.{Watched, IsRunning, elapsed_of}
 use Rattle.libtest_mimic.specs.Suite.{AreTimed, Suite, in_order, rows_of}
 use Rattle.libtest_mimic.proofs.Arranged.{arranged, flags_length, labels_apart, length_assigned, length_gathered, order_below, rows_own, whole_gathered}
 use Rattle.libtest_mimic.proofs.OnlyOutcomes.{outcomes_of-rows_at}
-use Rattle.libtest_mimic.proofs.WholeReport.{reported, starts_failures, starts_some, starts_summary, starts_title, titled}
+use Rattle.libtest_mimic.proofs.WholeReport.{reported, started, starts_failures, starts_some, starts_summary, starts_title, titled}
 
 parts_shown : {R : Type 0} (args : Arguments) (trials : List (Trial R)) (infos shown : List TestInfo) (rs : List R) (bs : List Bool) → shown ≡ infos
     → AreParts args trials infos rs bs → AreParts args trials shown rs bs
@@ -180,8 +180,8 @@ module _ {R : Type 0} (gives : Gives R) (suite : Suite R) (can_run : R → Type 
 
         module _ (failures : Put c d (failures_text suite.printer shows)) (x : Conclusion) (counted : x ≡ counts_of (map (λ (row : Placed). row.1) desk.rows) suite.filtered_out)
             (f : Shown) (w : Watched) (nanos : ℕ) (time : elapsed_of w ≡ Some nanos) where
-          failed : Put c d (failures_text suite.printer (rows_of suite placed))
-          failed = let P : List PrintedRow → Type 0 = λ l. Put c d (failures_text suite.printer l) in subst P same failures
+          start : Put a d (start_text suite rows [])
+          start = let P : List PrintedRow → Type 0 = λ l. Put c d (failures_text suite.printer l) in started gives suite placed all rows timed a c d written (subst P same failures)
 
           counts : x ≡ counts_of (outcomes_of (rows_of suite placed)) suite.filtered_out
           counts =
@@ -190,7 +190,7 @@ module _ {R : Type 0} (gives : Gives R) (suite : Suite R) (can_run : R → Type 
 
           pub summary_refused : (fault : WriteFault) → Stopped d f (summary_text suite.printer x nanos) → ReportRefused gives threads suite a f w (Write fault)
           summary_refused fault s =
-              (places_of placed, all.places, in_some_order, some_thread, starts_summary gives suite placed all rows timed a c d written failed f w nanos x counts time s)
+              (places_of placed, all.places, in_some_order, some_thread, starts_summary gives suite placed all rows timed a d start f w nanos x counts time s)
 
           pub reported_by : nanos < 2 ^ 64 → Put d f (summary_text suite.printer x nanos) → ReportedBy gives threads suite a f w x
-          reported_by fits s = (placed, in_some_order, some_thread, reported gives suite placed all rows timed a c d written failed f w nanos x counts time fits s)
+          reported_by fits s = (placed, in_some_order, some_thread, reported gives suite placed all rows timed a d start f w nanos x counts time fits s)

@@ -1,10 +1,6 @@
 -- Rows of trials that run one after another.
-use Rattle.std.proofs.Common.{All, ◌≡◌, ℕ, zero, suc, ◌+◌, ◌-◌, ◌^◌, ◌<◌, ◌≤◌, List, [], ◌∷◌, ◌++◌, Option, None, Some, Bool, ◌&&◌, not, filter, length, refl, sym, ap, ap₂, ◌∙◌, subst, arith, add-zero, zero-add, append-nil, length-append, vec_len}
-use Rattle.std.proofs.lemmas.Result.{MatchResult-from_err}
-use Rattle.std.specs.Result.{IsErr}
-use Rattle.std.specs.Prelude.{Result}
+use Rattle.std.proofs.Common.{All, ◌≡◌, ℕ, zero, suc, ◌+◌, ◌-◌, ◌^◌, ◌<◌, ◌≤◌, List, [], ◌∷◌, ◌++◌, Option, None, Some, Bool, true, false, ◌&&◌, not, filter, length, refl, sym, ap, ap₂, ◌∙◌, subst, arith, add-zero, zero-add, append-nil, length-append, vec_len}
 use Rattle.std.proofs.lemmas.List.{length-map, map-append}
-use Rattle.std.proofs.lemmas.List.Concat.{flat_map-append}
 use Rattle.std.proofs.lemmas.List.Elements.{All-append, All-cons, All-head, All-nil, All-tail}
 use Rattle.std.proofs.lemmas.List.Sums.{count_by-le-length, length-filter}
 use Rattle.std.specs.List.{range_with_len}
@@ -20,15 +16,17 @@ use Rattle.mimic_trial.specs.Promise.{Gives, IsOutcomeOf}
 use Rattle.mimic_trial.specs.Trial.{info_of, runner_of}
 use Rattle.mimic_trial.proofs.Counting.{HasRoom-counts, counts-push}
 use Rattle.mimic_printer.specs.declared.Printer.{Printer}
-use Rattle.mimic_printer.specs.Report.{announcement_text, row_text, rows_text, timed_outcome_text}
-use Rattle.mimic_printer.specs.Sink.{Shown, Put, Stopped}
-use Rattle.mimic_printer.proofs.Appending.{Put-trans, Put-Stopped, Stopped-more}
+use Rattle.mimic_printer.specs.Report.{announcement_text, rows_text, timed_outcome_text}
+use Rattle.mimic_printer.specs.declared.sink.Sink.{Sink}
+use Rattle.mimic_printer.specs.Sink.{Adds, keeps_fault}
+use Rattle.mimic_printer.proofs.Adding.{adds_then}
 use Rattle.mimic_printer.proofs.FailedRows.{range-push}
 use Rattle.libtest_mimic.specs.declared.running.tally.Tally.{Tally}
 use Rattle.libtest_mimic.specs.Arrangement.{IsOwn, IsOwnAt}
 use Rattle.libtest_mimic.specs.Selection.{IsIgnored}
-use Rattle.libtest_mimic.specs.Steps.{HasCounted, HasRoomFor, RowsRun, RowsStopped, RowsWritten}
+use Rattle.libtest_mimic.specs.Steps.{HasCounted, HasRoomFor, RowsRun}
 use Rattle.libtest_mimic.specs.Suite.{AreTimed, IsTime, Suite, has_time, rows_of}
+use Rattle.libtest_mimic.proofs.ArrivedRows.{rows_text-push}
 use Rattle.libtest_mimic.proofs.Timed.{timed-append}
 
 -- ---- the next element of a list
@@ -100,10 +98,6 @@ count_rows labels placed = length-map placed _
 
 -- ---- one more row
 
-rows_text-push : (p : Printer) (rows : List PrintedRow) (row : PrintedRow) → rows_text p (rows ++ row ∷ []) ≡ rows_text p rows ++ row_text p row
-rows_text-push p rows row =
-    flat_map-append (row_text p) rows (row ∷ []) ∙ ap (λ l. rows_text p rows ++ l) (append-nil (row_text p row))
-
 rows_at-push : (labels : List Label) (placed : List Placed) (info : TestInfo) (o : Outcome) → label_of info ≡ label_at labels (length placed)
     → rows_at labels placed ++ row_of info o ∷ [] ≡ rows_at labels (placed ++ (length placed, o) ∷ [])
 rows_at-push labels placed info o e =
@@ -117,17 +111,6 @@ timed-push asked labels placed info o time rows e timed fits =
     let P : List PrintedRow → Type 0 = λ l. AreTimed asked l (rows ++ timed_row info o time ∷ []) in
     subst P (rows_at-push labels placed info o e)
     (timed-append asked (rows_at labels placed) rows (row_of info o ∷ []) (timed_row info o time ∷ []) timed (record { label = refl; outcome = refl; time = fits }, tt))
-
-module _ (p : Printer) (rows : List PrintedRow) (info : TestInfo) (o : Outcome) (time : Option ℕ) (a b c d : Shown) where
-  Put-row : Put a b (rows_text p rows) → Put b c (announcement_text p (label_of info)) → Put c d (timed_outcome_text p (label_of info) o time) → Put a d (rows_text p (rows ++ timed_row info o time ∷ []))
-  Put-row u v w =
-      let P : List ℕ → Type 0 = λ t. Put a d t in
-      subst P (sym (rows_text-push p rows (timed_row info o time))) (Put-trans _ _ u (Put-trans _ _ v w))
-
-  Stopped-row : Put a b (rows_text p rows) → Put b c (announcement_text p (label_of info)) → Stopped c d (timed_outcome_text p (label_of info) o time) → Stopped a d (rows_text p (rows ++ timed_row info o time ∷ []))
-  Stopped-row u v w =
-      let P : List ℕ → Type 0 = λ t. Stopped a d t in
-      subst P (sym (rows_text-push p rows (timed_row info o time))) (Put-Stopped _ _ u (Put-Stopped _ _ v w))
 
 -- ---- what a tally has room for
 
@@ -159,81 +142,75 @@ HasRoomFor-tally t filtered_out rows n h room within = omega (arith, length-kept
 
 -- ---- the rows so far
 
-module _ {R : Type 0} (gives : Gives R) where
-  -- the rows of `count` trials were appended, and the tally has counted them
-  pub record RowsSoFar (suite : Suite R) (count : ℕ) (old new : Shown) (t : Tally) : Type 0 where
+-- what isn't false
+pub is_true : (b : Bool) → ¬ (b ≡ false) → b ≡ true
+is_true true h = refl
+is_true false h = absurd (h refl)
+
+module _ {R W : Type 0} (gives : Gives R) (contents : W → Option (List ℕ)) where
+  -- the rows of `count` trials were added, and the tally has counted them
+  pub record RowsSoFar (suite : Suite R) (count : ℕ) (old new : Sink W) (t : Tally) : Type 0 where
     pub placed : List Placed
     pub ordered : InOrder placed
     pub all : length placed ≡ count
     pub own : All (IsOwnAt gives suite.args suite.trials) placed
     pub rows : List PrintedRow
     pub timed : AreTimed suite.args.report_time (rows_of suite placed) rows
-    pub text : Put old new (rows_text suite.printer rows)
+    pub text : Adds contents old new (rows_text suite.printer rows)
     pub tally : HasCounted t suite.filtered_out (rows_of suite placed)
 
-  module _ (suite : Suite R) (count : ℕ) (a b c d : Shown) (t : Tally) (so_far : RowsSoFar suite count a b t) (info : TestInfo) (o : Outcome) (time : Option ℕ)
-      (label : label_of info ≡ label_at (labels_of suite.trials) count) (own : IsOwnAt gives suite.args suite.trials (count, o)) (fits : IsTime (suite.args.report_time && has_time o) time) where
-    here : label_of info ≡ label_at (labels_of suite.trials) (length so_far.placed)
-    here = label ∙ ap (label_at (labels_of suite.trials)) (sym so_far.all)
-
-    all_own : All (IsOwnAt gives suite.args suite.trials) (so_far.placed ++ (length so_far.placed, o) ∷ [])
-    all_own =
-        let P : ℕ → Type 0 = λ n. IsOwnAt gives suite.args suite.trials (n, o) in
-        let Q : Placed → Type 0 = IsOwnAt gives suite.args suite.trials in
-        All-append Q so_far.placed ((length so_far.placed, o) ∷ []) so_far.own (All-cons Q (length so_far.placed, o) [] (subst P (sym so_far.all) own) (All-nil Q))
-
-    one_more : length (so_far.placed ++ (length so_far.placed, o) ∷ []) ≡ count + 1
-    one_more = length-append so_far.placed ((length so_far.placed, o) ∷ []) ∙ ap (λ n. n + 1) so_far.all
-
-    all_timed : AreTimed suite.args.report_time (rows_of suite (so_far.placed ++ (length so_far.placed, o) ∷ [])) (so_far.rows ++ timed_row info o time ∷ [])
-    all_timed = timed-push suite.args.report_time (labels_of suite.trials) so_far.placed info o time so_far.rows here so_far.timed fits
+  module _ (suite : Suite R) (count : ℕ) {a b : Sink W} (t : Tally) (so_far : RowsSoFar suite count a b t) where
+    -- what a report shows of the next trial
+    here : (info : TestInfo) → label_of info ≡ label_at (labels_of suite.trials) count → label_of info ≡ label_at (labels_of suite.trials) (length so_far.placed)
+    here info label = label ∙ ap (label_at (labels_of suite.trials)) (sym so_far.all)
 
     -- one more trial ran
-    pub RowsSoFar-push : (u : Tally) → Put b c (announcement_text suite.printer (label_of info)) → Put c d (timed_outcome_text suite.printer (label_of info) o time)
+    pub RowsSoFar-push : {c d : Sink W} (info : TestInfo) (o : Outcome) (time : Option ℕ)
+        → label_of info ≡ label_at (labels_of suite.trials) count → IsOwnAt gives suite.args suite.trials (count, o) → IsTime (suite.args.report_time && has_time o) time → (u : Tally)
+        → Adds contents b c (announcement_text suite.printer (label_of info)) → Adds contents c d (timed_outcome_text suite.printer (label_of info) o time)
         → ((filtered_out : ℕ) (rows : List PrintedRow) → HasCounted t filtered_out rows → HasCounted u filtered_out (rows ++ row_of info o ∷ [])) → RowsSoFar suite (count + 1) a d u
-    RowsSoFar-push u announced ended counted =
-        let Q : List PrintedRow → Type 0 = λ l. HasCounted u suite.filtered_out l in
+    RowsSoFar-push {c} {d} info o time label own fits u announced ended counted =
+        let P : ℕ → Type 0 = λ n. IsOwnAt gives suite.args suite.trials (n, o) in
+        let Q : Placed → Type 0 = IsOwnAt gives suite.args suite.trials in
+        let T : List PrintedRow → Type 0 = λ l. HasCounted u suite.filtered_out l in
         record {
           placed = so_far.placed ++ (length so_far.placed, o) ∷ [];
           ordered = InOrder-push so_far.placed o so_far.ordered;
-          all = one_more;
-          own = all_own;
+          all = length-append so_far.placed ((length so_far.placed, o) ∷ []) ∙ ap (λ n. n + 1) so_far.all;
+          own = All-append Q so_far.placed ((length so_far.placed, o) ∷ []) so_far.own (All-cons Q (length so_far.placed, o) [] (subst P (sym so_far.all) own) (All-nil Q));
           rows = so_far.rows ++ timed_row info o time ∷ [];
-          timed = all_timed;
-          text = Put-row suite.printer so_far.rows info o time a b c d so_far.text announced ended;
-          tally = subst Q (rows_at-push (labels_of suite.trials) so_far.placed info o here) (counted suite.filtered_out (rows_of suite so_far.placed) so_far.tally);
+          timed = timed-push suite.args.report_time (labels_of suite.trials) so_far.placed info o time so_far.rows (here info label) so_far.timed fits;
+          text = subst (Adds contents a d) (sym (rows_text-push suite.printer so_far.rows (timed_row info o time))) (adds_then _ _ so_far.text (adds_then _ _ announced ended));
+          tally = subst T (rows_at-push (labels_of suite.trials) so_far.placed info o (here info label)) (counted suite.filtered_out (rows_of suite so_far.placed) so_far.tally);
         }
 
-    -- a fault in its outcome, with `m` trials left behind it
-    pub stopped_outcome : (m : ℕ) → length suite.trials ≡ count + suc m → Put b c (announcement_text suite.printer (label_of info)) → Stopped c d (timed_outcome_text suite.printer (label_of info) o time)
-        → RowsStopped gives suite a d
-    stopped_outcome m more announced ended =
-        let placed : List Placed = so_far.placed ++ (length so_far.placed, o) ∷ [] in
+    -- a fault is kept, and `m` trials are left behind the next one
+    pub stopped_before : {c : Sink W} (info : TestInfo) (m : ℕ) → label_of info ≡ label_at (labels_of suite.trials) count → length suite.trials ≡ count + suc m
+        → Adds contents b c (announcement_text suite.printer (label_of info)) → keeps_fault c ≡ true → RowsRun gives contents suite a c t
+    stopped_before {c} info m label more announced fault =
+        let P : Label → Type 0 = λ l. Adds contents b c (announcement_text suite.printer l) in
         record {
-          placed = placed;
-          left = range_with_len (length placed) m;
-          places = places-left placed (length suite.trials) m (InOrder-push so_far.placed o so_far.ordered) (omega (arith, more, one_more));
-          own = all_own;
-          rows = so_far.rows ++ timed_row info o time ∷ [];
-          timed = all_timed;
-          text = Stopped-more _ _ (Stopped-row suite.printer so_far.rows info o time a b c d so_far.text announced ended);
+          placed = so_far.placed;
+          left = range_with_len (length so_far.placed) (suc m);
+          places = places-left so_far.placed (length suite.trials) (suc m) so_far.ordered (omega (arith, more, so_far.all));
+          own = so_far.own;
+          rows = so_far.rows;
+          timed = so_far.timed;
+          text = adds_then _ _ so_far.text (subst P (here info label) announced);
+          tally = so_far.tally;
+          all = λ none. absurd (cc (fault, none));
         }
 
-  -- a fault in the announcement of the next trial
-  pub stopped_announcement : (suite : Suite R) (count : ℕ) (a b c : Shown) (t : Tally) (so_far : RowsSoFar suite count a b t) (info : TestInfo) (m : ℕ)
-      → label_of info ≡ label_at (labels_of suite.trials) count → length suite.trials ≡ count + suc m → Stopped b c (announcement_text suite.printer (label_of info)) → RowsStopped gives suite a c
-  stopped_announcement suite count a b c t so_far info m label more announced =
-      let P : Label → Type 0 = λ l. Stopped b c (announcement_text suite.printer l) in
-      record {
-        placed = so_far.placed;
-        left = range_with_len (length so_far.placed) (suc m);
-        places = places-left so_far.placed (length suite.trials) (suc m) so_far.ordered (omega (arith, more, so_far.all));
-        own = so_far.own;
-        rows = so_far.rows;
-        timed = so_far.timed;
-        text = Put-Stopped _ _ so_far.text (subst P (label ∙ ap (label_at (labels_of suite.trials)) (sym so_far.all)) announced);
-      }
-
-  -- an answer that is a fault
-  pub RowsRun-stopped : {E T : Type 0} (suite : Suite R) (a b : Shown) (t : Tally) (r : Result T E) → IsErr r → RowsStopped gives suite a b → RowsRun gives suite a b t r
-  RowsRun-stopped suite a b t r e s = MatchResult-from_err r (λ _. RowsWritten gives suite a b t) (λ _. RowsStopped gives suite a b) e (λ _. s)
+    -- all trials ran
+    pub all_ran : count ≡ length suite.trials → RowsRun gives contents suite a b t
+    all_ran whole = record {
+      placed = so_far.placed;
+      left = [];
+      places = ap (range_with_len 0) (sym (so_far.all ∙ whole)) ∙ sym so_far.ordered ∙ sym (append-nil (places_of so_far.placed));
+      own = so_far.own;
+      rows = so_far.rows;
+      timed = so_far.timed;
+      text = subst (Adds contents a b) (sym (append-nil (rows_text suite.printer so_far.rows))) so_far.text;
+      tally = so_far.tally;
+      all = λ none. refl;
+    }

@@ -1,7 +1,6 @@
 //! Writes the parts of a report.
-ghost use Rattle.std.specs.Prelude.{◌-◌, ◌^◌, ◌<◌};
 ghost use Rattle.mimic_printer.specs.List.{list_text, listed};
-ghost use Rattle.mimic_printer.specs.Sink.{HasFaultLeft, Puts, faults_of};
+ghost use Rattle.mimic_printer.specs.Sink.{HasFaultLeft, Puts};
 
 pub use mimic_printer::{Printer, ShownRows, widths};
 use mimic_printer::{Sink, WriteFault};

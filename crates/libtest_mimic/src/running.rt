@@ -1,6 +1,6 @@
 //! Runs trials and writes their report.
-ghost use Rattle.std.specs.Prelude.{◌≡◌, ◌≢◌, ◌-◌, ◌^◌, ◌<◌, ◌≤◌, [], false, Err};
-ghost use Rattle.mimic_printer.specs.Sink.{HasFaultLeft, faults_of, shown};
+ghost use Rattle.std.specs.Prelude.{◌≡◌, ◌≢◌, ◌≤◌, [], false, Err};
+ghost use Rattle.mimic_printer.specs.Sink.{HasFaultLeft, shown};
 ghost use Rattle.mimic_trial.specs.Trial.{AllCanRun};
 ghost use Rattle.mimic_args.specs.Arguments.{threads_of};
 ghost use Rattle.libtest_mimic.specs.Run.{OnNothingWritten, Reports, Runs, RunsBy, done};
@@ -23,7 +23,7 @@ mod timing;
 use crate::stopwatch::{Clock, Stopwatch};
 use in_order::run_in_order;
 use in_workers::{Workers, run_in_workers};
-use list::write_list;
+use list::add_list;
 use mimic_args::Arguments;
 use mimic_pool::{RunningTrials, Schedule, Spawner};
 use mimic_printer::{Sink, WriteFault};
@@ -211,7 +211,9 @@ pub fn run_as<R: Task + Send + 'static, W: Write, C: Clock, T: Spawner + 'static
 {
     watch.start();
     if request.args.list {
-        return write_list(request.args, tests, sink);
+        let counts = add_list(request.args, tests, sink);
+        sink.end()?;
+        return Ok(counts);
     }
     let selected = select(request.args, tests, request.auto_colours);
     let workers = Workers {
@@ -285,7 +287,9 @@ pub fn run_here<R: Task, W: Write, C: Clock>(
 {
     watch.start();
     if args.list {
-        return write_list(args, tests, sink);
+        let zeros = add_list(args, tests, sink);
+        sink.end()?;
+        return Ok(zeros);
     }
     let selected = select(args, tests, auto_colours);
     run_in_order(alloc, selected, None, sink, watch)

@@ -1,7 +1,7 @@
 //! Gathers the rows of workers.
-ghost use Rattle.std.specs.Prelude.{ℕ, ◌≡◌, ◌≢◌, ◌-◌, ◌^◌, ◌<◌, ◌≤◌, Bool, IfErr, List, MatchResult, Some, length, map, slice_get, vec_capacity, vec_len};
+ghost use Rattle.std.specs.Prelude.{ℕ, ◌≡◌, ◌≢◌, ◌≤◌, Bool, IfErr, List, MatchResult, Some, length, map, slice_get, vec_capacity, vec_len};
 ghost use Rattle.std.specs.Option.{option_copied};
-ghost use Rattle.mimic_printer.specs.Sink.{HasFaultLeft, Put, faults_of, shown};
+ghost use Rattle.mimic_printer.specs.Sink.{HasFaultLeft, shown};
 ghost use Rattle.mimic_trial.specs.declared.outcome.Outcome.{Outcome as AnOutcome};
 ghost use Rattle.mimic_pool.specs.Arrivals.{arrived_at};
 ghost use Rattle.mimic_pool.specs.Rows.{rows_in};
@@ -13,7 +13,7 @@ ghost use Rattle.mimic_pool.specs.Inbox.{is_timed};
 ghost use Rattle.libtest_mimic.specs.Steps.{PutsArrived};
 
 use crate::running::RunError;
-use crate::running::arrivals::{write_arrivals, write_missing};
+use crate::running::arrivals::{add_arrivals, add_missing};
 use mimic_pool::{Crew, Desk, Inbox, Rows, Spawner, join_all, put_joined};
 use mimic_printer::{Printer, Sink};
 use mimic_trial::{Outcome, Task, TestInfo};
@@ -64,14 +64,16 @@ pub fn gather_rows<R: Task + Send + 'static, W: Write, T: Spawner + 'static>(
         mut desk,
         room,
     } = started;
-    let written = write_arrivals(rt, printer, infos, &mut inbox, &mut desk, sink);
+    add_arrivals(rt, printer, infos, &mut inbox, &mut desk, sink);
+    let written = sink.end();
     let whole = written.is_ok();
     let joined = join_all(rt, crew, whole);
     let arrived = desk.order().len();
     complete(&mut desk, joined, infos.len(), room, whole)?;
     // A write fault waits until here, since an outcome that differs is reported in its place.
     written?;
-    write_missing(printer, infos, &inbox, &desk, arrived, sink)?;
+    add_missing(printer, infos, &inbox, &desk, arrived, sink);
+    sink.end()?;
     Ok(desk)
 }
 

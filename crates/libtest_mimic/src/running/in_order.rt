@@ -1,21 +1,21 @@
 //! Runs trials in the calling thread, one after another.
-ghost use Rattle.std.specs.Prelude.{◌≡◌, ◌-◌, ◌^◌, ◌<◌, [], vec_len};
+ghost use Rattle.std.specs.Prelude.{◌≡◌, [], vec_len};
 ghost use Rattle.mimic_trial.specs.Trial.{AllCanRun};
-ghost use Rattle.mimic_printer.specs.Sink.{HasFaultLeft, faults_of, shown};
+ghost use Rattle.mimic_printer.specs.Sink.{HasFaultLeft, shown};
 ghost use Rattle.libtest_mimic.specs.Run.{OnNothingWritten, Reports};
-ghost use Rattle.libtest_mimic.specs.Steps.{HasCounted, HasRoomFor, RowsRun, WritesReport, selected_suite, suite_with};
+ghost use Rattle.libtest_mimic.specs.Steps.{HasCounted, HasRoomFor, RowsRun, selected_suite, suite_with};
 ghost use Rattle.libtest_mimic.specs.Stopwatch.{IsRunning};
 
 use crate::running::RunError;
 use crate::running::selection::Selection;
-use crate::running::summary::write_summary;
+use crate::running::summary::add_summary;
 use crate::running::tally::Tally;
 use crate::running::timing::{elapsed, start, time_shown};
 use crate::select::is_ignored;
 use crate::stopwatch::{Clock, Stopwatch};
 use mimic_args::Arguments;
 use mimic_pool::{RunningCell, RunningTrials};
-use mimic_printer::{Printer, Sink, WriteFault};
+use mimic_printer::{Printer, Sink};
 use mimic_trial::{Conclusion, Task, Trial, run_unless};
 use std::alloc::Global;
 use std::io::Write;
@@ -36,43 +36,25 @@ pub(super) fn run_in_order<R: Task, W: Write, C: Clock>(
         (shown W.contents sink.new) watch.new result }
     ensures unwritten { OnNothingWritten result (sink.new ≡ sink.old) }
 {
-    let tally = Tally::with_capacity(alloc, selected.trials.len(), selected.filtered_out)?;
-    Ok(write_report(selected, tally, running, sink, watch)?)
-}
-
-// Writes the whole report of the trials, which run in their order, and counts them.
-fn write_report<R: Task, W: Write, C: Clock>(
-    selected: Selection<'_, R>,
-    tally: Tally,
-    running: Option<&Arc<RunningTrials>>,
-    sink: &mut Sink<W>,
-    watch: &mut Stopwatch<C>,
-) -> Result<Conclusion, WriteFault>
-    requires room { HasFaultLeft sink.old }
-    requires running { IsRunning watch.old }
-    requires empty { HasCounted tally tally.conclusion.num_filtered_out [] }
-    requires runnable { AllCanRun R.can_run selected.trials.items }
-    requires capacity { HasRoomFor tally (vec_len selected.trials) }
-    ensures { WritesReport R.gives
-        (suite_with selected.entry.args.now selected.entry.trials.items selected.entry.printer tally)
-        (shown W.contents sink.old) (shown W.contents sink.new) watch.new result }
-{
-    let mut tally = tally;
     let Selection {
         args,
         trials,
         printer,
-        ..
+        filtered_out,
     } = selected;
-    printer.print_title(sink, trials.len() as u64)?;
+    let mut tally = Tally::with_capacity(alloc, trials.len(), filtered_out)?;
+    printer.add_title(sink, trials.len() as u64);
     let rows = RowsInOrder {
         printer: &printer,
         args,
         cell: next_cell(running),
     };
-    run_rows(rows, trials, &mut tally, sink, watch)?;
-    tally.print_failures(&printer, sink)?;
-    write_summary(&printer, tally.conclusion(), sink, watch)?;
+    run_rows(rows, trials, &mut tally, sink, watch);
+    tally.add_failures(&printer, sink);
+    // The watch runs on if a write failed before the summary.
+    sink.end()?;
+    add_summary(&printer, tally.conclusion(), sink, watch);
+    sink.end()?;
     Ok(tally.into_conclusion())
 }
 
@@ -89,20 +71,19 @@ fn next_cell(running: Option<&Arc<RunningTrials>>) -> Option<&RunningCell> {
     running?.next_cell()
 }
 
-// Runs the trials in their order, and writes the row of each: its announcement before it runs.
+// Runs the trials in their order, and adds the row of each: its announcement before it runs. None runs once a fault is kept.
 fn run_rows<R: Task, W: Write, C: Clock>(
     rows: RowsInOrder<'_>,
     trials: Vec<Trial<R>>,
     tally: &mut Tally,
     sink: &mut Sink<W>,
     watch: &mut Stopwatch<C>,
-) -> Result<(), WriteFault>
-    requires room { HasFaultLeft sink.old }
+)
     requires empty { HasCounted tally.old tally.old.conclusion.num_filtered_out [] }
     requires runnable { AllCanRun R.can_run trials.items }
     requires capacity { HasRoomFor tally.old (vec_len trials) }
-    ensures rows { RowsRun R.gives (suite_with rows.entry.args.now trials.items rows.entry.printer.now tally.old)
-        (shown W.contents sink.old) (shown W.contents sink.new) tally.new result }
+    ensures rows { RowsRun R.gives W.contents (suite_with rows.entry.args.now trials.items rows.entry.printer.now tally.old)
+        sink.old sink.new tally.new }
     ensures readings { watch.new ≡ watch.old }
 {
     let RowsInOrder {
@@ -114,17 +95,19 @@ fn run_rows<R: Task, W: Write, C: Clock>(
     for trial in trials {
         let ignored = is_ignored(args, &trial);
         let (info, runner) = trial.into_parts();
-        printer.print_test(sink, &info)?;
+        printer.add_test(sink, &info);
+        if sink.has_fault() {
+            break;
+        }
         mark(cell, place);
         let started = start(watch, args.report_time);
         let outcome = run_unless(ignored, runner, !args.bench);
         unmark(cell);
         let nanos = time_shown(&outcome, elapsed(watch, started));
-        printer.print_timed_outcome(sink, &info, &outcome, nanos)?;
+        printer.add_outcome(sink, &info, &outcome, nanos);
         tally.record(info, outcome);
         place = place.wrapping_add(1);
     }
-    Ok(())
 }
 
 // Marks that the trial at the place runs, if anybody looks.

@@ -1,6 +1,6 @@
 //! Runs trials in worker threads.
-ghost use Rattle.std.specs.Prelude.{◌≡◌, ◌≢◌, ◌-◌, ◌^◌, ◌<◌, ◌≤◌, [], Bool, IfOk, List, MatchResult, length, not, vec_len};
-ghost use Rattle.mimic_printer.specs.Sink.{HasFaultLeft, Put, faults_of, shown};
+ghost use Rattle.std.specs.Prelude.{◌≡◌, ◌≢◌, ◌≤◌, [], Bool, IfOk, List, MatchResult, length};
+ghost use Rattle.mimic_printer.specs.Sink.{HasFaultLeft, shown};
 ghost use Rattle.mimic_trial.specs.Trial.{AllCanRun};
 ghost use Rattle.mimic_pool.specs.Share.{assigned_from};
 ghost use Rattle.mimic_pool.specs.Supply.{Holds};
@@ -13,7 +13,7 @@ use crate::running::RunError;
 use crate::running::desk_rows::{DeskRows, count_outcomes};
 use crate::running::gathering::{Started, gather_rows};
 use crate::running::selection::Selection;
-use crate::running::summary::write_summary;
+use crate::running::summary::add_summary;
 use crate::select::is_ignored;
 use crate::stopwatch::{Clock, Stopwatch};
 use mimic_args::Arguments;
@@ -75,7 +75,8 @@ pub(super) fn run_in_workers<R: Task + Send + 'static, W: Write, C: Clock, T: Sp
     let rows = DeskRows { infos, desk: &desk };
     printer.print_failures_in(sink, &rows)?;
     let conclusion = count_outcomes(&desk, filtered_out);
-    write_summary(&printer, &conclusion, sink, watch)?;
+    add_summary(&printer, &conclusion, sink, watch);
+    sink.end()?;
     Ok(conclusion)
 }
 

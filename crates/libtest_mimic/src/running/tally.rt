@@ -1,9 +1,9 @@
 //! What a run keeps of the trials that ran: their counts, and those that failed.
-ghost use Rattle.std.specs.Prelude.{ℕ, ◌≡◌, ◌+◌, ◌-◌, ◌^◌, ◌∷◌, ◌++◌, ◌<◌, [], IfOk, IsOk, List, vec_len};
+ghost use Rattle.std.specs.Prelude.{ℕ, ◌≡◌, ◌+◌, ◌∷◌, ◌++◌, [], IfOk, IsOk, List, vec_len};
 ghost use Rattle.mimic_printer.specs.Report.{failures_text};
-ghost use Rattle.mimic_printer.specs.Sink.{HasFaultLeft, Puts, faults_of};
+ghost use Rattle.mimic_printer.specs.Sink.{Adds};
 
-use mimic_printer::{Printer, Sink, WriteFault};
+use mimic_printer::{Printer, Sink};
 use mimic_trial::{Conclusion, Outcome, TestInfo};
 use std::alloc::{AllocError, Global};
 use std::io::Write;
@@ -52,18 +52,13 @@ impl Tally {
         }
     }
 
-    // Writes the failures of all rows that were counted.
-    pub(crate) fn print_failures<W: Write>(
-        &self,
-        printer: &Printer,
-        sink: &mut Sink<W>,
-    ) -> Result<(), WriteFault>
-        requires { HasFaultLeft sink.old }
+    // Adds the failures of all rows that were counted.
+    pub(crate) fn add_failures<W: Write>(&self, printer: &Printer, sink: &mut Sink<W>)
         ensures { (filtered_out : ℕ) (rows : List PrintedRow)
             → HasCounted self.now filtered_out rows
-            → Puts W.contents sink.old sink.new (failures_text printer.now rows) result }
+            → Adds W.contents sink.old sink.new (failures_text printer.now rows) }
     {
-        printer.print_failures_of(sink, &self.failures)
+        printer.add_failures_of(sink, &self.failures);
     }
 
     // The counts.

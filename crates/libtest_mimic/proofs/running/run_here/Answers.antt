@@ -1,10 +1,25 @@
-use Rattle.std.proofs.Common.{◌<◌, ◌^◌, arith, length}
+use Rattle.std.proofs.Common.{◌<◌, ◌^◌, arith, length, true}
+use Rattle.mimic_printer.proofs.Adding.{puts_added}
+use Rattle.libtest_mimic.specs.declared.running.RunError.TheVariants.{Write}
 use Rattle.libtest_mimic.specs.Suite.{asking}
 use Rattle.libtest_mimic.proofs.Answered.{has_reports, runs, runs_list}
+use Rattle.libtest_mimic.proofs.Gathering.{on_error}
 use Rattle.libtest_mimic.proofs.running.run_here.Goals as goal
 
+pub end-requires : goal.end-requires
+end-requires g c = omega (arith, (c.add_list-zeros.ensures.listed true).2.faults, c.requires.room)
+
+pub returns-in_err-end-clause-runs : goal.returns-in_err-end-clause-runs
+returns-in_err-end-clause-runs g c =
+    let list = c.add_list-zeros.ensures.listed c.args.auto_colours in
+    runs_list (asking g.R.Task.gives 1 c.args.auto_colours c.args.tests.items c.args.args.now) _ c.if-args.true c.start.ensures
+    (list.0, list.1, on_error c.from_residual.result (Write c.in_err-end.field-0.0) _ _ c.from_residual.ensures.1 (puts_added _ _ list.2 c.in_err-end.ensures))
+
 pub returns-then-args-clause-runs : goal.returns-then-args-clause-runs
-returns-then-args-clause-runs g c = runs_list (asking g.R.Task.gives 1 c.args.auto_colours c.args.tests.items c.args.args.now) _ c.if-args.true c.start.ensures (c.write_list.ensures.listed c.args.auto_colours)
+returns-then-args-clause-runs g c =
+    let list = c.add_list-zeros.ensures.listed c.args.auto_colours in
+    runs_list (asking g.R.Task.gives 1 c.args.auto_colours c.args.tests.items c.args.args.now) _ c.if-args.true c.start.ensures
+    (list.0, list.1, (c.add_list-zeros.ensures.zeros, puts_added _ _ list.2 c.in_ok-end.ensures))
 
 pub returns-clause-runs : goal.returns-clause-runs
 returns-clause-runs g c =

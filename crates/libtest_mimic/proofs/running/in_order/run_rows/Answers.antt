@@ -3,13 +3,13 @@ use Rattle.std.proofs.lemmas.List.Elements.{All-nil}
 use Rattle.std.specs.Vec.Iter.{into_iter_items}
 use Rattle.mimic_printer.specs.Row.{label_of, labels_of}
 use Rattle.mimic_trial.specs.Trial.{runner_of}
-use Rattle.mimic_printer.specs.Sink.{shown}
-use Rattle.mimic_printer.proofs.Appending.{Put-refl}
+use Rattle.mimic_printer.proofs.Adding.{adds_nothing}
 use Rattle.libtest_mimic.specs.Arrangement.{IsOwnAt}
 use Rattle.libtest_mimic.specs.Steps.{suite_with}
 use Rattle.mimic_trial.specs.declared.outcome.Outcome.{Outcome}
 use Rattle.libtest_mimic.specs.Suite.{IsTime, Suite, has_time}
-use Rattle.libtest_mimic.proofs.RowsInOrder.{All-next, HasRoom-tally, HasRoomFor-tally, RowsRun-stopped, RowsSoFar-push, count_rows, label_at-next, longer, ran-next, stopped_announcement, stopped_outcome}
+use Rattle.libtest_mimic.proofs.RowsInOrder.{All-next, HasRoom-tally, HasRoomFor-tally, RowsSoFar-push, all_ran, count_rows, label_at-next, longer, ran-next, stopped_before}
+use Rattle.libtest_mimic.proofs.running.in_order.run_rows.Goals.{in-None, in-Some+then-has_fault}
 use Rattle.libtest_mimic.proofs.running.in_order.run_rows.Goals as goal
 
 pub loop-trial-init : goal.loop-trial-init
@@ -26,7 +26,7 @@ loop-trial-init g c =
         own = All-nil (IsOwnAt g.R.Task.gives suite.args suite.trials);
         rows = [];
         timed = tt;
-        text = Put-refl (shown g.W.Write.contents c.args.sink.now);
+        text = adds_nothing c.args.sink.now;
         tally = c.requires.empty;
       };
       readings = refl;
@@ -42,35 +42,14 @@ loop-trial-preserved g c =
     let suite : Suite _ = suite_with c.args.rows.args.now c.args.trials.items c.args.rows.printer.now c.args.tally.now in
     let ran = ran-next g.R.Task.gives suite.args seen _ _ suite.trials c.in-Some.trial c.in-Some.ensures.steps.0 c.loop-trial.invariant.seen _ _ _ _ c.into_parts-info.ensures.info c.into_parts-info.ensures.runner c.is_ignored-ignored.ensures c.run_unless-outcome.ensures in
     let time = fits _ _ _ _ (c.elapsed.ensures.asked ∙ c.start-started.ensures.asked) c.time_shown-nanos.ensures in
-    let next = RowsSoFar-push g.R.Task.gives suite (length seen) _ _ _ (shown g.W.Write.contents c.print_timed_outcome.new.sink) c.loop-trial.tally c.loop-trial.invariant.so_far c.into_parts-info.result.0 _ c.time_shown-nanos.result ran.0 ran.1 time
-    c.record.new.self c.in_ok-print_test.ensures c.in_ok-print_timed_outcome.ensures c.record.ensures.counted in
+    let next = RowsSoFar-push g.R.Task.gives g.W.Write.contents suite (length seen) c.loop-trial.tally c.loop-trial.invariant.so_far c.into_parts-info.result.0 _ c.time_shown-nanos.result ran.0 ran.1 time
+    c.record.new.self c.add_test.ensures c.add_outcome.ensures c.record.ensures.counted in
     record {
       seen = append_assoc seen (c.in-Some.trial ∷ []) _ ∙ (ap (λ l. seen ++ l) (sym c.in-Some.ensures.steps.0) ∙ c.loop-trial.invariant.seen);
       room = c.record.ensures.room _ c.loop-trial.invariant.room;
       so_far = rw (length-append seen (c.in-Some.trial ∷ [])) next;
       readings = c.elapsed.ensures.readings ∙ c.start-started.ensures.readings ∙ c.loop-trial.invariant.readings;
     }
-
-pub returns-in_err-print_test-clause-rows : goal.returns-in_err-print_test-clause-rows
-returns-in_err-print_test-clause-rows g c =
-    let told = shown g.W.Write.contents in
-    let seen = c.loop-trial.yielded in
-    let suite : Suite _ = suite_with c.args.rows.args.now c.args.trials.items c.args.rows.printer.now c.args.tally.now in
-    let split = ap (λ l. seen ++ l) (sym c.in-Some.ensures.steps.0) ∙ c.loop-trial.invariant.seen in
-    let label = ap label_of c.into_parts-info.ensures.info ∙ label_at-next seen _ suite.trials c.in-Some.trial (length seen) split refl in
-    RowsRun-stopped g.R.Task.gives suite _ _ _ c.from_residual.result c.from_residual.ensures.0
-    (stopped_announcement g.R.Task.gives suite (length seen) _ _ (told c.print_test.new.sink) c.loop-trial.tally c.loop-trial.invariant.so_far c.into_parts-info.result.0 _
-    label (longer seen _ suite.trials c.in-Some.trial split) c.in_err-print_test.ensures)
-
-pub returns-in_err-print_timed_outcome-clause-rows : goal.returns-in_err-print_timed_outcome-clause-rows
-returns-in_err-print_timed_outcome-clause-rows g c =
-    let seen = c.loop-trial.yielded in
-    let suite : Suite _ = suite_with c.args.rows.args.now c.args.trials.items c.args.rows.printer.now c.args.tally.now in
-    let ran = ran-next g.R.Task.gives suite.args seen _ _ suite.trials c.in-Some.trial c.in-Some.ensures.steps.0 c.loop-trial.invariant.seen _ _ _ _ c.into_parts-info.ensures.info c.into_parts-info.ensures.runner c.is_ignored-ignored.ensures c.run_unless-outcome.ensures in
-    let time = fits _ _ _ _ (c.elapsed.ensures.asked ∙ c.start-started.ensures.asked) c.time_shown-nanos.ensures in
-    RowsRun-stopped g.R.Task.gives suite _ _ _ c.from_residual-in_err-print_timed_outcome.result c.from_residual-in_err-print_timed_outcome.ensures.0
-    (stopped_outcome g.R.Task.gives suite (length seen) _ _ _ (shown g.W.Write.contents c.print_timed_outcome.new.sink) c.loop-trial.tally c.loop-trial.invariant.so_far c.into_parts-info.result.0 _ c.time_shown-nanos.result ran.0 ran.1 time _
-    (longer seen _ suite.trials c.in-Some.trial (ap (λ l. seen ++ l) (sym c.in-Some.ensures.steps.0) ∙ c.loop-trial.invariant.seen)) c.in_ok-print_test.ensures c.in_err-print_timed_outcome.ensures)
 
 pub run_unless-outcome-requires : goal.run_unless-outcome-requires
 run_unless-outcome-requires g c =
@@ -93,15 +72,17 @@ record-requires-clause-room g c =
 
 pub returns-clause-rows : goal.returns-clause-rows
 returns-clause-rows g c =
+    let seen = c.loop-trial.yielded in
+    let suite : Suite _ = suite_with c.args.rows.args.now c.args.trials.items c.args.rows.printer.now c.args.tally.now in
     let so_far = c.loop-trial.invariant.so_far in
-    let none : length (into_iter_items c.loop-trial.trial-iterator) ≡ 0 = sym c.loop-trial.trial-iterator.rest.ok.0 ∙ c.in-None.ensures.steps.0 in
-    record {
-      placed = so_far.placed;
-      ordered = so_far.ordered;
-      all = omega (arith, so_far.all, none, length-append c.loop-trial.yielded (into_iter_items c.loop-trial.trial-iterator), ap length c.loop-trial.invariant.seen);
-      own = so_far.own;
-      rows = so_far.rows;
-      timed = so_far.timed;
-      text = so_far.text;
-      tally = so_far.tally;
-    }
+    elim c.match-next.branch [
+      | in-None w ↦
+          let none : length (into_iter_items c.loop-trial.trial-iterator) ≡ 0 = sym c.loop-trial.trial-iterator.rest.ok.0 ∙ w.in-None.ensures.steps.0 in
+          rw w.sink-is (all_ran g.R.Task.gives g.W.Write.contents suite (length seen) c.loop-trial.tally so_far
+          (omega (arith, none, length-append seen (into_iter_items c.loop-trial.trial-iterator), ap length c.loop-trial.invariant.seen)))
+      | in-Some+then-has_fault w ↦
+          let split = ap (λ l. seen ++ l) (sym w.in-Some.ensures.steps.0) ∙ c.loop-trial.invariant.seen in
+          let label = ap label_of w.into_parts-info.ensures.info ∙ label_at-next seen _ suite.trials w.in-Some.trial (length seen) split refl in
+          rw w.sink-is (stopped_before g.R.Task.gives g.W.Write.contents suite (length seen) c.loop-trial.tally so_far w.into_parts-info.result.0 _
+          label (longer seen _ suite.trials w.in-Some.trial split) w.add_test.ensures (sym w.has_fault.ensures ∙ w.if-has_fault.true))
+    ]

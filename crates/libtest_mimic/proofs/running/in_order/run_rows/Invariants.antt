@@ -1,6 +1,5 @@
 use Rattle.std.proofs.Common.{◌≡◌, ◌++◌, length, vec_len}
 use Rattle.std.specs.Vec.Iter.{into_iter_items}
-use Rattle.mimic_printer.specs.Sink.{shown}
 use Rattle.libtest_mimic.specs.Steps.{HasRoomFor}
 use Rattle.libtest_mimic.proofs.RowsInOrder.{RowsSoFar}
 use Rattle.libtest_mimic.proofs.running.in_order.run_rows.Given as goal
@@ -9,8 +8,8 @@ abbrev pub invariant-loop-trial : goal.invariant-loop-trial
 invariant-loop-trial g l = record {
   seen : l.yielded ++ into_iter_items l.trial-iterator ≡ l.fn.trials.items;
   room : HasRoomFor l.tally (vec_len l.fn.trials);
-  so_far : RowsSoFar g.R.Task.gives
+  so_far : RowsSoFar g.R.Task.gives g.W.Write.contents
       (record { args = l.args; trials = l.fn.trials.items; printer = l.printer; filtered_out = l.initial.tally.conclusion.num_filtered_out })
-      (length l.yielded) (shown g.W.Write.contents l.initial.sink) (shown g.W.Write.contents l.sink) l.tally;
+      (length l.yielded) l.initial.sink l.sink l.tally;
   readings : l.watch ≡ l.initial.watch;
 }

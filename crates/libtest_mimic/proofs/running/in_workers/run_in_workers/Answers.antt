@@ -1,4 +1,5 @@
 use Rattle.std.proofs.Common.{arith, refl}
+use Rattle.mimic_printer.proofs.Adding.{puts_added}
 use Rattle.libtest_mimic.specs.Steps.{selected_suite}
 use Rattle.libtest_mimic.proofs.Gathering.{on_error}
 use Rattle.libtest_mimic.proofs.InWorkers.{can_show, failures_refused, held_of, no_fault, reported_by, rows_refused, summary_refused}
@@ -32,13 +33,13 @@ print_failures_in-requires-clause-can_show g c =
     let supplied = c.in_ok-infos.ensures in
     can_show g.R.Task.gives suite _ _ _ _ shows supplied _ c.requires.several c.requires.some _ refl _ _ _ c.in_ok-desk.ensures.rows
 
-pub write_summary-requires-clause-room : goal.write_summary-requires-clause-room
-write_summary-requires-clause-room g c =
+pub end-requires : goal.end-requires
+end-requires g c =
     let suite = selected_suite c.args.selected in
     let shows = c.as_slice-infos.ensures.value in
     let supplied = c.in_ok-infos.ensures in
     let kept = no_fault g.R.Task.gives suite _ _ _ _ shows supplied _ c.requires.several c.requires.some _ refl _ _ _ c.in_ok-desk.ensures.rows in
-    omega (arith, kept, c.in_ok-print_failures_in.ensures.faults, c.requires.room)
+    omega (arith, kept, c.in_ok-print_failures_in.ensures.faults, c.add_summary.ensures.text.faults, c.requires.room)
 
 pub returns-in_err-print_failures_in-clause-reported : goal.returns-in_err-print_failures_in-clause-reported
 returns-in_err-print_failures_in-clause-reported g c =
@@ -48,21 +49,21 @@ returns-in_err-print_failures_in-clause-reported g c =
     on_error c.from_residual-in_err-print_failures_in.result _ _ _ c.from_residual-in_err-print_failures_in.ensures.1
     (failures_refused _ suite _ _ _ _ shows supplied _ c.requires.several c.requires.some _ refl _ _ _ c.in_ok-desk.ensures.rows _ _ c.in_err-print_failures_in.field-0.0 c.requires.running c.in_err-print_failures_in.ensures)
 
-pub returns-in_err-write_summary-clause-reported : goal.returns-in_err-write_summary-clause-reported
-returns-in_err-write_summary-clause-reported g c =
+pub returns-in_err-end-clause-reported : goal.returns-in_err-end-clause-reported
+returns-in_err-end-clause-reported g c =
     let suite = selected_suite c.args.selected in
     let shows = c.as_slice-infos.ensures.value in
     let supplied = c.in_ok-infos.ensures in
-    let summary = c.in_err-write_summary.ensures in
-    on_error c.from_residual-in_err-write_summary.result _ _ _ c.from_residual-in_err-write_summary.ensures.1
+    let summary = c.add_summary.ensures in
+    on_error c.from_residual-in_err-end.result _ _ _ c.from_residual-in_err-end.ensures.1
     (summary_refused _ suite _ _ _ _ shows supplied _ c.requires.several c.requires.some _ refl _ _ _ c.in_ok-desk.ensures.rows _ c.in_ok-print_failures_in.ensures
-    _ c.count_outcomes-conclusion.ensures _ _ _ summary.elapsed c.in_err-write_summary.field-0.0 summary.text)
+    _ c.count_outcomes-conclusion.ensures _ _ _ summary.elapsed c.in_err-end.field-0.0 (puts_added _ _ summary.text c.in_err-end.ensures))
 
 pub returns-clause-reported : goal.returns-clause-reported
 returns-clause-reported g c =
     let suite = selected_suite c.args.selected in
     let shows = c.as_slice-infos.ensures.value in
     let supplied = c.in_ok-infos.ensures in
-    let summary = c.in_ok-write_summary.ensures in
+    let summary = c.add_summary.ensures in
     reported_by _ suite _ _ _ _ shows supplied _ c.requires.several c.requires.some _ refl _ _ _ c.in_ok-desk.ensures.rows _ c.in_ok-print_failures_in.ensures
-    _ c.count_outcomes-conclusion.ensures _ _ _ summary.elapsed summary.fits summary.text
+    _ c.count_outcomes-conclusion.ensures _ _ _ summary.elapsed summary.fits (puts_added _ _ summary.text c.in_ok-end.ensures)

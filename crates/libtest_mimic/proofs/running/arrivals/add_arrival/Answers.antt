@@ -5,10 +5,10 @@ use Rattle.mimic_trial.specs.declared.outcome.Outcome.{Outcome}
 use Rattle.mimic_trial.specs.Places.{Placed}
 use Rattle.mimic_printer.specs.Report.{row_text}
 use Rattle.mimic_printer.specs.Row.{timed_row}
-use Rattle.mimic_printer.specs.Sink.{Puts, shown}
+use Rattle.mimic_printer.specs.Sink.{Adds}
 use Rattle.mimic_pool.specs.Inbox.{is_timed}
 use Rattle.libtest_mimic.proofs.ArrivedRows.{arrived_more, first_row, label_at-info, row_last, shown_time}
-use Rattle.libtest_mimic.proofs.running.arrivals.write_arrival.Goals as goal
+use Rattle.libtest_mimic.proofs.running.arrivals.add_arrival.Goals as goal
 
 pub row-requires : goal.row-requires
 row-requires g c =
@@ -27,9 +27,9 @@ returns-in-First-clause-arrived g c base put =
     let same : Some got ≡ Some row = sym c.row.ensures ∙ (ap (λ l. slice_get l (length c.order-number.result.now)) rows ∙ (ap (slice_get _) number ∙ row_last c.args.desk.now.rows row)) in
     let is : got ≡ row = cc in
     let outcome : c.row.result.1.now ≡ c.args.row.1 = ap (λ (r : Placed). r.1) is in
-    let label = label_at-info c.args.infos.now place c.index-infos-place.result (subst (λ (n : ℕ). place < n) c.requires.places first.0) c.index-infos-place.is in
+    let label = label_at-info c.args.infos.now place c.index-infos-place.result (subst (λ (n : ℕ). place < n) c.requires first.0) c.index-infos-place.is in
     let nanos = c.time_shown-nanos.result in
-    let P : Outcome → Type 0 = λ o. Puts g.W.Write.contents c.args.sink.now c.print_timed_row.new.sink (row_text c.args.printer.now (timed_row c.index-infos-place.result o nanos)) c.print_timed_row.result in
+    let P : Outcome → Type 0 = λ o. Adds g.W.Write.contents c.args.sink.now c.add_row.new.sink (row_text c.args.printer.now (timed_row c.index-infos-place.result o nanos)) in
     let fits = shown_time (is_timed c.args.inbox.now) _ _ _ nanos c.time.ensures outcome c.time_shown-nanos.ensures in
     arrived_more (is_timed c.args.inbox.now) c.args.printer.now c.args.infos.now c.args.desk.now c.arrive.new.self place c.args.row.1 c.index-infos-place.result nanos rows label fits
-    base _ (shown g.W.Write.contents c.print_timed_row.new.sink) c.print_timed_row.result put (subst P outcome c.print_timed_row.ensures)
+    put (subst P outcome c.add_row.ensures)
