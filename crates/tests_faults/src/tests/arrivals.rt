@@ -66,13 +66,13 @@ fn gather<T: Task + Send + 'static, R: Spawner + 'static, W: Write>(
     gather_rows(rt, printer, infos, started, sink)
 }
 
-// The place that the rows are refused for, and how many faults the sink has counted then.
+// The place that the rows are refused for, how many faults the sink has counted then, and whether it keeps none.
 fn gathered<T: Task + Send + 'static, R: Spawner + 'static>(
     rt: &R,
     infos: &[TestInfo],
     started: Started<T>,
     writer: FaultyWriter,
-) -> (Option<usize>, u64)
+) -> (Option<usize>, u64, bool)
     requires ready { IsReadyFor started (length infos.now) }
     requires running { (mode : Bool) × (trials : List (Assigned T)) × Runs T.gives started.crew mode trials }
 {
@@ -82,11 +82,11 @@ fn gathered<T: Task + Send + 'static, R: Spawner + 'static>(
         Err(RunError::Arrival { place }) => Some(place),
         _ => None,
     };
-    (differs, sink.faults())
+    (differs, sink.faults(), !sink.has_fault())
 }
 
-// Somebody reports the last and the second task as ignored before their workers start. The place that the rows are refused
-// for, and how many faults the sink has counted then, if a write at the place fails.
+// Somebody reports the last and the second task as ignored before their workers start. What is left then, as of `gathered`, if a
+// write at the place fails.
 fn gather_with_lies<T: Task + Send + 'static, R: Spawner + 'static, F: Fn(usize) -> T>(
     rt: &R,
     alloc: Global,
@@ -94,7 +94,7 @@ fn gather_with_lies<T: Task + Send + 'static, R: Spawner + 'static, F: Fn(usize)
     schedule: Schedule,
     task: F,
     place: FaultPlace,
-) -> Result<(Option<usize>, u64), Fail>
+) -> Result<(Option<usize>, u64, bool), Fail>
     requires made { F.IsAlwaysCallable task }
     requires runnable { (made : T) → T.can_run made }
 {
@@ -128,7 +128,7 @@ fn names_the_least_place_that_differs(rt: HostRuntime) -> Result<(), Fail> {
         for (place, faults) in [(FaultPlace::Nowhere, 0), (FaultPlace::Write(3), 1)] {
             let task = |_place: usize| Known::Passes;
             let left = gather_with_lies(&rt, alloc, &infos, schedule, task, place)?;
-            assert!(rt; left == (Some(1), faults), "{schedule:?} {place:?}");
+            assert!(rt; left == (Some(1), faults, true), "{schedule:?} {place:?}");
         }
     }
     Ok(())

@@ -65,7 +65,7 @@ fn runs_whole_or_not_at_all(rt: HostRuntime) -> Result<(), Fail> {
             is_allowed(&left, threads.unwrap_or(1)),
             "{threads:?} {schedule:?}"
         );
-        assert!(rt; left.faults == 0);
+        assert!(rt; left.is_ended && left.faults == 0);
     }
     Ok(())
 }

@@ -61,6 +61,8 @@ pub(super) fn roomy(alloc: Global) -> Result<FaultyWriter, AllocError> {
 pub(super) struct Left<W> {
     pub(super) answer: Result<Conclusion, RunError>,
     pub(super) faults: u64,
+    // Whether its sink keeps no fault.
+    pub(super) is_ended: bool,
     pub(super) writer: W,
     pub(super) is_running: bool,
 }
@@ -93,7 +95,10 @@ impl Left<FaultyWriter> {
             }
             _ => false,
         };
-        is_told && self.faults == u64::from(fault.is_some()) && self.writer.calls_after == 0
+        is_told
+            && self.is_ended
+            && self.faults == u64::from(fault.is_some())
+            && self.writer.calls_after == 0
     }
 }
 
@@ -131,6 +136,7 @@ pub(super) fn run_in_workers<R: Task + Send + 'static, W: Write, T: Spawner + 's
     Left {
         answer,
         faults: sink.faults(),
+        is_ended: !sink.has_fault(),
         writer: sink.into_inner(),
         is_running: watch.is_running(),
     }
@@ -151,6 +157,7 @@ fn run_in_place<R: Task, W: Write>(
     Left {
         answer,
         faults: sink.faults(),
+        is_ended: !sink.has_fault(),
         writer: sink.into_inner(),
         is_running: watch.is_running(),
     }
