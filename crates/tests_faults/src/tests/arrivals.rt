@@ -1,7 +1,6 @@
 //! Rows that arrive otherwise than their workers answer.
 ghost use Rattle.std.specs.Prelude.{◌≤◌, Bool, IfOk, List, length};
 ghost use Rattle.libtest_mimic.specs.Gathering.{IsReadyFor};
-ghost use Rattle.libtest_mimic.specs.Sink.{HasFaultLeft};
 ghost use Rattle.mimic_pool.specs.Supply.{Holds, Runs};
 ghost use Rattle.mimic_pool.specs.declared.share.Assigned.{Assigned};
 
@@ -11,7 +10,6 @@ use libtest_mimic::printer::Printer;
 use libtest_mimic::{FormatSetting, Outcome, RunError, Schedule, Sink, Spawner, Task, TestInfo};
 use mimic_testkit::{Fault, FaultPlace, FaultyWriter, Known};
 use std::alloc::{AllocError, Global};
-use std::io::Write;
 use std::sync::Wait;
 use std::test::Fail;
 
@@ -50,23 +48,8 @@ fn supply_of<T: Task, R: Wait, F: Fn(usize) -> T>(
     Ok(supply)
 }
 
-// Writes the rows of workers that were started. This is the one place that calls `gather_rows`, and it promises nothing, so that no
-// test carries that contract.
-fn gather<T: Task + Send + 'static, R: Spawner + 'static, W: Write>(
-    rt: &R,
-    printer: &Printer,
-    infos: &[TestInfo],
-    started: Started<T>,
-    sink: &mut Sink<W>,
-) -> Result<Desk, RunError>
-    requires room { HasFaultLeft sink.old }
-    requires ready { IsReadyFor started (length infos.now) }
-    requires running { (mode : Bool) × (trials : List (Assigned T)) × Runs T.gives started.crew mode trials }
-{
-    gather_rows(rt, printer, infos, started, sink)
-}
-
-// The place that the rows are refused for, how many faults the sink has counted then, and whether it keeps none.
+// Writes the rows of workers that were started. The place that they are refused for, how many faults the sink has counted then, and
+// whether it keeps none. This is the one place that calls `gather_rows`, and it promises nothing, so that no test carries that contract.
 fn gathered<T: Task + Send + 'static, R: Spawner + 'static>(
     rt: &R,
     infos: &[TestInfo],
@@ -78,7 +61,7 @@ fn gathered<T: Task + Send + 'static, R: Spawner + 'static>(
 {
     let printer = Printer::new(FormatSetting::Json, false, 0, 0);
     let mut sink = Sink::new(writer);
-    let differs = match gather(rt, &printer, infos, started, &mut sink) {
+    let differs = match gather_rows(rt, &printer, infos, started, &mut sink) {
         Err(RunError::Arrival { place }) => Some(place),
         _ => None,
     };
