@@ -3,7 +3,7 @@ use crate::output::BLOCK;
 use crate::program::Program;
 use libtest_mimic::select::is_filtered_out;
 use libtest_mimic::{Arguments, Sink, Trial};
-use mimic_printer::{OutputFault, Piece, Place, put_pieces};
+use mimic_printer::{Piece, Place, add_pieces};
 use mimic_trial::TestInfo;
 use std::alloc::{AllocError, Global};
 use std::cmp::Ordering;
@@ -22,40 +22,37 @@ impl Program<'_> {
         if args.list || !self.warns_of_equal_names {
             return;
         }
-        let _ = put_equal_names(alloc, self.name, args, trials, err);
+        let Ok(Some(info)) = first_equal(alloc, args, trials) else {
+            return;
+        };
+        // It is one write if a block holds it, so that no other program's text comes between its parts.
+        let Ok(out) = BufWriter::with_capacity(alloc, BLOCK, err) else {
+            return;
+        };
+        add_warning(&mut Sink::new(out), self.name, info);
     }
 }
 
-fn put_equal_names<'a, R, E: Write>(
+// The first of the selected trials, in the order of kinds and names, whose kind and name another has too.
+fn first_equal<'a, R>(
     alloc: Global,
-    program: &'a str,
     args: &Arguments,
     trials: &'a [Trial<R>],
-    err: &mut E,
-) -> Result<(), OutputFault> {
+) -> Result<Option<&'a TestInfo>, AllocError> {
     let infos = sorted_infos(alloc, args, trials)?;
     for place in 1..infos.len() {
         let (info, next) = (infos[place - 1], infos[place]);
         if info.kind == next.kind && info.name == next.name {
-            return put_warning(alloc, program, info, err);
+            return Ok(Some(info));
         }
     }
-    Ok(())
+    Ok(None)
 }
 
-// Writes the warning, in one write if a block holds it, so that no other program's text comes between its parts.
-fn put_warning<'a, E: Write>(
-    alloc: Global,
-    program: &'a str,
-    info: &'a TestInfo,
-    err: &mut E,
-) -> Result<(), OutputFault> {
-    let Ok(out) = BufWriter::with_capacity(alloc, BLOCK, &mut *err) else {
-        return Err(OutputFault::OutOfMemory);
-    };
-    let mut sink = Sink::new(out);
-    put_pieces(
-        &mut sink,
+// Adds the warning, and flushes it.
+fn add_warning<'a, W: Write>(sink: &mut Sink<W>, program: &'a str, info: &'a TestInfo) {
+    add_pieces(
+        sink,
         &[
             Piece::Text(program),
             Piece::Text(": warning: several trials are named "),
@@ -63,9 +60,8 @@ fn put_warning<'a, E: Write>(
             Piece::Escaped(Place::Line, info.name.as_str()),
             Piece::Text("\n"),
         ],
-    )?;
-    sink.flush()?;
-    Ok(())
+    );
+    sink.add_flush();
 }
 
 // What is known of the trials that these arguments select, in the order of kinds and, within a kind, of names.

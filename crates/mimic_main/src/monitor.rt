@@ -1,11 +1,9 @@
 //! Prints which trials run for too long, while they do.
-ghost use Rattle.mimic_printer.specs.Sink.{HasFaultLeft};
-
 use crate::full_names::FullNames;
 use crate::output::BLOCK;
 use arrayvec::ArrayVec;
-use libtest_mimic::{Arguments, RunningTrials, Sink, Spawner, Trial, WriteFault};
-use mimic_printer::{Piece, Place, put_escaped, put_pieces};
+use libtest_mimic::{Arguments, RunningTrials, Sink, Spawner, Trial};
+use mimic_printer::{Piece, Place, add_escaped, add_pieces};
 use std::alloc::{AllocError, Global};
 use std::io::Write;
 use std::rt::Clock;
@@ -230,30 +228,22 @@ impl<E: Write> Notifier<E> {
         let program = self.program.as_str();
         let name = place.and_then(|place| self.names.get(place)).unwrap_or(&[]);
         let mut block: Sink<ArrayVec<u8, BLOCK>> = Sink::new(ArrayVec::new());
-        let _ = match put_notice(&mut block, program, name, self.limit) {
-            Ok(()) => self.err.write_all(block.into_inner().as_slice()),
-            Err(_) => {
-                let _ = put_notice(&mut Sink::new(&mut self.err), program, name, self.limit);
-                Ok(())
-            }
-        };
+        add_notice(&mut block, program, name, self.limit);
+        if block.has_fault() {
+            add_notice(&mut Sink::new(&mut self.err), program, name, self.limit);
+        } else {
+            let _ = self.err.write_all(block.into_inner().as_slice());
+        }
     }
 }
 
-// Writes that the trial of this full name has run for longer than the limit.
-fn put_notice<W: Write>(
-    sink: &mut Sink<W>,
-    program: &str,
-    name: &[u8],
-    limit: Duration,
-) -> Result<(), WriteFault>
-    requires { HasFaultLeft sink.old }
-{
-    sink.put(program.as_bytes())?;
-    sink.put(b": ")?;
-    put_escaped(sink, name, Place::Line)?;
+// Adds that the trial of this full name has run for longer than the limit.
+fn add_notice<W: Write>(sink: &mut Sink<W>, program: &str, name: &[u8], limit: Duration) {
+    sink.add(program.as_bytes());
+    sink.add(b": ");
+    add_escaped(sink, name, Place::Line);
     let (number, unit) = in_words(limit);
-    put_pieces(
+    add_pieces(
         sink,
         &[
             Piece::Text(" has been running for over "),
@@ -261,7 +251,7 @@ fn put_notice<W: Write>(
             Piece::Text(unit),
             Piece::Text("\n"),
         ],
-    )
+    );
 }
 
 // A time as people say it: whole seconds, if it is some, else milliseconds.
