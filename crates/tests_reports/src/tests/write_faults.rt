@@ -9,9 +9,9 @@ use mimic_compare::write_comparison;
 use mimic_events::{Ending, Report, Row, RowsRead, Stop, read_from, write_report};
 use mimic_expect::{ExpectOptions, Lines, write_known, write_unexpected};
 use mimic_join::join_reports;
-use mimic_printer::{Piece, Place, Sink, put_escaped, put_pieces};
+use mimic_printer::{Piece, Place, Sink, add_escaped, add_pieces};
 use mimic_reports::{
-    PageContents, Suite, SuiteEnding, put_running, show_cut, show_failures, show_report,
+    PageContents, Suite, SuiteEnding, add_running, show_cut, show_failures, show_report,
     write_junit, write_page, write_slowest, write_suite,
 };
 use mimic_testkit::{Fault, FaultPlace, FaultyWriter};
@@ -123,11 +123,11 @@ macro_rules! written {
 }
 
 fn pieces(alloc: Global, pieces: &[Piece<'_>], writer: FaultyWriter) -> Written {
-    written!(alloc, writer, sink => put_pieces(&mut sink, pieces))
+    written!(alloc, writer, sink => { add_pieces(&mut sink, pieces); sink.end() })
 }
 
 fn escaped(alloc: Global, writer: FaultyWriter) -> Written {
-    written!(alloc, writer, sink => put_escaped(&mut sink, b"a\x1bb\x1bc", Place::Terminal))
+    written!(alloc, writer, sink => { add_escaped(&mut sink, b"a\x1bb\x1bc", Place::Terminal); sink.end() })
 }
 
 // The rows of a report that is cut, and how far it goes.
@@ -141,12 +141,12 @@ fn cut(alloc: Global, lines: &[&str]) -> Result<(Vec<Row>, Stop), Fail> {
 
 fn extent(alloc: Global, writer: FaultyWriter) -> Written {
     let (_, stop) = cut(alloc, &["what\n"])?;
-    written!(alloc, writer, sink => stop.put_extent(&mut sink, 0))
+    written!(alloc, writer, sink => { stop.add_extent(&mut sink, 0); sink.end() })
 }
 
 fn running(alloc: Global, writer: FaultyWriter) -> Written {
     let (_, stop) = cut(alloc, KILLED)?;
-    written!(alloc, writer, sink => put_running(&mut sink, Place::Line, &stop))
+    written!(alloc, writer, sink => { add_running(&mut sink, Place::Line, &stop); sink.end() })
 }
 
 fn whole(alloc: Global, writer: FaultyWriter) -> Written {
