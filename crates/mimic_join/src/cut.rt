@@ -1,19 +1,17 @@
 //! Joins what can be read of the reports of shards, some of which may be cut.
-ghost use Rattle.std.specs.Prelude.{◌≡◌, ◌-◌, ◌^◌, ◌<◌, ◌++◌, [], IfOk, MatchOption, length, map, min, sum};
+ghost use Rattle.std.specs.Prelude.{◌≡◌, ◌-◌, ◌^◌, ◌<◌, [], IfOk, MatchOption, length, map, min, sum};
 ghost use Rattle.std.specs.List.{flat_map, list_all};
 ghost use Rattle.std.specs.Option.{option_to_list};
-ghost use Rattle.mimic_events.specs.Written.{row_lines};
-ghost use Rattle.mimic_printer.specs.Json.{json_title};
-ghost use Rattle.mimic_printer.specs.Sink.{HasFaultLeft, Puts, shown};
+ghost use Rattle.mimic_printer.specs.Sink.{HasFaultLeft, shown};
 ghost use Rattle.mimic_join.specs.Cut.{AreReadOf, IsReadOf, LeavesCut, LeavesCutText, ended_rows, is_whole, title_in, titles_in, wholes_in};
 
 use crate::faults::JoinFault;
 use crate::inputs::write_joined;
 use crate::order::ended_in_turn;
-use crate::write::put_rows;
+use crate::write::add_rows;
 use mimic_events::{Ending, ReadFault, Report, Row, RowsRead, Stop, read_rows};
-use mimic_printer::json::put_title;
-use mimic_printer::{Sink, WriteFault};
+use mimic_printer::Sink;
+use mimic_printer::json::add_title;
 use mimic_trial::Conclusion;
 use std::alloc::{AllocError, Global};
 use std::io;
@@ -178,7 +176,10 @@ fn write_cut<W: Write>(
     let Some(announced) = announced_together(reads) else {
         return Ok(());
     };
-    put_cut(sink, announced, rows.as_slice())?;
+    add_title(sink, announced);
+    add_rows(sink, rows.as_slice());
+    sink.add_flush();
+    sink.end()?;
     Ok(())
 }
 
@@ -195,15 +196,4 @@ fn announced_together(reads: &[ShardRead]) -> Option<u64>
         }
     }
     sum
-}
-
-// Writes the title and the rows, which are elsewhere, and flushes them.
-fn put_cut<W: Write>(sink: &mut Sink<W>, announced: u64, rows: &[&Row]) -> Result<(), WriteFault>
-    requires { HasFaultLeft sink.old }
-    ensures { Puts W.contents sink.old sink.new
-        (json_title announced ++ flat_map (λ row. row_lines row.now) rows.now) result }
-{
-    put_title(sink, announced)?;
-    put_rows(sink, rows)?;
-    sink.flush()
 }

@@ -6,9 +6,10 @@ ghost use Rattle.mimic_join.specs.Inputs.{AreReportsIn, CannotRead, Leaves, Leav
 use crate::faults::JoinFault;
 use crate::join::totals_of;
 use crate::order::refs_in_turn;
-use crate::write::{counts_of_refs, put_joined};
+use crate::write::{add_rows, counts_of_refs};
 use mimic_events::{Report, read_from};
 use mimic_printer::Sink;
+use mimic_printer::json::{add_summary, add_title};
 use mimic_trial::Conclusion;
 use std::alloc::Global;
 use std::io::{Read, Write};
@@ -51,7 +52,11 @@ pub(crate) fn write_joined<W: Write>(
     let rows = refs_in_turn(alloc, reports)?;
     let rows = rows.as_slice();
     let counts = counts_of_refs(rows, filtered_out);
-    put_joined(sink, rows, &counts, nanos)?;
+    add_title(sink, rows.len() as u64);
+    add_rows(sink, rows);
+    add_summary(sink, &counts, nanos);
+    sink.add_flush();
+    sink.end()?;
     Ok(counts)
 }
 
