@@ -1,11 +1,7 @@
-pub mod Alone
-pub mod Documents
 pub mod Ids
 pub mod PageLaws
 pub mod Pages
-pub mod RowCounts
 pub mod Showing
 pub mod SlowestFirst
-pub mod SuiteText
 pub mod Totals
 pub mod Unread

@@ -6,23 +6,19 @@ use Rattle.mimic_trial.specs.declared.outcome.Outcome.{Outcome}
 use Rattle.mimic_trial.specs.declared.outcome.Outcome.TheVariants.{Passed, Failed, Ignored, Measured}
 use Rattle.mimic_trial.specs.Count.{is_failed, is_ignored_outcome}
 use Rattle.mimic_trial.specs.Text.{grouped}
-use Rattle.mimic_printer.specs.Json.{Entry, outcomes_in}
+use Rattle.mimic_printer.specs.Json.{Entry}
+use Rattle.mimic_events.specs.Contents.{entry_read}
 use Rattle.mimic_events.specs.declared.ending.Ending.TheVariants.{Whole, Cut}
 use Rattle.mimic_events.specs.declared.ending.Stop.{Stop}
 use Rattle.mimic_reports.specs.Cut.{cut_text}
 use Rattle.mimic_reports.specs.Seconds.{rounded_seconds}
 use Rattle.mimic_reports.specs.declared.junit_elements.Numbers.{Numbers}
+use Rattle.mimic_reports.specs.declared.suite.Suite.{Suite}
 use Rattle.mimic_reports.specs.declared.suite.SuiteEnding.{SuiteEnding}
 use Rattle.mimic_reports.specs.declared.suite.SuiteEnding.TheVariants.{Read, Unread}
 use Rattle.mimic_printer.specs.Escapes.{escaped}
 use Rattle.mimic_printer.specs.Piece.{first_line}
 use Rattle.mimic_printer.specs.declared.place.Place.TheVariants.{Content, Value}
-
--- what is written of one report: the name of its program, its rows that have ended, and how its reading ended
-pub record Suite : Type 0 where
-  pub program : List ℕ
-  pub entries : List Entry
-  pub ending : SuiteEnding
 
 -- ---- numbers
 
@@ -41,10 +37,10 @@ nanos_of (Unread cause) = 0
 -- the numbers of a report
 abbrev pub numbers_of : Suite → Numbers
 numbers_of s = record {
-  tests = length s.entries + errors_of s.ending;
-  failures = count_by is_failed (outcomes_in s.entries);
+  tests = length s.rows.items + errors_of s.ending;
+  failures = count_by is_failed (map (λ row. row.outcome) s.rows.items);
   errors = errors_of s.ending;
-  skipped = count_by is_ignored_outcome (outcomes_in s.entries);
+  skipped = count_by is_ignored_outcome (map (λ row. row.outcome) s.rows.items);
   nanos = nanos_of s.ending;
 }
 
@@ -132,8 +128,8 @@ ending_text program ended (Unread cause) = unread_text program (string_bytes cau
 
 -- the element of a report: each of its rows once, in their order
 unfoldable pub suite_text : Suite → List ℕ
-suite_text s = concat (suite_start s.program (numbers_of s) ∷ flat_map (case_text s.program) s.entries
-    ∷ ending_text s.program (length s.entries) s.ending ∷ codes "  </testsuite>\n" ∷ [])
+suite_text s = concat (suite_start s.program.now (numbers_of s) ∷ flat_map (λ row. case_text s.program.now (entry_read row)) s.rows.items
+    ∷ ending_text s.program.now (length s.rows.items) s.ending ∷ codes "  </testsuite>\n" ∷ [])
 
 -- what comes before the root of a document
 abbrev pub declaration : List ℕ

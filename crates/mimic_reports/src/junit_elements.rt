@@ -1,14 +1,14 @@
 //! Writes the elements of JUnit's XML.
 ghost use Rattle.std.specs.Prelude.{◌≡◌, ◌++◌};
 ghost use Rattle.mimic_printer.specs.Piece.{piece_text};
-ghost use Rattle.mimic_printer.specs.Sink.{HasFaultLeft, Puts};
+ghost use Rattle.mimic_printer.specs.Sink.{Adds};
 ghost use Rattle.mimic_events.specs.Contents.{entry_read};
 ghost use Rattle.mimic_reports.specs.Junit.{case_text, class_point, root_start, stop_text, suite_start, time_part, unread_text};
 
-use crate::cut::put_cut;
+use crate::cut::add_cut;
 use crate::seconds::rounded_pieces;
 use mimic_events::{Row, Stop};
-use mimic_printer::{Piece, Place, Sink, WriteFault, put_pieces};
+use mimic_printer::{Piece, Place, Sink, add_pieces};
 use mimic_trial::Outcome;
 use std::io::Write;
 
@@ -22,8 +22,8 @@ pub(crate) struct Numbers {
     pub(crate) nanos: u64,
 }
 
-// Writes the beginning of an element that has the numbers as attributes.
-macro_rules! put_start {
+// Adds the beginning of an element that has the numbers as attributes.
+macro_rules! add_start {
     ($sink:expr, $numbers:expr, $($front:expr),+) => {{
         let (seconds, dot, tenths, hundredths) = rounded_pieces($numbers.nanos);
         let pieces = [
@@ -43,12 +43,12 @@ macro_rules! put_start {
             hundredths,
             Piece::Text("\">\n"),
         ];
-        put_pieces($sink, &pieces)
+        add_pieces($sink, &pieces);
     }};
 }
 
-// Writes the line of a row: its program, its kind, its name, its time, and its end, which begins with the last quote of these.
-macro_rules! put_row {
+// Adds the line of a row: its program, its kind, its name, its time, and its end, which begins with the last quote of these.
+macro_rules! add_row {
     ($sink:expr, $program:expr, $row:expr, $($end:expr),+) => {{
         let kind = $row.kind.as_str();
         let (time_start, seconds, dot, tenths, hundredths) = time_pieces($row.nanos);
@@ -66,37 +66,32 @@ macro_rules! put_row {
             hundredths,
             $($end),+
         ];
-        put_pieces($sink, &pieces)
+        add_pieces($sink, &pieces);
     }};
 }
 
-// Writes what comes before the first report.
+// Adds what comes before the first report.
 #[tactic(auto, unfolding(crate::specs::Junit::root_start))]
-pub(crate) fn put_root_start<W: Write>(
-    sink: &mut Sink<W>,
-    numbers: &Numbers,
-) -> Result<(), WriteFault>
-    requires { HasFaultLeft sink.old }
-    ensures { Puts W.contents sink.old sink.new (root_start numbers.now) result }
+pub(crate) fn add_root_start<W: Write>(sink: &mut Sink<W>, numbers: &Numbers)
+    ensures { Adds W.contents sink.old sink.new (root_start numbers.now) }
 {
-    put_start!(
+    add_start!(
         sink,
         numbers,
         Piece::Text("<?xml version=\"1.0\" encoding=\"UTF-8\"?>\n<testsuites")
     )
 }
 
-// Writes what comes before the rows of a report.
+// Adds what comes before the rows of a report.
 #[tactic(auto, unfolding(crate::specs::Junit::suite_start))]
-pub(crate) fn put_suite_start<'a, W: Write>(
+pub(crate) fn add_suite_start<'a, W: Write>(
     sink: &mut Sink<W>,
     program: &'a str,
     numbers: &'a Numbers,
-) -> Result<(), WriteFault>
-    requires { HasFaultLeft sink.old }
-    ensures { Puts W.contents sink.old sink.new (suite_start program.now numbers.now) result }
+)
+    ensures { Adds W.contents sink.old sink.new (suite_start program.now numbers.now) }
 {
-    put_start!(
+    add_start!(
         sink,
         numbers,
         Piece::Text("  <testsuite name=\""),
@@ -126,20 +121,15 @@ fn time_pieces<'a>(nanos: Option<u64>) -> (Piece<'a>, Piece<'a>, Piece<'a>, Piec
     }
 }
 
-// Writes a row.
+// Adds a row.
 #[tactic(auto, unfolding(crate::specs::Junit::case_text))]
-pub(crate) fn put_case<'a, W: Write>(
-    sink: &mut Sink<W>,
-    program: &'a str,
-    row: &'a Row,
-) -> Result<(), WriteFault>
-    requires { HasFaultLeft sink.old }
-    ensures { Puts W.contents sink.old sink.new (case_text program.now (entry_read row.now)) result }
+pub(crate) fn add_case<'a, W: Write>(sink: &mut Sink<W>, program: &'a str, row: &'a Row)
+    ensures { Adds W.contents sink.old sink.new (case_text program.now (entry_read row.now)) }
 {
     match &row.outcome {
-        Outcome::Passed => put_row!(sink, program, row, Piece::Text("\"/>\n")),
+        Outcome::Passed => add_row!(sink, program, row, Piece::Text("\"/>\n")),
         Outcome::Ignored => {
-            put_row!(
+            add_row!(
                 sink,
                 program,
                 row,
@@ -147,13 +137,13 @@ pub(crate) fn put_case<'a, W: Write>(
             )
         }
         Outcome::Failed(failed) => match failed.message() {
-            None => put_row!(
+            None => add_row!(
                 sink,
                 program,
                 row,
                 Piece::Text("\"><failure type=\"failed\"/></testcase>\n")
             ),
-            Some(message) => put_row!(
+            Some(message) => add_row!(
                 sink,
                 program,
                 row,
@@ -164,7 +154,7 @@ pub(crate) fn put_case<'a, W: Write>(
                 Piece::Text("</failure></testcase>\n")
             ),
         },
-        Outcome::Measured(measurement) => put_row!(
+        Outcome::Measured(measurement) => add_row!(
             sink,
             program,
             row,
@@ -181,35 +171,24 @@ pub(crate) fn put_case<'a, W: Write>(
     }
 }
 
-// Writes that the report stopped after `ended` rows.
-pub(crate) fn put_stop<'a, W: Write>(
-    sink: &mut Sink<W>,
-    program: &'a str,
-    ended: u128,
-    stop: &'a Stop,
-) -> Result<(), WriteFault>
-    requires { HasFaultLeft sink.old }
-    ensures { Puts W.contents sink.old sink.new (stop_text program.now ended stop.now) result }
+// Adds that the report stopped after `ended` rows.
+pub(crate) fn add_stop<W: Write>(sink: &mut Sink<W>, program: &str, ended: u128, stop: &Stop)
+    ensures { Adds W.contents sink.old sink.new (stop_text program.now ended stop.now) }
 {
     let front = [
         Piece::Text("    <testcase classname=\""),
         Piece::Escaped(Place::Value, program),
         Piece::Text("\" name=\"(whole report)\"><error type=\"incomplete\" message=\""),
     ];
-    put_pieces(sink, &front)?;
-    put_cut(sink, Place::Value, ended, stop)?;
-    sink.put(b"\"/></testcase>\n")
+    add_pieces(sink, &front);
+    add_cut(sink, Place::Value, ended, stop);
+    sink.add(b"\"/></testcase>\n");
 }
 
-// Writes why the report was not read to its end.
+// Adds why the report was not read to its end.
 #[tactic(auto, unfolding(crate::specs::Junit::unread_text))]
-pub(crate) fn put_unread<'a, W: Write>(
-    sink: &mut Sink<W>,
-    program: &'a str,
-    cause: &'a str,
-) -> Result<(), WriteFault>
-    requires { HasFaultLeft sink.old }
-    ensures { Puts W.contents sink.old sink.new (unread_text program.now cause.now) result }
+pub(crate) fn add_unread<'a, W: Write>(sink: &mut Sink<W>, program: &'a str, cause: &'a str)
+    ensures { Adds W.contents sink.old sink.new (unread_text program.now cause.now) }
 {
     let pieces = [
         Piece::Text("    <testcase classname=\""),
@@ -218,7 +197,7 @@ pub(crate) fn put_unread<'a, W: Write>(
         Piece::Escaped(Place::Value, cause),
         Piece::Text("\"/></testcase>\n"),
     ];
-    put_pieces(sink, &pieces)
+    add_pieces(sink, &pieces);
 }
 
 impl Numbers {

@@ -37,7 +37,7 @@ mod slowest;
 mod style;
 mod suite;
 
-pub use cut::{add_running, put_running};
+pub use cut::add_running;
 pub use junit::{JunitFault, write_junit, write_suite};
 pub use page::{PageContents, write_page};
 pub use show::{show_cut, show_failures, show_report};

@@ -1,12 +1,11 @@
 //! Reads reports that are to be written in XML.
-ghost use Rattle.std.specs.Prelude.{◌≡◌, ◌<◌, ◌^◌, List, IfErr, IfOk, map, option_map};
-ghost use Rattle.mimic_printer.specs.Json.{Entry};
+ghost use Rattle.std.specs.Prelude.{◌≡◌, IfErr, IfOk, map};
 ghost use Rattle.mimic_events.specs.Contents.{entry_read};
-ghost use Rattle.mimic_events.specs.Inputs.{IsOfInput};
 ghost use Rattle.std.specs.List.{list_all, list_any};
 ghost use Rattle.mimic_reports.specs.declared.suite.SuiteEnding.TheVariants.{Unread};
 ghost use Rattle.mimic_reports.specs.declared.suite.SuiteFault.TheVariants.{OutOfMemory};
-ghost use Rattle.mimic_reports.specs.Suites.{IsReadFrom, KeepsAfter, KeepsBefore, KeepsRows, ReadsAgain, counts_in, has_failures, is_whole, numbers_counted, numbers_in, rows_counted, rows_kept, status_of};
+ghost use Rattle.mimic_reports.specs.Junit.{numbers_of};
+ghost use Rattle.mimic_reports.specs.Suites.{IsReadTo, KeepsAfter, KeepsBefore, has_failures, is_whole, status_of};
 
 use crate::junit_elements::Numbers;
 use mimic_events::{Ending, InputRows, ReadFault, Row, counts_of_rows};
@@ -17,11 +16,11 @@ use std::io::{ErrorKind, Read};
 use thiserror::Error;
 
 /// A report that was read, with the name of its program.
-#[derive(Drop)]
-pub struct Suite<'a, I: Read> {
+#[derive(Debug, Drop)]
+pub struct Suite<'a> {
     pub(crate) program: &'a str,
     pub(crate) ending: SuiteEnding,
-    pub(crate) rows: SuiteRows<I>,
+    pub(crate) rows: Vec<Row>,
 }
 
 /// How the reading of a report ended.
@@ -60,22 +59,16 @@ impl<T: Drop> From<AllocFailed<T>> for SuiteFault {
     }
 }
 
-// Where the rows of a report are.
-#[derive(Drop)]
-pub(crate) enum SuiteRows<I> {
-    // They are kept.
-    Kept(Vec<Row>),
-    // They are read again from this input. The outcomes were counted.
-    Again { input: I, counts: Conclusion },
-}
-
-impl<'a, I: Read + Drop> Suite<'a, I> {
-    /// Reads a report that can be read once only, and keeps its rows. Of what isn't a whole report these are the rows that have
-    /// ended, before the first line that no report has there. It fails only if the reader fails or there is no memory. With a fault
-    /// of the reader it returns the rows that had ended, for [`Suite::unread`].
-    pub fn kept(alloc: Global, program: &'a str, input: I) -> Result<Suite<'a, I>, SuiteFault>
-        ensures read { IfOk result (λ suite. (entries : List Entry)
-            × IsReadFrom (I.remaining input) suite entries × KeepsRows suite.rows entries
+impl<'a> Suite<'a> {
+    /// Reads a report, and keeps its rows. Of what isn't a whole report these are the rows that have ended, before the first line that
+    /// no report has there. It fails only if the reader fails or there is no memory. With a fault of the reader it returns the rows
+    /// that had ended, for [`Suite::unread`].
+    pub fn kept<I: Read + Drop>(
+        alloc: Global,
+        program: &'a str,
+        input: I,
+    ) -> Result<Suite<'a>, SuiteFault>
+        ensures read { IfOk result (λ suite. IsReadTo (I.remaining input) (map entry_read suite.rows.items) suite.ending
             × (suite.program.now ≡ program.now)) }
         ensures before { IfErr result (KeepsBefore (I.remaining input)) }
     {
@@ -88,7 +81,7 @@ impl<'a, I: Read + Drop> Suite<'a, I> {
                     return Ok(Suite {
                         program,
                         ending: SuiteEnding::Read(rows.finish()?),
-                        rows: SuiteRows::Kept(kept),
+                        rows: kept,
                     });
                 }
                 Err(fault) => return Err(SuiteFault::after(kept, fault)),
@@ -98,49 +91,16 @@ impl<'a, I: Read + Drop> Suite<'a, I> {
     }
 
     /// Makes a report of these rows, which couldn't be read on. The cause is as a user is to see it.
-    pub fn unread(program: &'a str, rows: Vec<Row>, cause: String) -> Suite<'a, I>
+    pub fn unread(program: &'a str, rows: Vec<Row>, cause: String) -> Suite<'a>
         ensures program { result.program.now ≡ program.now }
         ensures ending { result.ending ≡ Unread cause }
-        ensures rows { KeepsRows result.rows (map entry_read rows.items) }
+        ensures rows { result.rows ≡ rows }
     {
         Suite {
             program,
             ending: SuiteEnding::Unread(cause),
-            rows: SuiteRows::Kept(rows),
+            rows,
         }
-    }
-
-    /// Reads a report to its end, and keeps none of its rows: they are read from `again` when the report is written. It fails only
-    /// if the reader fails or there is no memory.
-    pub fn counted(
-        alloc: Global,
-        program: &'a str,
-        input: I,
-        again: I,
-    ) -> Result<Suite<'a, I>, ReadFault>
-        ensures read { IfOk result (λ suite. (entries : List Entry)
-            × IsReadFrom (I.remaining input) suite entries × ReadsAgain suite.rows again
-            × (suite.program.now ≡ program.now)) }
-        ensures fault { IfErr result IsOfInput }
-    {
-        let mut rows = InputRows::new(alloc, input)?;
-        let mut counts = Conclusion::empty(0);
-        for _ in 0..u64::MAX {
-            match rows.next_row()? {
-                Some(row) => counts.count(&row.outcome),
-                None => {
-                    return Ok(Suite {
-                        program,
-                        ending: SuiteEnding::Read(rows.finish()?),
-                        rows: SuiteRows::Again {
-                            input: again,
-                            counts,
-                        },
-                    });
-                }
-            }
-        }
-        Err(ReadFault::Input(ErrorKind::Other.into()))
     }
 }
 
@@ -161,7 +121,7 @@ impl SuiteFault {
     }
 }
 
-impl<I: Read> Suite<'_, I> {
+impl Suite<'_> {
     /// Returns how the reading of the report ended.
     pub fn ending(&self) -> &SuiteEnding
         ensures { result.now ≡ self.now.ending }
@@ -169,14 +129,11 @@ impl<I: Read> Suite<'_, I> {
         &self.ending
     }
 
-    /// Returns the rows, if they are kept.
-    pub fn rows(&self) -> Option<&[Row]>
-        ensures { option_map (λ rows. map entry_read rows.now) result ≡ rows_kept self.now.rows }
+    /// Returns the rows.
+    pub fn rows(&self) -> &[Row]
+        ensures { result.now ≡ self.now.rows.items }
     {
-        match &self.rows {
-            SuiteRows::Kept(rows) => Some(rows.as_slice()),
-            SuiteRows::Again { .. } => None,
-        }
+        self.rows.as_slice()
     }
 
     // Whether the report has its end.
@@ -195,18 +152,31 @@ impl<I: Read> Suite<'_, I> {
 
     // Returns the numbers of the report.
     pub(crate) fn numbers(&self) -> Numbers
-        ensures { result ≡ numbers_in self.now }
+        ensures { result ≡ numbers_of self.now }
     {
-        match &self.rows {
-            SuiteRows::Kept(rows) => numbers_counted(&counts_of_rows(rows, 0), &self.ending),
-            SuiteRows::Again { input: _, counts } => numbers_counted(counts, &self.ending),
+        let counts = counts_of_rows(&self.rows, 0);
+        let (errors, nanos) = match &self.ending {
+            SuiteEnding::Read(
+                Ending::Whole {
+                    filtered_out: _,
+                    nanos,
+                },
+            ) => (0, *nanos),
+            SuiteEnding::Read(Ending::Cut(_)) | SuiteEnding::Unread(_) => (1, 0),
+        };
+        Numbers {
+            tests: self.rows.len() as u128 + errors,
+            failures: u128::from(counts.num_failed),
+            errors,
+            skipped: u128::from(counts.num_ignored),
+            nanos,
         }
     }
 }
 
 /// Returns the exit status of a program that goes by these reports: 1 if one of them isn't whole, else 101 if a trial of one failed, else
 /// 0.
-pub fn status_of<I: Read>(suites: &[Suite<'_, I>]) -> u8
+pub fn status_of(suites: &[Suite<'_>]) -> u8
     ensures { result ≡ status_of suites.now }
 {
     match (are_whole(suites), have_failures(suites)) {
@@ -216,46 +186,14 @@ pub fn status_of<I: Read>(suites: &[Suite<'_, I>]) -> u8
     }
 }
 
-fn are_whole<I: Read>(suites: &[Suite<'_, I>]) -> bool
+fn are_whole(suites: &[Suite<'_>]) -> bool
     ensures { result ≡ list_all is_whole suites.now }
 {
     suites.iter().all(|suite| suite.is_whole())
 }
 
-fn have_failures<I: Read>(suites: &[Suite<'_, I>]) -> bool
+fn have_failures(suites: &[Suite<'_>]) -> bool
     ensures { result ≡ list_any has_failures suites.now }
 {
     suites.iter().any(|suite| suite.has_failures())
-}
-
-// Returns the numbers of a report whose outcomes were counted.
-pub(crate) fn numbers_counted(counts: &Conclusion, ending: &SuiteEnding) -> Numbers
-    ensures { result ≡ numbers_counted counts.now ending.now }
-{
-    let (errors, nanos) = match ending {
-        SuiteEnding::Read(
-            Ending::Whole {
-                filtered_out: _,
-                nanos,
-            },
-        ) => (0, *nanos),
-        SuiteEnding::Read(Ending::Cut(_)) | SuiteEnding::Unread(_) => (1, 0),
-    };
-    Numbers {
-        tests: rows_counted(counts) + errors,
-        failures: u128::from(counts.num_failed),
-        errors,
-        skipped: u128::from(counts.num_ignored),
-        nanos,
-    }
-}
-
-// Returns how many rows were counted.
-pub(crate) fn rows_counted(counts: &Conclusion) -> u128
-    ensures count { result ≡ rows_counted counts.now }
-    ensures fits { result < 2 ^ 66 }
-{
-    let (passed, failed) = (counts.num_passed, counts.num_failed);
-    let (ignored, measured) = (counts.num_ignored, counts.num_measured);
-    u128::from(passed) + (u128::from(failed) + (u128::from(ignored) + u128::from(measured)))
 }

@@ -1,4 +1,5 @@
 //! Where a report is read from.
+use mimic_reports::{Suite, SuiteFault};
 use std::alloc::{AllocError, Global};
 use std::fs::File;
 use std::io::{ErrorKind, Read, Stdin};
@@ -133,6 +134,21 @@ pub(crate) fn name_of(file: &str) -> &str {
         return NAMELESS;
     }
     Path::new(file).file_stem().unwrap_or(file)
+}
+
+/// Reads the report of this program, or what can be read of it.
+pub(crate) fn read_suite<'a>(
+    alloc: Global,
+    program: &'a str,
+    input: Input<'_>,
+) -> Result<Suite<'a>, SuiteFault> {
+    match Suite::kept(alloc, program, input) {
+        Err(SuiteFault::Input { rows, error }) => {
+            let cause = format!(in alloc; "{error}")?;
+            Ok(Suite::unread(program, rows, cause))
+        }
+        read => read,
+    }
 }
 
 impl Read for Input<'_> {

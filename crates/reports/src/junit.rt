@@ -1,18 +1,16 @@
 //! Prints reports as JUnit's XML.
 use crate::faults::{refuse, refuse_all, refuse_write};
-use crate::input::{Input, STANDARD, name_of};
+use crate::input::{Input, STANDARD, name_of, read_suite};
 use crate::line::{Junit, Root};
 use crate::{BLOCK, SUCCESS};
 use mimic_events::{Ending, ReadFault};
 use mimic_printer::Sink;
-use mimic_reports::{
-    JunitFault, Suite, SuiteEnding, SuiteFault, status_of, write_junit, write_suite,
-};
+use mimic_reports::{JunitFault, Suite, SuiteEnding, status_of, write_junit, write_suite};
 use std::alloc::Global;
 use std::fs;
 use std::io::{BufWriter, Write};
 
-// How many bytes a report may have that can be read only once, since its rows are kept.
+// How many bytes a report may have that is no regular file, since its rows are kept.
 const KEPT_BYTES: u64 = 256 << 20;
 
 // Prints the document of all reports, with what could be read of them. It also prints why a report is cut or could not be read. The
@@ -26,8 +24,7 @@ pub(crate) fn run(rt: &HostRuntime, alloc: Global, junit: &Junit) -> u8 {
             Some(name) => name.as_str(),
             None => name_of(file),
         };
-        // A place among the suites is one among the files.
-        match read(rt, alloc, name, file) {
+        match read_suite(alloc, name, input_of(rt, file)) {
             Ok(suite) => {
                 status = status.max(status_of_suite(rt, file, &suite));
                 if suites.push(suite).is_err() {
@@ -43,14 +40,15 @@ pub(crate) fn run(rt: &HostRuntime, alloc: Global, junit: &Junit) -> u8 {
     let Ok(out) = BufWriter::with_capacity(alloc, BLOCK, rt.stdout()) else {
         return refuse_all(rt, &ReadFault::OutOfMemory);
     };
-    match write(alloc, junit.root, suites, out) {
+    match write(junit.root, suites.as_slice(), out) {
         Ok(()) => status,
-        Err(fault) => refuse_at(rt, &junit.files, &fault),
+        Err(JunitFault::Write(fault)) => refuse_write(rt, &fault),
+        Err(fault) => refuse_all(rt, &fault),
     }
 }
 
 // Prints why a report isn't whole, and returns the status.
-fn status_of_suite(rt: &HostRuntime, file: &str, suite: &Suite<'_, Input<'_>>) -> u8 {
+fn status_of_suite(rt: &HostRuntime, file: &str, suite: &Suite<'_>) -> u8 {
     match suite.ending() {
         SuiteEnding::Read(Ending::Whole { .. }) => SUCCESS,
         SuiteEnding::Read(Ending::Cut(stop)) => refuse(rt, file, stop),
@@ -59,61 +57,24 @@ fn status_of_suite(rt: &HostRuntime, file: &str, suite: &Suite<'_, Input<'_>>) -
 }
 
 // Writes the document of the reports, or of the one that there is if its element is to be the root.
-fn write<W: Write + Drop>(
-    alloc: Global,
-    root: Root,
-    suites: Vec<Suite<'_, Input<'_>>>,
-    out: W,
-) -> Result<(), JunitFault> {
+fn write<W: Write + Drop>(root: Root, suites: &[Suite<'_>], out: W) -> Result<(), JunitFault> {
     let mut sink = Sink::new(out);
     if root == Root::Testsuites {
-        return write_junit(alloc, suites, &mut sink);
+        return write_junit(suites, &mut sink);
     }
-    let mut suites = suites;
-    match suites.pop() {
-        Some(suite) => write_suite(alloc, suite, &mut sink),
-        // A line names at least one file.
-        None => Ok(()),
+    // With this root a line names one file.
+    for suite in suites {
+        write_suite(suite, &mut sink)?;
     }
+    Ok(())
 }
 
-// Prints why the document has no end, and returns the status.
-fn refuse_at(rt: &HostRuntime, files: &[String], fault: &JunitFault) -> u8 {
-    if let JunitFault::Write(fault) = fault {
-        return refuse_write(rt, fault);
-    }
-    match fault.place() {
-        Some(place) => {
-            let file = files.get(place).map_or(STANDARD, |file| file.as_str());
-            refuse(rt, file, fault)
-        }
-        None => refuse_all(rt, fault),
-    }
-}
-
-// Reads a report, or what can be read of it. A regular file is read again when its report is written, so its rows are not kept.
-fn read<'a>(
-    rt: &'a HostRuntime,
-    alloc: Global,
-    name: &'a str,
-    file: &'a str,
-) -> Result<Suite<'a, Input<'a>>, SuiteFault> {
-    let mut limit = KEPT_BYTES;
+// The report of this name. One that is no regular file may never end.
+fn input_of<'a>(rt: &'a HostRuntime, file: &'a str) -> Input<'a> {
     if file != STANDARD && is_regular(rt, file) {
-        let (input, again) = (Input::new(rt, file), Input::new(rt, file));
-        if let Ok(suite) = Suite::counted(alloc, name, input, again) {
-            return Ok(suite);
-        }
-        // It is read once more, and what can be read of it is kept.
-        limit = u64::MAX;
-    }
-    match Suite::kept(alloc, name, Input::limited(rt, file, limit)) {
-        Ok(suite) => Ok(suite),
-        Err(SuiteFault::OutOfMemory) => Err(SuiteFault::OutOfMemory),
-        Err(SuiteFault::Input { rows, error }) => {
-            let cause = format!(in alloc; "{error}")?;
-            Ok(Suite::unread(name, rows, cause))
-        }
+        Input::new(rt, file)
+    } else {
+        Input::limited(rt, file, KEPT_BYTES)
     }
 }
 

@@ -1,49 +1,28 @@
 //! Prints a report as a page of HTML.
 use crate::faults::{refuse, refuse_all, refuse_write};
-use crate::input::{Input, name_of};
+use crate::input::{Input, name_of, read_suite};
 use crate::line::Page;
 use crate::{BLOCK, SUCCESS};
 use mimic_events::{Ending, ReadFault};
 use mimic_printer::Sink;
-use mimic_reports::{PageContents, Suite, SuiteEnding, SuiteFault, write_page};
+use mimic_reports::{PageContents, Suite, SuiteEnding, write_page};
 use std::alloc::Global;
 use std::io::BufWriter;
 
 // Prints the page of what could be read of the file's report, and why it is cut or could not be read to its end.
 pub(crate) fn run(rt: &HostRuntime, alloc: Global, page: &Page) -> u8 {
-    let suite = match read(rt, alloc, page) {
+    let file = page.file.as_str();
+    let suite = match read_suite(alloc, name_of(file), Input::new(rt, file)) {
         Ok(suite) => suite,
-        Err(fault) => return refuse(rt, page.file.as_str(), &fault),
+        Err(fault) => return refuse(rt, file, &fault),
     };
     match print(rt, alloc, page, &suite) {
-        Ok(()) => status_of(rt, page.file.as_str(), suite.ending()),
+        Ok(()) => status_of(rt, file, suite.ending()),
         Err(status) => status,
     }
 }
 
-// Reads the report, or what can be read of it.
-fn read<'a>(
-    rt: &'a HostRuntime,
-    alloc: Global,
-    page: &'a Page,
-) -> Result<Suite<'a, Input<'a>>, SuiteFault> {
-    let file = page.file.as_str();
-    match Suite::kept(alloc, name_of(file), Input::new(rt, file)) {
-        Ok(suite) => Ok(suite),
-        Err(SuiteFault::OutOfMemory) => Err(SuiteFault::OutOfMemory),
-        Err(SuiteFault::Input { rows, error }) => {
-            let cause = format!(in alloc; "{error}")?;
-            Ok(Suite::unread(name_of(file), rows, cause))
-        }
-    }
-}
-
-fn print(
-    rt: &HostRuntime,
-    alloc: Global,
-    page: &Page,
-    suite: &Suite<'_, Input<'_>>,
-) -> Result<(), u8> {
+fn print(rt: &HostRuntime, alloc: Global, page: &Page, suite: &Suite<'_>) -> Result<(), u8> {
     let Ok(out) = BufWriter::with_capacity(alloc, BLOCK, rt.stdout()) else {
         return Err(refuse_all(rt, &ReadFault::OutOfMemory));
     };
@@ -53,8 +32,7 @@ fn print(
             None => name_of(page.file.as_str()),
         },
         notes: page.notes.as_slice(),
-        // The rows were kept.
-        rows: suite.rows().unwrap_or(&[]),
+        rows: suite.rows(),
         ending: suite.ending(),
         most: page.most,
     };

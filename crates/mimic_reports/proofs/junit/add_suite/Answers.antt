@@ -1,0 +1,12 @@
+use Rattle.std.proofs.Common.{[], codes}
+use Rattle.mimic_printer.proofs.Adding.{adds_nothing, adds_then}
+use Rattle.mimic_reports.specs.Junit.{suite_text}
+use Rattle.mimic_reports.proofs.junit.add_suite.Goals as goal
+
+pub returns : goal.returns
+unfolding suite_text
+returns g c =
+    let start = rw c.numbers.ensures at c.add_suite_start.ensures in
+    let rows = rw c.rows-rows.ensures at c.add_rows.ensures in
+    let ending = rw c.rows-rows.ensures at c.add_ending.ensures in
+    adds_then _ _ start (adds_then _ _ rows (adds_then _ _ ending (adds_then (codes "  </testsuite>\n") [] c.add.ensures (adds_nothing _))))

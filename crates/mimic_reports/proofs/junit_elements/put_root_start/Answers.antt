@@ -1,7 +1,0 @@
-use Rattle.std.proofs.Common.{append_assoc}
-use Rattle.mimic_reports.specs.Junit.{root_start}
-use Rattle.mimic_reports.proofs.junit_elements.put_root_start.Goals as goal
-
-pub returns : goal.returns
-unfolding root_start
-returns g c = rw (← c.rounded_pieces.ensures, append_assoc, append_assoc, append_assoc) c.put_pieces.ensures
