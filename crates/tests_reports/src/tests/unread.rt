@@ -9,7 +9,7 @@ use std::io::ErrorKind;
 use std::test::Fail;
 
 // Returns the report of the program `a` whose reader fails after the text.
-fn unread<'a>(alloc: Global, text: &'a str) -> Result<Suite<'a, Slow<'a>>, Fail> {
+fn unread(alloc: Global, text: &str) -> Result<Suite<'static>, Fail> {
     let mut input = Slow::of(text);
     input.fails = Some(ErrorKind::TimedOut);
     match Suite::kept(alloc, "a", input) {
@@ -26,7 +26,7 @@ fn junit_of(alloc: Global, lines: &[&str]) -> Result<String, Fail> {
     let text = text_of(alloc, lines)?;
     let suites = vec![in alloc; unread(alloc, text.as_str())?, unread(alloc, "")?]?;
     let mut sink = Sink::new(Vec::new(alloc));
-    write_junit(alloc, suites, &mut sink)?;
+    write_junit(&suites, &mut sink)?;
     Ok(String::from_utf8(sink.into_inner())?)
 }
 
@@ -89,7 +89,7 @@ fn writes_unread_reports(rt: HostRuntime) -> Result<(), Fail> {
 fn writes_an_unread_report_alone(rt: HostRuntime) -> Result<(), Fail> {
     let alloc = rt.alloc();
     let mut sink = Sink::new(Vec::new(alloc));
-    write_suite(alloc, unread(alloc, "")?, &mut sink)?;
+    write_suite(&unread(alloc, "")?, &mut sink)?;
     let text = String::from_utf8(sink.into_inner())?;
     let expected = format!(in alloc;
         "<?xml version=\"1.0\" encoding=\"UTF-8\"?>\n{EMPTY}{ERROR}  </testsuite>\n"

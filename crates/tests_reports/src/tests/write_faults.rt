@@ -40,7 +40,6 @@ enum Call {
     Failures,
     Page,
     Junit,
-    JunitAgain,
     JunitAlone,
     Slowest,
     Comparison,
@@ -50,7 +49,7 @@ enum Call {
     LiveWatch,
 }
 
-static CALLS: [Call; 21] = [
+static CALLS: [Call; 20] = [
     Call::Pieces,
     Call::LongPieces,
     Call::Escaped,
@@ -64,7 +63,6 @@ static CALLS: [Call; 21] = [
     Call::Failures,
     Call::Page,
     Call::Junit,
-    Call::JunitAgain,
     Call::JunitAlone,
     Call::Slowest,
     Call::Comparison,
@@ -95,20 +93,6 @@ fn report(alloc: Global) -> Result<Report, Fail> {
     Ok(read_from(alloc, &mut Slow::of(text.as_str()))?)
 }
 
-// Reads the suite, whose rows are kept, or read again when it is written.
-fn suites_of<'a>(
-    alloc: Global,
-    text: &'a str,
-    again: bool,
-) -> Result<Vec<Suite<'a, Slow<'a>>>, Fail> {
-    let suite = if again {
-        Suite::counted(alloc, "a", Slow::of(text), Slow::of(text))?
-    } else {
-        Suite::kept(alloc, "a", Slow::of(text))?
-    };
-    Ok(vec![in alloc; suite]?)
-}
-
 // What a call wrote, and the text of the fault.
 type Written = Result<(FaultyWriter, Option<String>), Fail>;
 
@@ -123,11 +107,17 @@ macro_rules! written {
 }
 
 fn pieces(alloc: Global, pieces: &[Piece<'_>], writer: FaultyWriter) -> Written {
-    written!(alloc, writer, sink => { add_pieces(&mut sink, pieces); sink.end() })
+    written!(alloc, writer, sink => {
+        add_pieces(&mut sink, pieces);
+        sink.end()
+    })
 }
 
 fn escaped(alloc: Global, writer: FaultyWriter) -> Written {
-    written!(alloc, writer, sink => { add_escaped(&mut sink, b"a\x1bb\x1bc", Place::Terminal); sink.end() })
+    written!(alloc, writer, sink => {
+        add_escaped(&mut sink, b"a\x1bb\x1bc", Place::Terminal);
+        sink.end()
+    })
 }
 
 // The rows of a report that is cut, and how far it goes.
@@ -141,12 +131,18 @@ fn cut(alloc: Global, lines: &[&str]) -> Result<(Vec<Row>, Stop), Fail> {
 
 fn extent(alloc: Global, writer: FaultyWriter) -> Written {
     let (_, stop) = cut(alloc, &["what\n"])?;
-    written!(alloc, writer, sink => { stop.add_extent(&mut sink, 0); sink.end() })
+    written!(alloc, writer, sink => {
+        stop.add_extent(&mut sink, 0);
+        sink.end()
+    })
 }
 
 fn running(alloc: Global, writer: FaultyWriter) -> Written {
     let (_, stop) = cut(alloc, KILLED)?;
-    written!(alloc, writer, sink => { add_running(&mut sink, Place::Line, &stop); sink.end() })
+    written!(alloc, writer, sink => {
+        add_running(&mut sink, Place::Line, &stop);
+        sink.end()
+    })
 }
 
 fn whole(alloc: Global, writer: FaultyWriter) -> Written {
@@ -194,14 +190,14 @@ fn page(alloc: Global, writer: FaultyWriter) -> Written {
     written!(alloc, writer, sink => write_page(&contents, &mut sink))
 }
 
-fn junit(alloc: Global, text: &str, again: bool, writer: FaultyWriter) -> Written {
-    let suites = suites_of(alloc, text, again)?;
-    written!(alloc, writer, sink => write_junit(alloc, suites, &mut sink))
+fn junit(alloc: Global, text: &str, writer: FaultyWriter) -> Written {
+    let suites = vec![in alloc; Suite::kept(alloc, "a", Slow::of(text))?]?;
+    written!(alloc, writer, sink => write_junit(&suites, &mut sink))
 }
 
 fn alone(alloc: Global, text: &str, writer: FaultyWriter) -> Written {
     let suite = Suite::kept(alloc, "a", Slow::of(text))?;
-    written!(alloc, writer, sink => write_suite(alloc, suite, &mut sink))
+    written!(alloc, writer, sink => write_suite(&suite, &mut sink))
 }
 
 fn slowest(alloc: Global, writer: FaultyWriter) -> Written {
@@ -255,8 +251,7 @@ fn write(alloc: Global, call: Call, writer: FaultyWriter) -> Written {
         Call::ShownCut => shown_cut(alloc, writer),
         Call::Failures => failures(alloc, writer),
         Call::Page => page(alloc, writer),
-        Call::Junit => junit(alloc, text, false, writer),
-        Call::JunitAgain => junit(alloc, text, true, writer),
+        Call::Junit => junit(alloc, text, writer),
         Call::JunitAlone => alone(alloc, text, writer),
         Call::Slowest => slowest(alloc, writer),
         Call::Comparison => comparison(alloc, writer),
