@@ -1,6 +1,5 @@
 //! What a run is about, and its run into a buffered writer.
 ghost use Rattle.std.specs.Prelude.{◌≡◌, ◌≤◌, Err, IfErr, IfOk, IsNone, IsOk, IsSome, Ok};
-ghost use Rattle.mimic_printer.specs.Sink.{HasFaultLeft};
 ghost use Rattle.mimic_printer.specs.declared.sink.WriteFault.TheVariants.{Error};
 ghost use Rattle.libtest_mimic.specs.declared.running.RunError.TheVariants.{Write};
 ghost use Rattle.libtest_mimic.specs.Run.{done};
@@ -85,40 +84,6 @@ impl<'a, R: Task + Send + 'static, C: Clock> Job<'a, R, C> {
             }
         }
     }
-
-    // Runs or lists its trials, which come to workers as it says, and returns the watch over its clock that measured the time.
-    fn run_to_sink<W: Write, T: Spawner + 'static>(
-        self,
-        rt: &T,
-        alloc: Global,
-        sink: &mut Sink<W>,
-    ) -> (Stopwatch<C>, Result<Conclusion, RunError>)
-        requires room { HasFaultLeft sink.old }
-        requires runnable { AllCanRun R.can_run self.tests.items }
-        requires some_thread { 1 ≤ self.default_threads }
-        ensures left { Left (asked_by R.gives self.entry) (done W.contents sink.old sink.new result.0 result.1) }
-        ensures lawful { IfOk result.1 (IsLawful (asked_by R.gives self.entry)) }
-    {
-        let Job {
-            args,
-            tests,
-            clock,
-            default_threads,
-            auto_colours,
-            schedule,
-            running,
-        } = self;
-        let mut watch = Stopwatch::new(clock);
-        let request = Request {
-            args,
-            default_threads,
-            auto_colours,
-            schedule,
-            running,
-        };
-        let ran = run_as(rt, alloc, request, tests, sink, &mut watch);
-        (watch, ran)
-    }
 }
 
 /// Runs or lists the trials of the job, writes out what the buffer holds at the end, and gives the writer back, and the watch over
@@ -139,8 +104,25 @@ pub fn run_into<R: Task + Send + 'static, W: Write, C: Clock, T: Spawner + 'stat
         (GotBeginning (asked_by R.gives job.entry) (given_to W.contents output) (W.contents result.0) result.1) }
     ensures lawful { IfOk result.2 (IsLawful (asked_by R.gives job.entry)) }
 {
+    let Job {
+        args,
+        tests,
+        clock,
+        default_threads,
+        auto_colours,
+        schedule,
+        running,
+    } = job;
+    let request = Request {
+        args,
+        default_threads,
+        auto_colours,
+        schedule,
+        running,
+    };
     let mut sink = Sink::new(output);
-    let (watch, ran) = job.run_to_sink(rt, alloc, &mut sink);
+    let mut watch = Stopwatch::new(clock);
+    let ran = run_as(rt, alloc, request, tests, &mut sink, &mut watch);
     let (writer, finished) = sink.into_inner().finish();
     (writer, watch, settled(ran, finished))
 }
