@@ -1,5 +1,5 @@
 -- Reports that were read to be written in XML, and what a call that writes them leaves.
-use Rattle.std.specs.Prelude.{◌≡◌, ℕ, Bool, true, false, nat_lt, if◌then◌else◌, ◌≤◌, ◌⊎◌, ◌^◌, List, map, Option, IfSome, Result, Ok, Err, ⊤}
+use Rattle.std.specs.Prelude.{◌≡◌, ℕ, Bool, true, false, nat_lt, if◌then◌else◌, ◌<◌, ◌≤◌, ◌⊎◌, ◌^◌, List, map, Option, IfSome, Result, Ok, Err, ⊤}
 use Rattle.std.specs.List.{list_all, list_any}
 use Rattle.mimic_printer.specs.Json.{Entry}
 use Rattle.mimic_printer.specs.Sink.{Put, Shown, Stopped}
@@ -61,13 +61,17 @@ KeepsAfter rows (unread.Input kept error) = kept ≡ rows
 abbrev pub IsTooGreat : Numbers → Type 0
 IsTooGreat n = (2 ^ 128 ≤ n.tests) ⊎ (2 ^ 128 ≤ n.failures) ⊎ (2 ^ 128 ≤ n.errors) ⊎ (2 ^ 128 ≤ n.skipped) ⊎ (2 ^ 64 ≤ n.nanos)
 
--- what is left of these reports by a call that could not write them: nothing if their numbers together are too great, and after a
--- fault of the writer a beginning of their document
+-- all numbers fit
+abbrev pub AreFitting : Numbers → Type 0
+AreFitting n = (n.tests < 2 ^ 128) × (n.failures < 2 ^ 128) × (n.errors < 2 ^ 128) × (n.skipped < 2 ^ 128) × (n.nanos < 2 ^ 64)
+
+-- what is left of these reports by a call that could not write them: nothing if their numbers together are too great, and else, after a
+-- fault of the writer, a beginning of their document
 abbrev pub DocumentLeftBy : List Suite → Shown → Shown → JunitFault → Type 0
 DocumentLeftBy suites old new junit.TooMany = IsTooGreat (total (map numbers_of suites)) × (new ≡ old)
-DocumentLeftBy suites old new (junit.Write fault) = Stopped old new (junit_text suites)
+DocumentLeftBy suites old new (junit.Write fault) = AreFitting (total (map numbers_of suites)) × Stopped old new (junit_text suites)
 
 -- what a call that writes these reports leaves: the document of all of them, in their order
 abbrev pub LeavesDocument : List Suite → Shown → Shown → Result (Unit {0}) JunitFault → Type 0
-LeavesDocument suites old new (Ok done) = Put old new (junit_text suites)
+LeavesDocument suites old new (Ok done) = AreFitting (total (map numbers_of suites)) × Put old new (junit_text suites)
 LeavesDocument suites old new (Err fault) = DocumentLeftBy suites old new fault

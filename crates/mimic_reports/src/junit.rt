@@ -4,7 +4,7 @@ ghost use Rattle.std.specs.List.{flat_map};
 ghost use Rattle.mimic_printer.specs.Sink.{Adds, HasFaultLeft, Puts, shown};
 ghost use Rattle.mimic_events.specs.Contents.{entry_read};
 ghost use Rattle.mimic_reports.specs.Junit.{alone_text, case_text, ending_text, numbers_of, suite_text, total};
-ghost use Rattle.mimic_reports.specs.Suites.{IsTooGreat, LeavesDocument};
+ghost use Rattle.mimic_reports.specs.Suites.{AreFitting, IsTooGreat, LeavesDocument};
 ghost use Rattle.mimic_printer.specs.EscapeLaws.{EscapeLaws};
 ghost use Rattle.mimic_reports.specs.declared.junit.JunitFault.TheVariants.{Write as WriteStopped};
 
@@ -31,7 +31,7 @@ pub enum JunitFault {
 // Returns the numbers of all reports together.
 fn total_of(suites: &[Suite<'_>]) -> Option<Numbers>
     ensures { MatchOption result (IsTooGreat (total (map numbers_of suites.now)))
-        (λ numbers. numbers ≡ total (map numbers_of suites.now)) }
+        (λ numbers. (numbers ≡ total (map numbers_of suites.now)) × AreFitting numbers) }
 {
     let mut all = Numbers {
         tests: 0,

@@ -203,12 +203,12 @@ pub(crate) fn add_unread<'a, W: Write>(sink: &mut Sink<W>, program: &'a str, cau
 impl Numbers {
     ghost use Rattle.std.specs.Prelude.{◌≡◌, MatchOption};
     ghost use Rattle.mimic_reports.specs.Junit.{added};
-    ghost use Rattle.mimic_reports.specs.Suites.{IsTooGreat};
+    ghost use Rattle.mimic_reports.specs.Suites.{AreFitting, IsTooGreat};
 
     // Returns the sums of both, and `None` if one doesn't fit.
     pub(crate) fn plus(&self, other: &Numbers) -> Option<Numbers>
         ensures { MatchOption result (IsTooGreat (added self.now other.now))
-            (λ numbers. numbers ≡ added self.now other.now) }
+            (λ numbers. (numbers ≡ added self.now other.now) × AreFitting numbers) }
     {
         Some(Numbers {
             tests: self.tests.checked_add(other.tests)?,
