@@ -90,11 +90,3 @@ abbrev pub wholes_in : ShardRead → List Report
 wholes_in (Whole report) = report ∷ []
 wholes_in (Cut rows stop) = []
 wholes_in (Unreadable error) = []
-
--- what a cut report of these leaves
-abbrev pub LeavesCutText : {T : Type 0} → List ShardRead → Shown → Shown → Result T JoinFault → Type 0
-LeavesCutText reads old new (Ok written) = Put old new (cut_text reads)
-LeavesCutText reads old new (Err fault.OutOfMemory) = new ≡ old
-LeavesCutText reads old new (Err (fault.Input place why)) = ⊥
-LeavesCutText reads old new (Err (fault.Refused refusal)) = ⊥
-LeavesCutText reads old new (Err (fault.Write error)) = Stopped old new (cut_text reads)

@@ -1,9 +1,9 @@
 //! Joins what can be read of the reports of shards, some of which may be cut.
-ghost use Rattle.std.specs.Prelude.{◌≡◌, ◌-◌, ◌^◌, ◌<◌, [], IfOk, MatchOption, length, map, min, sum};
+ghost use Rattle.std.specs.Prelude.{◌≡◌, ◌-◌, ◌^◌, ◌<◌, [], IfOk, MatchOption, MatchResult, length, map, min, sum};
 ghost use Rattle.std.specs.List.{flat_map, list_all};
 ghost use Rattle.std.specs.Option.{option_to_list};
-ghost use Rattle.mimic_printer.specs.Sink.{HasFaultLeft, shown};
-ghost use Rattle.mimic_join.specs.Cut.{AreReadOf, IsReadOf, LeavesCut, LeavesCutText, ended_rows, is_whole, title_in, titles_in, wholes_in};
+ghost use Rattle.mimic_printer.specs.Sink.{Adds, HasFaultLeft, shown};
+ghost use Rattle.mimic_join.specs.Cut.{AreReadOf, IsReadOf, LeavesCut, cut_text, ended_rows, is_whole, title_in, titles_in, wholes_in};
 
 use crate::faults::JoinFault;
 use crate::inputs::write_joined;
@@ -45,6 +45,7 @@ pub enum Joined {
 /// seen then if a trial is in two of the reports, or if they can't be those of shards of one list.
 ///
 /// A reader that fails counts as one without a title: the rows that it gave before are lost.
+#[tactic(auto, using(mimic_printer::proofs::Adding::puts_added))]
 pub fn join_cut_reports<I: Read + Drop, O: Write>(
     alloc: Global,
     inputs: Vec<I>,
@@ -58,7 +59,8 @@ pub fn join_cut_reports<I: Read + Drop, O: Write>(
 {
     let reads = read_all(alloc, inputs)?;
     if reads.len() < shards || !are_whole(&reads) {
-        write_cut(alloc, &reads, sink)?;
+        add_cut(alloc, &reads, sink)?;
+        sink.end()?;
         return Ok(Joined::Cut(reads));
     }
     let reports = wholes_of(alloc, reads)?;
@@ -163,14 +165,13 @@ fn wholes_of(alloc: Global, reads: Vec<ShardRead>) -> Result<Vec<Report>, AllocE
     Ok(reports)
 }
 
-// Writes a cut report of what was read, and flushes it.
-fn write_cut<W: Write>(
+// Adds a cut report of what was read, and a flush behind it.
+fn add_cut<W: Write>(
     alloc: Global,
     reads: &[ShardRead],
     sink: &mut Sink<W>,
-) -> Result<(), JoinFault>
-    requires { HasFaultLeft sink.old }
-    ensures { LeavesCutText reads.now (shown W.contents sink.old) (shown W.contents sink.new) result }
+) -> Result<(), AllocError>
+    ensures { MatchResult result (λ _. Adds W.contents sink.old sink.new (cut_text reads.now)) (λ _. sink.new ≡ sink.old) }
 {
     let rows = ended_in_turn(alloc, reads)?;
     let Some(announced) = announced_together(reads) else {
@@ -179,7 +180,6 @@ fn write_cut<W: Write>(
     add_title(sink, announced);
     add_rows(sink, rows.as_slice());
     sink.add_flush();
-    sink.end()?;
     Ok(())
 }
 
