@@ -1,8 +1,8 @@
 //! Shows a report as it comes.
-ghost use Rattle.std.specs.Prelude.{◌≡◌, ◌++◌, IfOk, MatchResult, OnOk};
-ghost use Rattle.mimic_printer.specs.Sink.{HasFaultLeft, LeavesText, Puts, shown};
+ghost use Rattle.std.specs.Prelude.{◌≡◌, IfOk, MatchResult, OnOk};
+ghost use Rattle.mimic_printer.specs.Sink.{Adds, HasFaultLeft, shown};
 ghost use Rattle.mimic_watch.specs.Frames.{FirstLinesFit, SecondLinesFit};
-ghost use Rattle.mimic_watch.specs.Watched.{HasFailed, HasWatched, failures_part, last_text, summary_text};
+ghost use Rattle.mimic_watch.specs.Watched.{HasFailed, HasWatched, failures_part, last_text};
 ghost use Rattle.mimic_watch.specs.Viewers.{put_text};
 
 use crate::frame::{ERASE, Screen, View, drawn_text};
@@ -10,7 +10,7 @@ use crate::pace::{Pace, nanos};
 use crate::row::{push_failed_line, push_row};
 use crate::verdict::{WatchFault, WatchVerdict};
 use mimic_events::{Ending, Follower, PIECE, ReadFault, Row, read_piece};
-use mimic_printer::{OutputFault, Printer, Sink, WriteFault};
+use mimic_printer::{OutputFault, Printer, Sink};
 use mimic_trial::{Conclusion, FormatSetting, Outcome};
 use std::alloc::{AllocError, Global};
 use std::io::{ErrorKind, Read, Write};
@@ -236,7 +236,10 @@ impl Viewer {
             return Ok(());
         };
         let erases = self.screen.live && !self.waiting.is_empty();
-        put_moment(sink, &mut self.text, erases, &self.waiting, &drawn)?;
+        set_moment(&mut self.text, erases, &self.waiting, &drawn)?;
+        sink.add(&self.text);
+        sink.add_flush();
+        sink.end()?;
         self.waiting.clear();
         Ok(())
     }
@@ -265,8 +268,11 @@ impl Viewer {
         let mut text = text;
         let ending = Ending::of(alloc, follower)?;
         let verdict = WatchVerdict::new(counts, ending);
-        put_moment(sink, &mut text, screen.live, &waiting, b"")?;
-        put_last(sink, screen.colours, &failed, &verdict)?;
+        set_moment(&mut text, screen.live, &waiting, b"")?;
+        sink.add(&text);
+        sink.add_flush();
+        add_last(sink, screen.colours, &failed, &verdict);
+        sink.end()?;
         Ok(verdict)
     }
 }
@@ -277,23 +283,6 @@ fn cells(ended: u64, rows: u64) -> usize {
         return 0;
     }
     (u128::from(ended) * 6 / u128::from(rows)).min(6) as usize
-}
-
-// Puts the text of a moment at once.
-fn put_moment<W: Write>(
-    sink: &mut Sink<W>,
-    text: &mut Vec<u8>,
-    erases: bool,
-    waiting: &[u8],
-    drawn: &[u8],
-) -> Result<(), OutputFault>
-    requires { HasFaultLeft sink.old }
-    ensures { LeavesText (put_text erases waiting.now drawn.now)
-        (shown W.contents sink.old) (shown W.contents sink.new) result }
-{
-    set_moment(text, erases, waiting, drawn)?;
-    put_whole(sink, text)?;
-    Ok(())
 }
 
 // Makes the text that of a moment.
@@ -313,73 +302,30 @@ fn set_moment(
     text.extend_from_slice(drawn)
 }
 
-fn put_whole<W: Write>(sink: &mut Sink<W>, text: &[u8]) -> Result<(), WriteFault>
-    requires { HasFaultLeft sink.old }
-    ensures { Puts W.contents sink.old sink.new text.now result }
+// Adds of a whole report these lines, which name failures, and the summary.
+fn add_last<W: Write>(sink: &mut Sink<W>, colours: bool, lines: &[u8], verdict: &WatchVerdict)
+    ensures { Adds W.contents sink.old sink.new
+        (last_text colours (failures_part lines.now) verdict.now.counts verdict.now.ending) }
 {
-    sink.put(text)?;
-    sink.flush()
-}
-
-// Puts of a whole report these lines, which name failures, and the summary.
-fn put_last<W: Write>(
-    sink: &mut Sink<W>,
-    colours: bool,
-    lines: &[u8],
-    verdict: &WatchVerdict,
-) -> Result<(), WriteFault>
-    requires { HasFaultLeft sink.old }
-    ensures { Puts W.contents sink.old sink.new
-        (last_text colours (failures_part lines.now) verdict.now.counts verdict.now.ending) result }
-{
-    match &verdict.ending {
-        Ending::Whole { nanos, .. } => put_end(sink, colours, lines, &verdict.counts, *nanos),
-        Ending::Cut(_) => sink.put(b""),
+    if let Ending::Whole { nanos, .. } = &verdict.ending {
+        let printer = Printer {
+            format: FormatSetting::Pretty,
+            colour: colours,
+            name_width: 0,
+            kind_width: 0,
+        };
+        add_failures(sink, lines);
+        printer.add_summary(sink, &verdict.counts, *nanos);
+        sink.add_flush();
     }
 }
 
-fn put_end<W: Write>(
-    sink: &mut Sink<W>,
-    colours: bool,
-    lines: &[u8],
-    counts: &Conclusion,
-    nanos: u64,
-) -> Result<(), WriteFault>
-    requires { HasFaultLeft sink.old }
-    ensures { Puts W.contents sink.old sink.new
-        (failures_part lines.now ++ summary_text colours counts.now nanos) result }
+// Adds the lines, which name failures, under a heading, and nothing if there are none.
+fn add_failures<W: Write>(sink: &mut Sink<W>, lines: &[u8])
+    ensures { Adds W.contents sink.old sink.new (failures_part lines.now) }
 {
-    put_failures(sink, lines)?;
-    put_summary(sink, colours, counts, nanos)
-}
-
-// Puts the lines, which name failures, under a heading, and nothing if there are none.
-fn put_failures<W: Write>(sink: &mut Sink<W>, lines: &[u8]) -> Result<(), WriteFault>
-    requires { HasFaultLeft sink.old }
-    ensures { Puts W.contents sink.old sink.new (failures_part lines.now) result }
-{
-    if lines.is_empty() {
-        return sink.put(b"");
+    if !lines.is_empty() {
+        sink.add(b"\nfailures:\n");
+        sink.add(lines);
     }
-    sink.put(b"\nfailures:\n")?;
-    sink.put(lines)
-}
-
-fn put_summary<W: Write>(
-    sink: &mut Sink<W>,
-    colours: bool,
-    counts: &Conclusion,
-    nanos: u64,
-) -> Result<(), WriteFault>
-    requires { HasFaultLeft sink.old }
-    ensures { Puts W.contents sink.old sink.new (summary_text colours counts.now nanos) result }
-{
-    let printer = Printer {
-        format: FormatSetting::Pretty,
-        colour: colours,
-        name_width: 0,
-        kind_width: 0,
-    };
-    printer.print_summary(sink, counts, nanos)?;
-    sink.flush()
 }
