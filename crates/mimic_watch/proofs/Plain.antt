@@ -1,5 +1,5 @@
 -- Second lines: what they are made of, and how wide they are.
-use Rattle.std.proofs.Common.{◌≡◌, ℕ, zero, suc, add-one, ◌+◌, ◌-◌, ◌<◌, ◌≤◌, ◌||◌, min, Bool, true, false, nat_lt, not, if◌then◌else◌, Option, Some, None, List, [], ◌∷◌, ◌++◌, codes, drop, drop-cons, get_or, length, length-take, take, take-append-drop, refl, sym, ap, ◌∙◌, arith, append-nil}
+use Rattle.std.proofs.Common.{◌≡◌, ℕ, zero, suc, add-one, ◌+◌, ◌-◌, ◌<◌, ◌≤◌, ◌||◌, min, Bool, true, false, nat_lt, if◌then◌else◌, Option, Some, None, List, [], ◌∷◌, ◌++◌, codes, drop, drop-cons, get_or, length, length-take, take, take-append-drop, refl, sym, ap, ◌∙◌, arith, append-nil}
 use Rattle.std.specs.Prelude.{encode_utf8}
 use Rattle.std.specs.List.{AllByRecursion, list_any}
 use Rattle.std.proofs.lemmas.Bool.Decides.{nat_tests}
@@ -98,14 +98,6 @@ cut_none n cs is = ap (λ b. if b then marks (fitting (n - 2) cs) ++ points n el
 pub cut_some : (n : ℕ) (cs : List ℕ) → nat_lt n (columns_of cs) ≡ true → cut n cs ≡ marks (fitting (n - 2) cs) ++ points n
 unfolding cut
 cut_some n cs is = ap (λ b. if b then marks (fitting (n - 2) cs) ++ points n else marks cs) is
-
-pub turned : (b c : Bool) → c ≡ not b → c ≡ true → b ≡ false
-turned true c e f = absurd cc
-turned false c e f = refl
-
-pub turned_back : (b c : Bool) → c ≡ not b → c ≡ false → b ≡ true
-turned_back true c e f = refl
-turned_back false c e f = absurd cc
 
 -- ---- lines
 

@@ -122,14 +122,14 @@ waiting_line columns (Some label) quiet = waiting_front columns quiet
 unfoldable pub second_line : ℕ → Option Label → ℕ → List ℕ
 second_line columns running quiet = if nat_lt quiet 2 then [] else waiting_line columns running quiet
 
--- what a log's line has behind the first one: nothing, or what is waited for
-abbrev pub note_part : List ℕ → List ℕ
-note_part [] = []
-note_part (b ∷ second) = codes "; " ++ (b ∷ second)
+-- a text with this before it, and nothing for an empty text
+abbrev pub headed : List ℕ → List ℕ → List ℕ
+headed head [] = []
+headed head (b ∷ text) = head ++ (b ∷ text)
 
--- a log's line: the first line and the second in one
+-- a log's line: the first line and the second, if it isn't empty, in one
 unfoldable pub log_line : List ℕ → List ℕ → List ℕ
-log_line first second = first ++ (note_part second ++ codes "\n")
+log_line first second = first ++ (headed (codes "; ") second ++ codes "\n")
 
 -- the line has no more than these columns: printable characters of ASCII, marks, and points
 pub record FitsLine (columns : ℕ) (line : List ℕ) : Type 0 where

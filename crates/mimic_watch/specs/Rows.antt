@@ -1,5 +1,5 @@
 -- What is shown of a row.
-use Rattle.std.specs.Prelude.{ℕ, Bool, ◌-◌, ◌==◌, if◌then◌else◌, List, [], ◌∷◌, ◌++◌, length, take, codes, decimal, Option, Some, None}
+use Rattle.std.specs.Prelude.{ℕ, Bool, ◌-◌, ◌==◌, if◌then◌else◌, List, [], ◌++◌, length, take, codes, decimal, Option, Some, None}
 use Rattle.std.specs.List.{flat_map}
 use Rattle.std.specs.Str.Lines.{lines}
 use Rattle.mimic_trial.specs.declared.outcome.Outcome.{Outcome}
@@ -12,16 +12,12 @@ use Rattle.mimic_printer.specs.Json.{Entry}
 use Rattle.mimic_printer.specs.Report.{colour_end, colour_start, outcome_word}
 use Rattle.mimic_printer.specs.Row.{Label}
 use Rattle.mimic_printer.specs.Escapes.{escaped}
+use Rattle.mimic_printer.specs.Piece.{bracketed}
 use Rattle.mimic_printer.specs.declared.place.Place.TheVariants.{Terminal}
 
--- a kind in brackets, and nothing for an empty one
-abbrev pub kind_text : List ℕ → List ℕ
-kind_text [] = []
-kind_text (b ∷ kind) = codes "[" ++ (escaped Terminal (b ∷ kind) ++ codes "] ")
-
--- the kind, if there is one, and the name
-abbrev pub label_text : Label → List ℕ
-label_text label = kind_text label.kind ++ escaped Terminal label.name
+-- the kind, if there is one, the name, and what follows
+abbrev pub label_text : Label → List ℕ → List ℕ
+label_text label rest = bracketed Terminal label.kind ++ (escaped Terminal label.name ++ rest)
 
 -- a line of a message
 abbrev pub line_text : List ℕ → List ℕ
@@ -42,15 +38,9 @@ abbrev pub message_text : Option (List ℕ) → List ℕ
 message_text None = []
 message_text (Some message) = message_lines message
 
-abbrev pub average_text : ℕ → List ℕ
-average_text average = codes ": " ++ (grouped (decimal average) ++ codes " ns/iter")
-
-abbrev pub variance_text : ℕ → List ℕ
-variance_text variance = codes " (+/- " ++ (grouped (decimal variance) ++ codes ")\n")
-
 -- what was measured, and the end of the line
 abbrev pub measured_text : Measurement → List ℕ
-measured_text m = average_text m.avg ++ variance_text m.variance
+measured_text m = codes ": " ++ (grouped (decimal m.avg) ++ (codes " ns/iter (+/- " ++ (grouped (decimal m.variance) ++ codes ")\n")))
 
 -- how the harness prints, with colours or without
 abbrev pub printer_of : Bool → Printer
@@ -71,12 +61,12 @@ bench_word colours = word_text colours (Measured (record { avg = 0; variance = 0
 abbrev pub outcome_text : Bool → Label → Outcome → List ℕ
 outcome_text colours label Passed = []
 outcome_text colours label Ignored = []
-outcome_text colours label (Failed message) = failed_word colours ++ (codes " " ++ (label_text label ++ (codes "\n" ++ message_text message)))
-outcome_text colours label (Measured m) = bench_word colours ++ (codes "  " ++ (label_text label ++ measured_text m))
+outcome_text colours label (Failed message) = (failed_word colours ++ (codes " " ++ label_text label (codes "\n"))) ++ message_text message
+outcome_text colours label (Measured m) = bench_word colours ++ (codes "  " ++ label_text label (measured_text m))
 
 -- the line that names a row that failed, and nothing of others
 abbrev pub failed_line : Label → Outcome → List ℕ
-failed_line label (Failed message) = codes "    " ++ (label_text label ++ codes "\n")
+failed_line label (Failed message) = codes "    " ++ label_text label (codes "\n")
 failed_line label outcome = []
 
 -- a line for each row that failed

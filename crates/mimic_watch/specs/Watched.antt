@@ -1,5 +1,5 @@
 -- What a watch has seen and put.
-use Rattle.std.specs.Prelude.{◌≡◌, ◌⊎◌, ℕ, ◌∷◌, ◌++◌, codes, nat_lt, if◌then◌else◌, Bool, List, [], Option, IfSome}
+use Rattle.std.specs.Prelude.{◌≡◌, ◌⊎◌, ℕ, ◌++◌, codes, nat_lt, if◌then◌else◌, Bool, List, [], Option, IfSome}
 use Rattle.std.specs.Io.KnownBytes.{Consumes}
 use Rattle.mimic_trial.specs.declared.outcome.conclusion.Conclusion.{Conclusion}
 use Rattle.mimic_trial.specs.Count.{counts_of}
@@ -15,6 +15,7 @@ use Rattle.mimic_watch.specs.declared.frame.Screen.{Screen}
 use Rattle.mimic_watch.specs.declared.verdict.WatchVerdict.{WatchVerdict}
 use Rattle.mimic_watch.specs.declared.verdict.WatchFault.{WatchFault}
 use Rattle.mimic_watch.specs.declared.verdict.WatchFault.TheVariants.{Read, Write}
+use Rattle.mimic_watch.specs.Frames.{headed}
 use Rattle.mimic_watch.specs.Rows.{failed_lines, printer_of}
 use Rattle.mimic_watch.specs.Moments.{AreMomentsAfter, Moment, ended_in, moments_text}
 
@@ -40,8 +41,7 @@ summary_text colours counts nanos = result_summary (printer_of colours) counts n
 
 -- the lines that name failures, under a heading if there are some
 abbrev pub failures_part : List ℕ → List ℕ
-failures_part [] = []
-failures_part (b ∷ lines) = codes "\nfailures:\n" ++ (b ∷ lines)
+failures_part lines = headed (codes "\nfailures:\n") lines
 
 abbrev pub failures_text : List Entry → List ℕ
 failures_text entries = failures_part (failed_lines entries)

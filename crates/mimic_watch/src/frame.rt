@@ -1,16 +1,18 @@
 //! The two lines below the rows: how far the run is.
-ghost use Rattle.std.specs.Prelude.{◌≡◌, ◌<◌, ◌++◌, IfOk, None, OnOk, Some, chars, decimal, nat_lt, not, option_map, string_bytes};
+ghost use Rattle.std.specs.Prelude.{◌≡◌, ◌<◌, ◌++◌, IfOk, None, Some, chars, nat_lt, option_map, string_bytes};
 ghost use Rattle.std.specs.Option.{option_to_list};
 ghost use Rattle.mimic_trial.specs.Text.{kind_part};
 ghost use Rattle.mimic_events.specs.Contents.{label_read};
+ghost use Rattle.mimic_printer.specs.Sink.{Adds};
 ghost use Rattle.mimic_watch.specs.Moments.{drawn_text, room_after};
-ghost use Rattle.mimic_watch.specs.Frames.{announced_part, bar, columns_of, cut, elapsed_part, failed_part, first_line, fitting, frame, front_text, left_part, log_line, mark, mark_columns, marks, note_part, part_if, plain_byte, points, second_line, shaped, sixtieth_text, time_text, waiting_line};
+ghost use Rattle.mimic_watch.specs.Frames.{announced_part, bar, columns_of, cut, elapsed_part, failed_part, first_line, fitting, frame, front_text, left_part, log_line, mark, mark_columns, marks, part_if, plain_byte, points, second_line, shaped, time_text, waiting_line};
 
-use itoa::Buffer;
+use crate::text::{add_headed, text_of};
 use mimic_events::Label;
-use mimic_printer::{Place, push_escaped};
+use mimic_printer::{Piece, Place, Sink, add_escaped, add_pieces};
 use mimic_trial::brackets;
 use std::alloc::{AllocError, Global};
+use std::io::Write;
 use unicode_width::UnicodeWidthChar;
 
 // How many columns the bar has between its brackets.
@@ -68,6 +70,7 @@ pub(crate) fn drawn_text(
     }
 }
 
+// Returns two lines, with the cursor at the start of the first.
 fn live_text(
     alloc: Global,
     columns: usize,
@@ -79,11 +82,16 @@ fn live_text(
         ≡ frame first.now (second_line columns (option_map (λ label. label_read label.now) running.entry) quiet)) }
 {
     let second = second_line(alloc, columns, running, quiet)?;
-    let mut drawn = Vec::new(alloc);
-    push_frame(&mut drawn, first, &second)?;
-    Ok(drawn)
+    let mut drawn = Sink::new(Vec::new(alloc));
+    drawn.add(b"\x1b[?7l\r");
+    drawn.add(first);
+    drawn.add(b"\x1b[J\n");
+    drawn.add(&second);
+    drawn.add(b"\x1b[1A\r\x1b[?7h");
+    text_of(drawn)
 }
 
+// Returns both lines in one, as a log has them.
 fn log_text(
     alloc: Global,
     columns: usize,
@@ -96,41 +104,11 @@ fn log_text(
 {
     let room = columns.saturating_sub(first.len()).saturating_sub(2);
     let second = second_line(alloc, room, running, quiet)?;
-    let mut drawn = Vec::new(alloc);
-    push_log_line(&mut drawn, first, &second)?;
-    Ok(drawn)
-}
-
-// Appends two lines, with the cursor at the start of the first.
-#[tactic(auto, unfolding(crate::specs::Frames::frame))]
-fn push_frame(to: &mut Vec<u8>, first: &[u8], second: &[u8]) -> Result<(), AllocError>
-    ensures { OnOk result (to.new.items ≡ to.old.items ++ frame first.now second.now) }
-{
-    to.extend_from_slice(b"\x1b[?7l\r")?;
-    to.extend_from_slice(first)?;
-    to.extend_from_slice(b"\x1b[J\n")?;
-    to.extend_from_slice(second)?;
-    to.extend_from_slice(b"\x1b[1A\r\x1b[?7h")
-}
-
-// Appends both lines in one, as a log has them.
-#[tactic(auto, unfolding(crate::specs::Frames::log_line))]
-fn push_log_line(to: &mut Vec<u8>, first: &[u8], second: &[u8]) -> Result<(), AllocError>
-    ensures { OnOk result (to.new.items ≡ to.old.items ++ log_line first.now second.now) }
-{
-    to.extend_from_slice(first)?;
-    push_note(to, second)?;
-    to.extend_from_slice(b"\n")
-}
-
-fn push_note(line: &mut Vec<u8>, second: &[u8]) -> Result<(), AllocError>
-    ensures { OnOk result (line.new.items ≡ line.old.items ++ note_part second.now) }
-{
-    if second.is_empty() {
-        return Ok(());
-    }
-    line.extend_from_slice(b"; ")?;
-    line.extend_from_slice(second)
+    let mut drawn = Sink::new(Vec::new(alloc));
+    drawn.add(first);
+    add_headed(&mut drawn, b"; ", &second);
+    drawn.add(b"\n");
+    text_of(drawn)
 }
 
 // Which parts a first line has.
@@ -188,110 +166,93 @@ fn first_line(alloc: Global, columns: usize, view: &View) -> Result<Vec<u8>, All
 fn shaped(alloc: Global, view: &View, shape: &Shape) -> Result<Vec<u8>, AllocError>
     ensures { IfOk result (λ line. line.items ≡ shaped view.now shape.now) }
 {
-    let mut line = Vec::new(alloc);
-    push_bar(&mut line, shape.bar, view.cells)?;
-    push_number(&mut line, view.ended)?;
-    push_announced(&mut line, view.announced)?;
-    push_failed(&mut line, view.failed)?;
-    push_elapsed(&mut line, shape.elapsed, view.elapsed)?;
-    push_left(&mut line, shape.left, view.left)?;
-    Ok(line)
+    let mut line = Sink::new(Vec::new(alloc));
+    add_bar(&mut line, shape.bar, view.cells);
+    add_pieces(&mut line, &[Piece::Number(view.ended)]);
+    add_announced(&mut line, view.announced);
+    add_failed(&mut line, view.failed);
+    add_elapsed(&mut line, shape.elapsed, view.elapsed);
+    add_left(&mut line, shape.left, view.left);
+    text_of(line)
 }
 
-// Appends a bar with `cells` cells filled, if the line has one.
-fn push_bar(line: &mut Vec<u8>, has: bool, cells: usize) -> Result<(), AllocError>
-    ensures { OnOk result (line.new.items ≡ line.old.items ++ part_if has (bar cells)) }
+// Adds a bar with `cells` cells filled, if the line has one.
+fn add_bar<W: Write>(sink: &mut Sink<W>, has: bool, cells: usize)
+    ensures { Adds W.contents sink.old sink.new (part_if has (bar cells)) }
 {
-    if !has {
-        return Ok(());
+    if has {
+        let cells = cells.min(CELLS);
+        let (full, empty): (&[u8], &[u8]) = (b"======", b"      ");
+        sink.add(b"[");
+        sink.add(&full[..cells]);
+        sink.add(&empty[cells..]);
+        sink.add(b"] ");
     }
-    let cells = cells.min(CELLS);
-    let (full, empty): (&[u8], &[u8]) = (b"======", b"      ");
-    line.extend_from_slice(b"[")?;
-    line.extend_from_slice(&full[..cells])?;
-    line.extend_from_slice(&empty[cells..])?;
-    line.extend_from_slice(b"] ")
 }
 
-fn push_announced(line: &mut Vec<u8>, announced: Option<u64>) -> Result<(), AllocError>
-    ensures { OnOk result (line.new.items ≡ line.old.items ++ announced_part announced) }
+fn add_announced<W: Write>(sink: &mut Sink<W>, announced: Option<u64>)
+    ensures { Adds W.contents sink.old sink.new (announced_part announced) }
 {
-    let Some(announced) = announced else {
-        return Ok(());
-    };
-    line.extend_from_slice(b"/")?;
-    push_number(line, announced)
-}
-
-fn push_failed(line: &mut Vec<u8>, failed: u64) -> Result<(), AllocError>
-    ensures { OnOk result (line.new.items ≡ line.old.items ++ failed_part failed) }
-{
-    if failed == 0 {
-        return Ok(());
+    if let Some(announced) = announced {
+        add_pieces(sink, &[Piece::Text("/"), Piece::Number(announced)]);
     }
-    line.extend_from_slice(b" ")?;
-    push_number(line, failed)?;
-    line.extend_from_slice(b" failed")
 }
 
-fn push_elapsed(line: &mut Vec<u8>, has: bool, elapsed: u64) -> Result<(), AllocError>
-    ensures { OnOk result (line.new.items ≡ line.old.items ++ part_if has (elapsed_part elapsed)) }
+fn add_failed<W: Write>(sink: &mut Sink<W>, failed: u64)
+    ensures { Adds W.contents sink.old sink.new (failed_part failed) }
 {
-    if !has {
-        return Ok(());
+    if failed > 0 {
+        let pieces = [
+            Piece::Text(" "),
+            Piece::Number(failed),
+            Piece::Text(" failed"),
+        ];
+        add_pieces(sink, &pieces);
     }
-    line.extend_from_slice(b" ")?;
-    push_time(line, elapsed)
 }
 
-fn push_left(line: &mut Vec<u8>, has: bool, left: Option<u64>) -> Result<(), AllocError>
-    ensures { OnOk result (line.new.items ≡ line.old.items ++ part_if has (left_part left)) }
+fn add_elapsed<W: Write>(sink: &mut Sink<W>, has: bool, elapsed: u64)
+    ensures { Adds W.contents sink.old sink.new (part_if has (elapsed_part elapsed)) }
 {
-    if !has {
-        return Ok(());
+    if has {
+        sink.add(b" ");
+        add_time(sink, elapsed);
     }
-    let Some(left) = left else {
-        return Ok(());
-    };
-    line.extend_from_slice(b" ")?;
-    push_time(line, left)?;
-    line.extend_from_slice(b" left")
 }
 
-fn push_number(line: &mut Vec<u8>, number: u64) -> Result<(), AllocError>
-    ensures { OnOk result (line.new.items ≡ line.old.items ++ decimal number) }
+fn add_left<W: Write>(sink: &mut Sink<W>, has: bool, left: Option<u64>)
+    ensures { Adds W.contents sink.old sink.new (part_if has (left_part left)) }
 {
-    line.extend_from_slice(Buffer::new().format(number).as_bytes())
+    if has {
+        if let Some(left) = left {
+            sink.add(b" ");
+            add_time(sink, left);
+            sink.add(b" left");
+        }
+    }
 }
 
 const MINUTE: u64 = 60;
 
 const HOUR: u64 = 3_600;
 
-// Appends a time as people say it: `42s`, `5:42`, `1:02:10`.
-fn push_time(line: &mut Vec<u8>, seconds: u64) -> Result<(), AllocError>
-    ensures { OnOk result (line.new.items ≡ line.old.items ++ time_text seconds) }
+// Adds a time as people say it: `42s`, `5:42`, `1:02:10`.
+fn add_time<W: Write>(sink: &mut Sink<W>, seconds: u64)
+    ensures { Adds W.contents sink.old sink.new (time_text seconds) }
 {
+    let minute = Piece::TwoDigits((seconds / MINUTE % 60) as u8);
+    let second = Piece::TwoDigits((seconds % MINUTE) as u8);
+    let colon = Piece::Text(":");
     if seconds < MINUTE {
-        push_number(line, seconds)?;
-        return line.extend_from_slice(b"s");
+        add_pieces(sink, &[Piece::Number(seconds), Piece::Text("s")]);
+    } else if seconds < HOUR {
+        add_pieces(sink, &[Piece::Number(seconds / MINUTE), colon, second]);
+    } else {
+        add_pieces(
+            sink,
+            &[Piece::Number(seconds / HOUR), colon, minute, colon, second],
+        );
     }
-    if seconds < HOUR {
-        push_number(line, seconds / MINUTE)?;
-        return push_sixtieth(line, seconds % MINUTE);
-    }
-    push_number(line, seconds / HOUR)?;
-    push_sixtieth(line, seconds / MINUTE % 60)?;
-    push_sixtieth(line, seconds % MINUTE)
-}
-
-// Appends a colon, and the number in two digits.
-fn push_sixtieth(line: &mut Vec<u8>, number: u64) -> Result<(), AllocError>
-    requires { number < 60 }
-    ensures { OnOk result (line.new.items ≡ line.old.items ++ sixtieth_text number) }
-{
-    let number = number as u8;
-    line.extend_from_slice(&[b':', b'0' + number / 10, b'0' + number % 10])
 }
 
 // Returns the second line: the trial that is waited for, if it is known, and for how many seconds no row has ended. It is empty
@@ -321,9 +282,9 @@ const LONG: u64 = 2;
 fn waiting(alloc: Global, columns: usize, quiet: u64) -> Result<Vec<u8>, AllocError>
     ensures { IfOk result (λ line. line.items ≡ waiting_line columns None quiet) }
 {
-    let mut text = Vec::from_slice(alloc, b"nothing ended for ")?;
-    push_time(&mut text, quiet)?;
-    front_of(alloc, columns, &text)
+    let mut text = Sink::new(Vec::from_slice(alloc, b"nothing ended for ")?);
+    add_time(&mut text, quiet);
+    front_of(alloc, columns, &text_of(text)?)
 }
 
 fn waiting_for(
@@ -334,14 +295,15 @@ fn waiting_for(
 ) -> Result<Vec<u8>, AllocError>
     ensures { IfOk result (λ line. line.items ≡ waiting_line columns (Some (label_read label.now)) quiet) }
 {
-    let mut text = Vec::from_slice(alloc, b"waiting ")?;
-    push_time(&mut text, quiet)?;
-    text.extend_from_slice(b" for ")?;
-    let mut line = front_of(alloc, columns, &text)?;
+    let mut text = Sink::new(Vec::from_slice(alloc, b"waiting ")?);
+    add_time(&mut text, quiet);
+    text.add(b" for ");
+    let front = front_of(alloc, columns, &text_of(text)?)?;
     let name = label_text(alloc, label)?;
-    let room = columns.saturating_sub(line.len());
-    push_cut(&mut line, room, name.as_str())?;
-    Ok(line)
+    let room = columns.saturating_sub(front.len());
+    let mut line = Sink::new(front);
+    add_cut(&mut line, room, name.as_str());
+    text_of(line)
 }
 
 // Returns the trial's kind in brackets, if it has one, and its name.
@@ -382,49 +344,60 @@ fn plain(byte: u8) -> Option<u8>
     }
 }
 
-// Appends the text; of one that is wider than the columns as much as leaves room for two points, and these.
-fn push_cut(line: &mut Vec<u8>, columns: usize, text: &str) -> Result<(), AllocError>
-    ensures { OnOk result (line.new.items ≡ line.old.items ++ cut columns (chars text.now)) }
+// Adds the text; of one that is wider than the columns as much as leaves room for two points, and these.
+fn add_cut<W: Write>(sink: &mut Sink<W>, columns: usize, text: &str)
+    ensures { Adds W.contents sink.old sink.new (cut columns (chars text.now)) }
 {
-    let len = line.len();
-    if push_fitting(line, columns, text)? {
-        return Ok(());
+    if is_wider(columns, text) {
+        add_fitting(sink, columns.saturating_sub(2), text);
+        add_points(sink, columns);
+    } else {
+        add_fitting(sink, columns, text);
     }
-    line.truncate(len);
-    push_fitting(line, columns.saturating_sub(2), text)?;
-    push_points(line, columns)?;
-    Ok(())
 }
 
-// Appends two points, or as many as fit.
-fn push_points(line: &mut Vec<u8>, columns: usize) -> Result<(), AllocError>
-    ensures { OnOk result (line.new.items ≡ line.old.items ++ points columns) }
+// Adds two points, or as many as fit.
+fn add_points<W: Write>(sink: &mut Sink<W>, columns: usize)
+    ensures { Adds W.contents sink.old sink.new (points columns) }
 {
     let points: &[u8] = b"..";
-    line.extend_from_slice(&points[..columns.min(2)])
+    sink.add(&points[..columns.min(2)]);
 }
 
-// Appends the characters that fit, and returns whether all do.
-fn push_fitting(line: &mut Vec<u8>, columns: usize, text: &str) -> Result<bool, AllocError>
-    ensures { IfOk result (λ whole. (line.new.items ≡ line.old.items ++ marks (fitting columns (chars text.now)))
-        × (whole ≡ not (nat_lt columns (columns_of (chars text.now))))) }
+// Returns whether the text is wider than the columns.
+fn is_wider(columns: usize, text: &str) -> bool
+    ensures { result ≡ nat_lt columns (columns_of (chars text.now)) }
 {
     let mut room = columns;
     for c in text.chars() {
         let wide = mark_columns(c);
         if room < wide {
-            return Ok(false);
+            return true;
         }
-        push_mark(line, c)?;
         room -= wide;
     }
-    Ok(true)
+    false
 }
 
-fn push_mark(line: &mut Vec<u8>, c: char) -> Result<(), AllocError>
-    ensures { OnOk result (line.new.items ≡ line.old.items ++ mark c) }
+// Adds the characters that fit.
+fn add_fitting<W: Write>(sink: &mut Sink<W>, columns: usize, text: &str)
+    ensures { Adds W.contents sink.old sink.new (marks (fitting columns (chars text.now))) }
 {
-    push_escaped(line, c.encode_utf8(&mut [0; 4]).as_bytes(), Place::Terminal)
+    let mut room = columns;
+    for c in text.chars() {
+        let wide = mark_columns(c);
+        if room < wide {
+            return;
+        }
+        add_mark(sink, c);
+        room -= wide;
+    }
+}
+
+fn add_mark<W: Write>(sink: &mut Sink<W>, c: char)
+    ensures { Adds W.contents sink.old sink.new (mark c) }
+{
+    add_escaped(sink, c.encode_utf8(&mut [0; 4]).as_bytes(), Place::Terminal);
 }
 
 fn mark_columns(c: char) -> usize

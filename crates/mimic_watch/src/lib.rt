@@ -18,6 +18,7 @@
 mod frame;
 mod pace;
 mod row;
+mod text;
 mod verdict;
 mod viewer;
 

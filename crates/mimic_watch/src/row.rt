@@ -1,39 +1,49 @@
 //! What is shown of a row.
-ghost use Rattle.std.specs.Prelude.{◌≡◌, ◌++◌, OnOk, decimal};
+ghost use Rattle.std.specs.Prelude.{◌≡◌};
 ghost use Rattle.std.specs.Option.{option_copied};
 ghost use Rattle.mimic_events.specs.Contents.{entry_read};
-ghost use Rattle.mimic_trial.specs.Text.{grouped};
-ghost use Rattle.mimic_watch.specs.Rows.{average_text, bench_word, failed_line, failed_word, label_text, line_text, lines_noun, measured_text, message_lines, message_text, more_text, row_text, variance_text};
+ghost use Rattle.mimic_printer.specs.Sink.{Adds};
+ghost use Rattle.mimic_watch.specs.Rows.{bench_word, failed_line, failed_word, line_text, lines_noun, message_lines, message_text, more_text, row_text};
 
-use itoa::Buffer;
 use mimic_events::Row;
-use mimic_printer::{Place, push_escaped};
-use mimic_trial::{Measurement, Outcome, thousands};
-use std::alloc::AllocError;
+use mimic_printer::{Piece, Place, Sink, add_pieces};
+use mimic_trial::Outcome;
+use std::io::Write;
 
 // At most this many lines of a message are shown.
 const MOST_LINES: usize = 20;
 
-// Appends what is shown of the row: a failure with its message, a measurement, and nothing of others. Their words may have
-// colours.
-#[tactic(auto, unfolding(crate::specs::Rows::row_text))]
-pub(crate) fn push_row(to: &mut Vec<u8>, colours: bool, row: &Row) -> Result<(), AllocError>
-    ensures { OnOk result (to.new.items ≡ to.old.items ++ row_text colours (entry_read row.now)) }
+// Adds what is shown of the row: a failure with its message, a measurement, and nothing of others. Their words may have colours.
+#[tactic(auto, unfolding(crate::specs::Rows::row_text), using(mimic_printer::proofs::Adding::adds_nothing))]
+pub(crate) fn add_row<W: Write>(sink: &mut Sink<W>, colours: bool, row: &Row)
+    ensures { Adds W.contents sink.old sink.new (row_text colours (entry_read row.now)) }
 {
+    let kind = Piece::Bracketed(Place::Terminal, row.kind.as_str());
+    let name = Piece::Escaped(Place::Terminal, row.name.as_str());
     match &row.outcome {
-        Outcome::Passed | Outcome::Ignored => Ok(()),
+        Outcome::Passed => {}
+        Outcome::Ignored => {}
         Outcome::Failed(failed) => {
-            to.extend_from_slice(failed_word(colours).as_bytes())?;
-            to.extend_from_slice(b" ")?;
-            push_label(to, row)?;
-            to.extend_from_slice(b"\n")?;
-            push_message(to, failed.message())
+            let word = Piece::Text(failed_word(colours));
+            add_pieces(
+                sink,
+                &[word, Piece::Text(" "), kind, name, Piece::Text("\n")],
+            );
+            add_message(sink, failed.message());
         }
         Outcome::Measured(measurement) => {
-            to.extend_from_slice(bench_word(colours).as_bytes())?;
-            to.extend_from_slice(b"  ")?;
-            push_label(to, row)?;
-            push_measurement(to, measurement)
+            let pieces = [
+                Piece::Text(bench_word(colours)),
+                Piece::Text("  "),
+                kind,
+                name,
+                Piece::Text(": "),
+                Piece::Grouped(measurement.avg),
+                Piece::Text(" ns/iter (+/- "),
+                Piece::Grouped(measurement.variance),
+                Piece::Text(")\n"),
+            ];
+            add_pieces(sink, &pieces);
         }
     }
 }
@@ -60,106 +70,69 @@ fn bench_word(colours: bool) -> &'static str
     }
 }
 
-// Appends the line that names the row if it failed, and nothing of others.
-pub(crate) fn push_failed_line(to: &mut Vec<u8>, row: &Row) -> Result<(), AllocError>
-    ensures { OnOk result (to.new.items
-        ≡ to.old.items ++ failed_line (entry_read row.now).label (entry_read row.now).outcome) }
+// Adds the line that names the row if it failed, and nothing of others.
+pub(crate) fn add_failed_line<W: Write>(sink: &mut Sink<W>, row: &Row)
+    ensures { Adds W.contents sink.old sink.new
+        (failed_line (entry_read row.now).label (entry_read row.now).outcome) }
 {
     match &row.outcome {
         Outcome::Failed(_) => {
-            to.extend_from_slice(b"    ")?;
-            push_label(to, row)?;
-            to.extend_from_slice(b"\n")
+            let pieces = [
+                Piece::Text("    "),
+                Piece::Bracketed(Place::Terminal, row.kind.as_str()),
+                Piece::Escaped(Place::Terminal, row.name.as_str()),
+                Piece::Text("\n"),
+            ];
+            add_pieces(sink, &pieces);
         }
-        _ => Ok(()),
+        _ => {}
     }
 }
 
-// Appends what was measured, and the end of the line.
-fn push_measurement(to: &mut Vec<u8>, measurement: &Measurement) -> Result<(), AllocError>
-    ensures { OnOk result (to.new.items ≡ to.old.items ++ measured_text measurement.now) }
+fn add_message<W: Write>(sink: &mut Sink<W>, message: Option<&str>)
+    ensures { Adds W.contents sink.old sink.new (message_text (option_copied message.entry)) }
 {
-    push_average(to, measurement.avg)?;
-    push_variance(to, measurement.variance)
-}
-
-fn push_average(to: &mut Vec<u8>, average: u64) -> Result<(), AllocError>
-    ensures { OnOk result (to.new.items ≡ to.old.items ++ average_text average) }
-{
-    to.extend_from_slice(b": ")?;
-    push_grouped(to, average)?;
-    to.extend_from_slice(b" ns/iter")
-}
-
-fn push_variance(to: &mut Vec<u8>, variance: u64) -> Result<(), AllocError>
-    ensures { OnOk result (to.new.items ≡ to.old.items ++ variance_text variance) }
-{
-    to.extend_from_slice(b" (+/- ")?;
-    push_grouped(to, variance)?;
-    to.extend_from_slice(b")\n")
-}
-
-// Appends the number with commas between groups of three digits.
-fn push_grouped(to: &mut Vec<u8>, number: u64) -> Result<(), AllocError>
-    ensures { OnOk result (to.new.items ≡ to.old.items ++ grouped (decimal number)) }
-{
-    to.extend_from_slice(thousands(number, &mut [0; 26]).as_bytes())
-}
-
-// Appends the row's kind in brackets, if it has one, and its name.
-fn push_label(to: &mut Vec<u8>, row: &Row) -> Result<(), AllocError>
-    ensures { OnOk result (to.new.items ≡ to.old.items ++ label_text (entry_read row.now).label) }
-{
-    let kind = row.kind.as_bytes();
-    if !kind.is_empty() {
-        to.extend_from_slice(b"[")?;
-        push_escaped(to, kind, Place::Terminal)?;
-        to.extend_from_slice(b"] ")?;
-    }
-    push_escaped(to, row.name.as_bytes(), Place::Terminal)
-}
-
-fn push_message(to: &mut Vec<u8>, message: Option<&str>) -> Result<(), AllocError>
-    ensures { OnOk result (to.new.items ≡ to.old.items ++ message_text (option_copied message.entry)) }
-{
-    match message {
-        Some(message) => push_lines(to, message),
-        None => Ok(()),
+    if let Some(message) = message {
+        add_lines(sink, message);
     }
 }
 
-// Appends the first lines of a message, and how many more it has.
-fn push_lines(to: &mut Vec<u8>, message: &str) -> Result<(), AllocError>
-    ensures { OnOk result (to.new.items ≡ to.old.items ++ message_lines message.now) }
+// Adds the first lines of a message, and how many more it has.
+fn add_lines<W: Write>(sink: &mut Sink<W>, message: &str)
+    ensures { Adds W.contents sink.old sink.new (message_lines message.now) }
 {
     let mut count = 0;
     for line in message.lines() {
         if count < MOST_LINES {
-            push_line(to, line)?;
+            add_line(sink, line);
         }
         count += 1;
     }
-    push_more(to, count.saturating_sub(MOST_LINES))?;
-    Ok(())
+    add_more(sink, count.saturating_sub(MOST_LINES));
 }
 
-fn push_line(to: &mut Vec<u8>, line: &str) -> Result<(), AllocError>
-    ensures { OnOk result (to.new.items ≡ to.old.items ++ line_text line.now) }
+fn add_line<W: Write>(sink: &mut Sink<W>, line: &str)
+    ensures { Adds W.contents sink.old sink.new (line_text line.now) }
 {
-    to.extend_from_slice(b"    ")?;
-    push_escaped(to, line.as_bytes(), Place::Terminal)?;
-    to.extend_from_slice(b"\n")
+    let pieces = [
+        Piece::Text("    "),
+        Piece::Escaped(Place::Terminal, line),
+        Piece::Text("\n"),
+    ];
+    add_pieces(sink, &pieces);
 }
 
-fn push_more(to: &mut Vec<u8>, count: usize) -> Result<(), AllocError>
-    ensures { OnOk result (to.new.items ≡ to.old.items ++ more_text count) }
+fn add_more<W: Write>(sink: &mut Sink<W>, count: usize)
+    ensures { Adds W.contents sink.old sink.new (more_text count) }
 {
-    if count == 0 {
-        return Ok(());
+    if count > 0 {
+        let pieces = [
+            Piece::Text("    .. "),
+            Piece::Number(count as u64),
+            Piece::Text(lines_noun(count)),
+        ];
+        add_pieces(sink, &pieces);
     }
-    to.extend_from_slice(b"    .. ")?;
-    to.extend_from_slice(Buffer::new().format(count).as_bytes())?;
-    to.extend_from_slice(lines_noun(count).as_bytes())
 }
 
 fn lines_noun(count: usize) -> &'static str

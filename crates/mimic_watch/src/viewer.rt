@@ -7,13 +7,15 @@ ghost use Rattle.mimic_watch.specs.Viewers.{put_text};
 
 use crate::frame::{ERASE, Screen, View, drawn_text};
 use crate::pace::{Pace, nanos};
-use crate::row::{push_failed_line, push_row};
+use crate::row::{add_failed_line, add_row};
+use crate::text::{add_headed, text_of};
 use crate::verdict::{WatchFault, WatchVerdict};
 use mimic_events::{Ending, Follower, PIECE, ReadFault, Row, read_piece};
 use mimic_printer::{OutputFault, Printer, Sink};
 use mimic_trial::{Conclusion, FormatSetting, Outcome};
 use std::alloc::{AllocError, Global};
 use std::io::{ErrorKind, Read, Write};
+use std::mem::replace;
 use std::rt::Clock;
 
 // On a terminal, what rows show waits for the next drawing unless it has this number of bytes or more.
@@ -164,8 +166,13 @@ impl Viewer {
             Outcome::Ignored => counts.num_ignored = counts.num_ignored.saturating_add(1),
             Outcome::Measured(_) => counts.num_measured = counts.num_measured.saturating_add(1),
         }
-        push_row(&mut self.waiting, self.screen.colours, row)?;
-        push_failed_line(&mut self.failed, row)
+        let mut waiting = Sink::new(replace(&mut self.waiting, Vec::new(self.alloc)));
+        add_row(&mut waiting, self.screen.colours, row);
+        self.waiting = text_of(waiting)?;
+        let mut failed = Sink::new(replace(&mut self.failed, Vec::new(self.alloc)));
+        add_failed_line(&mut failed, row);
+        self.failed = text_of(failed)?;
+        Ok(())
     }
 
     // Returns what is drawn at this time below what rows show, which may be nothing, and `None` if nothing is put at all.
@@ -314,18 +321,8 @@ fn add_last<W: Write>(sink: &mut Sink<W>, colours: bool, lines: &[u8], verdict: 
             name_width: 0,
             kind_width: 0,
         };
-        add_failures(sink, lines);
+        add_headed(sink, b"\nfailures:\n", lines);
         printer.add_summary(sink, &verdict.counts, *nanos);
         sink.add_flush();
-    }
-}
-
-// Adds the lines, which name failures, under a heading, and nothing if there are none.
-fn add_failures<W: Write>(sink: &mut Sink<W>, lines: &[u8])
-    ensures { Adds W.contents sink.old sink.new (failures_part lines.now) }
-{
-    if !lines.is_empty() {
-        sink.add(b"\nfailures:\n");
-        sink.add(lines);
     }
 }

@@ -1,0 +1,10 @@
+use Rattle.std.proofs.Common.{arith}
+use Rattle.std.proofs.lemmas.Bool.Decides.{nat_tests}
+use Rattle.mimic_printer.proofs.Adding.{adds_then}
+use Rattle.mimic_watch.proofs.Texts.{has_head}
+use Rattle.mimic_watch.proofs.text.add_headed.Goals as goal
+
+pub returns-then-not-is_empty : goal.returns-then-not-is_empty
+returns-then-not-is_empty g c =
+    rw (has_head c.args.head.now c.args.text.now (grind (arith, nat_tests, c.is_empty.ensures, c.if-not-is_empty.true)))
+    (adds_then _ _ c.add.ensures c.add-then-not-is_empty.ensures)
