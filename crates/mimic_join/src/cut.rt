@@ -6,7 +6,7 @@ ghost use Rattle.mimic_printer.specs.Sink.{Adds, HasFaultLeft, shown};
 ghost use Rattle.mimic_join.specs.Cut.{AreReadOf, IsReadOf, LeavesCut, cut_text, ended_rows, is_whole, title_in, titles_in, wholes_in};
 
 use crate::faults::JoinFault;
-use crate::inputs::write_joined;
+use crate::inputs::add_joined;
 use crate::order::ended_in_turn;
 use crate::write::add_rows;
 use mimic_events::{Ending, ReadFault, Report, Row, RowsRead, Stop, read_rows};
@@ -64,7 +64,8 @@ pub fn join_cut_reports<I: Read + Drop, O: Write>(
         return Ok(Joined::Cut(reads));
     }
     let reports = wholes_of(alloc, reads)?;
-    let counts = write_joined(alloc, &reports, shards, equal_names, sink)?;
+    let counts = add_joined(alloc, &reports, shards, equal_names, sink)?;
+    sink.end()?;
     Ok(Joined::Whole(counts))
 }
 
