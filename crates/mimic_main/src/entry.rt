@@ -9,7 +9,6 @@ ghost use Rattle.mimic_main.specs.Ended.{EndsAsAsked, EndsByLine, EndsForLine, E
 ghost use Rattle.mimic_main.specs.Program.{HasDefaults};
 
 use crate::clock::MonotonicClock;
-use crate::colours::shows_colours;
 use crate::job::Job;
 use crate::machine::Machine;
 use crate::monitor::{Monitor, Notices};
@@ -17,6 +16,7 @@ use crate::program::Program;
 use crate::sharding::{ShardError, Sharding};
 use crate::status::Status;
 use libtest_mimic::{Arguments, ArgumentsError, Case, Failed, RunError, Task, Trial};
+use mimic_console::shows_colours;
 use std::alloc::Global;
 use std::convert::AsStr;
 use std::fmt::Display;

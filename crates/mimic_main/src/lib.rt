@@ -21,12 +21,10 @@
 #![tactic(auto)]
 
 mod clock;
-mod colours;
 mod entry;
 mod equal_names;
 mod full_names;
 mod job;
-mod lines;
 mod machine;
 mod monitor;
 mod output;
@@ -37,11 +35,10 @@ mod sharding;
 mod status;
 
 pub use clock::{MonotonicClock, StillClock};
-pub use colours::shows_colours;
 pub use entry::{refuse_line, run_line, run_program, trials_of_cases};
 pub use job::{Job, run_into};
-pub use lines::print_line;
-pub use machine::{Machine, Streams};
+pub use machine::Machine;
+pub use mimic_console::{Streams, print_line, shows_colours};
 pub use output::Output;
 pub use policy::FlushPolicy;
 pub use program::Program;

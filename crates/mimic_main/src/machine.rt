@@ -1,5 +1,6 @@
 //! What a program runs on.
 use libtest_mimic::Spawner;
+use mimic_console::Streams;
 use std::fs::Files;
 use std::io::{IsTerminal, Write};
 use std::rt::{Clock, Env, Stderr, Stdout};
@@ -24,25 +25,6 @@ pub trait Machine: Env + AllocGlobal + Clock {
 
     /// Its standard error.
     fn stderr(&self) -> Self::Stderr;
-}
-
-/// The standard streams of a process.
-pub trait Streams {
-    /// Standard output.
-    fn stdout(&self) -> Stdout;
-
-    /// Standard error.
-    fn stderr(&self) -> Stderr;
-}
-
-impl Streams for HostRuntime {
-    fn stdout(&self) -> Stdout {
-        HostRuntime::stdout(self)
-    }
-
-    fn stderr(&self) -> Stderr {
-        HostRuntime::stderr(self)
-    }
 }
 
 impl<R: Env + AllocGlobal + Clock + Files + Streams + Spawner + 'static> Machine for R {

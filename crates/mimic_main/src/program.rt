@@ -5,13 +5,13 @@ ghost use Rattle.libtest_mimic.specs.Trial.{AllCanRun};
 ghost use Rattle.mimic_main.specs.Ended.{Ended, GotWithout, number_of, status_of, status_without, status_without_part};
 
 use crate::job::Job;
-use crate::lines::{print_line, print_text};
 use crate::sharding::ShardError;
 use crate::status::Status;
 use libtest_mimic::{
     Arguments, ArgumentsError, Clock, Conclusion, RunError, Schedule, Spawner, Stopwatch, Task,
     Trial,
 };
+use mimic_console::{print_line, print_text};
 use mimic_trial::Shard;
 use std::alloc::Global;
 use std::fmt::Display;

@@ -1,7 +1,7 @@
 //! Prints on standard error why there is no report, or no more of one. Each is one line, whatever a file's name has.
 use crate::REFUSED;
+use mimic_console::{Streams, print_line};
 use mimic_events::{Label, Stop};
-use mimic_main::{Streams, print_line};
 use mimic_printer::{OutputFault, WriteFault};
 use std::fmt;
 use std::io::ErrorKind;

@@ -2,8 +2,8 @@
 use crate::faults::{refuse_all, refuse_format, refuse_output};
 use crate::line::Watch;
 use crate::pump::{Incoming, Pipe, pump};
+use mimic_console::{Streams, shows_colours};
 use mimic_events::{Ending, ReadFault, Stop};
-use mimic_main::{Streams, shows_colours};
 use mimic_printer::Sink;
 use mimic_watch::{ERASE, Screen, WatchFault, watch};
 use std::alloc::Global;

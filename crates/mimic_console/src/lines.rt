@@ -1,11 +1,14 @@
 //! Lines on standard error.
 ghost use Rattle.std.specs.Prelude.{◌≡◌};
 
-use crate::output::BLOCK;
 use arrayvec::ArrayVec;
 use std::fmt::Display;
 use std::io::Write;
 use std::{fmt, io};
+
+// How long a line is at most that is one write: as many bytes as a pipe on Linux takes at once, with no other program's bytes between
+// them.
+const BLOCK: usize = 4096;
 
 /// Prints a line, if it can be written. Control characters in it, as a path may have them, are by number, like `\u{1b}`: so it is
 /// one line, and none acts on a terminal. A line of at most 4096 bytes is one write, so that no other program's text comes between
@@ -59,7 +62,7 @@ fn begins_number(text: &str, at: usize) -> bool {
 }
 
 /// Prints a text, and a line end if it has none, if they can be written. It is one write if there is memory for the line end.
-pub(crate) fn print_text<E: Write>(mut text: String, err: &mut E) {
+pub fn print_text<E: Write>(mut text: String, err: &mut E) {
     let _ = if text.as_str().ends_with('\n') || text.push('\n').is_ok() {
         err.write_all(text.as_bytes())
     } else {
