@@ -1,5 +1,5 @@
 -- Rows that are judged one after another.
-use Rattle.std.proofs.Common.{◌≡◌, ◌||◌, ℕ, ◌+◌, ◌-◌, ◌<◌, ◌^◌, Bool, true, false, not, List, [], ◌∷◌, ◌++◌, length-append, map, Option, IfSome, refl, sym, ap, ap₂, subst, ◌∙◌, append_assoc, append-nil, arith}
+use Rattle.std.proofs.Common.{◌≡◌, ◌||◌, ℕ, ◌+◌, ◌-◌, ◌<◌, ◌^◌, Bool, false, not, List, [], ◌∷◌, ◌++◌, length, length-append, map, Option, IfSome, refl, sym, ap, ap₂, subst, ◌∙◌, append_assoc, append-nil, arith}
 use Rattle.std.specs.Prelude.{filter}
 use Rattle.std.specs.List.{AllZip, flat_map, list_any}
 use Rattle.std.proofs.lemmas.List.{map-append}
@@ -10,17 +10,15 @@ use Rattle.mimic_trial.specs.declared.outcome.Outcome.{Outcome}
 use Rattle.mimic_trial.specs.declared.outcome.Outcome.TheVariants.{Failed, Ignored, Measured, Passed}
 use Rattle.mimic_trial.specs.Count.{is_failed}
 use Rattle.mimic_printer.specs.Json.{Entry}
-use Rattle.mimic_printer.specs.Sink.{LeftBy, Put, Shown, Stopped}
+use Rattle.mimic_printer.specs.Sink.{Put, Shown, Stopped}
 use Rattle.mimic_printer.proofs.Appending.{Put-Stopped, Put-refl, Put-trans}
-use Rattle.mimic_events.specs.Contents.{entry_read}
 use Rattle.mimic_events.specs.Key.{label_in, same_label}
-use Rattle.mimic_events.specs.declared.report.Row.{Row}
 use Rattle.mimic_events.proofs.Keys.{same_label-symm}
 use Rattle.mimic_events.proofs.RowSteps.{none_ended}
 use Rattle.mimic_events.specs.Feed.{AreEnded}
 use Rattle.mimic_events.specs.Readings.{HasEndedRows}
 use Rattle.mimic_events.proofs.Counted.{few}
-use Rattle.mimic_expect.specs.Expect.{FailedRow, is_known, rows_with, unknown_failures}
+use Rattle.mimic_expect.specs.Expect.{FailedRow, is_known, known_rows, rows_with, unknown_failures}
 use Rattle.mimic_expect.specs.FindingText.{finding_text, unknown_text}
 use Rattle.mimic_expect.specs.JudgedRows.{HasLines, Judged, Judges, labels_known}
 use Rattle.mimic_expect.specs.Known.{Expected, expected_read}
@@ -68,21 +66,23 @@ pub known_labels : (known : List Expectation) (row : Entry) → is_known (map ex
 known_labels [] row = refl
 known_labels (e ∷ known) row = ap₂ (λ (a b : Bool). a || b) (same_label-symm (label_in e.row) row.label) (known_labels known row)
 
-module _ (known : List Expected) (rows : List Entry) (row : Entry) where
-  abbrev now : Judged
-  now = record { known = known; rows = rows }
+pub not_failed : (o : Outcome) → ((m : Option (List ℕ)) → o ≡ Failed m → ⊥) → is_failed o ≡ false
+not_failed Passed h = refl
+not_failed (Failed m) h = absurd (h m refl)
+not_failed Ignored h = refl
+not_failed (Measured m) h = refl
 
-  pub judges_known : {form : Lines} (s : Shown) → is_known known row ≡ true → Judges form now (record { known = known; rows = rows ++ row ∷ [] }) (row ∷ []) 0 s s
-  judges_known s e = record { known = refl; kept = rw e refl; counted = rw e refl; put = rw e (Put-refl s) }
-
-  pub judges_other : {form : Lines} (s : Shown) → is_known known row ≡ false → is_failed row.outcome ≡ false → Judges form now now (row ∷ []) 0 s s
-  judges_other s e is = record { known = refl; kept = rw e (sym (append-nil rows)); counted = rw (e, is) refl; put = rw (e, is) (Put-refl s) }
-
-  pub unknown_row : (form : Lines) → is_known known row ≡ false → is_failed row.outcome ≡ true → unknown_text form known (row ∷ []) ≡ finding_text form (FailedRow row)
-  unknown_row form e is = rw (e, is) (append-nil (finding_text form (FailedRow row)))
-
-  pub judges_failed : {form : Lines} (s t : Shown) → is_known known row ≡ false → is_failed row.outcome ≡ true → Put s t (finding_text form (FailedRow row)) → Judges form now now (row ∷ []) 1 s t
-  judges_failed {form} s t e is p = record { known = refl; kept = rw e (sym (append-nil rows)); counted = rw (e, is) refl; put = subst (Put s t) (sym (unknown_row form e is)) p }
+-- one row more, which a judge took and of which these failures are unexpected
+pub judges_row : {form : Lines} (a b c : Judged) (entries found : List Entry) (row : Entry) (count total : ℕ) (s t u : Shown) → Judges form a b entries count s t
+    → (c.known ≡ b.known) × (c.rows ≡ b.rows ++ known_rows b.known (row ∷ [])) × (found ≡ unknown_failures b.known (row ∷ []))
+    → total ≡ count + length found → Put t u (lines form found) → Judges form a c (entries ++ row ∷ []) total s u
+judges_row {form} a b c entries found row count total s t u before taken counts put =
+    rw counts (judges_then a b c entries (row ∷ []) count (length found) s t u before (record {
+      known = taken.0;
+      kept = taken.1;
+      counted = ap length taken.2;
+      put = subst (Put t u) (ap (lines form) taken.2) put;
+    }))
 
 -- ---- how many
 
@@ -96,48 +96,14 @@ room bytes entries e a b count s t h j =
     let failing = length-filter_both fails (λ (x : Entry). not (fails x)) (λ x. refl) (filter lacks entries) in
     omega (arith, counted, lacking, failing, few bytes entries e h)
 
--- ---- a row that a judge takes
-
-pub row_kept : {form : Lines} (self : Judged) (known : List Expectation) (rows new : List Row) (row : Row) (s : Shown) → self ≡ record { known = map expected_read known; rows = map entry_read rows }
-    → is_known (map expected_read known) (entry_read row) ≡ true → new ≡ rows ++ row ∷ [] → Judges form self (record { known = map expected_read known; rows = map entry_read new }) (entry_read row ∷ []) 0 s s
-row_kept self known rows new row s e has news =
-    rw (e, news, map-append entry_read rows (row ∷ [])) (judges_known (map expected_read known) (map entry_read rows) (entry_read row) s has)
-
-pub not_failed : (o : Outcome) → ((m : Option (List ℕ)) → o ≡ Failed m → ⊥) → is_failed o ≡ false
-not_failed Passed h = refl
-not_failed (Failed m) h = absurd (h m refl)
-not_failed Ignored h = refl
-not_failed (Measured m) h = refl
-
-pub row_passed : {form : Lines} (self : Judged) (known : List Expectation) (rows : List Row) (row : Row) (s : Shown) → self ≡ record { known = map expected_read known; rows = map entry_read rows }
-    → is_known (map expected_read known) (entry_read row) ≡ false → ((m : Option (List ℕ)) → row.outcome ≡ Failed m → ⊥) → Judges form self self (entry_read row ∷ []) 0 s s
-row_passed self known rows row s e has h = rw e (judges_other (map expected_read known) (map entry_read rows) (entry_read row) s has (not_failed row.outcome h))
-
-pub row_failed : {form : Lines} (self : Judged) (known : List Expectation) (rows : List Row) (row : Row) (m : Option (List ℕ)) (s t : Shown) → self ≡ record { known = map expected_read known; rows = map entry_read rows }
-    → is_known (map expected_read known) (entry_read row) ≡ false → row.outcome ≡ Failed m → Put s t (finding_text form (FailedRow (entry_read row))) → Judges form self self (entry_read row ∷ []) 1 s t
-row_failed self known rows row m s t e has is p = rw e (judges_failed (map expected_read known) (map entry_read rows) (entry_read row) s t has (ap is_failed is) p)
-
-pub row_stopped : (form : Lines) (self : Judged) (known : List Expectation) (rows : List Row) (row : Row) (m : Option (List ℕ)) (s t : Shown) → self ≡ record { known = map expected_read known; rows = map entry_read rows }
-    → is_known (map expected_read known) (entry_read row) ≡ false → row.outcome ≡ Failed m → Stopped s t (finding_text form (FailedRow (entry_read row)))
-    → Stopped s t (unknown_text form self.known (entry_read row ∷ []))
-row_stopped form self known rows row m s t e has is p =
-    rw e (subst (Stopped s t) (sym (unknown_row (map expected_read known) (map entry_read rows) (entry_read row) form has (ap is_failed is))) p)
-
 -- ---- faults
 
 -- a fault behind rows that were judged
-lines_then : {form : Lines} (a b : Judged) (xs ys : List Entry) (count : ℕ) (s t u : Shown) (fault : OutputFault) → Judges form a b xs count s t → HasLines form b.known t u fault ys → HasLines form a.known s u fault (xs ++ ys)
+pub lines_then : {form : Lines} (a b : Judged) (xs ys : List Entry) (count : ℕ) (s t u : Shown) (fault : OutputFault) → Judges form a b xs count s t → HasLines form b.known t u fault ys → HasLines form a.known s u fault (xs ++ ys)
 lines_then {form} a b xs ys count s t u OutOfMemory j left =
     subst (Put s u) (sym (unknown_text-append form a.known xs ys)) (Put-trans _ _ j.put (rw j.known at left))
 lines_then {form} a b xs ys count s t u (Write fault) j left =
     subst (Stopped s u) (sym (unknown_text-append form a.known xs ys)) (Put-Stopped _ _ j.put (rw j.known at left))
-
--- a fault in the next row
-pub row_left : {form : Lines} (input : Option (List ℕ)) (a b : Judged) (entries : List Entry) (e : Entry) (count : ℕ) (s t u : Shown) (fault : OutputFault)
-    → IfSome input (HasEndedRows entries) → IfSome input (HasEndedRows (entries ++ e ∷ [])) → Judges form a b entries count s t → LeftBy fault t u (unknown_text form b.known (e ∷ []))
-    → (rows : List Entry) × IfSome input (HasEndedRows rows) × HasLines form a.known s u fault rows
-row_left {form} input a b entries e count s t u OutOfMemory before after j left = (entries, before, subst (λ (x : Shown). Put s x (unknown_text form a.known entries)) (sym left) j.put)
-row_left input a b entries e count s t u (Write fault) before after j left = (entries ++ e ∷ [], after, lines_then a b entries (e ∷ []) count s t u (Write fault) j left)
 
 -- ---- inputs, one after another
 

@@ -1,10 +1,9 @@
 -- The text of a file that is brought up to date, line after line.
-use Rattle.std.proofs.Common.{◌≡◌, ◌==◌, ◌∙◌, ◌||◌, append_assoc, subst, ℕ, ◌+◌, ◌<◌, Bool, true, false, cond, List, [], ◌∷◌, ◌++◌, append-nil, length, map, None, Option, Some, ap, ap₂, arith, refl, sym}
+use Rattle.std.proofs.Common.{◌≡◌, ◌==◌, ◌∙◌, append_assoc, subst, ℕ, ◌+◌, ◌<◌, Bool, true, false, cond, List, [], ◌∷◌, ◌++◌, append-nil, length, map, None, Option, Some, ap, ap₂, arith, refl, sym}
 use Rattle.std.specs.Prelude.{filter}
 use Rattle.std.specs.HashMap.{HashMap}
 use Rattle.std.specs.List.{flat_map, list_all}
 use Rattle.std.specs.Option.{option_map, option_or}
-use Rattle.std.proofs.lemmas.List.{map-append}
 use Rattle.std.proofs.lemmas.List.Concat.{flat_map-append}
 use Rattle.std.proofs.lemmas.List.Elements.{filter-append}
 use Rattle.std.proofs.lemmas.List.Folds.{flat_map-map}
@@ -13,15 +12,11 @@ use Rattle.mimic_printer.specs.Json.{Entry, IsLine}
 use Rattle.mimic_printer.specs.Sink.{Adds}
 use Rattle.mimic_printer.specs.declared.sink.Sink.{Sink}
 use Rattle.mimic_printer.proofs.Adding.{adds_then}
-use Rattle.mimic_trial.specs.Count.{is_failed}
 use Rattle.mimic_expect.specs.Changes.{HasChanges, read_at}
-use Rattle.mimic_expect.specs.Expect.{Finding, counts, findings, is_known}
+use Rattle.mimic_expect.specs.Expect.{Finding, counts, findings}
 use Rattle.mimic_expect.specs.JudgedRows.{Judged, Keeps, matters}
 use Rattle.mimic_expect.specs.JudgementText.{finding_read}
-use Rattle.mimic_events.specs.Contents.{entry_read}
-use Rattle.mimic_events.specs.declared.report.Row.{Row}
-use Rattle.mimic_expect.specs.Known.{Expected, expected_read, lines_of}
-use Rattle.mimic_expect.specs.declared.known.Expectation.{Expectation}
+use Rattle.mimic_expect.specs.Known.{Expected, lines_of}
 use Rattle.mimic_expect.specs.declared.judgement.Unexpected.{Unexpected}
 use Rattle.mimic_expect.specs.Updated.{added_line, changes, found_at, is_number, kept_line, kept_lines, line_of, update_text, updated_text}
 use Rattle.mimic_expect.specs.Verdict.{InputRead, ends_of, has_all, have_all, is_whole, rows_of}
@@ -130,21 +125,3 @@ pub keeps_next : (a b c : Judged) (read : List InputRead) (next : InputRead) →
 keeps_next a b c read next p q =
     subst (Keeps a c) (sym (flat_map-append (λ (r : InputRead). r.entries) read (next ∷ []) ∙ ap (λ (l : List Entry). rows_of read ++ l) (append-nil next.entries)))
     (keeps_then a b c (rows_of read) next.entries p q)
-
-pub row_kept : (self : Judged) (known : List Expectation) (rows new : List Row) (row : Row) (b : Bool) → self ≡ record { known = map expected_read known; rows = map entry_read rows }
-    → b ≡ matters self.known (entry_read row) → b ≡ true → new ≡ rows ++ row ∷ [] → Keeps self (record { known = map expected_read known; rows = map entry_read new }) (entry_read row ∷ [])
-row_kept self known rows new row b e is holds news =
-    let m : matters (map expected_read known) (entry_read row) ≡ true = sym (ap (λ (j : Judged). matters j.known (entry_read row)) e) ∙ (sym is ∙ holds) in
-    rw e (record { known = refl; kept = rw (m, news) (map-append entry_read rows (row ∷ [])) })
-
-pub row_left : (self : Judged) (row : Row) (b : Bool) → b ≡ matters self.known (entry_read row) → b ≡ false → Keeps self self (entry_read row ∷ [])
-row_left self row b is lacks = record { known = refl; kept = rw (sym is ∙ lacks) (sym (append-nil self.rows)) }
-
-or_false : (b : Bool) → b ≡ (b || false)
-or_false true = refl
-or_false false = refl
-
--- a row that did not fail
-pub other_matters : (self : Judged) (known : List Expectation) (rows : List Row) (row : Row) (b : Bool) → self ≡ record { known = map expected_read known; rows = map entry_read rows }
-    → is_known (map expected_read known) (entry_read row) ≡ b → is_failed row.outcome ≡ false → b ≡ matters self.known (entry_read row)
-other_matters self known rows row b e has fails = rw (e, has, fails) (or_false b)

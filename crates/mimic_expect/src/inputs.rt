@@ -117,7 +117,10 @@ fn judge_input<I: Read + Drop, W: Write>(
     for _ in 0..u64::MAX {
         match rows.next_row() {
             Ok(Some(row)) => {
-                if judge.row(row, lines, sink)? {
+                let unknown = judge.row(row)?;
+                if let Some(row) = &unknown {
+                    Unexpected::Failed(row).add_to(sink, lines);
+                    sink.end()?;
                     failed += 1;
                 }
             }

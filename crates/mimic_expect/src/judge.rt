@@ -1,24 +1,19 @@
 //! Judges rows that come one by one.
-ghost use Rattle.std.specs.Prelude.{◌≡◌, ◌∷◌, [], IfOk, MatchResult, OnOk, cond, length, map};
+ghost use Rattle.std.specs.Prelude.{◌≡◌, ◌++◌, ◌∷◌, [], IfOk, OnOk, length, map, option_to_list};
 ghost use Rattle.mimic_trial.specs.Count.{is_failed};
-ghost use Rattle.mimic_printer.specs.Sink.{HasFaultLeft, LeftBy, shown};
 ghost use Rattle.mimic_events.specs.Contents.{entry_read};
-ghost use Rattle.mimic_expect.specs.Expect.{findings, keyed, met_by, rows_with};
-ghost use Rattle.mimic_expect.specs.FindingText.{unknown_text};
-ghost use Rattle.mimic_expect.specs.JudgedRows.{Judges, Keeps, labels_known, matters};
+ghost use Rattle.mimic_expect.specs.Expect.{findings, is_known, keyed, known_rows, met_by, rows_with, unknown_failures};
+ghost use Rattle.mimic_expect.specs.JudgedRows.{Keeps, labels_known, matters};
 ghost use Rattle.mimic_events.specs.Key.{HasTrials};
 ghost use Rattle.mimic_expect.specs.JudgementText.{finding_read};
 ghost use Rattle.mimic_expect.specs.Known.{expected_read};
 
-use crate::judgement::{Judgement, Unexpected, judge};
+use crate::judgement::{Judgement, judge};
 use crate::known::Expectation;
-use crate::options::Lines;
 use mimic_events::{Key, Row};
-use mimic_printer::{OutputFault, Sink};
 use mimic_trial::Outcome;
 use std::alloc::{AllocError, Global};
 use std::collections::HashSet;
-use std::io::Write;
 use std::marker::Model;
 
 // Judges rows that come one by one. It keeps those whose kind and name a known failure has, and others only if it is asked to.
@@ -61,31 +56,21 @@ impl<'a> Judge<'a> {
         })
     }
 
-    // Takes a row. If it is a failure whose kind and name no known failure has, it is unexpected whatever follows: its line is
-    // written, and the result is true.
-    pub(crate) fn row<W: Write>(
-        &mut self,
-        row: Row,
-        lines: Lines,
-        sink: &mut Sink<W>,
-    ) -> Result<bool, OutputFault>
-        requires { HasFaultLeft sink.old }
-        ensures { MatchResult result
-            (λ unknown. Judges lines self.old self.new (entry_read row ∷ []) (cond unknown 1 0)
-            (shown W.contents sink.old) (shown W.contents sink.new))
-            (λ fault. LeftBy fault (shown W.contents sink.old) (shown W.contents sink.new)
-            (unknown_text lines self.old.known (entry_read row ∷ []))) }
+    // Takes a row. One whose kind and name some known failure has is kept. Any other failure is handed back: it is unexpected
+    // whatever follows. The rest is dropped.
+    pub(crate) fn row(&mut self, row: Row) -> Result<Option<Row>, AllocError>
+        ensures { IfOk result (λ unknown. (self.new.known ≡ self.old.known)
+            × (self.new.rows ≡ self.old.rows ++ known_rows self.old.known (entry_read row ∷ []))
+            × (map entry_read (option_to_list unknown) ≡ unknown_failures self.old.known (entry_read row ∷ []))) }
     {
-        if (&self.labels).contains(&Key::Trial(&row)) {
+        if self.knows(&row) {
             self.rows.push(row)?;
-            return Ok(false);
+            return Ok(None);
         }
         let Outcome::Failed(_) = &row.outcome else {
-            return Ok(false);
+            return Ok(None);
         };
-        Unexpected::Failed(&row).add_to(sink, lines);
-        sink.end()?;
-        Ok(true)
+        Ok(Some(row))
     }
 
     // Takes a row, and keeps it if it matters.
@@ -104,8 +89,15 @@ impl<'a> Judge<'a> {
     {
         match &row.outcome {
             Outcome::Failed(_) => true,
-            _ => (&self.labels).contains(&Key::Trial(row)),
+            _ => self.knows(row),
         }
+    }
+
+    // Whether some known failure has the kind and name of the row.
+    fn knows(&self, row: &Row) -> bool
+        ensures { result ≡ is_known self.now.known (entry_read row.now) }
+    {
+        (&self.labels).contains(&Key::Trial(row))
     }
 
     // Judges the rows that were kept.
