@@ -1,17 +1,14 @@
 -- A watch, moment by moment.
 use Rattle.std.proofs.Common.{◌≡◌, inl, inr, ℕ, Bool, true, List, [], ◌∷◌, ◌++◌, Option, Some, None, is_some, IfSome, refl, sym, ap, ◌∙◌, subst, append_assoc, append-nil}
 use Rattle.std.specs.Io.KnownBytes.{Consumes, Keeps}
-use Rattle.std.specs.List.{flat_map}
 use Rattle.std.proofs.lemmas.List.Concat.{flat_map-append}
 use Rattle.mimic_printer.specs.Json.{Entry}
-use Rattle.mimic_printer.specs.Sink.{LeftBy, Put, Shown, Stopped}
-use Rattle.mimic_printer.specs.declared.sink.OutputFault.{OutputFault}
+use Rattle.mimic_printer.specs.Sink.{Put, Shown, Stopped}
+use Rattle.mimic_printer.specs.declared.sink.WriteFault.{WriteFault}
 use Rattle.mimic_printer.specs.declared.sink.OutputFault.TheVariants as output
-use Rattle.mimic_printer.proofs.Appending.{Put-Stopped, Put-refl, Put-trans}
-use Rattle.mimic_events.specs.Feed.{AreEnded}
 use Rattle.mimic_events.specs.Reading.{Decodes}
 use Rattle.mimic_events.specs.SoFar.{IsFirstWrong}
-use Rattle.mimic_events.specs.Readings.{EndsAs, IsOver, IsReading}
+use Rattle.mimic_events.specs.Readings.{IsOver, IsReading}
 use Rattle.mimic_events.proofs.ReadBytes.{read_more}
 use Rattle.mimic_watch.specs.declared.frame.Screen.{Screen}
 use Rattle.mimic_watch.specs.declared.verdict.WatchVerdict.{WatchVerdict}
@@ -19,10 +16,9 @@ use Rattle.mimic_watch.specs.declared.verdict.WatchFault.{WatchFault}
 use Rattle.mimic_watch.specs.declared.verdict.WatchFault.TheVariants.{Write}
 use Rattle.mimic_watch.specs.declared.viewer.Viewer.{Viewer}
 use Rattle.mimic_watch.specs.Moments.{AreMomentsAfter, IsDrawn, IsMoment, Moment, ended_in, moment_text, moments_text}
-use Rattle.mimic_watch.specs.Rows.{row_text}
-use Rattle.mimic_watch.specs.Watched.{AreCounts, HasFailed, HasWatched, IsLast, IsLeft, failures_part, failures_text, last_text}
+use Rattle.mimic_watch.specs.Watched.{AreCounts, HasFailed, HasWatched, IsLeft, failures_part, failures_text, last_text}
 use Rattle.mimic_watch.proofs.Seeing.{none_seen}
-use Rattle.mimic_watch.specs.Viewers.{HasSeen, IsLastSeen, IsWatching, PutsSeen, SeesOn, StaysSeen, put_text}
+use Rattle.mimic_watch.specs.Viewers.{EndsSeen, HasSeen, IsWatching, PutsSeen, SeesOn, StaysSeen, put_text}
 
 -- ---- one moment more
 
@@ -44,11 +40,11 @@ pub none_gone : (o : Option (List ℕ)) → Consumes o o []
 none_gone None = tt
 none_gone (Some xs) = refl
 
-pub begin : (screen : Screen) (start : Option (List ℕ)) (a : Shown) (w : Viewer) → HasSeen w [] [] [] → w.screen ≡ screen → IsWatching screen start start a a w
-begin screen start a w h l = record { bytes = []; moments = []; waiting = []; each = tt; seen = h; screen_is = l; gone = none_gone start; put = Put-refl a }
+pub begin : (screen : Screen) (start : Option (List ℕ)) (w : Viewer) → HasSeen w [] [] [] → w.screen ≡ screen → IsWatching screen start start [] w
+begin screen start w h l = record { bytes = []; moments = []; waiting = []; each = tt; seen = h; screen_is = l; gone = none_gone start; shows = refl }
 
-module _ (screen : Screen) (start now next : Option (List ℕ)) (a b : Shown) (w : Viewer) (h : IsWatching screen start now a b w) where
-  pub take_on : (v : Viewer) (piece : List ℕ) → Consumes now next piece → SeesOn w piece v → v.screen ≡ w.screen → IsWatching screen start next a b v
+module _ {screen : Screen} {start now next : Option (List ℕ)} {text : List ℕ} {w : Viewer} (h : IsWatching screen start now text w) where
+  pub take_on : (v : Viewer) (piece : List ℕ) → Consumes now next piece → SeesOn w piece v → v.screen ≡ w.screen → IsWatching screen start next text v
   take_on v piece gone sees l =
       let s = sees h.bytes (ended_in h.moments) h.waiting h.seen in
       record {
@@ -59,13 +55,12 @@ module _ (screen : Screen) (start now next : Option (List ℕ)) (a b : Shown) (w
         seen = s.1;
         screen_is = l ∙ h.screen_is;
         gone = read_more start now next h.bytes piece h.gone gone;
-        put = h.put;
+        shows = h.shows;
       }
 
   -- some bytes were read, and then a fault came
-  pub failed : (fault : WatchFault) (rest : List ℕ) → Consumes now next rest → IsLeft fault a b (moments_text screen.colours h.moments) []
-      → HasFailed screen start next a b fault
-  failed fault rest gone left = record {
+  pub failed : {a b : Shown} (fault : WatchFault) (rest : List ℕ) → Consumes now next rest → IsLeft fault a b text [] → HasFailed screen start next a b fault
+  failed {a} {b} fault rest gone left = record {
     bytes = h.bytes;
     rest = rest;
     gone = read_more start now next h.bytes rest h.gone gone;
@@ -75,7 +70,7 @@ module _ (screen : Screen) (start now next : Option (List ℕ)) (a b : Shown) (w
     ended = h.seen.followed.ended;
     last = [];
     is_last = inl refl;
-    left = left;
+    left = subst (λ (l : List ℕ). IsLeft fault a b l []) h.shows left;
   }
 
 -- a read that failed took nothing
@@ -84,95 +79,75 @@ none_more None next k = tt
 none_more (Some xs) None k = k
 none_more (Some xs) (Some ys) k = sym k
 
-pub stay : (screen : Screen) (start now : Option (List ℕ)) (a b : Shown) (w v : Viewer) → IsWatching screen start now a b w → StaysSeen w v → v.screen ≡ w.screen → IsWatching screen start now a b v
-stay screen start now a b w v h same l =
-    take_on screen start now now a b w h v [] (none_gone now) (λ before put waiting k. none_seen v before put waiting (same before put waiting k)) l
+pub stay : {screen : Screen} {start now : Option (List ℕ)} {text : List ℕ} {w : Viewer} (v : Viewer) → IsWatching screen start now text w → StaysSeen w v → v.screen ≡ w.screen
+    → IsWatching screen start now text v
+stay {now = now} v h same l = take_on h v [] (none_gone now) (λ before put waiting k. none_seen v before put waiting (same before put waiting k)) l
 
 -- ---- what is put
 
-module _ (screen : Screen) (start now : Option (List ℕ)) (a b c : Shown) (w : Viewer) (h : IsWatching screen start now a b w)
+module _ {screen : Screen} {start now : Option (List ℕ)} {text : List ℕ} {w : Viewer} (h : IsWatching screen start now text w)
     (erases : Bool) (drawn : List ℕ) (only : erases ≡ true → w.screen.live ≡ true) (draws : IsDrawn start w.screen (ended_in h.moments ++ h.waiting) drawn) where
-  abbrev moment : Moment
-  moment = record { erased = erases; ended = h.waiting; drawn = drawn }
+  abbrev moments_now : List Moment
+  moments_now = h.moments ++ record { erased = erases; ended = h.waiting; drawn = drawn } ∷ []
 
-  its_text : put_text erases w.waiting.items drawn ≡ moment_text screen.colours moment
-  its_text = ap (λ (l : List ℕ). put_text erases l drawn) (h.seen.shown ∙ ap (λ (x : Screen). flat_map (row_text x.colours) h.waiting) h.screen_is)
-
-  each_now : AreMomentsAfter start screen [] (h.moments ++ moment ∷ [])
-  each_now = each_more start screen [] h.moments moment h.each (record {
+  each_now : AreMomentsAfter start screen [] moments_now
+  each_now = each_more start screen [] h.moments _ h.each (record {
     erased = λ e. ap (λ (x : Screen). x.live) (sym h.screen_is) ∙ only e;
     drawn = subst (λ (l : Screen). IsDrawn start l (ended_in h.moments ++ h.waiting) drawn) h.screen_is draws;
   })
 
-  -- all that was put so far
-  all_text : (last : List ℕ) → moments_text screen.colours h.moments ++ (put_text erases w.waiting.items drawn ++ last) ≡ moments_text screen.colours (h.moments ++ moment ∷ []) ++ last
-  all_text last =
-      sym (append_assoc (moments_text screen.colours h.moments) (put_text erases w.waiting.items drawn) last)
-      ∙ ap (λ (l : List ℕ). l ++ last) (ap (λ (l : List ℕ). moments_text screen.colours h.moments ++ l) its_text ∙ sym (more_text screen.colours h.moments moment))
+  text_now : text ++ put_text erases w.waiting.items drawn ≡ moments_text screen.colours moments_now
+  text_now = rw (h.shows, h.seen.shown, h.screen_is) (sym (more_text screen.colours h.moments _))
 
-  -- none waits any more
-  none_waits : ended_in h.moments ++ h.waiting ≡ ended_in (h.moments ++ moment ∷ []) ++ []
-  none_waits = sym (append-nil (ended_in (h.moments ++ moment ∷ [])) ∙ more_ended h.moments moment)
-
-  pub moment_put : (v : Viewer) → Put b c (put_text erases w.waiting.items drawn) → PutsSeen w v → v.screen ≡ w.screen → IsWatching screen start now a c v
-  moment_put v p puts l = record {
+  pub moment_put : (v : Viewer) → PutsSeen w v → v.screen ≡ w.screen → IsWatching screen start now (text ++ put_text erases w.waiting.items drawn) v
+  moment_put v puts l = record {
     bytes = h.bytes;
-    moments = h.moments ++ moment ∷ [];
+    moments = moments_now;
     waiting = [];
     each = each_now;
-    seen = rw (more_ended h.moments moment) (puts h.bytes (ended_in h.moments) h.waiting h.seen);
+    seen = rw (more_ended h.moments _) (puts h.bytes (ended_in h.moments) h.waiting h.seen);
     screen_is = l ∙ h.screen_is;
     gone = h.gone;
-    put = subst (Put a c) (ap (λ (l : List ℕ). moments_text screen.colours h.moments ++ l) its_text ∙ sym (more_text screen.colours h.moments moment))
-        (Put-trans (moments_text screen.colours h.moments) (put_text erases w.waiting.items drawn) h.put p);
+    shows = text_now;
   }
 
-  -- a fault at that moment, or at last
-  pub moment_left : (fault : OutputFault) (last : List ℕ) → IsLast screen.colours start (ended_in h.moments ++ h.waiting) last → LeftBy fault b c (put_text erases w.waiting.items drawn ++ last)
-      → HasFailed screen start now a c (Write fault)
-  moment_left output.OutOfMemory last is left =
-      subst (λ (x : Shown). HasFailed screen start now a x (Write output.OutOfMemory)) (sym left)
-      (failed screen start now now a b w h (Write output.OutOfMemory) [] (none_gone now) h.put)
-  moment_left (output.Write error) last is left = record {
-    bytes = h.bytes;
-    rest = [];
-    gone = subst (Consumes start now) (sym (append-nil h.bytes)) h.gone;
-    moments = h.moments ++ moment ∷ [];
-    waiting = [];
-    each = each_now;
-    ended = subst (AreEnded h.bytes) none_waits h.seen.followed.ended;
-    last = last;
-    is_last = subst (λ (es : List Entry). IsLast screen.colours start es last) (sym (more_ended h.moments moment)) is;
-    left = subst (Stopped a c) (all_text last) (Put-Stopped (moments_text screen.colours h.moments) (put_text erases w.waiting.items drawn ++ last) h.put left);
-  }
+  module _ (verdict : WatchVerdict) (over : IsOver now h.bytes) (ends : EndsSeen w verdict) where
+    abbrev last : List ℕ
+    last = last_text w.screen.colours (failures_part w.failed.items) verdict.counts verdict.ending
 
-  -- what is put at last is of the rows that have ended, in this screen's colours
-  last_of : (verdict : WatchVerdict) → last_text w.screen.colours (failures_part w.failed.items) verdict.counts verdict.ending
-      ≡ last_text screen.colours (failures_text (ended_in h.moments ++ h.waiting)) verdict.counts verdict.ending
-  last_of verdict = rw (h.screen_is, h.seen.failed)
+    -- the verdict is on all rows that were put
+    ends_now : IfSome start (IsReading (ended_in moments_now) verdict.ending) × AreCounts (ended_in moments_now) verdict
+        × (last ≡ last_text screen.colours (failures_text (ended_in moments_now)) verdict.counts verdict.ending)
+    ends_now =
+        let e = ends h.bytes (ended_in h.moments) h.waiting h.seen in
+        rw (more_ended h.moments (record { erased = erases; ended = h.waiting; drawn = drawn })) (e.0 start now h.gone over, e.1, rw (h.screen_is, h.seen.failed))
 
-  -- the end
-  pub moment_last : (verdict : WatchVerdict) → IsOver now h.bytes → Put b c (put_text erases w.waiting.items drawn ++ last_text w.screen.colours (failures_part w.failed.items) verdict.counts verdict.ending)
-      → EndsAs h.bytes (ended_in h.moments ++ h.waiting) verdict.ending × AreCounts (ended_in h.moments ++ h.waiting) verdict → HasWatched screen start a c verdict
-  moment_last verdict over p ends =
-      let rows : ended_in h.moments ++ h.waiting ≡ ended_in (h.moments ++ moment ∷ []) = sym (more_ended h.moments moment) in
-      record {
-        moments = h.moments ++ moment ∷ [];
-        each = each_now;
-        ending = subst (λ (es : List Entry). IfSome start (IsReading es verdict.ending)) rows (ends.0 start now h.gone over);
-        counts = subst (λ (es : List Entry). AreCounts es verdict) rows ends.1;
-        put = subst (Put a c) (all_text (last_text w.screen.colours (failures_part w.failed.items) verdict.counts verdict.ending)
-            ∙ ap (λ (l : List ℕ). moments_text screen.colours (h.moments ++ moment ∷ []) ++ l) (last_of verdict ∙ ap (λ (es : List Entry). last_text screen.colours (failures_text es) verdict.counts verdict.ending) rows))
-            (Put-trans (moments_text screen.colours h.moments) (put_text erases w.waiting.items drawn ++ last_text w.screen.colours (failures_part w.failed.items) verdict.counts verdict.ending) h.put p);
-      }
+    all_text : text ++ (put_text erases w.waiting.items drawn ++ last) ≡ moments_text screen.colours moments_now ++ last
+    all_text = sym (append_assoc text (put_text erases w.waiting.items drawn) last) ∙ ap (λ (l : List ℕ). l ++ last) text_now
 
--- what is put at last is of the rows that have ended
-pub last_seen : (screen : Screen) (start now : Option (List ℕ)) (a b : Shown) (w : Viewer) (h : IsWatching screen start now a b w) (last : List ℕ) → IsOver now h.bytes
-    → IsLastSeen w last → IsLast screen.colours start (ended_in h.moments ++ h.waiting) last
-last_seen screen start now a b w h last over (inl none) = inl none
-last_seen screen start now a b w h last over (inr v) =
-    let ends = v.1 h.bytes (ended_in h.moments) h.waiting h.seen in
-    inr (v.0, ends.0 start now h.gone over, ends.1, v.2 ∙ rw (h.screen_is, h.seen.failed))
+    pub all_put : {a c : Shown} → Put a c (text ++ (put_text erases w.waiting.items drawn ++ last)) → HasWatched screen start a c verdict
+    all_put {a} {c} p = record {
+      moments = moments_now;
+      each = each_now;
+      ending = ends_now.0;
+      counts = ends_now.1;
+      put = subst (Put a c) (all_text ∙ ap (λ (l : List ℕ). moments_text screen.colours moments_now ++ l) ends_now.2) p;
+    }
+
+    -- the writer failed at last
+    pub last_failed : {a c : Shown} (error : WriteFault) → Stopped a c (text ++ (put_text erases w.waiting.items drawn ++ last)) → HasFailed screen start now a c (Write (output.Write error))
+    last_failed {a} {c} error p = record {
+      bytes = h.bytes;
+      rest = [];
+      gone = rw append-nil h.gone;
+      moments = moments_now;
+      waiting = [];
+      each = each_now;
+      ended = rw (append-nil (ended_in moments_now), more_ended h.moments (record { erased = erases; ended = h.waiting; drawn = drawn })) h.seen.followed.ended;
+      last = last;
+      is_last = inr (verdict, ends_now.0, ends_now.1, ends_now.2);
+      left = subst (Stopped a c) all_text p;
+    }
 
 -- ---- turns of the loop
 

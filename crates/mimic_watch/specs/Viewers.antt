@@ -1,21 +1,18 @@
 -- What a viewer knows while it watches. No public clause names these words.
-use Rattle.std.specs.Prelude.{◌≡◌, ◌⊎◌, ℕ, ◌+◌, ◌-◌, ◌<◌, ◌^◌, Bool, true, if◌then◌else◌, List, [], ◌++◌, length, Result, MatchResult, Option}
+use Rattle.std.specs.Prelude.{◌≡◌, ℕ, ◌+◌, ◌-◌, ◌<◌, ◌^◌, Bool, true, if◌then◌else◌, List, [], ◌++◌, length, Option}
 use Rattle.std.specs.Io.KnownBytes.{Consumes}
 use Rattle.std.specs.List.{flat_map}
 use Rattle.mimic_trial.specs.Count.{HasRoom, counted, counts_of}
 use Rattle.mimic_printer.specs.Json.{Entry, outcomes_in}
-use Rattle.mimic_printer.specs.Sink.{Put, Shown}
-use Rattle.mimic_printer.specs.declared.sink.OutputFault.{OutputFault}
 use Rattle.mimic_events.specs.Follower.{HasFollowed}
 use Rattle.mimic_events.specs.Readings.{EndsAs, IsOver}
 use Rattle.mimic_watch.specs.declared.frame.Screen.{Screen}
 use Rattle.mimic_watch.specs.declared.verdict.WatchVerdict.{WatchVerdict}
-use Rattle.mimic_watch.specs.declared.verdict.WatchFault.TheVariants.{Write}
 use Rattle.mimic_watch.specs.declared.viewer.Viewer.{Viewer}
 use Rattle.mimic_watch.specs.Frames.{erase}
 use Rattle.mimic_watch.specs.Moments.{AreMomentsAfter, IsDrawn, Moment, ended_in, moments_text}
 use Rattle.mimic_watch.specs.Rows.{failed_line, failed_lines, row_text}
-use Rattle.mimic_watch.specs.Watched.{AreCounts, HasFailed, failures_part, last_text}
+use Rattle.mimic_watch.specs.Watched.{AreCounts}
 
 -- ---- what has come
 
@@ -63,10 +60,6 @@ abbrev pub EndsSeen : Viewer → WatchVerdict → Type 0
 EndsSeen w verdict = (bytes : List ℕ) (put waiting : List Entry) → HasSeen w bytes put waiting
     → EndsAs bytes (put ++ waiting) verdict.ending × AreCounts (put ++ waiting) verdict
 
--- nothing, or the names of failures and the summary of such a verdict
-abbrev pub IsLastSeen : Viewer → List ℕ → Type 0
-IsLastSeen w last = (last ≡ []) ⊎ ((verdict : WatchVerdict) × EndsSeen w verdict × (last ≡ last_text w.screen.colours (failures_part w.failed.items) verdict.counts verdict.ending))
-
 -- ---- what is put
 
 -- the text of a moment: what was drawn may be erased, and what waited and what is drawn follow
@@ -79,8 +72,8 @@ PutsSeen old new = (bytes : List ℕ) (put waiting : List Entry) → HasSeen old
 
 -- ---- the whole
 
--- since the input was at its start, these rows have come, and some of them were put
-pub record IsWatching (screen : Screen) (start now : Option (List ℕ)) (before after : Shown) (w : Viewer) : Type 0 where
+-- since the input was at its start, these rows have come, and this text shows some of them
+pub record IsWatching (screen : Screen) (start now : Option (List ℕ)) (text : List ℕ) (w : Viewer) : Type 0 where
   pub bytes : List ℕ
   pub moments : List Moment
   pub waiting : List Entry
@@ -88,12 +81,9 @@ pub record IsWatching (screen : Screen) (start now : Option (List ℕ)) (before 
   pub seen : HasSeen w bytes (ended_in moments) waiting
   pub screen_is : w.screen ≡ screen
   pub gone : Consumes start now bytes
-  pub put : Put before after (moments_text screen.colours moments)
+  pub shows : text ≡ moments_text screen.colours moments
 
--- whatever was put so far, more rows were put or none; with a fault nothing more will be
-abbrev pub ShowsOn : Viewer → Viewer → Shown → Shown → Result (Unit {0}) OutputFault → Type 0
-ShowsOn old new before after result = MatchResult result
-    (λ _. (screen : Screen) (start now : Option (List ℕ)) (first : Shown) → IsWatching screen start now first before old
-    → IsWatching screen start now first after new)
-    (λ fault. (screen : Screen) (start now : Option (List ℕ)) (first : Shown) → IsWatching screen start now first before old
-    → HasFailed screen start now first after (Write fault))
+-- whatever was put so far, this text shows more rows, or nothing
+abbrev pub ShowsOn : Viewer → Viewer → List ℕ → Type 0
+ShowsOn old new text = (screen : Screen) (start now : Option (List ℕ)) (before : List ℕ) → IsWatching screen start now before old
+    → IsWatching screen start now (before ++ text) new

@@ -1,10 +1,12 @@
 //! How a watch ends.
 ghost use Rattle.std.specs.Prelude.{◌≡◌};
+ghost use Rattle.mimic_printer.specs.declared.sink.OutputFault.TheVariants.{OutOfMemory, Write as WriteStopped};
 ghost use Rattle.mimic_watch.specs.declared.verdict.WatchFault.TheVariants.{Read, Write};
 
 use mimic_events::{Ending, ReadFault};
-use mimic_printer::OutputFault;
+use mimic_printer::{OutputFault, WriteFault};
 use mimic_trial::Conclusion;
+use std::alloc::AllocError;
 use thiserror::Error;
 
 /// What the report was that was watched.
@@ -67,10 +69,18 @@ impl From<ReadFault> for WatchFault {
     }
 }
 
-impl From<OutputFault> for WatchFault {
-    ghost from_gives = { λ error fault. fault ≡ Write error };
+impl From<AllocError> for WatchFault {
+    ghost from_gives = { λ _ fault. fault ≡ Write OutOfMemory };
 
-    fn from(error: OutputFault) -> WatchFault {
-        WatchFault::Write(error)
+    fn from(_error: AllocError) -> WatchFault {
+        WatchFault::Write(OutputFault::OutOfMemory)
+    }
+}
+
+impl From<WriteFault> for WatchFault {
+    ghost from_gives = { λ error fault. fault ≡ Write (WriteStopped error) };
+
+    fn from(error: WriteFault) -> WatchFault {
+        WatchFault::Write(OutputFault::Write(error))
     }
 }

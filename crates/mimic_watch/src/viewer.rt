@@ -11,7 +11,7 @@ use crate::row::{add_failed_line, add_row};
 use crate::text::{add_headed, text_of};
 use crate::verdict::{WatchFault, WatchVerdict};
 use mimic_events::{Ending, Follower, PIECE, ReadFault, Row, read_piece};
-use mimic_printer::{OutputFault, Printer, Sink};
+use mimic_printer::{Printer, Sink};
 use mimic_trial::{Conclusion, FormatSetting, Outcome};
 use std::alloc::{AllocError, Global};
 use std::io::{ErrorKind, Read, Write};
@@ -69,10 +69,13 @@ pub fn watch<I: Read, W: Write, C: Clock>(
     let mut room = [0; PIECE];
     for _ in 0..u64::MAX {
         if viewer.read(input, &mut room)? {
-            return Ok(viewer.finish(sink)?);
+            let verdict = viewer.finish(sink)?;
+            sink.end()?;
+            return Ok(verdict);
         }
         now = nanos(clock, now);
         viewer.show(sink, now)?;
+        sink.end()?;
     }
     Err(WatchFault::Read(ReadFault::Input(ErrorKind::Other.into())))
 }
@@ -89,17 +92,17 @@ fn go_on(fault: ReadFault) -> Result<(), ReadFault> {
 }
 
 impl Viewer {
-    ghost use Rattle.std.specs.Prelude.{◌≡◌, ◌<◌, ◌++◌, [], ℕ, List, Option, IfOk, IfSome, MatchResult, OnErr, OnOk, length};
+    ghost use Rattle.std.specs.Prelude.{◌≡◌, ◌<◌, ◌++◌, [], ℕ, List, Option, IfOk, IfSome, OnErr, OnOk, length};
     ghost use Rattle.std.specs.Io.KnownBytes.{Consumes};
     ghost use Rattle.mimic_events.specs.Follower.{HasFollowed};
     ghost use Rattle.mimic_events.specs.Reading.{Decodes};
     ghost use Rattle.mimic_events.specs.SoFar.{BeginsWithTitle};
     ghost use Rattle.mimic_printer.specs.Json.{Entry};
-    ghost use Rattle.mimic_printer.specs.Sink.{HasFaultLeft, LeftBy, Put, shown};
+    ghost use Rattle.mimic_printer.specs.Sink.{Adds};
     ghost use Rattle.mimic_events.specs.Contents.{entry_read};
     ghost use Rattle.mimic_watch.specs.Moments.{IsDrawing};
     ghost use Rattle.mimic_watch.specs.Watched.{failures_part, last_text};
-    ghost use Rattle.mimic_watch.specs.Viewers.{DrawsSeen, EndsSeen, HasSeen, IsLastSeen, ReadsOn, SeesOn, SeesRow, ShowsOn, StaysSeen, put_text};
+    ghost use Rattle.mimic_watch.specs.Viewers.{DrawsSeen, EndsSeen, HasSeen, ReadsOn, SeesOn, SeesRow, ShowsOn, StaysSeen, put_text};
 
     fn new(alloc: Global, screen: Screen, now: u64) -> Viewer
         ensures seen { HasSeen result [] [] [] }
@@ -234,10 +237,10 @@ impl Viewer {
         }
     }
 
-    // Puts what waits with what is drawn below it at this time, if either is due.
-    fn show<W: Write>(&mut self, sink: &mut Sink<W>, now: u64) -> Result<(), OutputFault>
-        requires { HasFaultLeft sink.old }
-        ensures { ShowsOn self.old self.new (shown W.contents sink.old) (shown W.contents sink.new) result }
+    // Adds what waits with what is drawn below it at this time, if either is due.
+    fn show<W: Write>(&mut self, sink: &mut Sink<W>, now: u64) -> Result<(), AllocError>
+        ensures added { OnOk result ((text : List ℕ) × Adds W.contents sink.old sink.new text × ShowsOn self.old self.new text) }
+        ensures fault { OnErr result (sink.new ≡ sink.old) }
     {
         let Some(drawn) = self.drawn(now)? else {
             return Ok(());
@@ -246,21 +249,16 @@ impl Viewer {
         set_moment(&mut self.text, erases, &self.waiting, &drawn)?;
         sink.add(&self.text);
         sink.add_flush();
-        sink.end()?;
         self.waiting.clear();
         Ok(())
     }
 
-    // Puts what waits, and of a whole report the names of the failures and the summary.
-    fn finish<W: Write>(self, sink: &mut Sink<W>) -> Result<WatchVerdict, OutputFault>
-        requires { HasFaultLeft sink.old }
+    // Adds what waits, and of a whole report the names of the failures and the summary.
+    fn finish<W: Write>(self, sink: &mut Sink<W>) -> Result<WatchVerdict, AllocError>
         ensures verdict { IfOk result (EndsSeen self) }
-        ensures put { MatchResult result
-            (λ verdict. Put (shown W.contents sink.old) (shown W.contents sink.new)
-            (put_text self.screen.live self.waiting.items []
-            ++ last_text self.screen.colours (failures_part self.failed.items) verdict.counts verdict.ending))
-            (λ fault. (last : List ℕ) × IsLastSeen self last × LeftBy fault (shown W.contents sink.old) (shown W.contents sink.new)
-            (put_text self.screen.live self.waiting.items [] ++ last)) }
+        ensures added { IfOk result (λ verdict. Adds W.contents sink.old sink.new (put_text self.screen.live self.waiting.items []
+            ++ last_text self.screen.colours (failures_part self.failed.items) verdict.counts verdict.ending)) }
+        ensures fault { OnErr result (sink.new ≡ sink.old) }
     {
         let Viewer {
             alloc,
@@ -279,7 +277,6 @@ impl Viewer {
         sink.add(&text);
         sink.add_flush();
         add_last(sink, screen.colours, &failed, &verdict);
-        sink.end()?;
         Ok(verdict)
     }
 }
