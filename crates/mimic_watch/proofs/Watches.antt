@@ -40,10 +40,12 @@ pub none_gone : (o : Option (List ℕ)) → Consumes o o []
 none_gone None = tt
 none_gone (Some xs) = refl
 
+-- nothing has come yet
 pub begin : (screen : Screen) (start : Option (List ℕ)) (w : Viewer) → HasSeen w [] [] [] → w.screen ≡ screen → IsWatching screen start start [] w
 begin screen start w h l = record { bytes = []; moments = []; waiting = []; each = tt; seen = h; screen_is = l; gone = none_gone start; shows = refl }
 
 module _ {screen : Screen} {start now next : Option (List ℕ)} {text : List ℕ} {w : Viewer} (h : IsWatching screen start now text w) where
+  -- a piece was read
   pub take_on : (v : Viewer) (piece : List ℕ) → Consumes now next piece → SeesOn w piece v → v.screen ≡ w.screen → IsWatching screen start next text v
   take_on v piece gone sees l =
       let s = sees h.bytes (ended_in h.moments) h.waiting h.seen in
@@ -79,6 +81,7 @@ none_more None next k = tt
 none_more (Some xs) None k = k
 none_more (Some xs) (Some ys) k = sym k
 
+-- only the time has changed
 pub stay : {screen : Screen} {start now : Option (List ℕ)} {text : List ℕ} {w : Viewer} (v : Viewer) → IsWatching screen start now text w → StaysSeen w v → v.screen ≡ w.screen
     → IsWatching screen start now text v
 stay {now = now} v h same l = take_on h v [] (none_gone now) (λ before put waiting k. none_seen v before put waiting (same before put waiting k)) l
@@ -87,6 +90,7 @@ stay {now = now} v h same l = take_on h v [] (none_gone now) (λ before put wait
 
 module _ {screen : Screen} {start now : Option (List ℕ)} {text : List ℕ} {w : Viewer} (h : IsWatching screen start now text w)
     (erases : Bool) (drawn : List ℕ) (only : erases ≡ true → w.screen.live ≡ true) (draws : IsDrawn start w.screen (ended_in h.moments ++ h.waiting) drawn) where
+  -- the moments so far, and this one
   abbrev moments_now : List Moment
   moments_now = h.moments ++ record { erased = erases; ended = h.waiting; drawn = drawn } ∷ []
 
@@ -99,6 +103,7 @@ module _ {screen : Screen} {start now : Option (List ℕ)} {text : List ℕ} {w 
   text_now : text ++ put_text erases w.waiting.items drawn ≡ moments_text screen.colours moments_now
   text_now = rw (h.shows, h.seen.shown, h.screen_is) (sym (more_text screen.colours h.moments _))
 
+  -- none waits any more
   pub moment_put : (v : Viewer) → PutsSeen w v → v.screen ≡ w.screen → IsWatching screen start now (text ++ put_text erases w.waiting.items drawn) v
   moment_put v puts l = record {
     bytes = h.bytes;
@@ -125,6 +130,7 @@ module _ {screen : Screen} {start now : Option (List ℕ)} {text : List ℕ} {w 
     all_text : text ++ (put_text erases w.waiting.items drawn ++ last) ≡ moments_text screen.colours moments_now ++ last
     all_text = sym (append_assoc text (put_text erases w.waiting.items drawn) last) ∙ ap (λ (l : List ℕ). l ++ last) text_now
 
+    -- the watch is over
     pub all_put : {a c : Shown} → Put a c (text ++ (put_text erases w.waiting.items drawn ++ last)) → HasWatched screen start a c verdict
     all_put {a} {c} p = record {
       moments = moments_now;
