@@ -63,7 +63,7 @@ fn write<W: Write + Drop>(root: Root, suites: &[Suite<'_>], out: W) -> Result<()
         return write_junit(suites, &mut sink);
     }
     // With this root a line names one file.
-    for suite in suites {
+    if let Some(suite) = suites.first() {
         write_suite(suite, &mut sink)?;
     }
     Ok(())
