@@ -66,3 +66,16 @@ both_lines front text name kind rest h =
 pub quote_first : (text : List ℕ) → take 1 text ≡ 34 ∷ [] → text ≡ 34 ∷ drop 1 text
 quote_first [] h = absurd cc
 quote_first (b ∷ text) h = cc
+
+-- the line and both lines, if a word that begins with the last quote follows the kind
+pub word_then : (text name kind word rest : List ℕ) → text ≡ escaped name → take 1 word ≡ 34 ∷ []
+    → text ++ (kind_text kind ++ (word ++ rest)) ≡ escaped name ++ (34 ∷ (kind_field kind ++ (drop 1 word ++ rest)))
+word_then text name kind word rest h quoted =
+    ap (λ (l : List ℕ). text ++ (kind_text kind ++ (l ++ rest))) (quote_first word quoted) ∙ label_then text name kind (drop 1 word ++ rest) h
+
+pub both_words : (front text name kind word rest : List ℕ) → text ≡ escaped name → take 1 word ≡ 34 ∷ []
+    → announcement_front ++ (text ++ (kind_text kind ++ 34 ∷ (json_end ++ (front ++ (text ++ (kind_text kind ++ (word ++ rest)))))))
+    ≡ json_announcement (record { kind = kind; name = name }) ++ (front ++ (escaped name ++ (34 ∷ (kind_field kind ++ (drop 1 word ++ rest)))))
+both_words front text name kind word rest h quoted =
+    ap (λ (l : List ℕ). announcement_front ++ (text ++ (kind_text kind ++ 34 ∷ (json_end ++ (front ++ (text ++ (kind_text kind ++ (l ++ rest)))))))) (quote_first word quoted)
+    ∙ both_lines front text name kind (drop 1 word ++ rest) h

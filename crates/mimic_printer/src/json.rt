@@ -134,16 +134,22 @@ fn add_word<'a, W: Write>(
         ++ concat (outcome_front false ∷ escaped name.now ∷ codes "\"" ∷ kind_field kind.now
         ∷ drop 1 word.now ∷ time_field nanos ∷ json_end ∷ [])) }
 {
-    add_trial!(
-        sink,
-        both,
-        "test",
-        name,
-        kind,
-        Piece::Text(word),
-        Piece::Time(nanos),
-        Piece::Text(" }\n")
-    );
+    let word = Piece::Text(word);
+    let end = Piece::Text(" }\n");
+    // Most reports have no times, and a piece less is seen in the time of a row.
+    match nanos {
+        None => add_trial!(sink, both, "test", name, kind, word, end),
+        _ => add_trial!(
+            sink,
+            both,
+            "test",
+            name,
+            kind,
+            word,
+            Piece::Time(nanos),
+            end
+        ),
+    }
 }
 
 fn add_failure<'a, W: Write>(

@@ -38,15 +38,26 @@ pub(super) fn add_announcement<W: Write>(sink: &mut Sink<W>, printer: &Printer, 
     ensures { Adds W.contents sink.old sink.new
         (pretty_announcement printer.now (label_of info.now)) }
 {
-    let pieces = [
-        Piece::Text("test "),
-        Piece::PlainKind(info.kind.as_str()),
-        Piece::Spaces(printer.kind_width.saturating_sub(kind_len(info))),
-        Piece::Text(info.name.as_str()),
-        Piece::Spaces(printer.name_width.saturating_sub(name_len(info))),
-        Piece::Text(" ... "),
-    ];
-    add_pieces(sink, &pieces);
+    let kind = info.kind.as_str();
+    let start = Piece::Text("test ");
+    let name = Piece::Text(info.name.as_str());
+    let spaces = Piece::Spaces(printer.name_width.saturating_sub(name_len(info)));
+    let end = Piece::Text(" ... ");
+    // Most trials have no kind, and no other one has a kind for which a column would be left.
+    if kind.is_empty() && printer.kind_width == 0 {
+        add_pieces(sink, &[start, name, spaces, end]);
+    } else {
+        let kind_spaces = Piece::Spaces(printer.kind_width.saturating_sub(kind_len(info)));
+        let pieces = [
+            start,
+            Piece::PlainKind(kind),
+            kind_spaces,
+            name,
+            spaces,
+            end,
+        ];
+        add_pieces(sink, &pieces);
+    }
 }
 
 // Adds an outcome's word, what was measured, the time that the trial took if there is one, and a line end.
