@@ -9,9 +9,11 @@ use Rattle.mimic_events.specs.Contents.{entry_read}
 use Rattle.mimic_events.specs.Reading.{Decodes}
 use Rattle.mimic_events.specs.SoFar.{IsFirstWrong}
 use Rattle.mimic_events.specs.Follower.{FollowsOn, FollowsRow, HasFollowed}
+use Rattle.mimic_events.specs.declared.fault.ReadFault.{ReadFault}
+use Rattle.mimic_events.specs.declared.fault.ReadFault.TheVariants.{Cut, Input, OutOfMemory, WrongLine}
 use Rattle.mimic_events.specs.declared.rows.InputRows.{InputRows}
 use Rattle.mimic_events.specs.Readings.{HasEndedRows}
-use Rattle.mimic_events.specs.RowByRow.{HasCome, HasEnded, IsReady, pending}
+use Rattle.mimic_events.specs.RowByRow.{HasCome, HasEnded, IsReady, ReadsOn, pending}
 
 -- what is left of a part of a list behind a front of it
 pub left_at : (xs front left : List ℕ) (from to : ℕ) → from ≤ to → to ≤ length xs → take (to - from) (drop from xs) ≡ front ++ left
@@ -110,3 +112,12 @@ module _ {I : Type 0} (remaining : I → Option (List ℕ)) where
         gone = subst (Consumes start (remaining r.input)) (ap (λ (l : List ℕ). h.bytes ++ l) none ∙ append-nil h.bytes) h.gone;
         last = inr (number, w.0);
       }
+
+  -- a reader that failed can be read on, and what came before it has come
+  pub reads_on : (old now new : InputRows I) (fault : ReadFault)
+      → ((start : Option (List ℕ)) (entries : List Entry) → HasCome remaining start old entries → HasCome remaining start now entries)
+      → ReadsOn remaining now new fault → ReadsOn remaining old new fault
+  reads_on old now new OutOfMemory came h = tt
+  reads_on old now new (Input error) came h = (h.0, λ start entries old_come. h.1 start entries (came start entries old_come))
+  reads_on old now new (WrongLine number) came h = h
+  reads_on old now new Cut came h = h

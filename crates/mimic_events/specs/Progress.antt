@@ -1,7 +1,6 @@
 -- How a report is read line by line, as by a machine: which line may come next, and where it leads. Of public clauses only those of a tally and of a follower name these words.
 use Rattle.std.specs.Prelude.{◌≡◌, ◌≢◌, ◌⊎◌, ℕ, ◌+◌, ◌*◌, ◌<◌, ◌≤◌, ◌^◌, List, [], ◌∷◌, ◌++◌, length, Bool, true, false, Option, Some, None}
 use Rattle.std.specs.List.{AllByRecursion, concat, flat_map}
-use Rattle.mimic_trial.specs.declared.outcome.Outcome.{Outcome}
 use Rattle.mimic_trial.specs.Count.{counts_of}
 use Rattle.mimic_printer.specs.Row.{Label}
 use Rattle.mimic_printer.specs.Json.{Entry, FitsEntry, FitsLabel, entry_lines, json_announcement, json_outcome, json_summary, json_title, outcomes_in}

@@ -1,8 +1,10 @@
 -- How the rows of a report come from an input.
-use Rattle.std.specs.Prelude.{ℕ, ◌-◌, ◌<◌, ◌≤◌, List, ◌++◌, length, take, drop, Option}
+use Rattle.std.specs.Prelude.{ℕ, ◌-◌, ◌<◌, ◌≤◌, List, ◌++◌, length, take, drop, Option, ⊤}
 use Rattle.std.specs.Io.KnownBytes.{Consumes}
 use Rattle.mimic_printer.specs.Json.{Entry}
 use Rattle.mimic_events.specs.Follower.{HasFollowed}
+use Rattle.mimic_events.specs.declared.fault.ReadFault.{ReadFault}
+use Rattle.mimic_events.specs.declared.fault.ReadFault.TheVariants as read
 use Rattle.mimic_events.specs.declared.rows.InputRows.{InputRows}
 use Rattle.mimic_events.specs.Readings.{IsOver}
 
@@ -29,3 +31,11 @@ module _ {I : Type 0} (remaining : I → Option (List ℕ)) where
     pub followed : HasFollowed r.follower bytes entries
     pub gone : Consumes start (remaining r.input) bytes
     pub last : IsOver (remaining r.input) bytes
+
+  -- no row is lost with a fault of the reader: the next call reads on from where this one was
+  abbrev pub ReadsOn : InputRows I → InputRows I → ReadFault → Type 0
+  ReadsOn old new read.OutOfMemory = ⊤
+  ReadsOn old new (read.Input error) = IsReady new
+      × ((start : Option (List ℕ)) (entries : List Entry) → HasCome start old entries → HasCome start new entries)
+  ReadsOn old new (read.WrongLine number) = ⊥
+  ReadsOn old new read.Cut = ⊥

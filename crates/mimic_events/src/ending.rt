@@ -7,16 +7,18 @@ ghost use Rattle.mimic_events.specs.Stops.{ended_part, wrong_part};
 use crate::{Follower, Label};
 use mimic_printer::{Piece, Sink, add_pieces};
 use std::alloc::{AllocError, Global};
-use std::fmt;
 use std::io::Write;
+use std::{fmt, io};
 
 /// How a report ended.
 #[derive(Debug, Drop)]
 pub enum Ending {
     /// With its summary, which says how many trials were filtered out, and how many nanoseconds the run took.
     Whole { filtered_out: u64, nanos: u64 },
-    /// Before its summary.
+    /// Before its summary, at the end of the input or at the first line that no report has there.
     Cut(Stop),
+    /// Where the reader returned this error.
+    Failed(io::Error),
 }
 
 /// What is known of a report that has no end.
@@ -31,10 +33,27 @@ pub struct Stop {
 }
 
 impl Ending {
-    ghost use Rattle.std.specs.Prelude.{IfOk, List, ℕ};
+    ghost use Rattle.std.specs.Prelude.{◌≡◌, IfOk, List, ℕ};
     ghost use Rattle.mimic_printer.specs.Json.{Entry};
     ghost use Rattle.mimic_events.specs.Follower.{HasFollowed};
-    ghost use Rattle.mimic_events.specs.Readings.{EndsAs};
+    ghost use Rattle.mimic_events.specs.Readings.{EndsAs, has_all, is_whole};
+
+    /// Whether the report has its summary.
+    pub fn is_whole(&self) -> bool
+        ensures { result ≡ is_whole self.now }
+    {
+        matches!(self, Ending::Whole { .. })
+    }
+
+    /// Whether it has, and no trial was filtered out, so that it has all trials.
+    pub fn has_all(&self) -> bool
+        ensures { result ≡ has_all self.now }
+    {
+        match self {
+            Ending::Whole { filtered_out, .. } => *filtered_out == 0,
+            Ending::Cut(_) | Ending::Failed(_) => false,
+        }
+    }
 
     /// Returns how the report ended that was followed to the end of an input, or to its first wrong line.
     pub fn of(alloc: Global, follower: Follower) -> Result<Ending, AllocError>

@@ -24,8 +24,8 @@
 //! assert_eq!(rt; (report.filtered_out, report.nanos), (16, 500_000_000));
 //! ```
 //!
-//! Any reader is read by [`read_from`], to a whole report, and by [`read_rows`] or [`InputRows`], to the rows of what may have no
-//! end:
+//! Any reader is read by [`read_from`], to a whole report, and by [`read_rows`], [`read_into`] or [`InputRows`], to the rows of what
+//! may have no end:
 //!
 //! ```rust
 //! use mimic_events::{Ending, read_from, read_rows};
@@ -35,6 +35,7 @@
 //! match read.ending {
 //!     Ending::Whole { filtered_out, nanos } => {}
 //!     Ending::Cut(stop) => {}
+//!     Ending::Failed(error) => {}
 //! }
 //! ```
 #![tactic(auto)]
@@ -59,6 +60,7 @@ mod rows;
 mod rows_read;
 mod stage;
 mod summary;
+mod taker;
 mod tally;
 mod write;
 
@@ -74,5 +76,6 @@ pub use reading::read_from;
 pub use report::{Label, Report, Row, Totals};
 pub use rows::InputRows;
 pub use rows_read::{RowsRead, read_rows};
+pub use taker::{RowTaker, read_into};
 pub use tally::Tally;
 pub use write::{add_row, write_report};

@@ -32,5 +32,6 @@ pub fn read_from<I: Read>(alloc: Global, input: &mut I) -> Result<Report, ReadFa
             Some(number) => Err(ReadFault::WrongLine(number)),
             None => Err(ReadFault::Cut),
         },
+        Ending::Failed(error) => Err(ReadFault::Input(error)),
     }
 }

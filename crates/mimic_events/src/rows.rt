@@ -1,10 +1,9 @@
 //! Reads the rows of a report one after another.
-ghost use Rattle.std.specs.Prelude.{◌≡◌, ◌++◌, ◌∷◌, [], List, Option, IfErr, IfOk, IfSome, MatchOption, OnOk, ℕ, false};
+ghost use Rattle.std.specs.Prelude.{◌≡◌, ◌++◌, ◌∷◌, [], List, Option, IfErr, IfOk, IfSome, MatchOption, None, OnOk, ℕ, false};
 ghost use Rattle.mimic_printer.specs.Json.{Entry};
 ghost use Rattle.mimic_events.specs.Contents.{entry_read};
-ghost use Rattle.mimic_events.specs.Inputs.{IsOfInput};
 ghost use Rattle.mimic_events.specs.Readings.{IsReading};
-ghost use Rattle.mimic_events.specs.RowByRow.{HasCome, HasEnded, IsReady, pending};
+ghost use Rattle.mimic_events.specs.RowByRow.{HasCome, HasEnded, IsReady, ReadsOn, pending};
 
 use crate::ending::Ending;
 use crate::fault::ReadFault;
@@ -44,7 +43,8 @@ impl<I: Read + Drop> InputRows<I> {
         })
     }
 
-    /// Returns the next row, and `None` after the last one. A read that was interrupted is tried again.
+    /// Returns the next row, and `None` after the last one. A read that was interrupted is tried again. After any other error of the
+    /// reader, such as `WouldBlock`, the next call reads on.
     pub fn next_row(&mut self) -> Result<Option<Row>, ReadFault>
         requires { IsReady self.old }
         ensures ready { OnOk result (IsReady self.new) }
@@ -52,7 +52,7 @@ impl<I: Read + Drop> InputRows<I> {
             → HasCome I.remaining start self.old entries → MatchOption found
             (HasEnded I.remaining start self.new entries)
             (λ row. HasCome I.remaining start self.new (entries ++ entry_read row ∷ []))) }
-        ensures fault { IfErr result IsOfInput }
+        ensures fault { IfErr result (ReadsOn I.remaining self.old self.new) }
     {
         for _ in 0..u64::MAX {
             if let Some(row) = self.follow()? {
@@ -76,6 +76,7 @@ impl<I: Read + Drop> InputRows<I> {
             → HasCome I.remaining start self.old entries → MatchOption found
             (HasCome I.remaining start self.new entries × (pending I.remaining self.new ≡ []))
             (λ row. HasCome I.remaining start self.new (entries ++ entry_read row ∷ []))) }
+        ensures all { IfOk result (λ found. found ≡ None → self.new.from ≡ self.new.to) }
     {
         match self.follower.next_row(&self.piece[self.from..self.to])? {
             Some((row, left)) => {
@@ -97,11 +98,12 @@ impl<I: Read + Drop> InputRows<I> {
             → HasCome I.remaining start self.old entries → pending I.remaining self.old ≡ []
             → HasCome I.remaining start self.new entries
             × (more ≡ false → HasEnded I.remaining start self.new entries)) }
-        ensures fault { IfErr result IsOfInput }
+        ensures fault { self.old.from ≡ self.old.to → IfErr result (ReadsOn I.remaining self.old self.new) }
     {
+        let count = read_piece(&mut self.input, &mut self.piece)?;
         self.from = 0;
-        self.to = read_piece(&mut self.input, &mut self.piece)?;
-        Ok(self.to > 0)
+        self.to = count;
+        Ok(count > 0)
     }
 
     /// Returns how the report ended, after the last row.
