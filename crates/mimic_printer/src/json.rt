@@ -120,6 +120,9 @@ fn add_lines<'a, W: Write>(
 }
 
 // The same of an outcome that is one word. `word` begins with the quote after the name or the kind.
+//
+// Most reports have no times, and a piece less is seen in the time of a row.
+#[inline(always)]
 fn add_word<'a, W: Write>(
     sink: &mut Sink<W>,
     both: bool,
@@ -134,22 +137,34 @@ fn add_word<'a, W: Write>(
         ++ concat (outcome_front false ∷ escaped name.now ∷ codes "\"" ∷ kind_field kind.now
         ∷ drop 1 word.now ∷ time_field nanos ∷ json_end ∷ [])) }
 {
-    let word = Piece::Text(word);
-    let end = Piece::Text(" }\n");
-    // Most reports have no times, and a piece less is seen in the time of a row.
     match nanos {
-        None => add_trial!(sink, both, "test", name, kind, word, end),
-        _ => add_trial!(
-            sink,
-            both,
-            "test",
-            name,
-            kind,
-            word,
-            Piece::Time(nanos),
-            end
-        ),
+        None => {
+            let end = Piece::Text(" }\n");
+            add_trial!(sink, both, "test", name, kind, Piece::Text(word), end)
+        }
+        Some(nanos) => add_timed_word(sink, both, name, kind, word, nanos),
     }
+}
+
+// The same with a time.
+#[inline(never)]
+fn add_timed_word<'a, W: Write>(
+    sink: &mut Sink<W>,
+    both: bool,
+    name: &'a str,
+    kind: &'a str,
+    word: &'a str,
+    nanos: u64,
+)
+    requires { take 1 word.now ≡ codes "\"" }
+    ensures { Adds W.contents sink.old sink.new
+        (announced_before both (record { kind = kind.now; name = name.now })
+        ++ concat (outcome_front false ∷ escaped name.now ∷ codes "\"" ∷ kind_field kind.now
+        ∷ drop 1 word.now ∷ time_field (Some nanos) ∷ json_end ∷ [])) }
+{
+    let time = Piece::Time(Some(nanos));
+    let end = Piece::Text(" }\n");
+    add_trial!(sink, both, "test", name, kind, Piece::Text(word), time, end);
 }
 
 fn add_failure<'a, W: Write>(

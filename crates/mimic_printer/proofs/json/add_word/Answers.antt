@@ -1,5 +1,5 @@
 use Rattle.std.proofs.Common.{◌++◌, [], List, ℕ, false, subst}
-use Rattle.mimic_printer.specs.Json.{json_end, outcome_front, time_field}
+use Rattle.mimic_printer.specs.Json.{json_end, outcome_front}
 use Rattle.mimic_printer.specs.Sink.{Adds}
 use Rattle.mimic_printer.proofs.Labels.{both_words, word_then}
 use Rattle.mimic_printer.proofs.json.add_word.Goals as goal
@@ -13,15 +13,3 @@ pub returns-else-both : goal.returns-else-both
 returns-else-both g c =
     let P : List ℕ → Type 0 = λ l. Adds g.W.Write.contents c.args.sink.now c.add_pieces-else-both.new.sink (outcome_front false ++ l) in
     rw (c.in-None.is, c.if-both.false) (subst P (word_then _ c.args.name.now c.args.kind.now c.args.word.now (json_end ++ []) c.name_piece-name.ensures c.requires) c.add_pieces-else-both.ensures)
-
-pub returns-then-both-2 : goal.returns-then-both-2
-returns-then-both-2 g c =
-    let P : List ℕ → Type 0 = λ l. Adds g.W.Write.contents c.args.sink.now c.add_pieces-then-both-2.new.sink l in
-    let rest : List ℕ = time_field c.args.nanos ++ (json_end ++ []) in
-    rw c.if-both-2.true (subst P (both_words (outcome_front false) _ c.args.name.now c.args.kind.now c.args.word.now rest c.name_piece-name-in_default.ensures c.requires) c.add_pieces-then-both-2.ensures)
-
-pub returns-else-both-2 : goal.returns-else-both-2
-returns-else-both-2 g c =
-    let P : List ℕ → Type 0 = λ l. Adds g.W.Write.contents c.args.sink.now c.add_pieces-else-both-2.new.sink (outcome_front false ++ l) in
-    let rest : List ℕ = time_field c.args.nanos ++ (json_end ++ []) in
-    rw c.if-both-2.false (subst P (word_then _ c.args.name.now c.args.kind.now c.args.word.now rest c.name_piece-name-in_default.ensures c.requires) c.add_pieces-else-both-2.ensures)
