@@ -102,6 +102,7 @@ impl Viewer {
     ghost use Rattle.mimic_events.specs.Contents.{entry_read};
     ghost use Rattle.mimic_watch.specs.Moments.{IsDrawing};
     ghost use Rattle.mimic_watch.specs.Watched.{failures_part, last_text};
+    ghost use Rattle.mimic_watch.specs.Rows.{failed_line, row_text};
     ghost use Rattle.mimic_watch.specs.Viewers.{DrawsSeen, EndsSeen, HasSeen, ReadsOn, SeesOn, SeesRow, ShowsOn, StaysSeen, put_text};
 
     fn new(alloc: Global, screen: Screen, now: u64) -> Viewer
@@ -169,6 +170,21 @@ impl Viewer {
             Outcome::Ignored => counts.num_ignored = counts.num_ignored.saturating_add(1),
             Outcome::Measured(_) => counts.num_measured = counts.num_measured.saturating_add(1),
         }
+        match &row.outcome {
+            Outcome::Passed | Outcome::Ignored => Ok(()),
+            Outcome::Failed(_) | Outcome::Measured(_) => self.add_texts(row),
+        }
+    }
+
+    // Lets wait what the row shows, and the line that names it if it failed.
+    fn add_texts(&mut self, row: &Row) -> Result<(), AllocError>
+        ensures shown { OnOk result (self.new.waiting.items
+            ≡ self.old.waiting.items ++ row_text self.old.screen.colours (entry_read row.now)) }
+        ensures failed { OnOk result (self.new.failed.items
+            ≡ self.old.failed.items ++ failed_line (entry_read row.now).label (entry_read row.now).outcome) }
+        ensures rest { OnOk result
+            (self.new ≡ record self.old { waiting = self.new.waiting; failed = self.new.failed }) }
+    {
         let mut waiting = Sink::new(replace(&mut self.waiting, Vec::new(self.alloc)));
         add_row(&mut waiting, self.screen.colours, row);
         self.waiting = text_of(waiting)?;
