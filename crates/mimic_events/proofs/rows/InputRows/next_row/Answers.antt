@@ -23,8 +23,8 @@ returns-in_err-fill-clause-fault g c =
     let fault = c.in_err-fill.field-0.0 in
     at_fault (λ r. IfErr r (ReadsOn g.I.Read.remaining c.args.self.now c.fill.new.self)) _ fault c.from_residual-in_err-fill.ensures.1
     (reads_on g.I.Read.remaining _ c.follow.new.self _ fault
-        (λ start entries h. (rw c.in_default.is at c.in_ok-row.ensures.rows start entries (c.loop.invariant.come start entries h)).0)
-        (c.in_err-fill.ensures.fault (c.in_ok-row.ensures.all c.in_default.is)))
+    (λ start entries h. (rw c.in_default.is at c.in_ok-row.ensures.rows start entries (c.loop.invariant.come start entries h)).0)
+    (c.in_err-fill.ensures.fault (c.in_ok-row.ensures.all c.in_default.is)))
 
 pub loop-preserved : goal.loop-preserved
 loop-preserved g c = record {
