@@ -1,14 +1,14 @@
 -- The lines of outcomes.
-use Rattle.std.proofs.Common.{◌≡◌, ◌≢◌, inl, inr, ℕ, List, [], ◌∷◌, ◌++◌, Bool, true, false, Option, Some, None, option_map, codes, decimal, refl, sym, ap, ap₂, subst, ◌∙◌, append_assoc, get_or, arith, ◌<◌, ◌^◌}
+use Rattle.std.proofs.Common.{◌≡◌, ◌≢◌, inl, inr, ℕ, List, ◌∷◌, ◌++◌, Bool, true, false, Option, Some, None, option_map, decimal, refl, sym, ap, ap₂, subst, ◌∙◌, append_assoc, get_or, arith, ◌<◌, ◌^◌}
 use Rattle.std.proofs.lemmas.Bool.{eqb-false}
 use Rattle.std.proofs.lemmas.List.{append_cancel_left}
 use Rattle.mimic_trial.specs.declared.outcome.Outcome.{Outcome}
 use Rattle.mimic_trial.specs.declared.outcome.Outcome.TheVariants.{Passed, Failed, Ignored, Measured}
-use Rattle.mimic_trial.specs.Count.{is_failed, is_measured}
+use Rattle.mimic_trial.specs.Count.{is_measured}
 use Rattle.mimic_trial.specs.Promise.{FitsTypes}
 use Rattle.mimic_trial.specs.Escape.{escaped}
 use Rattle.mimic_printer.specs.Row.{Label}
-use Rattle.mimic_printer.specs.Json.{FitsTime, deviation_key, event_field, json_end, json_outcome, kind_field, median_key, outcome_front, time_field}
+use Rattle.mimic_printer.specs.Json.{FitsTime, deviation_key, json_end, json_outcome, kind_field, median_key, outcome_front, time_field}
 use Rattle.mimic_events.specs.LineParts.{EndsNumber, FollowsTime, IsFailedEnd, IsMessage, IsSaid, IsTail, IsTime, IsWord, ReadsNumber, ReadsTime, behind_time, tail, word_field}
 use Rattle.mimic_events.specs.Reading.{Decodes, End, IsOutcome}
 use Rattle.mimic_events.proofs.Times.{one_time}

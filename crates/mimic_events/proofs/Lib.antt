@@ -15,6 +15,7 @@ pub mod NamedLines
 pub mod Pairs
 pub mod PlainLanes
 pub mod PlainRows
+pub mod Printing
 pub mod QuotedTexts
 pub mod ReadBytes
 pub mod Readings

@@ -4,7 +4,6 @@ use Rattle.std.specs.List.{concat, flat_map, AllByRecursion}
 use Rattle.std.proofs.lemmas.List.{length-append}
 use Rattle.std.proofs.lemmas.List.Concat.{flat_map-append}
 use Rattle.std.proofs.lemmas.List.Folds.{concat-append}
-use Rattle.mimic_trial.specs.declared.outcome.Outcome.{Outcome}
 use Rattle.mimic_printer.specs.Row.{Label}
 use Rattle.mimic_printer.specs.Json.{Entry, FitsEntry, entry_lines, json_announcement, json_outcome}
 use Rattle.mimic_events.specs.Progress.{Announces, Ends, Fits, FitsNext, LeadsFrom, Next, State, Step, Takes, state_text, text_so_far, title_and, title_next, row_next, outcome_next, nothing_next}

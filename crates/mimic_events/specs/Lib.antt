@@ -4,6 +4,7 @@ pub mod Follower
 pub mod Inputs
 pub mod Key
 pub mod LineParts
+pub mod Outputs
 pub mod Progress
 pub mod Readers
 pub mod Reading

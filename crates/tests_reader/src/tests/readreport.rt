@@ -1,11 +1,10 @@
 //! The program over memory: its line, its statuses, and what it reports of faults.
 use super::feeding::NO_ROWS;
-use mimic_readreport::{readreport_run, run_program};
+use mimic_events::readreport_run;
 use mimic_testkit::{Fault, FaultPlace, FaultyWriter};
 use std::alloc::{AllocError, Global};
 use std::io;
 use std::io::{ErrorKind, Read};
-use std::process::{ExitCode, Termination};
 use std::test::Fail;
 
 const ONE_ROW: &str = r#"{ "type": "suite", "event": "started", "test_count": 1 }
@@ -240,14 +239,4 @@ fn tells_of_a_full_output(rt: HostRuntime) {
     assert!(rt; tells_of_full(rt.alloc(), FaultPlace::Byte(0), ""));
     assert!(rt; tells_of_full(rt.alloc(), FaultPlace::Byte(8), "1 trials"));
     assert!(rt; tells_of_full(rt.alloc(), FaultPlace::Flush(1), ONE_ROW_TOLD));
-}
-
-// The status of a program whose standard input has nothing, as that of tests, and as a derived `Debug` shows it.
-#[test]
-fn shows_a_status(rt: HostRuntime) -> Result<(), Fail> {
-    let status = run_program(&rt);
-    let shown = format!(in rt.alloc(); "{status:?}");
-    assert!(rt; status.report(&rt) == ExitCode::from(1));
-    assert!(rt; shown?.as_str() == "Status { number: 1 }");
-    Ok(())
 }

@@ -4,9 +4,8 @@ use Rattle.std.specs.List.{concat}
 use Rattle.std.specs.Io.KnownBytes.{Appends, Keeps}
 use Rattle.mimic_trial.specs.declared.outcome.conclusion.Conclusion.{Conclusion}
 use Rattle.mimic_printer.specs.Json.{Contents, IsJsonReport, conclusion_of}
-use Rattle.mimic_readreport.specs.declared.machine.Status.{Status}
-use Rattle.mimic_readreport.specs.declared.program.Fault.{Fault}
-use Rattle.mimic_readreport.specs.declared.program.Fault.TheVariants.{Read, NoReport, Write, OutOfMemory}
+use Rattle.mimic_events.specs.declared.readreport.Fault.{Fault}
+use Rattle.mimic_events.specs.declared.readreport.Fault.TheVariants.{Read, NoReport, Write, OutOfMemory}
 
 -- a number in decimal, and the text after it
 abbrev pub counted : ℕ → List ℕ → List ℕ
@@ -81,16 +80,8 @@ abbrev pub EndsBy : {T : Type 0} → Option (List ℕ) → Option (List ℕ) →
 EndsBy err got printed status = MatchResult printed (λ _. (status ≡ 0) × Keeps err got)
     (λ fault. (status ≡ 1) × GetsBeginning err got (fault_line fault))
 
--- the number that a process ends with if its `main` returns this
-abbrev pub number_of : Status → ℕ
-number_of status = status.number
-
 -- how a run ends: what both outputs have got from the input, and the status
 pub record Ended (input out out_got err err_got : Option (List ℕ)) (status : ℕ) : Type 0 where
   pub printed : Result ⊤ Fault
   pub left : Leaves input out out_got printed
   pub ended : EndsBy err err_got printed status
-
--- a run over some input and outputs ends with the status
-abbrev pub EndsSomehow : ℕ → Type 0
-EndsSomehow status = (input out out_got err err_got : Option (List ℕ)) × Ended input out out_got err err_got status

@@ -1,5 +1,5 @@
 use Rattle.mimic_events.proofs.ReadBytes.{read_more}
-use Rattle.mimic_readreport.proofs.program.tallied.Goals as goal
+use Rattle.mimic_events.proofs.readreport.tallied.Goals as goal
 
 pub loop-preserved : goal.loop-preserved
 loop-preserved g c =

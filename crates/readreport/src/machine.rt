@@ -1,16 +1,15 @@
 //! Runs the program on the machine.
 ghost use Rattle.std.specs.Prelude.{◌≡◌, ℕ, List, Option};
 ghost use Rattle.std.specs.Process.{exit_status};
-ghost use Rattle.mimic_readreport.specs.Outputs.{EndsSomehow, number_of};
+ghost use Rattle.readreport.specs.Ending.{EndsSomehow, number_of};
 
-use crate::program::readreport_run;
+use mimic_events::readreport_run;
 use std::io::Eprint;
 use std::process::{ExitCode, Termination};
 
 /// The exit status of the program, which its `main` is to return. Only `run_program` makes one, and a program that drops one
 /// doesn't compile.
-#[derive(Debug)]
-pub struct Status {
+pub(crate) struct Status {
     number: u8,
 }
 
@@ -25,7 +24,7 @@ impl Termination for Status {
 
 /// Prints the line of the report on standard input on standard output, or that of a fault on standard error, and returns
 /// what `main` is to return.
-pub fn run_program(rt: &HostRuntime) -> Status
+pub(crate) fn run_program(rt: &HostRuntime) -> Status
     ensures { EndsSomehow (number_of result) }
 {
     let (input, out, err) = (&mut rt.stdin(), &mut rt.stdout(), &mut rt.stderr());

@@ -1,6 +1,6 @@
 use Rattle.std.proofs.Common.{refl, Err}
-use Rattle.mimic_readreport.proofs.Printing.{put_begins}
-use Rattle.mimic_readreport.proofs.program.readreport_run.Goals as goal
+use Rattle.mimic_events.proofs.Printing.{put_begins}
+use Rattle.mimic_events.proofs.readreport.readreport_run.Goals as goal
 
 pub returns-in-Err : goal.returns-in-Err
 returns-in-Err g c = record {

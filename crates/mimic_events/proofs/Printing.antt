@@ -5,8 +5,8 @@ use Rattle.mimic_printer.specs.Json.{Contents, IsJsonReport}
 use Rattle.mimic_events.specs.declared.report.Totals.{Totals}
 use Rattle.mimic_events.specs.Contents.{totals_of}
 use Rattle.mimic_events.specs.Tally.{SpellsTotals}
-use Rattle.mimic_readreport.specs.declared.program.Fault.{Fault}
-use Rattle.mimic_readreport.specs.Outputs.{AfterFault, GetsBeginning, Holds, Leaves, PutsText, report_line}
+use Rattle.mimic_events.specs.declared.readreport.Fault.{Fault}
+use Rattle.mimic_events.specs.Outputs.{AfterFault, GetsBeginning, Holds, Leaves, PutsText, report_line}
 
 -- a text that was put, whole or not, left a beginning of it
 pub put_begins : {T : Type 0} (a b : Option (List ℕ)) (text line : List ℕ) (put : Result T Fault) → text ≡ line → PutsText a b text put → GetsBeginning a b line

@@ -1,11 +1,14 @@
-//! Runs the program over any input and outputs.
-ghost use Rattle.std.specs.Prelude.{◌≡◌, ℕ, List, IfErr, IfOk, IfSome};
+//! Prints the numbers of a report in one line, for the program `readreport`.
+ghost use Rattle.std.specs.Prelude.{◌≡◌, ◌++◌, ℕ, List, IfErr, IfOk, IfSome, OnOk, string_bytes};
 ghost use Rattle.mimic_events.specs.Tally.{HasRead};
-ghost use Rattle.mimic_readreport.specs.declared.program.Fault.TheVariants.{OutOfMemory};
-ghost use Rattle.mimic_readreport.specs.Outputs.{Ended, IsOfInput, Leaves, PutsText, fault_line};
+ghost use Rattle.mimic_events.specs.declared.readreport.Fault.TheVariants.{OutOfMemory};
+ghost use Rattle.mimic_events.specs.Outputs.{Ended, IsOfInput, Leaves, PutsText, counted, counts_line, fault_line};
 
-use crate::line::line_of;
-use mimic_events::{ReadFault, Tally, read_piece};
+use crate::fault::ReadFault;
+use crate::input::read_piece;
+use crate::report::Totals;
+use crate::tally::Tally;
+use itoa::Buffer;
 use std::alloc::{AllocError, Global};
 use std::io::{Read, Write};
 
@@ -107,6 +110,32 @@ fn put_text<W: Write>(writer: &mut W, text: &str) -> Result<(), Fault>
         Ok(()) => Ok(()),
         Err(_) => Err(Fault::Write),
     }
+}
+
+// Makes the line of a report's numbers, with its line end, so that it is written at once.
+fn line_of(alloc: Global, totals: &Totals) -> Result<String, AllocError>
+    ensures { IfOk result (λ line. string_bytes line
+        ≡ counts_line totals.now.rows totals.now.counts totals.now.nanos) }
+{
+    let counts = &totals.counts;
+    let mut line = String::new(alloc);
+    put(&mut line, totals.rows, " trials: ")?;
+    put(&mut line, counts.num_passed, " passed; ")?;
+    put(&mut line, counts.num_failed, " failed; ")?;
+    put(&mut line, counts.num_ignored, " ignored; ")?;
+    put(&mut line, counts.num_measured, " measured; ")?;
+    put(&mut line, counts.num_filtered_out, " filtered out; ")?;
+    put(&mut line, totals.nanos, " ns\n")?;
+    Ok(line)
+}
+
+// Appends the number in decimal, and then the text.
+fn put(line: &mut String, number: u64, text: &str) -> Result<(), AllocError>
+    ensures { OnOk result
+        (string_bytes line.new ≡ string_bytes line.old ++ counted number text.now) }
+{
+    line.push_str(Buffer::new().format(number))?;
+    line.push_str(text)
 }
 
 impl From<AllocError> for Fault {

@@ -1,7 +1,7 @@
 use Rattle.std.proofs.Common.{rules, ap, ◌∙◌}
-use Rattle.mimic_readreport.specs.Outputs.{counts_line}
-use Rattle.mimic_readreport.proofs.Printing.{put_leaves, read_holds, read_none}
-use Rattle.mimic_readreport.proofs.program.print_report.Goals as goal
+use Rattle.mimic_events.specs.Outputs.{counts_line}
+use Rattle.mimic_events.proofs.Printing.{put_leaves, read_holds, read_none}
+use Rattle.mimic_events.proofs.readreport.print_report.Goals as goal
 
 pub returns-in_default : goal.returns-in_default
 returns-in_default g c =
