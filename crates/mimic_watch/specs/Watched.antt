@@ -9,7 +9,7 @@ use Rattle.mimic_printer.specs.Sink.{Put, Shown, Stopped}
 use Rattle.mimic_printer.specs.declared.sink.OutputFault.TheVariants as output
 use Rattle.mimic_events.specs.Feed.{AreEnded}
 use Rattle.mimic_events.specs.declared.ending.Ending.{Ending}
-use Rattle.mimic_events.specs.declared.ending.Ending.TheVariants.{Whole, Cut}
+use Rattle.mimic_events.specs.declared.ending.Ending.TheVariants.{Whole}
 use Rattle.mimic_events.specs.Readings.{IsReading}
 use Rattle.mimic_watch.specs.declared.frame.Screen.{Screen}
 use Rattle.mimic_watch.specs.declared.verdict.WatchVerdict.{WatchVerdict}
@@ -24,12 +24,12 @@ use Rattle.mimic_watch.specs.Moments.{AreMomentsAfter, Moment, ended_in, moments
 -- 101 if a trial failed, else 0; and 1 if the report isn't whole
 abbrev pub status_of : Conclusion → Ending → ℕ
 status_of counts (Whole filtered_out nanos) = if nat_lt 0 counts.num_failed then 101 else 0
-status_of counts (Cut stop) = 1
+status_of counts ending = 1
 
 -- how many trials were filtered out, as far as the ending says
 abbrev pub filtered_out_in : Ending → ℕ
 filtered_out_in (Whole filtered_out nanos) = filtered_out
-filtered_out_in (Cut stop) = 0
+filtered_out_in ending = 0
 
 -- the counts are those of these rows and of the trials that were filtered out
 abbrev pub AreCounts : List Entry → WatchVerdict → Type 0
@@ -49,7 +49,7 @@ failures_text entries = failures_part (failed_lines entries)
 -- what is put at last: of a whole report this text, which names the failures, and the summary
 abbrev pub last_text : Bool → List ℕ → Conclusion → Ending → List ℕ
 last_text colours failures counts (Whole filtered_out nanos) = failures ++ summary_text colours counts nanos
-last_text colours failures counts (Cut stop) = []
+last_text colours failures counts ending = []
 
 -- ---- watches
 

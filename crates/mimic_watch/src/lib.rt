@@ -11,6 +11,8 @@
 //! match verdict.ending {
 //!     Ending::Whole { filtered_out, nanos } => {}
 //!     Ending::Cut(stop) => {}
+//!     // An error of the reader is a fault of `watch`.
+//!     Ending::Failed(_) => {}
 //! }
 //! ```
 #![tactic(auto)]

@@ -45,7 +45,7 @@ impl WatchVerdict {
         match &self.ending {
             Ending::Whole { .. } if self.counts.has_failed() => Conclusion::FAILED,
             Ending::Whole { .. } => 0,
-            Ending::Cut(_) => WatchVerdict::CUT,
+            Ending::Cut(_) | Ending::Failed(_) => WatchVerdict::CUT,
         }
     }
 }

@@ -159,6 +159,7 @@ impl Viewer {
     }
 
     // Counts a row that has ended, and lets wait what it shows.
+    #[tactic(auto, unfolding(crate::specs::Rows::row_text))]
     fn add(&mut self, row: &Row) -> Result<(), AllocError>
         ensures { OnOk result (SeesRow self.old (entry_read row.now) self.new) }
     {
