@@ -1,21 +1,24 @@
 -- Cut reports, by their parts, and reports that are all whole.
-use Rattle.std.proofs.Common.{◌≡◌, ◌∙◌, ◌<◌, ◌-◌, ◌^◌, ℕ, Bool, true, List, [], ◌∷◌, ◌++◌, Option, None, Some, Err, ap, arith, inl, length, map, refl, subst, sym}
+use Rattle.std.proofs.Common.{◌≡◌, ◌∙◌, ◌<◌, ◌-◌, ◌^◌, ◌&&◌, ℕ, Bool, true, List, [], ◌∷◌, ◌++◌, Option, None, Some, IfSome, Err, ap, arith, inl, length, map, refl}
 use Rattle.std.proofs.lemmas.Bool.{false≢true}
 use Rattle.std.specs.Prelude.{min, sum}
-use Rattle.std.specs.List.{flat_map, list_all}
+use Rattle.std.specs.List.{flat_map}
 use Rattle.mimic_printer.specs.Json.{json_title}
+use Rattle.mimic_events.specs.Contents.{entry_read}
+use Rattle.mimic_events.specs.Readings.{IsReading, is_whole}
 use Rattle.mimic_events.specs.Written.{row_lines}
+use Rattle.mimic_events.specs.declared.ending.Ending.{Ending}
+use Rattle.mimic_events.specs.declared.ending.Ending.TheVariants.{Whole, Cut, Failed}
+use Rattle.mimic_events.specs.declared.rows_read.RowsRead.{RowsRead}
 use Rattle.mimic_events.specs.declared.report.Row.{Row}
 use Rattle.mimic_printer.specs.Sink.{Shown}
 use Rattle.mimic_events.specs.declared.report.Report.{Report}
 use Rattle.mimic_join.proofs.JoinedText.{leaves}
 use Rattle.mimic_join.specs.declared.faults.JoinFault.{JoinFault}
 use Rattle.mimic_join.specs.declared.faults.JoinFault.TheVariants.{OutOfMemory, Input, Refused, Write}
-use Rattle.mimic_join.specs.Cut.{AreReadOf, LeavesCut, cut_report, cut_text, ended_rows, is_whole, titles_in, wholes_in}
+use Rattle.mimic_join.specs.Cut.{AreReadOf, LeavesCut, cut_report, cut_text, are_whole, ended_rows, titles_in, wholes_in}
 use Rattle.mimic_join.specs.Inputs.{AreReportsIn, LeavesJoined}
 use Rattle.mimic_join.specs.Turns.{in_turn}
-use Rattle.mimic_join.specs.declared.cut.ShardRead.{ShardRead}
-use Rattle.mimic_join.specs.declared.cut.ShardRead.TheVariants.{Whole, Cut, Unreadable}
 use denote.Ref.{Bor}
 
 -- the sum of the numbers, at most 2^64 - 1; none of no numbers
@@ -35,34 +38,30 @@ lines_are (title ∷ titles) rows ended announced s e =
     ∙ ap (λ (l : List ℕ). json_title (min (sum (title ∷ titles)) (2 ^ 64 - 1)) ++ l) (rows_elsewhere rows ∙ ap (λ (l : List Row). flat_map row_lines l) e)
 
 -- the title and the rows are the cut report
-pub cut_lines : (reads : List ShardRead) (rows : List (Bor Row)) (announced : ℕ) → IsSumOf (titles_in reads) (Some announced)
+pub cut_lines : (reads : List RowsRead) (rows : List (Bor Row)) (announced : ℕ) → IsSumOf (titles_in reads) (Some announced)
     → map (λ row. row.now) rows ≡ in_turn (map ended_rows reads)
     → json_title announced ++ flat_map (λ row. row_lines row.now) rows ≡ cut_text reads
 unfolding cut_text
 cut_lines reads rows announced s e = lines_are (titles_in reads) rows (in_turn (map ended_rows reads)) announced s e
 
 -- without a title it is nothing
-pub nothing : (reads : List ShardRead) → titles_in reads ≡ [] → cut_text reads ≡ []
+pub nothing : (reads : List RowsRead) → titles_in reads ≡ [] → cut_text reads ≡ []
 unfolding cut_text
 nothing reads none = ap (λ (titles : List ℕ). cut_report titles (in_turn (map ended_rows reads))) none
 
 -- inputs of which all was read are reports
-are_reports : (inputs : List (Option (List ℕ))) (reads : List ShardRead) → AreReadOf inputs reads → list_all is_whole reads ≡ true
+pub are_reports : (inputs : List (Option (List ℕ))) (reads : List RowsRead) → AreReadOf inputs reads → are_whole reads ≡ true
     → AreReportsIn inputs (flat_map wholes_in reads)
 are_reports [] [] read whole = tt
 are_reports [] (r ∷ reads) read whole = absurd read
 are_reports (i ∷ inputs) [] read whole = absurd read
-are_reports (i ∷ inputs) (Whole report ∷ reads) read whole = (read.0, are_reports inputs reads read.1 whole)
-are_reports (i ∷ inputs) (Cut rows stop ∷ reads) read whole = absurd (false≢true whole)
-are_reports (i ∷ inputs) (Unreadable error ∷ reads) read whole = absurd (false≢true whole)
-
--- such inputs are the reports that are joined
-pub are_joined : (inputs : List (Option (List ℕ))) (reads seen : List ShardRead) (wholes joined : List Report) (answer : Bool)
-    → AreReadOf inputs reads → seen ≡ reads → answer ≡ list_all is_whole seen → answer ≡ true → wholes ≡ flat_map wholes_in reads → joined ≡ wholes
-    → AreReportsIn inputs joined
-are_joined inputs reads seen wholes joined answer read same asked is_so found slice =
-    let whole : list_all is_whole reads ≡ true = ap (λ (rs : List ShardRead). list_all is_whole rs) (sym same) ∙ sym asked ∙ is_so in
-    subst (λ (reports : List Report). AreReportsIn inputs reports) (sym (slice ∙ found)) (are_reports inputs reads read whole)
+are_reports (i ∷ inputs) (r ∷ reads) read whole = at r.ending read.0 whole (are_reports inputs reads read.1)
+  where
+    at : (ending : Ending) → IfSome i (IsReading (map entry_read r.rows.items) ending) → (is_whole ending && are_whole reads) ≡ true
+        → (are_whole reads ≡ true → AreReportsIn inputs (flat_map wholes_in reads)) → AreReportsIn (i ∷ inputs) (wholes_in (record r { ending = ending }) ++ flat_map wholes_in reads)
+    at (Whole filtered_out nanos) here all rest = (here, rest all)
+    at (Cut stop) here all rest = absurd (false≢true all)
+    at (Failed error) here all rest = absurd (false≢true all)
 
 -- what is left of such inputs if their reports are joined, or not
 pub leaves_joined : (inputs : List (Option (List ℕ))) (shards : ℕ) (equal_names : Bool) (reports : List Report) (old new : Shown)

@@ -1,32 +1,20 @@
 //! Joins what can be read of the reports of shards, some of which may be cut.
 ghost use Rattle.std.specs.Prelude.{◌≡◌, ◌-◌, ◌^◌, ◌<◌, [], IfOk, MatchOption, MatchResult, length, map, min, sum};
-ghost use Rattle.std.specs.List.{flat_map, list_all};
+ghost use Rattle.std.specs.List.{flat_map};
 ghost use Rattle.std.specs.Option.{option_to_list};
 ghost use Rattle.mimic_printer.specs.Sink.{Adds, HasFaultLeft, shown};
-ghost use Rattle.mimic_join.specs.Cut.{AreReadOf, IsReadOf, LeavesCut, cut_text, ended_rows, is_whole, title_in, titles_in, wholes_in};
+ghost use Rattle.mimic_join.specs.Cut.{AreReadOf, LeavesCut, are_whole, cut_text, ended_rows, title_in, titles_in, wholes_in};
 
 use crate::faults::JoinFault;
-use crate::inputs::add_joined;
+use crate::inputs::write_joined;
 use crate::order::ended_in_turn;
 use crate::write::add_rows;
-use mimic_events::{Ending, ReadFault, Report, Row, RowsRead, Stop, read_rows};
+use mimic_events::{Ending, Report, Row, RowsRead, read_rows};
 use mimic_printer::Sink;
 use mimic_printer::json::add_title;
 use mimic_trial::Conclusion;
 use std::alloc::{AllocError, Global};
-use std::io;
-use std::io::{ErrorKind, Read, Write};
-
-/// What was read of the report of a shard.
-#[derive(Debug, Drop)]
-pub enum ShardRead {
-    /// All of it.
-    Whole(Report),
-    /// The rows that have ended in it, and how far it goes.
-    Cut { rows: Vec<Row>, stop: Stop },
-    /// Nothing, since its reader failed.
-    Unreadable(io::Error),
-}
+use std::io::{Read, Write};
 
 /// What was joined.
 #[derive(Debug, Drop)]
@@ -34,7 +22,7 @@ pub enum Joined {
     /// Whole reports of all shards, to one with these counts.
     Whole(Conclusion),
     /// What was read of each shard, to a cut report.
-    Cut(Vec<ShardRead>),
+    Cut(Vec<RowsRead>),
 }
 
 /// Reads the reports of `shards` shards, one reader after another, and joins what can be read of them.
@@ -44,7 +32,7 @@ pub enum Joined {
 /// and the rows that have ended in them, in turn, each once. There is no summary. It writes nothing if there is no title. It isn't
 /// seen then if a trial is in two of the reports, or if they can't be those of shards of one list.
 ///
-/// A reader that fails counts as one without a title: the rows that it gave before are lost.
+/// A reader that fails counts as one without a title: the rows that it gave before are not written.
 #[tactic(auto, using(mimic_printer::proofs::Adding::puts_added))]
 pub fn join_cut_reports<I: Read + Drop, O: Write>(
     alloc: Global,
@@ -64,102 +52,74 @@ pub fn join_cut_reports<I: Read + Drop, O: Write>(
         return Ok(Joined::Cut(reads));
     }
     let reports = wholes_of(alloc, reads)?;
-    let counts = add_joined(alloc, &reports, shards, equal_names, sink)?;
-    sink.end()?;
+    let counts = write_joined(alloc, &reports, shards, equal_names, sink)?;
     Ok(Joined::Whole(counts))
 }
 
 // Reads what can be read of each reader.
-fn read_all<I: Read + Drop>(alloc: Global, inputs: Vec<I>) -> Result<Vec<ShardRead>, AllocError>
+fn read_all<I: Read + Drop>(alloc: Global, inputs: Vec<I>) -> Result<Vec<RowsRead>, AllocError>
     ensures { IfOk result (λ reads. AreReadOf (map I.remaining inputs.items) reads.items) }
 {
     let mut reads = Vec::new(alloc);
     for input in inputs {
-        reads.push(read_shard(alloc, input)?)?;
+        reads.push(read_rows(alloc, input)?)?;
     }
     Ok(reads)
 }
 
-fn read_shard<I: Read + Drop>(alloc: Global, input: I) -> Result<ShardRead, AllocError>
-    ensures { IfOk result (IsReadOf (I.remaining input)) }
+// The report, if all of it was read.
+fn report_in(read: RowsRead) -> Option<Report>
+    ensures { option_to_list result ≡ wholes_in read }
 {
-    let RowsRead { rows, ending } = match read_rows(alloc, input) {
-        Ok(read) => read,
-        Err(ReadFault::OutOfMemory) => return Err(AllocError),
-        Err(ReadFault::Input(error)) => return Ok(ShardRead::Unreadable(error)),
-        // Reading rows has no other fault.
-        Err(ReadFault::WrongLine(_) | ReadFault::Cut) => {
-            return Ok(ShardRead::Unreadable(ErrorKind::InvalidData.into()));
-        }
-    };
-    Ok(match ending {
+    let RowsRead { rows, ending } = read;
+    match ending {
         Ending::Whole {
             filtered_out,
             nanos,
-        } => ShardRead::Whole(Report {
+        } => Some(Report {
             rows,
             filtered_out,
             nanos,
         }),
-        Ending::Cut(stop) => ShardRead::Cut { rows, stop },
-    })
+        Ending::Cut(_) | Ending::Failed(_) => None,
+    }
 }
 
-impl ShardRead {
-    // Whether all of the report was read.
-    fn is_whole(&self) -> bool
-        ensures { result ≡ is_whole self.now }
-    {
-        matches!(self, ShardRead::Whole(_))
+// How many trials the report's title announces, if it has one.
+fn announced(read: &RowsRead) -> Option<u64>
+    ensures { option_to_list result ≡ title_in read.now }
+{
+    match &read.ending {
+        Ending::Whole { .. } => Some(read.rows.len() as u64),
+        Ending::Cut(stop) => stop.announced,
+        Ending::Failed(_) => None,
     }
+}
 
-    // The report, if all of it was read.
-    fn into_report(self) -> Option<Report>
-        ensures { option_to_list result ≡ wholes_in self }
-    {
-        match self {
-            ShardRead::Whole(report) => Some(report),
-            ShardRead::Cut { .. } | ShardRead::Unreadable(_) => None,
-        }
-    }
-
-    // How many trials the report's title announces, if it has one.
-    fn announced(&self) -> Option<u64>
-        ensures { option_to_list result ≡ title_in self.now }
-    {
-        match self {
-            ShardRead::Whole(report) => Some(report.rows.len() as u64),
-            ShardRead::Cut { rows: _, stop } => stop.announced,
-            ShardRead::Unreadable(_) => None,
-        }
-    }
-
-    // The rows that have ended in the report.
-    pub(crate) fn rows(&self) -> &[Row]
-        ensures { result.now ≡ ended_rows self.now }
-    {
-        match self {
-            ShardRead::Whole(report) => &report.rows,
-            ShardRead::Cut { rows, stop: _ } => rows,
-            ShardRead::Unreadable(_) => &[],
-        }
+// The rows that have ended in the report, unless its reader failed.
+pub(crate) fn ended_rows(read: &RowsRead) -> &[Row]
+    ensures { result.now ≡ ended_rows read.now }
+{
+    match &read.ending {
+        Ending::Whole { .. } | Ending::Cut(_) => &read.rows,
+        Ending::Failed(_) => &[],
     }
 }
 
 // Whether all of each report was read.
-fn are_whole(reads: &[ShardRead]) -> bool
-    ensures { result ≡ list_all is_whole reads.now }
+fn are_whole(reads: &[RowsRead]) -> bool
+    ensures { result ≡ are_whole reads.now }
 {
-    reads.iter().all(|read| read.is_whole())
+    reads.iter().all(|read| read.ending.is_whole())
 }
 
 // Returns the reports of which all was read.
-fn wholes_of(alloc: Global, reads: Vec<ShardRead>) -> Result<Vec<Report>, AllocError>
+fn wholes_of(alloc: Global, reads: Vec<RowsRead>) -> Result<Vec<Report>, AllocError>
     ensures { IfOk result (λ reports. reports.items ≡ flat_map wholes_in reads.items) }
 {
     let mut reports = Vec::new(alloc);
     for read in reads {
-        if let Some(report) = read.into_report() {
+        if let Some(report) = report_in(read) {
             reports.push(report)?;
         }
     }
@@ -169,7 +129,7 @@ fn wholes_of(alloc: Global, reads: Vec<ShardRead>) -> Result<Vec<Report>, AllocE
 // Adds a cut report of what was read, and a flush behind it.
 fn add_cut<W: Write>(
     alloc: Global,
-    reads: &[ShardRead],
+    reads: &[RowsRead],
     sink: &mut Sink<W>,
 ) -> Result<(), AllocError>
     ensures { MatchResult result (λ _. Adds W.contents sink.old sink.new (cut_text reads.now)) (λ _. sink.new ≡ sink.old) }
@@ -186,13 +146,13 @@ fn add_cut<W: Write>(
 
 // Returns how many trials the titles announce together, at most the greatest number that a title can have. `None` says that there
 // is no title.
-fn announced_together(reads: &[ShardRead]) -> Option<u64>
+fn announced_together(reads: &[RowsRead]) -> Option<u64>
     ensures { MatchOption result (titles_in reads.now ≡ [])
         (λ all. (0 < length (titles_in reads.now)) × (all ≡ min (sum (titles_in reads.now)) (2 ^ 64 - 1))) }
 {
     let mut sum = None;
     for read in reads {
-        if let Some(count) = read.announced() {
+        if let Some(count) = announced(read) {
             sum = Some(sum.unwrap_or(0_u64).saturating_add(count));
         }
     }

@@ -1,9 +1,7 @@
 //! Joins reports from readers into a writer.
-ghost use Rattle.std.specs.Prelude.{◌≡◌, Err, MatchResult, map};
-ghost use Rattle.mimic_printer.specs.Json.{conclusion_of};
-ghost use Rattle.mimic_printer.specs.Sink.{Adds, HasFaultLeft, shown};
-ghost use Rattle.mimic_join.specs.Inputs.{AreReportsIn, CanBeJoined, CannotRead, Leaves, LeavesJoined, joined_text};
-ghost use Rattle.mimic_join.specs.Joined.{joined_contents};
+ghost use Rattle.std.specs.Prelude.{MatchResult, map};
+ghost use Rattle.mimic_printer.specs.Sink.{HasFaultLeft, shown};
+ghost use Rattle.mimic_join.specs.Inputs.{AreReportsIn, CannotRead, Leaves, LeavesJoined};
 
 use crate::faults::JoinFault;
 use crate::join::totals_of;
@@ -32,23 +30,20 @@ pub fn join_reports<I: Read + Drop, O: Write>(
         (shown O.contents sink.old) (shown O.contents sink.new) result }
 {
     let reports = read_all(alloc, inputs)?;
-    let counts = add_joined(alloc, &reports, shards, equal_names, sink)?;
-    sink.end()?;
-    Ok(counts)
+    write_joined(alloc, &reports, shards, equal_names, sink)
 }
 
-// Joins the reports as `joined` does, and adds the joined report, unless they can't be joined. Returns its counts.
-pub(crate) fn add_joined<W: Write>(
+// Joins the reports as `joined` does, and writes the joined report, unless they can't be joined. Returns its counts.
+pub(crate) fn write_joined<W: Write>(
     alloc: Global,
     reports: &[Report],
     shards: usize,
     equal_names: bool,
     sink: &mut Sink<W>,
 ) -> Result<Conclusion, JoinFault>
-    ensures { MatchResult result
-        (λ counts. CanBeJoined shards equal_names reports.now × Adds W.contents sink.old sink.new (joined_text reports.now)
-        × (counts ≡ conclusion_of (joined_contents reports.now)))
-        (λ fault. LeavesJoined reports.now shards equal_names (shown W.contents sink.old) (shown W.contents sink.new) (Err fault)) }
+    requires { HasFaultLeft sink.old }
+    ensures { LeavesJoined reports.now shards equal_names
+        (shown W.contents sink.old) (shown W.contents sink.new) result }
 {
     let (filtered_out, nanos) = match totals_of(alloc, reports, shards, equal_names)? {
         Ok(totals) => totals,
@@ -61,6 +56,7 @@ pub(crate) fn add_joined<W: Write>(
     add_rows(sink, rows);
     add_summary(sink, &counts, nanos);
     sink.add_flush();
+    sink.end()?;
     Ok(counts)
 }
 

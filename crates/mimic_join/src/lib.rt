@@ -24,7 +24,7 @@ mod numbers;
 mod order;
 mod write;
 
-pub use cut::{Joined, ShardRead, join_cut_reports};
+pub use cut::{Joined, join_cut_reports};
 pub use faults::{JoinFault, NamedFault};
 pub use inputs::join_reports;
 pub use join::{Refusal, joined};

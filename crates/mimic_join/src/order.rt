@@ -7,8 +7,8 @@ ghost use Rattle.mimic_join.specs.Cut.{ended_rows};
 ghost use Rattle.mimic_join.specs.Joined.{rows_in};
 ghost use Rattle.mimic_join.specs.Turns.{in_turn};
 
-use crate::cut::ShardRead;
-use mimic_events::{Report, Row};
+use crate::cut::ended_rows;
+use mimic_events::{Report, Row, RowsRead};
 use std::alloc::{AllocError, Global};
 use std::collections::VecDeque;
 
@@ -36,13 +36,13 @@ pub(crate) fn refs_in_turn(alloc: Global, reports: &[Report]) -> Result<Vec<&Row
 }
 
 // Returns the rows that have ended in the reports, in turn. They stay where they are.
-pub(crate) fn ended_in_turn(alloc: Global, reads: &[ShardRead]) -> Result<Vec<&Row>, AllocError>
+pub(crate) fn ended_in_turn(alloc: Global, reads: &[RowsRead]) -> Result<Vec<&Row>, AllocError>
     ensures { IfOk result
         (λ rows. map (λ row. row.now) rows.items ≡ in_turn (map ended_rows reads.now)) }
 {
     let mut lists = VecDeque::new(alloc);
     for read in reads {
-        lists.push_back(read.rows().iter())?;
+        lists.push_back(ended_rows(read).iter())?;
     }
     taken_in_turn(alloc, lists)
 }

@@ -1,7 +1,8 @@
-use Rattle.std.proofs.Common.{◌∙◌, ◌∷◌, ◌++◌, List, [], ap, append_assoc, arith, length-append, map, subst, sym}
-use Rattle.mimic_events.specs.declared.report.Report.{Report}
-use Rattle.mimic_join.specs.Inputs.{AreReportsIn}
-use Rattle.mimic_join.proofs.ReadInputs.{fails_next, reports_more}
+use Rattle.std.proofs.Common.{◌∙◌, ◌∷◌, ◌++◌, [], ap, append_assoc, arith, length-append, map, sym}
+use Rattle.std.proofs.lemmas.List.{map-append}
+use Rattle.mimic_events.proofs.Pairs.{each_more}
+use Rattle.mimic_events.specs.Inputs.{IsReportIn}
+use Rattle.mimic_join.proofs.ReadInputs.{fails_next}
 use Rattle.mimic_join.proofs.inputs.read_all.Goals as goal
 
 pub returns-in-Err : goal.returns-in-Err
@@ -19,6 +20,6 @@ loop-input-preserved g c =
       seen = append_assoc seen (c.in-Some.input ∷ []) _ ∙ (ap (λ l. seen ++ l) (sym c.in-Some.ensures.steps.0) ∙ before.seen);
       place = omega (arith, before.place, length-append seen (c.in-Some.input ∷ []));
       left = omega (arith, before.left, c.in-Some.ensures.steps);
-      read = subst (λ (l : List Report). AreReportsIn (map g.I.Read.remaining (seen ++ c.in-Some.input ∷ [])) l) {x = c.loop-input.reports.items ++ c.in-Ok.report ∷ []} (sym c.in_ok-push-in-Ok.ensures.items)
-          (reports_more g.I.Read.remaining seen c.loop-input.reports.items c.in-Some.input c.in-Ok.report before.read c.in-Ok.ensures);
+      read = rw (map-append, c.in_ok-push-in-Ok.ensures.items)
+          (each_more IsReportIn (map g.I.Read.remaining seen) c.loop-input.reports.items (g.I.Read.remaining c.in-Some.input) c.in-Ok.report before.read c.in-Ok.ensures);
     }

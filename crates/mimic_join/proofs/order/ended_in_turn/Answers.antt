@@ -16,4 +16,4 @@ loop-read-preserved c =
     (take_more reads at read c.loop-read-test.true
     ∙ ap (λ r. take at reads ++ r ∷ []) (sym c.read-item.is))
     c.in_ok-push_back.ensures.items c.loop-read.invariant
-    (YieldsList-from_slice (ended_rows read) (c.iter.ensures.rest ∙ c.rows.ensures)).runs
+    (YieldsList-from_slice (ended_rows read) (c.iter.ensures.rest ∙ c.ended_rows.ensures)).runs
