@@ -12,7 +12,9 @@ use Rattle.mimic_events.specs.Follower.{FollowsOn, FollowsRow, HasFollowed}
 use Rattle.mimic_events.specs.declared.fault.ReadFault.{ReadFault}
 use Rattle.mimic_events.specs.declared.fault.ReadFault.TheVariants.{Cut, Input, OutOfMemory, WrongLine}
 use Rattle.mimic_events.specs.declared.rows.InputRows.{InputRows}
-use Rattle.mimic_events.specs.Readings.{HasEndedRows}
+use Rattle.mimic_events.specs.Readings.{HasEndedRows, IsRead, IsReading}
+use Rattle.mimic_events.specs.declared.ending.Ending.{Ending}
+use Rattle.mimic_events.specs.declared.ending.Ending.TheVariants as ends
 use Rattle.mimic_events.specs.RowByRow.{HasCome, HasEnded, IsReady, ReadsOn, pending}
 
 -- what is left of a part of a list behind a front of it
@@ -48,6 +50,13 @@ none_ended (Some bytes) = record {
   parts = refl;
   ended = record { begun = inl refl; longest = λ others h. absurd (no_title h.announced _ h.parts) };
 }
+
+-- what was read with no error of the reader was read
+pub is_reading : (start : Option (List ℕ)) (entries : List Entry) (ending : Ending) → IfSome start (IsRead entries ending) → IfSome start (IsReading entries ending)
+is_reading None entries ending h = tt
+is_reading (Some bytes) entries (ends.Whole filtered_out nanos) h = h
+is_reading (Some bytes) entries (ends.Cut stop) h = h
+is_reading (Some bytes) entries (ends.Failed error) h = absurd h
 
 module _ {I : Type 0} (remaining : I → Option (List ℕ)) where
   pub no_rows : (r : InputRows I) → HasFollowed r.follower [] [] → r.from ≡ 0 → r.to ≡ 0 → HasCome remaining (remaining r.input) r []

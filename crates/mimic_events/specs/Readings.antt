@@ -34,7 +34,13 @@ pub record HasEndedRows (entries : List Entry) (bytes : List ℕ) : Type 0 where
   pub parts : bytes ≡ front ++ rest
   pub ended : AreEnded front entries
 
--- these rows have ended in the bytes, and this is how the report ends; with an error of the reader they have ended in a front of the bytes
+-- the bytes were read, with no error of the reader: these rows have ended in them, and this is how the report ends
+abbrev pub IsRead : List Entry → Ending → List ℕ → Type 0
+IsRead entries (Whole filtered_out nanos) bytes = IsWhole bytes entries filtered_out nanos
+IsRead entries (Cut stop) bytes = IsStopped bytes entries stop
+IsRead entries (Failed error) bytes = ⊥
+
+-- the same, but with an error of the reader these rows have ended in a front of the bytes
 abbrev pub IsReading : List Entry → Ending → List ℕ → Type 0
 IsReading entries (Whole filtered_out nanos) bytes = IsWhole bytes entries filtered_out nanos
 IsReading entries (Cut stop) bytes = IsStopped bytes entries stop
@@ -68,4 +74,4 @@ IsOver now bytes = IsAtEnd now ⊎ ((number : ℕ) × IsFirstWrong number bytes)
 -- an input of which these bytes were read until it was over has these rows, and ends so
 abbrev pub EndsAs : List ℕ → List Entry → Ending → Type 0
 EndsAs bytes entries ending = (start now : Option (List ℕ)) → Consumes start now bytes → IsOver now bytes
-    → IfSome start (IsReading entries ending)
+    → IfSome start (IsRead entries ending)

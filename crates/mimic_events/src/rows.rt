@@ -2,7 +2,7 @@
 ghost use Rattle.std.specs.Prelude.{◌≡◌, ◌++◌, ◌∷◌, [], List, Option, IfErr, IfOk, IfSome, MatchOption, None, OnOk, ℕ, false};
 ghost use Rattle.mimic_printer.specs.Json.{Entry};
 ghost use Rattle.mimic_events.specs.Contents.{entry_read};
-ghost use Rattle.mimic_events.specs.Readings.{IsReading};
+ghost use Rattle.mimic_events.specs.Readings.{IsRead};
 ghost use Rattle.mimic_events.specs.RowByRow.{HasCome, HasEnded, IsReady, ReadsOn, pending};
 
 use crate::ending::Ending;
@@ -109,7 +109,7 @@ impl<I: Read + Drop> InputRows<I> {
     /// Returns how the report ended, after the last row.
     pub fn finish(self) -> Result<Ending, AllocError>
         ensures { IfOk result (λ ending. (start : Option (List ℕ)) (entries : List Entry)
-            → HasEnded I.remaining start self entries → IfSome start (IsReading entries ending)) }
+            → HasEnded I.remaining start self entries → IfSome start (IsRead entries ending)) }
     {
         Ending::of(self.alloc, self.follower)
     }

@@ -8,7 +8,7 @@ use Rattle.mimic_printer.specs.declared.sink.WriteFault.{WriteFault}
 use Rattle.mimic_printer.specs.declared.sink.OutputFault.TheVariants as output
 use Rattle.mimic_events.specs.Reading.{Decodes}
 use Rattle.mimic_events.specs.SoFar.{IsFirstWrong}
-use Rattle.mimic_events.specs.Readings.{IsOver, IsReading}
+use Rattle.mimic_events.specs.Readings.{IsOver, IsRead}
 use Rattle.mimic_events.proofs.ReadBytes.{read_more}
 use Rattle.mimic_watch.specs.declared.frame.Screen.{Screen}
 use Rattle.mimic_watch.specs.declared.verdict.WatchVerdict.{WatchVerdict}
@@ -121,7 +121,7 @@ module _ {screen : Screen} {start now : Option (List ℕ)} {text : List ℕ} {w 
     last = last_text w.screen.colours (failures_part w.failed.items) verdict.counts verdict.ending
 
     -- the verdict is on all rows that were put
-    ends_now : IfSome start (IsReading (ended_in moments_now) verdict.ending) × AreCounts (ended_in moments_now) verdict
+    ends_now : IfSome start (IsRead (ended_in moments_now) verdict.ending) × AreCounts (ended_in moments_now) verdict
         × (last ≡ last_text screen.colours (failures_text (ended_in moments_now)) verdict.counts verdict.ending)
     ends_now =
         let e = ends h.bytes (ended_in h.moments) h.waiting h.seen in

@@ -10,7 +10,7 @@ use Rattle.mimic_printer.specs.declared.sink.OutputFault.TheVariants as output
 use Rattle.mimic_events.specs.Feed.{AreEnded}
 use Rattle.mimic_events.specs.declared.ending.Ending.{Ending}
 use Rattle.mimic_events.specs.declared.ending.Ending.TheVariants.{Whole}
-use Rattle.mimic_events.specs.Readings.{IsReading}
+use Rattle.mimic_events.specs.Readings.{IsRead}
 use Rattle.mimic_watch.specs.declared.frame.Screen.{Screen}
 use Rattle.mimic_watch.specs.declared.verdict.WatchVerdict.{WatchVerdict}
 use Rattle.mimic_watch.specs.declared.verdict.WatchFault.{WatchFault}
@@ -58,7 +58,7 @@ last_text colours failures counts ending = []
 pub record HasWatched (screen : Screen) (start : Option (List ℕ)) (old new : Shown) (verdict : WatchVerdict) : Type 0 where
   pub moments : List Moment
   pub each : AreMomentsAfter start screen [] moments
-  pub ending : IfSome start (IsReading (ended_in moments) verdict.ending)
+  pub ending : IfSome start (IsRead (ended_in moments) verdict.ending)
   pub counts : AreCounts (ended_in moments) verdict
   pub put : Put old new (moments_text screen.colours moments ++ last_text screen.colours (failures_text (ended_in moments)) verdict.counts verdict.ending)
 
@@ -70,7 +70,7 @@ IsLeft (Write (output.Write error)) old new text last = Stopped old new (text ++
 
 -- nothing, or the names of failures and the summary of the report that the input is, which has these rows
 abbrev pub IsLast : Bool → Option (List ℕ) → List Entry → List ℕ → Type 0
-IsLast colours start entries last = (last ≡ []) ⊎ ((verdict : WatchVerdict) × IfSome start (IsReading entries verdict.ending)
+IsLast colours start entries last = (last ≡ []) ⊎ ((verdict : WatchVerdict) × IfSome start (IsRead entries verdict.ending)
     × AreCounts entries verdict × (last ≡ last_text colours (failures_text entries) verdict.counts verdict.ending))
 
 -- some bytes were read; what was put shows rows that have ended in a front of them, from the first one on, each once

@@ -3,7 +3,7 @@ use Rattle.mimic_printer.specs.declared.sink.OutputFault.TheVariants.{OutOfMemor
 use Rattle.mimic_events.specs.Contents.{entry_read}
 use Rattle.mimic_events.proofs.Counted.{few}
 use Rattle.mimic_events.proofs.Results.{on_error}
-use Rattle.mimic_events.proofs.RowSteps.{none_ended, rows_before}
+use Rattle.mimic_events.proofs.RowSteps.{is_reading, none_ended, rows_before}
 use Rattle.mimic_events.proofs.taker.read_into.Goals as goal
 
 pub returns-in_err-rows : goal.returns-in_err-rows
@@ -34,7 +34,8 @@ pub returns-in-Ok-None : goal.returns-in-Ok-None
 returns-in-Ok-None g c =
     let come = c.loop.invariant.come in
     let start = g.I.Read.remaining c.args.input in
-    (come.0, c.in_ok-finish-in-Ok-None.ensures start come.0 (rw c.in-Ok-None.field-0-is at c.in-Ok-None.ensures.rows start come.0 come.1), come.2)
+    let came = rw c.in-Ok-None.field-0-is at c.in-Ok-None.ensures.rows start come.0 come.1 in
+    (come.0, is_reading _ _ _ (c.in_ok-finish-in-Ok-None.ensures start come.0 came), come.2)
 
 pub returns-in-Err-Input : goal.returns-in-Err-Input
 returns-in-Err-Input g c =
