@@ -15,14 +15,13 @@ use Rattle.mimic_printer.proofs.Appending.{Put-Stopped, Put-refl, Put-trans}
 use Rattle.mimic_events.specs.Key.{label_in, same_label}
 use Rattle.mimic_events.proofs.Keys.{same_label-symm}
 use Rattle.mimic_events.proofs.RowSteps.{none_ended}
-use Rattle.mimic_events.specs.Feed.{AreEnded}
-use Rattle.mimic_events.specs.Readings.{HasEndedRows}
-use Rattle.mimic_events.proofs.Counted.{few}
-use Rattle.mimic_expect.specs.Expect.{FailedRow, is_known, known_rows, rows_with, unknown_failures}
+use Rattle.mimic_events.specs.Readings.{HasEndedRows, InputRead, IsReadOf}
+use Rattle.mimic_expect.specs.Expect.{FailedRow, is_known, rows_with, unknown_failures}
 use Rattle.mimic_expect.specs.FindingText.{finding_text, unknown_text}
-use Rattle.mimic_expect.specs.JudgedRows.{HasLines, Judged, Judges, labels_known}
+use Rattle.mimic_expect.specs.JudgedRows.{Judged, Judges, labels_known}
 use Rattle.mimic_expect.specs.Known.{Expected, expected_read}
-use Rattle.mimic_expect.specs.Verdict.{AreBegun, AreNext, InputRead, IsReadOf, rows_of}
+use Rattle.mimic_expect.specs.KnownText.{StoppedBy}
+use Rattle.mimic_expect.specs.Verdict.{AreBegun, AreNext, rows_of}
 use Rattle.mimic_printer.specs.declared.sink.OutputFault.{OutputFault}
 use Rattle.mimic_printer.specs.declared.sink.OutputFault.TheVariants.{OutOfMemory, Write}
 use Rattle.mimic_expect.specs.declared.known.Expectation.{Expectation}
@@ -72,34 +71,27 @@ not_failed (Failed m) h = absurd (h m refl)
 not_failed Ignored h = refl
 not_failed (Measured m) h = refl
 
--- one row more, which a judge took and of which these failures are unexpected
-pub judges_row : {form : Lines} (a b c : Judged) (entries found : List Entry) (row : Entry) (count total : ℕ) (s t u : Shown) → Judges form a b entries count s t
-    → (c.known ≡ b.known) × (c.rows ≡ b.rows ++ known_rows b.known (row ∷ [])) × (found ≡ unknown_failures b.known (row ∷ []))
-    → total ≡ count + length found → Put t u (lines form found) → Judges form a c (entries ++ row ∷ []) total s u
-judges_row {form} a b c entries found row count total s t u before taken counts put =
-    rw counts (judges_then a b c entries (row ∷ []) count (length found) s t u before (record {
-      known = taken.0;
-      kept = taken.1;
-      counted = ap length taken.2;
-      put = subst (Put t u) (ap (lines form) taken.2) put;
-    }))
+-- the line of a failure that no known failure has
+pub one_line : (form : Lines) (known : List Expected) (row found : Entry) → found ∷ [] ≡ unknown_failures known (row ∷ []) → finding_text form (FailedRow found) ≡ unknown_text form known (row ∷ [])
+one_line form known row found e = sym (append-nil _) ∙ ap (lines form) e
 
 -- ---- how many
 
 -- there is room for one more failure while one more row comes
-pub room : {form : Lines} (bytes : List ℕ) (entries : List Entry) (e : Entry) (a b : Judged) (count : ℕ) (s t : Shown) → AreEnded bytes (entries ++ e ∷ []) → Judges form a b entries count s t → count < 2 ^ 64 - 1
-room bytes entries e a b count s t h j =
+pub room : {form : Lines} (entries : List Entry) (a b : Judged) (count : ℕ) (s t : Shown) → length entries < 2 ^ 64 - 1 → Judges form a b entries count s t → count < 2 ^ 64 - 1
+room entries a b count s t few j =
     let lacks : Entry → Bool = λ (row : Entry). not (is_known a.known row) in
     let fails : Entry → Bool = λ (row : Entry). is_failed row.outcome in
     let counted = j.counted in
     let lacking = length-filter_both lacks (λ (x : Entry). not (lacks x)) (λ x. refl) entries in
     let failing = length-filter_both fails (λ (x : Entry). not (fails x)) (λ x. refl) (filter lacks entries) in
-    omega (arith, counted, lacking, failing, few bytes entries e h)
+    omega (arith, counted, lacking, failing, few)
 
 -- ---- faults
 
 -- a fault behind rows that were judged
-pub lines_then : {form : Lines} (a b : Judged) (xs ys : List Entry) (count : ℕ) (s t u : Shown) (fault : OutputFault) → Judges form a b xs count s t → HasLines form b.known t u fault ys → HasLines form a.known s u fault (xs ++ ys)
+pub lines_then : {form : Lines} (a b : Judged) (xs ys : List Entry) (count : ℕ) (s t u : Shown) (fault : OutputFault) → Judges form a b xs count s t
+    → StoppedBy fault t u (unknown_text form b.known ys) → StoppedBy fault s u (unknown_text form a.known (xs ++ ys))
 lines_then {form} a b xs ys count s t u OutOfMemory j left =
     subst (Put s u) (sym (unknown_text-append form a.known xs ys)) (Put-trans _ _ j.put (rw j.known at left))
 lines_then {form} a b xs ys count s t u (Write fault) j left =
@@ -122,8 +114,8 @@ module _ {I : Type 0} (remaining : I → Option (List ℕ)) where
   -- a fault in the next input
   pub input_left : {form : Lines} (inputs before rest : List I) (input : I) (read : List InputRead) (a b : Judged) (count : ℕ) (s t u : Shown) (fault : OutputFault)
       → inputs ≡ before ++ input ∷ rest → AllZip (λ input r. IsReadOf (remaining input) r) before read → Judges form a b (rows_of read) count s t
-      → (rows : List Entry) × IfSome (remaining input) (HasEndedRows rows) × HasLines form b.known t u fault rows
-      → (rows : List Entry) × AreBegun remaining inputs rows × HasLines form a.known s u fault rows
+      → (rows : List Entry) × IfSome (remaining input) (HasEndedRows rows) × StoppedBy fault t u (unknown_text form b.known rows)
+      → (rows : List Entry) × AreBegun remaining inputs rows × StoppedBy fault s u (unknown_text form a.known rows)
   input_left inputs before rest input read a b count s t u fault parts each j left = (
     rows_of read ++ left.0,
     record {

@@ -1,5 +1,5 @@
 -- Failures that are written as known ones, row after row.
-use Rattle.std.proofs.Common.{◌≡◌, ◌==◌, ◌∙◌, ℕ, ◌+◌, Bool, true, false, cond, List, [], ◌∷◌, ◌++◌, None, ap, arith, get_or, map, refl, subst, sym}
+use Rattle.std.proofs.Common.{◌≡◌, ◌==◌, ◌∙◌, ℕ, ◌+◌, Bool, true, false, cond, List, [], ◌∷◌, ◌++◌, None, ap, append-nil, arith, get_or, map, refl, subst, sym}
 use Rattle.std.specs.List.{AllByRecursion, flat_map}
 use Rattle.std.proofs.lemmas.List.Concat.{flat_map-append}
 use Rattle.std.proofs.lemmas.List.Elements.{filter-append}
@@ -9,7 +9,7 @@ use Rattle.mimic_trial.specs.Count.{is_failed}
 use Rattle.mimic_printer.specs.Row.{Label}
 use Rattle.mimic_printer.specs.Json.{Entry, FitsEntry, IsLine, json_outcome}
 use Rattle.mimic_printer.specs.Sink.{Put, Shown, Stopped}
-use Rattle.mimic_printer.proofs.Appending.{Put-Stopped, Put-trans}
+use Rattle.mimic_printer.proofs.Appending.{Put-Stopped}
 use Rattle.mimic_expect.specs.Expect.{rows_with}
 use Rattle.mimic_expect.specs.FindingText.{row_line}
 use Rattle.mimic_events.proofs.SoFar.{an_outcome}
@@ -24,11 +24,11 @@ known_text-append rows more =
     ap (flat_map row_line) (filter-append (λ (row : Entry). is_failed row.outcome) rows more)
     ∙ flat_map-append row_line (rows_with is_failed rows) (rows_with is_failed more)
 
--- the lines of more rows come behind those that were written
-pub known_then : (a b c : Shown) (rows more : List Entry) → Put a b (known_text rows) → Put b c (known_text more) → Put a c (known_text (rows ++ more))
-known_then a b c rows more p q = subst (λ (l : List ℕ). Put a c l) (sym (known_text-append rows more)) (Put-trans _ _ p q)
+-- the line of a failure
+pub one_known : (row : Entry) → is_failed row.outcome ≡ true → row_line row ≡ known_text (row ∷ [])
+one_known row e = rw e (sym (append-nil (row_line row)))
 
--- and a beginning of them if the writer stops
+-- a beginning of the lines of more rows comes behind those that were written
 pub known_stopped : (a b c : Shown) (rows more : List Entry) → Put a b (known_text rows) → Stopped b c (known_text more) → Stopped a c (known_text (rows ++ more))
 known_stopped a b c rows more p q = subst (λ (l : List ℕ). Stopped a c l) (sym (known_text-append rows more)) (Put-Stopped _ _ p q)
 

@@ -12,6 +12,8 @@ use Rattle.mimic_printer.specs.Json.{Entry, IsLine}
 use Rattle.mimic_printer.specs.Sink.{Adds}
 use Rattle.mimic_printer.specs.declared.sink.Sink.{Sink}
 use Rattle.mimic_printer.proofs.Adding.{adds_then}
+use Rattle.mimic_events.specs.Readings.{InputRead, has_all, is_whole}
+use Rattle.mimic_events.specs.declared.ending.Ending.{Ending}
 use Rattle.mimic_expect.specs.Changes.{HasChanges, read_at}
 use Rattle.mimic_expect.specs.Expect.{Finding, counts, findings}
 use Rattle.mimic_expect.specs.JudgedRows.{Judged, Keeps, matters}
@@ -19,8 +21,7 @@ use Rattle.mimic_expect.specs.JudgementText.{finding_read}
 use Rattle.mimic_expect.specs.Known.{Expected, lines_of}
 use Rattle.mimic_expect.specs.declared.judgement.Unexpected.{Unexpected}
 use Rattle.mimic_expect.specs.Updated.{added_line, changes, found_at, is_number, kept_line, kept_lines, line_of, update_text, updated_text}
-use Rattle.mimic_expect.specs.Verdict.{InputRead, ends_of, has_all, have_all, is_whole, rows_of}
-use Rattle.mimic_expect.specs.declared.verdict.InputEnd.{InputEnd}
+use Rattle.mimic_expect.specs.Verdict.{ends_of, have_all, rows_of}
 use Rattle.mimic_expect.proofs.KnownLines.{line_off}
 use Rattle.mimic_expect.proofs.Strangers.{filter_mapped, some_findings}
 use Rattle.mimic_expect.proofs.Verdicts.{ends_have_all}
@@ -30,9 +31,6 @@ use Rattle.mimic_expect.proofs.Verdicts.{ends_have_all}
 or_other : (b : Bool) (f g : Finding) (o : Option Finding) (c : Bool) → option_or (cond b (Some f) o) (cond c (Some g) None) ≡ cond b (Some f) (option_or o (cond c (Some g) None))
 or_other true f g o c = refl
 or_other false f g o c = refl
-
-last_or : (b : Bool) (f : Finding) → option_or None (cond b (Some f) None) ≡ cond b (Some f) None
-last_or b f = refl
 
 pub found_at-more : (found : List Finding) (f : Finding) (number : ℕ) → found_at (found ++ f ∷ []) number ≡ cond (is_number number (line_of f)) (Some f) (found_at found number)
 found_at-more [] f number = refl
@@ -96,7 +94,7 @@ counting_read : (lax : Bool) (unexpected : List Unexpected)
     → map finding_read (filter (λ (u : Unexpected). counts lax (finding_read u)) unexpected) ≡ filter (counts lax) (map finding_read unexpected)
 counting_read lax unexpected = sym (filter_mapped (counts lax) finding_read unexpected)
 
-pub update_is : (text : List ℕ) (expected : List Expected) (lax : Bool) (read : List InputRead) (ends : List InputEnd) (start new : Judged) (all : Bool) (unexpected found : List Unexpected)
+pub update_is : (text : List ℕ) (expected : List Expected) (lax : Bool) (read : List InputRead) (ends : List Ending) (start new : Judged) (all : Bool) (unexpected found : List Unexpected)
     → ends ≡ ends_of read → list_all is_whole ends ≡ true → start ≡ record { known = expected; rows = [] } → Keeps start new (rows_of read) → all ≡ list_all has_all ends → map finding_read unexpected ≡ findings new.known new.rows all
     → found ≡ filter (λ (u : Unexpected). counts lax (finding_read u)) unexpected → updated_text text (map finding_read found) ≡ update_text text expected read lax
 update_is text expected lax read ends start new all unexpected found ended whole begun keeps a says counted =

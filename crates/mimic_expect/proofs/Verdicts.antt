@@ -12,19 +12,21 @@ use Rattle.mimic_trial.specs.Count.{is_failed}
 use Rattle.mimic_printer.specs.Json.{Entry}
 use Rattle.mimic_printer.specs.Sink.{Put, Shown, Stopped}
 use Rattle.mimic_printer.specs.declared.sink.WriteFault.{WriteFault}
+use Rattle.mimic_events.specs.Readings.{InputRead, IsReadOf, has_all}
+use Rattle.mimic_events.specs.declared.ending.Ending.{Ending}
 use Rattle.mimic_expect.specs.Expect.{FailedRow, Finding, counts, findings, findings_in_turn, is_absent_line, is_failed_row, is_other_message, is_passed_line, keyed, known_rows, met_by, rows_with, unknown_failures}
 use Rattle.mimic_expect.specs.FindingText.{finding_text, numbers_text, rows_text, running_text, unknown_text}
-use Rattle.mimic_expect.specs.JudgedRows.{HasLines, Judged, Judges}
+use Rattle.mimic_expect.specs.JudgedRows.{Judged, Judges}
 use Rattle.mimic_expect.specs.JudgementText.{count_in, finding_read, judgement_numbers, judgement_text}
 use Rattle.mimic_expect.specs.Known.{Expected}
-use Rattle.mimic_expect.specs.Verdict.{AreBegun, InputRead, IsBegun, IsReadOf, IsWhole, LeavesVerdict, VerdictLeftBy, ends_of, has_all, have_all, rows_of}
+use Rattle.mimic_expect.specs.KnownText.{StoppedBy}
+use Rattle.mimic_expect.specs.Verdict.{AreBegun, IsBegun, IsWhole, LeavesVerdict, VerdictLeftBy, ends_of, have_all, rows_of}
 use Rattle.mimic_expect.specs.declared.judgement.Judgement.{Judgement}
 use Rattle.mimic_expect.specs.declared.judgement.Unexpected.{Unexpected}
 use Rattle.mimic_printer.specs.declared.sink.OutputFault.{OutputFault}
 use Rattle.mimic_printer.specs.declared.sink.OutputFault.TheVariants.{OutOfMemory, Write as WriteFailed}
 use Rattle.mimic_expect.specs.declared.options.ExpectOptions.{ExpectOptions}
 use Rattle.mimic_expect.specs.declared.options.Lines.{Lines}
-use Rattle.mimic_expect.specs.declared.verdict.InputEnd.{InputEnd}
 use Rattle.mimic_expect.specs.declared.verdict.ExpectationVerdict.{ExpectationVerdict}
 use Rattle.mimic_events.proofs.Results.{at_fault}
 use Rattle.mimic_expect.proofs.Judged.{lines, lines_put}
@@ -115,7 +117,7 @@ module _ (known : List Expected) (start new : Judged) (rows : List Entry) (are_a
           met ∙ (ap₂ (λ (k : List Expected) (l : List Entry). length (met_by (keyed k) (rows_with is_failed l))) knows kept ∙ ap length (has_same known rows are_all).met) in
           rw (is, all_failed, none_of is_passed_line (λ row. refl), none_of is_other_message (λ row. refl), none_of is_absent_line (λ row. refl)) refl
 
-      all_text : (ends : List InputEnd) → judgement.met ≡ length (met_by (keyed new.known) (rows_with is_failed new.rows))
+      all_text : (ends : List Ending) → judgement.met ≡ length (met_by (keyed new.known) (rows_with is_failed new.rows))
           → lines form failures ++ judgement_text form judgement count ends ≡ rows_text form known rows ends are_all
       all_text ends met =
           let shown : flat_map (finding_text form) (findings_in_turn known rows are_all) ≡ lines form failures ++ flat_map (line_of form) judgement.unexpected.items =
@@ -151,36 +153,36 @@ module _ {I : Type 0} (remaining : I → Option (List ℕ)) (expected : List Exp
       → LeavesVerdict remaining expected inputs options old new result
   memory_left rows h are p = at_fault (LeavesVerdict remaining expected inputs options old new) result OutOfMemory h (unknown_text options.lines expected rows, (rows, are, refl), p)
 
-  begun_left : (fault : OutputFault) (rows : List Entry) → AreBegun remaining inputs rows → HasLines options.lines expected old new fault rows
+  begun_left : (fault : OutputFault) (rows : List Entry) → AreBegun remaining inputs rows → StoppedBy fault old new (unknown_text options.lines expected rows)
       → VerdictLeftBy (IsBegun remaining options.lines expected inputs) (IsWhole remaining options.lines expected inputs) old new fault
   begun_left OutOfMemory rows are left = (unknown_text options.lines expected rows, (rows, are, refl), left)
   begun_left (WriteFailed error) rows are left = (unknown_text options.lines expected rows, inl (rows, are, refl), left)
 
   -- a fault while rows come
   pub rows_left_by : (fault : OutputFault) (known : List Expected) → known ≡ expected → IsErrAnd result (λ f. f ≡ fault)
-      → (rows : List Entry) × AreBegun remaining inputs rows × HasLines options.lines known old new fault rows → LeavesVerdict remaining expected inputs options old new result
+      → (rows : List Entry) × AreBegun remaining inputs rows × StoppedBy fault old new (unknown_text options.lines known rows) → LeavesVerdict remaining expected inputs options old new result
   rows_left_by fault known e h left =
       at_fault (LeavesVerdict remaining expected inputs options old new) result fault h
-      (begun_left fault left.0 left.1 (subst (λ (k : List Expected). HasLines options.lines k old new fault left.0) e left.2))
+      (begun_left fault left.0 left.1 (subst (λ (k : List Expected). StoppedBy fault old new (unknown_text options.lines k left.0)) e left.2))
 
-pub ends_have_all : (read : List InputRead) (ends : List InputEnd) → ends ≡ map (λ (r : InputRead). r.end) read → list_all has_all ends ≡ have_all read
-ends_have_all read ends e = ap (list_all has_all) e ∙ list_all-map has_all (λ (r : InputRead). r.end) read
+pub ends_have_all : (read : List InputRead) (ends : List Ending) → ends ≡ map (λ (r : InputRead). r.ending) read → list_all has_all ends ≡ have_all read
+ends_have_all read ends e = ap (list_all has_all) e ∙ list_all-map has_all (λ (r : InputRead). r.ending) read
 
 -- a judgement by whether the ends that were found say that all trials are there is one by whether the inputs do
-pub says_of : (judgement : Judgement) (new : Judged) (read : List InputRead) (given ends : List InputEnd) (all : Bool) → all ≡ list_all has_all given → given ≡ ends
-    → ends ≡ map (λ (r : InputRead). r.end) read → map finding_read judgement.unexpected.items ≡ findings new.known new.rows all
+pub says_of : (judgement : Judgement) (new : Judged) (read : List InputRead) (given ends : List Ending) (all : Bool) → all ≡ list_all has_all given → given ≡ ends
+    → ends ≡ map (λ (r : InputRead). r.ending) read → map finding_read judgement.unexpected.items ≡ findings new.known new.rows all
     → map finding_read judgement.unexpected.items ≡ findings new.known new.rows (have_all read)
 says_of judgement new read given ends all a same e says =
     says ∙ ap (findings new.known new.rows) (a ∙ (ap (list_all has_all) same ∙ ends_have_all read ends e))
 
 -- the lines that were written while rows came, and all that is written
-pub whole_text : (known : List Expected) (start new : Judged) (read : List InputRead) (given written ends : List InputEnd) (all : Bool) (count : ℕ) (judgement : Judgement) (form : Lines) (s t : Shown)
+pub whole_text : (known : List Expected) (start new : Judged) (read : List InputRead) (given written ends : List Ending) (all : Bool) (count : ℕ) (judgement : Judgement) (form : Lines) (s t : Shown)
     → start ≡ record { known = known; rows = [] } → Judges form start new (rows_of read) count s t → all ≡ list_all has_all given → given ≡ ends → written ≡ ends
-    → ends ≡ map (λ (r : InputRead). r.end) read → map finding_read judgement.unexpected.items ≡ findings new.known new.rows all
+    → ends ≡ map (λ (r : InputRead). r.ending) read → map finding_read judgement.unexpected.items ≡ findings new.known new.rows all
     → judgement.met ≡ length (met_by (keyed new.known) (rows_with is_failed new.rows))
     → Put s t (unknown_text form known (rows_of read)) × (unknown_text form known (rows_of read) ++ judgement_text form judgement count written ≡ rows_text form known (rows_of read) (ends_of read) (have_all read))
 whole_text known start new read given written ends all count judgement form s t begun judged a same w e says met = (
   lines_put known start new (rows_of read) count s t begun judged,
-  ap (λ (l : List InputEnd). unknown_text form known (rows_of read) ++ judgement_text form judgement count l) (w ∙ e)
+  ap (λ (l : List Ending). unknown_text form known (rows_of read) ++ judgement_text form judgement count l) (w ∙ e)
       ∙ all_text known start new (rows_of read) (have_all read) count judgement begun judged (says_of judgement new read given ends all a same e says) (ends_of read) met,
 )

@@ -11,13 +11,12 @@ use Rattle.mimic_printer.specs.declared.place.Place.TheVariants.{Line}
 use Rattle.mimic_events.specs.Contents.{label_read}
 use Rattle.mimic_events.specs.Key.{message_of}
 use Rattle.mimic_events.specs.declared.report.Label.{Label as LabelRead}
+use Rattle.mimic_events.specs.declared.ending.Ending.{Ending}
 use Rattle.mimic_events.specs.declared.ending.Ending.TheVariants.{Cut}
 use Rattle.mimic_expect.specs.Expect.{AbsentLine, FailedRow, Finding, OtherMessage, PassedLine, findings_in_turn, is_absent_line, is_failed_row, is_other_message, is_passed_line, keyed, met_by, rows_with, unknown_failures}
 use Rattle.mimic_expect.specs.Known.{Expected}
 use Rattle.mimic_expect.specs.declared.options.Lines.{Lines}
 use Rattle.mimic_expect.specs.declared.options.Lines.TheVariants.{Json, Readable}
-use Rattle.mimic_expect.specs.declared.verdict.InputEnd.{InputEnd}
-use Rattle.mimic_expect.specs.declared.verdict.InputEnd.TheVariants.{Ended}
 
 -- the line that a report in JSON without times has of the row's outcome: what is unexpected has nothing to do with times
 abbrev pub row_line : Entry → List ℕ
@@ -78,13 +77,13 @@ abbrev pub running_line : Lines → Option LabelRead → List ℕ
 running_line lines None = []
 running_line lines (Some label) = codes "running: " ++ announced_text lines (label_read label)
 
--- the line of the trial that was running when a report was cut, and nothing of another end of an input
-abbrev pub running_text : Lines → InputEnd → List ℕ
-running_text lines (Ended (Cut stop)) = running_line lines stop.running
+-- the line of the trial that was running when a report was cut, and nothing of another end
+abbrev pub running_text : Lines → Ending → List ℕ
+running_text lines (Cut stop) = running_line lines stop.running
 running_text lines other = []
 
 -- what is printed of rows: a line of each finding, one of each trial that was running at these ends, and one of the numbers
-abbrev pub rows_text : Lines → List Expected → List Entry → List InputEnd → Bool → List ℕ
+abbrev pub rows_text : Lines → List Expected → List Entry → List Ending → Bool → List ℕ
 rows_text lines expected rows ends are_all =
     flat_map (finding_text lines) (findings_in_turn expected rows are_all) ++ (flat_map (running_text lines) ends
     ++ numbers_text (length (met_by (keyed expected) (rows_with is_failed rows))) (findings_in_turn expected rows are_all))

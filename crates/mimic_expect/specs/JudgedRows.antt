@@ -3,9 +3,7 @@ use Rattle.std.specs.Prelude.{◌≡◌, ◌||◌, ℕ, Bool, List, ◌++◌, fi
 use Rattle.mimic_trial.specs.Count.{is_failed}
 use Rattle.mimic_printer.specs.Json.{Entry}
 use Rattle.mimic_printer.specs.Row.{Label}
-use Rattle.mimic_printer.specs.Sink.{Put, Shown, Stopped}
-use Rattle.mimic_printer.specs.declared.sink.OutputFault.{OutputFault}
-use Rattle.mimic_printer.specs.declared.sink.OutputFault.TheVariants.{OutOfMemory, Write}
+use Rattle.mimic_printer.specs.Sink.{Put, Shown}
 use Rattle.mimic_events.specs.Key.{label_in}
 use Rattle.mimic_expect.specs.Expect.{is_known, known_rows, unknown_failures}
 use Rattle.mimic_expect.specs.FindingText.{unknown_text}
@@ -29,12 +27,6 @@ pub record Judges (lines : Lines) (old new : Judged) (rows : List Entry) (count 
   pub kept : new.rows ≡ old.rows ++ known_rows old.known rows
   pub counted : count ≡ length (unknown_failures old.known rows)
   pub put : Put before after (unknown_text lines old.known rows)
-
--- with a fault, of these rows the failures had lines that no known failure has: without memory all of them, and with a fault of the
--- writer a beginning
-abbrev pub HasLines : Lines → List Expected → Shown → Shown → OutputFault → List Entry → Type 0
-HasLines lines known before after OutOfMemory rows = Put before after (unknown_text lines known rows)
-HasLines lines known before after (Write fault) rows = Stopped before after (unknown_text lines known rows)
 
 -- the row can change what is found: it failed, or some known failure has its kind and name
 abbrev pub matters : List Expected → Entry → Bool

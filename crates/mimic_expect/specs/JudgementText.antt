@@ -4,6 +4,7 @@ use Rattle.std.specs.List.{concat, flat_map}
 use Rattle.mimic_printer.specs.Json.{Entry}
 use Rattle.mimic_events.specs.Contents.{entry_read}
 use Rattle.mimic_events.specs.Key.{Key}
+use Rattle.mimic_events.specs.declared.ending.Ending.{Ending}
 use Rattle.mimic_events.specs.declared.report.Row.{Row}
 use Rattle.mimic_expect.specs.Expect.{AbsentLine, FailedRow, Finding, OtherMessage, PassedLine, is_absent_line, is_failed_row, is_other_message, is_passed_line}
 use Rattle.mimic_expect.specs.FindingText.{finding_text, running_text}
@@ -13,7 +14,6 @@ use Rattle.mimic_expect.specs.declared.judgement.Judgement.{Judgement}
 use Rattle.mimic_expect.specs.declared.judgement.Unexpected.{Unexpected}
 use Rattle.mimic_expect.specs.declared.judgement.Unexpected.TheVariants.{Failed, AnotherMessage, Passed, Absent}
 use Rattle.mimic_expect.specs.declared.options.Lines.{Lines}
-use Rattle.mimic_expect.specs.declared.verdict.InputEnd.{InputEnd}
 use denote.Ref.{Bor}
 
 abbrev pub finding_read : Unexpected → Finding
@@ -50,6 +50,6 @@ judgement_numbers judgement failed = concat (decimal judgement.met ∷ codes " k
     ∷ decimal (count_in is_absent_line judgement) ∷ codes " absent\n" ∷ [])
 
 -- its findings, each as one line, a line of each trial that was running at these ends, and its numbers
-abbrev pub judgement_text : Lines → Judgement → ℕ → List InputEnd → List ℕ
+abbrev pub judgement_text : Lines → Judgement → ℕ → List Ending → List ℕ
 judgement_text lines judgement failed ends = flat_map (λ found. finding_text lines (finding_read found)) judgement.unexpected.items
     ++ (flat_map (running_text lines) ends ++ judgement_numbers judgement failed)

@@ -1,17 +1,16 @@
 -- The failures of a report that are written as known ones (our own).
-use Rattle.std.specs.Prelude.{◌≡◌, ℕ, List, map, Option, None, IfSome, Result, Ok, Err}
+use Rattle.std.specs.Prelude.{◌≡◌, ℕ, List, map, Option, None, IfSome, MatchResult, Result}
 use Rattle.std.specs.List.{AllByRecursion, flat_map}
 use Rattle.mimic_trial.specs.Count.{is_failed}
 use Rattle.mimic_printer.specs.Json.{Entry, FitsEntry}
 use Rattle.mimic_printer.specs.Sink.{Put, Shown, Stopped}
 use Rattle.mimic_printer.specs.declared.sink.OutputFault.{OutputFault}
 use Rattle.mimic_printer.specs.declared.sink.OutputFault.TheVariants.{OutOfMemory, Write}
-use Rattle.mimic_events.specs.Readings.{HasEndedRows}
+use Rattle.mimic_events.specs.Readings.{HasEndedRows, IsReading}
+use Rattle.mimic_events.specs.declared.ending.Ending.{Ending}
 use Rattle.mimic_expect.specs.Expect.{rows_with}
 use Rattle.mimic_expect.specs.FindingText.{row_line}
 use Rattle.mimic_expect.specs.Known.{AreExpected, Expected}
-use Rattle.mimic_expect.specs.Verdict.{Reads}
-use Rattle.mimic_expect.specs.declared.verdict.InputEnd.{InputEnd}
 
 -- the lines of the failures among the rows, in their order
 abbrev pub known_text : List Entry → List ℕ
@@ -27,11 +26,15 @@ abbrev pub SayFailures : Type 0
 SayFailures = (rows : List Entry) → AllByRecursion FitsEntry rows → (expected : List Expected)
     × AreExpected expected (known_text rows) × (map (λ x. x.entry) expected ≡ map untimed (rows_with is_failed rows))
 
+-- what a fault leaves that stopped a call at the end of a text: without memory all of it was appended, and with a fault of the writer
+-- a beginning
+abbrev pub StoppedBy : OutputFault → Shown → Shown → List ℕ → Type 0
+StoppedBy OutOfMemory old new text = Put old new text
+StoppedBy (Write fault) old new text = Stopped old new text
+
 -- what a call leaves that writes the failures of an input: those of all rows that have ended in it, or of rows that have ended in a
 -- front of it if its reader failed; without memory those of such rows, too, and with a fault of the writer a beginning of these
-abbrev pub LeavesKnown : Option (List ℕ) → Shown → Shown → Result InputEnd OutputFault → Type 0
-LeavesKnown input old new (Ok end) = (rows : List Entry) × IfSome input (Reads rows end) × Put old new (known_text rows)
-LeavesKnown input old new (Err OutOfMemory) =
-    (rows : List Entry) × IfSome input (HasEndedRows rows) × Put old new (known_text rows)
-LeavesKnown input old new (Err (Write fault)) =
-    (rows : List Entry) × IfSome input (HasEndedRows rows) × Stopped old new (known_text rows)
+abbrev pub LeavesKnown : Option (List ℕ) → Shown → Shown → Result Ending OutputFault → Type 0
+LeavesKnown input old new result = MatchResult result
+    (λ ending. (rows : List Entry) × IfSome input (IsReading rows ending) × Put old new (known_text rows))
+    (λ fault. (rows : List Entry) × IfSome input (HasEndedRows rows) × StoppedBy fault old new (known_text rows))

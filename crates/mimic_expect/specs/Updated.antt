@@ -7,11 +7,12 @@ use Rattle.mimic_printer.specs.Json.{Entry, FitsEntry}
 use Rattle.mimic_printer.specs.Sink.{Put, Shown, Stopped}
 use Rattle.mimic_printer.specs.declared.sink.OutputFault.{OutputFault}
 use Rattle.mimic_printer.specs.declared.sink.OutputFault.TheVariants.{OutOfMemory, Write}
+use Rattle.mimic_events.specs.Readings.{InputRead, IsReadOf, is_whole}
 use Rattle.mimic_expect.specs.Expect.{AbsentLine, FailedRow, Finding, OtherMessage, PassedLine, counts, findings, keyed, met_by, rows_with}
 use Rattle.mimic_expect.specs.FindingText.{row_line}
 use Rattle.mimic_expect.specs.Known.{AreExpected, Expected, lines_of, says_nothing}
 use Rattle.mimic_expect.specs.KnownText.{untimed}
-use Rattle.mimic_expect.specs.Verdict.{InputRead, IsReadOf, ends_of, have_all, is_whole, rows_of}
+use Rattle.mimic_expect.specs.Verdict.{ends_of, have_all, rows_of}
 use Rattle.mimic_expect.specs.declared.updated.UpdateVerdict.{UpdateVerdict}
 
 -- ---- the new text

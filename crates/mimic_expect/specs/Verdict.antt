@@ -1,10 +1,10 @@
 -- What a call leaves that writes what of reports is unexpected (our own).
-use Rattle.std.specs.Prelude.{◌≡◌, ◌⊎◌, ℕ, ◌==◌, Bool, true, false, if◌then◌else◌, List, [], ◌∷◌, ◌++◌, map, Option, IfSome, Result, Ok, Err}
+use Rattle.std.specs.Prelude.{◌≡◌, ◌⊎◌, ℕ, Bool, if◌then◌else◌, List, [], ◌∷◌, ◌++◌, map, Option, IfSome, Result, Ok, Err}
 use Rattle.std.specs.List.{AllZip, flat_map, list_all, list_any}
 use Rattle.mimic_printer.specs.Json.{Entry}
 use Rattle.mimic_printer.specs.Sink.{Put, Shown, Stopped}
-use Rattle.mimic_events.specs.Readings.{HasEndedRows, IsReading}
-use Rattle.mimic_events.specs.declared.ending.Ending.TheVariants.{Whole}
+use Rattle.mimic_events.specs.Readings.{HasEndedRows, InputRead, IsReadOf, has_all, is_whole}
+use Rattle.mimic_events.specs.declared.ending.Ending.{Ending}
 use Rattle.mimic_expect.specs.Expect.{counts, findings}
 use Rattle.mimic_expect.specs.FindingText.{rows_text, unknown_text}
 use Rattle.mimic_expect.specs.Known.{Expected}
@@ -12,47 +12,21 @@ use Rattle.mimic_printer.specs.declared.sink.OutputFault.{OutputFault}
 use Rattle.mimic_printer.specs.declared.sink.OutputFault.TheVariants.{OutOfMemory, Write}
 use Rattle.mimic_expect.specs.declared.options.ExpectOptions.{ExpectOptions}
 use Rattle.mimic_expect.specs.declared.options.Lines.{Lines}
-use Rattle.mimic_expect.specs.declared.verdict.InputEnd.{InputEnd}
-use Rattle.mimic_expect.specs.declared.verdict.InputEnd.TheVariants.{Ended, Failed}
 use Rattle.mimic_expect.specs.declared.verdict.ExpectationVerdict.{ExpectationVerdict}
 
 -- ---- inputs
-
--- what was read of an input: the rows that have ended, and how the input ended
-pub record InputRead : Type 0 where
-  pub entries : List Entry
-  pub end : InputEnd
-
--- the bytes have these rows, and end so; with an error of the reader these rows have ended in a front of the bytes
-abbrev pub Reads : List Entry → InputEnd → List ℕ → Type 0
-Reads entries (Ended ending) bytes = IsReading entries ending bytes
-Reads entries (Failed error) bytes = HasEndedRows entries bytes
-
--- the input, if its bytes are known, was read so
-abbrev pub IsReadOf : Option (List ℕ) → InputRead → Type 0
-IsReadOf input read = IfSome input (Reads read.entries read.end)
 
 -- the rows of all inputs, in their order
 abbrev pub rows_of : List InputRead → List Entry
 rows_of inputs = flat_map (λ read. read.entries) inputs
 
 -- how all inputs ended, in their order
-abbrev pub ends_of : List InputRead → List InputEnd
-ends_of inputs = map (λ read. read.end) inputs
+abbrev pub ends_of : List InputRead → List Ending
+ends_of inputs = map (λ read. read.ending) inputs
 
--- the input was a whole report
-abbrev pub is_whole : InputEnd → Bool
-is_whole (Ended (Whole filtered_out nanos)) = true
-is_whole other = false
-
--- it was, and no trial was filtered out
-abbrev pub has_all : InputEnd → Bool
-has_all (Ended (Whole filtered_out nanos)) = filtered_out == 0
-has_all other = false
-
--- so it is with each input: all trials have rows
+-- each input is a whole report out of which no trial was filtered: all trials have rows
 abbrev pub have_all : List InputRead → Bool
-have_all inputs = list_all (λ read. has_all read.end) inputs
+have_all inputs = list_all (λ read. has_all read.ending) inputs
 
 -- ---- the verdict
 

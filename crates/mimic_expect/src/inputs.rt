@@ -1,26 +1,28 @@
 //! Writes what of reports is unexpected.
-ghost use Rattle.std.specs.Prelude.{◌≡◌, ◌<◌, ◌-◌, ◌^◌, ◌++◌, ℕ, List, IfSome, MatchResult, decimal, map};
+ghost use Rattle.std.specs.Prelude.{◌≡◌, ◌<◌, ◌-◌, ◌^◌, ◌++◌, List, IfSome, MatchResult, decimal, map};
 ghost use Rattle.std.specs.List.{AllZip, flat_map};
 ghost use Rattle.mimic_printer.specs.Json.{Entry};
 ghost use Rattle.mimic_printer.specs.Sink.{Adds, HasFaultLeft, shown};
-ghost use Rattle.mimic_events.specs.Readings.{HasEndedRows};
+ghost use Rattle.mimic_events.specs.Readings.{HasEndedRows, InputRead, IsReading, IsReadOf};
 ghost use Rattle.mimic_expect.specs.Expect.{ExpectLaws};
-ghost use Rattle.mimic_expect.specs.FindingText.{finding_text, running_text};
-ghost use Rattle.mimic_expect.specs.JudgedRows.{HasLines, Judges};
+ghost use Rattle.mimic_expect.specs.FindingText.{finding_text, running_text, unknown_text};
+ghost use Rattle.mimic_expect.specs.JudgedRows.{Judges};
 ghost use Rattle.mimic_expect.specs.JudgementText.{finding_read, judgement_text};
 ghost use Rattle.mimic_expect.specs.Known.{expected_read};
-ghost use Rattle.mimic_expect.specs.Verdict.{AreBegun, InputRead, IsReadOf, LeavesVerdict, Reads, ends_of, rows_of};
+ghost use Rattle.mimic_expect.specs.KnownText.{StoppedBy};
+ghost use Rattle.mimic_expect.specs.Verdict.{AreBegun, LeavesVerdict, ends_of, rows_of};
 
 use crate::judge::Judge;
 use crate::judgement::{Judgement, Unexpected};
 use crate::known::Expectation;
 use crate::options::{ExpectOptions, Lines};
-use crate::verdict::{ExpectationVerdict, InputEnd, have_all};
+use crate::unexpected::add_running_line;
+use crate::verdict::{ExpectationVerdict, have_all};
 use itoa::Buffer;
-use mimic_events::{InputRows, ReadFault};
+use mimic_events::{Ending, Row, RowTaker, read_into};
 use mimic_printer::{OutputFault, Sink};
 use std::alloc::Global;
-use std::io::{ErrorKind, Read, Write};
+use std::io::{Read, Write};
 
 /// Writes what of the reports is not as the known failures say, each once and as one line, then a line of the numbers, and
 /// flushes it. Of a report that is not whole the rows are judged that have ended. If the last line of it that has ended announces
@@ -74,7 +76,7 @@ fn judge_inputs<I: Read + Drop, W: Write>(
     judge: &mut Judge<'_>,
     lines: Lines,
     sink: &mut Sink<W>,
-) -> Result<(u128, Vec<InputEnd>), OutputFault>
+) -> Result<(u128, Vec<Ending>), OutputFault>
     requires { HasFaultLeft sink.old }
     ensures { MatchResult result
         (λ x. (read : List InputRead)
@@ -83,14 +85,15 @@ fn judge_inputs<I: Read + Drop, W: Write>(
         × Judges lines judge.old judge.new (rows_of read) x.0
         (shown W.contents sink.old) (shown W.contents sink.new) × (x.0 < 2 ^ 128 - 2 ^ 64))
         (λ fault. (rows : List Entry) × AreBegun I.remaining inputs.items rows
-        × HasLines lines judge.old.known (shown W.contents sink.old) (shown W.contents sink.new) fault rows) }
+        × StoppedBy fault (shown W.contents sink.old) (shown W.contents sink.new)
+        (unknown_text lines judge.old.known rows)) }
 {
     let mut failed = 0_u128;
     let mut ends = Vec::new(alloc);
     for input in inputs {
-        let (count, end) = judge_input(alloc, input, judge, lines, sink)?;
+        let (count, ending) = judge_input(alloc, input, judge, lines, sink)?;
         failed += u128::from(count);
-        ends.push(end)?;
+        ends.push(ending)?;
     }
     Ok((failed, ends))
 }
@@ -103,33 +106,61 @@ fn judge_input<I: Read + Drop, W: Write>(
     judge: &mut Judge<'_>,
     lines: Lines,
     sink: &mut Sink<W>,
-) -> Result<(u64, InputEnd), OutputFault>
+) -> Result<(u64, Ending), OutputFault>
     requires { HasFaultLeft sink.old }
     ensures { MatchResult result
-        (λ x. (entries : List Entry) × IfSome (I.remaining input) (Reads entries x.1)
+        (λ x. (entries : List Entry) × IfSome (I.remaining input) (IsReading entries x.1)
         × Judges lines judge.old judge.new entries x.0
         (shown W.contents sink.old) (shown W.contents sink.new))
         (λ fault. (rows : List Entry) × IfSome (I.remaining input) (HasEndedRows rows)
-        × HasLines lines judge.old.known (shown W.contents sink.old) (shown W.contents sink.new) fault rows) }
+        × StoppedBy fault (shown W.contents sink.old) (shown W.contents sink.new)
+        (unknown_text lines judge.old.known rows)) }
 {
-    let mut rows = InputRows::new(alloc, input)?;
-    let mut failed = 0;
-    for _ in 0..u64::MAX {
-        match rows.next_row() {
-            Ok(Some(row)) => {
-                let unknown = judge.row(row)?;
-                if let Some(row) = &unknown {
-                    Unexpected::Failed(row).add_to(sink, lines);
-                    sink.end()?;
-                    failed += 1;
-                }
-            }
-            Ok(None) => return Ok((failed, InputEnd::Ended(rows.finish()?))),
-            Err(ReadFault::Input(error)) => return Ok((failed, InputEnd::Failed(error))),
-            Err(_) => return Err(OutputFault::OutOfMemory),
-        }
+    let mut judging = Judging {
+        judge,
+        lines,
+        sink,
+        failed: 0,
+    };
+    let ending = read_into(alloc, input, &mut judging)?;
+    Ok((judging.failed, ending))
+}
+
+// Judges the rows that it takes, and counts and writes the failures whose kind and name no known failure has.
+#[derive(Drop)]
+struct Judging<'a, 'k, W: Write> {
+    judge: &'a mut Judge<'k>,
+    lines: Lines,
+    sink: &'a mut Sink<W>,
+    failed: u64,
+}
+
+impl<W: Write> RowTaker for Judging<'_, '_, W> {
+    ghost use Rattle.std.specs.Prelude.{◌≡◌};
+    ghost use Rattle.mimic_printer.specs.Sink.{HasFaultLeft, shown};
+    ghost use Rattle.mimic_expect.specs.FindingText.{unknown_text};
+    ghost use Rattle.mimic_expect.specs.JudgedRows.{Judges};
+    ghost use Rattle.mimic_expect.specs.KnownText.{StoppedBy};
+
+    ghost takes = { λ old rows new. (new.judge.ghost_name ≡ old.judge.ghost_name) × (new.lines ≡ old.lines)
+        × (new.sink.ghost_name ≡ old.sink.ghost_name) × HasFaultLeft new.sink.now
+        × Judges old.lines old.judge.now new.judge.now rows new.failed
+        (shown W.contents old.sink.now) (shown W.contents new.sink.now) };
+
+    ghost stops = { λ old rows fault new. (new.judge.ghost_name ≡ old.judge.ghost_name)
+        × (new.sink.ghost_name ≡ old.sink.ghost_name)
+        × StoppedBy fault (shown W.contents old.sink.now) (shown W.contents new.sink.now)
+        (unknown_text old.lines old.judge.now.known rows) };
+
+    fn take(&mut self, row: Row) -> Result<(), OutputFault> {
+        let Some(unknown) = self.judge.row(row)? else {
+            return Ok(());
+        };
+        Unexpected::Failed(&unknown).add_to(self.sink, self.lines);
+        self.sink.end()?;
+        self.failed += 1;
+        Ok(())
     }
-    Ok((failed, InputEnd::Failed(ErrorKind::Other.into())))
 }
 
 // Adds what the judgement says, the trials that were running at these ends, and the numbers, to which these failures count that
@@ -139,7 +170,7 @@ fn add_judgement<W: Write>(
     lines: Lines,
     judgement: &Judgement<'_>,
     failed: u128,
-    ends: &[InputEnd],
+    ends: &[Ending],
 )
     requires { failed < 2 ^ 128 - 2 ^ 64 }
     ensures { Adds W.contents sink.old sink.new (judgement_text lines judgement.now failed ends.now) }
@@ -175,11 +206,11 @@ fn add_unexpected<W: Write>(sink: &mut Sink<W>, lines: Lines, unexpected: &[Unex
 }
 
 // Adds a line of each trial that was running when its report was cut.
-fn add_running<W: Write>(sink: &mut Sink<W>, lines: Lines, ends: &[InputEnd])
+fn add_running<W: Write>(sink: &mut Sink<W>, lines: Lines, ends: &[Ending])
     ensures { Adds W.contents sink.old sink.new (flat_map (running_text lines) ends.now) }
 {
-    for end in ends {
-        end.add_running(sink, lines);
+    for ending in ends {
+        add_running_line(sink, lines, ending);
     }
 }
 

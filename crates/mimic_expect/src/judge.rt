@@ -1,16 +1,17 @@
 //! Judges rows that come one by one.
-ghost use Rattle.std.specs.Prelude.{◌≡◌, ◌++◌, ◌∷◌, [], IfOk, OnOk, length, map, option_to_list};
+ghost use Rattle.std.specs.Prelude.{◌≡◌, ◌++◌, ◌∷◌, [], IfOk, MatchResult, length, map, option_to_list};
 ghost use Rattle.mimic_trial.specs.Count.{is_failed};
 ghost use Rattle.mimic_events.specs.Contents.{entry_read};
 ghost use Rattle.mimic_expect.specs.Expect.{findings, is_known, keyed, known_rows, met_by, rows_with, unknown_failures};
-ghost use Rattle.mimic_expect.specs.JudgedRows.{Keeps, labels_known, matters};
+ghost use Rattle.mimic_expect.specs.JudgedRows.{labels_known, matters};
 ghost use Rattle.mimic_events.specs.Key.{HasTrials};
 ghost use Rattle.mimic_expect.specs.JudgementText.{finding_read};
 ghost use Rattle.mimic_expect.specs.Known.{expected_read};
 
 use crate::judgement::{Judgement, judge};
 use crate::known::Expectation;
-use mimic_events::{Key, Row};
+use mimic_events::{Key, Row, RowTaker};
+use mimic_printer::OutputFault;
 use mimic_trial::Outcome;
 use std::alloc::{AllocError, Global};
 use std::collections::HashSet;
@@ -59,9 +60,10 @@ impl<'a> Judge<'a> {
     // Takes a row. One whose kind and name some known failure has is kept. Any other failure is handed back: it is unexpected
     // whatever follows. The rest is dropped.
     pub(crate) fn row(&mut self, row: Row) -> Result<Option<Row>, AllocError>
-        ensures { IfOk result (λ unknown. (self.new.known ≡ self.old.known)
+        ensures { MatchResult result (λ unknown. (self.new.known ≡ self.old.known)
             × (self.new.rows ≡ self.old.rows ++ known_rows self.old.known (entry_read row ∷ []))
-            × (map entry_read (option_to_list unknown) ≡ unknown_failures self.old.known (entry_read row ∷ []))) }
+            × (map entry_read (option_to_list unknown) ≡ unknown_failures self.old.known (entry_read row ∷ [])))
+            (λ _. unknown_failures self.old.known (entry_read row ∷ []) ≡ []) }
     {
         if self.knows(&row) {
             self.rows.push(row)?;
@@ -71,16 +73,6 @@ impl<'a> Judge<'a> {
             return Ok(None);
         };
         Ok(Some(row))
-    }
-
-    // Takes a row, and keeps it if it matters.
-    pub(crate) fn keep(&mut self, row: Row) -> Result<(), AllocError>
-        ensures { OnOk result (Keeps self.old self.new (entry_read row ∷ [])) }
-    {
-        if self.matters(&row) {
-            self.rows.push(row)?;
-        }
-        Ok(())
     }
 
     // Whether the row can change what is found.
@@ -108,6 +100,24 @@ impl<'a> Judge<'a> {
             ≡ findings self.now.known self.now.rows are_all) }
     {
         judge(alloc, self.known, &self.rows, are_all)
+    }
+}
+
+// Keeps the rows that matter.
+impl RowTaker for Judge<'_> {
+    ghost use Rattle.std.specs.Prelude.{◌≡◌};
+    ghost use Rattle.mimic_printer.specs.declared.sink.OutputFault.TheVariants.{OutOfMemory};
+    ghost use Rattle.mimic_expect.specs.JudgedRows.{Keeps};
+
+    ghost takes = { λ old rows new. Keeps old new rows };
+
+    ghost stops = { λ old rows fault new. fault ≡ OutOfMemory };
+
+    fn take(&mut self, row: Row) -> Result<(), OutputFault> {
+        if self.matters(&row) {
+            self.rows.push(row)?;
+        }
+        Ok(())
     }
 }
 

@@ -1,5 +1,5 @@
 //! Reads files of known failures.
-ghost use Rattle.std.specs.Prelude.{◌≡◌, ◌≢◌, ◌+◌, ◌<◌, ◌^◌, ◌∷◌, ◌++◌, [], ℕ, List, MatchOption, MatchResult, OnOk, Some, map};
+ghost use Rattle.std.specs.Prelude.{◌≡◌, ◌+◌, ◌<◌, ◌∷◌, ◌++◌, [], ℕ, List, MatchOption, MatchResult, Some, map};
 ghost use Rattle.mimic_printer.specs.Json.{HasNoEnd, IsLine};
 ghost use Rattle.mimic_events.specs.Reading.{Decodes};
 ghost use Rattle.mimic_expect.specs.Known.{AreExpected, CannotSay, expected_read, says_nothing};

@@ -1,16 +1,13 @@
 //! Writes the failures of a report as known ones.
-ghost use Rattle.std.specs.Prelude.{◌∷◌, []};
-ghost use Rattle.mimic_printer.specs.Sink.{Adds, HasFaultLeft, shown};
-ghost use Rattle.mimic_events.specs.Contents.{entry_read};
-ghost use Rattle.mimic_expect.specs.KnownText.{LeavesKnown, SayFailures, known_text};
+ghost use Rattle.mimic_printer.specs.Sink.{HasFaultLeft, shown};
+ghost use Rattle.mimic_expect.specs.KnownText.{LeavesKnown, SayFailures};
 
 use crate::unexpected::add_row;
-use crate::verdict::InputEnd;
-use mimic_events::{InputRows, ReadFault, Row};
+use mimic_events::{Ending, Row, RowTaker, read_into};
 use mimic_printer::{OutputFault, Sink};
 use mimic_trial::Outcome;
 use std::alloc::Global;
-use std::io::{ErrorKind, Read, Write};
+use std::io::{Read, Write};
 
 /// Writes the failures of a report as [`read_known`](crate::read_known) reads them: a line for each that has ended, in their order,
 /// as the report has it, but without a time. It returns how the report ended. If the reader fails, the lines are those of failures
@@ -23,7 +20,7 @@ pub fn write_known<I: Read + Drop, W: Write>(
     alloc: Global,
     input: I,
     sink: &mut Sink<W>,
-) -> Result<InputEnd, OutputFault>
+) -> Result<Ending, OutputFault>
     requires { HasFaultLeft sink.old }
     ensures known { LeavesKnown (I.remaining input) (shown W.contents sink.old)
         (shown W.contents sink.new) result }
@@ -31,26 +28,32 @@ pub fn write_known<I: Read + Drop, W: Write>(
     // The lines are read back as these failures.
     ensures law { SayFailures }
 {
-    let mut rows = InputRows::new(alloc, input)?;
-    for _ in 0..u64::MAX {
-        match rows.next_row() {
-            Ok(Some(row)) => {
-                add_if_failed(sink, &row);
-                sink.end()?;
-            }
-            Ok(None) => return Ok(InputEnd::Ended(rows.finish()?)),
-            Err(ReadFault::Input(error)) => return Ok(InputEnd::Failed(error)),
-            // Reading rows has no other fault.
-            Err(_) => return Err(OutputFault::OutOfMemory),
-        }
-    }
-    Ok(InputEnd::Failed(ErrorKind::Other.into()))
+    read_into(alloc, input, &mut Failures { sink })
 }
 
-fn add_if_failed<W: Write>(sink: &mut Sink<W>, row: &Row)
-    ensures { Adds W.contents sink.old sink.new (known_text (entry_read row.now ∷ [])) }
-{
-    if let Outcome::Failed(_) = &row.outcome {
-        add_row(sink, row);
+// Writes the failures among the rows that it takes.
+#[derive(Drop)]
+struct Failures<'a, W: Write> {
+    sink: &'a mut Sink<W>,
+}
+
+impl<W: Write> RowTaker for Failures<'_, W> {
+    ghost use Rattle.std.specs.Prelude.{◌≡◌};
+    ghost use Rattle.mimic_printer.specs.Sink.{HasFaultLeft, Put, shown};
+    ghost use Rattle.mimic_expect.specs.KnownText.{StoppedBy, known_text};
+
+    ghost takes = { λ old rows new. (new.sink.ghost_name ≡ old.sink.ghost_name) × HasFaultLeft new.sink.now
+        × Put (shown W.contents old.sink.now) (shown W.contents new.sink.now) (known_text rows) };
+
+    ghost stops = { λ old rows fault new. (new.sink.ghost_name ≡ old.sink.ghost_name)
+        × StoppedBy fault (shown W.contents old.sink.now) (shown W.contents new.sink.now) (known_text rows) };
+
+    fn take(&mut self, row: Row) -> Result<(), OutputFault> {
+        let Outcome::Failed(_) = &row.outcome else {
+            return Ok(());
+        };
+        add_row(self.sink, &row);
+        self.sink.end()?;
+        Ok(())
     }
 }

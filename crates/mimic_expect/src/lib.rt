@@ -29,4 +29,4 @@ pub use known::{Expectation, KnownFault, read_known};
 pub use known_text::write_known;
 pub use options::{ExpectOptions, Lines};
 pub use updated::{UpdateVerdict, write_updated};
-pub use verdict::{ExpectationVerdict, InputEnd};
+pub use verdict::ExpectationVerdict;

@@ -3,12 +3,11 @@ ghost use Rattle.std.specs.Prelude.{◌≡◌};
 ghost use Rattle.mimic_printer.specs.Piece.{first_line};
 ghost use Rattle.mimic_printer.specs.Sink.{Adds};
 ghost use Rattle.mimic_events.specs.Contents.{entry_read, label_read};
-ghost use Rattle.mimic_expect.specs.FindingText.{announced_text, colon, failure_text, finding_text, message_in, place_text, row_line, running_line, running_text, trial_line, trial_text};
+ghost use Rattle.mimic_expect.specs.FindingText.{announced_text, colon, failure_text, finding_text, message_in, place_text, row_line, running_text, trial_line, trial_text};
 ghost use Rattle.mimic_expect.specs.JudgementText.{finding_read};
 
 use crate::judgement::Unexpected;
 use crate::options::Lines;
-use crate::verdict::InputEnd;
 use mimic_events::{Ending, Label, Row};
 use mimic_printer::json::{add_announcement, add_outcome};
 use mimic_printer::{Piece, Place, Sink, add_pieces};
@@ -42,23 +41,13 @@ impl Unexpected<'_> {
     }
 }
 
-impl InputEnd {
-    // Adds a line of the trial that was running when the report was cut, if one was.
-    pub(crate) fn add_running<W: Write>(&self, sink: &mut Sink<W>, lines: Lines)
-        ensures { Adds W.contents sink.old sink.new (running_text lines self.now) }
-    {
-        match self {
-            InputEnd::Ended(Ending::Cut(stop)) => add_running_line(sink, lines, &stop.running),
-            InputEnd::Ended(Ending::Whole { .. }) | InputEnd::Failed(_) => {}
-        }
-    }
-}
-
-// Adds a word, and the trial.
-fn add_running_line<W: Write>(sink: &mut Sink<W>, lines: Lines, running: &Option<Label>)
-    ensures { Adds W.contents sink.old sink.new (running_line lines running.now) }
+// Adds a line of the trial that was running when the report was cut, if one was.
+pub(crate) fn add_running_line<W: Write>(sink: &mut Sink<W>, lines: Lines, ending: &Ending)
+    ensures { Adds W.contents sink.old sink.new (running_text lines ending.now) }
 {
-    if let Some(label) = running {
+    if let Ending::Cut(stop) = ending
+        && let Some(label) = &stop.running
+    {
         sink.add(b"running: ");
         add_announced(sink, lines, label);
     }

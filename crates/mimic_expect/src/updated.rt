@@ -1,33 +1,33 @@
 //! Brings files of known failures up to date.
-ghost use Rattle.std.specs.Prelude.{◌≡◌, ◌∷◌, [], ◌++◌, ℕ, IfOk, IfSome, List, filter, map};
+ghost use Rattle.std.specs.Prelude.{◌≡◌, ◌∷◌, [], ◌++◌, ℕ, IfOk, List, filter, map};
 ghost use Rattle.std.specs.List.{AllZip, flat_map, list_all};
 ghost use Rattle.std.specs.Option.{option_copied, option_map};
-ghost use Rattle.mimic_printer.specs.Json.{Entry};
 ghost use Rattle.mimic_printer.specs.Sink.{Adds, HasFaultLeft, shown};
+ghost use Rattle.mimic_events.specs.Readings.{InputRead, IsReadOf, is_whole};
 ghost use Rattle.mimic_expect.specs.Changes.{HasChanges, read_at};
 ghost use Rattle.mimic_expect.specs.Expect.{counts};
 ghost use Rattle.mimic_expect.specs.JudgedRows.{Keeps};
 ghost use Rattle.mimic_expect.specs.JudgementText.{finding_read};
 ghost use Rattle.mimic_expect.specs.Known.{expected_read, lines_of, says_nothing};
 ghost use Rattle.mimic_expect.specs.Updated.{line_of, replaced_by, LeavesUpdate, UpdateLaws, added_line, kept_line, kept_lines, update_text};
-ghost use Rattle.mimic_expect.specs.Verdict.{InputRead, IsReadOf, ends_of, is_whole, rows_of, Reads};
+ghost use Rattle.mimic_expect.specs.Verdict.{ends_of, rows_of};
 
 use crate::judge::Judge;
 use crate::judgement::Unexpected;
 use crate::known::{Expectation, first_line};
 use crate::unexpected::add_row;
-use crate::verdict::{InputEnd, have_all};
-use mimic_events::{InputRows, ReadFault};
+use crate::verdict::have_all;
+use mimic_events::{Ending, read_into};
 use mimic_printer::{OutputFault, Sink};
 use std::alloc::{AllocError, Global};
 use std::collections::HashMap;
-use std::io::{ErrorKind, Read, Write};
+use std::io::{Read, Write};
 
 /// What was read to bring a file of known failures up to date.
 #[derive(Debug, Drop)]
 pub struct UpdateVerdict {
     /// How each input ended, in their order.
-    pub ends: Vec<InputEnd>,
+    pub ends: Vec<Ending>,
 }
 
 impl UpdateVerdict {
@@ -90,39 +90,20 @@ fn keep_inputs<I: Read + Drop>(
     alloc: Global,
     inputs: Vec<I>,
     judge: &mut Judge<'_>,
-) -> Result<Vec<InputEnd>, AllocError>
+) -> Result<Vec<Ending>, AllocError>
     ensures { IfOk result (λ ends. (read : List InputRead)
         × AllZip (λ input r. IsReadOf (I.remaining input) r) inputs.items read
         × (ends.items ≡ ends_of read) × Keeps judge.old judge.new (rows_of read)) }
 {
     let mut ends = Vec::new(alloc);
     for input in inputs {
-        let end = keep_input(alloc, input, judge)?;
-        ends.push(end)?;
+        // To keep rows needs memory, and nothing else.
+        let Ok(ending) = read_into(alloc, input, judge) else {
+            return Err(AllocError);
+        };
+        ends.push(ending)?;
     }
     Ok(ends)
-}
-
-// Gives the judge the rows of an input that matter, and returns how it ended.
-fn keep_input<I: Read + Drop>(
-    alloc: Global,
-    input: I,
-    judge: &mut Judge<'_>,
-) -> Result<InputEnd, AllocError>
-    ensures { IfOk result (λ end. (entries : List Entry) × IfSome (I.remaining input) (Reads entries end)
-        × Keeps judge.old judge.new entries) }
-{
-    let mut rows = InputRows::new(alloc, input)?;
-    for _ in 0..u64::MAX {
-        match rows.next_row() {
-            Ok(Some(row)) => judge.keep(row)?,
-            Ok(None) => return Ok(InputEnd::Ended(rows.finish()?)),
-            Err(ReadFault::Input(error)) => return Ok(InputEnd::Failed(error)),
-            // Reading rows has no other fault.
-            Err(_) => return Err(AllocError),
-        }
-    }
-    Ok(InputEnd::Failed(ErrorKind::Other.into()))
 }
 
 // Returns what counts of what is unexpected.

@@ -4,5 +4,5 @@ use Rattle.mimic_printer.specs.Sink.{Adds}
 use Rattle.mimic_expect.specs.FindingText.{running_text}
 use Rattle.mimic_expect.proofs.inputs.add_running.Given as goal
 
-abbrev pub invariant-loop-end : goal.invariant-loop-end
-invariant-loop-end g l = Adds g.W.Write.contents l.initial.sink l.sink (flat_map (running_text l.lines) (take l.end-index l.ends))
+abbrev pub invariant-loop-ending : goal.invariant-loop-ending
+invariant-loop-ending g l = Adds g.W.Write.contents l.initial.sink l.sink (flat_map (running_text l.lines) (take l.ending-index l.ends))

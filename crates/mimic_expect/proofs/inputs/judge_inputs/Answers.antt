@@ -1,6 +1,7 @@
 use Rattle.std.proofs.Common.{◌∙◌, ◌++◌, ◌∷◌, [], ap, append_assoc, arith, length-append, sym}
 use Rattle.std.proofs.lemmas.List.{map-append}
-use Rattle.mimic_expect.specs.Verdict.{InputRead, IsReadOf, rows_of}
+use Rattle.mimic_events.specs.Readings.{InputRead, IsReadOf}
+use Rattle.mimic_expect.specs.Verdict.{rows_of}
 use Rattle.mimic_printer.specs.declared.sink.OutputFault.TheVariants.{OutOfMemory}
 use Rattle.mimic_events.proofs.Pairs.{each_more}
 use Rattle.mimic_events.proofs.Results.{on_error}
@@ -31,7 +32,7 @@ loop-input-preserved g c =
     let came = c.in_ok-count.ensures in
     let seen = c.loop-input.yielded in
     let one = length-append seen (c.in-Some.input ∷ []) in
-    let next : InputRead = record { entries = came.0; end = c.in_ok-count.end } in
+    let next : InputRead = record { entries = came.0; ending = c.in_ok-count.ending } in
     record {
       seen = append_assoc seen (c.in-Some.input ∷ []) _ ∙ (ap (λ l. seen ++ l) (sym c.in-Some.ensures.steps.0) ∙ before.seen);
       left = omega (arith, before.left, one, c.in-Some.ensures.steps);
@@ -39,7 +40,7 @@ loop-input-preserved g c =
       done = (
         done.0 ++ next ∷ [],
         each_more (λ input r. IsReadOf (g.I.Read.remaining input) r) seen done.0 c.in-Some.input next done.1 came.1,
-        c.in_ok-push.ensures.items ∙ (ap (λ l. l ++ c.in_ok-count.end ∷ []) done.2 ∙ sym (map-append (λ (r : InputRead). r.end) done.0 (next ∷ []))),
+        c.in_ok-push.ensures.items ∙ (ap (λ l. l ++ c.in_ok-count.ending ∷ []) done.2 ∙ sym (map-append (λ (r : InputRead). r.ending) done.0 (next ∷ []))),
         input_judged _ _ _ done.0 next _ _ c.from-failed.result _ _ _ done.3 came.2 c.from-failed.ensures,
       );
     }
@@ -50,7 +51,7 @@ returns-in_err-push g c =
     let done = before.done in
     let came = c.in_ok-count.ensures in
     let seen = c.loop-input.yielded in
-    let next : InputRead = record { entries = came.0; end = c.in_ok-count.end } in
+    let next : InputRead = record { entries = came.0; ending = c.in_ok-count.ending } in
     let parts = sym before.seen ∙ (ap (λ l. seen ++ l) c.in-Some.ensures.steps.0 ∙ sym (append_assoc seen (c.in-Some.input ∷ []) _)) in
     let judged = input_judged _ _ _ done.0 next _ _ c.from-failed.result _ _ _ done.3 came.2 c.from-failed.ensures in
     on_error _ OutOfMemory _ _ c.from_residual-in_err-push.ensures.1 (

@@ -9,7 +9,7 @@ use Rattle.mimic_expect.specs.Expect.{counts}
 use Rattle.mimic_expect.specs.JudgementText.{finding_read}
 use Rattle.mimic_expect.specs.Known.{expected_read}
 use Rattle.mimic_expect.specs.Updated.{LeavesUpdate}
-use Rattle.mimic_expect.specs.Verdict.{has_all, is_whole}
+use Rattle.mimic_events.specs.Readings.{has_all, is_whole}
 use Rattle.mimic_expect.proofs.Updates.{update_added, update_is}
 use Rattle.mimic_expect.proofs.updated.write_updated.Goals as goal
 
