@@ -4,4 +4,3 @@ pub mod Pages
 pub mod Showing
 pub mod SlowestFirst
 pub mod Totals
-pub mod Unread

@@ -137,7 +137,7 @@ module _ (rows : List Row) (most longest left : ℕ) (long : longest ≡ bar_of 
 module _ (page : PageContents) (counts : Conclusion) (missing : ℕ) (counted : counts ≡ counts_of (map (λ row. row.outcome) page.rows.now) 0)
     (left : missing ≡ missing_in (length page.rows.now) page.ending.now) where
   pub header_is : start_text page.title.now counts page.ending.now ++ (flat_map (λ note. note_text (string_bytes note)) page.notes.now
-      ++ (ending_text (length page.rows.now) page.ending.now ++ (times_text (map (λ row. row.nanos) page.rows.now)
+      ++ (ending_text (length page.rows.now) page.ending.now page.cause.now ++ (times_text (map (λ row. row.nanos) page.rows.now)
       ++ (counts_text counts missing ++ (links_text counts ++ []))))) ≡ header_text page
   unfolding header_text
   header_is = simp (counted, left, length-map, map-map)

@@ -1,6 +1,6 @@
 -- Reports in the XML that readers of JUnit's reports take. No standard fixes it: the elements and attributes are those that
 -- Jenkins, GitLab, Surefire and junitparser read; the texts of messages are our own.
-use Rattle.std.specs.Prelude.{ℕ, ◌+◌, List, [], ◌∷◌, ◌++◌, length, map, count_by, codes, decimal, Option, Some, None, string_bytes}
+use Rattle.std.specs.Prelude.{ℕ, ◌+◌, if◌then◌else◌, List, [], ◌∷◌, ◌++◌, length, map, count_by, codes, decimal, Option, Some, None, string_bytes}
 use Rattle.std.specs.List.{concat, flat_map}
 use Rattle.mimic_trial.specs.declared.outcome.Outcome.{Outcome}
 use Rattle.mimic_trial.specs.declared.outcome.Outcome.TheVariants.{Passed, Failed, Ignored, Measured}
@@ -8,14 +8,14 @@ use Rattle.mimic_trial.specs.Count.{is_failed, is_ignored_outcome}
 use Rattle.mimic_trial.specs.Text.{grouped}
 use Rattle.mimic_printer.specs.Json.{Entry}
 use Rattle.mimic_events.specs.Contents.{entry_read}
-use Rattle.mimic_events.specs.declared.ending.Ending.TheVariants.{Whole, Cut}
+use Rattle.mimic_events.specs.Readings.{is_whole}
+use Rattle.mimic_events.specs.declared.ending.Ending.{Ending}
+use Rattle.mimic_events.specs.declared.ending.Ending.TheVariants as ends
 use Rattle.mimic_events.specs.declared.ending.Stop.{Stop}
 use Rattle.mimic_reports.specs.Cut.{cut_text}
 use Rattle.mimic_reports.specs.Seconds.{rounded_seconds}
 use Rattle.mimic_reports.specs.declared.junit_elements.Numbers.{Numbers}
 use Rattle.mimic_reports.specs.declared.suite.Suite.{Suite}
-use Rattle.mimic_reports.specs.declared.suite.SuiteEnding.{SuiteEnding}
-use Rattle.mimic_reports.specs.declared.suite.SuiteEnding.TheVariants.{Read, Unread}
 use Rattle.mimic_printer.specs.Escapes.{escaped}
 use Rattle.mimic_printer.specs.Piece.{first_line}
 use Rattle.mimic_printer.specs.declared.place.Place.TheVariants.{Content, Value}
@@ -23,16 +23,13 @@ use Rattle.mimic_printer.specs.declared.place.Place.TheVariants.{Content, Value}
 -- ---- numbers
 
 -- a report without its end has one more test, which is an error
-abbrev pub errors_of : SuiteEnding → ℕ
-errors_of (Read (Whole filtered_out nanos)) = 0
-errors_of (Read (Cut stop)) = 1
-errors_of (Unread cause) = 1
+abbrev pub errors_of : Ending → ℕ
+errors_of ending = if is_whole ending then 0 else 1
 
 -- the time of the run, and 0 if the report doesn't say it
-abbrev pub nanos_of : SuiteEnding → ℕ
-nanos_of (Read (Whole filtered_out nanos)) = nanos
-nanos_of (Read (Cut stop)) = 0
-nanos_of (Unread cause) = 0
+abbrev pub nanos_of : Ending → ℕ
+nanos_of (ends.Whole filtered_out nanos) = nanos
+nanos_of ending = 0
 
 -- the numbers of a report
 abbrev pub numbers_of : Suite → Numbers
@@ -118,18 +115,18 @@ unfoldable pub unread_text : List ℕ → List ℕ → List ℕ
 unread_text program cause = concat (codes "    <testcase classname=\"" ∷ escaped Value program
     ∷ codes "\" name=\"(whole report)\"><error type=\"unreadable\" message=\"" ∷ escaped Value cause ∷ codes "\"/></testcase>\n" ∷ [])
 
--- what follows the rows
-abbrev pub ending_text : List ℕ → ℕ → SuiteEnding → List ℕ
-ending_text program ended (Read (Whole filtered_out nanos)) = []
-ending_text program ended (Read (Cut stop)) = stop_text program ended stop
-ending_text program ended (Unread cause) = unread_text program (string_bytes cause)
+-- what follows the rows; the cause is why the reader failed
+abbrev pub ending_text : List ℕ → ℕ → Ending → List ℕ → List ℕ
+ending_text program ended (ends.Whole filtered_out nanos) cause = []
+ending_text program ended (ends.Cut stop) cause = stop_text program ended stop
+ending_text program ended (ends.Failed error) cause = unread_text program cause
 
 -- ---- the whole
 
 -- the element of a report: each of its rows once, in their order
 unfoldable pub suite_text : Suite → List ℕ
 suite_text s = concat (suite_start s.program.now (numbers_of s) ∷ flat_map (λ row. case_text s.program.now (entry_read row)) s.rows.items
-    ∷ ending_text s.program.now (length s.rows.items) s.ending ∷ codes "  </testsuite>\n" ∷ [])
+    ∷ ending_text s.program.now (length s.rows.items) s.ending (string_bytes s.cause) ∷ codes "  </testsuite>\n" ∷ [])
 
 -- what comes before the root of a document
 abbrev pub declaration : List ℕ

@@ -11,7 +11,9 @@ use Rattle.mimic_printer.specs.Json.{Entry, outcomes_in}
 use Rattle.mimic_events.specs.Contents.{entry_read}
 use Rattle.mimic_events.specs.declared.report.Label.{Label as LabelRead}
 use Rattle.mimic_events.specs.Stops.{extent_text}
-use Rattle.mimic_events.specs.declared.ending.Ending.TheVariants.{Whole, Cut}
+use Rattle.mimic_events.specs.Readings.{is_whole}
+use Rattle.mimic_events.specs.declared.ending.Ending.{Ending}
+use Rattle.mimic_events.specs.declared.ending.Ending.TheVariants as ends
 use Rattle.mimic_events.specs.declared.ending.Stop.{Stop}
 use Rattle.mimic_printer.specs.Escapes.{escaped}
 use Rattle.mimic_printer.specs.EscapeLaws.{EscapeLaws}
@@ -24,8 +26,6 @@ use Rattle.mimic_reports.specs.declared.page.Listing.{Listing}
 use Rattle.mimic_reports.specs.declared.page.PageContents.{PageContents}
 use Rattle.mimic_reports.specs.declared.script.TheConstants.{FILTER, SCRIPT, SCRIPT_DIGEST}
 use Rattle.mimic_reports.specs.declared.style.TheConstants.{STYLE}
-use Rattle.mimic_reports.specs.declared.suite.SuiteEnding.{SuiteEnding}
-use Rattle.mimic_reports.specs.declared.suite.SuiteEnding.TheVariants.{Read, Unread}
 
 -- ---- numbers
 
@@ -34,10 +34,9 @@ abbrev pub missing_after : ℕ → Option ℕ → ℕ
 missing_after ended None = 0
 missing_after ended (Some announced) = announced - ended
 
-abbrev pub missing_in : ℕ → SuiteEnding → ℕ
-missing_in ended (Read (Whole filtered_out nanos)) = 0
-missing_in ended (Read (Cut stop)) = missing_after ended stop.announced
-missing_in ended (Unread cause) = 0
+abbrev pub missing_in : ℕ → Ending → ℕ
+missing_in ended (ends.Cut stop) = missing_after ended stop.announced
+missing_in ended ending = 0
 
 -- the average time that was measured, and 0 if none was
 abbrev pub time_of : Outcome → ℕ
@@ -64,23 +63,17 @@ stop_verdict None = codes "no report"
 stop_verdict (Some announced) = codes "cut"
 
 -- the report in a word, if `failed` rows failed
-abbrev pub verdict : ℕ → SuiteEnding → List ℕ
-verdict failed (Read (Whole filtered_out nanos)) = if failed == 0 then codes "ok" else codes "FAILED"
-verdict failed (Read (Cut stop)) = stop_verdict stop.announced
-verdict failed (Unread cause) = codes "unread"
-
--- the colour of a report without failures
-abbrev pub ending_class : SuiteEnding → List ℕ
-ending_class (Read (Whole filtered_out nanos)) = codes "passed"
-ending_class (Read (Cut stop)) = codes "cut"
-ending_class (Unread cause) = codes "cut"
+abbrev pub verdict : ℕ → Ending → List ℕ
+verdict failed (ends.Whole filtered_out nanos) = if failed == 0 then codes "ok" else codes "FAILED"
+verdict failed (ends.Cut stop) = stop_verdict stop.announced
+verdict failed (ends.Failed error) = codes "unread"
 
 -- the colour of the word: with a failure that of failures, however the report ended
-abbrev pub verdict_class : ℕ → SuiteEnding → List ℕ
-verdict_class failed ending = if failed == 0 then ending_class ending else codes "failed"
+abbrev pub verdict_class : ℕ → Ending → List ℕ
+verdict_class failed ending = if failed == 0 then (if is_whole ending then codes "passed" else codes "cut") else codes "failed"
 
 -- the head, whose title has the verdict and the counts, and the heading
-unfoldable pub start_text : List ℕ → Conclusion → SuiteEnding → List ℕ
+unfoldable pub start_text : List ℕ → Conclusion → Ending → List ℕ
 start_text title counts ending = concat (
     codes "<!doctype html>\n<html lang=\"en\">\n<head>\n<meta charset=\"utf-8\">\n<meta name=\"viewport\" content=\"width=device-width, initial-scale=1\">\n<meta http-equiv=\"Content-Security-Policy\" content=\"default-src 'none'; style-src 'unsafe-inline'; script-src '"
     ∷ SCRIPT_DIGEST.now ∷ codes "'\">\n<title>" ∷ escaped Html title ∷ codes ": " ∷ verdict counts.num_failed ending
@@ -246,11 +239,11 @@ unfoldable pub unread_text : ℕ → List ℕ → List ℕ
 unread_text ended cause = concat (codes "<p class=\"cut\">the report can't be read to its end: <bdi>" ∷ escaped Html cause
     ∷ codes "</bdi>; trials that ended before: " ∷ decimal ended ∷ codes "</p>\n" ∷ [])
 
--- what is written about how a report ended
-abbrev pub ending_text : ℕ → SuiteEnding → List ℕ
-ending_text ended (Read (Whole filtered_out nanos)) = whole_text filtered_out nanos
-ending_text ended (Read (Cut stop)) = stop_text ended stop
-ending_text ended (Unread cause) = unread_text ended (string_bytes cause)
+-- what is written about how a report ended; the cause is why the reader failed
+abbrev pub ending_text : ℕ → Ending → List ℕ → List ℕ
+ending_text ended (ends.Whole filtered_out nanos) cause = whole_text filtered_out nanos
+ending_text ended (ends.Cut stop) cause = stop_text ended stop
+ending_text ended (ends.Failed error) cause = unread_text ended cause
 
 -- ---- times
 
@@ -314,7 +307,7 @@ unfoldable pub header_text : PageContents → List ℕ
 header_text page = let entries = entries_of page in let counts = counts_of (outcomes_in entries) 0 in
     concat (start_text page.title.now counts page.ending.now
     ∷ flat_map (λ note. note_text (string_bytes note)) page.notes.now
-    ∷ ending_text (length entries) page.ending.now
+    ∷ ending_text (length entries) page.ending.now page.cause.now
     ∷ times_text (map (λ entry. entry.nanos) entries)
     ∷ counts_text counts (missing_in (length entries) page.ending.now)
     ∷ links_text counts ∷ [])

@@ -10,7 +10,7 @@ use Rattle.mimic_printer.specs.Report.{failures_if_any, failures_text, report_te
 use Rattle.mimic_printer.specs.Row.{Label, PrintedRow, timed_row}
 use Rattle.mimic_printer.specs.Widths.{kind_width_of, name_width_of}
 use Rattle.mimic_events.specs.declared.ending.Ending.{Ending}
-use Rattle.mimic_events.specs.declared.ending.Ending.TheVariants.{Whole, Cut}
+use Rattle.mimic_events.specs.declared.ending.Ending.TheVariants.{Cut}
 use Rattle.mimic_events.specs.declared.ending.Stop.{Stop}
 use Rattle.mimic_events.specs.declared.report.Report.{Report}
 use Rattle.mimic_events.specs.declared.report.Row.{Row}
@@ -50,10 +50,10 @@ pretty_report colours report = report_text (pretty_printer colours (printed_rows
 abbrev pub cut_line : ℕ → Stop → List ℕ
 cut_line ended stop = concat (codes "\n" ∷ cut_text Line ended stop ∷ codes "\n" ∷ [])
 
--- what is printed of how a report ended, after `ended` rows: nothing of a whole one
+-- what is printed of how a report ended, after `ended` rows: nothing unless it is cut
 abbrev pub cut_part : ℕ → Ending → List ℕ
-cut_part ended (Whole filtered_out nanos) = []
 cut_part ended (Cut stop) = cut_line ended stop
+cut_part ended ending = []
 
 -- what is printed of the failures among rows that have ended, and of how the report ended
 abbrev pub failures_part : List PrintedRow → Ending → List ℕ

@@ -1,34 +1,17 @@
 -- Reports that were read to be written in XML, and what a call that writes them leaves.
-use Rattle.std.specs.Prelude.{◌≡◌, ℕ, Bool, true, false, nat_lt, if◌then◌else◌, ◌<◌, ◌≤◌, ◌⊎◌, ◌^◌, List, map, Option, IfSome, Result, Ok, Err, ⊤}
+use Rattle.std.specs.Prelude.{◌≡◌, ℕ, Bool, nat_lt, if◌then◌else◌, ◌<◌, ◌≤◌, ◌⊎◌, ◌^◌, List, [], map, Result, Ok, Err, ⊤}
 use Rattle.std.specs.List.{list_all, list_any}
-use Rattle.mimic_printer.specs.Json.{Entry}
 use Rattle.mimic_printer.specs.Sink.{Put, Shown, Stopped}
-use Rattle.mimic_events.specs.Contents.{entry_read}
 use Rattle.mimic_reports.specs.declared.junit_elements.Numbers.{Numbers}
-use Rattle.mimic_events.specs.declared.report.Row.{Row}
-use Rattle.std.specs.Global.{Vec}
-use Rattle.mimic_events.specs.declared.ending.Ending.TheVariants as ends
+use Rattle.mimic_events.specs.Readings.{is_whole}
+use Rattle.mimic_events.specs.declared.ending.Ending.{Ending}
+use Rattle.mimic_events.specs.declared.ending.Ending.TheVariants.{Failed}
 use Rattle.mimic_reports.specs.declared.junit.JunitFault.{JunitFault}
 use Rattle.mimic_reports.specs.declared.junit.JunitFault.TheVariants as junit
 use Rattle.mimic_reports.specs.declared.suite.Suite.{Suite}
-use Rattle.mimic_reports.specs.declared.suite.SuiteEnding.{SuiteEnding}
-use Rattle.mimic_reports.specs.declared.suite.SuiteEnding.TheVariants as suites
-use Rattle.mimic_reports.specs.declared.suite.SuiteFault.{SuiteFault}
-use Rattle.mimic_reports.specs.declared.suite.SuiteFault.TheVariants as unread
 use Rattle.mimic_reports.specs.Junit.{junit_text, numbers_of, total}
-use Rattle.mimic_events.specs.Readings.{HasEndedRows, IsReading}
 
 -- ---- the exit status
-
--- so a report ends that is whole
-abbrev pub ends_whole : SuiteEnding → Bool
-ends_whole (suites.Read (ends.Whole filtered_out nanos)) = true
-ends_whole (suites.Read (ends.Cut stop)) = false
-ends_whole (suites.Unread cause) = false
-
--- the report has its end
-abbrev pub is_whole : Suite → Bool
-is_whole suite = ends_whole suite.ending
 
 -- a trial of the report failed
 abbrev pub has_failures : Suite → Bool
@@ -36,24 +19,14 @@ has_failures suite = nat_lt 0 (numbers_of suite).failures
 
 -- 1 if one of the reports isn't whole, else 101 if a trial of one failed, else 0 (our own)
 abbrev pub status_of : List Suite → ℕ
-status_of suites = if list_all is_whole suites then (if list_any has_failures suites then 101 else 0) else 1
+status_of suites = if list_all (λ suite. is_whole suite.ending) suites then (if list_any has_failures suites then 101 else 0) else 1
 
 -- ---- what is read
 
--- the input, if its bytes are known, was read to its end, and gave these rows and this end
-abbrev pub IsReadTo : Option (List ℕ) → List Entry → SuiteEnding → Type 0
-IsReadTo input entries (suites.Read ending) = IfSome input (IsReading entries ending)
-IsReadTo input entries (suites.Unread cause) = ⊥
-
--- why the input was not read to its end: with a fault of the reader these rows had ended in it, if its bytes are known
-abbrev pub KeepsBefore : Option (List ℕ) → SuiteFault → Type 0
-KeepsBefore input unread.OutOfMemory = ⊤
-KeepsBefore input (unread.Input rows error) = IfSome input (HasEndedRows (map entry_read rows.items))
-
--- the fault, unless it is of the memory, has these rows. No public clause names this word
-abbrev pub KeepsAfter : Vec Row → SuiteFault → Type 0
-KeepsAfter rows unread.OutOfMemory = ⊤
-KeepsAfter rows (unread.Input kept error) = kept ≡ rows
+-- the cause is empty unless the reader failed
+abbrev pub IsCauseOf : Ending → List ℕ → Type 0
+IsCauseOf (Failed error) cause = ⊤
+IsCauseOf ending cause = cause ≡ []
 
 -- ---- what is written
 

@@ -1,5 +1,5 @@
 //! Writes reports as JUnit's XML.
-ghost use Rattle.std.specs.Prelude.{◌≡◌, MatchOption, map};
+ghost use Rattle.std.specs.Prelude.{◌≡◌, MatchOption, length, map, string_bytes};
 ghost use Rattle.std.specs.List.{flat_map};
 ghost use Rattle.mimic_printer.specs.Sink.{Adds, HasFaultLeft, Puts, shown};
 ghost use Rattle.mimic_events.specs.Contents.{entry_read};
@@ -11,7 +11,7 @@ ghost use Rattle.mimic_reports.specs.declared.junit.JunitFault.TheVariants.{Writ
 use crate::junit_elements::{
     Numbers, add_case, add_root_start, add_stop, add_suite_start, add_unread,
 };
-use crate::suite::{Suite, SuiteEnding};
+use crate::suite::Suite;
 use mimic_events::{Ending, Row};
 use mimic_printer::{Sink, WriteFault};
 use std::io::Write;
@@ -97,10 +97,9 @@ fn add_suites<W: Write>(sink: &mut Sink<W>, suites: &[Suite<'_>])
 fn add_suite<W: Write>(sink: &mut Sink<W>, suite: &Suite<'_>)
     ensures { Adds W.contents sink.old sink.new (suite_text suite.now) }
 {
-    let (program, rows) = (suite.program, suite.rows());
-    add_suite_start(sink, program, &suite.numbers());
-    add_rows(sink, program, rows);
-    add_ending(sink, program, rows.len() as u128, &suite.ending);
+    add_suite_start(sink, suite.program, &suite.numbers());
+    add_rows(sink, suite.program, suite.rows());
+    add_ending(sink, suite);
     sink.add(b"  </testsuite>\n");
 }
 
@@ -116,15 +115,16 @@ fn add_rows<W: Write>(sink: &mut Sink<W>, program: &str, rows: &[Row])
     }
 }
 
-// Adds what follows `ended` rows.
+// Adds what follows the rows.
 #[tactic(auto, using(mimic_printer::proofs::Adding::adds_nothing))]
-fn add_ending<W: Write>(sink: &mut Sink<W>, program: &str, ended: u128, ending: &SuiteEnding)
-    ensures { Adds W.contents sink.old sink.new (ending_text program.now ended ending.now) }
+fn add_ending<W: Write>(sink: &mut Sink<W>, suite: &Suite<'_>)
+    ensures { Adds W.contents sink.old sink.new (ending_text suite.now.program.now
+        (length suite.now.rows.items) suite.now.ending (string_bytes suite.now.cause)) }
 {
-    match ending {
-        SuiteEnding::Read(Ending::Whole { .. }) => {}
-        SuiteEnding::Read(Ending::Cut(stop)) => add_stop(sink, program, ended, stop),
-        SuiteEnding::Unread(cause) => add_unread(sink, program, cause.as_str()),
+    match suite.ending() {
+        Ending::Whole { .. } => {}
+        Ending::Cut(stop) => add_stop(sink, suite.program, suite.rows().len() as u128, stop),
+        Ending::Failed(_) => add_unread(sink, suite.program, suite.cause()),
     }
 }
 

@@ -2,19 +2,20 @@
 //! cut; and shows their slowest trials.
 //!
 //! ```rust
-//! use mimic_events::{read_from, read_rows};
+//! use mimic_events::read_from;
 //! use mimic_printer::Sink;
-//! use mimic_reports::{PageContents, SuiteEnding, show_report, write_page};
+//! use mimic_reports::{PageContents, Suite, show_report, write_page};
 //!
 //! let report = read_from(alloc, &mut report_file)?;
 //! // In pretty, without colours:
 //! show_report(alloc, report, false, &mut terminal)?;
-//! let read = read_rows(alloc, any_file)?;
+//! let suite = Suite::kept(alloc, "harness", any_file)?;
 //! let page = PageContents {
 //!     title: "harness",
 //!     notes: &[],
-//!     rows: &read.rows,
-//!     ending: &SuiteEnding::Read(read.ending),
+//!     rows: suite.rows(),
+//!     ending: suite.ending(),
+//!     cause: suite.cause(),
 //!     most: u64::MAX,
 //! };
 //! write_page(&page, &mut Sink::new(page_file))?;
@@ -42,4 +43,4 @@ pub use junit::{JunitFault, write_junit, write_suite};
 pub use page::{PageContents, write_page};
 pub use show::{show_cut, show_failures, show_report};
 pub use slowest::write_slowest;
-pub use suite::{Suite, SuiteEnding, SuiteFault, status_of};
+pub use suite::{Suite, status_of};

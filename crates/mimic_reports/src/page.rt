@@ -11,7 +11,6 @@ use crate::page_elements::{
     add_unlisted,
 };
 use crate::page_row::add_row;
-use crate::suite::SuiteEnding;
 use mimic_events::{Ending, Row, counts_of_rows};
 use mimic_printer::{Sink, WriteFault};
 use mimic_trial::Outcome;
@@ -26,8 +25,10 @@ pub struct PageContents<'a> {
     pub notes: &'a [String],
     /// The rows that have ended.
     pub rows: &'a [Row],
-    /// How the reading of the report ended.
-    pub ending: &'a SuiteEnding,
+    /// How the report ended.
+    pub ending: &'a Ending,
+    /// Why the reader failed, as a user is to see it; read only if `ending` is `Failed`.
+    pub cause: &'a str,
     /// How many rows of trials that did not fail are listed at most: none with 0, and all with `u64::MAX`. Failures are always listed, and
     /// the page says how many other rows are not.
     pub most: u64,
@@ -80,7 +81,7 @@ fn add_header<W: Write>(sink: &mut Sink<W>, page: &PageContents<'_>)
     let counts = counts_of_rows(page.rows, 0);
     add_start(sink, page.title, &counts, page.ending);
     add_notes(sink, page.notes);
-    add_ending(sink, page.rows.len() as u64, page.ending);
+    add_ending(sink, page.rows.len() as u64, page.ending, page.cause);
     add_times(sink, page.rows);
     add_counts(sink, &counts, missing(page.rows.len() as u64, page.ending));
     add_links(sink, &counts);
@@ -95,12 +96,12 @@ fn add_notes<W: Write>(sink: &mut Sink<W>, notes: &[String])
 }
 
 // Returns how many rows are missing after `ended` rows.
-fn missing(ended: u64, ending: &SuiteEnding) -> u64
+fn missing(ended: u64, ending: &Ending) -> u64
     ensures { result ≡ missing_in ended ending.now }
 {
     match ending {
-        SuiteEnding::Read(Ending::Cut(stop)) => stop.announced.unwrap_or(0).saturating_sub(ended),
-        SuiteEnding::Read(Ending::Whole { .. }) | SuiteEnding::Unread(_) => 0,
+        Ending::Cut(stop) => stop.announced.unwrap_or(0).saturating_sub(ended),
+        Ending::Whole { .. } | Ending::Failed(_) => 0,
     }
 }
 

@@ -8,7 +8,6 @@ use crate::human_time::human_pieces;
 use crate::page_row::add_label;
 use crate::script::{FILTER, SCRIPT, SCRIPT_DIGEST};
 use crate::style::STYLE;
-use crate::suite::SuiteEnding;
 use mimic_events::{Ending, Row, Stop};
 use mimic_printer::{Piece, Place, Sink, add_pieces};
 use mimic_trial::Conclusion;
@@ -35,7 +34,7 @@ pub(crate) fn add_start<W: Write>(
     sink: &mut Sink<W>,
     title: &str,
     counts: &Conclusion,
-    ending: &SuiteEnding,
+    ending: &Ending,
 )
     ensures { Adds W.contents sink.old sink.new
         (start_text title.now counts.now ending.now) }
@@ -71,30 +70,27 @@ pub(crate) fn add_start<W: Write>(
     add_pieces(sink, &pieces);
 }
 
-fn verdict(failed: u64, ending: &SuiteEnding) -> &'static str
+fn verdict(failed: u64, ending: &Ending) -> &'static str
     ensures { result.now ≡ verdict failed ending.now }
 {
     match ending {
-        SuiteEnding::Read(Ending::Whole { .. }) => { if failed == 0 { "ok" } else { "FAILED" } }
-        SuiteEnding::Read(Ending::Cut(stop)) => match stop.announced {
+        Ending::Whole { .. } => { if failed == 0 { "ok" } else { "FAILED" } }
+        Ending::Cut(stop) => match stop.announced {
             None => "no report",
             Some(_) => "cut",
         },
-        SuiteEnding::Unread(_) => "unread",
+        Ending::Failed(_) => "unread",
     }
 }
 
 // Returns the class of the verdict, by which it has its colour.
-fn verdict_class(failed: u64, ending: &SuiteEnding) -> &'static str
+fn verdict_class(failed: u64, ending: &Ending) -> &'static str
     ensures { result.now ≡ verdict_class failed ending.now }
 {
     if failed > 0 {
         return "failed";
     }
-    match ending {
-        SuiteEnding::Read(Ending::Whole { .. }) => "passed",
-        SuiteEnding::Read(Ending::Cut(_)) | SuiteEnding::Unread(_) => "cut",
-    }
+    if ending.is_whole() { "passed" } else { "cut" }
 }
 
 // Adds a paragraph below the heading.
@@ -111,18 +107,16 @@ pub(crate) fn add_note<W: Write>(sink: &mut Sink<W>, note: &str)
 }
 
 // Adds how the report ended, after `ended` rows.
-pub(crate) fn add_ending<W: Write>(sink: &mut Sink<W>, ended: u64, ending: &SuiteEnding)
-    ensures { Adds W.contents sink.old sink.new (ending_text ended ending.now) }
+pub(crate) fn add_ending<W: Write>(sink: &mut Sink<W>, ended: u64, ending: &Ending, cause: &str)
+    ensures { Adds W.contents sink.old sink.new (ending_text ended ending.now cause.now) }
 {
     match ending {
-        SuiteEnding::Read(
-            Ending::Whole {
-                filtered_out,
-                nanos,
-            },
-        ) => add_whole(sink, *filtered_out, *nanos),
-        SuiteEnding::Read(Ending::Cut(stop)) => add_stop(sink, ended, stop),
-        SuiteEnding::Unread(cause) => add_unread(sink, ended, cause.as_str()),
+        Ending::Whole {
+            filtered_out,
+            nanos,
+        } => add_whole(sink, *filtered_out, *nanos),
+        Ending::Cut(stop) => add_stop(sink, ended, stop),
+        Ending::Failed(_) => add_unread(sink, ended, cause),
     }
 }
 

@@ -43,7 +43,7 @@ pub fn show_report<W: Write>(
 /// A trial is named if its announcement is the last line that has ended. Control characters of its kind and name are shown by their
 /// numbers.
 ///
-/// Nothing is written of a whole report if no trial failed.
+/// Why the reader failed is not printed. Nothing is written if the report isn't cut and no trial failed.
 #[tactic(auto, using(mimic_printer::proofs::Adding::puts_added))]
 pub fn show_failures<W: Write>(
     alloc: Global,
@@ -271,13 +271,13 @@ fn add_title_if_any<W: Write>(sink: &mut Sink<W>, printer: &Printer, announced: 
     }
 }
 
-// Adds how a report ended, after `ended` rows: nothing of a whole one.
+// Adds how a report ended, after `ended` rows: nothing unless it is cut.
 fn add_ending<W: Write>(sink: &mut Sink<W>, ended: usize, ending: &Ending)
     ensures { Adds W.contents sink.old sink.new (cut_part ended ending.now) }
 {
     match ending {
-        Ending::Whole { .. } => {}
         Ending::Cut(stop) => add_cut_line(sink, ended, stop),
+        Ending::Whole { .. } | Ending::Failed(_) => {}
     }
 }
 

@@ -1,129 +1,55 @@
 //! Reads reports that are to be written in XML.
-ghost use Rattle.std.specs.Prelude.{◌≡◌, IfErr, IfOk, map};
-ghost use Rattle.mimic_events.specs.Contents.{entry_read};
+ghost use Rattle.std.specs.Prelude.{◌≡◌, IfOk, IfSome, map, string_bytes};
 ghost use Rattle.std.specs.List.{list_all, list_any};
-ghost use Rattle.mimic_reports.specs.declared.suite.SuiteEnding.TheVariants.{Unread};
-ghost use Rattle.mimic_reports.specs.declared.suite.SuiteFault.TheVariants.{OutOfMemory};
+ghost use Rattle.mimic_events.specs.Contents.{entry_read};
+ghost use Rattle.mimic_events.specs.Readings.{IsReading, is_whole};
 ghost use Rattle.mimic_reports.specs.Junit.{numbers_of};
-ghost use Rattle.mimic_reports.specs.Suites.{IsReadTo, KeepsAfter, KeepsBefore, has_failures, is_whole, status_of};
+ghost use Rattle.mimic_reports.specs.Suites.{IsCauseOf, has_failures, status_of};
 
 use crate::junit_elements::Numbers;
-use mimic_events::{Ending, InputRows, ReadFault, Row, counts_of_rows};
+use mimic_events::{Ending, Row, RowsRead, counts_of_rows, read_rows};
 use mimic_trial::Conclusion;
-use std::alloc::{AllocError, AllocFailed, Global};
-use std::io;
-use std::io::{ErrorKind, Read};
-use thiserror::Error;
+use std::alloc::{AllocError, Global};
+use std::io::Read;
 
 /// A report that was read, with the name of its program.
 #[derive(Debug, Drop)]
 pub struct Suite<'a> {
     pub(crate) program: &'a str,
-    pub(crate) ending: SuiteEnding,
     pub(crate) rows: Vec<Row>,
-}
-
-/// How the reading of a report ended.
-#[derive(Debug, Drop)]
-pub enum SuiteEnding {
-    /// At the end of its input, or at the first line that no report has there.
-    Read(Ending),
-    /// Before that, since the report couldn't be opened or read on. This is the cause, as a user is to see it.
-    Unread(String),
-}
-
-/// Why a report was not read to its end.
-#[derive(Debug, Drop, Error)]
-pub enum SuiteFault {
-    /// An allocation failed.
-    #[error("out of memory")]
-    OutOfMemory,
-    /// The reader returned an error other than `Interrupted`, after these rows had ended.
-    #[error("{error}")]
-    Input { rows: Vec<Row>, error: io::Error },
-}
-
-impl From<AllocError> for SuiteFault {
-    ghost from_gives = { λ _ fault. fault ≡ OutOfMemory };
-
-    fn from(_error: AllocError) -> SuiteFault {
-        SuiteFault::OutOfMemory
-    }
-}
-
-impl<T: Drop> From<AllocFailed<T>> for SuiteFault {
-    ghost from_gives = { λ _ fault. fault ≡ OutOfMemory };
-
-    fn from(_refused: AllocFailed<T>) -> SuiteFault {
-        SuiteFault::OutOfMemory
-    }
+    pub(crate) ending: Ending,
+    pub(crate) cause: String,
 }
 
 impl<'a> Suite<'a> {
     /// Reads a report, and keeps its rows. Of what isn't a whole report these are the rows that have ended, before the first line that
-    /// no report has there. It fails only if the reader fails or there is no memory. With a fault of the reader it returns the rows
-    /// that had ended, for [`Suite::unread`].
+    /// no report has there or the reader's error. It fails only if there is no memory.
     pub fn kept<I: Read + Drop>(
         alloc: Global,
         program: &'a str,
         input: I,
-    ) -> Result<Suite<'a>, SuiteFault>
-        ensures read { IfOk result (λ suite. IsReadTo (I.remaining input) (map entry_read suite.rows.items) suite.ending
+    ) -> Result<Suite<'a>, AllocError>
+        ensures read { IfOk result (λ suite. IfSome (I.remaining input) (IsReading (map entry_read suite.rows.items) suite.ending)
             × (suite.program.now ≡ program.now)) }
-        ensures before { IfErr result (KeepsBefore (I.remaining input)) }
+        ensures cause { IfOk result (λ suite. IsCauseOf suite.ending (string_bytes suite.cause)) }
     {
-        let mut rows = InputRows::new(alloc, input)?;
-        let mut kept = Vec::new(alloc);
-        for _ in 0..u64::MAX {
-            match rows.next_row() {
-                Ok(Some(row)) => kept.push(row)?,
-                Ok(None) => {
-                    return Ok(Suite {
-                        program,
-                        ending: SuiteEnding::Read(rows.finish()?),
-                        rows: kept,
-                    });
-                }
-                Err(fault) => return Err(SuiteFault::after(kept, fault)),
-            }
-        }
-        Err(SuiteFault::after(kept, ReadFault::Input(ErrorKind::Other.into())))
-    }
-
-    /// Makes a report of these rows, which couldn't be read on. The cause is as a user is to see it.
-    pub fn unread(program: &'a str, rows: Vec<Row>, cause: String) -> Suite<'a>
-        ensures program { result.program.now ≡ program.now }
-        ensures ending { result.ending ≡ Unread cause }
-        ensures rows { result.rows ≡ rows }
-    {
-        Suite {
+        let RowsRead { rows, ending } = read_rows(alloc, input)?;
+        let cause = match &ending {
+            Ending::Failed(error) => format!(in alloc; "{error}")?,
+            Ending::Whole { .. } | Ending::Cut(_) => String::new(alloc),
+        };
+        Ok(Suite {
             program,
-            ending: SuiteEnding::Unread(cause),
             rows,
-        }
-    }
-}
-
-impl SuiteFault {
-    // Returns the fault of reading rows, after these had ended.
-    fn after(rows: Vec<Row>, fault: ReadFault) -> SuiteFault
-        ensures { KeepsAfter rows result }
-    {
-        match fault {
-            ReadFault::OutOfMemory => SuiteFault::OutOfMemory,
-            ReadFault::Input(error) => SuiteFault::Input { rows, error },
-            // Reading rows has no other fault.
-            ReadFault::WrongLine(_) | ReadFault::Cut => SuiteFault::Input {
-                rows,
-                error: ErrorKind::InvalidData.into(),
-            },
-        }
+            ending,
+            cause,
+        })
     }
 }
 
 impl Suite<'_> {
-    /// Returns how the reading of the report ended.
-    pub fn ending(&self) -> &SuiteEnding
+    /// Returns how the report ended.
+    pub fn ending(&self) -> &Ending
         ensures { result.now ≡ self.now.ending }
     {
         &self.ending
@@ -136,11 +62,11 @@ impl Suite<'_> {
         self.rows.as_slice()
     }
 
-    // Whether the report has its end.
-    fn is_whole(&self) -> bool
-        ensures { result ≡ is_whole self.now }
+    /// Returns why the reader failed, as a user is to see it. The text is empty if it didn't.
+    pub fn cause(&self) -> &str
+        ensures { result.now ≡ string_bytes self.now.cause }
     {
-        matches!(self.ending, SuiteEnding::Read(Ending::Whole { .. }))
+        self.cause.as_str()
     }
 
     // Whether a trial of the report failed.
@@ -156,13 +82,8 @@ impl Suite<'_> {
     {
         let counts = counts_of_rows(&self.rows, 0);
         let (errors, nanos) = match &self.ending {
-            SuiteEnding::Read(
-                Ending::Whole {
-                    filtered_out: _,
-                    nanos,
-                },
-            ) => (0, *nanos),
-            SuiteEnding::Read(Ending::Cut(_)) | SuiteEnding::Unread(_) => (1, 0),
+            Ending::Whole { nanos, .. } => (0, *nanos),
+            Ending::Cut(_) | Ending::Failed(_) => (1, 0),
         };
         Numbers {
             tests: self.rows.len() as u128 + errors,
@@ -187,9 +108,9 @@ pub fn status_of(suites: &[Suite<'_>]) -> u8
 }
 
 fn are_whole(suites: &[Suite<'_>]) -> bool
-    ensures { result ≡ list_all is_whole suites.now }
+    ensures { result ≡ list_all (λ suite. is_whole suite.ending) suites.now }
 {
-    suites.iter().all(|suite| suite.is_whole())
+    suites.iter().all(|suite| suite.ending.is_whole())
 }
 
 fn have_failures(suites: &[Suite<'_>]) -> bool

@@ -7,6 +7,5 @@ pub returns : goal.returns
 unfolding suite_text
 returns g c =
     let start = rw c.numbers.ensures at c.add_suite_start.ensures in
-    let rows = rw c.rows-rows.ensures at c.add_rows.ensures in
-    let ending = rw c.rows-rows.ensures at c.add_ending.ensures in
-    adds_then _ _ start (adds_then _ _ rows (adds_then _ _ ending (adds_then (codes "  </testsuite>\n") [] c.add.ensures (adds_nothing _))))
+    let rows = rw c.rows.ensures at c.add_rows.ensures in
+    adds_then _ _ start (adds_then _ _ rows (adds_then _ _ c.add_ending.ensures (adds_then (codes "  </testsuite>\n") [] c.add.ensures (adds_nothing _))))
