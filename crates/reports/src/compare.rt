@@ -1,10 +1,9 @@
 //! Prints how a report differs from an older one.
-use crate::faults::{refuse, refuse_output};
+use crate::faults::{refuse, refuse_output, status_of_end};
 use crate::input::Input;
 use crate::line::Compare;
 use crate::{BLOCK, REFUSED};
-use mimic_compare::{ComparisonOptions, ComparisonVerdict, InputEnd, write_comparison};
-use mimic_events::Ending;
+use mimic_compare::{ComparisonOptions, ComparisonVerdict, write_comparison};
 use mimic_printer::{OutputFault, Sink};
 use std::alloc::Global;
 use std::io::BufWriter;
@@ -19,8 +18,8 @@ pub(crate) fn run(rt: &HostRuntime, alloc: Global, compare: &Compare) -> u8 {
     };
     match print(rt, alloc, compare, old, new) {
         Ok(verdict) => {
-            print_end(rt, compare.old.as_str(), &verdict.old);
-            print_end(rt, compare.new.as_str(), &verdict.new);
+            status_of_end(rt, compare.old.as_str(), &verdict.old);
+            status_of_end(rt, compare.new.as_str(), &verdict.new);
             verdict.status()
         }
         Err(fault) => refuse_output(rt, &fault),
@@ -53,17 +52,4 @@ fn print<'a>(
         return Err(OutputFault::OutOfMemory);
     };
     write_comparison(alloc, old, new, &options, &mut Sink::new(out))
-}
-
-// Prints why a file has no whole report, if it has none.
-fn print_end(rt: &HostRuntime, file: &str, end: &InputEnd) {
-    match end {
-        InputEnd::Ended(Ending::Whole { .. }) => {}
-        InputEnd::Ended(Ending::Cut(stop)) => {
-            refuse(rt, file, stop);
-        }
-        InputEnd::Failed(error) => {
-            refuse(rt, file, error);
-        }
-    }
 }

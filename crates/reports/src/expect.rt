@@ -1,12 +1,10 @@
 //! Prints what differs in reports from the known failures, and brings the file of these up to date.
-use crate::faults::{refuse, refuse_output};
+use crate::faults::{refuse, refuse_output, status_of_end};
 use crate::input::Input;
 use crate::line::Expect;
 use crate::{BLOCK, REFUSED, SUCCESS};
-use mimic_events::Ending;
 use mimic_expect::{
-    Expectation, ExpectationVerdict, InputEnd, KnownFault, read_known, write_unexpected,
-    write_updated,
+    Expectation, ExpectationVerdict, KnownFault, read_known, write_unexpected, write_updated,
 };
 use mimic_printer::{OutputFault, Sink};
 use std::alloc::{AllocError, Global};
@@ -67,16 +65,7 @@ fn print<I: Read + Drop>(
 // Prints for each file without a whole report why it has none.
 fn print_ends(rt: &HostRuntime, expect: &Expect, verdict: &ExpectationVerdict) {
     for (file, end) in expect.files.iter().zip(&verdict.ends) {
-        let file = file.as_str();
-        match end {
-            InputEnd::Ended(Ending::Whole { .. }) => {}
-            InputEnd::Ended(Ending::Cut(stop)) => {
-                refuse(rt, file, stop);
-            }
-            InputEnd::Failed(error) => {
-                refuse(rt, file, error);
-            }
-        }
+        status_of_end(rt, file.as_str(), end);
     }
 }
 

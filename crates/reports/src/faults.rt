@@ -1,7 +1,7 @@
 //! Prints on standard error why there is no report, or no more of one. Each is one line, whatever a file's name has.
-use crate::REFUSED;
+use crate::{REFUSED, SUCCESS};
 use mimic_console::{Streams, print_line};
-use mimic_events::{Label, Stop};
+use mimic_events::{Ending, Label, Stop};
 use mimic_printer::{OutputFault, WriteFault};
 use std::fmt;
 use std::io::ErrorKind;
@@ -11,16 +11,52 @@ pub(crate) fn refuse<F: fmt::Display>(rt: &HostRuntime, file: &str, fault: &F) -
     refuse_all(rt, &format_args!("{file}: {fault}"))
 }
 
-// Prints why the report of a file is cut, and which trial was running, and returns the status.
-pub(crate) fn refuse_cut(rt: &HostRuntime, file: &str, stop: &Stop) -> u8 {
-    match &stop.running {
-        Some(Label { name, kind }) if kind.is_empty() => {
-            refuse(rt, file, &format_args!("{stop}; running: {name}"))
+// Prints why the report of a file isn't whole, unless it is, and returns the status.
+pub(crate) fn status_of_end(rt: &HostRuntime, file: &str, ending: &Ending) -> u8 {
+    match ending {
+        Ending::Whole { .. } => SUCCESS,
+        Ending::Cut(stop) => refuse(rt, file, &Cause(stop)),
+        Ending::Failed(error) => refuse(rt, file, error),
+    }
+}
+
+// The same, and which trial was running.
+pub(crate) fn status_with_running(rt: &HostRuntime, file: &str, ending: &Ending) -> u8 {
+    match ending {
+        Ending::Cut(stop) => refuse(rt, file, &WithRunning(stop)),
+        _ => status_of_end(rt, file, ending),
+    }
+}
+
+// Why a report is cut. One that is none from its first line on may be in another format.
+pub(crate) struct Cause<'a>(pub(crate) &'a Stop);
+
+impl fmt::Display for Cause<'_> {
+    fn fmt<W: fmt::Write>(&self, f: &mut fmt::Formatter<W>) -> fmt::Result {
+        let stop = self.0;
+        write!(f, "{stop}{}", hint_of(stop.wrong_line))
+    }
+}
+
+// The same, and which trial was running.
+pub(crate) struct WithRunning<'a>(pub(crate) &'a Stop);
+
+impl fmt::Display for WithRunning<'_> {
+    fn fmt<W: fmt::Write>(&self, f: &mut fmt::Formatter<W>) -> fmt::Result {
+        let cause = Cause(self.0);
+        match &self.0.running {
+            Some(Label { name, kind }) if kind.is_empty() => write!(f, "{cause}; running: {name}"),
+            Some(Label { name, kind }) => write!(f, "{cause}; running: [{kind}] {name}"),
+            None => write!(f, "{cause}"),
         }
-        Some(Label { name, kind }) => {
-            refuse(rt, file, &format_args!("{stop}; running: [{kind}] {name}"))
-        }
-        None => refuse(rt, file, stop),
+    }
+}
+
+// What a user may have missed if this line is the first wrong one. Empty unless it is line 1.
+pub(crate) fn hint_of(wrong_line: Option<u128>) -> &'static str {
+    match wrong_line {
+        Some(1) => "; does the program run with --format json?",
+        _ => "",
     }
 }
 
@@ -55,12 +91,4 @@ fn is_of_closed_pipe(fault: &WriteFault) -> bool {
         WriteFault::Error(error) => error.kind() == ErrorKind::BrokenPipe,
         WriteFault::Zero => false,
     }
-}
-
-// Prints why an input has no report in JSON, with a hint, and returns the status.
-pub(crate) fn refuse_format<H: Streams, F: fmt::Display>(host: &H, fault: &F) -> u8 {
-    refuse_all(
-        host,
-        &format_args!("{fault}; does the program run with --format json?"),
-    )
 }

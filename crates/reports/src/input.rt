@@ -1,5 +1,4 @@
 //! Where a report is read from.
-use mimic_reports::{Suite, SuiteFault};
 use std::alloc::{AllocError, Global};
 use std::fs::File;
 use std::io::{ErrorKind, Read, Stdin};
@@ -7,13 +6,16 @@ use std::path::Path;
 use std::{fs, io};
 
 // The name that stands for standard input.
-pub(crate) const STANDARD: &str = "-";
+const STANDARD: &str = "-";
 
 // The name of the program whose report is read from standard input.
 const NAMELESS: &str = "report";
 
 // How many bytes are read at most of a first line that doesn't end. A report's title has fewer than 100.
 const LONGEST_TITLE: usize = 4096;
+
+// How many bytes a report may have that is no regular file, if its rows are kept.
+const KEPT_BYTES: u64 = 256 << 20;
 
 /// A file, which is opened at the first read, or standard input.
 #[derive(Drop)]
@@ -79,16 +81,20 @@ impl FirstLine {
 impl<'a> Input<'a> {
     /// The report of this name.
     pub(crate) fn new(rt: &'a HostRuntime, path: &'a str) -> Input<'a> {
-        Input::limited(rt, path, u64::MAX)
-    }
-
-    /// The report of this name, whose reading fails if it has more bytes than these.
-    pub(crate) fn limited(rt: &'a HostRuntime, path: &'a str, bytes: u64) -> Input<'a> {
         Input {
             source: Source::new(rt, path),
-            left: bytes,
+            left: u64::MAX,
             first_line: FirstLine::new(),
         }
+    }
+
+    /// The same, whose rows are kept. If it is no regular file, it may never end, so reading it fails if it has more than 256 MiB.
+    pub(crate) fn kept(rt: &'a HostRuntime, path: &'a str) -> Input<'a> {
+        let mut input = Input::new(rt, path);
+        if path == STANDARD || !is_regular(rt, path) {
+            input.left = KEPT_BYTES;
+        }
+        input
     }
 
     /// The text of this name, which need be no report.
@@ -136,18 +142,10 @@ pub(crate) fn name_of(file: &str) -> &str {
     Path::new(file).file_stem().unwrap_or(file)
 }
 
-/// Reads the report of this program, or what can be read of it.
-pub(crate) fn read_suite<'a>(
-    alloc: Global,
-    program: &'a str,
-    input: Input<'_>,
-) -> Result<Suite<'a>, SuiteFault> {
-    match Suite::kept(alloc, program, input) {
-        Err(SuiteFault::Input { rows, error }) => {
-            let cause = format!(in alloc; "{error}")?;
-            Ok(Suite::unread(program, rows, cause))
-        }
-        read => read,
+fn is_regular(rt: &HostRuntime, path: &str) -> bool {
+    match fs::metadata(rt, path) {
+        Ok(metadata) => metadata.is_file(),
+        Err(_) => false,
     }
 }
 

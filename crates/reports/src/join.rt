@@ -1,10 +1,11 @@
 //! Joins the reports of shards into one.
 use crate::by_name::Absent;
-use crate::faults::{refuse, refuse_all, refuse_cut, refuse_write};
+use crate::faults::{hint_of, refuse_all, refuse_write, status_with_running};
 use crate::input::Input;
 use crate::line::Join;
 use crate::{BLOCK, REFUSED, SUCCESS, TRIALS_FAILED};
-use mimic_join::{JoinFault, Joined, Refusal, ShardRead, join_cut_reports, join_reports};
+use mimic_events::{ReadFault, RowsRead};
+use mimic_join::{JoinFault, Joined, Refusal, join_cut_reports, join_reports};
 use mimic_printer::Sink;
 use std::alloc::Global;
 use std::io::BufWriter;
@@ -38,9 +39,9 @@ fn print(rt: &HostRuntime, alloc: Global, join: &Join) -> Result<Joined, JoinFau
 }
 
 // Prints why what was read of shards isn't all, and returns the status.
-fn refuse_shards(rt: &HostRuntime, alloc: Global, join: &Join, reads: &[ShardRead]) -> u8 {
+fn refuse_shards(rt: &HostRuntime, alloc: Global, join: &Join, reads: &[RowsRead]) -> u8 {
     for (file, read) in join.files.iter().zip(reads.iter()) {
-        refuse_shard(rt, file.as_str(), read);
+        status_with_running(rt, file.as_str(), &read.ending);
     }
     if let Some(absent) = Absent::of(alloc, join) {
         refuse_all(rt, &absent);
@@ -48,24 +49,12 @@ fn refuse_shards(rt: &HostRuntime, alloc: Global, join: &Join, reads: &[ShardRea
     REFUSED
 }
 
-fn refuse_shard(rt: &HostRuntime, file: &str, read: &ShardRead) {
-    match read {
-        ShardRead::Whole(_) => {}
-        ShardRead::Cut { rows: _, stop } => {
-            refuse_cut(rt, file, stop);
-        }
-        ShardRead::Unreadable(error) => {
-            refuse(rt, file, error);
-        }
-    }
-}
-
 // Prints why there is no joined report, and returns the status.
 fn refuse_fault(rt: &HostRuntime, alloc: Global, join: &Join, fault: &JoinFault) -> u8 {
     if let JoinFault::Write(fault) = fault {
         return refuse_write(rt, fault);
     }
-    let (named, hint) = (fault.with_names(&join.files), hint_of(fault));
+    let (named, hint) = (fault.with_names(&join.files), hint_for(fault));
     refuse_all(rt, &format_args!("{named}{hint}"));
     if let JoinFault::Refused(Refusal::Number { .. }) = fault
         && join.by_name
@@ -77,7 +66,7 @@ fn refuse_fault(rt: &HostRuntime, alloc: Global, join: &Join, fault: &JoinFault)
 }
 
 // What a user may have missed. Empty if nothing comes to mind.
-fn hint_of(fault: &JoinFault) -> &'static str {
+fn hint_for(fault: &JoinFault) -> &'static str {
     match fault {
         JoinFault::Refused(Refusal::Uneven { .. }) => {
             "; reports are taken in the order of their shards: 0, 1, 2, .., 10, 11; --by-name sorts them"
@@ -85,6 +74,10 @@ fn hint_of(fault: &JoinFault) -> &'static str {
         JoinFault::Refused(Refusal::NamedTwice { .. }) => {
             "; a suite with equal names needs --equal-names"
         }
+        JoinFault::Input {
+            place: _,
+            fault: ReadFault::WrongLine(number),
+        } => hint_of(Some(*number)),
         _ => "",
     }
 }

@@ -1,10 +1,9 @@
 //! Prints the failures of reports as known ones.
-use crate::faults::{refuse, refuse_all, refuse_cut, refuse_output, refuse_write};
+use crate::faults::{refuse_all, refuse_output, refuse_write, status_with_running};
 use crate::input::Input;
 use crate::line::Known;
 use crate::{BLOCK, SUCCESS};
-use mimic_events::Ending;
-use mimic_expect::{InputEnd, write_known};
+use mimic_expect::write_known;
 use mimic_printer::{OutputFault, Sink};
 use std::alloc::Global;
 use std::io::BufWriter;
@@ -19,21 +18,12 @@ pub(crate) fn run(rt: &HostRuntime, alloc: Global, known: &Known) -> u8 {
     for file in &known.files {
         let file = file.as_str();
         match write_known(alloc, Input::new(rt, file), &mut sink) {
-            Ok(end) => status = status.max(status_of(rt, file, &end)),
+            Ok(end) => status = status.max(status_with_running(rt, file, &end)),
             Err(fault) => return refuse_output(rt, &fault),
         }
     }
     match sink.flush() {
         Ok(()) => status,
         Err(fault) => refuse_write(rt, &fault),
-    }
-}
-
-// Prints why the report of a file isn't whole, and returns the status.
-fn status_of(rt: &HostRuntime, file: &str, end: &InputEnd) -> u8 {
-    match end {
-        InputEnd::Ended(Ending::Whole { .. }) => SUCCESS,
-        InputEnd::Ended(Ending::Cut(stop)) => refuse_cut(rt, file, stop),
-        InputEnd::Failed(error) => refuse(rt, file, error),
     }
 }

@@ -1,10 +1,10 @@
 //! Prints a report as the harness prints it in the pretty format.
-use crate::faults::{refuse, refuse_output};
+use crate::faults::{refuse, refuse_output, status_of_end};
 use crate::input::Input;
 use crate::line::{Colours, Show};
 use crate::{BLOCK, SUCCESS, TRIALS_FAILED};
 use mimic_console::shows_colours;
-use mimic_events::{Ending, Report, Row, RowsRead, counts_of_rows, read_rows};
+use mimic_events::{Ending, ReadFault, Report, Row, RowsRead, counts_of_rows, read_rows};
 use mimic_printer::{OutputFault, Sink};
 use mimic_reports::{show_cut, show_failures, show_report};
 use std::alloc::Global;
@@ -13,9 +13,8 @@ use std::io::{BufWriter, Stdout};
 // Prints what has ended in the report of the file, or only its failures, and why it is cut or there is none.
 pub(crate) fn run(rt: &HostRuntime, alloc: Global, show: &Show) -> u8 {
     let file = show.file.as_str();
-    let RowsRead { rows, ending } = match read_rows(alloc, Input::new(rt, file)) {
-        Ok(read) => read,
-        Err(fault) => return refuse(rt, file, &fault),
+    let Ok(RowsRead { rows, ending }) = read_rows(alloc, Input::kept(rt, file)) else {
+        return refuse(rt, file, &ReadFault::OutOfMemory);
     };
     let status = status_of(&rows);
     if let Err(fault) = print(rt, alloc, show, rows, &ending) {
@@ -23,7 +22,7 @@ pub(crate) fn run(rt: &HostRuntime, alloc: Global, show: &Show) -> u8 {
     }
     match &ending {
         Ending::Whole { .. } => status,
-        Ending::Cut(stop) => refuse(rt, file, stop),
+        _ => status_of_end(rt, file, &ending),
     }
 }
 
@@ -48,6 +47,9 @@ fn print(
         return Err(OutputFault::OutOfMemory);
     };
     let mut sink = Sink::new(out);
+    if let Ending::Failed(_) = ending {
+        return Ok(());
+    }
     if show.only_failed {
         return show_failures(alloc, rows, ending, &mut sink);
     }
@@ -63,9 +65,11 @@ fn print(
             };
             show_report(alloc, report, colours, &mut sink)
         }
+        Ending::Cut(stop) if stop.announced.is_some() => {
+            show_cut(alloc, rows, stop, colours, &mut sink)
+        }
         // Without a title it is no report.
-        Ending::Cut(stop) if stop.announced.is_none() => Ok(()),
-        Ending::Cut(stop) => show_cut(alloc, rows, stop, colours, &mut sink),
+        Ending::Cut(_) | Ending::Failed(_) => Ok(()),
     }
 }
 

@@ -1,5 +1,5 @@
 //! Prints the slowest trials of reports.
-use crate::faults::{refuse, refuse_output};
+use crate::faults::{refuse, refuse_output, status_of_end};
 use crate::input::Input;
 use crate::line::Slowest;
 use crate::{BLOCK, SUCCESS};
@@ -15,16 +15,13 @@ pub(crate) fn run(rt: &HostRuntime, alloc: Global, slowest: &Slowest) -> u8 {
     let mut status = SUCCESS;
     for file in &slowest.files {
         let file = file.as_str();
-        match read_rows(alloc, Input::new(rt, file)) {
-            Ok(read) => {
-                if let Ending::Cut(stop) = &read.ending {
-                    status = refuse(rt, file, stop);
-                }
-                if reports.push(read).is_err() {
-                    return refuse(rt, file, &ReadFault::OutOfMemory);
-                }
-            }
-            Err(fault) => status = refuse(rt, file, &fault),
+        let Ok(read) = read_rows(alloc, Input::kept(rt, file)) else {
+            status = refuse(rt, file, &ReadFault::OutOfMemory);
+            continue;
+        };
+        status = status.max(status_of_end(rt, file, &read.ending));
+        if !matches!(read.ending, Ending::Failed(_)) && reports.push(read).is_err() {
+            return refuse(rt, file, &ReadFault::OutOfMemory);
         }
     }
     match print(rt, alloc, &reports, slowest.count) {

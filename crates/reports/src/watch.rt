@@ -1,9 +1,9 @@
 //! Shows the report on standard input as it comes.
-use crate::faults::{refuse_all, refuse_format, refuse_output};
+use crate::faults::{WithRunning, refuse_all, refuse_output};
 use crate::line::Watch;
 use crate::pump::{Incoming, Pipe, pump};
 use mimic_console::{Streams, shows_colours};
-use mimic_events::{Ending, ReadFault, Stop};
+use mimic_events::{Ending, ReadFault};
 use mimic_printer::Sink;
 use mimic_watch::{ERASE, Screen, WatchFault, watch};
 use std::alloc::Global;
@@ -78,7 +78,7 @@ fn show<H: Host>(
     match watch(alloc, incoming, &mut sink, host, screen) {
         Ok(verdict) => {
             if let Ending::Cut(stop) = &verdict.ending {
-                refuse_stop(host, stop);
+                refuse_all(host, &WithRunning(stop));
             }
             verdict.status()
         }
@@ -119,15 +119,6 @@ fn columns_of<H: Host>(host: &H) -> Option<usize> {
         .parse::<usize>()
         .ok()
         .filter(|columns| *columns > 0)
-}
-
-// Prints why the input is no report. One that is none from its first line on may be in another format.
-fn refuse_stop<H: Host>(host: &H, stop: &Stop) {
-    if stop.wrong_line == Some(1) {
-        refuse_format(host, stop);
-    } else {
-        refuse_all(host, stop);
-    }
 }
 
 // Whether `TERM` names a terminal that knows escape sequences.

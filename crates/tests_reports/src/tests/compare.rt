@@ -1,7 +1,8 @@
 //! What no clause states about two reports: what is compared if a reader fails. The expected text is worked out by hand.
 use super::lines::{Y_AND_X, announced, failed, measured, passed, summary, text_of, title};
 use super::reading::Slow;
-use mimic_compare::{ComparisonOptions, ComparisonVerdict, InputEnd, write_comparison};
+use mimic_compare::{ComparisonOptions, ComparisonVerdict, write_comparison};
+use mimic_events::Ending;
 use mimic_printer::{OutputFault, Sink};
 use std::alloc::Global;
 use std::io::{ErrorKind, Write};
@@ -80,7 +81,7 @@ fn compares_what_a_reader_gave(rt: HostRuntime) -> Result<(), Fail> {
         verdict.status() == 101 && text.as_str() == OF_A_READER,
         "{text}"
     );
-    assert!(rt; matches!(&verdict.old, InputEnd::Failed(_)), "{verdict:?}");
+    assert!(rt; matches!(&verdict.old, Ending::Failed(_)), "{verdict:?}");
     assert!(rt; verdict.new.is_whole(), "{verdict:?}");
     Ok(())
 }

@@ -3,7 +3,7 @@
 use super::lines::{KILLED, announced, failed, passed, read, summary, text_of, title};
 use super::reading::Slow;
 use mimic_events::{Ending, RowsRead};
-use mimic_join::{JoinFault, Joined, ShardRead, join_cut_reports};
+use mimic_join::{JoinFault, Joined, join_cut_reports};
 use mimic_printer::Sink;
 use mimic_reports::show_cut;
 use std::alloc::Global;
@@ -76,16 +76,15 @@ fn joins_what_has_ended(rt: HostRuntime) -> Result<(), Fail> {
     let Joined::Cut(reads) = joined? else {
         return Err("whole reports".into());
     };
-    let [
-        ShardRead::Cut { rows, stop },
-        ShardRead::Unreadable(error),
-        ShardRead::Whole(report),
-    ] = reads.as_slice()
-    else {
+    let [cut, unread, whole] = reads.as_slice() else {
         return Err("other reads".into());
     };
-    assert!(rt; rows.len() == 1 && stop.announced == Some(3) && stop.wrong_line.is_none());
+    let (Ending::Cut(stop), Ending::Failed(error)) = (&cut.ending, &unread.ending) else {
+        return Err("other endings".into());
+    };
+    assert!(rt; cut.rows.len() == 1 && stop.announced == Some(3) && stop.wrong_line.is_none());
     assert!(rt; matches!(&stop.running, Some(label) if label.name.as_str() == "b"));
-    assert!(rt; error.kind() == ErrorKind::TimedOut && report.rows.len() == 1);
+    assert!(rt; error.kind() == ErrorKind::TimedOut);
+    assert!(rt; whole.ending.is_whole() && whole.rows.len() == 1);
     Ok(())
 }

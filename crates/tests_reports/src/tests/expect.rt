@@ -4,8 +4,8 @@ use super::lines::{A_FAILED, FILTERED, NONE, announced, failed, passed, summary,
 use super::reading::Slow;
 use mimic_events::Ending;
 use mimic_expect::{
-    ExpectOptions, Expectation, ExpectationVerdict, InputEnd, KnownFault, Lines, UpdateVerdict,
-    read_known, write_unexpected, write_updated,
+    ExpectOptions, Expectation, ExpectationVerdict, KnownFault, Lines, UpdateVerdict, read_known,
+    write_unexpected, write_updated,
 };
 use mimic_printer::{OutputFault, Sink};
 use mimic_testkit::{Fault, FaultPlace, FaultyWriter};
@@ -245,13 +245,13 @@ static INPUTS: [(&[Input], u8, &str, &[&str]); 10] = [
 ];
 
 // Shows how each input ended, in a line.
-fn shown(alloc: Global, ends: &[InputEnd]) -> Result<String, AllocError> {
+fn shown(alloc: Global, ends: &[Ending]) -> Result<String, AllocError> {
     let mut shown = String::new(alloc);
     for end in ends {
         let line = match end {
-            InputEnd::Ended(Ending::Whole { .. }) => String::from_str(alloc, "whole\n")?,
-            InputEnd::Ended(Ending::Cut(stop)) => format!(in alloc; "{stop}\n")?,
-            InputEnd::Failed(error) => format!(in alloc; "{error}\n")?,
+            Ending::Whole { .. } => String::from_str(alloc, "whole\n")?,
+            Ending::Cut(stop) => format!(in alloc; "{stop}\n")?,
+            Ending::Failed(error) => format!(in alloc; "{error}\n")?,
         };
         shown.push_str(line.as_str())?;
     }

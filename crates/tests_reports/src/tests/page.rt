@@ -1,10 +1,10 @@
 //! What no clause states about a page: its notes, and why a report is unread. The expected text is worked out by hand.
 use super::lines::{A_FAILED, read};
-use mimic_events::RowsRead;
+use mimic_events::{Ending, RowsRead};
 use mimic_printer::{Sink, WriteFault};
-use mimic_reports::{PageContents, SuiteEnding, write_page};
+use mimic_reports::{PageContents, write_page};
 use std::alloc::Global;
-use std::io::Write;
+use std::io::{ErrorKind, Write};
 use std::test::Fail;
 
 // Writes the page to the writer, and returns the writer, and how that ended. This is the one place that calls `write_page`, and it
@@ -26,7 +26,7 @@ fn page_with(alloc: Global, contents: &PageContents<'_>) -> Result<String, Fail>
 fn shows_notes_and_why_a_report_is_unread(rt: HostRuntime) -> Result<(), Fail> {
     let alloc = rt.alloc();
     let RowsRead { rows, .. } = read(alloc, A_FAILED)?;
-    let ending = SuiteEnding::Unread(String::from_str(alloc, "no <disk>")?);
+    let ending = Ending::Failed(ErrorKind::TimedOut.into());
     let notes = vec![in alloc;
         String::from_str(alloc, "host: a&b")?,
         String::from_str(alloc, "")?,
@@ -36,6 +36,7 @@ fn shows_notes_and_why_a_report_is_unread(rt: HostRuntime) -> Result<(), Fail> {
         notes: notes.as_slice(),
         rows: rows.as_slice(),
         ending: &ending,
+        cause: "no <disk>",
         most: 0,
     };
     let page = page_with(alloc, &contents)?;

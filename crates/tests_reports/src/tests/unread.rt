@@ -3,22 +3,28 @@ use super::lines::text_of;
 use super::reading::Slow;
 use super::times::TIMED;
 use mimic_printer::Sink;
-use mimic_reports::{Suite, SuiteFault, status_of, write_junit, write_suite};
+use mimic_reports::{Suite, status_of, write_junit, write_suite};
 use std::alloc::Global;
-use std::io::ErrorKind;
+use std::io;
+use std::io::{ErrorKind, Read};
 use std::test::Fail;
+
+// A reader that fails after its text, with a cause that would be markup.
+#[derive(Drop)]
+struct Unreadable<'a>(Slow<'a>);
+
+impl Read for Unreadable<'_> {
+    fn read(&mut self, buf: &mut [u8]) -> io::Result<usize> {
+        match self.0.read(buf) {
+            Ok(0) => Err(io::Error::new(ErrorKind::TimedOut, "timed out & <more>")),
+            read => read,
+        }
+    }
+}
 
 // Returns the report of the program `a` whose reader fails after the text.
 fn unread(alloc: Global, text: &str) -> Result<Suite<'static>, Fail> {
-    let mut input = Slow::of(text);
-    input.fails = Some(ErrorKind::TimedOut);
-    match Suite::kept(alloc, "a", input) {
-        Err(SuiteFault::Input { rows, error }) => {
-            let cause = format!(in alloc; "{error} & <more>")?;
-            Ok(Suite::unread("a", rows, cause))
-        }
-        Ok(_) | Err(SuiteFault::OutOfMemory) => Err(Fail::new("the reader did not fail")),
-    }
+    Ok(Suite::kept(alloc, "a", Unreadable(Slow::of(text)))?)
 }
 
 // Returns the document of two such reports, the second one of no text.

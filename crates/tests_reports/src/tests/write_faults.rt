@@ -11,8 +11,8 @@ use mimic_expect::{ExpectOptions, Lines, write_known, write_unexpected};
 use mimic_join::join_reports;
 use mimic_printer::{Piece, Place, Sink, add_escaped, add_pieces};
 use mimic_reports::{
-    PageContents, Suite, SuiteEnding, add_running, show_cut, show_failures, show_report,
-    write_junit, write_page, write_slowest, write_suite,
+    PageContents, Suite, add_running, show_cut, show_failures, show_report, write_junit,
+    write_page, write_slowest, write_suite,
 };
 use mimic_testkit::{Fault, FaultPlace, FaultyWriter};
 use mimic_watch::{Screen, watch};
@@ -179,12 +179,12 @@ fn failures(alloc: Global, writer: FaultyWriter) -> Written {
 
 fn page(alloc: Global, writer: FaultyWriter) -> Written {
     let RowsRead { rows, ending } = read(alloc, AFTER)?;
-    let ending = SuiteEnding::Read(ending);
     let contents = PageContents {
         title: "a",
         notes: &[],
         rows: rows.as_slice(),
         ending: &ending,
+        cause: "",
         most: u64::MAX,
     };
     written!(alloc, writer, sink => write_page(&contents, &mut sink))
