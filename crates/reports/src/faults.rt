@@ -29,6 +29,7 @@ pub(crate) fn status_with_running(rt: &HostRuntime, file: &str, ending: &Ending)
 }
 
 // Why a report is cut. One that is none from its first line on may be in another format.
+#[derive(Clone, Copy)]
 pub(crate) struct Cause<'a>(pub(crate) &'a Stop);
 
 impl fmt::Display for Cause<'_> {
@@ -39,6 +40,7 @@ impl fmt::Display for Cause<'_> {
 }
 
 // The same, and which trial was running.
+#[derive(Clone, Copy)]
 pub(crate) struct WithRunning<'a>(pub(crate) &'a Stop);
 
 impl fmt::Display for WithRunning<'_> {

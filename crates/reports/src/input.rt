@@ -6,7 +6,7 @@ use std::path::Path;
 use std::{fs, io};
 
 // The name that stands for standard input.
-const STANDARD: &str = "-";
+pub(crate) const STANDARD: &str = "-";
 
 // The name of the program whose report is read from standard input.
 const NAMELESS: &str = "report";

@@ -125,7 +125,7 @@ fn cut(alloc: Global, lines: &[&str]) -> Result<(Vec<Row>, Stop), Fail> {
     let RowsRead { rows, ending } = read(alloc, lines)?;
     match ending {
         Ending::Cut(stop) => Ok((rows, stop)),
-        Ending::Whole { .. } => Err("a whole report".into()),
+        Ending::Whole { .. } | Ending::Failed(_) => Err("no cut report".into()),
     }
 }
 
