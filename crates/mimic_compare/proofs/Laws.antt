@@ -1,9 +1,10 @@
 -- The laws of comparisons.
-use Rattle.std.proofs.Common.{◌≡◌, ◌==◌, ◌||◌, not, ℕ, zero, suc, ◌+◌, ◌<◌, Bool, true, false, cond, List, [], ◌∷◌, ◌++◌, map, filter, refl, sym, ap, ap₂, subst, ◌∙◌, inl, inr, arith}
+use Rattle.std.proofs.Common.{◌≡◌, ◌==◌, ◌||◌, not, ℕ, zero, suc, ◌+◌, ◌<◌, Bool, true, false, cond, List, [], ◌∷◌, ◌++◌, map, filter, refl, sym, ap, ap₂, subst, ◌∙◌, inl, inr, arith, rules}
 use Rattle.std.specs.Prelude.{◌↔◌, ◌≢◌, ◌&&◌, ◌≤◌, IsPermutation, count_by, nat_lt}
 use Rattle.std.specs.List.{AllPairs, IsDistinct, list_any}
 use Rattle.std.proofs.lemmas.Bool.{both_ways, cases_eq, eq-eqb, ne_eqb, not-true}
 use Rattle.std.proofs.lemmas.Bool.Decides.{nat_tests}
+use Rattle.std.proofs.lemmas.Grind.{common_steps}
 use Rattle.std.proofs.lemmas.List.Elements.{All-weaker, filter_passes}
 use Rattle.std.proofs.lemmas.List.Folds.{list_any-append}
 use Rattle.std.proofs.lemmas.List.Sorted.{IsPermutation-append_right, IsPermutation-cons, IsPermutation-middle, IsPermutation-refl, IsPermutation-sym, IsPermutation-trans}
@@ -15,11 +16,12 @@ use Rattle.mimic_printer.specs.Json.{Entry}
 use Rattle.mimic_printer.specs.Row.{Label}
 use Rattle.mimic_events.specs.Key.{same_label}
 use Rattle.mimic_events.proofs.Keys.{same_label-decides, same_label-symm}
+use Rattle.mimic_events.specs.Readings.{InputRead, is_whole}
 use Rattle.mimic_printer.proofs.EscapeLaws.{lines_have_no_control}
 use Rattle.mimic_compare.specs.Classes.{Compared, compared, comparisons, distinct, labels_in}
 use Rattle.mimic_compare.specs.Fates.{fates_with}
 use Rattle.mimic_compare.specs.Text.{place_of, same_class}
-use Rattle.mimic_compare.specs.Written.{ArePartitioned, ComparisonLaws, InputRead, SaysWorse, found_in, is_whole, is_worse, labels_of, stands_in, verdict_of}
+use Rattle.mimic_compare.specs.Written.{ArePartitioned, ComparisonLaws, SaysWorse, found_in, is_worse, labels_of, stands_in, verdict_of}
 use Rattle.mimic_compare.specs.declared.class.Class.{Class}
 use Rattle.mimic_compare.specs.declared.class.Class.TheVariants.{Regressed, Missing}
 use Rattle.mimic_compare.specs.declared.verdict.ComparisonVerdict.{ComparisonVerdict}
@@ -30,8 +32,7 @@ apart : (labels : List Label) → AllPairs (λ a b. a ≢ b) (distinct labels)
 apart [] = λ i j d lt below. absurd (omega arith)
 apart (label ∷ labels) =
     let others : Label → Bool = λ other. not (same_label label other) in
-    let differs : (other : Label) → others other ≡ true → label ≢ other =
-    λ other kept same. both_ways (same_label label other) (not-true (same_label label other) kept) ((same_label-decides label other).1 same) in
+    let differs : (other : Label) → others other ≡ true → label ≢ other = λ other kept same. grind (arith, same_label-decides label other) in
     AllPairs-cons (λ a b. a ≢ b) label (filter others (distinct labels))
     (All-weaker (λ other. others other ≡ true) (λ other. label ≢ other) differs (filter others (distinct labels)) (filter_passes others (distinct labels)))
     (AllPairs-filter (λ a b. a ≢ b) others (distinct labels) (apart labels))
@@ -39,16 +40,9 @@ apart (label ∷ labels) =
 pub distinct_stand : (label : Label) (labels : List Label) → stands_in label (distinct labels) ≡ stands_in label labels
 distinct_stand label [] = refl
 distinct_stand label (first ∷ labels) =
-    let kept : (other : Label) → same_label label other ≡ true → not (same_label first other) ≡ not (same_label first label) =
-    λ other h. ap (λ (l : Label). not (same_label first l)) (sym ((same_label-decides label other).0 h)) in
-    ap (λ b. same_label label first || b)
-    (any-filter_same (same_label label) (λ other. not (same_label first other)) (not (same_label first label)) kept (distinct labels)
-    ∙ ap₂ (λ x y. not x && y) (same_label-symm first label) (distinct_stand label labels))
-    ∙ at (same_label label first) (stands_in label labels)
-  where
-    at : (a b : Bool) → (a || (not a && b)) ≡ (a || b)
-    at true b = refl
-    at false b = refl
+    let others : Label → Bool = λ other. not (same_label first other) in
+    let kept : (other : Label) → same_label label other ≡ true → others other ≡ others label = λ other same. grind (arith, same_label-decides label other) in
+    grind (arith, any-filter_same (same_label label) others (others label) kept (distinct labels), distinct_stand label labels, same_label-symm first label)
 
 labels_compared : (judged : Bool) (old new : List Entry) (labels : List Label)
     → labels_of (map (λ label. compared judged label (fates_with label old) (fates_with label new)) labels) ≡ labels
@@ -70,23 +64,21 @@ places k (suc n) found = at_place k found ++ places (k + 1) n found
 
 behind : (c : Compared) (k n : ℕ) (found : List Compared) → place c < k → places k n (c ∷ found) ≡ places k n found
 behind c k zero found before = refl
-behind c k (suc n) found before = rw (ne_eqb (place c) k (λ e. omega (arith, e, before)), behind c (k + 1) n found (omega (arith, before)))
+behind c k (suc n) found before = grind (arith, nat_tests, behind c (k + 1) n found)
 
 placed : (c : Compared) (k n : ℕ) (found : List Compared) → k ≤ place c → place c < k + n → IsPermutation (c ∷ places k n found) (places k n (c ∷ found))
 placed c k zero found from to = absurd (omega arith)
 placed c k (suc n) found from to = elim (cases_eq (place c) k) [
-  | inl here ↦ rw (eq-eqb (place c) k here, behind c (k + 1) n found (omega (arith, here))) (IsPermutation-refl (c ∷ (at_place k found ++ places (k + 1) n found)))
+  | inl here ↦ grind (arith, nat_tests, behind c (k + 1) n found, IsPermutation-refl)
   | inr other ↦
       let rest = places (k + 1) n found in
       rw (ne_eqb (place c) k other)
-      (IsPermutation-trans (c ∷ (at_place k found ++ rest)) (at_place k found ++ c ∷ rest) (at_place k found ++ places (k + 1) n (c ∷ found))
-      (IsPermutation-sym (at_place k found ++ c ∷ rest) (c ∷ (at_place k found ++ rest)) (IsPermutation-middle (at_place k found) c rest))
+      (IsPermutation-trans _ _ _ (IsPermutation-sym _ _ (IsPermutation-middle (at_place k found) c rest))
       (IsPermutation-append_right (at_place k found) (c ∷ rest) (places (k + 1) n (c ∷ found)) (placed c (k + 1) n found (omega arith) (omega arith))))
 ]
 
 few : (class : Class) → place_of class < 10
-few Regressed = omega arith
-few class = omega arith
+few class = grind arith
 
 in_places : (found : List Compared) → IsPermutation found (places 0 10 found)
 in_places [] = IsPermutation-refl []
@@ -108,28 +100,10 @@ partitioned judged old new =
 
 some_counted : (p q : Compared → Bool) (found : List Compared) → (nat_lt 0 (count_by p found) || nat_lt 0 (count_by q found)) ≡ list_any (λ c. p c || q c) found
 some_counted p q [] = refl
-some_counted p q (c ∷ found) =
-    rw (sum_by-cons (λ (x : Compared). cond (p x) 1 0) c found, sum_by-cons (λ (x : Compared). cond (q x) 1 0) c found)
-    (at (p c) (q c) (count_by p found) (count_by q found) (list_any (λ x. p x || q x) found) (some_counted p q found))
-  where
-    at : (a b : Bool) (m n : ℕ) (rest : Bool) → (nat_lt 0 m || nat_lt 0 n) ≡ rest → (nat_lt 0 (cond a 1 0 + m) || nat_lt 0 (cond b 1 0 + n)) ≡ ((a || b) || rest)
-    at true b m n rest h = grind (arith, nat_tests)
-    at false true m n rest h = grind (arith, nat_tests)
-    at false false m n rest h = grind (arith, nat_tests)
+some_counted p q (c ∷ found) = grind (arith, common_steps, some_counted p q found)
 
 says_worse : (old new : InputRead) → SaysWorse old new
-says_worse old new =
-    let v : ComparisonVerdict = verdict_of old new in
-    let found = found_in old new in
-    let p : Compared → Bool = λ c. same_class c.class Regressed in
-    let q : Compared → Bool = λ c. same_class c.class Missing in
-    let worse : (nat_lt 0 v.regressed || nat_lt 0 v.missing) ≡ list_any is_worse found = some_counted p q found in
-    at (nat_lt 0 v.regressed || nat_lt 0 v.missing) (list_any is_worse found) (is_whole v.old && is_whole v.new) worse
-  where
-    at : (b w whole : Bool) → b ≡ w → (◌≡◌ {A = ℕ} (cond b 101 (cond whole 0 1)) 101) ↔ (w ≡ true)
-    at true w whole e = (λ h. sym e, λ h. refl)
-    at false w true e = (λ h. absurd (omega (arith, h)), λ h. let wrong : false ≡ true = e ∙ h in absurd (cc))
-    at false w false e = (λ h. absurd (omega (arith, h)), λ h. let wrong : false ≡ true = e ∙ h in absurd (cc))
+says_worse old new = grind (arith, nat_tests, some_counted (λ c. same_class c.class Regressed) (λ c. same_class c.class Missing) (found_in old new))
 
 pub comparison_laws : ComparisonLaws
 comparison_laws = record { partition = partitioned; status = says_worse; lines = lines_have_no_control }

@@ -1,5 +1,5 @@
 -- What a comparison of two reports leaves, and its laws (our own).
-use Rattle.std.specs.Prelude.{◌≡◌, ◌↔◌, ◌==◌, ◌&&◌, ◌||◌, ℕ, Bool, true, false, nat_lt, if◌then◌else◌, List, map, filter, IfSome, IsPermutation, Option, Result, Ok, Err}
+use Rattle.std.specs.Prelude.{◌≡◌, ◌↔◌, ◌&&◌, ◌||◌, ℕ, Bool, true, nat_lt, if◌then◌else◌, List, map, filter, IsPermutation, Option, Result, Ok, Err}
 use Rattle.std.specs.List.{IsDistinct, flat_map, list_any}
 use Rattle.mimic_printer.specs.Json.{Entry}
 use Rattle.mimic_printer.specs.Row.{Label}
@@ -9,48 +9,19 @@ use Rattle.mimic_printer.specs.declared.place.Place.TheVariants.{Line}
 use Rattle.mimic_printer.specs.declared.sink.OutputFault.{OutputFault}
 use Rattle.mimic_printer.specs.declared.sink.OutputFault.TheVariants.{OutOfMemory, Write}
 use Rattle.mimic_events.specs.Key.{same_label}
-use Rattle.mimic_events.specs.Readings.{HasEndedRows, IsReading}
-use Rattle.mimic_events.specs.declared.ending.Ending.TheVariants.{Whole}
+use Rattle.mimic_events.specs.Readings.{InputRead, IsReadOf, has_all, is_whole}
 use Rattle.mimic_compare.specs.Changes.{AreRanked, Change, changes_in}
 use Rattle.mimic_compare.specs.Classes.{Compared, comparisons, labels_in}
 use Rattle.mimic_compare.specs.Text.{classes, comparison_text, count_of, same_class}
 use Rattle.mimic_compare.specs.declared.class.Class.TheVariants.{Regressed, Missing}
-use Rattle.mimic_compare.specs.declared.inputs.InputEnd.{InputEnd}
-use Rattle.mimic_compare.specs.declared.inputs.InputEnd.TheVariants.{Ended, Failed}
 use Rattle.mimic_compare.specs.declared.verdict.ComparisonOptions.{ComparisonOptions}
 use Rattle.mimic_compare.specs.declared.verdict.ComparisonVerdict.{ComparisonVerdict}
-
--- ---- inputs
-
--- what was read of an input: the rows that have ended, and how the input ended
-pub record InputRead : Type 0 where
-  pub entries : List Entry
-  pub end : InputEnd
-
--- the bytes have these rows, and end so; with an error of the reader these rows have ended in a front of the bytes
-abbrev pub Reads : List Entry → InputEnd → List ℕ → Type 0
-Reads entries (Ended ending) bytes = IsReading entries ending bytes
-Reads entries (Failed error) bytes = HasEndedRows entries bytes
-
--- the input, if its bytes are known, was read so
-abbrev pub IsReadOf : Option (List ℕ) → InputRead → Type 0
-IsReadOf input read = IfSome input (Reads read.entries read.end)
-
--- the input was a whole report
-abbrev pub is_whole : InputEnd → Bool
-is_whole (Ended (Whole filtered_out nanos)) = true
-is_whole other = false
-
--- it was, and no trial was filtered out
-abbrev pub has_all : InputEnd → Bool
-has_all (Ended (Whole filtered_out nanos)) = filtered_out == 0
-has_all other = false
 
 -- ---- what is left
 
 -- what is reported for the kinds and names of both reports
 abbrev pub found_in : InputRead → InputRead → List Compared
-found_in old new = comparisons (has_all old.end && has_all new.end) old.entries new.entries
+found_in old new = comparisons (has_all old.ending && has_all new.ending) old.entries new.entries
 
 -- what was read of both inputs, and the changes in the order in which they are printed
 pub record Comparing {I : Type 0} (remaining : I → Option (List ℕ)) (old new : I) (options : ComparisonOptions) : Type 0 where
@@ -70,8 +41,8 @@ abbrev pub verdict_of : InputRead → InputRead → ComparisonVerdict
 verdict_of old new = record {
   regressed = count_of Regressed (found_in old new);
   missing = count_of Missing (found_in old new);
-  old = old.end;
-  new = new.end;
+  old = old.ending;
+  new = new.ending;
 }
 
 -- with `Ok` the whole text was written, after a write fault a beginning of it, and if memory ran out nothing

@@ -12,12 +12,10 @@
 mod change;
 mod class;
 mod fates;
-mod inputs;
 mod lines;
 mod messages;
 mod trials;
 mod verdict;
 
 pub use class::Class;
-pub use inputs::InputEnd;
 pub use verdict::{ComparisonOptions, ComparisonVerdict, write_comparison};

@@ -1,25 +1,44 @@
 //! Keeps rows by their kinds and names, and compares them.
-ghost use Rattle.std.specs.Prelude.{◌≡◌, ◌∷◌, [], IfOk, List, OnOk, map};
+ghost use Rattle.std.specs.Prelude.{◌≡◌, ◌∷◌, [], IfOk, OnOk};
 ghost use Rattle.mimic_events.specs.Contents.{entry_read};
-ghost use Rattle.mimic_compare.specs.Trials.{Came, Holds, Keeps, found_among};
+ghost use Rattle.mimic_compare.specs.Trials.{Come, Holds, Keeps, found_among};
 
 use crate::class::Class;
 use crate::fates::{BothFates, KeptFate, Named, Report};
 use indexmap::IndexMap;
-use mimic_events::Row;
+use mimic_events::{Row, RowTaker};
+use mimic_printer::OutputFault;
 use std::alloc::{AllocError, Global};
 use std::marker::Model;
 
 // What the rows say, by their kinds and names, in the order in which these first came.
 pub(crate) type Trials = IndexMap<Named, BothFates>;
 
+// Keeps what the rows of a report say.
+#[derive(Drop)]
+pub(crate) struct Keeper {
+    pub(crate) alloc: Global,
+    pub(crate) trials: Trials,
+    pub(crate) report: Report,
+}
+
+impl RowTaker for Keeper {
+    ghost use Rattle.std.specs.Prelude.{◌≡◌};
+    ghost use Rattle.mimic_printer.specs.declared.sink.OutputFault.TheVariants.{OutOfMemory};
+    ghost use Rattle.mimic_compare.specs.Trials.{Keeps};
+
+    ghost takes = { λ old rows new. (new.report ≡ old.report) × Keeps old.trials new.trials old.report rows };
+
+    ghost stops = { λ old rows fault new. fault ≡ OutOfMemory };
+
+    fn take(&mut self, row: Row) -> Result<(), OutputFault> {
+        keep_row(self.alloc, &mut self.trials, self.report, row)?;
+        Ok(())
+    }
+}
+
 // Keeps what the row says.
-pub(crate) fn keep_row(
-    alloc: Global,
-    trials: &mut Trials,
-    report: Report,
-    row: Row,
-) -> Result<(), AllocError>
+fn keep_row(alloc: Global, trials: &mut Trials, report: Report, row: Row) -> Result<(), AllocError>
     ensures { OnOk result (Keeps trials.old trials.new report (entry_read row ∷ [])) }
 {
     let Row {
@@ -28,17 +47,12 @@ pub(crate) fn keep_row(
         outcome,
         nanos,
     } = row;
-    let label = Named { kind, name };
     let fate = KeptFate::new(alloc, outcome, nanos)?;
-    match trials.get_mut(&label) {
-        Some(fates) => fates.push(alloc, report, fate),
-        None => {
-            let mut fates = BothFates::new();
-            fates.push(alloc, report, fate)?;
-            trials.insert(label, fates)?;
-            Ok(())
-        }
-    }
+    let fates = trials
+        .entry(Named { kind, name })?
+        .or_insert(BothFates::new());
+    fates.push(alloc, report, fate)?;
+    Ok(())
 }
 
 // A kind and a name of one report or both.
@@ -63,7 +77,7 @@ pub(crate) fn compare_trials(
     trials: &Trials,
     is_judged: bool,
 ) -> Result<Vec<Comparison<'_>>, AllocError>
-    ensures { IfOk result (λ found. (come : List Came) → Holds trials.now come
+    ensures { IfOk result (λ found. (come : Come) → Holds trials.now come
         → found.items ≡ found_among is_judged come) }
 {
     let mut found = Vec::with_capacity(alloc, trials.len())?;

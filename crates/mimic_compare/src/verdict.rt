@@ -5,10 +5,10 @@ ghost use Rattle.mimic_compare.specs.Written.{ComparisonLaws, LeavesComparison};
 use crate::change::ranked_changes;
 use crate::class::Class;
 use crate::fates::Report;
-use crate::inputs::{InputEnd, have_all, keep_rows};
 use crate::lines::{add_comparison, count_of};
-use crate::trials::{Trials, compare_trials};
+use crate::trials::{Keeper, compare_trials};
 use indexmap::IndexMap;
+use mimic_events::{Ending, read_into};
 use mimic_printer::{OutputFault, Sink};
 use mimic_trial::Conclusion;
 use std::alloc::Global;
@@ -31,9 +31,9 @@ pub struct ComparisonVerdict {
     /// How many are missing.
     pub missing: usize,
     /// How the old input ended.
-    pub old: InputEnd,
+    pub old: Ending,
     /// How the new input ended.
-    pub new: InputEnd,
+    pub new: Ending,
 }
 
 impl ComparisonVerdict {
@@ -89,10 +89,15 @@ pub fn write_comparison<I: Read + Drop, W: Write>(
     // Each kind and name is in one class, the status says whether one is worse, and no name or message ends a line.
     ensures laws { ComparisonLaws }
 {
-    let mut trials: Trials = IndexMap::new(alloc);
-    let old = keep_rows(alloc, &mut trials, Report::Old, old)?;
-    let new = keep_rows(alloc, &mut trials, Report::New, new)?;
-    let found = compare_trials(alloc, &trials, have_all(&old, &new))?;
+    let mut keeper = Keeper {
+        alloc,
+        trials: IndexMap::new(alloc),
+        report: Report::Old,
+    };
+    let old = read_into(alloc, old, &mut keeper)?;
+    keeper.report = Report::New;
+    let new = read_into(alloc, new, &mut keeper)?;
+    let found = compare_trials(alloc, &keeper.trials, old.has_all() && new.has_all())?;
     let changes = ranked_changes(alloc, options.slower, &found)?;
     add_comparison(sink, &found, &changes, options.lists_not_run);
     sink.end()?;
