@@ -1,3 +1,4 @@
+pub mod EnoughRows
 pub mod Ids
 pub mod PageLaws
 pub mod Pages

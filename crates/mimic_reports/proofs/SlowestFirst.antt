@@ -1,14 +1,13 @@
 -- Rows that were sorted by their times are the slowest first.
-use Rattle.std.proofs.Common.{◌≡◌, ℕ, ◌≤◌, ◌<◌, ◌==◌, cond, Bool, true, false, min, List, [], ◌∷◌, length, get_or, map, take, filter, refl, sym, ap, ◌∙◌, arith}
+use Rattle.std.proofs.Common.{◌≡◌, ℕ, ◌≤◌, ◌<◌, ◌==◌, cond, Bool, true, false, List, [], ◌∷◌, length, get_or, map, filter, refl, sym, ap, ◌∙◌, arith}
 use Rattle.std.specs.Cmp.{IsStrictWeakOrder}
-use Rattle.std.specs.List.{flat_map}
+use Rattle.std.specs.List.{AllPairs}
 use Rattle.std.specs.List.Sorted.{IsPermutation, IsSortedBy, IsStableBy, ties}
 use Rattle.std.specs.Ordering.{is_lt, nat_cmp}
-use Rattle.std.proofs.lemmas.List.{get_or-map, length-map, take-map, take_min}
-use Rattle.std.proofs.lemmas.List.Folds.{flat_map-map}
+use Rattle.std.proofs.lemmas.List.{get_or-map, length-map}
 use Rattle.std.proofs.lemmas.List.Sorted.{IsPermutation-map, length_permutation, sorted_far}
 use Rattle.mimic_reports.specs.declared.slowest.TimedRow.{TimedRow}
-use Rattle.mimic_reports.specs.Slowest.{IsSlowestFirst, Timed, line_text, lines_text, timed_read}
+use Rattle.mimic_reports.specs.Slowest.{IsSlowestFirst, Timed, timed_read}
 
 -- the test of the order: one row took longer than the other
 abbrev pub is_slower : TimedRow → TimedRow → Bool
@@ -46,12 +45,11 @@ of_time x [] = refl
 of_time x (y ∷ l) = rw (ties-same x y, of_time x l) (kept x y (filter (ties is_slower x) l) (x.nanos == y.nanos))
 
 module _ (xs ys : List TimedRow) (same : IsPermutation xs ys) (up : IsSortedBy is_slower ys) (keeps : IsStableBy is_slower xs ys) where
-  falls : (d : TimedRow) (i j : ℕ) (other : Timed) → i ≤ j → j < length (map timed_read ys)
-      → (get_or (map timed_read ys) j other).nanos ≤ (get_or (map timed_read ys) i other).nanos
-  falls d i j other a b =
+  falls : (d : TimedRow) → AllPairs (λ row later. later.nanos ≤ row.nanos) (map timed_read ys)
+  falls d i j other before b =
       let within : j < length ys = omega (arith, b, length-map ys timed_read) in
       rw (get_or-map timed_read ys j d other within, get_or-map timed_read ys i d other (omega arith))
-      (not_less _ _ (sorted_far is_slower slower-order ys up i j d a within))
+      (not_less _ _ (sorted_far is_slower slower-order ys up i j d (omega arith) within))
 
   stays : (d : TimedRow) (nanos : ℕ)
       → filter (λ row. nanos == row.nanos) (map timed_read ys) ≡ filter (λ row. nanos == row.nanos) (map timed_read xs)
@@ -81,8 +79,3 @@ pub slowest_first : (xs ys : List TimedRow) → IsPermutation xs ys → IsSorted
     → IsSlowestFirst (map timed_read xs) (map timed_read ys)
 slowest_first [] ys same up keeps = rw (none ys same) no_rows
 slowest_first (x ∷ xs) ys same up keeps = with_row (x ∷ xs) ys same up keeps x
-
--- the lines of the first rows, of no more than there are
-pub first_lines : (count front : ℕ) (rows : List TimedRow) → front ≡ min count (length rows)
-    → flat_map (λ timed. line_text (timed_read timed)) (take front rows) ≡ lines_text count (map timed_read rows)
-first_lines count front rows is = simp (is, take_min, take-map, flat_map-map)

@@ -65,11 +65,11 @@ numbers_part n = codes " tests=\"" ∷ decimal n.tests ∷ codes "\" failures=\"
 
 -- what comes before the first report
 unfoldable pub root_start : Numbers → List ℕ
-root_start n = concat (codes "<?xml version=\"1.0\" encoding=\"UTF-8\"?>\n<testsuites" ∷ numbers_part n)
+root_start n = codes "<?xml version=\"1.0\" encoding=\"UTF-8\"?>\n<testsuites" ++ concat (numbers_part n)
 
 -- what comes before the rows of a report
 unfoldable pub suite_start : List ℕ → Numbers → List ℕ
-suite_start program n = concat (codes "  <testsuite name=\"" ∷ escaped Value program ∷ codes "\"" ∷ numbers_part n)
+suite_start program n = concat (codes "  <testsuite name=\"" ∷ escaped Value program ∷ codes "\"" ∷ []) ++ concat (numbers_part n)
 
 -- ---- rows
 

@@ -1,5 +1,5 @@
 -- The trials that took longest, as they are printed (our own).
-use Rattle.std.specs.Prelude.{◌≡◌, ℕ, ◌<◌, ◌≤◌, ◌==◌, List, [], ◌∷◌, codes, filter, length, take, slice_index_or, IsPermutation, Option, None, Some, Result, Ok, Err}
+use Rattle.std.specs.Prelude.{◌≡◌, ℕ, ◌≤◌, ◌==◌, List, [], ◌∷◌, ◌++◌, AllPairs, codes, filter, map, string_bytes, take, IsPermutation, Option, None, Some, Result, Ok, Err}
 use Rattle.std.specs.List.{concat, flat_map}
 use Rattle.mimic_printer.specs.Escapes.{escaped}
 use Rattle.mimic_printer.specs.Json.{Entry}
@@ -9,10 +9,8 @@ use Rattle.mimic_printer.specs.Sink.{Put, Shown, Stopped}
 use Rattle.mimic_printer.specs.declared.place.Place.TheVariants.{Line}
 use Rattle.mimic_printer.specs.declared.sink.OutputFault.{OutputFault}
 use Rattle.mimic_printer.specs.declared.sink.OutputFault.TheVariants.{OutOfMemory, Write}
-use Rattle.mimic_events.specs.Contents.{entry_read}
-use Rattle.mimic_events.specs.declared.report.Row.{Row}
-use Rattle.mimic_events.specs.declared.rows_read.RowsRead.{RowsRead}
 use Rattle.mimic_reports.specs.Seconds.{rounded_seconds}
+use Rattle.mimic_reports.specs.declared.slowest.Slowest.{Slowest}
 use Rattle.mimic_reports.specs.declared.slowest.TimedRow.{TimedRow}
 
 -- ---- rows with a time
@@ -30,22 +28,29 @@ timed_with label (Some nanos) = record { label = label; nanos = nanos } ∷ []
 abbrev pub timed_in : Entry → List Timed
 timed_in entry = timed_with entry.label entry.nanos
 
--- the rows that have a time, in their order
-abbrev pub timed_among : List Row → List Timed
-timed_among rows = flat_map (λ row. timed_in (entry_read row)) rows
-
--- those of all reports, in their order
-abbrev pub timed_of : List RowsRead → List Timed
-timed_of reports = flat_map (λ report. timed_among report.rows.items) reports
+-- those that have a time, in their order
+abbrev pub timed_among : List Entry → List Timed
+timed_among entries = flat_map timed_in entries
 
 -- ---- their order
 
 -- the same rows, slowest first, and equal times in the order that they had
 pub record IsSlowestFirst (rows ordered : List Timed) : Type 0 where
   pub same : IsPermutation rows ordered
-  pub falling : (i j : ℕ) (other : Timed) → i ≤ j → j < length ordered
-      → (slice_index_or ordered j other).nanos ≤ (slice_index_or ordered i other).nanos
+  pub falling : AllPairs (λ row later. later.nanos ≤ row.nanos) ordered
   pub stable : (nanos : ℕ) → filter (λ row. nanos == row.nanos) ordered ≡ filter (λ row. nanos == row.nanos) rows
+
+-- whatever rows follow, the slowest `count` of all are the slowest `count` of those that are kept and these
+pub record IsEnough (count : ℕ) (rows kept : List Timed) : Type 0 where
+  pub same : (later ordered : List Timed) → IsSlowestFirst (kept ++ later) ordered
+      → (all : List Timed) × IsSlowestFirst (rows ++ later) all × (take count all ≡ take count ordered)
+
+abbrev pub timed_read : TimedRow → Timed
+timed_read row = record { label = record { kind = string_bytes row.kind; name = string_bytes row.name }; nanos = row.nanos }
+
+-- it has the slowest of these rows, as many as it was made for
+abbrev pub HasSlowest : Slowest → List Timed → Type 0
+HasSlowest slowest rows = IsEnough slowest.count rows (map timed_read slowest.rows.items)
 
 -- ---- text
 
@@ -71,8 +76,3 @@ abbrev pub LeavesSlowest : ℕ → List Timed → Shown → Shown → Result (Un
 LeavesSlowest count rows old new (Ok done) = (ordered : List Timed) × IsSlowestFirst rows ordered
     × Put old new (lines_text count ordered)
 LeavesSlowest count rows old new (Err fault) = SlowestLeftBy count rows old new fault
-
--- ---- rows as they are sorted. No public clause names this word
-
-abbrev pub timed_read : TimedRow → Timed
-timed_read timed = record { label = (entry_read timed.row.now).label; nanos = timed.nanos }

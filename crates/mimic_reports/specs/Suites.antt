@@ -1,15 +1,12 @@
--- Reports that were read to be written in XML, and what a call that writes them leaves.
-use Rattle.std.specs.Prelude.{◌≡◌, ℕ, Bool, nat_lt, if◌then◌else◌, ◌<◌, ◌≤◌, ◌⊎◌, ◌^◌, List, [], map, Result, Ok, Err, ⊤}
+-- Reports that were read to be written in XML.
+use Rattle.std.specs.Prelude.{◌≡◌, ℕ, Bool, nat_lt, if◌then◌else◌, ◌≤◌, List, [], ⊤}
 use Rattle.std.specs.List.{list_all, list_any}
-use Rattle.mimic_printer.specs.Sink.{Put, Shown, Stopped}
 use Rattle.mimic_reports.specs.declared.junit_elements.Numbers.{Numbers}
 use Rattle.mimic_events.specs.Readings.{is_whole}
 use Rattle.mimic_events.specs.declared.ending.Ending.{Ending}
 use Rattle.mimic_events.specs.declared.ending.Ending.TheVariants.{Failed}
-use Rattle.mimic_reports.specs.declared.junit.JunitFault.{JunitFault}
-use Rattle.mimic_reports.specs.declared.junit.JunitFault.TheVariants as junit
 use Rattle.mimic_reports.specs.declared.suite.Suite.{Suite}
-use Rattle.mimic_reports.specs.Junit.{junit_text, numbers_of, total}
+use Rattle.mimic_reports.specs.Junit.{numbers_of}
 
 -- ---- the exit status
 
@@ -28,23 +25,6 @@ abbrev pub IsCauseOf : Ending → List ℕ → Type 0
 IsCauseOf (Failed error) cause = ⊤
 IsCauseOf ending cause = cause ≡ []
 
--- ---- what is written
-
--- a number doesn't fit: 128 bits have room for those of rows, and 64 for nanoseconds
-abbrev pub IsTooGreat : Numbers → Type 0
-IsTooGreat n = (2 ^ 128 ≤ n.tests) ⊎ (2 ^ 128 ≤ n.failures) ⊎ (2 ^ 128 ≤ n.errors) ⊎ (2 ^ 128 ≤ n.skipped) ⊎ (2 ^ 64 ≤ n.nanos)
-
--- all numbers fit
-abbrev pub AreFitting : Numbers → Type 0
-AreFitting n = (n.tests < 2 ^ 128) × (n.failures < 2 ^ 128) × (n.errors < 2 ^ 128) × (n.skipped < 2 ^ 128) × (n.nanos < 2 ^ 64)
-
--- what is left of these reports by a call that could not write them: nothing if their numbers together are too great, and else, after a
--- fault of the writer, a beginning of their document
-abbrev pub DocumentLeftBy : List Suite → Shown → Shown → JunitFault → Type 0
-DocumentLeftBy suites old new junit.TooMany = IsTooGreat (total (map numbers_of suites)) × (new ≡ old)
-DocumentLeftBy suites old new (junit.Write fault) = AreFitting (total (map numbers_of suites)) × Stopped old new (junit_text suites)
-
--- what a call that writes these reports leaves: the document of all of them, in their order
-abbrev pub LeavesDocument : List Suite → Shown → Shown → Result (Unit {0}) JunitFault → Type 0
-LeavesDocument suites old new (Ok done) = AreFitting (total (map numbers_of suites)) × Put old new (junit_text suites)
-LeavesDocument suites old new (Err fault) = DocumentLeftBy suites old new fault
+-- no number of these is above n. No public clause names this word
+abbrev pub AreWithin : ℕ → Numbers → Type 0
+AreWithin n numbers = (numbers.tests ≤ n) × (numbers.failures ≤ n) × (numbers.errors ≤ n) × (numbers.skipped ≤ n) × (numbers.nanos ≤ n)

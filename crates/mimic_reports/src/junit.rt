@@ -1,12 +1,10 @@
 //! Writes reports as JUnit's XML.
-ghost use Rattle.std.specs.Prelude.{◌≡◌, MatchOption, length, map, string_bytes};
+ghost use Rattle.std.specs.Prelude.{◌≡◌, length, map, string_bytes};
 ghost use Rattle.std.specs.List.{flat_map};
 ghost use Rattle.mimic_printer.specs.Sink.{Adds, HasFaultLeft, Puts, shown};
 ghost use Rattle.mimic_events.specs.Contents.{entry_read};
-ghost use Rattle.mimic_reports.specs.Junit.{alone_text, case_text, ending_text, numbers_of, suite_text, total};
-ghost use Rattle.mimic_reports.specs.Suites.{AreFitting, IsTooGreat, LeavesDocument};
+ghost use Rattle.mimic_reports.specs.Junit.{alone_text, case_text, ending_text, junit_text, numbers_of, suite_text, total};
 ghost use Rattle.mimic_printer.specs.EscapeLaws.{EscapeLaws};
-ghost use Rattle.mimic_reports.specs.declared.junit.JunitFault.TheVariants.{Write as WriteStopped};
 
 use crate::junit_elements::{
     Numbers, add_case, add_root_start, add_stop, add_suite_start, add_unread,
@@ -15,56 +13,38 @@ use crate::suite::Suite;
 use mimic_events::{Ending, Row};
 use mimic_printer::{Sink, WriteFault};
 use std::io::Write;
-use thiserror::Error;
-
-/// Why a document was not written to its end.
-#[derive(Debug, Drop, Error)]
-pub enum JunitFault {
-    /// The numbers of all reports together don't fit: their times pass a `u64`. Nothing was written.
-    #[error("the numbers of all reports together are too great")]
-    TooMany,
-    /// A write or a flush failed.
-    #[error("{0}")]
-    Write(WriteFault),
-}
 
 // Returns the numbers of all reports together.
-fn total_of(suites: &[Suite<'_>]) -> Option<Numbers>
-    ensures { MatchOption result (IsTooGreat (total (map numbers_of suites.now)))
-        (λ numbers. (numbers ≡ total (map numbers_of suites.now)) × AreFitting numbers) }
+fn total_of(suites: &[Suite<'_>]) -> Numbers
+    ensures { result ≡ total (map numbers_of suites.now) }
 {
-    let mut all = Numbers {
-        tests: 0,
-        failures: 0,
-        errors: 0,
-        skipped: 0,
-        nanos: 0,
-    };
+    let mut all = Numbers::default();
     for suite in suites {
-        all = all.plus(&suite.numbers())?;
+        let numbers = suite.numbers();
+        all.tests += numbers.tests;
+        all.failures += numbers.failures;
+        all.errors += numbers.errors;
+        all.skipped += numbers.skipped;
+        all.nanos += numbers.nanos;
     }
-    Some(all)
+    all
 }
 
 /// Writes the reports, in their order, as one document of JUnit's XML, and flushes it. A report that isn't whole has one more row, with
 /// an error. With a fault of the writer a beginning of the document was written.
 #[tactic(auto, using(mimic_printer::proofs::EscapeLaws::escape_laws))]
-pub fn write_junit<W: Write>(suites: &[Suite<'_>], sink: &mut Sink<W>) -> Result<(), JunitFault>
+pub fn write_junit<W: Write>(suites: &[Suite<'_>], sink: &mut Sink<W>) -> Result<(), WriteFault>
     requires { HasFaultLeft sink.old }
-    ensures document { LeavesDocument suites.now (shown W.contents sink.old) (shown W.contents sink.new) result }
+    ensures document { Puts W.contents sink.old sink.new (junit_text suites.now) result }
 
     // Each text can be unescaped, and escaped text has no markup.
     ensures laws { EscapeLaws }
 {
-    let Some(numbers) = total_of(suites) else {
-        return Err(JunitFault::TooMany);
-    };
-    add_root_start(sink, &numbers);
+    add_root_start(sink, &total_of(suites));
     add_suites(sink, suites);
     sink.add(b"</testsuites>\n");
     sink.add_flush();
-    sink.end()?;
-    Ok(())
+    sink.end()
 }
 
 /// Writes one report as a document of JUnit's XML whose root is the report's own element, for readers that know no `<testsuites>`, and
@@ -125,13 +105,5 @@ fn add_ending<W: Write>(sink: &mut Sink<W>, suite: &Suite<'_>)
         Ending::Whole { .. } => {}
         Ending::Cut(stop) => add_stop(sink, suite.program, suite.rows().len() as u128, stop),
         Ending::Failed(_) => add_unread(sink, suite.program, suite.cause()),
-    }
-}
-
-impl From<WriteFault> for JunitFault {
-    ghost from_gives = { λ error fault. fault ≡ WriteStopped error };
-
-    fn from(error: WriteFault) -> JunitFault {
-        JunitFault::Write(error)
     }
 }

@@ -1,50 +1,26 @@
 //! Writes the elements of JUnit's XML.
 ghost use Rattle.std.specs.Prelude.{◌≡◌, ◌++◌};
+ghost use Rattle.std.specs.List.{concat};
 ghost use Rattle.mimic_printer.specs.Piece.{piece_text};
 ghost use Rattle.mimic_printer.specs.Sink.{Adds};
 ghost use Rattle.mimic_events.specs.Contents.{entry_read};
-ghost use Rattle.mimic_reports.specs.Junit.{case_text, class_point, root_start, stop_text, suite_start, time_part, unread_text};
+ghost use Rattle.mimic_reports.specs.Junit.{case_text, class_point, numbers_part, root_start, stop_text, suite_start, time_part, unread_text};
 
 use crate::cut::add_cut;
-use crate::seconds::rounded_pieces;
+use crate::seconds::{nearest_thousandths, rounded_pieces};
 use mimic_events::{Row, Stop};
 use mimic_printer::{Piece, Place, Sink, add_pieces};
 use mimic_trial::Outcome;
 use std::io::Write;
 
 // What a report, or all reports together, say in numbers.
-#[derive(Clone, Copy, Debug, PartialEq, Eq)]
+#[derive(Clone, Copy, Debug, Default, PartialEq, Eq)]
 pub(crate) struct Numbers {
     pub(crate) tests: u128,
     pub(crate) failures: u128,
     pub(crate) errors: u128,
     pub(crate) skipped: u128,
-    pub(crate) nanos: u64,
-}
-
-// Adds the beginning of an element that has the numbers as attributes.
-macro_rules! add_start {
-    ($sink:expr, $numbers:expr, $($front:expr),+) => {{
-        let (seconds, dot, tenths, hundredths) = rounded_pieces($numbers.nanos);
-        let pieces = [
-            $($front),+,
-            Piece::Text(" tests=\""),
-            Piece::Long(&$numbers.tests),
-            Piece::Text("\" failures=\""),
-            Piece::Long(&$numbers.failures),
-            Piece::Text("\" errors=\""),
-            Piece::Long(&$numbers.errors),
-            Piece::Text("\" skipped=\""),
-            Piece::Long(&$numbers.skipped),
-            Piece::Text("\" time=\""),
-            seconds,
-            dot,
-            tenths,
-            hundredths,
-            Piece::Text("\">\n"),
-        ];
-        add_pieces($sink, &pieces);
-    }};
+    pub(crate) nanos: u128,
 }
 
 // Adds the line of a row: its program, its kind, its name, its time, and its end, which begins with the last quote of these.
@@ -75,29 +51,53 @@ macro_rules! add_row {
 pub(crate) fn add_root_start<W: Write>(sink: &mut Sink<W>, numbers: &Numbers)
     ensures { Adds W.contents sink.old sink.new (root_start numbers.now) }
 {
-    add_start!(
-        sink,
-        numbers,
-        Piece::Text("<?xml version=\"1.0\" encoding=\"UTF-8\"?>\n<testsuites")
-    )
+    sink.add(b"<?xml version=\"1.0\" encoding=\"UTF-8\"?>\n<testsuites");
+    add_numbers(sink, numbers);
 }
 
 // Adds what comes before the rows of a report.
 #[tactic(auto, unfolding(crate::specs::Junit::suite_start))]
-pub(crate) fn add_suite_start<'a, W: Write>(
-    sink: &mut Sink<W>,
-    program: &'a str,
-    numbers: &'a Numbers,
-)
+pub(crate) fn add_suite_start<W: Write>(sink: &mut Sink<W>, program: &str, numbers: &Numbers)
     ensures { Adds W.contents sink.old sink.new (suite_start program.now numbers.now) }
 {
-    add_start!(
-        sink,
-        numbers,
+    let front = [
         Piece::Text("  <testsuite name=\""),
         Piece::Escaped(Place::Value, program),
-        Piece::Text("\"")
-    )
+        Piece::Text("\""),
+    ];
+    add_pieces(sink, &front);
+    add_numbers(sink, numbers);
+}
+
+// Adds the numbers as attributes, and the end of the tag.
+fn add_numbers<W: Write>(sink: &mut Sink<W>, numbers: &Numbers)
+    ensures { Adds W.contents sink.old sink.new (concat (numbers_part numbers.now)) }
+{
+    let thousandths = nearest_thousandths(numbers.nanos);
+    let long = (
+        numbers.tests,
+        numbers.failures,
+        numbers.errors,
+        numbers.skipped,
+        thousandths / 1000,
+    );
+    let pieces = [
+        Piece::Text(" tests=\""),
+        Piece::Long(&long.0),
+        Piece::Text("\" failures=\""),
+        Piece::Long(&long.1),
+        Piece::Text("\" errors=\""),
+        Piece::Long(&long.2),
+        Piece::Text("\" skipped=\""),
+        Piece::Long(&long.3),
+        Piece::Text("\" time=\""),
+        Piece::Long(&long.4),
+        Piece::Text("."),
+        Piece::Number((thousandths / 100 % 10) as u64),
+        Piece::TwoDigits((thousandths % 100) as u8),
+        Piece::Text("\">\n"),
+    ];
+    add_pieces(sink, &pieces);
 }
 
 fn point(kind: &str) -> &'static str
@@ -198,24 +198,4 @@ pub(crate) fn add_unread<'a, W: Write>(sink: &mut Sink<W>, program: &'a str, cau
         Piece::Text("\"/></testcase>\n"),
     ];
     add_pieces(sink, &pieces);
-}
-
-impl Numbers {
-    ghost use Rattle.std.specs.Prelude.{◌≡◌, MatchOption};
-    ghost use Rattle.mimic_reports.specs.Junit.{added};
-    ghost use Rattle.mimic_reports.specs.Suites.{AreFitting, IsTooGreat};
-
-    // Returns the sums of both, and `None` if one doesn't fit.
-    pub(crate) fn plus(&self, other: &Numbers) -> Option<Numbers>
-        ensures { MatchOption result (IsTooGreat (added self.now other.now))
-            (λ numbers. (numbers ≡ added self.now other.now) × AreFitting numbers) }
-    {
-        Some(Numbers {
-            tests: self.tests.checked_add(other.tests)?,
-            failures: self.failures.checked_add(other.failures)?,
-            errors: self.errors.checked_add(other.errors)?,
-            skipped: self.skipped.checked_add(other.skipped)?,
-            nanos: self.nanos.checked_add(other.nanos)?,
-        })
-    }
 }

@@ -39,8 +39,8 @@ mod style;
 mod suite;
 
 pub use cut::add_running;
-pub use junit::{JunitFault, write_junit, write_suite};
+pub use junit::{write_junit, write_suite};
 pub use page::{PageContents, write_page};
 pub use show::{show_cut, show_failures, show_report};
-pub use slowest::write_slowest;
+pub use slowest::{Slowest, write_slowest};
 pub use suite::{Suite, status_of};

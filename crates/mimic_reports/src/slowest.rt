@@ -1,104 +1,124 @@
 //! Prints the trials that took longest.
-ghost use Rattle.std.specs.Prelude.{◌≡◌, ◌++◌, IfOk, OnOk, map};
+ghost use Rattle.std.specs.Prelude.{◌≡◌, [], List, OnOk, map, take};
 ghost use Rattle.std.specs.List.{flat_map};
 ghost use Rattle.mimic_printer.specs.Sink.{Adds, HasFaultLeft, shown};
-ghost use Rattle.mimic_reports.specs.Slowest.{IsSlowestFirst, LeavesSlowest, line_text, timed_among, timed_of, timed_read};
+ghost use Rattle.mimic_reports.specs.Slowest.{HasSlowest, IsSlowestFirst, LeavesSlowest, Timed, line_text, timed_read};
 
 use crate::seconds::rounded_pieces;
-use mimic_events::{Row, RowsRead};
+use mimic_events::{Row, RowTaker};
 use mimic_printer::{OutputFault, Piece, Place, Sink, add_pieces};
 use std::alloc::{AllocError, Global};
 use std::cmp::Reverse;
 use std::io::Write;
 
-/// Prints the slowest `count` of the rows that have a time, or all if there are fewer, and flushes them: slowest first, and equal
-/// times in the order of the reports and of their rows.
+/// The slowest of the rows that it takes, of those that have a time. It keeps at most twice as many as are asked for.
+#[derive(Debug, Drop)]
+pub struct Slowest {
+    count: usize,
+    rows: Vec<TimedRow>,
+}
+
+// A row that has a time.
+#[derive(Debug, Drop)]
+struct TimedRow {
+    kind: String,
+    name: String,
+    nanos: u64,
+}
+
+impl Slowest {
+    /// The slowest `count` of no rows.
+    pub fn new(alloc: Global, count: usize) -> Slowest
+        ensures count { result.count ≡ count }
+        ensures rows { HasSlowest result [] }
+    {
+        Slowest {
+            count,
+            rows: Vec::new(alloc),
+        }
+    }
+
+    // Sorts the rows, and keeps no more than are asked for.
+    fn cut(&mut self) -> Result<(), AllocError>
+        ensures { OnOk result ((self.new.count ≡ self.old.count) × ((ordered : List Timed)
+            × IsSlowestFirst (map timed_read self.old.rows.items) ordered
+            × (map timed_read self.new.rows.items ≡ take self.old.count ordered))) }
+    {
+        self.rows.sort_by_key(|row| Reverse(row.nanos))?;
+        self.rows.truncate(self.count);
+        Ok(())
+    }
+}
+
+impl RowTaker for Slowest {
+    ghost use Rattle.std.specs.Prelude.{◌≡◌, ◌++◌, List};
+    ghost use Rattle.mimic_printer.specs.declared.sink.OutputFault.TheVariants.{OutOfMemory};
+    ghost use Rattle.mimic_reports.specs.Slowest.{HasSlowest, Timed, timed_among};
+
+    // It is made for as many, and has the slowest of these rows, too.
+    ghost takes = { λ old entries new. (new.count ≡ old.count)
+        × ((rows : List Timed) → HasSlowest old rows → HasSlowest new (rows ++ timed_among entries)) };
+
+    ghost stops = { λ old entries fault new. fault ≡ OutOfMemory };
+
+    fn take(&mut self, row: Row) -> Result<(), OutputFault> {
+        let Some(nanos) = row.nanos else {
+            return Ok(());
+        };
+        let Row { name, kind, .. } = row;
+        self.rows.push(TimedRow { kind, name, nanos })?;
+        if self.rows.len() / 2 >= self.count {
+            self.cut()?;
+        }
+        Ok(())
+    }
+}
+
+/// Prints the slowest of the rows that it took, as many as it was made for, or all if there are fewer, and flushes them: slowest
+/// first, and equal times in the order in which they were taken.
 ///
 /// Each has a line: its time in seconds with three decimals, its kind in brackets, and its name. Control characters are shown by
 /// their numbers, so that no name ends a line.
 ///
-/// Texts aren't copied. If memory ran out, nothing was written. After a write fault, a beginning of the lines was written.
-pub fn write_slowest<W: Write>(
-    alloc: Global,
-    reports: &[RowsRead],
-    count: usize,
-    sink: &mut Sink<W>,
-) -> Result<(), OutputFault>
+/// If memory ran out, nothing was written. After a write fault, a beginning of the lines was written.
+pub fn write_slowest<W: Write>(slowest: Slowest, sink: &mut Sink<W>) -> Result<(), OutputFault>
     requires { HasFaultLeft sink.old }
-    ensures { LeavesSlowest count (timed_of reports.now) (shown W.contents sink.old)
-        (shown W.contents sink.new) result }
+    ensures { (rows : List Timed) → HasSlowest slowest rows
+        → LeavesSlowest slowest.count rows (shown W.contents sink.old) (shown W.contents sink.new) result }
 {
-    let mut rows = timed_rows(alloc, reports)?;
-    sort(&mut rows)?;
-    add_lines(sink, &rows[..count.min(rows.len())]);
+    let mut slowest = slowest;
+    slowest.cut()?;
+    add_lines(sink, &slowest.rows);
     sink.add_flush();
     sink.end()?;
     Ok(())
 }
 
-// A row with the time that its trial took.
-#[derive(Clone, Copy)]
-struct TimedRow<'a> {
-    row: &'a Row,
-    nanos: u64,
-}
-
-// Returns the rows that have a time.
-fn timed_rows<'a>(alloc: Global, reports: &'a [RowsRead]) -> Result<Vec<TimedRow<'a>>, AllocError>
-    ensures { IfOk result (λ timed. map timed_read timed.items ≡ timed_of reports.now) }
-{
-    let mut timed = Vec::new(alloc);
-    for report in reports {
-        add_timed(&mut timed, &report.rows)?;
-    }
-    Ok(timed)
-}
-
-fn add_timed<'a>(timed: &mut Vec<TimedRow<'a>>, rows: &'a [Row]) -> Result<(), AllocError>
-    ensures { OnOk result (map timed_read timed.new.items
-        ≡ map timed_read timed.old.items ++ timed_among rows.now) }
+fn add_lines<W: Write>(sink: &mut Sink<W>, rows: &[TimedRow])
+    ensures { Adds W.contents sink.old sink.new
+        (flat_map (λ row. line_text (timed_read row)) rows.now) }
 {
     for row in rows {
-        if let Some(nanos) = row.nanos {
-            timed.push(TimedRow { row, nanos })?;
-        }
-    }
-    Ok(())
-}
-
-fn sort(rows: &mut Vec<TimedRow<'_>>) -> Result<(), AllocError>
-    ensures { OnOk result
-        (IsSlowestFirst (map timed_read rows.old.items) (map timed_read rows.new.items)) }
-{
-    rows.sort_by_key(|timed| Reverse(timed.nanos))?;
-    Ok(())
-}
-
-fn add_lines<W: Write>(sink: &mut Sink<W>, rows: &[TimedRow<'_>])
-    ensures { Adds W.contents sink.old sink.new
-        (flat_map (λ timed. line_text (timed_read timed)) rows.now) }
-{
-    for timed in rows {
         if sink.has_fault() {
             break;
         }
-        add_line(sink, timed);
+        add_line(sink, row);
     }
 }
 
 #[tactic(auto, unfolding(crate::specs::Slowest::line_text))]
-fn add_line<'a, W: Write>(sink: &mut Sink<W>, timed: &TimedRow<'a>)
-    ensures { Adds W.contents sink.old sink.new (line_text (timed_read timed.now)) }
+fn add_line<W: Write>(sink: &mut Sink<W>, row: &TimedRow)
+    ensures { Adds W.contents sink.old sink.new (line_text (timed_read row.now)) }
 {
-    let (seconds, dot, tenths, hundredths) = rounded_pieces(timed.nanos);
+    let (seconds, dot, tenths, hundredths) = rounded_pieces(row.nanos);
     let pieces = [
         seconds,
         dot,
         tenths,
         hundredths,
         Piece::Text("  "),
-        Piece::Bracketed(Place::Line, timed.row.kind.as_str()),
-        Piece::Escaped(Place::Line, timed.row.name.as_str()),
+        Piece::Bracketed(Place::Line, row.kind.as_str()),
+        Piece::Escaped(Place::Line, row.name.as_str()),
         Piece::Text("\n"),
     ];
     add_pieces(sink, &pieces);

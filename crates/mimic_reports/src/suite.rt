@@ -1,10 +1,10 @@
 //! Reads reports that are to be written in XML.
-ghost use Rattle.std.specs.Prelude.{◌≡◌, IfOk, IfSome, map, string_bytes};
+ghost use Rattle.std.specs.Prelude.{◌≡◌, ◌^◌, IfOk, IfSome, map, string_bytes};
 ghost use Rattle.std.specs.List.{list_all, list_any};
 ghost use Rattle.mimic_events.specs.Contents.{entry_read};
 ghost use Rattle.mimic_events.specs.Readings.{IsReading, is_whole};
 ghost use Rattle.mimic_reports.specs.Junit.{numbers_of};
-ghost use Rattle.mimic_reports.specs.Suites.{IsCauseOf, has_failures, status_of};
+ghost use Rattle.mimic_reports.specs.Suites.{AreWithin, IsCauseOf, has_failures, status_of};
 
 use crate::junit_elements::Numbers;
 use mimic_events::{Ending, Row, RowsRead, counts_of_rows, read_rows};
@@ -78,11 +78,12 @@ impl Suite<'_> {
 
     // Returns the numbers of the report.
     pub(crate) fn numbers(&self) -> Numbers
-        ensures { result ≡ numbers_of self.now }
+        ensures numbers { result ≡ numbers_of self.now }
+        ensures small { AreWithin (2 ^ 64) result }
     {
         let counts = counts_of_rows(&self.rows, 0);
         let (errors, nanos) = match &self.ending {
-            Ending::Whole { nanos, .. } => (0, *nanos),
+            Ending::Whole { nanos, .. } => (0, u128::from(*nanos)),
             Ending::Cut(_) | Ending::Failed(_) => (1, 0),
         };
         Numbers {

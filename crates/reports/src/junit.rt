@@ -4,8 +4,8 @@ use crate::input::{Input, name_of};
 use crate::line::{Junit, Root};
 use crate::{BLOCK, SUCCESS};
 use mimic_events::ReadFault;
-use mimic_printer::Sink;
-use mimic_reports::{JunitFault, Suite, status_of, write_junit, write_suite};
+use mimic_printer::{Sink, WriteFault};
+use mimic_reports::{Suite, status_of, write_junit, write_suite};
 use std::alloc::Global;
 use std::io::{BufWriter, Write};
 
@@ -36,20 +36,19 @@ pub(crate) fn run(rt: &HostRuntime, alloc: Global, junit: &Junit) -> u8 {
     };
     match write(junit.root, suites.as_slice(), out) {
         Ok(()) => status,
-        Err(JunitFault::Write(fault)) => refuse_write(rt, &fault),
-        Err(fault) => refuse_all(rt, &fault),
+        Err(fault) => refuse_write(rt, &fault),
     }
 }
 
 // Writes the document of the reports, or of the one that there is if its element is to be the root.
-fn write<W: Write + Drop>(root: Root, suites: &[Suite<'_>], out: W) -> Result<(), JunitFault> {
+fn write<W: Write + Drop>(root: Root, suites: &[Suite<'_>], out: W) -> Result<(), WriteFault> {
     let mut sink = Sink::new(out);
     if root == Root::Testsuites {
         return write_junit(suites, &mut sink);
     }
     // With this root a line names one file.
-    if let Some(suite) = suites.first() {
-        write_suite(suite, &mut sink)?;
+    match suites.first() {
+        Some(suite) => write_suite(suite, &mut sink),
+        None => Ok(()),
     }
-    Ok(())
 }

@@ -47,13 +47,9 @@ fn print(
         return Err(OutputFault::OutOfMemory);
     };
     let mut sink = Sink::new(out);
-    if let Ending::Failed(_) = ending {
-        return Ok(());
-    }
-    if show.only_failed {
-        return show_failures(alloc, rows, ending, &mut sink);
-    }
     match ending {
+        Ending::Failed(_) => Ok(()),
+        _ if show.only_failed => show_failures(alloc, rows, ending, &mut sink),
         Ending::Whole {
             filtered_out,
             nanos,
@@ -69,7 +65,7 @@ fn print(
             show_cut(alloc, rows, stop, colours, &mut sink)
         }
         // Without a title it is no report.
-        Ending::Cut(_) | Ending::Failed(_) => Ok(()),
+        Ending::Cut(_) => Ok(()),
     }
 }
 

@@ -5,9 +5,9 @@ use super::expect::{judged, numbers};
 use super::lines::{announced, failed, ignored, measured, passed, summary, text_of, title};
 use super::reading::Slow;
 use super::watching::{LOG, TERMINAL, watched_pieces};
-use mimic_events::{Report, RowsRead, read_from};
+use mimic_events::{Report, read_from};
 use mimic_printer::Sink;
-use mimic_reports::write_slowest;
+use mimic_reports::{Slowest, write_slowest};
 use std::alloc::Global;
 use std::test::Fail;
 
@@ -174,18 +174,18 @@ fn compares_the_same_without_times(rt: HostRuntime) -> Result<(), Fail> {
     Ok(())
 }
 
-// What is printed of the slowest trials of these reports. It promises nothing, so that no test carries the contract of
+// What is printed of the slowest trials of no reports. It promises nothing, so that no test carries the contract of
 // `write_slowest`.
-fn slowest_of(alloc: Global, reports: &[RowsRead]) -> Result<String, Fail> {
+fn slowest_of_none(alloc: Global) -> Result<String, Fail> {
     let mut sink = Sink::new(Vec::new(alloc));
-    write_slowest(alloc, reports, 20, &mut sink)?;
+    write_slowest(Slowest::new(alloc, 20), &mut sink)?;
     Ok(String::from_utf8(sink.into_inner())?)
 }
 
 // A line of the program names at least one report.
 #[test]
 fn prints_nothing_of_no_reports(rt: HostRuntime) -> Result<(), Fail> {
-    let text = slowest_of(rt.alloc(), &[])?;
+    let text = slowest_of_none(rt.alloc())?;
     assert!(rt; text.is_empty(), "{text}");
     Ok(())
 }

@@ -6,12 +6,12 @@ use super::lines::{KILLED, read, text_of};
 use super::reading::Slow;
 use super::times::TIMED;
 use mimic_compare::write_comparison;
-use mimic_events::{Ending, Report, Row, RowsRead, Stop, read_from, write_report};
+use mimic_events::{Ending, Report, Row, RowsRead, Stop, read_from, read_into, write_report};
 use mimic_expect::{ExpectOptions, Lines, write_known, write_unexpected};
 use mimic_join::join_reports;
 use mimic_printer::{Piece, Place, Sink, add_escaped, add_pieces};
 use mimic_reports::{
-    PageContents, Suite, add_running, show_cut, show_failures, show_report, write_junit,
+    PageContents, Slowest, Suite, add_running, show_cut, show_failures, show_report, write_junit,
     write_page, write_slowest, write_suite,
 };
 use mimic_testkit::{Fault, FaultPlace, FaultyWriter};
@@ -201,8 +201,10 @@ fn alone(alloc: Global, text: &str, writer: FaultyWriter) -> Written {
 }
 
 fn slowest(alloc: Global, writer: FaultyWriter) -> Written {
-    let reports = vec![in alloc; read(alloc, TIMED)?]?;
-    written!(alloc, writer, sink => write_slowest(alloc, &reports, 3, &mut sink))
+    let mut slowest = Slowest::new(alloc, 3);
+    let text = text_of(alloc, TIMED)?;
+    read_into(alloc, Slow::of(text.as_str()), &mut slowest)?;
+    written!(alloc, writer, sink => write_slowest(slowest, &mut sink))
 }
 
 fn comparison(alloc: Global, writer: FaultyWriter) -> Written {
