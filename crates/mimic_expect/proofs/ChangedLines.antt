@@ -1,9 +1,10 @@
 -- The lines of a file that findings are about.
-use Rattle.std.proofs.Common.{◌≡◌, ◌==◌, ◌⊎◌, ◌∙◌, inl, inr, ℕ, ◌+◌, ◌<◌, Bool, true, false, cond, List, [], ◌∷◌, ◌++◌, append-nil, map, None, Option, Some, option_to_list, ap, arith, refl, subst, sym}
+use Rattle.std.proofs.Common.{◌≡◌, ◌==◌, ◌⊎◌, ◌∙◌, inl, inr, ℕ, ◌+◌, ◌<◌, Bool, true, false, List, [], ◌∷◌, ◌++◌, append-nil, map, None, Option, Some, option_to_list, ap, arith, refl, subst, sym}
 use Rattle.std.specs.Prelude.{filter}
 use Rattle.std.specs.Bool.{MatchBool}
 use Rattle.std.specs.List.{AllByRecursion, IsDistinct, flat_map}
 use Rattle.std.specs.Map.{lookup, remove_entry}
+use Rattle.std.proofs.lemmas.Bool.{cond_both}
 use Rattle.std.proofs.lemmas.Bool.Decides.{nat_tests}
 use Rattle.std.proofs.lemmas.List.{map-append}
 use Rattle.std.proofs.lemmas.List.Concat.{flat_map-append}
@@ -93,11 +94,8 @@ module _ (lax : Bool) where
   AtMost n xs = (xs ≡ []) ⊎ (xs ≡ n ∷ [])
 
   one_about : (f : Finding) (n : ℕ) → line_of f ≡ Some n → AtMost n (lines_in (f ∷ []))
-  one_about f n e = at (counts lax f)
-    where
-      at : (b : Bool) → AtMost n (flat_map about (cond b (f ∷ []) []))
-      at true = inr (ap (λ (o : Option ℕ). option_to_list o ++ []) e)
-      at false = inl refl
+  one_about f n e =
+      cond_both (counts lax f) (f ∷ []) [] (λ l. AtMost n (flat_map about l)) (λ _. inr (ap (λ (o : Option ℕ). option_to_list o ++ []) e)) (λ _. inl refl)
 
   finding_about : (e : Expected) (row : Entry) (o : Outcome) → AtMost e.line (lines_in (finding_of e row o))
   finding_about e row Passed = one_about (PassedLine e) e.line refl

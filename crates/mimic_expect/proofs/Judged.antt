@@ -54,11 +54,6 @@ judges_then {form} a b c xs ys m n s t u p q =
       put = rw (both, lines-append form) (Put-trans _ _ p.put (rw p.known at q.put));
     }
 
--- the lines of rows that were judged from the start
-pub lines_put : {form : Lines} (known : List Expected) (start new : Judged) (rows : List Entry) (count : ℕ) (s t : Shown) → start ≡ record { known = known; rows = [] }
-    → Judges form start new rows count s t → Put s t (unknown_text form known rows)
-lines_put {form} known start new rows count s t begun judged = subst (λ (j : Judged). Put s t (unknown_text form j.known rows)) begun judged.put
-
 -- ---- one row
 
 pub known_labels : (known : List Expectation) (row : Entry) → is_known (map expected_read known) row ≡ list_any (same_label row.label) (labels_known known)

@@ -13,13 +13,13 @@ use Rattle.mimic_expect.specs.Expect.{has_passed, keyed, met_by, rows_with, unme
 use Rattle.mimic_expect.specs.JudgementText.{entries_read}
 use Rattle.mimic_expect.specs.Known.{expected_read}
 use Rattle.mimic_expect.specs.declared.known.Expectation.{Expectation}
+use Rattle.mimic_expect.proofs.Strangers.{filter_mapped}
 use denote.Ref.{Bor}
 
 -- ---- rows of an outcome
 
 rows_read : (test : Outcome → Bool) (rows : List Row) → rows_with test (map entry_read rows) ≡ map entry_read (filter (λ (row : Row). test row.outcome) rows)
-rows_read test [] = refl
-rows_read test (row ∷ rows) = grind (arith, rows_read test rows)
+rows_read test rows = filter_mapped (λ (row : Entry). test row.outcome) entry_read rows
 
 abbrev now : Bor Row → Row
 now row = row.now

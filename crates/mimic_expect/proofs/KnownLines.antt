@@ -1,9 +1,10 @@
 -- The lines of a file of known failures, one after another.
-use Rattle.std.proofs.Common.{◌≡◌, ◌≢◌, ◌==◌, ℕ, zero, suc, ◌+◌, Bool, true, false, List, [], ◌∷◌, ◌++◌, length, refl, sym, ap, subst, ◌∙◌, append_assoc, length-append, inl, inr, arith}
-use Rattle.std.specs.Prelude.{All, Err, IsErrAnd, MatchResult, Ok, Result, Some}
+use Rattle.std.proofs.Common.{◌≡◌, ◌≢◌, ◌==◌, ℕ, ◌+◌, Bool, true, false, List, [], ◌∷◌, ◌++◌, length, refl, sym, ap, subst, ◌∙◌, append_assoc, length-append, inl, inr, arith}
+use Rattle.std.specs.Prelude.{Some}
 use Rattle.std.specs.Bool.{MatchBool}
 use Rattle.std.specs.List.{AllByRecursion}
 use Rattle.std.proofs.lemmas.Bool.Decides.{nat_tests}
+use Rattle.std.proofs.lemmas.List.Elements.{All-from_recursion}
 use Rattle.std.proofs.lemmas.List.Splits.{slice_split_at, slice_split_none}
 use Rattle.mimic_printer.specs.Json.{Entry, HasNoEnd, IsLine}
 use Rattle.mimic_events.specs.Reading.{Decodes}
@@ -20,11 +21,6 @@ either false f g h = g h
 
 -- ---- lines of a text
 
-each : {X : Type 0} (P : X → Type 0) (xs : List X) → AllByRecursion P xs → All P xs
-each P [] h k d lt = absurd (omega (arith, lt))
-each P (x ∷ xs) h zero d lt = h.0
-each P (x ∷ xs) h (suc k) d lt = each P xs h.1 k d (omega (arith, lt))
-
 no_end : (bytes : List ℕ) → HasNoEnd bytes → AllByRecursion (λ b. (b == 10) ≡ false) bytes
 no_end [] h = tt
 no_end (b ∷ bytes) h = (let ne : b ≢ 10 = h.0 in grind (arith, nat_tests), no_end bytes h.1)
@@ -32,10 +28,10 @@ no_end (b ∷ bytes) h = (let ne : b ≢ 10 = h.0 in grind (arith, nat_tests), n
 pub line_off : (rest line after : List ℕ) → rest ≡ line ++ after → (l : IsLine line) → lines_of rest ≡ l.front ∷ lines_of after
 line_off rest line after e l =
     rw (e, l.parts, append_assoc l.front (10 ∷ []) after)
-    (slice_split_at (λ b. b == 10) l.front 10 after (each (λ b. (b == 10) ≡ false) l.front (no_end l.front l.whole)) refl)
+    (slice_split_at (λ b. b == 10) l.front 10 after (All-from_recursion (λ b. (b == 10) ≡ false) l.front (no_end l.front l.whole)) refl)
 
 pub one_line : (rest : List ℕ) → HasNoEnd rest → lines_of rest ≡ rest ∷ []
-one_line rest h = slice_split_none (λ b. b == 10) rest (each (λ b. (b == 10) ≡ false) rest (no_end rest h))
+one_line rest h = slice_split_none (λ b. b == 10) rest (All-from_recursion (λ b. (b == 10) ≡ false) rest (no_end rest h))
 
 -- ---- what lines say
 
@@ -146,7 +142,3 @@ wrong text rest front more number old (Line n) r off w =
     let parts = r.parts ∙ ap (λ (x : List (List ℕ)). r.before ++ x) off in
     subst (IsFirstUnreadable text) (sym w.0)
     (record { before = r.before; line = front; after = more; parts = parts; place = r.place; readable = r.readable; wrong = w.1 })
-
-pub on_error : {T E : Type 0} (r : Result T E) (error : E) (P : T → Type 0) (Q : E → Type 0) → IsErrAnd r (λ e. e ≡ error) → Q error → MatchResult r P Q
-on_error (Ok x) error P Q e q = absurd e
-on_error (Err x) error P Q e q = subst Q (sym e) q

@@ -4,6 +4,8 @@ use Rattle.std.specs.Prelude.{IsPermutation, Option, None, Some}
 use Rattle.std.specs.List.{AllByRecursion}
 use Rattle.std.specs.Map.{lookup, remove_entry}
 use Rattle.std.specs.Option.{is_some, option_or}
+use Rattle.std.proofs.lemmas.Bool.{cond_both}
+use Rattle.std.proofs.lemmas.Map.{NonePasses, none_passes_from_lookup}
 use Rattle.std.proofs.lemmas.List.Sorted.{IsPermutation-cons, IsPermutation-middle, IsPermutation-refl, IsPermutation-sym, IsPermutation-trans}
 use Rattle.mimic_printer.specs.Json.{Entry}
 use Rattle.mimic_events.specs.Key.{Key, any_in, key_in, same_key}
@@ -28,20 +30,14 @@ own_keys (e ∷ expected) = (refl, own_keys expected)
 
 -- ---- what a failure meets and what stays
 
-all_but : (P : Key × Expected → Type 0) (test : Key → Bool) (left : Left) → AllByRecursion P left → AllByRecursion P (remove_entry test left)
+pub all_but : {X : Type 0} (P : Key × X → Type 0) (test : Key → Bool) (left : List (Key × X)) → AllByRecursion P left → AllByRecursion P (remove_entry test left)
 all_but P test [] h = tt
-all_but P test (x ∷ left) h = at (test x.0) (all_but P test left h.1)
-  where
-    at : (b : Bool) → AllByRecursion P (remove_entry test left) → AllByRecursion P (cond b left (x ∷ remove_entry test left))
-    at true rest = h.1
-    at false rest = (h.0, rest)
+all_but P test (x ∷ left) h = cond_both (test x.0) left (x ∷ remove_entry test left) (AllByRecursion P) (λ _. h.1) (λ _. (h.0, all_but P test left h.1))
 
 pub all_without : (P : Key × Expected → Type 0) (left : Left) (row : Entry) → AllByRecursion P left → AllByRecursion P (without left row)
-all_without P left row h = at (is_some (lookup (same_key (key_in row)) left))
-  where
-    at : (b : Bool) → AllByRecursion P (cond b (remove_entry (same_key (key_in row)) left) (remove_entry (same_key (any_in row)) left))
-    at true = all_but P (same_key (key_in row)) left h
-    at false = all_but P (same_key (any_in row)) left h
+all_without P left row h =
+    cond_both (is_some (lookup (same_key (key_in row)) left)) _ _ (AllByRecursion P)
+    (λ _. all_but P (same_key (key_in row)) left h) (λ _. all_but P (same_key (any_in row)) left h)
 
 pub all_left : (P : Key × Expected → Type 0) (left : Left) (rows : List Entry) → AllByRecursion P left → AllByRecursion P (left_by left rows)
 all_left P left [] h = h
@@ -90,25 +86,18 @@ met left row x h e = at (lookup (same_key (key_in row)) left) refl e
 
 -- ---- a failure that meets nothing
 
-past : (test : Key → Bool) (y : Key × Expected) (left : Left) → lookup test (y ∷ left) ≡ None → (test y.0 ≡ false) × (lookup test left ≡ None)
-past test y left e = at (test y.0) refl e
-  where
-    at : (b : Bool) → test y.0 ≡ b → cond b (Some y.1) (lookup test left) ≡ None → (test y.0 ≡ false) × (lookup test left ≡ None)
-    at true is e = absurd (cc)
-    at false is e = (is, e)
-
-none_fits : (left : Left) (row : Entry) → AreKeyed left → lookup (same_key (key_in row)) left ≡ None → lookup (same_key (any_in row)) left ≡ None
+none_fits : (left : Left) (row : Entry) → AreKeyed left → NonePasses (same_key (key_in row)) left → NonePasses (same_key (any_in row)) left
     → AllByRecursion (λ (x : Key × Expected). Fits x.1 row → ⊥) left
 none_fits [] row h own any = tt
-none_fits (y ∷ left) row h own any = (apart, none_fits left row h.1 (past _ y left own).1 (past _ y left any).1)
+none_fits (y ∷ left) row h own any = (apart, none_fits left row h.1 own.1 any.1)
   where
     is_not : (k : Key) → same_key k y.0 ≡ false → k ≡ key_in y.1.entry → ⊥
     is_not k differs is = let same : same_key k y.0 ≡ true = (same_key-decides k y.0).1 (is ∙ sym h.0) in absurd (cc)
 
     apart : Fits y.1 row → ⊥
     apart fits = elim fits.message [
-      | inl m ↦ is_not (any_in row) (past (same_key (any_in row)) y left any).0 (let l = fits.label in cc)
-      | inr m ↦ is_not (key_in row) (past (same_key (key_in row)) y left own).0 (let l = fits.label in cc)
+      | inl m ↦ is_not (any_in row) any.0 (let l = fits.label in cc)
+      | inr m ↦ is_not (key_in row) own.0 (let l = fits.label in cc)
     ]
 
 -- it finds none of its message, and none of any
@@ -161,7 +150,7 @@ meeting left (row ∷ rows) h =
           failed = rw e (IsPermutation-trans (row ∷ rows) (row ∷ (rows_met ++ rows_unmet)) _
               (IsPermutation-cons row rows _ rest.failed) (IsPermutation-sym _ _ (IsPermutation-middle rows_met row rows_unmet)));
           fit = rw e rest.fit;
-          rest = rw e (all_left Apart (without left row) rows (all_without Apart left row (none_fits left row h n.0 n.1)), rest.rest);
+          rest = rw e (all_left Apart (without left row) rows (all_without Apart left row (none_fits left row h (none_passes_from_lookup _ left n.0) (none_passes_from_lookup _ left n.1))), rest.rest);
         }
 
 values_keyed : (expected : List Expected) → values (keyed expected) ≡ expected

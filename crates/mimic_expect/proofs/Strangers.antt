@@ -1,14 +1,14 @@
 -- The same findings, whether all rows are judged together or those alone whose kind and name some known failure has.
-use Rattle.std.proofs.Common.{◌≡◌, ◌||◌, Bool, true, false, cond, not, List, [], ◌∷◌, ◌++◌, map, refl, sym, ap, ap₂, subst, ◌∙◌, append_assoc, append-nil, arith}
+use Rattle.std.proofs.Common.{◌≡◌, ◌||◌, ℕ, Bool, true, false, not, List, [], ◌∷◌, ◌++◌, map, refl, sym, ap, ap₂, subst, ◌∙◌, append_assoc, append-nil, arith}
 use Rattle.std.specs.Prelude.{IsPermutation, Option, None, filter}
 use Rattle.std.specs.List.{AllByRecursion, flat_map, list_any}
 use Rattle.std.specs.Map.{lookup, remove_entry}
 use Rattle.std.specs.Option.{is_some, option_or}
+use Rattle.std.proofs.lemmas.Bool.{cond_both}
 use Rattle.std.proofs.lemmas.List.{map-append}
 use Rattle.std.proofs.lemmas.List.Elements.{filter-append}
 use Rattle.std.proofs.lemmas.List.Folds.{list_any-append}
 use Rattle.std.proofs.lemmas.List.Sorted.{IsPermutation-append_left, IsPermutation-append_right, IsPermutation-append_comm, IsPermutation-filter_both, IsPermutation-map, IsPermutation-trans}
-use Rattle.std.proofs.lemmas.Map.Entries.{lookup-filter-keys}
 use Rattle.mimic_trial.specs.declared.outcome.Outcome.{Outcome}
 use Rattle.mimic_trial.specs.declared.outcome.Outcome.TheVariants.{Failed, Ignored, Measured, Passed}
 use Rattle.mimic_trial.specs.Count.{is_failed, is_ignored_outcome}
@@ -131,48 +131,57 @@ module _ (expected : List Expected) where
     alike : (j : Key) → same_key k j ≡ true → knows j ≡ true
     alike j same = ap knows (sym ((same_key-decides k j).0 same)) ∙ known
 
-    removed : (items : List (Key × Entry)) → remove_entry (same_key k) (filter key_has items) ≡ filter key_has (remove_entry (same_key k) items)
-    removed [] = refl
-    removed (x ∷ items) = grind (arith, removed items, alike x.0)
-
     untouched : (items : List (Key × Entry)) → filter key_lacks (remove_entry (same_key k) items) ≡ filter key_lacks items
     untouched [] = refl
     untouched (x ∷ items) = grind (arith, untouched items, alike x.0)
 
-  record Answered (items : List (Key × Entry)) (left : List Expected) : Type 0 where
-    same : answers (filter key_has items) left ≡ answers items left
-    rest : unanswered (filter key_has items) left ≡ filter key_has (unanswered items left)
-    others : filter key_lacks (unanswered items left) ≡ filter key_lacks items
+  abbrev AreKnown : List Expected → Type 0
+  AreKnown left = AllByRecursion (λ (e : Expected). knows (any_in e.entry) ≡ true) left
 
-  answered : (items : List (Key × Entry)) (left : List Expected) → AllByRecursion (λ (e : Expected). knows (any_in e.entry) ≡ true) left → Answered items left
-  answered items [] h = record { same = refl; rest = refl; others = refl }
-  answered items (e ∷ left) h =
-      let k = any_in e.entry in
-      let next = answered (remove_entry (same_key k) items) left h.1 in
-      let out = removed k h.0 items in
-      record {
-        same = rw (lookup-filter-keys (same_key k) knows true (alike k h.0) items, out, next.same) refl;
-        rest = rw (out, next.rest) refl;
-        others = next.others ∙ untouched k h.0 items;
-      }
+  others_stay : (items : List (Key × Entry)) (left : List Expected) → AreKnown left → filter key_lacks (unanswered items left) ≡ filter key_lacks items
+  others_stay items [] h = refl
+  others_stay items (e ∷ left) h = others_stay (remove_entry (same_key (any_in e.entry)) items) left h.1 ∙ untouched (any_in e.entry) h.0 items
 
-  lines_known : (left : Left) → AllByRecursion (Covers expected) left → AllByRecursion (λ (e : Expected). knows (any_in e.entry) ≡ true) (map (λ (x : Key × Expected). x.1) left)
+  -- a test that each key with a known kind and name passes
+  module _ (p : Key × Entry → Bool) (passes : (x : Key × Entry) → knows x.0 ≡ true → p x ≡ true) where
+    module _ (k : Key) (known : knows k ≡ true) where
+      answer_passes : (x : Key × Entry) → same_key k x.0 ≡ true → p x ≡ true
+      answer_passes x e = passes x (alike k known x.0 e)
+
+      looked_up : (items : List (Key × Entry)) → lookup (same_key k) (filter p items) ≡ lookup (same_key k) items
+      looked_up [] = refl
+      looked_up (x ∷ items) = grind (arith, looked_up items, answer_passes x)
+
+      removed : (items : List (Key × Entry)) → remove_entry (same_key k) (filter p items) ≡ filter p (remove_entry (same_key k) items)
+      removed [] = refl
+      removed (x ∷ items) = grind (arith, removed items, answer_passes x)
+
+    record Answered (items : List (Key × Entry)) (left : List Expected) : Type 0 where
+      same : answers (filter p items) left ≡ answers items left
+      rest : unanswered (filter p items) left ≡ filter p (unanswered items left)
+
+    answered : (items : List (Key × Entry)) (left : List Expected) → AreKnown left → Answered items left
+    answered items [] h = record { same = refl; rest = refl }
+    answered items (e ∷ left) h =
+        let k = any_in e.entry in
+        let next = answered (remove_entry (same_key k) items) left h.1 in
+        let out = removed k h.0 items in
+        record { same = rw (looked_up k h.0 items, out, next.same) refl; rest = rw (out, next.rest) refl }
+
+  lines_known : (left : Left) → AllByRecursion (Covers expected) left → AreKnown (map (λ (x : Key × Expected). x.1) left)
   lines_known [] h = tt
   lines_known (x ∷ left) h = (h.0.1, lines_known left h.1)
 
+  left_known : (rows : List Entry) → AreKnown (left_in expected rows)
+  left_known rows = lines_known _ (all_left (Covers expected) (keyed expected) (rows_with is_failed rows) covered)
+
 -- ---- the rows of an outcome
 
-no_passed : (o : Outcome) → has_passed o ≡ true → is_failed o ≡ false
-no_passed Passed e = refl
-no_passed (Failed f) e = absurd (cc)
-no_passed Ignored e = refl
-no_passed (Measured m) e = refl
-
-no_ignored : (o : Outcome) → is_ignored_outcome o ≡ true → is_failed o ≡ false
-no_ignored Passed e = refl
-no_ignored (Failed f) e = absurd (cc)
-no_ignored Ignored e = refl
-no_ignored (Measured m) e = refl
+no_failed : (test : Outcome → Bool) → ((m : Option (List ℕ)) → test (Failed m) ≡ false) → (o : Outcome) → test o ≡ true → is_failed o ≡ false
+no_failed test never Passed e = refl
+no_failed test never (Failed m) e = absurd (let n = never m in cc)
+no_failed test never Ignored e = refl
+no_failed test never (Measured m) e = refl
 
 rows_of_pairs : (rows : List Entry) → map pair_row (labelled rows) ≡ rows
 rows_of_pairs [] = refl
@@ -214,10 +223,8 @@ module _ (expected : List Expected) (rows : List Entry) (are_all : Bool) where
   known_items : labelled (filter (has expected) others) ≡ filter (key_has expected) (labelled others)
   known_items = sym (filter_mapped (key_has expected) (λ (row : Entry). (any_in row, row)) others)
 
-  answer : Answered expected (labelled others) left
-  answer =
-      answered expected (labelled others) left
-      (lines_known expected (left_by (keyed expected) failures) (all_left (Covers expected expected) (keyed expected) failures (covered expected)))
+  answer : Answered expected (key_has expected) (λ x e. e) (labelled others) left
+  answer = answered expected (key_has expected) (λ x e. e) (labelled others) left (left_known expected rows)
 
   -- the failures that are left of the rows with a known kind and name
   known_failed : rows_with is_failed (map pair_row (filter (key_has expected) items)) ≡ map pair_row (filter (key_has expected) failed)
@@ -226,18 +233,18 @@ module _ (expected : List Expected) (rows : List Entry) (are_all : Bool) where
       ∙ ap (map pair_row) (filter_swap pair_failed (key_has expected) items)
 
   -- and of the others
-  none_of : (test : Outcome → Bool) → ((o : Outcome) → test o ≡ true → is_failed o ≡ false) → rows_with is_failed (filter (lacks expected) (rows_with test rows)) ≡ []
-  none_of test apart =
+  none_of : (test : Outcome → Bool) → ((m : Option (List ℕ)) → test (Failed m) ≡ false) → rows_with is_failed (filter (lacks expected) (rows_with test rows)) ≡ []
+  none_of test never =
       filter_swap (λ (row : Entry). is_failed row.outcome) (lacks expected) (rows_with test rows)
-      ∙ ap (filter (lacks expected)) (filter_none (λ (row : Entry). is_failed row.outcome) (λ (row : Entry). test row.outcome) (λ row. apart row.outcome) rows)
+      ∙ ap (filter (lacks expected)) (filter_none (λ (row : Entry). is_failed row.outcome) (λ (row : Entry). test row.outcome) (λ row. no_failed test never row.outcome) rows)
 
   lacking_failed : rows_with is_failed (filter (lacks expected) others) ≡ unknown_failures expected rows
   lacking_failed =
       let fails : Entry → Bool = λ (row : Entry). is_failed row.outcome in
       simp filter-append (rw (
         split.others,
-        none_of has_passed no_passed,
-        none_of is_ignored_outcome no_ignored,
+        none_of has_passed (λ m. refl),
+        none_of is_ignored_outcome (λ m. refl),
         append-nil,
         filter_swap fails (lacks expected) failures,
         filter_kept fails fails (λ row e. e) rows,
@@ -247,7 +254,7 @@ module _ (expected : List Expected) (rows : List Entry) (are_all : Bool) where
   other_failed =
       rw (
         filter_swap (key_lacks expected) pair_failed items,
-        answer.others,
+        others_stay expected (labelled others) left (left_known expected rows),
         ← filter_mapped (λ (row : Entry). is_failed row.outcome) pair_row (filter (key_lacks expected) (labelled others)),
         filter_mapped (key_lacks expected) (λ (row : Entry). (any_in row, row)) others,
         rows_of_pairs (filter (lacks expected) others),
@@ -293,54 +300,17 @@ or_right a b e = ap (λ (c : Bool). a || c) e ∙ or_true a
 
 pub all_unmet : (P : Entry → Type 0) (left : Left) (rows : List Entry) → AllByRecursion P rows → AllByRecursion P (unmet_by left rows)
 all_unmet P left [] h = tt
-all_unmet P left (row ∷ rows) h = at (is_some (meets left row)) (all_unmet P (without left row) rows h.1)
-  where
-    at : (b : Bool) → AllByRecursion P (unmet_by (without left row) rows) → AllByRecursion P (cond b (unmet_by (without left row) rows) (row ∷ unmet_by (without left row) rows))
-    at true rest = rest
-    at false rest = (h.0, rest)
+all_unmet P left (row ∷ rows) h =
+    let rest = all_unmet P (without left row) rows h.1 in
+    cond_both (is_some (meets left row)) _ (row ∷ unmet_by (without left row) rows) (AllByRecursion P) (λ _. rest) (λ _. (h.0, rest))
 
-all_passing : {X : Type 0} (p : X → Bool) (xs : List X) → AllByRecursion (λ x. p x ≡ true) (filter p xs)
-all_passing p [] = tt
-all_passing p (x ∷ xs) = at (p x) refl (all_passing p xs)
-  where
-    at : (b : Bool) → p x ≡ b → AllByRecursion (λ x. p x ≡ true) (filter p xs) → AllByRecursion (λ x. p x ≡ true) (cond b (x ∷ filter p xs) (filter p xs))
-    at true e rest = (e, rest)
-    at false e rest = rest
-
-filter_all : {X : Type 0} (p q : X → Bool) → ((x : X) → q x ≡ true → p x ≡ true) → (xs : List X) → AllByRecursion (λ x. q x ≡ true) xs → filter p xs ≡ xs
-filter_all p q agree [] h = refl
-filter_all p q agree (x ∷ xs) h = grind (arith, filter_all p q agree xs h.1, agree x h.0)
+unmet_pass : (p q : Entry → Bool) → ((row : Entry) → q row ≡ true → p row ≡ true) → (left : Left) (rows : List Entry) → filter p (unmet_by left (filter q rows)) ≡ unmet_by left (filter q rows)
+unmet_pass p q agree left [] = refl
+unmet_pass p q agree left (row ∷ rows) = grind (arith, unmet_pass p q agree left rows, unmet_pass p q agree (without left row) rows, agree row)
 
 module _ (expected : List Expected) where
   abbrev pair_matters : Key × Entry → Bool
   pair_matters x = knows expected x.0 || is_failed x.1.outcome
-
-  module _ (k : Key) (known : knows expected k ≡ true) where
-    met_matters : (x : Key × Entry) → same_key k x.0 ≡ true → pair_matters x ≡ true
-    met_matters x e = or_left (knows expected x.0) (is_failed x.1.outcome) (alike expected k known x.0 e)
-
-    looked_up : (items : List (Key × Entry)) → lookup (same_key k) (filter pair_matters items) ≡ lookup (same_key k) items
-    looked_up [] = refl
-    looked_up (x ∷ items) = grind (arith, looked_up items, met_matters x)
-
-    taken : (items : List (Key × Entry)) → remove_entry (same_key k) (filter pair_matters items) ≡ filter pair_matters (remove_entry (same_key k) items)
-    taken [] = refl
-    taken (x ∷ items) = grind (arith, taken items, met_matters x)
-
-  record Matters (items : List (Key × Entry)) (left : List Expected) : Type 0 where
-    same : answers (filter pair_matters items) left ≡ answers items left
-    rest : unanswered (filter pair_matters items) left ≡ filter pair_matters (unanswered items left)
-
-  answers_matter : (items : List (Key × Entry)) (left : List Expected) → AllByRecursion (λ (e : Expected). knows expected (any_in e.entry) ≡ true) left → Matters items left
-  answers_matter items [] h = record { same = refl; rest = refl }
-  answers_matter items (e ∷ left) h =
-      let k = any_in e.entry in
-      let next = answers_matter (remove_entry (same_key k) items) left h.1 in
-      let out = taken k h.0 items in
-      record {
-        same = rw (looked_up k h.0 items, out, next.same) refl;
-        rest = rw (out, next.rest) refl;
-      }
 
   module _ (rows : List Entry) (are_all : Bool) where
     abbrev some : List Entry
@@ -362,9 +332,7 @@ module _ (expected : List Expected) where
     same_left = ap (λ (f : List Entry). map (λ (x : Key × Expected). x.1) (left_by (keyed expected) f)) same_failures
 
     same_unmet : filter (matters expected) (unmet_by (keyed expected) (rows_with is_failed rows)) ≡ unmet_by (keyed expected) (rows_with is_failed rows)
-    same_unmet =
-        filter_all (matters expected) fails fails_matter (unmet_by (keyed expected) (rows_with is_failed rows))
-        (all_unmet (λ (row : Entry). fails row ≡ true) (keyed expected) (rows_with is_failed rows) (all_passing fails rows))
+    same_unmet = unmet_pass (matters expected) fails fails_matter (keyed expected) rows
 
     some_others : others_in expected some ≡ filter (matters expected) (others_in expected rows)
     some_others =
@@ -386,9 +354,7 @@ module _ (expected : List Expected) where
     some_findings =
         let left = left_in expected rows in
         let items = labelled (others_in expected rows) in
-        let known = lines_known expected (left_by (keyed expected) (rows_with is_failed rows))
-        (all_left (Covers expected expected) (keyed expected) (rows_with is_failed rows) (covered expected)) in
-        let m = answers_matter items left known in
+        let m = answered expected pair_matters (λ x. or_left (knows expected x.0) (is_failed x.1.outcome)) items left (left_known expected rows) in
         rw (same_left, some_items, m.same, m.rest, failed_pairs (unanswered items left)) refl
 
 pub expect_laws : ExpectLaws

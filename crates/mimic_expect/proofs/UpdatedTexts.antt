@@ -1,16 +1,16 @@
 -- What the new text of a file says, line after line.
-use Rattle.std.proofs.Common.{◌≡◌, ◌≢◌, ◌==◌, ◌∙◌, ℕ, ◌+◌, Bool, true, false, cond, List, [], ◌∷◌, ◌++◌, append_assoc, get_or, map, None, Option, Some, ap, arith, refl, subst, sym}
+use Rattle.std.proofs.Common.{◌≡◌, ◌≢◌, ◌==◌, ℕ, ◌+◌, Bool, true, false, cond, List, [], ◌∷◌, ◌++◌, append_assoc, map, None, Option, Some, ap, arith, refl, subst, sym}
 use Rattle.std.specs.Prelude.{filter}
 use Rattle.std.specs.Bool.{MatchBool}
 use Rattle.std.specs.List.{AllByRecursion, flat_map, onto_first}
 use Rattle.std.specs.Map.{lookup, remove_entry}
 use Rattle.std.specs.Option.{option_or}
+use Rattle.std.proofs.lemmas.Bool.{cond_both}
 use Rattle.std.proofs.lemmas.Bool.Decides.{nat_tests}
 use Rattle.mimic_trial.specs.declared.outcome.Outcome.{Outcome}
 use Rattle.mimic_trial.specs.declared.outcome.Outcome.TheVariants.{Failed, Ignored, Measured, Passed}
 use Rattle.mimic_trial.specs.Count.{is_failed, is_ignored_outcome}
 use Rattle.mimic_printer.specs.Json.{Entry, FitsEntry, HasNoEnd, IsLine}
-use Rattle.mimic_events.proofs.SoFar.{an_outcome}
 use Rattle.mimic_events.specs.Key.{Key, any_in, same_key}
 use Rattle.mimic_expect.specs.Expect.{AbsentLine, FailedRow, Finding, OtherMessage, PassedLine, answers, counts, fate, finding_of, findings, has_passed, keyed, labelled, left_in, others_in, rows_with, unanswered, unmet_by}
 use Rattle.mimic_expect.specs.FindingText.{row_line}
@@ -19,7 +19,8 @@ use Rattle.mimic_expect.specs.KnownText.{untimed}
 use Rattle.mimic_expect.specs.Updated.{IsSaid, UpdateLaws, added_line, added_rows, found_at, is_number, kept_line, kept_lines, known_line, line_of, said_after, updated_text}
 use Rattle.mimic_expect.proofs.ChangedLines.{apart}
 use Rattle.mimic_expect.proofs.KnownLines.{expected, line_off}
-use Rattle.mimic_expect.proofs.KnownTexts.{first_byte, more_said, says_some}
+use Rattle.mimic_expect.proofs.KnownTexts.{Says, behind_line, behind_row}
+use Rattle.mimic_expect.proofs.Laws.{all_but}
 use Rattle.mimic_expect.proofs.Strangers.{all_unmet}
 
 -- ---- lists of which each fits
@@ -31,11 +32,9 @@ module _ {X : Type 0} (P : X → Type 0) where
 
   all_filtered : (p : X → Bool) (xs : List X) → AllByRecursion P xs → AllByRecursion P (filter p xs)
   all_filtered p [] h = tt
-  all_filtered p (x ∷ xs) h = at (p x) (all_filtered p xs h.1)
-    where
-      at : (b : Bool) → AllByRecursion P (filter p xs) → AllByRecursion P (cond b (x ∷ filter p xs) (filter p xs))
-      at true rest = (h.0, rest)
-      at false rest = rest
+  all_filtered p (x ∷ xs) h =
+      let rest = all_filtered p xs h.1 in
+      cond_both (p x) (x ∷ filter p xs) (filter p xs) (AllByRecursion P) (λ _. (h.0, rest)) (λ _. rest)
 
 -- ---- findings whose rows can be written
 
@@ -66,20 +65,13 @@ rows_fit [] h = tt
 rows_fit (x ∷ items) h = (h.0, rows_fit items h.1)
 
 removed_fit : (test : Key → Bool) (items : List (Key × Entry)) → PairsFit items → PairsFit (remove_entry test items)
-removed_fit test [] h = tt
-removed_fit test (x ∷ items) h = at (test x.0) (removed_fit test items h.1)
-  where
-    at : (b : Bool) → PairsFit (remove_entry test items) → PairsFit (cond b items (x ∷ remove_entry test items))
-    at true rest = h.1
-    at false rest = (h.0, rest)
+removed_fit = all_but (λ (x : Key × Entry). FitsEntry x.1)
 
 looked_up : (test : Key → Bool) (items : List (Key × Entry)) → PairsFit items → (row : Entry) → lookup test items ≡ Some row → FitsEntry row
 looked_up test [] h row e = absurd (cc)
-looked_up test (x ∷ items) h row e = at (test x.0) (looked_up test items h.1 row) e
-  where
-    at : (b : Bool) → (lookup test items ≡ Some row → FitsEntry row) → cond b (Some x.1) (lookup test items) ≡ Some row → FitsEntry row
-    at true rest e = subst FitsEntry (let is : x.1 ≡ row = cc in is) h.0
-    at false rest e = rest e
+looked_up test (x ∷ items) h row e =
+    cond_both (test x.0) (Some x.1) (lookup test items) (λ o. o ≡ Some row → FitsEntry row)
+    (λ _ e. subst FitsEntry (let is : x.1 ≡ row = cc in is) h.0) (λ _. looked_up test items h.1 row) e
 
 finding_fits : (e : Expected) (row : Entry) → FitsEntry row → (o : Outcome) → row.outcome ≡ o → AreFitting (finding_of e row o)
 finding_fits e row h Passed is = (tt, tt)
@@ -105,12 +97,9 @@ unanswered_fit items (e ∷ left) h = unanswered_fit (remove_entry (same_key (an
 
 failed_fit : (rows : List Entry) → RowsFit rows → AreFitting (map FailedRow (rows_with is_failed rows))
 failed_fit [] h = tt
-failed_fit (row ∷ rows) h = at (is_failed row.outcome) refl (failed_fit rows h.1)
-  where
-    at : (b : Bool) → is_failed row.outcome ≡ b → AreFitting (map FailedRow (rows_with is_failed rows))
-        → AreFitting (map FailedRow (cond b (row ∷ rows_with is_failed rows) (rows_with is_failed rows)))
-    at true e rest = ((h.0, e), rest)
-    at false e rest = rest
+failed_fit (row ∷ rows) h =
+    let rest = failed_fit rows h.1 in
+    cond_both (is_failed row.outcome) (row ∷ rows_with is_failed rows) (rows_with is_failed rows) (λ l. AreFitting (map FailedRow l)) (λ e. ((h.0, e), rest)) (λ _. rest)
 
 rows_of_outcome : (test : Outcome → Bool) (rows : List Entry) → RowsFit rows → RowsFit (rows_with test rows)
 rows_of_outcome test rows h = all_filtered FitsEntry (λ (row : Entry). test row.outcome) rows h
@@ -143,34 +132,12 @@ onto_no_end b (line ∷ lines) ne h = ((ne, h.0), h.1)
 
 no_ends : (text : List ℕ) → AllByRecursion HasNoEnd (lines_of text)
 no_ends [] = (tt, tt)
-no_ends (b ∷ text) = at (b == 10) refl (no_ends text)
-  where
-    at : (c : Bool) → (b == 10) ≡ c → AllByRecursion HasNoEnd (lines_of text) → AllByRecursion HasNoEnd (cond c ([] ∷ lines_of text) (onto_first b (lines_of text)))
-    at true e rest = (tt, rest)
-    at false e rest = onto_no_end b (lines_of text) (let ne : b ≢ 10 = grind (arith, nat_tests) in ne) rest
+no_ends (b ∷ text) =
+    let rest = no_ends text in
+    cond_both (b == 10) ([] ∷ lines_of text) (onto_first b (lines_of text)) (AllByRecursion HasNoEnd) (λ _. (tt, rest))
+    (λ e. onto_no_end b (lines_of text) (let ne : b ≢ 10 = grind (arith, nat_tests) in ne) rest)
 
 -- ---- what a text says behind one more line
-
-abbrev Says : ℕ → List ℕ → List Entry → Type 0
-Says number text entries = (new : List Expected) × SayFrom number (lines_of text) new × (map (λ x. x.entry) new ≡ entries)
-
--- behind the line of a failure
-behind_line : (m : ℕ) (entry : Entry) (line rest : List ℕ) (entries : List Entry) → (l : IsLine line) → says_nothing l.front ≡ false → SaysFailure entry l.front
-    → Says (m + 1) rest entries → Says m (line ++ rest) (entry ∷ entries)
-behind_line m entry line rest entries l some says after = (
-  expected entry m ∷ after.0,
-  subst (λ (ls : List (List ℕ)). SayFrom m ls (expected entry m ∷ after.0)) (sym (line_off (line ++ rest) line rest refl l))
-      (more_said (says_nothing l.front) m entry l.front (lines_of rest) after.0 some says after.1),
-  ap (λ (l : List Entry). entry ∷ l) after.2,
-)
-
--- behind the line of a failure that is written
-behind_row : (m : ℕ) (row : Entry) (rest : List ℕ) (entries : List Entry) → FitsFailed row → Says (m + 1) rest entries → Says m (row_line row ++ rest) (untimed row ∷ entries)
-behind_row m row rest entries fits after =
-    let l : IsLine (row_line row) = an_outcome row.label (row.outcome, None) fits.0.label fits.0.outcome tt in
-    let one : FitsEntry (untimed row) = record { label = fits.0.label; outcome = fits.0.outcome; nanos = tt } in
-    let some = says_some l.front (sym (first_byte row.label row.outcome) ∙ ap (λ (t : List ℕ). get_or t 0 0) l.parts) in
-    behind_line m (untimed row) (row_line row) rest entries l some (fits.1, one, sym l.parts) after
 
 more_quiet : (b : Bool) (number : ℕ) (line : List ℕ) (lines : List (List ℕ)) (more : List Expected) → b ≡ true → SayFrom (number + 1) lines more
     → MatchBool b (SayFrom (number + 1) lines more) ((entry : Entry) × (rest : List Expected) × (more ≡ expected entry number ∷ rest) × SaysFailure entry line × SayFrom (number + 1) lines rest)
@@ -191,7 +158,7 @@ behind_quiet m line rest entries h quiet after =
 
 added_said : (found : List Finding) → AreFitting found → (m : ℕ) → Says m (flat_map added_line found) (flat_map added_rows found)
 added_said [] h m = ([], refl, refl)
-added_said (FailedRow row ∷ found) h m = behind_row m row (flat_map added_line found) (flat_map added_rows found) h.0 (added_said found h.1 (m + 1))
+added_said (FailedRow row ∷ found) h m = behind_row m row (flat_map added_line found) (flat_map added_rows found) h.0.0 h.0.1 (added_said found h.1 (m + 1))
 added_said (OtherMessage e row ∷ found) h m = added_said found h.1 m
 added_said (PassedLine e ∷ found) h m = added_said found h.1 m
 added_said (AbsentLine e ∷ found) h m = added_said found h.1 m
@@ -212,7 +179,7 @@ module _ (found : ℕ → Option Finding) (fit : (number : ℕ) (f : Finding) �
       (behind_line m entry (line ++ 10 ∷ []) (rest ++ tail) (after more) (record { front = line; whole = h; parts = refl }) some says (next (m + 1)))
   known_said number m line rest entry more h some says next (Some (OtherMessage x row)) e =
       subst (λ (t : List ℕ). Says m t (untimed row ∷ after more)) (sym (append_assoc (row_line row) rest tail))
-      (behind_row m row (rest ++ tail) (after more) (fit number (OtherMessage x row) e) (next (m + 1)))
+      (let f = fit number (OtherMessage x row) e in behind_row m row (rest ++ tail) (after more) f.0 f.1 (next (m + 1)))
   known_said number m line rest entry more h some says next (Some (PassedLine x)) e = next m
   known_said number m line rest entry more h some says next (Some (AbsentLine x)) e = next m
   known_said number m line rest entry more h some says next (Some (FailedRow x)) e = next m

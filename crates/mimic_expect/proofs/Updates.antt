@@ -94,14 +94,12 @@ counting_read : (lax : Bool) (unexpected : List Unexpected)
     → map finding_read (filter (λ (u : Unexpected). counts lax (finding_read u)) unexpected) ≡ filter (counts lax) (map finding_read unexpected)
 counting_read lax unexpected = sym (filter_mapped (counts lax) finding_read unexpected)
 
-pub update_is : (text : List ℕ) (expected : List Expected) (lax : Bool) (read : List InputRead) (ends : List Ending) (start new : Judged) (all : Bool) (unexpected found : List Unexpected)
-    → ends ≡ ends_of read → list_all is_whole ends ≡ true → start ≡ record { known = expected; rows = [] } → Keeps start new (rows_of read) → all ≡ list_all has_all ends → map finding_read unexpected ≡ findings new.known new.rows all
+pub update_is : (text : List ℕ) (expected : List Expected) (lax : Bool) (read : List InputRead) (ends : List Ending) (new : Judged) (all : Bool) (unexpected found : List Unexpected)
+    → ends ≡ ends_of read → list_all is_whole ends ≡ true → Keeps (record { known = expected; rows = [] }) new (rows_of read) → all ≡ list_all has_all ends → map finding_read unexpected ≡ findings new.known new.rows all
     → found ≡ filter (λ (u : Unexpected). counts lax (finding_read u)) unexpected → updated_text text (map finding_read found) ≡ update_text text expected read lax
-update_is text expected lax read ends start new all unexpected found ended whole begun keeps a says counted =
-    let knows : new.known ≡ expected = keeps.known ∙ ap (λ (j : Judged). j.known) begun in
-    let kept : new.rows ≡ filter (matters expected) (rows_of read) = keeps.kept ∙ ap (λ (j : Judged). j.rows ++ filter (matters j.known) (rows_of read)) begun in
+update_is text expected lax read ends new all unexpected found ended whole keeps a says counted =
     let said : map finding_read unexpected ≡ findings expected (rows_of read) (have_all read) =
-    says ∙ (ap₂ (λ (k : List Expected) (r : List Entry). findings k r all) knows kept
+    says ∙ (ap₂ (λ (k : List Expected) (r : List Entry). findings k r all) keeps.known keeps.kept
     ∙ (some_findings expected (rows_of read) all ∙ ap (findings expected (rows_of read)) (a ∙ ends_have_all read ends ended))) in
     let same : map finding_read found ≡ changes expected read lax =
     ap (map finding_read) counted ∙ (counting_read lax unexpected ∙ ap (filter (counts lax)) (said)) in

@@ -1,5 +1,5 @@
 -- What is written at the end, and what it says.
-use Rattle.std.proofs.Common.{◌≡◌, ◌||◌, inl, inr, ℕ, ◌+◌, ◌<◌, ◌≤◌, suc, Bool, false, cond, List, [], ◌∷◌, ◌++◌, length, map, codes, decimal, Option, Result, refl, sym, ap, ap₂, subst, ◌∙◌, append_assoc, arith}
+use Rattle.std.proofs.Common.{◌≡◌, ◌||◌, inl, inr, ℕ, ◌+◌, ◌<◌, ◌≤◌, suc, Bool, false, cond, List, [], ◌∷◌, ◌++◌, length, map, Option, Result, refl, sym, ap, ap₂, subst, ◌∙◌, append_assoc, arith}
 use Rattle.std.specs.Prelude.{count_by, nat_lt}
 use Rattle.std.specs.List.{AllZip, flat_map, list_all, list_any}
 use Rattle.std.specs.Result.{IsErrAnd}
@@ -20,7 +20,7 @@ use Rattle.mimic_expect.specs.JudgedRows.{Judged, Judges}
 use Rattle.mimic_expect.specs.JudgementText.{count_in, finding_read, judgement_numbers, judgement_text}
 use Rattle.mimic_expect.specs.Known.{Expected}
 use Rattle.mimic_expect.specs.KnownText.{StoppedBy}
-use Rattle.mimic_expect.specs.Verdict.{AreBegun, IsBegun, IsWhole, LeavesVerdict, VerdictLeftBy, ends_of, have_all, rows_of}
+use Rattle.mimic_expect.specs.Verdict.{AreBegun, LeavesVerdict, ends_of, have_all, rows_of}
 use Rattle.mimic_expect.specs.declared.judgement.Judgement.{Judgement}
 use Rattle.mimic_expect.specs.declared.judgement.Unexpected.{Unexpected}
 use Rattle.mimic_printer.specs.declared.sink.OutputFault.{OutputFault}
@@ -29,19 +29,13 @@ use Rattle.mimic_expect.specs.declared.options.ExpectOptions.{ExpectOptions}
 use Rattle.mimic_expect.specs.declared.options.Lines.{Lines}
 use Rattle.mimic_expect.specs.declared.verdict.ExpectationVerdict.{ExpectationVerdict}
 use Rattle.mimic_events.proofs.Results.{at_fault}
-use Rattle.mimic_expect.proofs.Judged.{lines, lines_put}
+use Rattle.mimic_expect.proofs.Judged.{lines}
 use Rattle.mimic_expect.proofs.Strangers.{has_same}
 
 -- ---- the lines of a judgement
 
 abbrev line_of : Lines → Unexpected → List ℕ
 line_of form found = finding_text form (finding_read found)
-
-pub numbers_are : (judgement : Judgement) (before failed passed other absent : ℕ) → failed ≡ count_in is_failed_row judgement → passed ≡ count_in is_passed_line judgement
-    → other ≡ count_in is_other_message judgement → absent ≡ count_in is_absent_line judgement
-    → (decimal judgement.met ++ codes " known failures; ") ++ ((decimal (before + failed) ++ codes " failed; ") ++ ((decimal passed ++ codes " passed; ")
-    ++ ((decimal other ++ codes " with another message; ") ++ ((decimal absent ++ codes " absent\n") ++ [])))) ≡ judgement_numbers judgement before
-numbers_are judgement before failed passed other absent f p o a = rw (f, p, o, a) (simp append_assoc)
 
 -- ---- counts
 
@@ -77,7 +71,7 @@ any_failed lax (row ∷ rows) = grind (arith, nat_tests)
 
 -- ---- all that is written
 
-module _ (known : List Expected) (start new : Judged) (rows : List Entry) (are_all : Bool) (count : ℕ) (judgement : Judgement) (begun : start ≡ record { known = known; rows = [] }) where
+module _ (known : List Expected) (new : Judged) (rows : List Entry) (are_all : Bool) (count : ℕ) (judgement : Judgement) where
   abbrev failures : List Entry
   failures = unknown_failures known rows
 
@@ -87,19 +81,13 @@ module _ (known : List Expected) (start new : Judged) (rows : List Entry) (are_a
   abbrev Says : Type 0
   Says = map finding_read judgement.unexpected.items ≡ findings new.known new.rows are_all
 
-  module _ {form : Lines} {s t : Shown} (judged : Judges form start new rows count s t) where
-    knows : new.known ≡ known
-    knows = judged.known ∙ ap (λ (j : Judged). j.known) begun
-
-    kept : new.rows ≡ known_rows known rows
-    kept = judged.kept ∙ ap (λ (j : Judged). j.rows ++ known_rows j.known rows) begun
-
+  module _ {form : Lines} {s t : Shown} (judged : Judges form (record { known = known; rows = [] }) new rows count s t) where
     counted : count ≡ length failures
-    counted = judged.counted ∙ ap (λ (j : Judged). length (unknown_failures j.known rows)) begun
+    counted = judged.counted
 
     module _ (says : Says) where
       found : map finding_read judgement.unexpected.items ≡ rest
-      found = says ∙ ap₂ (λ (k : List Expected) (l : List Entry). findings k l are_all) knows kept
+      found = says ∙ ap₂ (λ (k : List Expected) (l : List Entry). findings k l are_all) judged.known judged.kept
 
       count_of : (test : Finding → Bool) → count_in test judgement ≡ count_by test rest
       count_of test = count_read test judgement.unexpected.items ∙ ap (count_by test) found
@@ -114,7 +102,7 @@ module _ (known : List Expected) (start new : Judged) (rows : List Entry) (are_a
           → judgement_numbers judgement count ≡ numbers_text (length (met_by (keyed known) (rows_with is_failed rows))) (findings_in_turn known rows are_all)
       numbers met =
           let is : judgement.met ≡ length (met_by (keyed known) (rows_with is_failed rows)) =
-          met ∙ (ap₂ (λ (k : List Expected) (l : List Entry). length (met_by (keyed k) (rows_with is_failed l))) knows kept ∙ ap length (has_same known rows are_all).met) in
+          met ∙ (ap₂ (λ (k : List Expected) (l : List Entry). length (met_by (keyed k) (rows_with is_failed l))) judged.known judged.kept ∙ ap length (has_same known rows are_all).met) in
           rw (is, all_failed, none_of is_passed_line (λ row. refl), none_of is_other_message (λ row. refl), none_of is_absent_line (λ row. refl)) refl
 
       all_text : (ends : List Ending) → judgement.met ≡ length (met_by (keyed new.known) (rows_with is_failed new.rows))
@@ -146,24 +134,19 @@ module _ {I : Type 0} (remaining : I → Option (List ℕ)) (expected : List Exp
       → Stopped old new (rows_text options.lines expected (rows_of read) (ends_of read) (have_all read)) → LeavesVerdict remaining expected inputs options old new result
   write_left error read h each s =
       at_fault (LeavesVerdict remaining expected inputs options old new) result (WriteFailed error) h
-      (rows_text options.lines expected (rows_of read) (ends_of read) (have_all read), inr (read, each, refl), s)
+      (inr (read, each, s))
 
   -- no memory
   pub memory_left : (rows : List Entry) → IsErrAnd result (λ fault. fault ≡ OutOfMemory) → AreBegun remaining inputs rows → Put old new (unknown_text options.lines expected rows)
       → LeavesVerdict remaining expected inputs options old new result
-  memory_left rows h are p = at_fault (LeavesVerdict remaining expected inputs options old new) result OutOfMemory h (unknown_text options.lines expected rows, (rows, are, refl), p)
-
-  begun_left : (fault : OutputFault) (rows : List Entry) → AreBegun remaining inputs rows → StoppedBy fault old new (unknown_text options.lines expected rows)
-      → VerdictLeftBy (IsBegun remaining options.lines expected inputs) (IsWhole remaining options.lines expected inputs) old new fault
-  begun_left OutOfMemory rows are left = (unknown_text options.lines expected rows, (rows, are, refl), left)
-  begun_left (WriteFailed error) rows are left = (unknown_text options.lines expected rows, inl (rows, are, refl), left)
+  memory_left rows h are p = at_fault (LeavesVerdict remaining expected inputs options old new) result OutOfMemory h (inl (rows, are, p))
 
   -- a fault while rows come
   pub rows_left_by : (fault : OutputFault) (known : List Expected) → known ≡ expected → IsErrAnd result (λ f. f ≡ fault)
       → (rows : List Entry) × AreBegun remaining inputs rows × StoppedBy fault old new (unknown_text options.lines known rows) → LeavesVerdict remaining expected inputs options old new result
   rows_left_by fault known e h left =
       at_fault (LeavesVerdict remaining expected inputs options old new) result fault h
-      (begun_left fault left.0 left.1 (subst (λ (k : List Expected). StoppedBy fault old new (unknown_text options.lines k left.0)) e left.2))
+      (inl (left.0, left.1, subst (λ (k : List Expected). StoppedBy fault old new (unknown_text options.lines k left.0)) e left.2))
 
 pub ends_have_all : (read : List InputRead) (ends : List Ending) → ends ≡ map (λ (r : InputRead). r.ending) read → list_all has_all ends ≡ have_all read
 ends_have_all read ends e = ap (list_all has_all) e ∙ list_all-map has_all (λ (r : InputRead). r.ending) read
@@ -176,13 +159,11 @@ says_of judgement new read given ends all a same e says =
     says ∙ ap (findings new.known new.rows) (a ∙ (ap (list_all has_all) same ∙ ends_have_all read ends e))
 
 -- the lines that were written while rows came, and all that is written
-pub whole_text : (known : List Expected) (start new : Judged) (read : List InputRead) (given written ends : List Ending) (all : Bool) (count : ℕ) (judgement : Judgement) (form : Lines) (s t : Shown)
-    → start ≡ record { known = known; rows = [] } → Judges form start new (rows_of read) count s t → all ≡ list_all has_all given → given ≡ ends → written ≡ ends
+pub whole_text : (known : List Expected) (new : Judged) (read : List InputRead) (given written ends : List Ending) (all : Bool) (count : ℕ) (judgement : Judgement) (form : Lines) (s t : Shown)
+    → Judges form (record { known = known; rows = [] }) new (rows_of read) count s t → all ≡ list_all has_all given → given ≡ ends → written ≡ ends
     → ends ≡ map (λ (r : InputRead). r.ending) read → map finding_read judgement.unexpected.items ≡ findings new.known new.rows all
     → judgement.met ≡ length (met_by (keyed new.known) (rows_with is_failed new.rows))
-    → Put s t (unknown_text form known (rows_of read)) × (unknown_text form known (rows_of read) ++ judgement_text form judgement count written ≡ rows_text form known (rows_of read) (ends_of read) (have_all read))
-whole_text known start new read given written ends all count judgement form s t begun judged a same w e says met = (
-  lines_put known start new (rows_of read) count s t begun judged,
-  ap (λ (l : List Ending). unknown_text form known (rows_of read) ++ judgement_text form judgement count l) (w ∙ e)
-      ∙ all_text known start new (rows_of read) (have_all read) count judgement begun judged (says_of judgement new read given ends all a same e says) (ends_of read) met,
-)
+    → unknown_text form known (rows_of read) ++ judgement_text form judgement count written ≡ rows_text form known (rows_of read) (ends_of read) (have_all read)
+whole_text known new read given written ends all count judgement form s t judged a same w e says met =
+    ap (λ (l : List Ending). unknown_text form known (rows_of read) ++ judgement_text form judgement count l) (w ∙ e)
+    ∙ all_text known new (rows_of read) (have_all read) count judgement judged (says_of judgement new read given ends all a same e says) (ends_of read) met

@@ -1,7 +1,7 @@
 -- The lines that are printed of what is unexpected, and of trials that were running (our own).
-use Rattle.std.specs.Prelude.{ℕ, Bool, List, [], ◌∷◌, ◌++◌, codes, count_by, decimal, length, map, None, Option, Some}
+use Rattle.std.specs.Prelude.{ℕ, Bool, List, [], ◌∷◌, ◌++◌, codes, count_by, decimal, length, map, None}
 use Rattle.std.specs.List.{concat, flat_map}
-use Rattle.std.specs.Option.{unwrap_or}
+use Rattle.std.specs.Option.{option_map, unwrap_or}
 use Rattle.mimic_trial.specs.Count.{is_failed}
 use Rattle.mimic_printer.specs.Escapes.{escaped}
 use Rattle.mimic_printer.specs.Json.{Entry, json_announcement, json_outcome}
@@ -10,7 +10,6 @@ use Rattle.mimic_printer.specs.Row.{Label}
 use Rattle.mimic_printer.specs.declared.place.Place.TheVariants.{Line}
 use Rattle.mimic_events.specs.Contents.{label_read}
 use Rattle.mimic_events.specs.Key.{message_of}
-use Rattle.mimic_events.specs.declared.report.Label.{Label as LabelRead}
 use Rattle.mimic_events.specs.declared.ending.Ending.{Ending}
 use Rattle.mimic_events.specs.declared.ending.Ending.TheVariants.{Cut}
 use Rattle.mimic_expect.specs.Expect.{AbsentLine, FailedRow, Finding, OtherMessage, PassedLine, findings_in_turn, is_absent_line, is_failed_row, is_other_message, is_passed_line, keyed, met_by, rows_with, unknown_failures}
@@ -36,25 +35,20 @@ trial_line kind name message = concat (bracketed Line kind ∷ escaped Line name
 abbrev pub message_in : Entry → List ℕ
 message_in row = unwrap_or (message_of row.outcome) []
 
--- a failed trial, with its message
-abbrev pub failure_text : Lines → Entry → List ℕ
-failure_text Json row = row_line row
-failure_text Readable row = trial_line row.label.kind row.label.name (message_in row)
-
--- a trial of which no message is shown to people
-abbrev pub trial_text : Lines → Entry → List ℕ
-trial_text Json row = row_line row
-trial_text Readable row = trial_line row.label.kind row.label.name []
+-- a trial, of which this message is shown to people; in JSON its own one is there
+abbrev pub trial_text : Lines → Entry → List ℕ → List ℕ
+trial_text Json row message = row_line row
+trial_text Readable row message = trial_line row.label.kind row.label.name message
 
 -- what was found about a line of the known failures, and its number
 unfoldable pub place_text : List ℕ → ℕ → List ℕ
 place_text words line = concat (words ∷ decimal line ∷ codes " can go: " ∷ [])
 
 abbrev pub finding_text : Lines → Finding → List ℕ
-finding_text lines (FailedRow row) = codes "failed: " ++ failure_text lines row
-finding_text lines (OtherMessage e row) = place_text (codes "another message, line ") e.line ++ failure_text lines row
-finding_text lines (PassedLine e) = place_text (codes "passed, line ") e.line ++ trial_text lines e.entry
-finding_text lines (AbsentLine e) = place_text (codes "absent, line ") e.line ++ trial_text lines e.entry
+finding_text lines (FailedRow row) = codes "failed: " ++ trial_text lines row (message_in row)
+finding_text lines (OtherMessage e row) = place_text (codes "another message, line ") e.line ++ trial_text lines row (message_in row)
+finding_text lines (PassedLine e) = place_text (codes "passed, line ") e.line ++ trial_text lines e.entry []
+finding_text lines (AbsentLine e) = place_text (codes "absent, line ") e.line ++ trial_text lines e.entry []
 
 -- the lines of the failures whose kind and name no known failure has, which are printed as they come
 abbrev pub unknown_text : Lines → List Expected → List Entry → List ℕ
@@ -72,14 +66,10 @@ abbrev pub announced_text : Lines → Label → List ℕ
 announced_text Json label = json_announcement label
 announced_text Readable label = trial_line label.kind label.name []
 
--- the line of a trial that was announced and has not ended: a word, and the trial
-abbrev pub running_line : Lines → Option LabelRead → List ℕ
-running_line lines None = []
-running_line lines (Some label) = codes "running: " ++ announced_text lines (label_read label)
-
--- the line of the trial that was running when a report was cut, and nothing of another end
+-- the line of the trial that was running when a report was cut, which is a word and the trial, and nothing of another end
 abbrev pub running_text : Lines → Ending → List ℕ
-running_text lines (Cut stop) = running_line lines stop.running
+running_text lines (Cut stop) =
+    unwrap_or (option_map (λ label. codes "running: " ++ announced_text lines (label_read label)) stop.running) []
 running_text lines other = []
 
 -- what is printed of rows: a line of each finding, one of each trial that was running at these ends, and one of the numbers

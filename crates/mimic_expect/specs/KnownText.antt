@@ -3,7 +3,8 @@ use Rattle.std.specs.Prelude.{◌≡◌, ℕ, List, map, Option, None, IfSome, M
 use Rattle.std.specs.List.{AllByRecursion, flat_map}
 use Rattle.mimic_trial.specs.Count.{is_failed}
 use Rattle.mimic_printer.specs.Json.{Entry, FitsEntry}
-use Rattle.mimic_printer.specs.Sink.{Put, Shown, Stopped}
+use Rattle.mimic_printer.specs.Sink.{HasFaultLeft, Put, Shown, Stopped}
+use Rattle.mimic_printer.specs.declared.sink.Sink.{Sink}
 use Rattle.mimic_printer.specs.declared.sink.OutputFault.{OutputFault}
 use Rattle.mimic_printer.specs.declared.sink.OutputFault.TheVariants.{OutOfMemory, Write}
 use Rattle.mimic_events.specs.Readings.{HasEndedRows, IsReading}
@@ -11,6 +12,7 @@ use Rattle.mimic_events.specs.declared.ending.Ending.{Ending}
 use Rattle.mimic_expect.specs.Expect.{rows_with}
 use Rattle.mimic_expect.specs.FindingText.{row_line}
 use Rattle.mimic_expect.specs.Known.{AreExpected, Expected}
+use denote.Ref.{MutBor}
 
 -- the lines of the failures among the rows, in their order
 abbrev pub known_text : List Entry → List ℕ
@@ -25,6 +27,10 @@ untimed row = record { label = row.label; outcome = row.outcome; nanos = None }
 abbrev pub SayFailures : Type 0
 SayFailures = (rows : List Entry) → AllByRecursion FitsEntry rows → (expected : List Expected)
     × AreExpected expected (known_text rows) × (map (λ x. x.entry) expected ≡ map untimed (rows_with is_failed rows))
+
+-- it is the same sink, and it can count one more fault
+abbrev pub StaysSink : {W : Type 0} → MutBor (Sink W) → MutBor (Sink W) → Type 0
+StaysSink old new = (new.ghost_name ≡ old.ghost_name) × HasFaultLeft new.now
 
 -- what a fault leaves that stopped a call at the end of a text: without memory all of it was appended, and with a fault of the writer
 -- a beginning

@@ -8,10 +8,10 @@ use Rattle.mimic_events.specs.declared.ending.Ending.{Ending}
 use Rattle.mimic_expect.specs.Expect.{counts, findings}
 use Rattle.mimic_expect.specs.FindingText.{rows_text, unknown_text}
 use Rattle.mimic_expect.specs.Known.{Expected}
+use Rattle.mimic_expect.specs.KnownText.{StoppedBy}
 use Rattle.mimic_printer.specs.declared.sink.OutputFault.{OutputFault}
 use Rattle.mimic_printer.specs.declared.sink.OutputFault.TheVariants.{OutOfMemory, Write}
 use Rattle.mimic_expect.specs.declared.options.ExpectOptions.{ExpectOptions}
-use Rattle.mimic_expect.specs.declared.options.Lines.{Lines}
 use Rattle.mimic_expect.specs.declared.verdict.ExpectationVerdict.{ExpectationVerdict}
 
 -- ---- inputs
@@ -58,28 +58,21 @@ pub record AreBegun {I : Type 0} (remaining : I → Option (List ℕ)) (inputs :
   pub next : AreNext remaining after last
   pub all : rows ≡ rows_of read ++ last
 
--- the text has the failures among rows that were read, whose kind and name no known failure has
-abbrev pub IsBegun : {I : Type 0} → (I → Option (List ℕ)) → Lines → List Expected → List I → List ℕ → Type 0
-IsBegun remaining lines expected inputs text =
-    (rows : List Entry) × AreBegun remaining inputs rows × (text ≡ unknown_text lines expected rows)
+-- a fault of the writer stopped a call that writes the text
+abbrev pub IsCut : OutputFault → Shown → Shown → List ℕ → Type 0
+IsCut OutOfMemory old new text = ⊥
+IsCut (Write fault) old new text = Stopped old new text
 
--- the text is what is written of all inputs
-abbrev pub IsWhole : {I : Type 0} → (I → Option (List ℕ)) → Lines → List Expected → List I → List ℕ → Type 0
-IsWhole remaining lines expected inputs text = (read : List InputRead) × AllZip (λ input r. IsReadOf (remaining input) r) inputs read
-    × (text ≡ rows_text lines expected (rows_of read) (ends_of read) (have_all read))
-
--- without memory such failures were appended; and with a fault of the writer a beginning of such failures, or of the whole text
-abbrev pub VerdictLeftBy : (List ℕ → Type 0) → (List ℕ → Type 0) → Shown → Shown → OutputFault → Type 0
-VerdictLeftBy Beginning Complete old new OutOfMemory = (text : List ℕ) × Beginning text × Put old new text
-VerdictLeftBy Beginning Complete old new (Write fault) = (text : List ℕ) × (Beginning text ⊎ Complete text) × Stopped old new text
-
--- what a call leaves that judges the inputs
+-- what a call leaves that judges the inputs: without memory the failures were appended whose kind and name no known failure has,
+-- among rows that were read; and with a fault of the writer a beginning of such failures, or of what is written of all inputs
 abbrev pub LeavesVerdict : {I : Type 0} → (I → Option (List ℕ)) → List Expected → List I → ExpectOptions → Shown → Shown
     → Result ExpectationVerdict OutputFault → Type 0
 LeavesVerdict remaining expected inputs options old new (Ok verdict) =
     IsVerdict remaining expected inputs options old new verdict
-LeavesVerdict remaining expected inputs options old new (Err fault) = VerdictLeftBy
-    (IsBegun remaining options.lines expected inputs) (IsWhole remaining options.lines expected inputs) old new fault
+LeavesVerdict remaining expected inputs options old new (Err fault) =
+    ((rows : List Entry) × AreBegun remaining inputs rows × StoppedBy fault old new (unknown_text options.lines expected rows))
+    ⊎ ((read : List InputRead) × AllZip (λ input r. IsReadOf (remaining input) r) inputs read
+    × IsCut fault old new (rows_text options.lines expected (rows_of read) (ends_of read) (have_all read)))
 
 -- the exit status: 1 if some input is no whole report, else 101 if anything is unexpected that counts, else 0
 abbrev pub status_of : ExpectationVerdict → ℕ

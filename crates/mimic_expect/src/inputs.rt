@@ -1,5 +1,5 @@
 //! Writes what of reports is unexpected.
-ghost use Rattle.std.specs.Prelude.{◌≡◌, ◌<◌, ◌-◌, ◌^◌, ◌++◌, List, IfSome, MatchResult, decimal, map};
+ghost use Rattle.std.specs.Prelude.{◌≡◌, ◌<◌, ◌-◌, ◌^◌, List, IfSome, MatchResult, map};
 ghost use Rattle.std.specs.List.{AllZip, flat_map};
 ghost use Rattle.mimic_printer.specs.Json.{Entry};
 ghost use Rattle.mimic_printer.specs.Sink.{Adds, HasFaultLeft, shown};
@@ -7,7 +7,7 @@ ghost use Rattle.mimic_events.specs.Readings.{HasEndedRows, InputRead, IsReading
 ghost use Rattle.mimic_expect.specs.Expect.{ExpectLaws};
 ghost use Rattle.mimic_expect.specs.FindingText.{finding_text, running_text, unknown_text};
 ghost use Rattle.mimic_expect.specs.JudgedRows.{Judges};
-ghost use Rattle.mimic_expect.specs.JudgementText.{finding_read, judgement_text};
+ghost use Rattle.mimic_expect.specs.JudgementText.{finding_read, judgement_numbers, judgement_text};
 ghost use Rattle.mimic_expect.specs.Known.{expected_read};
 ghost use Rattle.mimic_expect.specs.KnownText.{StoppedBy};
 ghost use Rattle.mimic_expect.specs.Verdict.{AreBegun, LeavesVerdict, ends_of, rows_of};
@@ -18,9 +18,8 @@ use crate::known::Expectation;
 use crate::options::{ExpectOptions, Lines};
 use crate::unexpected::add_running_line;
 use crate::verdict::{ExpectationVerdict, have_all};
-use itoa::Buffer;
 use mimic_events::{Ending, Row, RowTaker, read_into};
-use mimic_printer::{OutputFault, Sink};
+use mimic_printer::{OutputFault, Piece, Sink, add_pieces};
 use std::alloc::Global;
 use std::io::{Read, Write};
 
@@ -137,13 +136,13 @@ struct Judging<'a, 'k, W: Write> {
 
 impl<W: Write> RowTaker for Judging<'_, '_, W> {
     ghost use Rattle.std.specs.Prelude.{◌≡◌};
-    ghost use Rattle.mimic_printer.specs.Sink.{HasFaultLeft, shown};
+    ghost use Rattle.mimic_printer.specs.Sink.{shown};
     ghost use Rattle.mimic_expect.specs.FindingText.{unknown_text};
     ghost use Rattle.mimic_expect.specs.JudgedRows.{Judges};
-    ghost use Rattle.mimic_expect.specs.KnownText.{StoppedBy};
+    ghost use Rattle.mimic_expect.specs.KnownText.{StaysSink, StoppedBy};
 
     ghost takes = { λ old rows new. (new.judge.ghost_name ≡ old.judge.ghost_name) × (new.lines ≡ old.lines)
-        × (new.sink.ghost_name ≡ old.sink.ghost_name) × HasFaultLeft new.sink.now
+        × StaysSink old.sink new.sink
         × Judges old.lines old.judge.now new.judge.now rows new.failed
         (shown W.contents old.sink.now) (shown W.contents new.sink.now) };
 
@@ -177,19 +176,7 @@ fn add_judgement<W: Write>(
 {
     add_unexpected(sink, lines, &judgement.unexpected);
     add_running(sink, lines, ends);
-    add_numbers(
-        sink,
-        &[
-            (judgement.met as u128, " known failures; "),
-            (failed + judgement.failed() as u128, " failed; "),
-            (judgement.passed() as u128, " passed; "),
-            (
-                judgement.another_message() as u128,
-                " with another message; ",
-            ),
-            (judgement.absent() as u128, " absent\n"),
-        ],
-    );
+    add_numbers(sink, judgement, failed);
 }
 
 // Adds a line of each.
@@ -214,13 +201,23 @@ fn add_running<W: Write>(sink: &mut Sink<W>, lines: Lines, ends: &[Ending])
     }
 }
 
-// Adds each number in decimal, and its words.
-fn add_numbers<W: Write>(sink: &mut Sink<W>, numbers: &[(u128, &str)])
-    ensures { Adds W.contents sink.old sink.new
-        (flat_map (λ x. decimal x.0 ++ x.1.now) numbers.now) }
+// Adds the line of the numbers, to which these failures count that were written before.
+fn add_numbers<W: Write>(sink: &mut Sink<W>, judgement: &Judgement<'_>, failed: u128)
+    requires { failed < 2 ^ 128 - 2 ^ 64 }
+    ensures { Adds W.contents sink.old sink.new (judgement_numbers judgement.now failed) }
 {
-    for (number, words) in numbers {
-        sink.add(Buffer::new().format(*number).as_bytes());
-        sink.add(words.as_bytes());
-    }
+    let failed = failed + judgement.failed() as u128;
+    let pieces = [
+        Piece::Number(judgement.met as u64),
+        Piece::Text(" known failures; "),
+        Piece::Long(&failed),
+        Piece::Text(" failed; "),
+        Piece::Number(judgement.passed() as u64),
+        Piece::Text(" passed; "),
+        Piece::Number(judgement.another_message() as u64),
+        Piece::Text(" with another message; "),
+        Piece::Number(judgement.absent() as u64),
+        Piece::Text(" absent\n"),
+    ];
+    add_pieces(sink, &pieces);
 }

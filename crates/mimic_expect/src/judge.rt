@@ -8,7 +8,7 @@ ghost use Rattle.mimic_events.specs.Key.{HasTrials};
 ghost use Rattle.mimic_expect.specs.JudgementText.{finding_read};
 ghost use Rattle.mimic_expect.specs.Known.{expected_read};
 
-use crate::judgement::{Judgement, judge};
+use crate::judgement::{Judgement, failed_in, findings_of, meeting, others_in};
 use crate::known::Expectation;
 use mimic_events::{Key, Row, RowTaker};
 use mimic_printer::OutputFault;
@@ -99,7 +99,12 @@ impl<'a> Judge<'a> {
         ensures unexpected { IfOk result (λ judgement. map finding_read judgement.unexpected.items
             ≡ findings self.now.known self.now.rows are_all) }
     {
-        judge(alloc, self.known, &self.rows, are_all)
+        let failed = failed_in(alloc, &self.rows)?;
+        let (left, unmet) = meeting(alloc, self.known, &failed)?;
+        let met = failed.len() - unmet.len();
+        let others = others_in(alloc, unmet, &self.rows)?;
+        let unexpected = findings_of(alloc, &left, &others, are_all)?;
+        Ok(Judgement { met, unexpected })
     }
 }
 

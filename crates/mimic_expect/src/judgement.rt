@@ -1,10 +1,10 @@
 //! Judges the rows of reports by known failures.
-ghost use Rattle.std.specs.Prelude.{◌≡◌, ◌++◌, IfOk, OnOk, count_by, filter, length, map, option_map};
+ghost use Rattle.std.specs.Prelude.{◌≡◌, ◌++◌, IfOk, OnOk, count_by, filter, map, option_map};
 ghost use Rattle.std.specs.List.{flat_map, list_any};
 ghost use Rattle.std.specs.Option.{is_some, option_to_list};
 ghost use Rattle.mimic_trial.specs.Count.{is_failed, is_ignored_outcome};
 ghost use Rattle.mimic_events.specs.Contents.{entry_read};
-ghost use Rattle.mimic_expect.specs.Expect.{FailedRow, answers, counts, fate, findings, findings_with, has_passed, is_absent_line, is_failed_row, is_other_message, is_passed_line, keyed, labelled, left_by, meets, met_by, rows_with, unanswered, unmet_by, without};
+ghost use Rattle.mimic_expect.specs.Expect.{FailedRow, answers, counts, fate, findings_with, has_passed, is_absent_line, is_failed_row, is_other_message, is_passed_line, keyed, labelled, left_by, meets, rows_with, unanswered, unmet_by, without};
 ghost use Rattle.mimic_expect.specs.JudgementText.{entries_read, expected_at, finding_read, lines_left, rows_left};
 ghost use Rattle.mimic_expect.specs.Known.{expected_read};
 
@@ -55,7 +55,8 @@ fn keyed_rows<'a>(alloc: Global, rows: &[&'a Row]) -> Result<KeyedItems<'a, &'a 
     KeyedItems::new(alloc, &items)
 }
 
-fn failed_in(alloc: Global, rows: &[Row]) -> Result<Vec<&Row>, AllocError>
+// Returns the rows that failed.
+pub(crate) fn failed_in(alloc: Global, rows: &[Row]) -> Result<Vec<&Row>, AllocError>
     ensures { IfOk result
         (λ found. map (λ row. row.now) found.items ≡ filter (λ row. is_failed row.outcome) rows.now) }
 {
@@ -111,7 +112,7 @@ fn unmet_in<'a>(
 }
 
 // Returns the rows that expectations can take, in the order in which they are taken.
-fn others_in<'a>(
+pub(crate) fn others_in<'a>(
     alloc: Global,
     unmet: Vec<&'a Row>,
     rows: &'a [Row],
@@ -195,28 +196,8 @@ pub(crate) struct Judgement<'a> {
     pub(crate) unexpected: Vec<Unexpected<'a>>,
 }
 
-// Judges the rows by the known failures.
-pub(crate) fn judge<'a>(
-    alloc: Global,
-    known: &'a [Expectation],
-    rows: &'a [Row],
-    are_all: bool,
-) -> Result<Judgement<'a>, AllocError>
-    ensures met { IfOk result (λ judgement. judgement.met ≡ length (met_by
-        (keyed (map expected_read known.now)) (rows_with is_failed (map entry_read rows.now)))) }
-    ensures unexpected { IfOk result (λ judgement. map finding_read judgement.unexpected.items
-        ≡ findings (map expected_read known.now) (map entry_read rows.now) are_all) }
-{
-    let failed = failed_in(alloc, rows)?;
-    let (left, unmet) = meeting(alloc, known, &failed)?;
-    let met = failed.len() - unmet.len();
-    let others = others_in(alloc, unmet, rows)?;
-    let unexpected = findings_of(alloc, &left, &others, are_all)?;
-    Ok(Judgement { met, unexpected })
-}
-
 // Returns the expectations that no failure meets, and the failures that meet none.
-fn meeting<'a>(
+pub(crate) fn meeting<'a>(
     alloc: Global,
     known: &'a [Expectation],
     failed: &[&'a Row],
@@ -232,7 +213,7 @@ fn meeting<'a>(
 }
 
 // Returns what is unexpected about the expectations that are left, and then the failures among the rows that none of them took.
-fn findings_of<'a>(
+pub(crate) fn findings_of<'a>(
     alloc: Global,
     left: &[&'a Expectation],
     others: &[&'a Row],

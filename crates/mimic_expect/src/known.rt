@@ -1,5 +1,5 @@
 //! Reads files of known failures.
-ghost use Rattle.std.specs.Prelude.{◌≡◌, ◌+◌, ◌<◌, ◌∷◌, ◌++◌, [], ℕ, List, MatchOption, MatchResult, Some, map};
+ghost use Rattle.std.specs.Prelude.{◌≡◌, ◌+◌, ◌∷◌, ◌++◌, [], ℕ, List, MatchOption, MatchResult, Some, map};
 ghost use Rattle.mimic_printer.specs.Json.{HasNoEnd, IsLine};
 ghost use Rattle.mimic_events.specs.Reading.{Decodes};
 ghost use Rattle.mimic_expect.specs.Known.{AreExpected, CannotSay, expected_read, says_nothing};
@@ -64,7 +64,7 @@ fn add_line(
         (λ _. AddsLine number front (map expected_read known.old.items) (map expected_read known.new.items))
         (CannotAdd number front) }
 {
-    if is_passed_over(line) {
+    if says_nothing(without_end(line)) {
         return Ok(());
     }
     match read_failed_line(alloc, line)? {
@@ -76,15 +76,18 @@ fn add_line(
     }
 }
 
-// Whether the line, which has its end, is empty or a comment.
-fn is_passed_over(line: &[u8]) -> bool
-    ensures { (front : List ℕ) → line.now ≡ front ++ 10 ∷ []
-        → result ≡ says_nothing front }
+// Returns the line without its end.
+pub(crate) fn without_end(line: &[u8]) -> &[u8]
+    ensures { (front : List ℕ) → line.now ≡ front ++ 10 ∷ [] → result.now ≡ front }
 {
-    match line {
-        [b'#', ..] => true,
-        _ => line.len() <= 1,
-    }
+    &line[..line.len().saturating_sub(1)]
+}
+
+// Whether the line, which has no end, is empty or a comment.
+pub(crate) fn says_nothing(line: &[u8]) -> bool
+    ensures { result ≡ says_nothing line.now }
+{
+    matches!(line, [] | [b'#', ..])
 }
 
 // Returns the first line, with its end, and what follows it.

@@ -39,10 +39,10 @@ struct Failures<'a, W: Write> {
 
 impl<W: Write> RowTaker for Failures<'_, W> {
     ghost use Rattle.std.specs.Prelude.{◌≡◌};
-    ghost use Rattle.mimic_printer.specs.Sink.{HasFaultLeft, Put, shown};
-    ghost use Rattle.mimic_expect.specs.KnownText.{StoppedBy, known_text};
+    ghost use Rattle.mimic_printer.specs.Sink.{Put, shown};
+    ghost use Rattle.mimic_expect.specs.KnownText.{StaysSink, StoppedBy, known_text};
 
-    ghost takes = { λ old rows new. (new.sink.ghost_name ≡ old.sink.ghost_name) × HasFaultLeft new.sink.now
+    ghost takes = { λ old rows new. StaysSink old.sink new.sink
         × Put (shown W.contents old.sink.now) (shown W.contents new.sink.now) (known_text rows) };
 
     ghost stops = { λ old rows fault new. (new.sink.ghost_name ≡ old.sink.ghost_name)

@@ -3,7 +3,7 @@ ghost use Rattle.std.specs.Prelude.{◌≡◌};
 ghost use Rattle.mimic_printer.specs.Piece.{first_line};
 ghost use Rattle.mimic_printer.specs.Sink.{Adds};
 ghost use Rattle.mimic_events.specs.Contents.{entry_read, label_read};
-ghost use Rattle.mimic_expect.specs.FindingText.{announced_text, colon, failure_text, finding_text, message_in, place_text, row_line, running_text, trial_line, trial_text};
+ghost use Rattle.mimic_expect.specs.FindingText.{announced_text, colon, finding_text, message_in, place_text, row_line, running_text, trial_line, trial_text};
 ghost use Rattle.mimic_expect.specs.JudgementText.{finding_read};
 
 use crate::judgement::Unexpected;
@@ -23,19 +23,19 @@ impl Unexpected<'_> {
         match self {
             Unexpected::Failed(row) => {
                 sink.add(b"failed: ");
-                add_failure(sink, lines, row);
+                add_trial(sink, lines, row, message_in(row));
             }
             Unexpected::AnotherMessage { expectation, row } => {
                 add_place(sink, "another message, line ", expectation.line);
-                add_failure(sink, lines, row);
+                add_trial(sink, lines, row, message_in(row));
             }
             Unexpected::Passed(expectation) => {
                 add_place(sink, "passed, line ", expectation.line);
-                add_trial(sink, lines, &expectation.row);
+                add_trial(sink, lines, &expectation.row, "");
             }
             Unexpected::Absent(expectation) => {
                 add_place(sink, "absent, line ", expectation.line);
-                add_trial(sink, lines, &expectation.row);
+                add_trial(sink, lines, &expectation.row, "");
             }
         }
     }
@@ -76,28 +76,14 @@ fn add_place<'a, W: Write>(sink: &mut Sink<W>, words: &'a str, line: usize)
     add_pieces(sink, &pieces);
 }
 
-// Adds a failed trial, with its message.
-fn add_failure<W: Write>(sink: &mut Sink<W>, lines: Lines, row: &Row)
-    ensures { Adds W.contents sink.old sink.new (failure_text lines (entry_read row.now)) }
+// Adds a trial, and for people this message. In JSON its own message is there, whatever this one is.
+fn add_trial<'a, W: Write>(sink: &mut Sink<W>, lines: Lines, row: &Row, message: &'a str)
+    ensures { Adds W.contents sink.old sink.new
+        (trial_text lines (entry_read row.now) message.now) }
 {
     match lines {
         Lines::Json => add_row(sink, row),
-        Lines::Readable => add_trial_line(
-            sink,
-            row.kind.as_str(),
-            row.name.as_str(),
-            message_in(row),
-        ),
-    }
-}
-
-// Adds a trial whose message doesn't matter. In JSON it is there nevertheless.
-fn add_trial<W: Write>(sink: &mut Sink<W>, lines: Lines, row: &Row)
-    ensures { Adds W.contents sink.old sink.new (trial_text lines (entry_read row.now)) }
-{
-    match lines {
-        Lines::Json => add_row(sink, row),
-        Lines::Readable => add_trial_line(sink, row.kind.as_str(), row.name.as_str(), ""),
+        Lines::Readable => add_trial_line(sink, row.kind.as_str(), row.name.as_str(), message),
     }
 }
 

@@ -1,5 +1,5 @@
 //! Brings files of known failures up to date.
-ghost use Rattle.std.specs.Prelude.{◌≡◌, ◌∷◌, [], ◌++◌, ℕ, IfOk, List, filter, map};
+ghost use Rattle.std.specs.Prelude.{◌≡◌, ◌∷◌, [], ◌++◌, IfOk, List, filter, map};
 ghost use Rattle.std.specs.List.{AllZip, flat_map, list_all};
 ghost use Rattle.std.specs.Option.{option_copied, option_map};
 ghost use Rattle.mimic_printer.specs.Sink.{Adds, HasFaultLeft, shown};
@@ -8,13 +8,13 @@ ghost use Rattle.mimic_expect.specs.Changes.{HasChanges, read_at};
 ghost use Rattle.mimic_expect.specs.Expect.{counts};
 ghost use Rattle.mimic_expect.specs.JudgedRows.{Keeps};
 ghost use Rattle.mimic_expect.specs.JudgementText.{finding_read};
-ghost use Rattle.mimic_expect.specs.Known.{expected_read, lines_of, says_nothing};
+ghost use Rattle.mimic_expect.specs.Known.{expected_read, lines_of};
 ghost use Rattle.mimic_expect.specs.Updated.{line_of, replaced_by, LeavesUpdate, UpdateLaws, added_line, kept_line, kept_lines, update_text};
 ghost use Rattle.mimic_expect.specs.Verdict.{ends_of, rows_of};
 
 use crate::judge::Judge;
 use crate::judgement::Unexpected;
-use crate::known::{Expectation, first_line};
+use crate::known::{Expectation, first_line, says_nothing, without_end};
 use crate::unexpected::add_row;
 use crate::verdict::have_all;
 use mimic_events::{Ending, read_into};
@@ -158,13 +158,6 @@ fn add_kept<'a, W: Write>(sink: &mut Sink<W>, text: &[u8], changes: &HashMap<usi
     }
 }
 
-// Returns the line without its end.
-fn without_end(line: &[u8]) -> &[u8]
-    ensures { (front : List ℕ) → line.now ≡ front ++ 10 ∷ [] → result.now ≡ front }
-{
-    &line[..line.len().saturating_sub(1)]
-}
-
 // Adds what becomes of a line, by what was found about it. It has no end, and gets one.
 fn add_kept_line<'a, W: Write>(sink: &mut Sink<W>, line: &[u8], found: Option<&Unexpected<'a>>)
     ensures { Adds W.contents sink.old sink.new
@@ -183,13 +176,6 @@ fn add_line<W: Write>(sink: &mut Sink<W>, line: &[u8])
 {
     sink.add(line);
     sink.add(b"\n");
-}
-
-// Whether the line, which has no end, is empty or a comment.
-fn says_nothing(line: &[u8]) -> bool
-    ensures { result ≡ says_nothing line.now }
-{
-    matches!(line, [] | [b'#', ..])
 }
 
 // Adds what replaces a line about which this was found.

@@ -1,11 +1,11 @@
 use Rattle.std.proofs.Common.{◌∙◌, [], ap, append-nil, map, subst, sym}
-use Rattle.mimic_printer.specs.Sink.{Put, Stopped}
+use Rattle.mimic_printer.specs.Sink.{Put, Stopped, shown}
 use Rattle.mimic_printer.proofs.Adding.{adds_last, puts_added}
 use Rattle.mimic_printer.proofs.Appending.{Put-Stopped, Put-refl, Put-trans}
 use Rattle.mimic_expect.specs.Known.{expected_read}
-use Rattle.mimic_expect.specs.JudgedRows.{Judged}
+use Rattle.mimic_expect.specs.JudgedRows.{Judged, Judges}
 use Rattle.mimic_expect.specs.Verdict.{have_all, rows_of}
-use Rattle.mimic_expect.proofs.Judged.{inputs_read, lines_put, none_read}
+use Rattle.mimic_expect.proofs.Judged.{inputs_read, none_read}
 use Rattle.mimic_expect.proofs.Verdicts.{memory_left, rest_counts, rows_left_by, says_of, some_counts, whole_text, write_left}
 use Rattle.mimic_expect.proofs.inputs.write_unexpected.Goals as goal
 use Rattle.mimic_expect.proofs.inputs.write_unexpected.Goals.{then-failed-gt0, else-failed-gt0}
@@ -28,25 +28,26 @@ returns-in_err-judgement-clause-verdict g c =
     memory_left g.I.Read.remaining known inputs c.args.options _ _ c.from_residual-in_err-judgement.result (rows_of came.0)
     c.from_residual-in_err-judgement.ensures.1
     (inputs_read g.I.Read.remaining inputs inputs [] came.0 (sym (append-nil inputs)) came.1)
-    (lines_put known c.in_ok-judge.judge c.judge_inputs.new.judge (rows_of came.0) c.in_ok-failed.failed _ _ c.in_ok-judge.ensures came.3)
+    (subst (λ (j : Judged). Judges c.args.options.lines j c.judge_inputs.new.judge (rows_of came.0) c.in_ok-failed.failed (shown g.W.Write.contents c.args.sink.now) (shown g.W.Write.contents c.judge_inputs.new.sink)) c.in_ok-judge.ensures came.3).put
 
 pub returns-in_err-end-clause-verdict : goal.returns-in_err-end-clause-verdict
 returns-in_err-end-clause-verdict g c =
     let known = map expected_read c.args.known.now in
     let came = c.in_ok-failed.ensures in
-    let whole = whole_text known c.in_ok-judge.judge c.judge_inputs.new.judge came.0 _ _ c.in_ok-failed.ends.items _ c.in_ok-failed.failed c.in_ok-judgement.judgement c.args.options.lines _ _
-    c.in_ok-judge.ensures came.3 c.have_all.ensures c.deref.ensures.value c.deref-2.ensures.value came.2 c.in_ok-judgement.ensures.unexpected c.in_ok-judgement.ensures.met in
+    let judged = subst (λ (j : Judged). Judges c.args.options.lines j c.judge_inputs.new.judge (rows_of came.0) c.in_ok-failed.failed (shown g.W.Write.contents c.args.sink.now) (shown g.W.Write.contents c.judge_inputs.new.sink)) c.in_ok-judge.ensures came.3 in
+    let whole = whole_text known c.judge_inputs.new.judge came.0 _ _ c.in_ok-failed.ends.items _ c.in_ok-failed.failed c.in_ok-judgement.judgement c.args.options.lines _ _
+    judged c.have_all.ensures c.deref.ensures.value c.deref-2.ensures.value came.2 c.in_ok-judgement.ensures.unexpected c.in_ok-judgement.ensures.met in
     let put = puts_added _ _ (adds_last _ c.add_judgement.ensures c.add_flush.ensures) c.in_err-end.ensures in
     write_left g.I.Read.remaining known c.args.inputs.items c.args.options _ _ c.from_residual-in_err-end.result c.in_err-end.field-0.0 came.0
-    c.from_residual-in_err-end.ensures.1 came.1 (subst (Stopped _ _) whole.1 (Put-Stopped _ _ whole.0 put))
+    c.from_residual-in_err-end.ensures.1 came.1 (subst (Stopped _ _) whole (Put-Stopped _ _ judged.put put))
 
 pub returns-clause-verdict : goal.returns-clause-verdict
 returns-clause-verdict g c =
     let known = map expected_read c.args.known.now in
     let came = c.in_ok-failed.ensures in
-    let whole = whole_text known c.in_ok-judge.judge c.judge_inputs.new.judge came.0 _ _ c.in_ok-failed.ends.items _ c.in_ok-failed.failed c.in_ok-judgement.judgement c.args.options.lines _ _
-    c.in_ok-judge.ensures came.3 c.have_all.ensures c.deref.ensures.value c.deref-2.ensures.value came.2 c.in_ok-judgement.ensures.unexpected c.in_ok-judgement.ensures.met in
-    let begun = c.in_ok-judge.ensures in
+    let judged = subst (λ (j : Judged). Judges c.args.options.lines j c.judge_inputs.new.judge (rows_of came.0) c.in_ok-failed.failed (shown g.W.Write.contents c.args.sink.now) (shown g.W.Write.contents c.judge_inputs.new.sink)) c.in_ok-judge.ensures came.3 in
+    let whole = whole_text known c.judge_inputs.new.judge came.0 _ _ c.in_ok-failed.ends.items _ c.in_ok-failed.failed c.in_ok-judgement.judgement c.args.options.lines _ _
+    judged c.have_all.ensures c.deref.ensures.value c.deref-2.ensures.value came.2 c.in_ok-judgement.ensures.unexpected c.in_ok-judgement.ensures.met in
     let failed = c.in_ok-failed.failed in
     let rows = rows_of came.0 in
     let judgement = c.in_ok-judgement.judgement in
@@ -57,9 +58,9 @@ returns-clause-verdict g c =
       read = came.0;
       each = came.1;
       ends = came.2;
-      put = subst (Put _ _) whole.1 (Put-trans _ _ whole.0 put);
+      put = subst (Put _ _) whole (Put-trans _ _ judged.put put);
       unexpected = elim c.if-failed-gt0.branch [
-        | then-failed-gt0 w ↦ w.result-is ∙ some_counts known c.in_ok-judge.judge new rows (have_all came.0) failed judgement begun came.3 says c.args.options.lax w.if-failed-gt0.true
-        | else-failed-gt0 w ↦ w.result-is ∙ rest_counts known c.in_ok-judge.judge new rows (have_all came.0) failed judgement begun came.3 says c.args.options.lax w.is_unexpected.result w.if-failed-gt0.false w.is_unexpected.ensures
+        | then-failed-gt0 w ↦ w.result-is ∙ some_counts known new rows (have_all came.0) failed judgement judged says c.args.options.lax w.if-failed-gt0.true
+        | else-failed-gt0 w ↦ w.result-is ∙ rest_counts known new rows (have_all came.0) failed judgement judged says c.args.options.lax w.is_unexpected.result w.if-failed-gt0.false w.is_unexpected.ensures
       ];
     }

@@ -1,5 +1,6 @@
 use Rattle.std.proofs.Common.{◌≡◌, ◌++◌, ◌∷◌, [], length, length-append, arith, ap, ◌∙◌}
-use Rattle.mimic_expect.proofs.KnownLines.{line_off, on_error, one_line, read_last, read_more, wrong}
+use Rattle.mimic_events.proofs.Results.{on_error}
+use Rattle.mimic_expect.proofs.KnownLines.{line_off, one_line, read_last, read_more, wrong}
 use Rattle.mimic_expect.proofs.known.read_known.Goals as goal
 
 pub returns-in_err-add_line : goal.returns-in_err-add_line

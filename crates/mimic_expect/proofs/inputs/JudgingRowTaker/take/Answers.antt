@@ -15,12 +15,12 @@ returns-in_err-end g c start entries taken =
     let added = subst (Adds _ _ _) (one_line j.lines j.judge.now.known (entry_read c.args.row) (entry_read c.in-Some.unknown) row.2) c.add_to.ensures in
     let put = puts_added _ _ added c.in_err-end.ensures in
     on_error _ fault _ _ c.from_residual-in_err-end.ensures.1
-    (taken.0, taken.2, lines_then _ _ entries (entry_read c.args.row ∷ []) _ _ _ _ fault taken.4 (rw taken.1 at put))
+    (taken.0, taken.2.0, lines_then _ _ entries (entry_read c.args.row ∷ []) _ _ _ _ fault taken.3 (rw taken.1 at put))
 
 pub overflow_add-self : goal.overflow_add-self
 overflow_add-self g c =
     let taken = c.requires in
-    omega (arith, room taken.1 _ _ _ _ _ taken.3 taken.2.4)
+    omega (arith, room taken.1 _ _ _ _ _ taken.3 taken.2.3)
 
 pub returns : goal.returns
 returns g c start entries taken =
@@ -30,8 +30,7 @@ returns g c start entries taken =
     let put = puts_added _ _ added c.in_ok-end.ensures in (
       taken.0,
       taken.1,
-      taken.2,
-      omega (arith, put.faults, taken.3),
-      judges_then _ _ _ entries (entry_read c.args.row ∷ []) _ 1 _ _ _ taken.4
+      (taken.2.0, omega (arith, put.faults, taken.2.1)),
+      judges_then _ _ _ entries (entry_read c.args.row ∷ []) _ 1 _ _ _ taken.3
           (record { known = row.0; kept = row.1; counted = ap length row.2; put = rw taken.1 at put }),
     )

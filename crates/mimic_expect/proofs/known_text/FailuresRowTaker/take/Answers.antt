@@ -13,4 +13,4 @@ returns-in_err-end g c start entries taken =
     let row = entry_read c.args.row in
     let added = subst (Adds _ _ _) (one_known row (ap is_failed c.in-Failed.is)) c.add_row.ensures in
     on_error _ (Write c.in_err-end.field-0.0) _ _ c.from_residual.ensures.1
-    (taken.0, known_stopped _ _ _ entries (row ∷ []) taken.2 (puts_added _ _ added c.in_err-end.ensures))
+    (taken.0.0, known_stopped _ _ _ entries (row ∷ []) taken.1 (puts_added _ _ added c.in_err-end.ensures))
