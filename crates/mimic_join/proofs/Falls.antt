@@ -1,136 +1,142 @@
--- Lists whose lengths fall by at most one, and no others, are the shards of a list.
-use Rattle.std.proofs.Common.{◌≡◌, ℕ, zero, suc, ◌+◌, ◌%◌, ◌<◌, ◌≤◌, List, [], ◌∷◌, ◌++◌, map, length, length-append, get_or, refl, sym, ap, ap₂, subst, ◌∙◌, arith}
-use Rattle.std.specs.Prelude.{All, AllPairs}
-use Rattle.std.specs.List.{range_with_len}
-use Rattle.std.proofs.lemmas.List.{get_or-map, get_or_append_left, get_or_push, length-map}
-use Rattle.std.proofs.lemmas.List.FromFn.{get_or-map-range_with_len, length-map-range_with_len, length-range_with_len}
+-- Numbers that fall by at most one, and no others, are those of the items in the shards of a list.
+use Rattle.std.proofs.Common.{◌≡◌, ℕ, zero, suc, ◌+◌, ◌%◌, ◌<◌, ◌≤◌, List, [], ◌∷◌, ◌++◌, map, take, length, length-append, get_or, refl, sym, ap, subst, ◌∙◌, arith}
+use Rattle.std.specs.Prelude.{◌↔◌, AllPairs}
+use Rattle.std.specs.List.{range_with_len, sum_by}
+use Rattle.std.proofs.Math.Seq.{get_or-append_seam, take-append_seam}
+use Rattle.std.proofs.lemmas.List.{get_or-map, get_or-take, length-map, length-take-le, map-append}
+use Rattle.std.proofs.lemmas.List.Elements.{All-cons, All-from_get_or}
+use Rattle.std.proofs.lemmas.List.FromFn.{fill_by_all, get_or-map-range_with_len, length-map-range_with_len, length-range_with_len}
 use Rattle.std.proofs.lemmas.List.Kept.{AllPairs-cons}
 use Rattle.std.proofs.lemmas.List.Quantifiers.{all_pairs_push}
+use Rattle.std.proofs.lemmas.List.Sums.{get_or-le-sum_by, sum_by-cons, sum_by-le, sum_by_push}
 use Rattle.std.proofs.lemmas.Simd.{map-map}
 use Rattle.mimic_trial.specs.Shard.{shard_from, shard_of}
-use Rattle.mimic_join.specs.Turns.{in_turn}
-use Rattle.mimic_join.proofs.Turns.{from_first, one_step, shards_from, turn}
+use Rattle.mimic_events.specs.declared.report.Report.{Report}
+use Rattle.mimic_join.specs.Joined.{FallsAreShards, FallsByOne, trials_in}
+use Rattle.mimic_join.proofs.Turns.{from_first, one_step, shards_from}
 
-module _ {X : Type 0} where
-  -- the later list is as long as the earlier one, or one shorter
-  pub record Falls (a b : List X) : Type 0 where
-    pub no_rise : length b ≤ length a
-    pub one : length a ≤ length b + 1
+-- the later number is as great as the earlier one, or one less
+record Falls (a b : ℕ) : Type 0 where
+  no_rise : b ≤ a
+  one : a ≤ b + 1
 
-  -- ---- shards fall
+abbrev size : List ℕ → ℕ
+size xs = length xs
 
-  front_pairs : (init : List (List X)) (last : List X) → AllPairs Falls (init ++ last ∷ []) → AllPairs Falls init
-  front_pairs init last h i j d lt within =
-      rw (get_or_append_left init (last ∷ []) d i (omega (arith, lt, within)), get_or_append_left init (last ∷ []) d j within) at
-      (h i j d lt (omega (arith, within, length-append init (last ∷ []))))
+-- how many items are in each shard
+abbrev sizes : ℕ → ℕ → List ℕ → List ℕ
+sizes m place xs = map size (shards_from (suc m) place xs)
 
-  over_last : (init : List (List X)) (last : List X) → AllPairs Falls (init ++ last ∷ []) → All (λ (l : List X). Falls l last) init
-  over_last init last h k d within =
-      rw (get_or_append_left init (last ∷ []) d k within, get_or_push init last d (length init) refl) at
-      (h k (length init) d within (omega (arith, length-append init (last ∷ []))))
+length-sizes : (m place : ℕ) (xs : List ℕ) → length (sizes m place xs) ≡ suc m
+length-sizes m place xs = length-map (shards_from (suc m) place xs) size ∙ length-map-range_with_len _ 0 (suc m)
 
-  turned_back : (x : X) (init : List (List X)) (last : List X) → AllPairs Falls (init ++ last ∷ []) → AllPairs Falls ((x ∷ last) ∷ init)
-  turned_back x init last h =
-      AllPairs-cons Falls (x ∷ last) init
-      (λ k d within. omega (arith, over_last init last h k d within))
-      (front_pairs init last h)
+none : (m place : ℕ) → sizes m place [] ≡ map (λ k. 0) (range_with_len 0 (suc m))
+none m place = map-map size (λ j. shard_from (suc m) place ((place + j) % suc m) []) (range_with_len 0 (suc m))
 
-  abbrev nothing : ℕ → ℕ → ℕ → List X
-  nothing m place k = shard_from (suc m) place ((place + k) % suc m) []
+abbrev total : List ℕ → ℕ
+total ns = sum_by (λ n. n) ns
 
-  nothing_falls : (m place : ℕ) → AllPairs Falls (map (nothing m place) (range_with_len 0 (suc m)))
-  nothing_falls m place i j d lt within =
-      let n : length (map (nothing m place) (range_with_len 0 (suc m))) ≡ suc m = length-map-range_with_len (nothing m place) 0 (suc m) in
-      let a : get_or (map (nothing m place) (range_with_len 0 (suc m))) i d ≡ [] = get_or-map-range_with_len (nothing m place) 0 (suc m) i i d (omega (arith, lt, within, n)) (omega arith) in
-      let b : get_or (map (nothing m place) (range_with_len 0 (suc m))) j d ≡ [] = get_or-map-range_with_len (nothing m place) 0 (suc m) j j d (omega (arith, within, n)) (omega arith) in
-      omega (arith, ap length a, ap length b)
+-- ---- one more item: the number at the place goes up by one, and comes before the others
 
-  pub shards_fall : (m place : ℕ) (xs : List X) → AllPairs Falls (shards_from (suc m) place xs)
-  shards_fall m place [] = nothing_falls m place
-  shards_fall m place (x ∷ xs) =
-      let s = one_step m place x xs in
-      subst (AllPairs Falls) (sym s.1.1.0) (turned_back x s.0 s.1.0 (subst (AllPairs Falls) s.1.1.1 (shards_fall m (place + 1) xs)))
+abbrev raised : ℕ → List ℕ → List ℕ
+raised m ns = suc (get_or ns m 0) ∷ take m ns
 
-  -- ---- what falls is of shards
+raised_last : (m : ℕ) (ns : List ℕ) (n : ℕ) → length ns ≡ m → raised m (ns ++ n ∷ []) ≡ suc n ∷ ns
+raised_last m ns n e = rw (← e, get_or-append_seam, take-append_seam) refl
 
-  no_more : (a : ℕ) (xss : List (List X)) → All (λ (l : List X). length l ≡ 0) xss → (in_turn xss ≡ []) × (map (λ (j : ℕ). []) (range_with_len a (length xss)) ≡ xss)
-  no_more a [] h = (refl, refl)
-  no_more a ([] ∷ xss) h = let rest = no_more (a + 1) xss (λ k d lt. h (suc k) d (omega (arith, lt))) in (rest.0, ap (λ l. [] ∷ l) rest.1)
-  no_more a ((x ∷ xs) ∷ xss) h = absurd (omega (arith, h 0 [] (omega arith)))
+one_more : (m place : ℕ) (x : ℕ) (xs : List ℕ) → sizes m place (x ∷ xs) ≡ raised m (sizes m (place + 1) xs)
+one_more m place x xs =
+    let s = one_step m place x xs in
+    let turned : sizes m (place + 1) xs ≡ map size s.0 ++ size s.1.0 ∷ [] =
+    ap (map size) s.1.1.1 ∙ map-append size s.0 (s.1.0 ∷ []) in
+    let n : length (map size s.0) ≡ m =
+    omega (arith, ap length turned, length-append (map size s.0) (size s.1.0 ∷ []), length-sizes m (place + 1) xs) in
+    ap (map size) s.1.1.0 ∙ sym (ap (raised m) turned ∙ raised_last m (map size s.0) (size s.1.0) n)
 
-  last_same : (xs ys : List (List X)) (x y : List X) → xs ++ x ∷ [] ≡ ys ++ y ∷ [] → (xs ≡ ys) × (x ≡ y)
-  last_same [] [] x y e = (refl, cc)
-  last_same [] (b ∷ ys) x y e = absurd (omega (arith, ap length e, length-append ys (y ∷ [])))
-  last_same (a ∷ xs) [] x y e = absurd (omega (arith, ap length e, length-append xs (x ∷ [])))
-  last_same (a ∷ xs) (b ∷ ys) x y e =
-      let head : a ≡ b = cc in let tail : xs ++ x ∷ [] ≡ ys ++ y ∷ [] = cc in let rest = last_same xs ys x y tail in (ap₂ (λ u l. u ∷ l) head rest.0, rest.1)
+-- ---- numbers of shards fall
 
-  behind_falls : (x : X) (l : List X) (rest : List (List X)) → AllPairs Falls ((x ∷ l) ∷ rest) → AllPairs Falls (rest ++ l ∷ [])
-  behind_falls x l rest h =
-      all_pairs_push Falls rest l (λ i j d lt within. h (suc i) (suc j) d (omega (arith, lt)) (omega (arith, within)))
-      (λ k d within. omega (arith, h 0 (suc k) d (omega arith) (omega (arith, within))))
+raised_falls : (m : ℕ) (ns : List ℕ) → length ns ≡ suc m → AllPairs Falls ns → AllPairs Falls (raised m ns)
+raised_falls m ns n h =
+    let few : length (take m ns) ≡ m = length-take-le m ns (omega (arith, n)) in
+    AllPairs-cons Falls (suc (get_or ns m 0)) (take m ns)
+    (All-from_get_or (Falls (suc (get_or ns m 0))) (take m ns) 0
+    (λ k lt. omega (arith, get_or-take m ns k 0 (omega (arith, lt, few)), h k m 0 (omega (arith, lt, few)) (omega (arith, n)))))
+    (λ i j d lt within. omega (
+      arith,
+      get_or-take m ns i d (omega (arith, lt, within, few)),
+      get_or-take m ns j d (omega (arith, within, few)),
+      h i j d lt (omega (arith, within, few, n)),
+    ))
 
-  all_none : (rest : List (List X)) → AllPairs Falls ([] ∷ rest) → All (λ (l : List X). length l ≡ 0) ([] ∷ rest)
-  all_none rest h zero d lt = refl
-  all_none rest h (suc k) d lt = omega (arith, h 0 (suc k) d (omega arith) lt)
+sizes_fall : (m place : ℕ) (xs : List ℕ) → AllPairs Falls (sizes m place xs)
+sizes_fall m place [] = subst (AllPairs Falls) (sym (none m place)) (λ i j d lt within.
+    let n = length-map-range_with_len {X = ℕ} (λ k. 0) 0 (suc m) in
+    let at = get_or-map-range_with_len {X = ℕ} (λ k. 0) 0 (suc m) in
+    omega (arith, at i i d (omega (arith, lt, within, n)) (omega arith), at j j d (omega (arith, within, n)) (omega arith)))
+sizes_fall m place (x ∷ xs) =
+    subst (AllPairs Falls) (sym (one_more m place x xs))
+    (raised_falls m _ (length-sizes m (place + 1) xs) (sizes_fall m (place + 1) xs))
 
-  pub falls_shard : (k m place : ℕ) (xss : List (List X)) → length xss ≡ suc m → AllPairs Falls xss → length (in_turn xss) ≡ k → shards_from (suc m) place (in_turn xss) ≡ xss
-  falls_shard k m place [] n h e = absurd (omega (arith, n))
-  falls_shard k m place ([] ∷ rest) n h e =
-      let none = no_more 0 ([] ∷ rest) (all_none rest h) in
-      ap (shards_from (suc m) place) none.0 ∙ (ap (λ i. map (λ (j : ℕ). []) (range_with_len 0 i)) (sym n) ∙ none.1)
-  falls_shard zero m place ((x ∷ l) ∷ rest) n h e = absurd (omega (arith, e, ap length (turn x l rest)))
-  falls_shard (suc k) m place ((x ∷ l) ∷ rest) n h e =
-      let t : in_turn ((x ∷ l) ∷ rest) ≡ x ∷ in_turn (rest ++ l ∷ []) = turn x l rest in
-      let ih = falls_shard k m (place + 1) (rest ++ l ∷ []) (length-append rest (l ∷ []) ∙ (omega (arith, n))) (behind_falls x l rest h) (omega (arith, e, ap length t)) in
-      let s = one_step m place x (in_turn (rest ++ l ∷ [])) in
-      let same = last_same s.0 rest s.1.0 l (sym s.1.1.1 ∙ ih) in
-      ap (shards_from (suc m) place) t ∙ (s.1.1.0 ∙ ap₂ (λ u ls. (x ∷ u) ∷ ls) same.1 same.0)
+-- ---- numbers that fall are of shards
 
--- ---- numbers
+first_last : (k : ℕ) (ns : List ℕ) → AllPairs Falls (suc k ∷ ns) → AllPairs Falls (ns ++ k ∷ [])
+first_last k ns h =
+    all_pairs_push Falls ns k (λ i j d lt within. h (suc i) (suc j) d (omega (arith, lt)) (omega (arith, within)))
+    (λ i d within. omega (arith, h 0 (suc i) d (omega arith) (omega (arith, within))))
 
-abbrev pub shard_lengths : ℕ → List ℕ → List ℕ
-shard_lengths count xs = map (λ index. length (shard_of count index xs)) (range_with_len 0 count)
+are_sizes : (m place : ℕ) (xs ns : List ℕ) → length ns ≡ suc m → AllPairs Falls ns → total ns ≡ length xs → sizes m place xs ≡ ns
+are_sizes m place [] ns n h s =
+    none m place ∙ sym (fill_by_all (λ j. 0) ns (suc m) 0 n
+    (λ k lt. omega (arith, s, get_or-le-sum_by (λ i. i) ns k 0 (omega (arith, lt, n)))))
+are_sizes m place (x ∷ xs) [] n h s = absurd (omega (arith, n))
+are_sizes m place (x ∷ xs) (zero ∷ ns) n h s =
+    let low = sum_by-le (λ i. i) 0 (zero ∷ ns) (All-cons (λ i. i ≤ 0) zero ns (omega arith)
+    (λ k d lt. (h 0 (suc k) d (omega arith) (omega (arith, lt))).no_rise)) in
+    absurd (omega (arith, s, low))
+are_sizes m place (x ∷ xs) (suc k ∷ ns) n h s =
+    let rest = are_sizes m (place + 1) xs (ns ++ k ∷ []) (omega (arith, n, length-append ns (k ∷ []))) (first_last k ns h)
+    (omega (arith, s, sum_by_push (λ i. i) ns k, sum_by-cons (λ i. i) (suc k) ns)) in
+    one_more m place x xs ∙ (ap (raised m) rest ∙ raised_last m ns k (omega (arith, n)))
 
-module _ {Y : Type 0} (size : Y → ℕ) where
-  -- the later one is of the same size, or of one less
-  pub record SizesFall (a b : Y) : Type 0 where
-    pub no_rise : size b ≤ size a
-    pub one : size a ≤ size b + 1
+-- ---- the numbers of reports
 
-  abbrev pub lists_of : List Y → List (List ℕ)
-  lists_of ys = map (λ y. range_with_len 0 (size y)) ys
+of_shards : (m : ℕ) (xs : List ℕ) → map (λ index. length (shard_of (suc m) index xs)) (range_with_len 0 (suc m)) ≡ sizes m 0 xs
+of_shards m xs =
+    sym (map-map size (λ index. shard_of (suc m) index xs) (range_with_len 0 (suc m))) ∙ ap (map size) (from_first (suc m) xs)
 
-  lengths : (ys : List Y) → map (λ (l : List ℕ). length l) (lists_of ys) ≡ map size ys
-  lengths [] = refl
-  lengths (y ∷ ys) = ap₂ (λ n l. n ∷ l) (length-range_with_len 0 (size y)) (lengths ys)
+trials_at : (reports : List Report) (i : ℕ) (r : Report) (d : ℕ) → i < length (map trials_in reports)
+    → get_or (map trials_in reports) i d ≡ trials_in (get_or reports i r)
+trials_at reports i r d within = get_or-map trials_in reports i r d (omega (arith, within, length-map reports trials_in))
 
-  lists_fall : (ys : List Y) → AllPairs SizesFall ys → AllPairs Falls (lists_of ys)
-  lists_fall [] h i j d lt within = absurd (omega (arith, within))
-  lists_fall (y ∷ ys) h i j d lt within =
-      let f : Y → List ℕ = λ x. range_with_len 0 (size x) in
-      let n : length (map f (y ∷ ys)) ≡ length (y ∷ ys) = length-map (y ∷ ys) f in
-      let p = h i j y lt (omega (arith, within, n)) in
-      let a : length (get_or (map f (y ∷ ys)) i d) ≡ size (get_or (y ∷ ys) i y) = ap length (get_or-map f (y ∷ ys) i y d (omega (arith, lt, within, n))) ∙ length-range_with_len 0 (size (get_or (y ∷ ys) i y)) in
-      let b : length (get_or (map f (y ∷ ys)) j d) ≡ size (get_or (y ∷ ys) j y) = ap length (get_or-map f (y ∷ ys) j y d (omega (arith, within, n))) ∙ length-range_with_len 0 (size (get_or (y ∷ ys) j y)) in
-      omega (arith, a, b, p)
+of_count : (count : ℕ) (reports : List Report) → length reports ≡ count → 0 < count
+    → AllPairs FallsByOne reports ↔ ((xs : List ℕ)
+    × (map trials_in reports ≡ map (λ index. length (shard_of count index xs)) (range_with_len 0 count)))
+of_count zero reports e some = absurd (omega (arith, some))
+of_count (suc m) [] e some = absurd (omega (arith, e))
+of_count (suc m) (r ∷ rs) e some =
+    let reports : List Report = r ∷ rs in
+    let ns : List ℕ = map trials_in reports in
+    let n : length ns ≡ suc m = length-map reports trials_in ∙ e in (
+      λ h. (
+        range_with_len 0 (total ns),
+        sym (of_shards m (range_with_len 0 (total ns)) ∙ are_sizes m 0 (range_with_len 0 (total ns)) ns n
+            (λ i j d lt within. omega (
+              arith,
+              trials_at reports i r d (omega (arith, lt, within)),
+              trials_at reports j r d within,
+              h i j r lt (omega (arith, within, n, e)),
+            ))
+            (sym (length-range_with_len 0 (total ns)))),
+      ),
+      λ p. λ i j d lt within.
+          let h = subst (AllPairs Falls) (sym (p.1 ∙ of_shards m p.0)) (sizes_fall m 0 p.0) in
+          omega (
+            arith,
+            trials_at reports i d 0 (omega (arith, lt, within, n, e)),
+            trials_at reports j d 0 (omega (arith, within, n, e)),
+            h i j 0 lt (omega (arith, within, n, e)),
+          ),
+    )
 
-  pub are_shards : (m : ℕ) (ys : List Y) → length ys ≡ suc m → AllPairs SizesFall ys → map size ys ≡ shard_lengths (suc m) (in_turn (lists_of ys))
-  are_shards m ys n h =
-      let xs : List ℕ = in_turn (lists_of ys) in
-      let shards : shards_from (suc m) 0 xs ≡ lists_of ys = falls_shard (length xs) m 0 (lists_of ys) (length-map ys (λ y. range_with_len 0 (size y)) ∙ n) (lists_fall ys h) refl in
-      sym (sym (map-map (λ (l : List ℕ). length l) (λ index. shard_of (suc m) index xs) (range_with_len 0 (suc m))) ∙ (ap (map (λ (l : List ℕ). length l)) (from_first (suc m) xs ∙ shards) ∙ lengths ys))
-
-  pub sizes_fall : (m : ℕ) (ys : List Y) (xs : List ℕ) → length ys ≡ suc m → map size ys ≡ shard_lengths (suc m) xs → AllPairs SizesFall ys
-  sizes_fall m ys xs n e i j d lt within =
-      let shard : ℕ → List ℕ = λ index. shard_of (suc m) index xs in
-      let all : AllPairs Falls (map shard (range_with_len 0 (suc m))) = subst (AllPairs Falls) (sym (from_first (suc m) xs)) (shards_fall m 0 xs) in
-      let k : length (map shard (range_with_len 0 (suc m))) ≡ suc m = length-map-range_with_len shard 0 (suc m) in
-      let p = all i j [] lt (omega (arith, within, n, k)) in
-      let at : (u : ℕ) → u < suc m → size (get_or ys u d) ≡ length (get_or (map shard (range_with_len 0 (suc m))) u []) = λ u low.
-      sym (get_or-map size ys u d 0 (omega (arith, low, n))) ∙ (ap (λ l. get_or l u 0) e
-      ∙ (get_or-map-range_with_len (λ index. length (shard index)) 0 (suc m) u u 0 low (omega arith)
-      ∙ ap length (sym (get_or-map-range_with_len shard 0 (suc m) u u [] low (omega arith))))) in
-      let a = at i (omega (arith, lt, within, n)) in
-      let b = at j (omega (arith, within, n)) in
-      omega (arith, a, b, p)
+pub falls_are_shards : FallsAreShards
+falls_are_shards reports some = of_count (length reports) reports refl some

@@ -1,6 +1,5 @@
 pub mod CutReports
 pub mod Falls
-pub mod Fitting
 pub mod JoinedText
 pub mod Joining
 pub mod Laws

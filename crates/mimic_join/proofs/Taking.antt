@@ -1,7 +1,8 @@
 -- Items are taken of lists in turn.
-use Rattle.std.proofs.Common.{◌≡◌, ◌∙◌, ℕ, suc, ◌+◌, ◌<◌, List, [], ◌∷◌, ◌++◌, Option, Some, None, Result, Ok, Err, ap, append_assoc, append-nil, arith, map, refl, sym}
+use Rattle.std.proofs.Common.{◌≡◌, ◌∙◌, ℕ, suc, ◌+◌, ◌<◌, List, [], ◌∷◌, ◌++◌, Option, Some, None, Result, Ok, Err, ap, append_assoc, append-nil, arith, map, refl, subst, sym}
 use Rattle.std.specs.List.{AllZip}
-use Rattle.std.proofs.lemmas.List.{map-append, map-id}
+use Rattle.std.proofs.lemmas.Iterator.{YieldsList}
+use Rattle.std.proofs.lemmas.List.{map-append}
 use Rattle.std.proofs.lemmas.List.Elements.{All-head, All-rest, All-same}
 use Rattle.std.specs.Iterator.{AlwaysYields, Count, IsFinite}
 use Rattle.std.specs.Global.{Vec}
@@ -89,22 +90,16 @@ module _ {I A X : Type 0} (steps : I → Option A → I → Type 0) (view : A �
   all_taken taken [] all each e = sym (append-nil (map view taken)) ∙ e
   all_taken taken (xs ∷ left) all each e = absurd each
 
-  -- ---- one more list
+module _ {I A X : Type 0} (steps : I → Option A → I → Type 0) (view : A → X) (rest : I → List X)
+    (yields : (list : I) → YieldsList steps view list (rest list)) where
+  each_yields : (lists : List I) → AllZip (AlwaysYields steps view) lists (map rest lists)
+  each_yields [] = tt
+  each_yields (list ∷ lists) = ((yields list).runs, each_yields lists)
 
-  pub more_lists : {R : Type 0} (rows : R → List X) (seen after : List R) (report : R)
-      (lists more : List I) (list : I) → after ≡ seen ++ report ∷ [] → more ≡ lists ++ list ∷ []
-      → AllZip (AlwaysYields steps view) lists (map rows seen) → AlwaysYields steps view list (rows report)
-      → AllZip (AlwaysYields steps view) more (map rows after)
-  more_lists rows seen after report lists more list e back each gives =
-      rw (back, e, map-append) (each_more (AlwaysYields steps view) lists (map rows seen) list (rows report) each gives)
-
-module _ {I X : Type 0} (steps : I → Option X → I → Type 0) where
-  -- the items themselves
-  pub items_taken : {E : Type 0} (result : Result (Vec X) E) (lists : List I) (all : List (List X))
-      → IfOk result (λ items. (view : X → X) (lists_in : List (List X))
-      → AllZip (AlwaysYields steps view) lists lists_in → map view items.items ≡ in_turn lists_in)
-      → AllZip (AlwaysYields steps (λ item. item)) lists all
-      → IfOk result (λ items. items.items ≡ in_turn all)
-  items_taken (Ok items) lists all h each =
-      sym (map-id items.items) ∙ h (λ item. item) all each
-  items_taken (Err fault) lists all h each = tt
+  -- iterators that show what is left were taken in turn
+  pub turned : {E : Type 0} (result : Result (Vec A) E) (lists : List I) (all : List (List X)) → map rest lists ≡ all
+      → IfOk result (λ items. (row_in : A → X) (lists_in : List (List X))
+      → AllZip (AlwaysYields steps row_in) lists lists_in → map row_in items.items ≡ in_turn lists_in)
+      → IfOk result (λ items. map view items.items ≡ in_turn all)
+  turned (Ok items) lists all e h = h view all (subst (AllZip (AlwaysYields steps view) lists) e (each_yields lists))
+  turned (Err fault) lists all e h = tt

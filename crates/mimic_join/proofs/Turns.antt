@@ -8,6 +8,7 @@ use Rattle.std.proofs.lemmas.List.FromFn.{map-range_with_len_more}
 use Rattle.std.proofs.lemmas.List.{map-id}
 use Rattle.std.proofs.lemmas.List.Concat.{flat_map-append, flat_map_single}
 use Rattle.std.proofs.lemmas.Nat.{mod_below}
+use Rattle.std.proofs.lemmas.Slice.Zip.{AllZip-long}
 use Rattle.std.proofs.Math.Nat.{add-mod_left, add-mod_right, mod-add-mod, mod-eq_of_lt}
 use Rattle.mimic_trial.specs.Shard.{shard_from, shard_of}
 use Rattle.mimic_join.specs.Turns.{before, rounds_of, in_turn, TurnsAreAll, ShardsInTurn}
@@ -156,9 +157,7 @@ module _ {A B : Type 0} (R : A → B → Type 0) where
   each-in_turn xss yss h = each-joined (rounds_of xss) (rounds_of yss) (each-rounds xss yss h)
 
   pub each-length : (xs : List A) (ys : List B) → AllZip R xs ys → length xs ≡ length ys
-  each-length [] [] h = refl
-  each-length (x ∷ xs) (y ∷ ys) h = ap (λ n. suc n) (each-length xs ys h.1)
-  each-length xs ys h = absurd h
+  each-length xs ys h = sym (AllZip-long R xs ys h)
 
 -- ---- parts of items, in turn
 

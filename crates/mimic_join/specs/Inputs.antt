@@ -59,21 +59,3 @@ Leaves inputs shards equal_names old new (Err (join.Refused refusal)) =
     AreRefused inputs shards equal_names refusal × (new ≡ old)
 Leaves inputs shards equal_names old new (Err (join.Write fault)) =
     (read : AreShards inputs shards equal_names) × Stopped old new (joined_text read.reports)
-
--- ---- what the private writer of joined reports promises. No public clause names these words
-
--- the reports can be those of the shards, and what was filtered out of all of them is below 2^64
-pub record CanBeJoined (shards : ℕ) (equal_names : Bool) (reports : List Report) : Type 0 where
-  pub fit : CanBeShards shards equal_names reports
-  pub sum : filtered_out_of reports < 2 ^ 64
-
--- what a join of these reports leaves
-abbrev pub LeavesJoined : List Report → ℕ → Bool → Shown → Shown → Result Conclusion JoinFault → Type 0
-LeavesJoined reports shards equal_names old new (Ok counts) = CanBeJoined shards equal_names reports
-    × Put old new (joined_text reports) × (counts ≡ conclusion_of (joined_contents reports))
-LeavesJoined reports shards equal_names old new (Err join.OutOfMemory) = new ≡ old
-LeavesJoined reports shards equal_names old new (Err (join.Input place why)) = ⊥
-LeavesJoined reports shards equal_names old new (Err (join.Refused refusal)) =
-    IsRefused shards equal_names reports refusal × (new ≡ old)
-LeavesJoined reports shards equal_names old new (Err (join.Write error)) =
-    CanBeJoined shards equal_names reports × Stopped old new (joined_text reports)

@@ -6,7 +6,7 @@ ghost use Rattle.mimic_printer.specs.Sink.{Adds, HasFaultLeft, shown};
 ghost use Rattle.mimic_join.specs.Cut.{AreReadOf, LeavesCut, are_whole, cut_text, ended_rows, title_in, titles_in, wholes_in};
 
 use crate::faults::JoinFault;
-use crate::inputs::write_joined;
+use crate::inputs::add_joined;
 use crate::order::ended_in_turn;
 use crate::write::add_rows;
 use mimic_events::{Ending, Report, Row, RowsRead, read_rows};
@@ -52,7 +52,11 @@ pub fn join_cut_reports<I: Read + Drop, O: Write>(
         return Ok(Joined::Cut(reads));
     }
     let reports = wholes_of(alloc, reads)?;
-    let counts = write_joined(alloc, &reports, shards, equal_names, sink)?;
+    let counts = match add_joined(alloc, &reports, shards, equal_names, sink)? {
+        Ok(counts) => counts,
+        Err(refusal) => return Err(JoinFault::Refused(refusal)),
+    };
+    sink.end()?;
     Ok(Joined::Whole(counts))
 }
 

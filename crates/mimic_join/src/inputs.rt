@@ -1,17 +1,19 @@
 //! Joins reports from readers into a writer.
-ghost use Rattle.std.specs.Prelude.{MatchResult, map};
-ghost use Rattle.mimic_printer.specs.Sink.{HasFaultLeft, shown};
-ghost use Rattle.mimic_join.specs.Inputs.{AreReportsIn, CannotRead, Leaves, LeavesJoined};
+ghost use Rattle.std.specs.Prelude.{◌≡◌, ◌<◌, ◌^◌, MatchResult, map};
+ghost use Rattle.mimic_printer.specs.Json.{conclusion_of};
+ghost use Rattle.mimic_printer.specs.Sink.{Adds, HasFaultLeft, shown};
+ghost use Rattle.mimic_join.specs.Inputs.{AreReportsIn, CannotRead, Leaves, joined_text};
+ghost use Rattle.mimic_join.specs.Joined.{CanBeShards, IsRefused, filtered_out_of, joined_contents};
 
 use crate::faults::JoinFault;
-use crate::join::totals_of;
+use crate::join::{Refusal, totals_of};
 use crate::order::refs_in_turn;
 use crate::write::{add_rows, counts_of_refs};
 use mimic_events::{Report, read_from};
 use mimic_printer::Sink;
 use mimic_printer::json::{add_summary, add_title};
 use mimic_trial::Conclusion;
-use std::alloc::Global;
+use std::alloc::{AllocError, Global};
 use std::io::{Read, Write};
 
 /// Reads the reports of `shards` shards, one reader after another, joins them as `joined` does, and writes the joined report in
@@ -30,24 +32,32 @@ pub fn join_reports<I: Read + Drop, O: Write>(
         (shown O.contents sink.old) (shown O.contents sink.new) result }
 {
     let reports = read_all(alloc, inputs)?;
-    write_joined(alloc, &reports, shards, equal_names, sink)
+    let counts = match add_joined(alloc, &reports, shards, equal_names, sink)? {
+        Ok(counts) => counts,
+        Err(refusal) => return Err(JoinFault::Refused(refusal)),
+    };
+    sink.end()?;
+    Ok(counts)
 }
 
-// Joins the reports as `joined` does, and writes the joined report, unless they can't be joined. Returns its counts.
-pub(crate) fn write_joined<W: Write>(
+// Joins the reports as `joined` does, and adds the joined report and a flush, unless they can't be joined. Returns its counts.
+pub(crate) fn add_joined<W: Write>(
     alloc: Global,
     reports: &[Report],
     shards: usize,
     equal_names: bool,
     sink: &mut Sink<W>,
-) -> Result<Conclusion, JoinFault>
-    requires { HasFaultLeft sink.old }
-    ensures { LeavesJoined reports.now shards equal_names
-        (shown W.contents sink.old) (shown W.contents sink.new) result }
+) -> Result<Result<Conclusion, Refusal>, AllocError>
+    ensures { MatchResult result (λ answer. MatchResult answer
+        (λ counts. CanBeShards shards equal_names reports.now × (filtered_out_of reports.now < 2 ^ 64)
+        × (counts ≡ conclusion_of (joined_contents reports.now))
+        × Adds W.contents sink.old sink.new (joined_text reports.now))
+        (λ refusal. IsRefused shards equal_names reports.now refusal × (sink.new ≡ sink.old)))
+        (λ _. sink.new ≡ sink.old) }
 {
     let (filtered_out, nanos) = match totals_of(alloc, reports, shards, equal_names)? {
         Ok(totals) => totals,
-        Err(refusal) => return Err(JoinFault::Refused(refusal)),
+        Err(refusal) => return Ok(Err(refusal)),
     };
     let rows = refs_in_turn(alloc, reports)?;
     let rows = rows.as_slice();
@@ -56,8 +66,7 @@ pub(crate) fn write_joined<W: Write>(
     add_rows(sink, rows);
     add_summary(sink, &counts, nanos);
     sink.add_flush();
-    sink.end()?;
-    Ok(counts)
+    Ok(Ok(counts))
 }
 
 // Reads the report of each reader.

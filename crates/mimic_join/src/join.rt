@@ -1,5 +1,5 @@
 //! The reports of shards as one.
-ghost use Rattle.std.specs.Prelude.{◌≡◌, IfOk, MatchOption, MatchResult, map};
+ghost use Rattle.std.specs.Prelude.{◌≡◌, IfOk, MatchResult, map};
 ghost use Rattle.mimic_join.specs.Joined.{CanBeShards, IsRefused, Joins, JoinLaws, filtered_out_of, greatest, time_of};
 
 use crate::names::named_twice;
@@ -70,37 +70,21 @@ pub(crate) fn totals_of(
         × (x.1 ≡ greatest (map time_of reports.now)))
         (IsRefused shards equal_names reports.now)) }
 {
-    if let Some(refusal) = refusal_of(alloc, reports, shards, equal_names)? {
-        return Ok(Err(refusal));
-    }
-    match totals(reports) {
-        Some(totals) => Ok(Ok(totals)),
-        None => Ok(Err(Refusal::TooMany)),
-    }
-}
-
-// Returns why the reports can't be those of `shards` shards of one list, and `None` if they can.
-fn refusal_of(
-    alloc: Global,
-    reports: &[Report],
-    shards: usize,
-    equal_names: bool,
-) -> Result<Option<Refusal>, AllocError>
-    ensures { IfOk result (λ found. MatchOption found (CanBeShards shards equal_names reports.now)
-        (IsRefused shards equal_names reports.now)) }
-{
     if reports.len() != shards {
         let reports = reports.len();
-        return Ok(Some(Refusal::Number { reports, shards }));
+        return Ok(Err(Refusal::Number { reports, shards }));
     }
     if let Some(place) = uneven(reports) {
-        return Ok(Some(Refusal::Uneven { place }));
+        return Ok(Err(Refusal::Uneven { place }));
     }
+    let Some(totals) = totals(reports) else {
+        return Ok(Err(Refusal::TooMany));
+    };
     if equal_names {
-        return Ok(None);
+        return Ok(Ok(totals));
     }
     match named_twice(alloc, reports)? {
-        Some((place, row)) => Ok(Some(Refusal::NamedTwice { place, row })),
-        None => Ok(None),
+        Some((place, row)) => Ok(Err(Refusal::NamedTwice { place, row })),
+        None => Ok(Ok(totals)),
     }
 }

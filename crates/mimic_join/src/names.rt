@@ -18,7 +18,12 @@ pub(crate) fn named_twice(
     ensures { IfOk result (λ found. MatchOption found (AllPairs HaveOwnNames reports.now)
         (λ at. IsNamedTwice reports.now at.0 at.1)) }
 {
-    let mut seen = HashSet::with_capacity(alloc, rows_of(reports))?;
+    // As many as can be counted.
+    let rows = reports.iter().fold(
+        0_usize,
+        |rows, report| rows.saturating_add(report.rows.len()),
+    );
+    let mut seen = HashSet::with_capacity(alloc, rows)?;
     for (place, report) in reports.iter().enumerate() {
         if let Some(row) = seen_row(&seen, &report.rows) {
             return Ok(Some((place, row)));
@@ -26,15 +31,6 @@ pub(crate) fn named_twice(
         add_names(&mut seen, &report.rows)?;
     }
     Ok(None)
-}
-
-// Returns how many rows the reports have, as far as they can be counted.
-fn rows_of(reports: &[Report]) -> usize {
-    let mut rows = 0_usize;
-    for report in reports {
-        rows = rows.saturating_add(report.rows.len());
-    }
-    rows
 }
 
 // Returns the place of the first row whose kind and name were seen.

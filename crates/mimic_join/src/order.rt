@@ -16,11 +16,8 @@ use std::collections::VecDeque;
 pub(crate) fn rows_in_turn(alloc: Global, reports: Vec<Report>) -> Result<Vec<Row>, AllocError>
     ensures { IfOk result (λ rows. rows.items ≡ in_turn (map rows_in reports.items)) }
 {
-    let mut lists = VecDeque::new(alloc);
-    for report in reports {
-        lists.push_back(report.rows.into_iter())?;
-    }
-    taken_in_turn(alloc, lists)
+    let lists = reports.into_iter().map(|report| report.rows.into_iter());
+    taken_in_turn(alloc, lists.collect(alloc)?)
 }
 
 // Returns the rows of the reports in turn. They stay where they are, so that no second list of them is kept.
@@ -28,11 +25,8 @@ pub(crate) fn refs_in_turn(alloc: Global, reports: &[Report]) -> Result<Vec<&Row
     ensures { IfOk result
         (λ rows. map (λ row. row.now) rows.items ≡ in_turn (map rows_in reports.now)) }
 {
-    let mut lists = VecDeque::new(alloc);
-    for report in reports {
-        lists.push_back(report.rows.iter())?;
-    }
-    taken_in_turn(alloc, lists)
+    let lists = reports.iter().map(|report| report.rows.iter());
+    taken_in_turn(alloc, lists.collect(alloc)?)
 }
 
 // Returns the rows that have ended in the reports, in turn. They stay where they are.
@@ -40,17 +34,14 @@ pub(crate) fn ended_in_turn(alloc: Global, reads: &[RowsRead]) -> Result<Vec<&Ro
     ensures { IfOk result
         (λ rows. map (λ row. row.now) rows.items ≡ in_turn (map ended_rows reads.now)) }
 {
-    let mut lists = VecDeque::new(alloc);
-    for read in reads {
-        lists.push_back(ended_rows(read).iter())?;
-    }
-    taken_in_turn(alloc, lists)
+    let lists = reads.iter().map(|read| ended_rows(read).iter());
+    taken_in_turn(alloc, lists.collect(alloc)?)
 }
 
 // Takes the rows of the lists in turn. The first row of the first list comes, and what is left of that list goes behind the
 // others.
 #[inline(never)]
-fn taken_in_turn<I: Iterator>(alloc: Global, lists: VecDeque<I>) -> Result<Vec<I::Item>, AllocError>
+fn taken_in_turn<I: Iterator>(alloc: Global, lists: Vec<I>) -> Result<Vec<I::Item>, AllocError>
 where
     I::Item: Drop,
     requires { All (λ list. I.can_next list × IsFinite (I.remaining list)) lists.items }
@@ -58,7 +49,7 @@ where
         → AllZip (AlwaysYields I.next_gives row_in) lists.items lists_in
         → map row_in rows.items ≡ in_turn lists_in) }
 {
-    let mut lists = lists;
+    let mut lists = VecDeque::from_vec(lists);
     let mut rows = Vec::new(alloc);
     while let Some(mut list) = lists.pop_front() {
         if let Some(row) = list.next() {

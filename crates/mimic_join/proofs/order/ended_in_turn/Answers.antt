@@ -1,19 +1,13 @@
-use Rattle.std.proofs.Common.{◌∙◌, ◌∷◌, ◌++◌, [], ap, sym, take}
-use Rattle.std.proofs.lemmas.Iterator.{YieldsList-from_slice}
-use Rattle.std.proofs.lemmas.List.{take_more}
-use Rattle.std.specs.Slice.Iter.{iter_steps}
+use Rattle.std.proofs.Common.{◌∙◌, ap, map, refl, rules}
+use Rattle.std.proofs.lemmas.Iterator.{YieldsList-from_map_by, YieldsList-from_slice, items_from_drains}
+use Rattle.std.specs.Slice.Iter.{iter_rest, iter_steps}
 use Rattle.mimic_join.specs.Cut.{ended_rows}
-use Rattle.mimic_join.proofs.Taking.{more_lists}
+use Rattle.mimic_join.proofs.Taking.{turned}
 use Rattle.mimic_join.proofs.order.ended_in_turn.Goals as goal
 
-pub loop-read-preserved : goal.loop-read-preserved
-loop-read-preserved c =
-    let reads = c.args.reads.now in
-    let at = c.loop-read.read-index in
-    let read = c.read-item.result in
-    more_lists iter_steps (λ row. row.now) ended_rows _ _ read c.loop-read.lists.items
-    c.push_back.new.self.items c.iter.result
-    (take_more reads at read c.loop-read-test.true
-    ∙ ap (λ r. take at reads ++ r ∷ []) (sym c.read-item.is))
-    c.in_ok-push_back.ensures.items c.loop-read.invariant
-    (YieldsList-from_slice (ended_rows read) (c.iter.ensures.rest ∙ c.ended_rows.ensures)).runs
+pub returns : goal.returns
+returns c =
+    let ran = c.in_ok-collect.ensures.ran in
+    turned iter_steps (λ row. row.now) iter_rest (λ list. YieldsList-from_slice _ refl) c.taken_in_turn.result _ _
+    (ap (map iter_rest) ran.2.0 ∙ items_from_drains ran.0 ran.1 (YieldsList-from_map_by _ iter_rest ended_rows
+    (YieldsList-from_slice c.args.reads.now cc) c.map-lists.ensures.closure (λ x r q k. search rules))) c.taken_in_turn.ensures

@@ -8,9 +8,12 @@ use Rattle.mimic_join.proofs.order.taken_in_turn.Goals as goal
 
 pub loop-list-init : goal.loop-list-init
 loop-list-init g c = record {
-  ends = c.requires;
-  leave = λ row_in all gives.
-      (all, gives, ap (λ rows. map row_in rows ++ in_turn all) c.new-rows.ensures.items);
+  ends = rw c.from_vec-lists.ensures.items c.requires;
+  leave = λ row_in all gives. (
+    all,
+    rw c.from_vec-lists.ensures.items gives,
+    ap (λ rows. map row_in rows ++ in_turn all) c.new-rows.ensures.items,
+  );
 }
 
 pub next-requires : goal.next-requires
