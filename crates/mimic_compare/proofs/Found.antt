@@ -1,17 +1,15 @@
 -- What is reported of the rows that have come.
-use Rattle.std.proofs.Common.{◌≡◌, ℕ, suc, Bool, List, [], ◌∷◌, ◌++◌, map, unwrap_or, slice_get, refl, sym, ap, ap₂, ◌∙◌, arith}
+use Rattle.std.proofs.Common.{◌≡◌, ℕ, suc, Bool, List, [], ◌∷◌, map, slice_get, refl, arith}
 use Rattle.std.specs.Prelude.{Some}
 use Rattle.std.specs.HashMap.{HashMap, IsEmpty, IsUnique}
-use Rattle.std.specs.Map.{keys_of, lookup}
+use Rattle.std.specs.Map.{keys_of}
 use Rattle.std.specs.Cmp.{IsEquivalence, decided}
-use Rattle.std.proofs.lemmas.Grind.{common_steps}
 use Rattle.std.proofs.lemmas.Map.Entries.{hash_map_get_place}
 use Rattle.mimic_printer.specs.Row.{Label}
 use Rattle.mimic_events.specs.Key.{same_label}
 use Rattle.mimic_events.proofs.Keys.{same_label-decides}
 use Rattle.mimic_compare.specs.Classes.{Compared, compared, comparisons}
-use Rattle.mimic_compare.specs.Fates.{fates_with}
-use Rattle.mimic_compare.specs.Trials.{Come, Holds, Keeps, both, compared_entry, fates_in, found_among, with_rows}
+use Rattle.mimic_compare.specs.Trials.{Come, Holds, Keeps, compared_entry, fates_in, found_among}
 use Rattle.mimic_compare.specs.declared.fates.BothFates.{BothFates}
 use Rattle.mimic_compare.specs.declared.fates.Report.TheVariants.{Old, New}
 use Rattle.mimic_printer.specs.Json.{Entry}

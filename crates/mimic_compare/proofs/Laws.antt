@@ -1,14 +1,13 @@
 -- The laws of comparisons.
-use Rattle.std.proofs.Common.{◌≡◌, ◌==◌, ◌||◌, not, ℕ, zero, suc, ◌+◌, ◌<◌, Bool, true, false, cond, List, [], ◌∷◌, ◌++◌, map, filter, refl, sym, ap, ap₂, subst, ◌∙◌, inl, inr, arith, rules}
-use Rattle.std.specs.Prelude.{◌↔◌, ◌≢◌, ◌&&◌, ◌≤◌, IsPermutation, count_by, nat_lt}
+use Rattle.std.proofs.Common.{◌≡◌, ◌==◌, ◌||◌, not, ℕ, zero, suc, ◌+◌, ◌<◌, Bool, true, List, [], ◌∷◌, ◌++◌, map, filter, refl, sym, ap, subst, ◌∙◌, inl, inr, arith}
+use Rattle.std.specs.Prelude.{◌≢◌, ◌≤◌, IsPermutation, count_by, nat_lt}
 use Rattle.std.specs.List.{AllPairs, IsDistinct, list_any}
-use Rattle.std.proofs.lemmas.Bool.{both_ways, cases_eq, eq-eqb, ne_eqb, not-true}
+use Rattle.std.proofs.lemmas.Bool.{cases_eq, ne_eqb}
 use Rattle.std.proofs.lemmas.Bool.Decides.{nat_tests}
 use Rattle.std.proofs.lemmas.Grind.{common_steps}
 use Rattle.std.proofs.lemmas.List.Elements.{All-weaker, filter_passes}
 use Rattle.std.proofs.lemmas.List.Folds.{list_any-append}
 use Rattle.std.proofs.lemmas.List.Sorted.{IsPermutation-append_right, IsPermutation-cons, IsPermutation-middle, IsPermutation-refl, IsPermutation-sym, IsPermutation-trans}
-use Rattle.std.proofs.lemmas.List.Sums.{sum_by-cons}
 use Rattle.std.proofs.lemmas.List.Kept.{AllPairs-cons, AllPairs-filter}
 use Rattle.std.proofs.lemmas.Map.Made.{IsDistinct-from_AllPairs}
 use Rattle.std.proofs.lemmas.Map.Views.{any-filter_same}
@@ -16,15 +15,14 @@ use Rattle.mimic_printer.specs.Json.{Entry}
 use Rattle.mimic_printer.specs.Row.{Label}
 use Rattle.mimic_events.specs.Key.{same_label}
 use Rattle.mimic_events.proofs.Keys.{same_label-decides, same_label-symm}
-use Rattle.mimic_events.specs.Readings.{InputRead, is_whole}
+use Rattle.mimic_events.specs.Readings.{InputRead}
 use Rattle.mimic_printer.proofs.EscapeLaws.{lines_have_no_control}
 use Rattle.mimic_compare.specs.Classes.{Compared, compared, comparisons, distinct, labels_in}
 use Rattle.mimic_compare.specs.Fates.{fates_with}
 use Rattle.mimic_compare.specs.Text.{place_of, same_class}
-use Rattle.mimic_compare.specs.Written.{ArePartitioned, ComparisonLaws, SaysWorse, found_in, is_worse, labels_of, stands_in, verdict_of}
+use Rattle.mimic_compare.specs.Written.{ArePartitioned, ComparisonLaws, SaysWorse, found_in, labels_of, stands_in}
 use Rattle.mimic_compare.specs.declared.class.Class.{Class}
 use Rattle.mimic_compare.specs.declared.class.Class.TheVariants.{Regressed, Missing}
-use Rattle.mimic_compare.specs.declared.verdict.ComparisonVerdict.{ComparisonVerdict}
 
 -- ---- each label once
 

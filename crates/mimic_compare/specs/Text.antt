@@ -1,5 +1,5 @@
 -- What is printed of two reports (our own).
-use Rattle.std.specs.Prelude.{ℕ, ◌+◌, ◌*◌, ◌/◌, ◌%◌, ◌==◌, Bool, true, false, not, if◌then◌else◌, List, [], ◌∷◌, ◌++◌, codes, count_by, decimal, Option, None, Some}
+use Rattle.std.specs.Prelude.{ℕ, ◌+◌, ◌*◌, ◌/◌, ◌%◌, ◌==◌, Bool, true, false, not, if◌then◌else◌, List, [], ◌∷◌, ◌++◌, codes, count_by, decimal, Option, None, Some, unwrap_or}
 use Rattle.std.specs.List.{concat, flat_map}
 use Rattle.mimic_trial.specs.declared.outcome.Outcome.{Outcome}
 use Rattle.mimic_trial.specs.declared.outcome.Outcome.TheVariants as outcome
@@ -64,14 +64,9 @@ count_of class found = count_by (λ c. same_class c.class class) found
 
 -- ---- messages
 
--- the message of a failure, empty if there is none
-abbrev pub text_of : Option (List ℕ) → List ℕ
-text_of None = []
-text_of (Some text) = text
-
 -- the message of this row if it failed, else that of the first failure behind it
 abbrev pub message_or : List ℕ → Outcome → List ℕ
-message_or rest (outcome.Failed message) = text_of message
+message_or rest (outcome.Failed message) = unwrap_or message []
 message_or rest other = rest
 
 -- the message of the first failure, empty if there is none
@@ -131,20 +126,15 @@ abbrev pub ratio_part : Option ℕ → List (List ℕ)
 ratio_part None = codes "-)\n" ∷ []
 ratio_part (Some n) = decimal (n / 100) ∷ codes "." ∷ decimal (n / 10 % 10) ∷ decimal (n % 10) ∷ codes ")\n" ∷ []
 
-abbrev pub change_word : Bool → List ℕ
-change_word slower = if slower then codes "slower: " else codes "faster: "
-
 -- the line up to the numbers
 unfoldable pub change_name : Change → List ℕ
-change_name c = concat (change_word (is_slower c) ∷ bracketed Line c.label.kind ∷ escaped Line c.label.name ∷ codes ": " ∷ [])
+change_name c = concat ((if is_slower c then codes "slower: " else codes "faster: ")
+    ∷ bracketed Line c.label.kind ∷ escaped Line c.label.name ∷ codes ": " ∷ [])
 
--- both numbers and their ratio, up to the end of the line
-abbrev pub amounts_text : Quantity → ℕ → ℕ → List ℕ
-amounts_text quantity old new = amount quantity old ++ (codes " -> " ++ (amount quantity new
-    ++ ((unit_part quantity ++ codes " (") ++ concat (ratio_part (ratio_of old new)))))
-
+-- the line: its name, then both numbers and their ratio
 abbrev pub change_text : Change → List ℕ
-change_text c = change_name c ++ amounts_text c.quantity c.old c.new
+change_text c = change_name c ++ (amount c.quantity c.old ++ (codes " -> " ++ (amount c.quantity c.new
+    ++ ((unit_part c.quantity ++ codes " (") ++ concat (ratio_part (ratio_of c.old c.new))))))
 
 -- ---- the whole
 

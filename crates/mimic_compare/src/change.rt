@@ -173,21 +173,6 @@ fn add_changes<'a>(
     Ok(())
 }
 
-// Returns the changes of all kinds and names.
-fn changes_in<'a>(
-    alloc: Global,
-    factor: u64,
-    found: &[Comparison<'a>],
-) -> Result<Vec<Change<'a>>, AllocError>
-    ensures { IfOk result (λ changes. changes.items ≡ changes_in factor found.now) }
-{
-    let mut changes = Vec::new(alloc);
-    for comparison in found {
-        add_changes(&mut changes, factor, comparison)?;
-    }
-    Ok(changes)
-}
-
 // Returns the changes of all kinds and names, the greatest ratio first.
 pub(crate) fn ranked_changes<'a>(
     alloc: Global,
@@ -196,7 +181,10 @@ pub(crate) fn ranked_changes<'a>(
 ) -> Result<Vec<Change<'a>>, AllocError>
     ensures { IfOk result (λ changes. AreRanked (changes_in factor found.now) changes.items) }
 {
-    let mut changes = changes_in(alloc, factor, found)?;
+    let mut changes = Vec::new(alloc);
+    for comparison in found {
+        add_changes(&mut changes, factor, comparison)?;
+    }
     changes.sort_by(|one, other| one.compare(other))?;
     Ok(changes)
 }

@@ -4,7 +4,7 @@ ghost use Rattle.std.specs.List.{concat, flat_map};
 ghost use Rattle.mimic_printer.specs.Piece.{first_line, pieces_text};
 ghost use Rattle.mimic_printer.specs.Sink.{Adds};
 ghost use Rattle.mimic_compare.specs.Changes.{is_slower};
-ghost use Rattle.mimic_compare.specs.Text.{amount, change_text, change_word, classes, comparison_text, count_of, first_message, is_listed, line_in, listed_lines, change_name, colon_before, shown_message, amounts_text, number_text, numbers_text, ratio_of, ratio_part, rounded_seconds, same_class, speeds_text, unit_part, word};
+ghost use Rattle.mimic_compare.specs.Text.{amount, change_text, classes, comparison_text, count_of, first_message, is_listed, line_in, listed_lines, change_name, colon_before, shown_message, number_text, numbers_text, ratio_of, ratio_part, rounded_seconds, speeds_text, unit_part, word};
 
 use crate::change::{Change, Quantity};
 use crate::class::Class;
@@ -231,23 +231,16 @@ fn add_change_name<'a, W: Write>(sink: &mut Sink<W>, change: &Change<'a>)
     add_pieces(sink, &pieces);
 }
 
-// Adds both numbers and their ratio.
-fn add_amounts<W: Write>(sink: &mut Sink<W>, quantity: Quantity, old: u64, new: u64)
-    ensures { Adds W.contents sink.old sink.new (amounts_text quantity old new) }
-{
-    add_amount(sink, quantity, old);
-    sink.add(b" -> ");
-    add_amount(sink, quantity, new);
-    add_unit(sink, quantity);
-    add_ratio(sink, ratio_of(old, new));
-}
-
-// Adds the line of a change.
+// Adds the line of a change: its name, both numbers and their ratio.
 fn add_change<W: Write>(sink: &mut Sink<W>, change: &Change<'_>)
     ensures { Adds W.contents sink.old sink.new (change_text change.now) }
 {
     add_change_name(sink, change);
-    add_amounts(sink, change.quantity, change.old, change.new);
+    add_amount(sink, change.quantity, change.old);
+    sink.add(b" -> ");
+    add_amount(sink, change.quantity, change.new);
+    add_unit(sink, change.quantity);
+    add_ratio(sink, ratio_of(change.old, change.new));
 }
 
 // Adds the lines of the changes.

@@ -1,7 +1,0 @@
-use Rattle.mimic_printer.proofs.Adding.{adds_then}
-use Rattle.mimic_compare.proofs.lines.add_amounts.Goals as goal
-
-pub returns : goal.returns
-returns g c =
-    let ratio = rw c.ratio_of.ensures at c.add_ratio.ensures in
-    adds_then _ _ c.add_amount.ensures (adds_then _ _ c.add.ensures (adds_then _ _ c.add_amount-2.ensures (adds_then _ _ c.add_unit.ensures ratio)))
