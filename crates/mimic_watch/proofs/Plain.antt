@@ -1,8 +1,9 @@
 -- Second lines: what they are made of, and how wide they are.
-use Rattle.std.proofs.Common.{◌≡◌, ℕ, zero, suc, add-one, ◌+◌, ◌-◌, ◌<◌, ◌≤◌, ◌||◌, min, Bool, true, false, nat_lt, if◌then◌else◌, Option, Some, None, List, [], ◌∷◌, ◌++◌, codes, drop, drop-cons, get_or, length, length-take, take, take-append-drop, refl, sym, ap, ◌∙◌, arith, append-nil}
+use Rattle.std.proofs.Common.{◌≡◌, ℕ, suc, add-one, ◌+◌, ◌-◌, ◌<◌, ◌≤◌, ◌||◌, min, Bool, true, false, nat_lt, if◌then◌else◌, Option, Some, None, IfSome, List, [], ◌∷◌, ◌++◌, codes, drop, drop-cons, get_or, length, length-take, take, take-append-drop, refl, sym, ap, ◌∙◌, arith, append-nil}
 use Rattle.std.specs.Prelude.{encode_utf8}
-use Rattle.std.specs.List.{AllByRecursion, list_any}
+use Rattle.std.specs.List.{All, cons_option, list_any}
 use Rattle.std.proofs.lemmas.Bool.Decides.{nat_tests}
+use Rattle.std.proofs.lemmas.List.Elements.{All-cons, All-nil, All-take}
 use Rattle.std.proofs.lemmas.List.Folds.{list_any-append}
 use Rattle.mimic_printer.specs.Places.{is_control}
 use Rattle.mimic_printer.specs.Row.{Label}
@@ -11,30 +12,28 @@ use Rattle.mimic_watch.specs.Frames.{FitsLine, SecondLinesFit, columns_of, cut, 
 
 -- ---- characters of ASCII
 
-bytes_plain : (b : ℕ) → AllByRecursion (λ c. (32 ≤ c) × (c ≤ 126)) (plain_byte b)
+abbrev IsPlain : ℕ → Type 0
+IsPlain c = (32 ≤ c) × (c ≤ 126)
+
+bytes_plain : (b : ℕ) → IfSome (plain_byte b) IsPlain
 bytes_plain b = at (nat_lt b 128) (nat_lt b 32) (nat_lt 126 b) (nat_lt b 192) refl refl
   where
     at : (p q r s : Bool) → nat_lt b 32 ≡ q → nat_lt 126 b ≡ r
-        → AllByRecursion (λ c. (32 ≤ c) × (c ≤ 126)) (if p then (if q || r then 63 ∷ [] else b ∷ []) else (if s then [] else 63 ∷ []))
-    at true true r s e f = ((omega arith, omega arith), tt)
-    at true false true s e f = ((omega arith, omega arith), tt)
-    at true false false s e f = ((grind (arith, nat_tests), grind (arith, nat_tests)), tt)
+        → IfSome (if p then Some (if q || r then 63 else b) else (if s then None else Some 63)) IsPlain
+    at true true r s e f = (omega arith, omega arith)
+    at true false true s e f = (omega arith, omega arith)
+    at true false false s e f = (grind (arith, nat_tests), grind (arith, nat_tests))
     at false q r true e f = tt
-    at false q r false e f = ((omega arith, omega arith), tt)
+    at false q r false e f = (omega arith, omega arith)
 
-both_plain : (xs ys : List ℕ) → AllByRecursion (λ c. (32 ≤ c) × (c ≤ 126)) xs → AllByRecursion (λ c. (32 ≤ c) × (c ≤ 126)) ys
-    → AllByRecursion (λ c. (32 ≤ c) × (c ≤ 126)) (xs ++ ys)
-both_plain [] ys h k = k
-both_plain (x ∷ xs) ys h k = (h.0, both_plain xs ys h.1 k)
-
-text_plain : (text : List ℕ) → AllByRecursion (λ c. (32 ≤ c) × (c ≤ 126)) (plain_text text)
-text_plain [] = tt
-text_plain (b ∷ text) = both_plain (plain_byte b) (plain_text text) (bytes_plain b) (text_plain text)
-
-front_plain : (n : ℕ) (xs : List ℕ) → AllByRecursion (λ c. (32 ≤ c) × (c ≤ 126)) xs → AllByRecursion (λ c. (32 ≤ c) × (c ≤ 126)) (take n xs)
-front_plain zero xs h = tt
-front_plain (suc n) [] h = tt
-front_plain (suc n) (x ∷ xs) h = (h.0, front_plain n xs h.1)
+text_plain : (text : List ℕ) → All IsPlain (plain_text text)
+text_plain [] = All-nil IsPlain
+text_plain (b ∷ text) = more (plain_byte b) (bytes_plain b) (text_plain text)
+  where
+    more : (found : Option ℕ) → IfSome found IsPlain → All IsPlain (plain_text text)
+        → All IsPlain (cons_option found (plain_text text))
+    more None h k = k
+    more (Some c) h k = All-cons IsPlain c (plain_text text) h k
 
 -- ---- characters that fit
 
@@ -90,15 +89,6 @@ parts_at all ys c front h here =
 pub one_more : (ys : List ℕ) (c n room wide : ℕ) → room + columns_of ys ≡ n → wide ≡ mark_columns c → wide ≤ room → (room - wide) + columns_of (ys ++ c ∷ []) ≡ n
 one_more ys c n room wide e is h = omega (arith, e, is, h, columns_more ys (c ∷ []))
 
--- what is cut, and what isn't
-pub cut_none : (n : ℕ) (cs : List ℕ) → nat_lt n (columns_of cs) ≡ false → cut n cs ≡ marks cs
-unfolding cut
-cut_none n cs is = ap (λ b. if b then marks (fitting (n - 2) cs) ++ points n else marks cs) is
-
-pub cut_some : (n : ℕ) (cs : List ℕ) → nat_lt n (columns_of cs) ≡ true → cut n cs ≡ marks (fitting (n - 2) cs) ++ points n
-unfolding cut
-cut_some n cs is = ap (λ b. if b then marks (fitting (n - 2) cs) ++ points n else marks cs) is
-
 -- ---- lines
 
 marks_clean : (cs : List ℕ) → list_any is_control (marks cs) ≡ false
@@ -106,10 +96,8 @@ marks_clean [] = refl
 marks_clean (c ∷ cs) =
     list_any-append is_control (mark c) (marks cs) ∙ ap (λ b. b || list_any is_control (marks cs)) (escape_laws.no_control_on_terminal (encode_utf8 c)) ∙ marks_clean cs
 
-points_alone : (n : ℕ) (xs : List ℕ) → AllByRecursion (λ b. b ≡ 46) xs → AllByRecursion (λ b. b ≡ 46) (take n xs)
-points_alone zero xs h = tt
-points_alone (suc n) [] h = tt
-points_alone (suc n) (x ∷ xs) h = (h.0, points_alone n xs h.1)
+abbrev IsPoint : ℕ → Type 0
+IsPoint b = b ≡ 46
 
 -- marks, and points behind them
 record IsCut (columns : ℕ) (text : List ℕ) : Type 0 where
@@ -117,7 +105,7 @@ record IsCut (columns : ℕ) (text : List ℕ) : Type 0 where
   behind : List ℕ
   parts : text ≡ marks kept ++ behind
   short : columns_of kept + length behind ≤ columns
-  are_points : AllByRecursion (λ b. b ≡ 46) behind
+  are_points : All IsPoint behind
 
 cut_at : (columns : ℕ) (cs : List ℕ) (b : Bool) → nat_lt columns (columns_of cs) ≡ b
     → IsCut columns (if b then marks (fitting (columns - 2) cs) ++ points columns else marks cs)
@@ -126,14 +114,15 @@ cut_at columns cs true is = record {
   behind = points columns;
   parts = refl;
   short = omega (arith, fitting_fit (columns - 2) cs, length-take (min columns 2) (codes ".."));
-  are_points = points_alone (min columns 2) (codes "..") (refl, (refl, tt));
+  are_points = All-take IsPoint (min columns 2) (codes "..") (All-cons IsPoint 46 (codes ".") refl
+      (All-cons IsPoint 46 [] refl (All-nil IsPoint)));
 }
 cut_at columns cs false is = record {
   kept = cs;
   behind = [];
   parts = sym (append-nil (marks cs));
   short = grind (arith, nat_tests, is);
-  are_points = tt;
+  are_points = All-nil IsPoint;
 }
 
 cut_fits : (columns : ℕ) (cs : List ℕ) → IsCut columns (cut columns cs)
@@ -149,9 +138,9 @@ waiting_fits columns None quiet =
       points = [];
       parts = sym (append-nil (front_text columns text));
       short = omega (arith, length-take columns (plain_text text));
-      printable = front_plain columns (plain_text text) (text_plain text);
+      printable = All-take IsPlain columns (plain_text text) (text_plain text);
       no_control = refl;
-      are_points = tt;
+      are_points = All-nil IsPoint;
     }
 waiting_fits columns (Some label) quiet =
     let text : List ℕ = codes "waiting " ++ (time_text quiet ++ codes " for ") in
@@ -163,13 +152,13 @@ waiting_fits columns (Some label) quiet =
       points = name.behind;
       parts = ap (λ l. front ++ l) name.parts;
       short = omega (arith, name.short, length-take columns (plain_text text));
-      printable = front_plain columns (plain_text text) (text_plain text);
+      printable = All-take IsPlain columns (plain_text text) (text_plain text);
       no_control = marks_clean name.kept;
       are_points = name.are_points;
     }
 
 line_fits : (columns : ℕ) (running : Option Label) (quiet : ℕ) (b : Bool) → FitsLine columns (if b then [] else waiting_line columns running quiet)
-line_fits columns running quiet true = record { front = []; characters = []; points = []; parts = refl; short = omega arith; printable = tt; no_control = refl; are_points = tt }
+line_fits columns running quiet true = record { front = []; characters = []; points = []; parts = refl; short = omega arith; printable = All-nil IsPlain; no_control = refl; are_points = All-nil IsPoint }
 line_fits columns running quiet false = waiting_fits columns running quiet
 
 pub second_lines_fit : SecondLinesFit

@@ -1,13 +1,12 @@
 -- What is drawn below the rows, or in a line of its own: how far the run is.
 use Rattle.std.specs.Prelude.{◌≡◌, ℕ, Bool, false, ◌+◌, ◌-◌, ◌/◌, ◌%◌, ◌≤◌, ◌==◌, ◌||◌, max, min, nat_lt, if◌then◌else◌, List, [], ◌∷◌, ◌++◌, length, take, drop, chars, codes, decimal, encode_utf8, Option, Some, None}
-use Rattle.std.specs.List.{AllByRecursion, flat_map, list_any}
+use Rattle.std.specs.List.{All, filter_map, flat_map, list_any}
 use Rattle.unicode_width.specs.Width.{char_width}
 use Rattle.mimic_trial.specs.Text.{kind_part, two_digits}
 use Rattle.mimic_printer.specs.Row.{Label}
 use Rattle.mimic_printer.specs.Places.{is_control}
 use Rattle.mimic_printer.specs.Escapes.{escaped}
 use Rattle.mimic_printer.specs.declared.place.Place.TheVariants.{Terminal}
-use Rattle.mimic_watch.specs.declared.frame.Shape.{Shape}
 use Rattle.mimic_watch.specs.declared.frame.TheConstants.{SHAPES}
 use Rattle.mimic_watch.specs.declared.frame.View.{View}
 
@@ -37,18 +36,20 @@ announced_part (Some announced) = codes "/" ++ decimal announced
 abbrev pub failed_part : ℕ → List ℕ
 failed_part failed = if failed == 0 then [] else codes " " ++ (decimal failed ++ codes " failed")
 
-abbrev pub elapsed_part : ℕ → List ℕ
-elapsed_part elapsed = codes " " ++ time_text elapsed
+-- a time, if it is known, and what follows it
+abbrev pub span : Option ℕ → List ℕ → List ℕ
+span None after = []
+span (Some seconds) after = codes " " ++ (time_text seconds ++ after)
 
-abbrev pub left_part : Option ℕ → List ℕ
-left_part None = []
-left_part (Some left) = codes " " ++ (time_text left ++ codes " left")
+-- whether a line has a bar, the time that has passed, and the time that is left
+abbrev pub Shape : Type 0
+Shape = Bool × Bool × Bool
 
 -- a line of this shape: a bar, how many rows have ended of how many, how many failed, the time that has passed and the time that is
 -- left
 unfoldable pub shaped : View → Shape → List ℕ
-shaped v s = part_if s.bar (bar v.cells) ++ (decimal v.ended ++ (announced_part v.announced ++ (failed_part v.failed
-    ++ (part_if s.elapsed (elapsed_part v.elapsed) ++ part_if s.left (left_part v.left)))))
+shaped v s = part_if s.0 (bar v.cells) ++ (decimal v.ended ++ (announced_part v.announced ++ (failed_part v.failed
+    ++ (part_if s.1 (span (Some v.elapsed) []) ++ part_if s.2 (span v.left (codes " left"))))))
 
 -- the line of the first of these shapes that fits into the columns, and an empty one if none does
 unfoldable pub first_fitting : ℕ → View → List Shape → List ℕ
@@ -61,12 +62,12 @@ first_line columns v = first_fitting columns v SHAPES
 
 -- a byte of a text in UTF-8, with a question mark for each character that is no printable one of ASCII: how wide others are isn't
 -- known. Bytes from 128 to 191 are no character's first.
-abbrev pub plain_byte : ℕ → List ℕ
-plain_byte b = if nat_lt b 128 then (if nat_lt b 32 || nat_lt 126 b then 63 ∷ [] else b ∷ [])
-    else (if nat_lt b 192 then [] else 63 ∷ [])
+abbrev pub plain_byte : ℕ → Option ℕ
+plain_byte b = if nat_lt b 128 then Some (if nat_lt b 32 || nat_lt 126 b then 63 else b)
+    else (if nat_lt b 192 then None else Some 63)
 
 abbrev pub plain_text : List ℕ → List ℕ
-plain_text text = flat_map plain_byte text
+plain_text text = filter_map plain_byte text
 
 -- a line's front: as much of a text of ASCII as fits into the columns
 abbrev pub front_text : ℕ → List ℕ → List ℕ
@@ -138,9 +139,9 @@ pub record FitsLine (columns : ℕ) (line : List ℕ) : Type 0 where
   pub points : List ℕ
   pub parts : line ≡ front ++ (marks characters ++ points)
   pub short : length front + (columns_of characters + length points) ≤ columns
-  pub printable : AllByRecursion (λ b. (32 ≤ b) × (b ≤ 126)) front
+  pub printable : All (λ b. (32 ≤ b) × (b ≤ 126)) front
   pub no_control : list_any is_control (marks characters) ≡ false
-  pub are_points : AllByRecursion (λ b. b ≡ 46) points
+  pub are_points : All (λ b. b ≡ 46) points
 
 -- two lines with the cursor at the start of the first: line wrap is off while they are written, and what was after the first and
 -- below is erased, but never from the first column on

@@ -1,11 +1,10 @@
 //! The two lines below the rows: how far the run is.
 ghost use Rattle.std.specs.Prelude.{◌≡◌, ◌<◌, ◌++◌, IfOk, None, Some, chars, nat_lt, option_map, string_bytes};
-ghost use Rattle.std.specs.Option.{option_to_list};
 ghost use Rattle.mimic_trial.specs.Text.{kind_part};
 ghost use Rattle.mimic_events.specs.Contents.{label_read};
 ghost use Rattle.mimic_printer.specs.Sink.{Adds};
 ghost use Rattle.mimic_watch.specs.Moments.{drawn_text, room_after};
-ghost use Rattle.mimic_watch.specs.Frames.{announced_part, bar, columns_of, cut, elapsed_part, failed_part, first_line, fitting, frame, front_text, left_part, log_line, mark, mark_columns, marks, part_if, plain_byte, points, second_line, shaped, time_text, waiting_line};
+ghost use Rattle.mimic_watch.specs.Frames.{announced_part, bar, columns_of, cut, failed_part, first_line, fitting, frame, front_text, log_line, mark, mark_columns, marks, part_if, plain_byte, second_line, shaped, span, time_text, waiting_line};
 
 use crate::text::{add_headed, text_of};
 use mimic_events::Label;
@@ -111,41 +110,14 @@ fn log_text(
     text_of(drawn)
 }
 
-// Which parts a first line has.
-#[derive(Clone, Copy)]
-pub(crate) struct Shape {
-    bar: bool,
-    elapsed: bool,
-    left: bool,
-}
-
-// From the one with all parts on. What is left of a run is of more use than a bar or the time that has passed.
-static SHAPES: [Shape; 5] = [
-    Shape {
-        bar: true,
-        elapsed: true,
-        left: true,
-    },
-    Shape {
-        bar: true,
-        elapsed: false,
-        left: true,
-    },
-    Shape {
-        bar: false,
-        elapsed: true,
-        left: true,
-    },
-    Shape {
-        bar: false,
-        elapsed: false,
-        left: true,
-    },
-    Shape {
-        bar: false,
-        elapsed: false,
-        left: false,
-    },
+// Whether a first line has a bar, the time that has passed, and the time left: from the shape with all of them on. What is left of
+// a run is of more use than the others.
+static SHAPES: [(bool, bool, bool); 5] = [
+    (true, true, true),
+    (true, false, true),
+    (false, true, true),
+    (false, false, true),
+    (false, false, false),
 ];
 
 // Returns the first line: the fullest that fits into the columns.
@@ -163,16 +135,17 @@ fn first_line(alloc: Global, columns: usize, view: &View) -> Result<Vec<u8>, All
 
 // Returns a line of this shape.
 #[tactic(auto, unfolding(crate::specs::Frames::shaped))]
-fn shaped(alloc: Global, view: &View, shape: &Shape) -> Result<Vec<u8>, AllocError>
+fn shaped(alloc: Global, view: &View, shape: &(bool, bool, bool)) -> Result<Vec<u8>, AllocError>
     ensures { IfOk result (λ line. line.items ≡ shaped view.now shape.now) }
 {
+    let (bar, elapsed, left) = *shape;
     let mut line = Sink::new(Vec::new(alloc));
-    add_bar(&mut line, shape.bar, view.cells);
+    add_bar(&mut line, bar, view.cells);
     add_pieces(&mut line, &[Piece::Number(view.ended)]);
     add_announced(&mut line, view.announced);
     add_failed(&mut line, view.failed);
-    add_elapsed(&mut line, shape.elapsed, view.elapsed);
-    add_left(&mut line, shape.left, view.left);
+    add_span(&mut line, elapsed, Some(view.elapsed), b"");
+    add_span(&mut line, left, view.left, b" left");
     text_of(line)
 }
 
@@ -211,23 +184,15 @@ fn add_failed<W: Write>(sink: &mut Sink<W>, failed: u64)
     }
 }
 
-fn add_elapsed<W: Write>(sink: &mut Sink<W>, has: bool, elapsed: u64)
-    ensures { Adds W.contents sink.old sink.new (part_if has (elapsed_part elapsed)) }
+// Adds the time, if it is known, and what follows it, if the line has them.
+fn add_span<W: Write>(sink: &mut Sink<W>, has: bool, seconds: Option<u64>, after: &[u8])
+    ensures { Adds W.contents sink.old sink.new (part_if has (span seconds after.now)) }
 {
     if has {
-        sink.add(b" ");
-        add_time(sink, elapsed);
-    }
-}
-
-fn add_left<W: Write>(sink: &mut Sink<W>, has: bool, left: Option<u64>)
-    ensures { Adds W.contents sink.old sink.new (part_if has (left_part left)) }
-{
-    if has {
-        if let Some(left) = left {
+        if let Some(seconds) = seconds {
             sink.add(b" ");
-            add_time(sink, left);
-            sink.add(b" left");
+            add_time(sink, seconds);
+            sink.add(after);
         }
     }
 }
@@ -323,19 +288,15 @@ fn label_text(alloc: Global, label: &Label) -> Result<String, AllocError>
 fn front_of(alloc: Global, columns: usize, text: &[u8]) -> Result<Vec<u8>, AllocError>
     ensures { IfOk result (λ line. line.items ≡ front_text columns text.now) }
 {
-    let mut line = Vec::new(alloc);
-    for byte in text {
-        if let Some(plain) = plain(*byte) {
-            line.push(plain)?;
-        }
-    }
-    line.truncate(columns);
-    Ok(line)
+    text.iter()
+        .filter_map(|byte| plain(*byte))
+        .take(columns)
+        .collect(alloc)
 }
 
 // Returns what the line has for a byte of a text: `None` for a byte that begins no character.
 fn plain(byte: u8) -> Option<u8>
-    ensures { option_to_list result ≡ plain_byte byte }
+    ensures { result ≡ plain_byte byte }
 {
     match byte {
         b' '..=b'~' => Some(byte),
@@ -344,24 +305,17 @@ fn plain(byte: u8) -> Option<u8>
     }
 }
 
-// Adds the text; of one that is wider than the columns as much as leaves room for two points, and these.
+// Adds the text; of one that is wider than the columns as much as leaves room for two points, and these or as many as fit.
 fn add_cut<W: Write>(sink: &mut Sink<W>, columns: usize, text: &str)
     ensures { Adds W.contents sink.old sink.new (cut columns (chars text.now)) }
 {
     if is_wider(columns, text) {
         add_fitting(sink, columns.saturating_sub(2), text);
-        add_points(sink, columns);
+        let points: &[u8] = b"..";
+        sink.add(&points[..columns.min(2)]);
     } else {
         add_fitting(sink, columns, text);
     }
-}
-
-// Adds two points, or as many as fit.
-fn add_points<W: Write>(sink: &mut Sink<W>, columns: usize)
-    ensures { Adds W.contents sink.old sink.new (points columns) }
-{
-    let points: &[u8] = b"..";
-    sink.add(&points[..columns.min(2)]);
 }
 
 // Returns whether the text is wider than the columns.

@@ -95,10 +95,6 @@ impl Pace {
         }
     }
 
-    pub(crate) fn now(&self) -> u64 {
-        self.now
-    }
-
     // Whether it is time to draw on a terminal, or to write a line without one.
     pub(crate) fn is_due(&self, live: bool) -> bool {
         let since = self.now.saturating_sub(self.drawn);

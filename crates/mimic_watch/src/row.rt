@@ -3,7 +3,7 @@ ghost use Rattle.std.specs.Prelude.{◌≡◌};
 ghost use Rattle.std.specs.Option.{option_copied};
 ghost use Rattle.mimic_events.specs.Contents.{entry_read};
 ghost use Rattle.mimic_printer.specs.Sink.{Adds};
-ghost use Rattle.mimic_watch.specs.Rows.{bench_word, failed_line, failed_word, line_text, lines_noun, message_lines, message_text, more_text, row_text};
+ghost use Rattle.mimic_watch.specs.Rows.{bench_word, failed_line, failed_word, lines_noun, message_lines, message_text, more_text, row_text};
 
 use mimic_events::Row;
 use mimic_printer::{Piece, Place, Sink, add_pieces};
@@ -18,22 +18,20 @@ const MOST_LINES: usize = 20;
 pub(crate) fn add_row<W: Write>(sink: &mut Sink<W>, colours: bool, row: &Row)
     ensures { Adds W.contents sink.old sink.new (row_text colours (entry_read row.now)) }
 {
+    let (failed, bench) = words(colours);
     let kind = Piece::Bracketed(Place::Terminal, row.kind.as_str());
     let name = Piece::Escaped(Place::Terminal, row.name.as_str());
     match &row.outcome {
         Outcome::Passed => {}
         Outcome::Ignored => {}
-        Outcome::Failed(failed) => {
-            let word = Piece::Text(failed_word(colours));
-            add_pieces(
-                sink,
-                &[word, Piece::Text(" "), kind, name, Piece::Text("\n")],
-            );
-            add_message(sink, failed.message());
+        Outcome::Failed(failure) => {
+            let (word, gap, end) = (Piece::Text(failed), Piece::Text(" "), Piece::Text("\n"));
+            add_pieces(sink, &[word, gap, kind, name, end]);
+            add_message(sink, failure.message());
         }
         Outcome::Measured(measurement) => {
             let pieces = [
-                Piece::Text(bench_word(colours)),
+                Piece::Text(bench),
                 Piece::Text("  "),
                 kind,
                 name,
@@ -48,25 +46,15 @@ pub(crate) fn add_row<W: Write>(sink: &mut Sink<W>, colours: bool, row: &Row)
     }
 }
 
-// Returns the word of a failure, in red if there are colours.
-fn failed_word(colours: bool) -> &'static str
-    ensures { result.now ≡ failed_word colours }
+// Returns the words of a failure and of a measurement, in red and in cyan if there are colours.
+fn words(colours: bool) -> (&'static str, &'static str)
+    ensures failed { result.0.now ≡ failed_word colours }
+    ensures bench { result.1.now ≡ bench_word colours }
 {
     if colours {
-        "\u{1b}[31mFAILED\u{1b}[0m"
+        ("\u{1b}[31mFAILED\u{1b}[0m", "\u{1b}[36mbench\u{1b}[0m")
     } else {
-        "FAILED"
-    }
-}
-
-// Returns the word of a measurement, in cyan if there are colours.
-fn bench_word(colours: bool) -> &'static str
-    ensures { result.now ≡ bench_word colours }
-{
-    if colours {
-        "\u{1b}[36mbench\u{1b}[0m"
-    } else {
-        "bench"
+        ("FAILED", "bench")
     }
 }
 
@@ -101,37 +89,22 @@ fn add_message<W: Write>(sink: &mut Sink<W>, message: Option<&str>)
 fn add_lines<W: Write>(sink: &mut Sink<W>, message: &str)
     ensures { Adds W.contents sink.old sink.new (message_lines message.now) }
 {
-    let mut count = 0;
-    for line in message.lines() {
-        if count < MOST_LINES {
-            add_line(sink, line);
-        }
-        count += 1;
+    for line in message.lines().take(MOST_LINES) {
+        let line = Piece::Escaped(Place::Terminal, line);
+        add_pieces(sink, &[Piece::Text("    "), line, Piece::Text("\n")]);
     }
-    add_more(sink, count.saturating_sub(MOST_LINES));
-}
-
-fn add_line<W: Write>(sink: &mut Sink<W>, line: &str)
-    ensures { Adds W.contents sink.old sink.new (line_text line.now) }
-{
-    let pieces = [
-        Piece::Text("    "),
-        Piece::Escaped(Place::Terminal, line),
-        Piece::Text("\n"),
-    ];
-    add_pieces(sink, &pieces);
+    add_more(sink, message.lines().count().saturating_sub(MOST_LINES));
 }
 
 fn add_more<W: Write>(sink: &mut Sink<W>, count: usize)
     ensures { Adds W.contents sink.old sink.new (more_text count) }
 {
     if count > 0 {
-        let pieces = [
-            Piece::Text("    .. "),
-            Piece::Number(count as u64),
-            Piece::Text(lines_noun(count)),
-        ];
-        add_pieces(sink, &pieces);
+        let noun = Piece::Text(lines_noun(count));
+        add_pieces(
+            sink,
+            &[Piece::Text("    .. "), Piece::Number(count as u64), noun],
+        );
     }
 }
 

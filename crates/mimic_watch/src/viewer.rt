@@ -1,9 +1,9 @@
 //! Shows a report as it comes.
-ghost use Rattle.std.specs.Prelude.{◌≡◌, IfOk, MatchResult, OnOk};
+ghost use Rattle.std.specs.Prelude.{◌≡◌, [], IfOk, MatchResult, OnOk};
 ghost use Rattle.mimic_printer.specs.Sink.{Adds, HasFaultLeft, shown};
 ghost use Rattle.mimic_watch.specs.Frames.{FirstLinesFit, SecondLinesFit};
 ghost use Rattle.mimic_watch.specs.Watched.{HasFailed, HasWatched, failures_part, last_text};
-ghost use Rattle.mimic_watch.specs.Viewers.{put_text};
+ghost use Rattle.mimic_watch.specs.Viewers.{HasSeen, put_text};
 
 use crate::frame::{ERASE, Screen, View, drawn_text};
 use crate::pace::{Pace, nanos};
@@ -45,7 +45,6 @@ struct Viewer {
 /// On a terminal two lines below say how far the run is, at most ten times a second; each time it is one write, which
 /// leaves the terminal as it was. Else one line reports this every ten seconds, with no escape sequence. A reader that returns
 /// `TimedOut` or `WouldBlock` says that nothing has come for a while. Rows that have passed are not kept.
-#[tactic(auto, using(crate::proofs::Laws::first_lines_fit, crate::proofs::Plain::second_lines_fit))]
 pub fn watch<I: Read, W: Write, C: Clock>(
     alloc: Global,
     input: &mut I,
@@ -64,8 +63,26 @@ pub fn watch<I: Read, W: Write, C: Clock>(
     // No second line is, and it has no control character.
     ensures second { SecondLinesFit }
 {
-    let mut now = nanos(clock, 0);
-    let mut viewer = Viewer::new(alloc, screen, now);
+    let now = nanos(clock, 0);
+    let viewer = Viewer::new(alloc, screen, now);
+    run(viewer, input, sink, clock, now)
+}
+
+// Shows the whole report by a viewer that has seen nothing.
+fn run<I: Read, W: Write, C: Clock>(
+    mut viewer: Viewer,
+    input: &mut I,
+    sink: &mut Sink<W>,
+    clock: &C,
+    mut now: u64,
+) -> Result<WatchVerdict, WatchFault>
+    requires seen { HasSeen viewer [] [] [] }
+    requires faults { HasFaultLeft sink.old }
+    ensures { MatchResult result
+        (HasWatched viewer.screen (I.remaining input.old) (shown W.contents sink.old) (shown W.contents sink.new))
+        (HasFailed viewer.screen (I.remaining input.old) (I.remaining input.new)
+        (shown W.contents sink.old) (shown W.contents sink.new)) }
+{
     let mut room = [0; PIECE];
     for _ in 0..u64::MAX {
         if viewer.read(input, &mut room)? {
@@ -92,15 +109,10 @@ fn go_on(fault: ReadFault) -> Result<(), ReadFault> {
 }
 
 impl Viewer {
-    ghost use Rattle.std.specs.Prelude.{◌≡◌, ◌<◌, ◌++◌, [], ℕ, List, Option, IfOk, IfSome, OnErr, OnOk, length};
+    ghost use Rattle.std.specs.Prelude.{◌≡◌, ◌<◌, ◌++◌, [], ℕ, List, IfOk, IfSome, OnErr, OnOk, length};
     ghost use Rattle.std.specs.Io.KnownBytes.{Consumes};
-    ghost use Rattle.mimic_events.specs.Follower.{HasFollowed};
-    ghost use Rattle.mimic_events.specs.Reading.{Decodes};
-    ghost use Rattle.mimic_events.specs.SoFar.{BeginsWithTitle};
-    ghost use Rattle.mimic_printer.specs.Json.{Entry};
     ghost use Rattle.mimic_printer.specs.Sink.{Adds};
     ghost use Rattle.mimic_events.specs.Contents.{entry_read};
-    ghost use Rattle.mimic_watch.specs.Moments.{IsDrawing};
     ghost use Rattle.mimic_watch.specs.Watched.{failures_part, last_text};
     ghost use Rattle.mimic_watch.specs.Rows.{failed_line, row_text};
     ghost use Rattle.mimic_watch.specs.Viewers.{DrawsSeen, EndsSeen, HasSeen, ReadsOn, SeesOn, SeesRow, ShowsOn, StaysSeen, put_text};
@@ -207,51 +219,32 @@ impl Viewer {
             self.pace.draw();
             return Ok(Some(self.drawing()?));
         }
-        if self.must_go() {
+        let least = if self.screen.live { BLOCK } else { 1 };
+        if self.waiting.len() >= least {
             Ok(Some(Vec::new(self.alloc)))
         } else {
             Ok(None)
         }
     }
 
-    // Whether what waits is put before the next drawing.
-    fn must_go(&self) -> bool {
-        if self.screen.live {
-            self.waiting.len() >= BLOCK
-        } else {
-            !self.waiting.is_empty()
-        }
-    }
-
     // Returns how far the run is: two lines on a terminal, and else one.
     fn drawing(&self) -> Result<Vec<u8>, AllocError>
-        ensures { IfOk result (λ drawn. (start now : Option (List ℕ)) (bytes : List ℕ) (put waiting : List Entry)
-            → Consumes start now bytes → HasSeen self.now bytes put waiting
-            → IsDrawing start self.now.screen (put ++ waiting) drawn.items) }
-    {
-        let view = self.view();
-        let running = self.follower.running();
-        let quiet = self.pace.quiet();
-        let drawn = drawn_text(self.alloc, self.screen, &view, running, quiet)?;
-        Ok(drawn)
-    }
-
-    fn view(&self) -> View
-        ensures ended { result.ended ≡ self.now.ended }
-        ensures failed { result.failed ≡ self.now.counts.num_failed }
-        ensures announced { (bytes : List ℕ) (rows : List Entry) → HasFollowed self.now.follower bytes rows
-            → Decodes BeginsWithTitle bytes result.announced }
+        ensures { IfOk result (λ drawn. DrawsSeen self.now drawn.items) }
     {
         let announced = self.follower.announced();
         let rows = announced.unwrap_or(self.ended);
-        View {
+        let view = View {
             cells: cells(self.ended, rows),
             announced,
             ended: self.ended,
             failed: self.counts.num_failed,
             elapsed: self.pace.elapsed(),
             left: self.pace.left(rows.saturating_sub(self.ended)),
-        }
+        };
+        let running = self.follower.running();
+        let quiet = self.pace.quiet();
+        let drawn = drawn_text(self.alloc, self.screen, &view, running, quiet)?;
+        Ok(drawn)
     }
 
     // Adds what waits with what is drawn below it at this time, if either is due.
@@ -277,23 +270,13 @@ impl Viewer {
             ++ last_text self.screen.colours (failures_part self.failed.items) verdict.counts verdict.ending)) }
         ensures fault { OnErr result (sink.new ≡ sink.old) }
     {
-        let Viewer {
-            alloc,
-            screen,
-            follower,
-            counts,
-            waiting,
-            failed,
-            text,
-            ..
-        } = self;
-        let mut text = text;
-        let ending = Ending::of(alloc, follower)?;
-        let verdict = WatchVerdict::new(counts, ending);
-        set_moment(&mut text, screen.live, &waiting, b"")?;
+        let ending = Ending::of(self.alloc, self.follower)?;
+        let verdict = WatchVerdict::new(self.counts, ending);
+        let mut text = self.text;
+        set_moment(&mut text, self.screen.live, &self.waiting, b"")?;
         sink.add(&text);
         sink.add_flush();
-        add_last(sink, screen.colours, &failed, &verdict);
+        add_last(sink, self.screen.colours, &self.failed, &verdict);
         Ok(verdict)
     }
 }

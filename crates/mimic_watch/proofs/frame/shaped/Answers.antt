@@ -8,5 +8,7 @@ pub returns : goal.returns
 unfolding shaped
 returns c =
     let ended = rw (append-nil (decimal c.args.view.now.ended)) at c.add_pieces.ensures in
-    let rest = adds_then _ _ c.add_announced.ensures (adds_then _ _ c.add_failed.ensures (adds_then _ _ c.add_elapsed.ensures c.add_left.ensures)) in
-    rw (c.new-line.ensures.writer, c.new.ensures.items) at (c.text_of.ensures _ _ (adds_then _ _ c.add_bar.ensures (adds_then _ _ ended rest)))
+    let rest = adds_then _ _ c.add_announced.ensures (adds_then _ _ c.add_failed.ensures
+    (adds_then _ _ c.add_span.ensures c.add_span-2.ensures)) in
+    rw (c.new-line.ensures.writer, c.new.ensures.items) at (c.text_of.ensures _ _
+    (adds_then _ _ c.add_bar.ensures (adds_then _ _ ended rest)))

@@ -1,8 +1,13 @@
-use Rattle.std.proofs.Common.{arith}
+use Rattle.std.proofs.Common.{◌≡◌, ◌<◌, ℕ, List, [], ◌∷◌, ◌++◌, arith, length, refl}
 use Rattle.std.proofs.lemmas.Bool.Decides.{nat_tests}
 use Rattle.mimic_printer.proofs.Adding.{adds_then}
-use Rattle.mimic_watch.proofs.Texts.{has_head}
+use Rattle.mimic_watch.specs.Frames.{headed}
 use Rattle.mimic_watch.proofs.text.add_headed.Goals as goal
+
+-- a text that isn't empty has its head
+has_head : (head text : List ℕ) → 0 < length text → headed head text ≡ head ++ text
+has_head head [] h = absurd (omega (arith, h))
+has_head head (b ∷ text) h = refl
 
 pub returns-then-not-is_empty : goal.returns-then-not-is_empty
 returns-then-not-is_empty g c =

@@ -1,4 +1,4 @@
-use Rattle.std.proofs.Common.{◌∙◌, ap}
+use Rattle.std.proofs.Common.{ap, inr}
 use Rattle.std.specs.Prelude.{option_map}
 use Rattle.mimic_trial.specs.declared.outcome.conclusion.Conclusion.{Conclusion}
 use Rattle.mimic_events.specs.Contents.{label_read}
@@ -8,13 +8,14 @@ use Rattle.mimic_watch.proofs.viewer.Viewer.drawing.Goals as goal
 pub returns : goal.returns
 returns c = λ start now bytes put waiting gone h.
     let running = option_map (λ label. label_read label.now) c.running-running.result in
-    record {
-      view = c.view-view.result;
+    inr (record {
+      view = _;
       running = running;
       quiet = c.quiet-quiet.result;
-      ended = c.view-view.ensures.ended ∙ h.ended;
-      failed = c.view-view.ensures.failed ∙ ap (λ (x : Conclusion). x.num_failed) h.counts;
-      announced = announced_by start now bytes c.view-view.result.announced gone (c.view-view.ensures.announced bytes _ h.followed);
+      ended = h.ended;
+      failed = ap (λ (x : Conclusion). x.num_failed) h.counts;
+      announced = announced_by start now bytes c.announced-announced.result gone
+          (c.announced-announced.ensures.found bytes _ h.followed);
       runs = running_in start now bytes _ running gone h.followed.ended (c.running-running.ensures.found bytes _ h.followed);
       text = c.in_ok-drawn.ensures;
-    }
+    })

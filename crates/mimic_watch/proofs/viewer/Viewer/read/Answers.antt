@@ -1,6 +1,7 @@
 use Rattle.std.proofs.Common.{◌∙◌, [], refl, rules, sym}
 use Rattle.mimic_watch.proofs.Seeing.{none_seen}
-use Rattle.mimic_watch.proofs.Watches.{none_more, over_wrong}
+use Rattle.std.proofs.KnownBytes.{Consumes-kept, Consumes-nil}
+use Rattle.mimic_watch.proofs.Watches.{over_wrong}
 use Rattle.mimic_watch.proofs.viewer.Viewer.read.Goals as goal
 
 pub returns-in_ok-take-in-Ok-clause-read : goal.returns-in_ok-take-in-Ok-clause-read
@@ -16,7 +17,7 @@ returns-in_ok-take-in-Ok-clause-read g c = record {
 pub returns-in_ok-go_on-in-Err-clause-read : goal.returns-in_ok-go_on-in-Err-clause-read
 returns-in_ok-go_on-in-Err-clause-read g c = record {
   bytes = [];
-  gone = none_more _ _ c.in-Err.ensures.fault.1;
+  gone = Consumes-kept _ _ _ [] (Consumes-nil _) c.in-Err.ensures.fault.1;
   seen = none_seen _;
   screen = refl;
   last = λ over. absurd (search rules);

@@ -8,7 +8,7 @@ pub returns-in_default-clause-added : goal.returns-in_default-clause-added
 returns-in_default-clause-added g c = (
   [],
   adds_nothing _,
-  λ screen start now before h. rw (append-nil before) (stay _ h c.in_ok-drawn.ensures.seen c.in_ok-drawn.ensures.screen),
+  λ screen start now before h. rw (append-nil before) (stay h _ c.in_ok-drawn.ensures.seen c.in_ok-drawn.ensures.screen),
 )
 
 pub returns-clause-added : goal.returns-clause-added
@@ -19,6 +19,6 @@ returns-clause-added g c =
       _,
       adds_last _ text c.add_flush.ensures,
       λ screen start now before h.
-          let s = stay _ h c.in_ok-drawn.ensures.seen c.in_ok-drawn.ensures.screen in
+          let s = stay h _ c.in_ok-drawn.ensures.seen c.in_ok-drawn.ensures.screen in
           moment_put s c.if-self.erases c.in-Some.drawn.items only (draws start now s.bytes _ s.waiting s.gone s.seen) _ (search rules) refl,
     )

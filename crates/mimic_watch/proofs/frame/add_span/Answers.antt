@@ -1,6 +1,6 @@
 use Rattle.std.proofs.Common.{codes}
 use Rattle.mimic_printer.proofs.Adding.{adds_then}
-use Rattle.mimic_watch.proofs.frame.add_left.Goals as goal
+use Rattle.mimic_watch.proofs.frame.add_span.Goals as goal
 
 pub returns-in-Some : goal.returns-in-Some
 returns-in-Some g c =
