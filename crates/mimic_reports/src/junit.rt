@@ -1,7 +1,7 @@
 //! Writes reports as JUnit's XML.
 ghost use Rattle.std.specs.Prelude.{◌≡◌, length, map, string_bytes};
 ghost use Rattle.std.specs.List.{flat_map};
-ghost use Rattle.mimic_printer.specs.Sink.{Adds, HasFaultLeft, Puts, shown};
+ghost use Rattle.mimic_printer.specs.Sink.{Adds, HasFaultLeft, Puts};
 ghost use Rattle.mimic_events.specs.Contents.{entry_read};
 ghost use Rattle.mimic_reports.specs.Junit.{alone_text, case_text, ending_text, junit_text, numbers_of, suite_text, total};
 ghost use Rattle.mimic_printer.specs.EscapeLaws.{EscapeLaws};

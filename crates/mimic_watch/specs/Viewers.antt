@@ -4,6 +4,8 @@ use Rattle.std.specs.Io.KnownBytes.{Consumes}
 use Rattle.std.specs.List.{flat_map}
 use Rattle.mimic_trial.specs.Count.{HasRoom, counted, counts_of}
 use Rattle.mimic_printer.specs.Json.{Entry, outcomes_in}
+use Rattle.mimic_printer.specs.Sink.{HasFaultLeft}
+use Rattle.mimic_printer.specs.declared.sink.Sink.{Sink}
 use Rattle.mimic_events.specs.Follower.{HasFollowed}
 use Rattle.mimic_events.specs.Readings.{EndsAs, IsOver}
 use Rattle.mimic_watch.specs.declared.frame.Screen.{Screen}
@@ -23,6 +25,10 @@ pub record HasSeen (w : Viewer) (bytes : List ℕ) (put waiting : List Entry) : 
   pub counts : w.counts ≡ counts_of (outcomes_in (put ++ waiting)) 0
   pub shown : w.waiting.items ≡ flat_map (row_text w.screen.colours) waiting
   pub failed : w.failed.items ≡ failed_lines (put ++ waiting)
+
+-- the viewer has seen nothing, and the sink can count one more fault
+abbrev pub IsReady : {W : Type 0} → Viewer → Sink W → Type 0
+IsReady viewer sink = HasSeen viewer [] [] [] × HasFaultLeft sink
 
 -- whatever had come, these bytes follow it, and the rows that they end wait with the others
 abbrev pub SeesOn : Viewer → List ℕ → Viewer → Type 0

@@ -1,9 +1,9 @@
 //! Shows a report as it comes.
-ghost use Rattle.std.specs.Prelude.{◌≡◌, [], IfOk, MatchResult, OnOk};
+ghost use Rattle.std.specs.Prelude.{◌≡◌, IfOk, MatchResult, OnOk};
 ghost use Rattle.mimic_printer.specs.Sink.{Adds, HasFaultLeft, shown};
 ghost use Rattle.mimic_watch.specs.Frames.{FirstLinesFit, SecondLinesFit};
 ghost use Rattle.mimic_watch.specs.Watched.{HasFailed, HasWatched, failures_part, last_text};
-ghost use Rattle.mimic_watch.specs.Viewers.{HasSeen, put_text};
+ghost use Rattle.mimic_watch.specs.Viewers.{IsReady, put_text};
 
 use crate::frame::{ERASE, Screen, View, drawn_text};
 use crate::pace::{Pace, nanos};
@@ -76,8 +76,7 @@ fn run<I: Read, W: Write, C: Clock>(
     clock: &C,
     mut now: u64,
 ) -> Result<WatchVerdict, WatchFault>
-    requires seen { HasSeen viewer [] [] [] }
-    requires faults { HasFaultLeft sink.old }
+    requires { IsReady viewer sink.old }
     ensures { MatchResult result
         (HasWatched viewer.screen (I.remaining input.old) (shown W.contents sink.old) (shown W.contents sink.new))
         (HasFailed viewer.screen (I.remaining input.old) (I.remaining input.new)

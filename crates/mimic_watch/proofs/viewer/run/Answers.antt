@@ -11,7 +11,7 @@ pub loop-init : goal.loop-init
 loop-init g c = record {
   text = [];
   put = Put-refl _;
-  watching = begin _ _ _ c.requires.seen refl;
+  watching = begin _ _ _ c.requires.0 refl;
   room = omega arith;
 }
 
