@@ -1,8 +1,7 @@
 //! Prints the slowest trials of reports.
 use crate::faults::{refuse, refuse_output, status_of_end};
 use crate::input::Input;
-use crate::line;
-use crate::{BLOCK, SUCCESS};
+use crate::{BLOCK, SUCCESS, line};
 use mimic_events::read_into;
 use mimic_printer::{OutputFault, Sink};
 use mimic_reports::{Slowest, write_slowest};
