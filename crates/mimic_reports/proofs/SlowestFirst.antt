@@ -7,7 +7,7 @@ use Rattle.std.specs.Ordering.{is_lt, nat_cmp}
 use Rattle.std.proofs.lemmas.List.{get_or-map, length-map}
 use Rattle.std.proofs.lemmas.List.Sorted.{IsPermutation-map, length_permutation, sorted_far}
 use Rattle.mimic_reports.specs.declared.slowest.TimedRow.{TimedRow}
-use Rattle.mimic_reports.specs.Slowest.{IsSlowestFirst, Timed, timed_read}
+use Rattle.mimic_reports.specs.Slowest.{IsSlowestFirst, timed_read}
 
 -- the test of the order: one row took longer than the other
 abbrev pub is_slower : TimedRow → TimedRow → Bool

@@ -1,4 +1,4 @@
-use Rattle.std.proofs.Common.{◌≡◌, ◌∙◌, List, ◌++◌, ◌∷◌, [], ap, map, subst, sym}
+use Rattle.std.proofs.Common.{◌∙◌, List, ◌++◌, ◌∷◌, [], ap, map, subst, sym}
 use Rattle.std.proofs.lemmas.List.{map-append}
 use Rattle.mimic_events.specs.Contents.{entry_read}
 use Rattle.mimic_reports.specs.Slowest.{HasSlowest, IsEnough, Timed, timed_among, timed_read}
