@@ -1,5 +1,5 @@
 -- Of rows that come one after another, the slowest so far are enough to find the slowest of all.
-use Rattle.std.proofs.Common.{◌≡◌, ℕ, zero, suc, ◌≤◌, ◌<◌, ◌==◌, cond, ltb, Bool, true, false, inl, inr, List, [], ◌∷◌, ◌++◌, length, take, filter, Some, refl, sym, ap, ap₂, subst, ◌∙◌, arith, append-nil, append_assoc}
+use Rattle.std.proofs.Common.{◌≡◌, ℕ, zero, suc, ◌≤◌, ◌<◌, ◌==◌, cond, ltb, Bool, true, false, inl, inr, List, [], ◌∷◌, ◌++◌, take, filter, Some, refl, sym, ap, ap₂, subst, ◌∙◌, arith, append-nil, append_assoc}
 use Rattle.std.specs.List.{All, AllPairs}
 use Rattle.std.specs.List.Sorted.{IsPermutation}
 use Rattle.std.proofs.lemmas.Bool.{cases_lt, eq-eqb, eqb-true, le-ltb, lt-ltb, ne_eqb}
