@@ -2,11 +2,10 @@
 use crate::faults::{refuse, refuse_output, status_of_end};
 use crate::input::Input;
 use crate::line::Compare;
-use crate::{BLOCK, REFUSED};
+use crate::{REFUSED, output};
 use mimic_compare::{ComparisonOptions, ComparisonVerdict, write_comparison};
-use mimic_printer::{OutputFault, Sink};
+use mimic_printer::OutputFault;
 use std::alloc::Global;
-use std::io::BufWriter;
 
 // Prints what became of each kind and name, and why an input is no whole report. Nothing is compared if a file can't be opened: all that
 // the other one has would look new, or gone.
@@ -48,8 +47,5 @@ fn print<'a>(
         slower: compare.slower,
         lists_not_run: compare.lists_missing,
     };
-    let Ok(out) = BufWriter::with_capacity(alloc, BLOCK, rt.stdout()) else {
-        return Err(OutputFault::OutOfMemory);
-    };
-    write_comparison(alloc, old, new, &options, &mut Sink::new(out))
+    write_comparison(alloc, old, new, &options, &mut output(rt, alloc)?)
 }

@@ -2,14 +2,14 @@
 use crate::faults::{refuse, refuse_output, status_of_end};
 use crate::input::Input;
 use crate::line::Expect;
-use crate::{BLOCK, REFUSED, SUCCESS};
+use crate::{REFUSED, SUCCESS, output};
 use mimic_expect::{
     Expectation, ExpectationVerdict, KnownFault, read_known, write_unexpected, write_updated,
 };
 use mimic_printer::{OutputFault, Sink};
 use std::alloc::{AllocError, Global};
 use std::fs::{File, Permissions};
-use std::io::{BufWriter, Error, ErrorKind, Read, Write};
+use std::io::{Error, ErrorKind, Read, Write};
 use std::path::{Path, PathBuf};
 use std::{fs, io, process};
 
@@ -54,19 +54,12 @@ fn print<I: Read + Drop>(
     known: &[Expectation],
     inputs: Vec<I>,
 ) -> Result<ExpectationVerdict, OutputFault> {
-    let Ok(out) = BufWriter::with_capacity(alloc, BLOCK, rt.stdout()) else {
-        return Err(OutputFault::OutOfMemory);
-    };
-    let verdict = write_unexpected(alloc, known, inputs, expect.options, &mut Sink::new(out))?;
-    print_ends(rt, expect, &verdict);
-    Ok(verdict)
-}
-
-// Prints for each file without a whole report why it has none.
-fn print_ends(rt: &HostRuntime, expect: &Expect, verdict: &ExpectationVerdict) {
+    let mut sink = output(rt, alloc)?;
+    let verdict = write_unexpected(alloc, known, inputs, expect.options, &mut sink)?;
     for (file, end) in expect.files.iter().zip(&verdict.ends) {
         status_of_end(rt, file.as_str(), end);
     }
+    Ok(verdict)
 }
 
 // Prints why no known failures can be read from the file, and what makes some of a report, and returns the status.
@@ -110,27 +103,20 @@ fn updated(
     text: &[u8],
     known: &[Expectation],
 ) -> Result<Option<Vec<u8>>, OutputFault> {
-    let mut copies = empty_copies(alloc, expect.files.len())?;
-    let inputs = copied_inputs(rt, alloc, &expect.files, &mut copies)?;
+    let files = &expect.files;
+    let mut copies: Vec<Vec<u8>> = files.iter().map(|_| Vec::new(alloc)).collect(alloc)?;
+    let inputs = copied_inputs(rt, alloc, files, &mut copies)?;
     let verdict = print(rt, alloc, expect, known, inputs)?;
     if verdict.status() == REFUSED {
         return Ok(None);
     }
-    let reports = slices_of(alloc, &copies)?;
+    let reports = copies.iter().map(|copy| copy.as_slice()).collect(alloc)?;
     let mut sink = Sink::new(Vec::new(alloc));
     let verdict = write_updated(alloc, text, known, reports, expect.options.lax, &mut sink)?;
     if !verdict.is_written() {
         return Ok(None);
     }
     Ok(Some(sink.into_inner()))
-}
-
-fn empty_copies(alloc: Global, count: usize) -> Result<Vec<Vec<u8>>, AllocError> {
-    let mut copies = Vec::new(alloc);
-    for _ in 0..count {
-        copies.push(Vec::new(alloc))?;
-    }
-    Ok(copies)
 }
 
 fn copied_inputs<'a>(
@@ -147,14 +133,6 @@ fn copied_inputs<'a>(
         })?;
     }
     Ok(inputs)
-}
-
-fn slices_of(alloc: Global, copies: &[Vec<u8>]) -> Result<Vec<&[u8]>, AllocError> {
-    let mut slices = Vec::new(alloc);
-    for copy in copies {
-        slices.push(copy.as_slice())?;
-    }
-    Ok(slices)
 }
 
 // An input whose bytes are copied as they are read.

@@ -3,12 +3,10 @@ use crate::by_name::Absent;
 use crate::faults::{hint_of, refuse_all, refuse_write, status_with_running};
 use crate::input::Input;
 use crate::line::Join;
-use crate::{BLOCK, REFUSED, SUCCESS, TRIALS_FAILED};
+use crate::{REFUSED, SUCCESS, TRIALS_FAILED, output};
 use mimic_events::{ReadFault, RowsRead};
 use mimic_join::{JoinFault, Joined, Refusal, join_cut_reports, join_reports};
-use mimic_printer::Sink;
 use std::alloc::Global;
-use std::io::BufWriter;
 
 // Prints the joined report, and why it is cut, or why there is none.
 pub(crate) fn run(rt: &HostRuntime, alloc: Global, join: &Join) -> u8 {
@@ -26,10 +24,7 @@ fn print(rt: &HostRuntime, alloc: Global, join: &Join) -> Result<Joined, JoinFau
         return Err(JoinFault::Refused(Refusal::Number { reports, shards }));
     }
     let inputs = Input::all(rt, alloc, &join.files)?;
-    let Ok(out) = BufWriter::with_capacity(alloc, BLOCK, rt.stdout()) else {
-        return Err(JoinFault::OutOfMemory);
-    };
-    let mut sink = Sink::new(out);
+    let mut sink = output(rt, alloc)?;
     if join.cut {
         join_cut_reports(alloc, inputs, shards, equal_names, &mut sink)
     } else {

@@ -1,13 +1,12 @@
 //! Prints reports as JUnit's XML.
-use crate::faults::{refuse, refuse_all, refuse_write, status_of_end};
+use crate::faults::{refuse, refuse_output, status_of_end};
 use crate::input::{Input, name_of};
 use crate::line::{Junit, Root};
-use crate::{BLOCK, SUCCESS};
+use crate::{SUCCESS, output};
 use mimic_events::ReadFault;
-use mimic_printer::{Sink, WriteFault};
+use mimic_printer::OutputFault;
 use mimic_reports::{Suite, status_of, write_junit, write_suite};
 use std::alloc::Global;
-use std::io::{BufWriter, Write};
 
 // Prints the document of all reports, with what could be read of them. It also prints why a report is cut or could not be read. The
 // status says that, and, if the line asks for it, else whether a trial failed.
@@ -31,24 +30,23 @@ pub(crate) fn run(rt: &HostRuntime, alloc: Global, junit: &Junit) -> u8 {
     if junit.shows_failures && status == SUCCESS {
         status = status_of(suites.as_slice());
     }
-    let Ok(out) = BufWriter::with_capacity(alloc, BLOCK, rt.stdout()) else {
-        return refuse_all(rt, &ReadFault::OutOfMemory);
-    };
-    match write(junit.root, suites.as_slice(), out) {
+    match print(rt, alloc, junit.root, suites.as_slice()) {
         Ok(()) => status,
-        Err(fault) => refuse_write(rt, &fault),
+        Err(fault) => refuse_output(rt, &fault),
     }
 }
 
-// Writes the document of the reports, or of the one that there is if its element is to be the root.
-fn write<W: Write + Drop>(root: Root, suites: &[Suite<'_>], out: W) -> Result<(), WriteFault> {
-    let mut sink = Sink::new(out);
-    if root == Root::Testsuites {
-        return write_junit(suites, &mut sink);
+// Prints the document of the reports, or of the one that there is if its element is to be the root: then a line names one file.
+fn print(
+    rt: &HostRuntime,
+    alloc: Global,
+    root: Root,
+    suites: &[Suite<'_>],
+) -> Result<(), OutputFault> {
+    let mut sink = output(rt, alloc)?;
+    match suites {
+        [suite, ..] if root == Root::Testsuite => write_suite(suite, &mut sink)?,
+        _ => write_junit(suites, &mut sink)?,
     }
-    // With this root a line names one file.
-    match suites.first() {
-        Some(suite) => write_suite(suite, &mut sink),
-        None => Ok(()),
-    }
+    Ok(())
 }

@@ -2,18 +2,16 @@
 use crate::faults::{refuse_all, refuse_output, refuse_write, status_with_running};
 use crate::input::Input;
 use crate::line::Known;
-use crate::{BLOCK, SUCCESS};
+use crate::{SUCCESS, output};
 use mimic_expect::write_known;
-use mimic_printer::{OutputFault, Sink};
+use mimic_printer::OutputFault;
 use std::alloc::Global;
-use std::io::BufWriter;
 
 // Prints the failures that have ended in the files, one file after another, and why a report isn't whole. The status says that.
 pub(crate) fn run(rt: &HostRuntime, alloc: Global, known: &Known) -> u8 {
-    let Ok(out) = BufWriter::with_capacity(alloc, BLOCK, rt.stdout()) else {
+    let Ok(mut sink) = output(rt, alloc) else {
         return refuse_all(rt, &OutputFault::OutOfMemory);
     };
-    let mut sink = Sink::new(out);
     let mut status = SUCCESS;
     for file in &known.files {
         let file = file.as_str();

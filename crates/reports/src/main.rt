@@ -1,6 +1,9 @@
 //! Reads reports in JSON: joins those of shards into one, compares them, and prints them in other forms.
 #![tactic(auto)]
 
+ghost use Rattle.std.specs.Prelude.{◌≡◌, IfOk};
+ghost use Rattle.mimic_printer.specs.Sink.{faults_of};
+
 mod by_name;
 mod compare;
 mod expect;
@@ -19,9 +22,11 @@ mod watch;
 use clap::error::ErrorKind;
 use faults::{refuse_all, refuse_write};
 use line::{Line, LineError};
-use mimic_printer::WriteFault;
+use mimic_printer::{Sink, WriteFault};
 use mimic_trial::Conclusion;
+use std::alloc::{AllocError, Global};
 use std::io;
+use std::io::{BufWriter, Stdout};
 use std::process::ExitCode;
 
 // How many bytes of a report are buffered at most before they are written.
@@ -51,6 +56,16 @@ fn main(rt: HostRuntime) -> ExitCode {
         Err(error) => refuse(&rt, &error),
     };
     ExitCode::from(status)
+}
+
+// Returns standard output, with no fault yet. What is written is buffered.
+fn output(rt: &HostRuntime, alloc: Global) -> Result<Sink<BufWriter<Stdout>>, AllocError>
+    ensures { IfOk result (λ sink. faults_of sink ≡ 0) }
+{
+    match BufWriter::with_capacity(alloc, BLOCK, rt.stdout()) {
+        Ok(out) => Ok(Sink::new(out)),
+        Err(_) => Err(AllocError),
+    }
 }
 
 // Prints help, or why the line was refused.

@@ -1,13 +1,12 @@
 //! Prints a report as a page of HTML.
-use crate::BLOCK;
-use crate::faults::{refuse, refuse_all, refuse_write, status_of_end};
+use crate::faults::{refuse, refuse_output, status_of_end};
 use crate::input::{Input, name_of};
 use crate::line::Page;
+use crate::output;
 use mimic_events::ReadFault;
-use mimic_printer::Sink;
+use mimic_printer::OutputFault;
 use mimic_reports::{PageContents, Suite, write_page};
 use std::alloc::Global;
-use std::io::BufWriter;
 
 // Prints the page of what could be read of the file's report, and why it is cut or could not be read to its end.
 pub(crate) fn run(rt: &HostRuntime, alloc: Global, page: &Page) -> u8 {
@@ -17,14 +16,16 @@ pub(crate) fn run(rt: &HostRuntime, alloc: Global, page: &Page) -> u8 {
     };
     match print(rt, alloc, page, &suite) {
         Ok(()) => status_of_end(rt, file, suite.ending()),
-        Err(status) => status,
+        Err(fault) => refuse_output(rt, &fault),
     }
 }
 
-fn print(rt: &HostRuntime, alloc: Global, page: &Page, suite: &Suite<'_>) -> Result<(), u8> {
-    let Ok(out) = BufWriter::with_capacity(alloc, BLOCK, rt.stdout()) else {
-        return Err(refuse_all(rt, &ReadFault::OutOfMemory));
-    };
+fn print(
+    rt: &HostRuntime,
+    alloc: Global,
+    page: &Page,
+    suite: &Suite<'_>,
+) -> Result<(), OutputFault> {
     let contents = PageContents {
         title: match &page.title {
             Some(title) => title.as_str(),
@@ -36,5 +37,6 @@ fn print(rt: &HostRuntime, alloc: Global, page: &Page, suite: &Suite<'_>) -> Res
         cause: suite.cause(),
         most: page.most,
     };
-    write_page(&contents, &mut Sink::new(out)).map_err(|fault| refuse_write(rt, &fault))
+    write_page(&contents, &mut output(rt, alloc)?)?;
+    Ok(())
 }

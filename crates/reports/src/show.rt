@@ -2,13 +2,12 @@
 use crate::faults::{refuse, refuse_output, status_of_end};
 use crate::input::Input;
 use crate::line::{Colours, Show};
-use crate::{BLOCK, SUCCESS, TRIALS_FAILED};
+use crate::{SUCCESS, TRIALS_FAILED, output};
 use mimic_console::shows_colours;
 use mimic_events::{Ending, ReadFault, Report, Row, RowsRead, counts_of_rows, read_rows};
-use mimic_printer::{OutputFault, Sink};
+use mimic_printer::OutputFault;
 use mimic_reports::{show_cut, show_failures, show_report};
 use std::alloc::Global;
-use std::io::{BufWriter, Stdout};
 
 // Prints what has ended in the report of the file, or only its failures, and why it is cut or there is none.
 pub(crate) fn run(rt: &HostRuntime, alloc: Global, show: &Show) -> u8 {
@@ -41,12 +40,8 @@ fn print(
     rows: Vec<Row>,
     ending: &Ending,
 ) -> Result<(), OutputFault> {
-    let out = rt.stdout();
-    let colours = has_colours(rt, show.colours, &out);
-    let Ok(out) = BufWriter::with_capacity(alloc, BLOCK, out) else {
-        return Err(OutputFault::OutOfMemory);
-    };
-    let mut sink = Sink::new(out);
+    let colours = has_colours(rt, show.colours);
+    let mut sink = output(rt, alloc)?;
     match ending {
         Ending::Failed(_) => Ok(()),
         _ if show.only_failed => show_failures(alloc, rows, ending, &mut sink),
@@ -69,9 +64,9 @@ fn print(
     }
 }
 
-fn has_colours(rt: &HostRuntime, colours: Colours, out: &Stdout) -> bool {
+fn has_colours(rt: &HostRuntime, colours: Colours) -> bool {
     match colours {
-        Colours::Auto => shows_colours(rt, out),
+        Colours::Auto => shows_colours(rt, &rt.stdout()),
         Colours::Always => true,
         Colours::Never => false,
     }

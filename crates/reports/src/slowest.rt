@@ -1,12 +1,11 @@
 //! Prints the slowest trials of reports.
 use crate::faults::{refuse, refuse_output, status_of_end};
 use crate::input::Input;
-use crate::{BLOCK, SUCCESS, line};
+use crate::{SUCCESS, line, output};
 use mimic_events::read_into;
-use mimic_printer::{OutputFault, Sink};
+use mimic_printer::OutputFault;
 use mimic_reports::{Slowest, write_slowest};
 use std::alloc::Global;
-use std::io::BufWriter;
 
 // Prints the slowest trials of all files, of those that had ended before one is cut or can't be read on. It also prints why that is.
 pub(crate) fn run(rt: &HostRuntime, alloc: Global, line: &line::Slowest) -> u8 {
@@ -26,8 +25,5 @@ pub(crate) fn run(rt: &HostRuntime, alloc: Global, line: &line::Slowest) -> u8 {
 }
 
 fn print(rt: &HostRuntime, alloc: Global, slowest: Slowest) -> Result<(), OutputFault> {
-    let Ok(out) = BufWriter::with_capacity(alloc, BLOCK, rt.stdout()) else {
-        return Err(OutputFault::OutOfMemory);
-    };
-    write_slowest(slowest, &mut Sink::new(out))
+    write_slowest(slowest, &mut output(rt, alloc)?)
 }
