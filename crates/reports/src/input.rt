@@ -126,11 +126,10 @@ impl<'a> Input<'a> {
         alloc: Global,
         paths: &'a [String],
     ) -> Result<Vec<Input<'a>>, AllocError> {
-        let mut inputs = Vec::new(alloc);
-        for path in paths {
-            inputs.push(Input::new(rt, path.as_str()))?;
-        }
-        Ok(inputs)
+        paths
+            .iter()
+            .map(|path| Input::new(rt, path.as_str()))
+            .collect(alloc)
     }
 }
 
