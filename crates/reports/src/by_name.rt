@@ -77,14 +77,11 @@ fn equal_pair(named: &[Named]) -> Option<(&Named, &Named)> {
 
 // Returns all numbers in the name, in their order. Each is a run of digits, and at most `u64::MAX`.
 fn numbers_in(alloc: Global, name: &str) -> Result<Vec<u64>, AllocError> {
-    let mut numbers = Vec::new(alloc);
-    for digits in name.split(|c: char| !c.is_ascii_digit()) {
-        if !digits.is_empty() {
-            // Digits are refused only if there are too many.
-            numbers.push(digits.parse::<u64>().unwrap_or(u64::MAX))?;
-        }
-    }
-    Ok(numbers)
+    // Digits are refused only if there are too many.
+    name.split(|c: char| !c.is_ascii_digit())
+        .filter(|digits| !digits.is_empty())
+        .map(|digits| digits.parse::<u64>().unwrap_or(u64::MAX))
+        .collect(alloc)
 }
 
 /// The shards that have no file. It is shown how many they are, and of at most 20 the numbers, if the files' names say them.
@@ -138,16 +135,10 @@ fn absent_numbers(alloc: Global, files: &[String], shards: u64) -> Result<Vec<u6
         return Ok(Vec::new(alloc));
     };
     let last = first.saturating_add(shards.saturating_sub(1));
-    let mut absent = Vec::new(alloc);
-    for number in first..=last {
-        if absent.len() == MOST_NAMED {
-            break;
-        }
-        if numbers.binary_search(&number).is_err() {
-            absent.push(number)?;
-        }
-    }
-    Ok(absent)
+    (first..=last)
+        .filter(|number| numbers.binary_search(number).is_err())
+        .take(MOST_NAMED)
+        .collect(alloc)
 }
 
 // Returns the number of each file's shard, which is the first one that isn't the same in the first and the last name. There are none

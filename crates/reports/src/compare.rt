@@ -27,13 +27,9 @@ pub(crate) fn run(rt: &HostRuntime, alloc: Global, compare: &Compare) -> u8 {
 
 // Opens a file, or prints why it can't.
 fn open<'a>(rt: &'a HostRuntime, file: &'a str) -> Option<Input<'a>> {
-    match Input::open(rt, file) {
-        Ok(input) => Some(input),
-        Err(error) => {
-            refuse(rt, file, &error);
-            None
-        }
-    }
+    Input::open(rt, file)
+        .map_err(|error| refuse(rt, file, &error))
+        .ok()
 }
 
 fn print<'a>(

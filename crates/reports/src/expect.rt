@@ -189,10 +189,7 @@ fn replace(rt: &HostRuntime, alloc: Global, file: &str, old: &[u8], new: &[u8]) 
 fn target_of(rt: &HostRuntime, alloc: Global, file: &str) -> io::Result<PathBuf> {
     match fs::canonicalize(rt, file) {
         Err(error) if error.kind() == ErrorKind::NotFound && !Path::new(file).is_symlink(rt) => {
-            match PathBuf::from_str(alloc, file) {
-                Ok(path) => Ok(path),
-                Err(_) => Err(ErrorKind::OutOfMemory.into()),
-            }
+            PathBuf::from_str(alloc, file).map_err(|_| ErrorKind::OutOfMemory.into())
         }
         found => found,
     }

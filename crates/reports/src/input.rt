@@ -142,10 +142,7 @@ pub(crate) fn name_of(file: &str) -> &str {
 }
 
 fn is_regular(rt: &HostRuntime, path: &str) -> bool {
-    match fs::metadata(rt, path) {
-        Ok(metadata) => metadata.is_file(),
-        Err(_) => false,
-    }
+    fs::metadata(rt, path).is_ok_and(|metadata| metadata.is_file())
 }
 
 impl Read for Input<'_> {

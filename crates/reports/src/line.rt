@@ -224,10 +224,10 @@ impl Join {
 
 impl Junit {
     fn from_matches(alloc: Global, matches: &ArgMatches<'_>) -> Result<Junit, LineError> {
-        let name = match matches.get_str("name") {
-            Some(name) => Some(String::from_str(alloc, name)?),
-            None => None,
-        };
+        let name = matches
+            .get_str("name")
+            .map(|name| String::from_str(alloc, name))
+            .transpose()?;
         let root = match matches.get_str("root") {
             Some("testsuite") => Root::Testsuite,
             _ => Root::Testsuites,
@@ -315,10 +315,10 @@ impl Compare {
 
 impl Page {
     fn from_matches(alloc: Global, matches: &ArgMatches<'_>) -> Result<Page, LineError> {
-        let title = match matches.get_str("title") {
-            Some(title) => Some(String::from_str(alloc, title)?),
-            None => None,
-        };
+        let title = matches
+            .get_str("title")
+            .map(|title| String::from_str(alloc, title))
+            .transpose()?;
         let mut notes = Vec::new(alloc);
         for note in matches.get_strs("note").unwrap_or(&[]) {
             notes.push(String::from_str(alloc, note)?)?;
