@@ -15,21 +15,17 @@ pub(crate) fn run(rt: &HostRuntime, alloc: Global, show: &Show) -> u8 {
     let Ok(RowsRead { rows, ending }) = read_rows(alloc, Input::kept(rt, file)) else {
         return refuse(rt, file, &ReadFault::OutOfMemory);
     };
-    let status = status_of(&rows);
+    let status = if counts_of_rows(&rows, 0).has_failed() {
+        TRIALS_FAILED
+    } else {
+        SUCCESS
+    };
     if let Err(fault) = print(rt, alloc, show, rows, &ending) {
         return refuse_output(rt, &fault);
     }
     match &ending {
         Ending::Whole { .. } => status,
         _ => status_of_end(rt, file, &ending),
-    }
-}
-
-fn status_of(rows: &[Row]) -> u8 {
-    if counts_of_rows(rows, 0).has_failed() {
-        TRIALS_FAILED
-    } else {
-        SUCCESS
     }
 }
 

@@ -86,15 +86,11 @@ fn show<H: Host>(
             if screen.live {
                 let _ = sink.into_inner().write_all(ERASE.as_bytes());
             }
-            refuse_fault(host, &fault)
+            match &fault {
+                WatchFault::Read(_) => refuse_all(host, &fault),
+                WatchFault::Write(fault) => refuse_output(host, fault),
+            }
         }
-    }
-}
-
-fn refuse_fault<H: Host>(host: &H, fault: &WatchFault) -> u8 {
-    match fault {
-        WatchFault::Read(_) => refuse_all(host, fault),
-        WatchFault::Write(fault) => refuse_output(host, fault),
     }
 }
 
@@ -123,8 +119,5 @@ fn columns_of<H: Host>(host: &H) -> Option<usize> {
 
 // Whether `TERM` names a terminal that knows escape sequences.
 fn knows_escapes<H: Host>(host: &H) -> bool {
-    match env::var(host, "TERM") {
-        Ok(term) => !term.is_empty() && term.as_str() != "dumb",
-        Err(_) => false,
-    }
+    env::var(host, "TERM").is_ok_and(|term| !term.is_empty() && term.as_str() != "dumb")
 }
