@@ -15,7 +15,7 @@ use Rattle.mimic_printer.specs.Report.{announcement_in, announcement_text, failu
 use Rattle.mimic_printer.specs.Sink.{Shown, Put, Stopped}
 use Rattle.libtest_mimic.specs.declared.running.RunError.{RunError}
 use Rattle.libtest_mimic.specs.declared.running.RunError.TheVariants.{OutOfMemory, Write, ZeroThreads, Spawn, Arrival}
-use Rattle.libtest_mimic.specs.Run.{ReportedBy, Reports, StartsReport, next_text, start_text}
+use Rattle.libtest_mimic.specs.Run.{Reported, Reports, StartsReport, next_text, start_text}
 use Rattle.libtest_mimic.specs.Steps.{PrintsAs}
 use Rattle.libtest_mimic.specs.Stopwatch.{Watched, elapsed_of}
 use Rattle.libtest_mimic.specs.Suite.{Suite}
@@ -111,22 +111,20 @@ module _ {R : Type 0} (gives : Gives R) (suite : Suite R) (q : Printer) (same : 
       (ap₂ (λ x y. x ++ y) (rows_same suite.printer q same rows) (next_same rows left))
 
   -- a whole report
-  pub reported_same : (threads : ℕ) (old new : Shown) (watch : Watched) (c : Conclusion) → ReportedBy gives threads suite old new watch c → ReportedBy gives threads (record suite { printer = q }) old new watch c
-  reported_same threads old new watch c (placed, ordered, some, r) = (
-    placed,
-    ordered,
-    some,
-    record {
-      arranged = r.arranged;
-      rows = r.rows;
-      timed = r.timed;
-      nanos = r.nanos;
-      elapsed = r.elapsed;
-      fits = r.fits;
-      appended = let P : List ℕ → Type 0 = λ t. Put old new t in subst P (report_same suite.printer q same _ suite.filtered_out r.nanos) r.appended;
-      counts = r.counts;
-    },
-  )
+  pub reported_same : (threads : ℕ) (old new : Shown) (watch : Watched) (c : Conclusion) → Reported gives threads suite old new watch c → Reported gives threads (record suite { printer = q }) old new watch c
+  reported_same threads old new watch c r = record {
+    placed = r.placed;
+    ordered = r.ordered;
+    none = r.none;
+    arranged = r.arranged;
+    rows = r.rows;
+    timed = r.timed;
+    nanos = r.nanos;
+    elapsed = r.elapsed;
+    fits = r.fits;
+    appended = let P : List ℕ → Type 0 = λ t. Put old new t in subst P (report_same suite.printer q same _ suite.filtered_out r.nanos) r.appended;
+    counts = r.counts;
+  }
 
   -- a start of a report
   starts_same : (order : List ℕ) (old new : Shown) (watch : Watched) → StartsReport gives suite order old new watch → StartsReport gives (record suite { printer = q }) order old new watch

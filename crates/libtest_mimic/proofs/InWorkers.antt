@@ -25,7 +25,7 @@ use Rattle.mimic_printer.specs.Sink.{Put, Shown, Stopped}
 use Rattle.libtest_mimic.specs.declared.running.RunError.{RunError}
 use Rattle.libtest_mimic.specs.declared.running.RunError.TheVariants.{OutOfMemory, Write, ZeroThreads, Spawn, Arrival}
 use Rattle.libtest_mimic.specs.Arrangement.{IsArrangement, IsOwnAt}
-use Rattle.libtest_mimic.specs.Run.{ReportRefused, ReportedBy, start_text}
+use Rattle.libtest_mimic.specs.Run.{ReportRefused, Reported, start_text}
 use Rattle.libtest_mimic.specs.Gathering.{Gathered, IsGathered, IsRowOf}
 use Rattle.libtest_mimic.specs.Steps.{AreParts, AreSupplied, PutsTitled, RowsRefused}
 use Rattle.libtest_mimic.specs.Stopwatch.{Watched, IsRunning, elapsed_of}
@@ -192,5 +192,5 @@ module _ {R : Type 0} (gives : Gives R) (suite : Suite R) (can_run : R → Type 
           summary_refused fault s =
               (places_of placed, all.places, in_some_order, some_thread, starts_summary gives suite placed all rows timed a d start f w nanos x counts time s)
 
-          pub reported_by : nanos < 2 ^ 64 → Put d f (summary_text suite.printer x nanos) → ReportedBy gives threads suite a f w x
-          reported_by fits s = (placed, in_some_order, some_thread, reported gives suite placed all rows timed a d start f w nanos x counts time fits s)
+          pub reported_by : nanos < 2 ^ 64 → Put d f (summary_text suite.printer x nanos) → Reported gives threads suite a f w x
+          reported_by fits s = reported gives suite placed all rows timed a d start f w nanos x counts time threads in_some_order some_thread fits s

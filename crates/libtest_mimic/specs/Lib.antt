@@ -2,6 +2,7 @@ pub mod Stopwatch
 pub mod Selection
 pub mod Arrangement
 pub mod Suite
+pub mod Request
 pub mod Run
 pub mod Gathering
 pub mod Steps

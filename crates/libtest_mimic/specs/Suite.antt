@@ -62,15 +62,10 @@ suite_of args auto_colours selected filtered_out = record {
 abbrev pub filtered_out_of : {A : Type 0} → List A → List A → ℕ
 filtered_out_of trials selected = length trials - length selected
 
--- P holds of the suite of the trials that the arguments select of those handed in; the others are filtered out
-abbrev pub OfSuite : {R : Type 0} → Arguments → Bool → List (Trial R) → (Suite R → Type 0) → Type 0
-OfSuite {R} args auto_colours trials P =
-    (selected : List (Trial R)) × IsSelection args trials selected
-    × P (suite_of args auto_colours selected (filtered_out_of trials selected))
-
--- P holds of the suite that a run is asked for
+-- P holds of the suite of the trials that are selected of those that a run is asked for; the others are filtered out
 abbrev pub OfAsked : {R : Type 0} → Asked R → (Suite R → Type 0) → Type 0
-OfAsked asked P = OfSuite asked.args asked.auto_colours asked.trials P
+OfAsked {R} asked P = (selected : List (Trial R)) × IsSelection asked.args asked.trials selected
+    × P (suite_of asked.args asked.auto_colours selected (filtered_out_of asked.trials selected))
 
 -- the places of the suite's trials in their order: 0, 1, ..
 abbrev pub in_order : {R : Type 0} → Suite R → List ℕ

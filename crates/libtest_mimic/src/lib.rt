@@ -28,8 +28,10 @@ mod checks;
 pub mod outcome;
 pub mod pool;
 pub mod printer;
+mod request;
 mod running;
 pub mod select;
+mod selection;
 mod stopwatch;
 pub mod text;
 
@@ -42,5 +44,7 @@ pub use mimic_trial::{
     BenchRunner, Case, Check, Conclusion, Failed, Measurement, Outcome, Runner, Task, TestInfo,
     TestRunner, Trial, count_rows, run_single,
 };
-pub use running::{Request, RunError, run, run_as, run_from_queue, run_here};
+pub use request::Request;
+pub use running::{RunError, run, run_from_queue, run_here, run_request};
+pub use selection::Selection;
 pub use stopwatch::{Clock, Stopwatch};

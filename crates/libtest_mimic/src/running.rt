@@ -1,37 +1,33 @@
 //! Runs trials and writes their report.
-ghost use Rattle.std.specs.Prelude.{◌≡◌, ◌≢◌, ◌≤◌, [], false, Err};
+ghost use Rattle.std.specs.Prelude.{◌≡◌, ◌≢◌, ◌≤◌, [], Err};
 ghost use Rattle.mimic_printer.specs.Sink.{HasFaultLeft, shown};
 ghost use Rattle.mimic_trial.specs.Trial.{AllCanRun};
 ghost use Rattle.mimic_args.specs.Arguments.{threads_of};
-ghost use Rattle.libtest_mimic.specs.Run.{OnNothingWritten, Reports, Runs, RunsBy, done};
-ghost use Rattle.libtest_mimic.specs.declared.running.RunError.TheVariants.{ZeroThreads};
-ghost use Rattle.libtest_mimic.specs.Steps.{selected_suite};
+ghost use Rattle.libtest_mimic.specs.Request.{IsSelected, asked_by};
+ghost use Rattle.libtest_mimic.specs.Run.{IsRun, Lists, done};
 ghost use Rattle.libtest_mimic.specs.Stopwatch.{IsFresh, IsRunning};
-ghost use Rattle.libtest_mimic.specs.Suite.{OfSuite, asking};
+ghost use Rattle.libtest_mimic.specs.Suite.{asking};
 
 mod arrivals;
 mod desk_rows;
 pub(crate) mod gathering;
 mod in_order;
 mod in_workers;
-mod list;
-mod selection;
 mod summary;
 pub(crate) mod tally;
 mod timing;
 
+use crate::request::Request;
+use crate::selection::Selection;
 use crate::stopwatch::{Clock, Stopwatch};
 use in_order::run_in_order;
-use in_workers::{Workers, run_in_workers};
-use list::add_list;
+use in_workers::run_in_workers;
 use mimic_args::Arguments;
-use mimic_pool::{RunningTrials, Schedule, Spawner};
-use mimic_printer::{Sink, WriteFault};
+use mimic_pool::{Schedule, Spawner};
+use mimic_printer::{Printer, Sink, WriteFault};
 use mimic_trial::{Conclusion, Task, Trial};
-use selection::{Selection, select};
 use std::alloc::{AllocError, AllocFailed, Global};
 use std::io::Write;
-use std::sync::Arc;
 use thiserror::Error;
 
 /// Why a run was refused.
@@ -84,31 +80,18 @@ pub fn run<R: Task + Send + 'static, W: Write, C: Clock, T: Spawner + 'static>(
     requires fresh { IsFresh watch.old }
     requires runnable { AllCanRun R.can_run tests.items }
     requires some_thread { 1 ≤ default_threads }
-
-    // What every run does: a list if one is asked, counts that add up, the same rows up to their order, and JSON that is read back.
-    ensures runs { Runs (asking R.gives default_threads auto_colours tests.items args.now)
-        (done W.contents sink.old sink.new watch.new result) }
-
-    // Without a list there is a report of the selected trials, for every number of threads.
-    ensures reported { RunsBy (threads_of args.now default_threads)
-        (asking R.gives default_threads auto_colours tests.items args.now)
-        (done W.contents sink.old sink.new watch.new result) }
-
-    // Without a thread no trial can run.
-    ensures zero_threads { args.now.list ≡ false → threads_of args.now default_threads ≡ 0
-        → OfSuite args.now auto_colours tests.items (λ suite. suite.trials ≢ [] → result ≡ Err ZeroThreads) }
-
-    // Nothing was written, whatever is known of the writer's bytes.
-    ensures unwritten { OnNothingWritten result (sink.new ≡ sink.old) }
+    ensures { IsRun (threads_of args.now default_threads) (asking R.gives default_threads auto_colours tests.items args.now)
+        (done W.contents sink.old sink.new watch.new result) (sink.new ≡ sink.old) }
 {
+    watch.start();
     let request = Request {
-        args,
+        selection: Selection::new(args, tests),
         default_threads,
         auto_colours,
         schedule: Schedule::Shares,
         running: None,
     };
-    run_as(rt, alloc, request, tests, sink, watch)
+    run_request(rt, alloc, request, sink, watch)
 }
 
 /// Runs the selected trials as `run` does, but with more than one thread the workers take them from one queue: each takes the next
@@ -133,122 +116,63 @@ pub fn run_from_queue<R: Task + Send + 'static, W: Write, C: Clock, T: Spawner +
     requires fresh { IsFresh watch.old }
     requires runnable { AllCanRun R.can_run tests.items }
     requires some_thread { 1 ≤ default_threads }
-
-    // What every run does: a list if one is asked, counts that add up, the same rows up to their order, and JSON that is read back.
-    ensures runs { Runs (asking R.gives default_threads auto_colours tests.items args.now)
-        (done W.contents sink.old sink.new watch.new result) }
-
-    // Without a list there is a report of the selected trials, for every number of threads.
-    ensures reported { RunsBy (threads_of args.now default_threads)
-        (asking R.gives default_threads auto_colours tests.items args.now)
-        (done W.contents sink.old sink.new watch.new result) }
-
-    // Without a thread no trial can run.
-    ensures zero_threads { args.now.list ≡ false → threads_of args.now default_threads ≡ 0
-        → OfSuite args.now auto_colours tests.items (λ suite. suite.trials ≢ [] → result ≡ Err ZeroThreads) }
-
-    // Nothing was written, whatever is known of the writer's bytes.
-    ensures unwritten { OnNothingWritten result (sink.new ≡ sink.old) }
+    ensures { IsRun (threads_of args.now default_threads) (asking R.gives default_threads auto_colours tests.items args.now)
+        (done W.contents sink.old sink.new watch.new result) (sink.new ≡ sink.old) }
 {
+    watch.start();
     let request = Request {
-        args,
+        selection: Selection::new(args, tests),
         default_threads,
         auto_colours,
         schedule: Schedule::Queue,
         running: None,
     };
-    run_as(rt, alloc, request, tests, sink, watch)
+    run_request(rt, alloc, request, sink, watch)
 }
 
-/// What is asked of a run, and who looks at it.
-#[derive(Drop)]
-pub struct Request<'a> {
-    /// Its arguments.
-    pub args: &'a Arguments,
-    /// How many threads run the trials if the arguments leave it open, at least 1.
-    pub default_threads: usize,
-    /// Whether its report has colours if the arguments leave it open.
-    pub auto_colours: bool,
-    /// How the trials come to workers if more than one thread runs them.
-    pub schedule: Schedule,
-    /// Where each thread marks the trial that it runs, by its place among the selected ones, if anybody looks. A thread for which there
-    /// is no cell marks none.
-    pub running: Option<Arc<RunningTrials>>,
-}
-
-/// Runs or lists the selected trials as requested: as `run` does if they are dealt out, and as `run_from_queue` does if they wait in a
-/// queue.
+/// Runs or lists the trials that were selected, as the request says: as `run` does if they are dealt out, and as `run_from_queue` does if
+/// they wait in a queue. The watch was started already; it is stopped directly before the summary is written.
 ///
 /// The marks of the trials that run change nothing in the run. No contract says what they are.
-pub fn run_as<R: Task + Send + 'static, W: Write, C: Clock, T: Spawner + 'static>(
+pub fn run_request<R: Task + Send + 'static, W: Write, C: Clock, T: Spawner + 'static>(
     rt: &T,
     alloc: Global,
-    request: Request<'_>,
-    tests: Vec<Trial<R>>,
-    sink: &mut Sink<W>,
-    watch: &mut Stopwatch<C>,
-) -> Result<Conclusion, RunError>
-    requires room { HasFaultLeft sink.old }
-    requires fresh { IsFresh watch.old }
-    requires runnable { AllCanRun R.can_run tests.items }
-    requires some_thread { 1 ≤ request.default_threads }
-
-    // What every run does, as with `run`.
-    ensures runs { Runs (asking R.gives request.entry.default_threads request.entry.auto_colours tests.items request.entry.args.now)
-        (done W.contents sink.old sink.new watch.new result) }
-
-    // Without a list there is a report of the selected trials, for every number of threads.
-    ensures reported { RunsBy (threads_of request.entry.args.now request.entry.default_threads)
-        (asking R.gives request.entry.default_threads request.entry.auto_colours tests.items request.entry.args.now)
-        (done W.contents sink.old sink.new watch.new result) }
-
-    // Without a thread no trial can run.
-    ensures zero_threads { request.entry.args.now.list ≡ false → threads_of request.entry.args.now request.entry.default_threads ≡ 0
-        → OfSuite request.entry.args.now request.entry.auto_colours tests.items (λ suite. suite.trials ≢ [] → result ≡ Err ZeroThreads) }
-
-    // Nothing was written, whatever is known of the writer's bytes.
-    ensures unwritten { OnNothingWritten result (sink.new ≡ sink.old) }
-{
-    watch.start();
-    if request.args.list {
-        let counts = add_list(request.args, tests, sink);
-        sink.end()?;
-        return Ok(counts);
-    }
-    let selected = select(request.args, tests, request.auto_colours);
-    let workers = Workers {
-        threads: request.args.threads(request.default_threads),
-        schedule: request.schedule,
-        running: request.running,
-    };
-    run_with_threads(rt, alloc, selected, workers, sink, watch)
-}
-
-// Runs the trials on `workers.threads` threads and writes their report.
-fn run_with_threads<R: Task + Send + 'static, W: Write, C: Clock, T: Spawner + 'static>(
-    rt: &T,
-    alloc: Global,
-    selected: Selection<'_, R>,
-    workers: Workers,
+    request: Request<'_, R>,
     sink: &mut Sink<W>,
     watch: &mut Stopwatch<C>,
 ) -> Result<Conclusion, RunError>
     requires room { HasFaultLeft sink.old }
     requires running { IsRunning watch.old }
-    requires runnable { AllCanRun R.can_run selected.trials.items }
-    ensures reported { Reports R.gives workers.threads (selected_suite selected.entry)
-        (shown W.contents sink.old) (shown W.contents sink.new) watch.new result }
-    ensures zero_threads { workers.threads ≡ 0 → selected.entry.trials.items ≢ []
-        → result ≡ Err ZeroThreads }
-    ensures unwritten { OnNothingWritten result (sink.new ≡ sink.old) }
+    requires selected { IsSelected request.selection }
+    requires runnable { AllCanRun R.can_run request.selection.trials.items }
+    requires some_thread { 1 ≤ request.default_threads }
+    ensures { IsRun (threads_of request.entry.selection.args.now request.entry.default_threads) (asked_by R.gives request.entry)
+        (done W.contents sink.old sink.new watch.new result) (sink.new ≡ sink.old) }
 {
-    if workers.threads == 1 || selected.trials.is_empty() {
-        return run_in_order(alloc, selected, workers.running.as_ref(), sink, watch);
+    let trials = request.selection.trials.as_slice();
+    if request.selection.args.list {
+        return write_list(trials, sink);
     }
-    if workers.threads == 0 {
+    let printer = request.printer();
+    let threads = request.threads();
+    if threads == 1 || trials.is_empty() {
+        return run_in_order(alloc, request, printer, sink, watch);
+    }
+    if threads == 0 {
         return Err(RunError::ZeroThreads);
     }
-    run_in_workers(rt, alloc, selected, workers, sink, watch)
+    run_in_workers(rt, alloc, request, printer, sink, watch)
+}
+
+// Writes the list of the trials, and a flush behind it.
+fn write_list<R, W: Write>(trials: &[Trial<R>], sink: &mut Sink<W>) -> Result<Conclusion, RunError>
+    requires { HasFaultLeft sink.old }
+    ensures { Lists trials.now (shown W.contents sink.old) (shown W.contents sink.new) result }
+{
+    Printer::add_list(trials, false, sink);
+    sink.add_flush();
+    sink.end()?;
+    Ok(Conclusion::empty(0))
 }
 
 /// Runs the selected trials in their order, each once, in the calling thread, and writes their report;
@@ -273,26 +197,22 @@ pub fn run_here<R: Task, W: Write, C: Clock>(
     requires room { HasFaultLeft sink.old }
     requires fresh { IsFresh watch.old }
     requires runnable { AllCanRun R.can_run tests.items }
-
-    // What every run does, as with `run`.
-    ensures runs { Runs (asking R.gives 1 auto_colours tests.items args.now)
-        (done W.contents sink.old sink.new watch.new result) }
-
-    // Without a list there is a report of the selected trials, in their order: that of one thread.
-    ensures reported { RunsBy 1 (asking R.gives 1 auto_colours tests.items args.now)
-        (done W.contents sink.old sink.new watch.new result) }
-
-    // Nothing was written, whatever is known of the writer's bytes.
-    ensures unwritten { OnNothingWritten result (sink.new ≡ sink.old) }
+    ensures { IsRun 1 (asking R.gives 1 auto_colours tests.items args.now)
+        (done W.contents sink.old sink.new watch.new result) (sink.new ≡ sink.old) }
 {
     watch.start();
+    let request = Request {
+        selection: Selection::new(args, tests),
+        default_threads: 1,
+        auto_colours,
+        schedule: Schedule::Queue,
+        running: None,
+    };
     if args.list {
-        let zeros = add_list(args, tests, sink);
-        sink.end()?;
-        return Ok(zeros);
+        return write_list(request.selection.trials.as_slice(), sink);
     }
-    let selected = select(args, tests, auto_colours);
-    run_in_order(alloc, selected, None, sink, watch)
+    let printer = request.printer();
+    run_in_order(alloc, request, printer, sink, watch)
 }
 
 impl From<AllocError> for RunError {

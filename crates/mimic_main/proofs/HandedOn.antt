@@ -58,24 +58,22 @@ module _ {R : Type 0} (asked : Asked R) (watch : Watched) where
     watched = a.watched;
     reported = λ unlisted.
         let o = a.reported unlisted in
-        let r = o.2.3 in (
+        let r = o.2 in (
           o.0,
           o.1,
-          (
-            o.2.0,
-            o.2.1,
-            o.2.2,
-            record {
-              arranged = r.arranged;
-              rows = r.rows;
-              timed = r.timed;
-              nanos = r.nanos;
-              elapsed = r.elapsed;
-              fits = r.fits;
-              appended = Put-got old new got _ k r.appended;
-              counts = r.counts;
-            },
-          ),
+          record {
+            placed = r.placed;
+            ordered = r.ordered;
+            none = r.none;
+            arranged = r.arranged;
+            rows = r.rows;
+            timed = r.timed;
+            nanos = r.nanos;
+            elapsed = r.elapsed;
+            fits = r.fits;
+            appended = Put-got old new got _ k r.appended;
+            counts = r.counts;
+          },
         );
   }
 

@@ -6,11 +6,11 @@ use Rattle.mimic_args.specs.declared.Arguments.{Arguments}
 use Rattle.mimic_args.specs.declared.error.ArgumentsError.{ArgumentsError}
 use Rattle.mimic_args.specs.declared.error.ArgumentsError.TheVariants.{OutOfMemory, Help, Refused}
 use Rattle.mimic_trial.specs.declared.trial.Trial.{Trial}
-use Rattle.libtest_mimic.specs.Stopwatch.{nothing}
+use Rattle.libtest_mimic.specs.Stopwatch.{Watched, nothing}
 use Rattle.libtest_mimic.specs.Suite.{Asked}
 use Rattle.mimic_trial.proofs.AllShards.{all_of_shard}
 use Rattle.mimic_trial.specs.declared.shard.Shard.{Shard}
-use Rattle.mimic_main.specs.Ended.{EndsAsAsked, EndsInPart, EndsSomehow}
+use Rattle.mimic_main.specs.Ended.{EndsAsAsked, EndsInPart, EndsSomehow, RanLine}
 use Rattle.mimic_main.specs.Sharding.{HasFilterOf, IsPartFault, items_for, no_sharding, trials_of}
 use Rattle.mimic_main.specs.declared.sharding.Sharding.{Sharding}
 use Rattle.mimic_main.specs.declared.sharding.ShardError.{ShardError}
@@ -24,10 +24,10 @@ module _ {X : Type 0} (P : X → Type 0) where
   all_taken shard xs taken e all = subst (All P) (sym e) (all_of_part shard xs all)
 
 -- a run of the part's trials is one in the part
-pub ends_in_part : {R : Type 0} (ask : List (Trial R) → Arguments → Asked R) (trials taken : List (Trial R)) (args asked : Arguments) (sharding : Sharding) (status : ℕ)
-    → HasFilterOf sharding.filter args asked → taken ≡ trials_of sharding trials → EndsSomehow (ask taken) (Ok asked) status → EndsInPart ask trials args sharding status
-ends_in_part {R = R} ask trials taken args asked sharding status filter e ended =
-    let Ends : List (Trial R) → Type 0 = λ l. EndsSomehow (ask l) (Ok asked) status in inl (asked, filter, subst Ends e ended)
+pub ends_in_part : {R : Type 0} (ask : List (Trial R) → Arguments → Asked R) (trials taken : List (Trial R)) (args asked : Arguments) (sharding : Sharding) (old got : Option (List ℕ)) (watch : Watched) (status : ℕ)
+    → HasFilterOf sharding.filter args asked → taken ≡ trials_of sharding trials → RanLine (ask taken asked) old got watch status → EndsInPart ask trials args sharding status
+ends_in_part {R = R} ask trials taken args asked sharding old got watch status filter e ran =
+    let Ran : List (Trial R) → Type 0 = λ l. RanLine (ask l asked) old got watch status in inl (asked, filter, old, got, watch, subst Ran e ran)
 
 -- nothing can be in the way if nothing is asked
 no_fault : (error : ShardError) → IsPartFault no_sharding error → ⊥

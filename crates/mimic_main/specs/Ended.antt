@@ -76,11 +76,12 @@ status_without_part (ShardError.NotUtf8 name) = 2
 status_without_part (ShardError.NoShard fault) = 2
 status_without_part (ShardError.StatusFile path cause) = 2
 
--- the status is that of a run of the shard's trials, with the filter of the environment if these arguments have none; or that of
--- what is in its way
+-- the status is that of a run of the shard's trials, with the filter of the environment if these arguments have none, whatever its
+-- output and its watch hold; or that of what is in its way
 abbrev pub EndsInPart : {R : Type 0} → (List (Trial R) → Arguments → Asked R) → List (Trial R) → Arguments → Sharding → ℕ → Type 0
 EndsInPart ask trials args sharding status =
-    ((asked : Arguments) × HasFilterOf sharding.filter args asked × EndsSomehow (ask (trials_of sharding trials)) (Ok asked) status)
+    ((asked : Arguments) × HasFilterOf sharding.filter args asked × (old : Option (List ℕ)) × (got : Option (List ℕ)) × (watch : Watched)
+    × RanLine (ask (trials_of sharding trials) asked) old got watch status)
     ⊎ ((error : ShardError) × IsPartFault sharding error × (status ≡ status_without_part error))
 
 -- if the line gave no arguments, the status says why; else if the variables could not be read, it says that
@@ -100,11 +101,13 @@ EndsForLine gives trials line sharding status = (threads : ℕ) × (auto : Bool)
 abbrev pub IsOfReadLine : (Result Arguments ArgumentsError → ℕ → Type 0) → ℕ → Type 0
 IsOfReadLine Ends status = (line : Result Arguments ArgumentsError) × IsReadLine line × Ends line status
 
--- so ends a program as it reads some variables, of which nothing more is known
-abbrev pub IsOfReadVariables : (Result Sharding ShardError → ℕ → Type 0) → ℕ → Type 0
-IsOfReadVariables Ends status = (sharding : Result Sharding ShardError) × IsReadSharding sharding × Ends sharding status
-
--- the status is that of a program as it reads some command line and some variables, whatever the machine reports about threads and
--- colours
-abbrev pub EndsByLine : {R : Type 0} → Gives R → List (Trial R) → ℕ → Type 0
-EndsByLine gives trials = IsOfReadLine (λ line. IsOfReadVariables (EndsForLine gives trials line))
+-- the status is that of a program as it reads some command line and some variables, of which nothing more is known, whatever the
+-- machine reports about threads and colours
+pub record EndsByLine {R : Type 0} (gives : Gives R) (trials : List (Trial R)) (status : ℕ) : Type 0 where
+  pub line : Result Arguments ArgumentsError
+  pub read : IsReadLine line
+  pub sharding : Result Sharding ShardError
+  pub variables : IsReadSharding sharding
+  pub threads : ℕ
+  pub auto : Bool
+  pub ends : EndsAsAsked (asking gives threads auto) trials line sharding status

@@ -9,11 +9,9 @@ use Rattle.libtest_mimic.specs.declared.running.RunError.TheVariants.{Write}
 use Rattle.libtest_mimic.specs.Run.{Done, HasAnswer, Lists, RunsBy}
 use Rattle.mimic_args.specs.Arguments.{threads_of}
 use Rattle.libtest_mimic.specs.Sink.{Shown}
-use Rattle.libtest_mimic.specs.Suite.{Asked, OfAsked, asking}
+use Rattle.libtest_mimic.specs.Suite.{Asked, OfAsked}
 use Rattle.mimic_trial.specs.Count.{counts_of}
 use Rattle.libtest_mimic.specs.Count.{total_of}
-use Rattle.libtest_mimic.specs.Promise.{Gives}
-use Rattle.mimic_main.specs.declared.job.Job.{Job}
 use Rattle.mimic_main.specs.Output.{HandsOn}
 
 -- what a sink over these bytes shows if it has counted no fault
@@ -24,10 +22,6 @@ faultless bytes = record { bytes = bytes; faults = 0 }
 abbrev pub IsFaultOf : Result Conclusion RunError → RunError → Type 0
 IsFaultOf (Ok c) fault = (error : Error) × (fault ≡ Write (WriteFault.Error error))
 IsFaultOf (Err e) fault = fault ≡ e
-
--- what a job asks
-abbrev pub asked_by : {R C : Type 0} → Gives R → Job R C → Asked R
-asked_by gives job = asking gives job.default_threads job.auto_colours job.tests.items job.args.now
 
 -- what a run did whose writer had these bytes, and whose sink shows this in the end
 abbrev pub done_over : Option (List ℕ) → Shown → Watched → Result Conclusion RunError → Done
@@ -41,7 +35,7 @@ done_over old new watch answer = record {
 -- what a run left: the list of the selected trials if one is asked, and a running watch; else their report, with the time of the
 -- watch; or what is left if either was refused
 pub record Left {R : Type 0} (asked : Asked R) (did : Done) : Type 0 where
-  pub listed : asked.args.list ≡ true → OfAsked asked (λ suite. Lists suite did.before did.after did.answer)
+  pub listed : asked.args.list ≡ true → OfAsked asked (λ suite. Lists suite.trials did.before did.after did.answer)
   pub watched : asked.args.list ≡ true → IsRunning did.watch
   pub reported : RunsBy (threads_of asked.args asked.default_threads) asked did
 

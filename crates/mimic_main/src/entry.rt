@@ -9,13 +9,15 @@ ghost use Rattle.mimic_main.specs.Ended.{EndsAsAsked, EndsByLine, EndsForLine, E
 ghost use Rattle.mimic_main.specs.Program.{HasDefaults};
 
 use crate::clock::MonotonicClock;
-use crate::job::Job;
 use crate::machine::Machine;
 use crate::monitor::{Monitor, Notices};
+use crate::output::Output;
+use crate::policy::FlushPolicy;
 use crate::program::Program;
+use crate::run::run_into;
 use crate::sharding::{ShardError, Sharding};
 use crate::status::Status;
-use libtest_mimic::{Arguments, ArgumentsError, Case, Failed, RunError, Task, Trial};
+use libtest_mimic::{Arguments, ArgumentsError, Case, Failed, Request, RunError, Task, Trial};
 use mimic_console::shows_colours;
 use std::alloc::Global;
 use std::convert::AsStr;
@@ -211,20 +213,15 @@ impl<'a> Program<'a> {
         if let Some(shard) = shard {
             self.print_shard(shard, tests.len(), total, err);
         }
-        self.print_equal_names(alloc, &args, &tests, err);
-        let monitor = self.monitor(machine, &args, &tests);
-        let job = Job {
-            args: &args,
-            tests,
-            clock: MonotonicClock::new(machine),
-            default_threads: self.threads,
-            auto_colours: self.auto_colours,
-            schedule: self.schedule,
-            running: monitor.as_ref().and_then(|monitor| monitor.running()),
-        };
+        let mut request = self.request(&args, tests);
+        self.print_equal_names(alloc, &request.selection, err);
+        let monitor = self.monitor(machine, &request);
+        request.running = monitor.as_ref().and_then(|monitor| monitor.running());
         let out = machine.stdout();
-        let on_terminal = out.is_terminal();
-        let (_, _, ran) = job.run(&host, &host, alloc, out, on_terminal);
+        let policy = FlushPolicy::of_run(&args, self.threads, out.is_terminal());
+        let output = Output::new(policy, out);
+        let clock = MonotonicClock::new(machine);
+        let (_, _, ran) = run_into(&host, &host, alloc, request, clock, output);
         if let Some(monitor) = monitor {
             monitor.end(&host);
         }
@@ -232,19 +229,17 @@ impl<'a> Program<'a> {
     }
 
     // Starts the thread that prints slow trials. `None` if it isn't to, or can't be started: the run goes on without it then.
-    fn monitor<M: Machine, R>(
+    fn monitor<M: Machine, R: Task>(
         &self,
         machine: &M,
-        args: &Arguments,
-        tests: &[Trial<R>],
+        request: &Request<'_, R>,
     ) -> Option<Monitor> {
         let notices = Notices {
             program: self.name,
             limit: self.slow_limit,
             err: machine.stderr(),
         };
-        let (host, alloc) = (machine.host(), machine.alloc());
-        Monitor::start(&host, alloc, args, tests, self.threads, notices)
+        Monitor::start(&machine.host(), machine.alloc(), request, notices)
     }
 
     /// What `main` is to return if making the trials may be refused: what their run returned, or 1 after the reason

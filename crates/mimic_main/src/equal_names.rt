@@ -1,8 +1,7 @@
 //! A warning of trials that have equal names.
 use crate::output::BLOCK;
 use crate::program::Program;
-use libtest_mimic::select::is_filtered_out;
-use libtest_mimic::{Arguments, Sink, Trial};
+use libtest_mimic::{Selection, Sink, Trial};
 use mimic_printer::{Piece, Place, add_pieces};
 use mimic_trial::TestInfo;
 use std::alloc::{AllocError, Global};
@@ -15,14 +14,13 @@ impl Program<'_> {
     pub(crate) fn print_equal_names<R, E: Write>(
         &self,
         alloc: Global,
-        args: &Arguments,
-        trials: &[Trial<R>],
+        selection: &Selection<'_, R>,
         err: &mut E,
     ) {
-        if args.list || !self.warns_of_equal_names {
+        if selection.args.list || !self.warns_of_equal_names {
             return;
         }
-        let Ok(Some(info)) = first_equal(alloc, args, trials) else {
+        let Ok(Some(info)) = first_equal(alloc, selection.trials.as_slice()) else {
             return;
         };
         // It is one write if a block holds it, so that no other program's text comes between its parts.
@@ -33,13 +31,12 @@ impl Program<'_> {
     }
 }
 
-// The first of the selected trials, in the order of kinds and names, whose kind and name another has too.
+// The first of these trials, in the order of kinds and names, whose kind and name another has too.
 fn first_equal<'a, R>(
     alloc: Global,
-    args: &Arguments,
     trials: &'a [Trial<R>],
 ) -> Result<Option<&'a TestInfo>, AllocError> {
-    let infos = sorted_infos(alloc, args, trials)?;
+    let infos = sorted_infos(alloc, trials)?;
     for place in 1..infos.len() {
         let (info, next) = (infos[place - 1], infos[place]);
         if info.kind == next.kind && info.name == next.name {
@@ -64,17 +61,14 @@ fn add_warning<'a, W: Write>(sink: &mut Sink<W>, program: &'a str, info: &'a Tes
     sink.add_flush();
 }
 
-// What is known of the trials that these arguments select, in the order of kinds and, within a kind, of names.
+// What is known of these trials, in the order of kinds and, within a kind, of names.
 fn sorted_infos<'a, R>(
     alloc: Global,
-    args: &Arguments,
     trials: &'a [Trial<R>],
 ) -> Result<Vec<&'a TestInfo>, AllocError> {
     let mut infos = Vec::with_capacity(alloc, trials.len())?;
     for trial in trials {
-        if !is_filtered_out(args, trial) {
-            infos.push(trial.info())?;
-        }
+        infos.push(trial.info())?;
     }
     // A table of hashes would be slow for names that were chosen to collide in it.
     infos.sort_by(by_kind_and_name)?;

@@ -2,7 +2,7 @@
 use crate::full_names::FullNames;
 use crate::output::BLOCK;
 use arrayvec::ArrayVec;
-use libtest_mimic::{Arguments, RunningTrials, Sink, Spawner, Trial};
+use libtest_mimic::{Request, RunningTrials, Sink, Spawner, Task};
 use mimic_printer::{Piece, Place, add_escaped, add_pieces};
 use std::alloc::{AllocError, Global};
 use std::io::Write;
@@ -42,14 +42,12 @@ struct Notifier<E> {
 }
 
 impl Monitor {
-    // Starts the thread, for a run of these trials on `threads` threads, if its arguments leave that open. `None` if no notices are asked
-    // for, if no trial runs, if the thread can't be started, or if there is no memory for it.
-    pub(crate) fn start<T: Spawner + 'static, R, E: Write + Send + Drop + 'static>(
+    // Starts the thread for a run of this request. `None` if no notices are asked for, if no trial runs, if the thread can't be started,
+    // or if there is no memory for it.
+    pub(crate) fn start<T: Spawner + 'static, R: Task, E: Write + Send + Drop + 'static>(
         rt: &T,
         alloc: Global,
-        args: &Arguments,
-        trials: &[Trial<R>],
-        default_threads: usize,
+        request: &Request<'_, R>,
         notices: Notices<'_, E>,
     ) -> Option<Monitor> {
         let Notices {
@@ -58,11 +56,11 @@ impl Monitor {
             err,
         } = notices;
         let limit = limit?;
-        if args.list {
+        if request.selection.args.list {
             return None;
         }
-        let names = FullNames::of_selected(alloc, args, trials).ok()?;
-        let threads = args.threads(default_threads).min(names.len());
+        let names = FullNames::of_trials(alloc, request.selection.trials.as_slice()).ok()?;
+        let threads = request.threads().min(names.len());
         if threads == 0 {
             return None;
         }

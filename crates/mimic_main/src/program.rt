@@ -1,15 +1,18 @@
 //! A program around a run, but for the machine that it runs on.
 ghost use Rattle.std.specs.Prelude.{◌≡◌, ◌≤◌, false};
+ghost use Rattle.libtest_mimic.specs.Request.{IsSelected, asked_by};
 ghost use Rattle.libtest_mimic.specs.Suite.{asking};
 ghost use Rattle.libtest_mimic.specs.Trial.{AllCanRun};
 ghost use Rattle.mimic_main.specs.Ended.{Ended, GotWithout, number_of, status_of, status_without, status_without_part};
 
-use crate::job::Job;
+use crate::output::Output;
+use crate::policy::FlushPolicy;
+use crate::run::run_into;
 use crate::sharding::ShardError;
 use crate::status::Status;
 use libtest_mimic::{
-    Arguments, ArgumentsError, Clock, Conclusion, RunError, Schedule, Spawner, Stopwatch, Task,
-    Trial,
+    Arguments, ArgumentsError, Clock, Conclusion, Request, RunError, Schedule, Selection, Spawner,
+    Stopwatch, Task, Trial,
 };
 use mimic_console::{print_line, print_text};
 use mimic_trial::Shard;
@@ -156,16 +159,10 @@ impl Program<'_> {
     {
         match line {
             Ok(args) => {
-                let job = Job {
-                    args: &args,
-                    tests,
-                    clock,
-                    default_threads: self.threads,
-                    auto_colours: self.auto_colours,
-                    schedule: self.schedule,
-                    running: None,
-                };
-                let (out, watch, ran) = job.run(rt, files, alloc, out, self.on_terminal);
+                let request = self.request(&args, tests);
+                let policy = FlushPolicy::of_run(&args, self.threads, self.on_terminal);
+                let output = Output::new(policy, out);
+                let (out, watch, ran) = run_into(rt, files, alloc, request, clock, output);
                 (out, watch, self.status_of(ran, args.logfile.as_ref(), err))
             }
             Err(error) => {
@@ -173,6 +170,26 @@ impl Program<'_> {
                 let status = self.status_without(error, &mut out, err);
                 (out, Stopwatch::new(clock), status)
             }
+        }
+    }
+
+    // What a run of the trials is asked that these arguments select.
+    pub(crate) fn request<'a, R: Task>(
+        &self,
+        args: &'a Arguments,
+        tests: Vec<Trial<R>>,
+    ) -> Request<'a, R>
+        ensures asked { asked_by R.gives result ≡ asking R.gives self.now.threads self.now.auto_colours tests.items args.now }
+        ensures selected { IsSelected result.selection }
+        ensures threads { result.default_threads ≡ self.now.threads }
+        ensures runnable { AllCanRun R.can_run tests.items → AllCanRun R.can_run result.selection.trials.items }
+    {
+        Request {
+            selection: Selection::new(args, tests),
+            default_threads: self.threads,
+            auto_colours: self.auto_colours,
+            schedule: self.schedule,
+            running: None,
         }
     }
 

@@ -11,9 +11,9 @@ use Rattle.libtest_mimic.specs.Arguments.{format_of}
 use Rattle.libtest_mimic.specs.Row.{PrintedRow}
 use Rattle.libtest_mimic.specs.Json.{Contents, IsJsonReport}
 use Rattle.libtest_mimic.specs.Report.{report_text}
-use Rattle.libtest_mimic.specs.Run.{ReportedBy}
+use Rattle.libtest_mimic.specs.Run.{Reported}
 use Rattle.libtest_mimic.specs.Sink.{Shown}
-use Rattle.libtest_mimic.specs.Suite.{OfSuite, rows_of, suite_of}
+use Rattle.libtest_mimic.specs.Suite.{OfAsked, asking, rows_of, suite_of}
 use Rattle.libtest_mimic.proofs.JsonRuns.{run_json}
 use Rattle.mimic_printer.proofs.JsonReports.{contents_of as contents_of_rows}
 use Rattle.mimic_events.specs.declared.report.Report.{Report}
@@ -47,12 +47,12 @@ module _ {R : Type 0} (gives : Gives R) where
 module _ {R : Type 0} (gives : Gives R) where
   -- a run in JSON into an empty writer leaves such bytes
   pub run_is_read : (args : Arguments) (trials : List (Trial R)) (old new : Shown) (watch : Watched) (c : Conclusion) (bytes : List ℕ) → format_of args ≡ Json → length trials < 2 ^ 64
-      → old.bytes ≡ Some [] → new.bytes ≡ Some bytes → OfSuite args false trials (λ suite. ReportedBy gives 1 suite old new watch c) → IsRead gives args trials watch c bytes
-  run_is_read args trials old new watch c bytes format few empty full (selected, selection, (placed, ordered, some, report)) =
+      → old.bytes ≡ Some [] → new.bytes ≡ Some bytes → OfAsked (asking gives 1 false trials args) (λ suite. Reported gives 1 suite old new watch c) → IsRead gives args trials watch c bytes
+  run_is_read args trials old new watch c bytes format few empty full (selected, selection, report) =
       let suite = suite_of args false selected (length trials - length selected) in
       let rows : List PrintedRow = report.rows in
       let x = suite.filtered_out in
-      let spelled = run_json gives args selected suite.printer placed rows x report.nanos format report.arranged.own report.timed (omega arith) report.fits in
+      let spelled = run_json gives args selected suite.printer report.placed rows x report.nanos format report.arranged.own report.timed (omega arith) report.fits in
       let same : bytes ≡ report_text suite.printer rows x report.nanos = appended bytes _ old.bytes new.bytes empty full report.appended.appended in
       record {
         report = contents_of_rows rows x report.nanos;
@@ -60,8 +60,8 @@ module _ {R : Type 0} (gives : Gives R) where
         reports_trials = record {
           selected = selected;
           selection = selection;
-          placed = placed;
-          in_order = ordered refl;
+          placed = report.placed;
+          in_order = report.ordered refl;
           arranged = report.arranged;
           rows = report.timed;
           filtered_out = refl;

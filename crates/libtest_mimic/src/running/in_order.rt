@@ -3,20 +3,20 @@ ghost use Rattle.std.specs.Prelude.{◌≡◌, [], vec_len};
 ghost use Rattle.mimic_trial.specs.Trial.{AllCanRun};
 ghost use Rattle.mimic_printer.specs.Sink.{HasFaultLeft, shown};
 ghost use Rattle.libtest_mimic.specs.Run.{OnNothingWritten, Reports};
-ghost use Rattle.libtest_mimic.specs.Steps.{HasCounted, HasRoomFor, RowsRun, selected_suite, suite_with};
+ghost use Rattle.libtest_mimic.specs.Steps.{HasCounted, HasRoomFor, RowsRun, selected_suite};
 ghost use Rattle.libtest_mimic.specs.Stopwatch.{IsRunning};
 
+use crate::request::Request;
 use crate::running::RunError;
-use crate::running::selection::Selection;
 use crate::running::summary::add_summary;
 use crate::running::tally::Tally;
 use crate::running::timing::{elapsed, start, time_shown};
 use crate::select::is_ignored;
+use crate::selection::Selection;
 use crate::stopwatch::{Clock, Stopwatch};
-use mimic_args::Arguments;
 use mimic_pool::{RunningCell, RunningTrials};
 use mimic_printer::{Printer, Sink};
-use mimic_trial::{Conclusion, Task, Trial, run_unless};
+use mimic_trial::{Conclusion, Task, run_unless};
 use std::alloc::Global;
 use std::io::Write;
 use std::sync::Arc;
@@ -24,46 +24,28 @@ use std::sync::Arc;
 // Runs the trials in their order, and writes their report. It marks the trial that runs, if anybody looks.
 pub(super) fn run_in_order<R: Task, W: Write, C: Clock>(
     alloc: Global,
-    selected: Selection<'_, R>,
-    running: Option<&Arc<RunningTrials>>,
+    request: Request<'_, R>,
+    printer: Printer,
     sink: &mut Sink<W>,
     watch: &mut Stopwatch<C>,
 ) -> Result<Conclusion, RunError>
-    requires runnable { AllCanRun R.can_run selected.trials.items }
+    requires runnable { AllCanRun R.can_run request.selection.trials.items }
     requires running { IsRunning watch.old }
     requires room { HasFaultLeft sink.old }
-    ensures reported { Reports R.gives 1 (selected_suite selected.entry) (shown W.contents sink.old)
+    ensures reported { Reports R.gives 1 (selected_suite request.entry.selection printer) (shown W.contents sink.old)
         (shown W.contents sink.new) watch.new result }
     ensures unwritten { OnNothingWritten result (sink.new ≡ sink.old) }
 {
-    let Selection {
-        args,
-        trials,
-        printer,
-        filtered_out,
-    } = selected;
-    let mut tally = Tally::with_capacity(alloc, trials.len(), filtered_out)?;
-    printer.add_title(sink, trials.len() as u64);
-    let rows = RowsInOrder {
-        printer: &printer,
-        args,
-        cell: next_cell(running),
-    };
-    run_rows(rows, trials, &mut tally, sink, watch);
+    let count = request.selection.trials.len();
+    let mut tally = Tally::with_capacity(alloc, count, request.selection.filtered_out)?;
+    printer.add_title(sink, count as u64);
+    run_rows(request, &printer, &mut tally, sink, watch);
     tally.add_failures(&printer, sink);
     // The watch runs on if a write failed before the summary.
     sink.end()?;
     add_summary(&printer, tally.conclusion(), sink, watch);
     sink.end()?;
     Ok(tally.into_conclusion())
-}
-
-// How rows are printed, what is asked of their trials, and where the trial that runs is marked.
-#[derive(Clone, Copy)]
-struct RowsInOrder<'a> {
-    printer: &'a Printer,
-    args: &'a Arguments,
-    cell: Option<&'a RunningCell>,
 }
 
 // The cell of the thread that calls, if anybody looks.
@@ -73,24 +55,25 @@ fn next_cell(running: Option<&Arc<RunningTrials>>) -> Option<&RunningCell> {
 
 // Runs the trials in their order, and adds the row of each: its announcement before it runs. None runs once a fault is kept.
 fn run_rows<R: Task, W: Write, C: Clock>(
-    rows: RowsInOrder<'_>,
-    trials: Vec<Trial<R>>,
+    request: Request<'_, R>,
+    printer: &Printer,
     tally: &mut Tally,
     sink: &mut Sink<W>,
     watch: &mut Stopwatch<C>,
 )
-    requires empty { HasCounted tally.old tally.old.conclusion.num_filtered_out [] }
-    requires runnable { AllCanRun R.can_run trials.items }
-    requires capacity { HasRoomFor tally.old (vec_len trials) }
-    ensures rows { RowsRun R.gives W.contents (suite_with rows.entry.args.now trials.items rows.entry.printer.now tally.old)
-        sink.old sink.new tally.new }
+    requires empty { HasCounted tally.old request.selection.filtered_out [] }
+    requires runnable { AllCanRun R.can_run request.selection.trials.items }
+    requires capacity { HasRoomFor tally.old (vec_len request.selection.trials) }
+    ensures rows { RowsRun R.gives W.contents (selected_suite request.entry.selection printer.now) sink.old sink.new tally.new }
     ensures readings { watch.new ≡ watch.old }
 {
-    let RowsInOrder {
-        printer,
-        args,
-        cell,
-    } = rows;
+    let Request {
+        selection,
+        running,
+        ..
+    } = request;
+    let Selection { args, trials, .. } = selection;
+    let cell = next_cell(running.as_ref());
     let mut place = 0_usize;
     for trial in trials {
         let ignored = is_ignored(args, &trial);

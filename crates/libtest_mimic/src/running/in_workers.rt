@@ -1,5 +1,6 @@
 //! Runs trials in worker threads.
 ghost use Rattle.std.specs.Prelude.{◌≡◌, ◌≢◌, ◌≤◌, [], Bool, IfOk, List, MatchResult, length};
+ghost use Rattle.mimic_args.specs.Arguments.{threads_of};
 ghost use Rattle.mimic_printer.specs.Sink.{HasFaultLeft, shown};
 ghost use Rattle.mimic_trial.specs.Trial.{AllCanRun};
 ghost use Rattle.mimic_pool.specs.Share.{assigned_from};
@@ -9,60 +10,58 @@ ghost use Rattle.libtest_mimic.specs.Run.{OnNothingWritten, Reports};
 ghost use Rattle.libtest_mimic.specs.Steps.{AreSupplied, PutsTitled, RowsRefused, selected_suite};
 ghost use Rattle.libtest_mimic.specs.Stopwatch.{IsRunning};
 
+use crate::request::Request;
 use crate::running::RunError;
 use crate::running::desk_rows::{DeskRows, count_outcomes};
 use crate::running::gathering::{Started, gather_rows};
-use crate::running::selection::Selection;
 use crate::running::summary::add_summary;
 use crate::select::is_ignored;
+use crate::selection::Selection;
 use crate::stopwatch::{Clock, Stopwatch};
 use mimic_args::Arguments;
-use mimic_pool::{
-    Desk, Notes, Remaining, RunningTrials, Schedule, Spawner, Supply, start_all, worker_count,
-};
+use mimic_pool::{Desk, Notes, Remaining, Spawner, Supply, start_all, worker_count};
 use mimic_printer::{Printer, Sink};
 use mimic_trial::{Conclusion, Task, TestInfo, Trial};
 use std::alloc::{AllocError, Global};
 use std::io::Write;
-use std::sync::{Arc, Wait};
+use std::sync::Wait;
 
-// How many threads run the trials, how these come to them, and where they are marked while they run, if anybody looks.
-#[derive(Drop)]
-pub(super) struct Workers {
-    pub(super) threads: usize,
-    pub(super) schedule: Schedule,
-    pub(super) running: Option<Arc<RunningTrials>>,
-}
-
-// Runs the trials on `workers.threads` threads, but on no more than there are trials, and writes their report.
+// Runs the trials in workers, one for each thread, but no more than there are trials, and writes their report.
 pub(super) fn run_in_workers<R: Task + Send + 'static, W: Write, C: Clock, T: Spawner + 'static>(
     rt: &T,
     alloc: Global,
-    selected: Selection<'_, R>,
-    workers: Workers,
+    request: Request<'_, R>,
+    printer: Printer,
     sink: &mut Sink<W>,
     watch: &mut Stopwatch<C>,
 ) -> Result<Conclusion, RunError>
-    requires several { 2 ≤ workers.threads }
-    requires some { selected.trials.items ≢ [] }
-    requires runnable { AllCanRun R.can_run selected.trials.items }
+    requires several { 2 ≤ threads_of request.selection.args.now request.default_threads }
+    requires some { request.selection.trials.items ≢ [] }
+    requires runnable { AllCanRun R.can_run request.selection.trials.items }
     requires running { IsRunning watch.old }
     requires room { HasFaultLeft sink.old }
-    ensures reported { Reports R.gives workers.threads (selected_suite selected.entry)
-        (shown W.contents sink.old) (shown W.contents sink.new) watch.new result }
+    ensures reported { Reports R.gives (threads_of request.entry.selection.args.now request.entry.default_threads)
+        (selected_suite request.entry.selection printer) (shown W.contents sink.old) (shown W.contents sink.new) watch.new result }
     ensures unwritten { OnNothingWritten result (sink.new ≡ sink.old) }
 {
+    let threads = request.threads();
+    let Request {
+        selection,
+        schedule,
+        running,
+        ..
+    } = request;
     let Selection {
         args,
         trials,
-        printer,
         filtered_out,
-    } = selected;
-    let count = worker_count(workers.threads, trials.len());
-    let supply = Supply::new(alloc, workers.schedule, trials.len(), count)?;
+        ..
+    } = selection;
+    let count = worker_count(threads, trials.len());
+    let supply = Supply::new(alloc, schedule, trials.len(), count)?;
     let notes = Notes {
         timed: args.report_time,
-        running: workers.running,
+        running,
     };
     let (infos, supply) = take_apart(rt, alloc, args, trials, supply)?;
     let supplied = Supplied {

@@ -1,9 +1,9 @@
 //! Writers that fail once and then are well: a report is whole, or a beginning of it is written and nothing is done any more.
 use libtest_mimic::{
-    Arguments, Conclusion, Failed, FormatSetting, Outcome, RunError, Schedule, Sink, Spawner, Task,
-    Trial, WriteFault,
+    Arguments, Conclusion, Failed, FormatSetting, Outcome, Request, RunError, Schedule, Selection,
+    Sink, Spawner, Stopwatch, Task, Trial, WriteFault, run_request,
 };
-use mimic_main::{FlushPolicy, Job, Output, StillClock, run_into};
+use mimic_main::{FlushPolicy, Output, StillClock};
 use mimic_testkit::{Fault, FaultPlace, FaultyWriter};
 use std::alloc::{AllocError, Global};
 use std::io;
@@ -108,19 +108,21 @@ fn run_three<T: Spawner + 'static>(
     let seen = Arc::new(alloc, seen)?;
     let tests = three_tests(alloc, &seen)?;
     let output = Output::new(policy, Telling { writer, seen });
-    let job = Job {
-        args,
-        tests,
-        clock: StillClock,
+    let request = Request {
+        selection: Selection::new(args, tests),
         default_threads: 1,
         auto_colours: false,
         schedule: Schedule::Queue,
         running: None,
     };
-    let (telling, _, ran) = run_into(rt, alloc, job, output);
+    let mut sink = Sink::new(output);
+    let mut watch = Stopwatch::new(StillClock);
+    watch.start();
+    let ran = run_request(rt, alloc, request, &mut sink, &mut watch);
+    let (telling, finished) = sink.into_inner().finish();
     assert_memory(&ran)?;
     Ok(Left {
-        is_ok: ran.is_ok(),
+        is_ok: ran.is_ok() && finished.is_ok(),
         writer: telling.writer,
         runs_after: telling.seen.runs_after.load(Ordering::SeqCst),
     })

@@ -1,25 +1,16 @@
-use Rattle.std.proofs.Common.{◌∙◌, ap, arith, ℕ, subst, refl, sym}
+use Rattle.std.proofs.Common.{◌∙◌, arith, subst, refl, sym}
 use Rattle.std.proofs.lemmas.List.Sorted.{IsPermutation-refl}
 use Rattle.mimic_trial.specs.declared.outcome.conclusion.Conclusion.{Conclusion}
 use Rattle.mimic_printer.specs.Sink.{shown}
 use Rattle.mimic_printer.proofs.Adding.{puts_added}
 use Rattle.libtest_mimic.specs.declared.running.RunError.TheVariants.{Write}
-use Rattle.libtest_mimic.specs.Run.{ReportedBy}
-use Rattle.libtest_mimic.specs.Steps.{RowsRun, selected_suite}
+use Rattle.libtest_mimic.specs.Run.{Reported}
+use Rattle.libtest_mimic.specs.Steps.{selected_suite}
 use Rattle.libtest_mimic.specs.Stopwatch.{IsRunning}
-use Rattle.libtest_mimic.specs.Suite.{Suite, in_order, rows_of}
+use Rattle.libtest_mimic.specs.Suite.{in_order, rows_of}
 use Rattle.libtest_mimic.proofs.Gathering.{on_error}
 use Rattle.libtest_mimic.proofs.WholeReport.{reported_ran, start_added, starts_before, starts_ran}
-use Rattle.libtest_mimic.proofs.running.in_order.run_in_order.Given.{Over}
-use Rattle.libtest_mimic.proofs.running.in_order.run_in_order.Goals.{After-run_rows}
 use Rattle.libtest_mimic.proofs.running.in_order.run_in_order.Goals as goal
-
--- the trials of the suite that was selected ran
-ran : (g : Over) (c : After-run_rows g) → RowsRun g.R.Task.gives g.W.Write.contents (selected_suite c.args.selected) c.add_title.new.sink c.run_rows.new.sink c.run_rows.new.tally
-ran g c =
-    let suite : ℕ → Suite _ = λ n. record (selected_suite c.args.selected) { filtered_out = n } in
-    let dropped = ap (λ x. x.num_filtered_out) c.in_ok-tally.ensures.counted.counts in
-    subst (λ n. RowsRun g.R.Task.gives g.W.Write.contents (suite n) c.add_title.new.sink c.run_rows.new.sink c.run_rows.new.tally) dropped c.run_rows.ensures.rows
 
 pub end-requires : goal.end-requires
 end-requires g c =
@@ -33,10 +24,10 @@ end-requires-2 g c =
 
 pub returns-in_err-end-clause-reported : goal.returns-in_err-end-clause-reported
 returns-in_err-end-clause-reported g c =
-    let suite = selected_suite c.args.selected in
-    let rows = ran g (goal.at.returns-in_err-end-clause-reported g c).After-run_rows in
+    let suite = selected_suite c.args.request.selection c.args.printer in
+    let rows = c.run_rows.ensures.rows in
     let failures = c.add_failures.ensures _ (rows_of suite rows.placed) rows.tally in
-    let count = c.len-2.ensures ∙ c.args.selected.trials.ok.0 in
+    let count = c.len-count.ensures ∙ c.args.request.selection.trials.ok.0 in
     let start = start_added g.R.Task.gives suite rows _ count c.add_title.ensures failures in
     on_error c.from_residual-in_err-end.result (Write c.in_err-end.field-0.0) _ _ c.from_residual-in_err-end.ensures.1 (
       in_order suite,
@@ -48,10 +39,10 @@ returns-in_err-end-clause-reported g c =
 
 pub returns-in_err-end-2-clause-reported : goal.returns-in_err-end-2-clause-reported
 returns-in_err-end-2-clause-reported g c =
-    let suite = selected_suite c.args.selected in
-    let rows = ran g (goal.at.returns-in_err-end-2-clause-reported g c).After-run_rows in
+    let suite = selected_suite c.args.request.selection c.args.printer in
+    let rows = c.run_rows.ensures.rows in
     let failures = c.add_failures.ensures _ (rows_of suite rows.placed) rows.tally in
-    let count = c.len-2.ensures ∙ c.args.selected.trials.ok.0 in
+    let count = c.len-count.ensures ∙ c.args.request.selection.trials.ok.0 in
     let start = start_added g.R.Task.gives suite rows _ count c.add_title.ensures failures in
     let summary = c.add_summary.ensures in
     on_error c.from_residual-in_err-end-2.result (Write c.in_err-end-2.field-0.0) _ _ c.from_residual-in_err-end-2.ensures.1 (
@@ -65,13 +56,13 @@ returns-in_err-end-2-clause-reported g c =
 
 pub returns-clause-reported : goal.returns-clause-reported
 returns-clause-reported g c =
-    let suite = selected_suite c.args.selected in
-    let rows = ran g (goal.at.returns-clause-reported g c).After-run_rows in
+    let suite = selected_suite c.args.request.selection c.args.printer in
+    let rows = c.run_rows.ensures.rows in
     let failures = c.add_failures.ensures _ (rows_of suite rows.placed) rows.tally in
-    let count = c.len-2.ensures ∙ c.args.selected.trials.ok.0 in
+    let count = c.len-count.ensures ∙ c.args.request.selection.trials.ok.0 in
     let start = start_added g.R.Task.gives suite rows _ count c.add_title.ensures failures in
     let summary = c.add_summary.ensures in
-    let P : Conclusion → Type 0 = ReportedBy g.R.Task.gives 1 suite (shown g.W.Write.contents c.args.sink.now) (shown g.W.Write.contents c.end-2.new.self) c.add_summary.new.watch in
+    let P : Conclusion → Type 0 = Reported g.R.Task.gives 1 suite (shown g.W.Write.contents c.args.sink.now) (shown g.W.Write.contents c.end-2.new.self) c.add_summary.new.watch in
     subst P (c.conclusion.ensures ∙ sym c.into_conclusion.ensures)
     (reported_ran g.R.Task.gives suite rows _ count c.add_title.ensures failures c.in_ok-end.ensures.counted.0 _ (puts_added _ _ start c.in_ok-end.ensures) _ _ summary.nanos _ c.conclusion.ensures summary.elapsed
     summary.fits (puts_added _ _ summary.text c.in_ok-end-2.ensures))

@@ -5,7 +5,7 @@ use Rattle.mimic_printer.specs.Row.{label_of, labels_of}
 use Rattle.mimic_trial.specs.Trial.{runner_of}
 use Rattle.mimic_printer.proofs.Adding.{adds_nothing}
 use Rattle.libtest_mimic.specs.Arrangement.{IsOwnAt}
-use Rattle.libtest_mimic.specs.Steps.{suite_with}
+use Rattle.libtest_mimic.specs.Steps.{selected_suite}
 use Rattle.mimic_trial.specs.declared.outcome.Outcome.{Outcome}
 use Rattle.libtest_mimic.specs.Suite.{IsTime, Suite, has_time}
 use Rattle.libtest_mimic.proofs.RowsInOrder.{All-next, HasRoom-tally, HasRoomFor-tally, RowsSoFar-push, all_ran, count_rows, label_at-next, longer, ran-next, stopped_before}
@@ -14,8 +14,7 @@ use Rattle.libtest_mimic.proofs.running.in_order.run_rows.Goals as goal
 
 pub loop-trial-init : goal.loop-trial-init
 loop-trial-init g c =
-    let trials = c.args.trials.items in
-    let suite : Suite _ = suite_with c.args.rows.args.now trials c.args.rows.printer.now c.args.tally.now in
+    let suite : Suite _ = selected_suite c.args.request.selection c.args.printer.now in
     record {
       seen = search rules;
       room = c.requires.capacity;
@@ -39,7 +38,7 @@ fits here there o time e = subst (λ (b : Bool). IsTime (b && has_time o) time) 
 pub loop-trial-preserved : goal.loop-trial-preserved
 loop-trial-preserved g c =
     let seen = c.loop-trial.yielded in
-    let suite : Suite _ = suite_with c.args.rows.args.now c.args.trials.items c.args.rows.printer.now c.args.tally.now in
+    let suite : Suite _ = selected_suite c.args.request.selection c.args.printer.now in
     let ran = ran-next g.R.Task.gives suite.args seen _ _ suite.trials c.in-Some.trial c.in-Some.ensures.steps.0 c.loop-trial.invariant.seen _ _ _ _ c.into_parts-info.ensures.info c.into_parts-info.ensures.runner c.is_ignored-ignored.ensures c.run_unless-outcome.ensures in
     let time = fits _ _ _ _ (c.elapsed.ensures.asked ∙ c.start-started.ensures.asked) c.time_shown-nanos.ensures in
     let next = RowsSoFar-push g.R.Task.gives g.W.Write.contents suite (length seen) c.loop-trial.tally c.loop-trial.invariant.so_far c.into_parts-info.result.0 _ c.time_shown-nanos.result ran.0 ran.1 time
@@ -55,25 +54,25 @@ pub run_unless-outcome-requires : goal.run_unless-outcome-requires
 run_unless-outcome-requires g c =
     let split = ap (λ l. c.loop-trial.yielded ++ l) (sym c.in-Some.ensures.steps.0) ∙ c.loop-trial.invariant.seen in
     subst g.R.Task.can_run (sym c.into_parts-info.ensures.runner)
-    (All-next (λ t. g.R.Task.can_run (runner_of t)) c.loop-trial.yielded _ c.args.trials.items c.in-Some.trial split c.requires.runnable)
+    (All-next (λ t. g.R.Task.can_run (runner_of t)) c.loop-trial.yielded _ c.args.request.selection.trials.items c.in-Some.trial split c.requires.runnable)
 
 pub record-requires-clause-counts : goal.record-requires-clause-counts
 record-requires-clause-counts g c =
     let so_far = c.loop-trial.invariant.so_far in
     let split = ap (λ l. c.loop-trial.yielded ++ l) (sym c.in-Some.ensures.steps.0) ∙ c.loop-trial.invariant.seen in
-    HasRoom-tally c.loop-trial.tally _ _ so_far.tally (omega (arith, count_rows (labels_of c.args.trials.items) so_far.placed, so_far.all, longer c.loop-trial.yielded _ c.args.trials.items c.in-Some.trial split, c.args.trials.ok.0, c.args.trials.small))
+    HasRoom-tally c.loop-trial.tally _ _ so_far.tally (omega (arith, count_rows (labels_of c.args.request.selection.trials.items) so_far.placed, so_far.all, longer c.loop-trial.yielded _ c.args.request.selection.trials.items c.in-Some.trial split, c.args.request.selection.trials.ok.0, c.args.request.selection.trials.small))
 
 pub record-requires-clause-room : goal.record-requires-clause-room
 record-requires-clause-room g c =
     let so_far = c.loop-trial.invariant.so_far in
     let split = ap (λ l. c.loop-trial.yielded ++ l) (sym c.in-Some.ensures.steps.0) ∙ c.loop-trial.invariant.seen in
-    HasRoomFor-tally c.loop-trial.tally _ _ (vec_len c.args.trials) so_far.tally c.loop-trial.invariant.room
-    (omega (arith, count_rows (labels_of c.args.trials.items) so_far.placed, so_far.all, longer c.loop-trial.yielded _ c.args.trials.items c.in-Some.trial split, c.args.trials.ok.0))
+    HasRoomFor-tally c.loop-trial.tally _ _ (vec_len c.args.request.selection.trials) so_far.tally c.loop-trial.invariant.room
+    (omega (arith, count_rows (labels_of c.args.request.selection.trials.items) so_far.placed, so_far.all, longer c.loop-trial.yielded _ c.args.request.selection.trials.items c.in-Some.trial split, c.args.request.selection.trials.ok.0))
 
 pub returns-clause-rows : goal.returns-clause-rows
 returns-clause-rows g c =
     let seen = c.loop-trial.yielded in
-    let suite : Suite _ = suite_with c.args.rows.args.now c.args.trials.items c.args.rows.printer.now c.args.tally.now in
+    let suite : Suite _ = selected_suite c.args.request.selection c.args.printer.now in
     let so_far = c.loop-trial.invariant.so_far in
     elim c.match-next.branch [
       | in-None w ↦

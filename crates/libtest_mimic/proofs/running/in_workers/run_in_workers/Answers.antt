@@ -7,12 +7,12 @@ use Rattle.libtest_mimic.proofs.running.in_workers.run_in_workers.Goals as goal
 
 pub write_rows-requires-clause-held : goal.write_rows-requires-clause-held
 write_rows-requires-clause-held g c κs within =
-    let suite = selected_suite c.args.selected in
+    let suite = selected_suite c.args.request.selection c.args.printer in
     held_of g.R.Task.gives suite _ _ _ _ c.as_slice-infos.ensures.value c.in_ok-infos.ensures
 
 pub returns-in_err-desk-clause-reported : goal.returns-in_err-desk-clause-reported
 returns-in_err-desk-clause-reported g c =
-    let suite = selected_suite c.args.selected in
+    let suite = selected_suite c.args.request.selection c.args.printer in
     let shows = c.as_slice-infos.ensures.value in
     let supplied = c.in_ok-infos.ensures in
     on_error c.from_residual-in_err-desk.result _ _ _ c.from_residual-in_err-desk.ensures.1
@@ -20,7 +20,7 @@ returns-in_err-desk-clause-reported g c =
 
 pub print_failures_in-requires-clause-room : goal.print_failures_in-requires-clause-room
 print_failures_in-requires-clause-room g c =
-    let suite = selected_suite c.args.selected in
+    let suite = selected_suite c.args.request.selection c.args.printer in
     let shows = c.as_slice-infos.ensures.value in
     let supplied = c.in_ok-infos.ensures in
     let kept = no_fault g.R.Task.gives suite _ _ _ _ shows supplied _ c.requires.several c.requires.some _ refl _ _ _ c.in_ok-desk.ensures.rows in
@@ -28,14 +28,14 @@ print_failures_in-requires-clause-room g c =
 
 pub print_failures_in-requires-clause-can_show : goal.print_failures_in-requires-clause-can_show
 print_failures_in-requires-clause-can_show g c =
-    let suite = selected_suite c.args.selected in
+    let suite = selected_suite c.args.request.selection c.args.printer in
     let shows = c.as_slice-infos.ensures.value in
     let supplied = c.in_ok-infos.ensures in
     can_show g.R.Task.gives suite _ _ _ _ shows supplied _ c.requires.several c.requires.some _ refl _ _ _ c.in_ok-desk.ensures.rows
 
 pub end-requires : goal.end-requires
 end-requires g c =
-    let suite = selected_suite c.args.selected in
+    let suite = selected_suite c.args.request.selection c.args.printer in
     let shows = c.as_slice-infos.ensures.value in
     let supplied = c.in_ok-infos.ensures in
     let kept = no_fault g.R.Task.gives suite _ _ _ _ shows supplied _ c.requires.several c.requires.some _ refl _ _ _ c.in_ok-desk.ensures.rows in
@@ -43,7 +43,7 @@ end-requires g c =
 
 pub returns-in_err-print_failures_in-clause-reported : goal.returns-in_err-print_failures_in-clause-reported
 returns-in_err-print_failures_in-clause-reported g c =
-    let suite = selected_suite c.args.selected in
+    let suite = selected_suite c.args.request.selection c.args.printer in
     let shows = c.as_slice-infos.ensures.value in
     let supplied = c.in_ok-infos.ensures in
     on_error c.from_residual-in_err-print_failures_in.result _ _ _ c.from_residual-in_err-print_failures_in.ensures.1
@@ -51,7 +51,7 @@ returns-in_err-print_failures_in-clause-reported g c =
 
 pub returns-in_err-end-clause-reported : goal.returns-in_err-end-clause-reported
 returns-in_err-end-clause-reported g c =
-    let suite = selected_suite c.args.selected in
+    let suite = selected_suite c.args.request.selection c.args.printer in
     let shows = c.as_slice-infos.ensures.value in
     let supplied = c.in_ok-infos.ensures in
     let summary = c.add_summary.ensures in
@@ -61,7 +61,7 @@ returns-in_err-end-clause-reported g c =
 
 pub returns-clause-reported : goal.returns-clause-reported
 returns-clause-reported g c =
-    let suite = selected_suite c.args.selected in
+    let suite = selected_suite c.args.request.selection c.args.printer in
     let shows = c.as_slice-infos.ensures.value in
     let supplied = c.in_ok-infos.ensures in
     let summary = c.add_summary.ensures in

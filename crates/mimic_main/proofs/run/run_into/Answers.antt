@@ -1,6 +1,7 @@
-use Rattle.mimic_main.specs.Run.{Ran, asked_by}
+use Rattle.libtest_mimic.specs.Request.{asked_by}
+use Rattle.mimic_main.specs.Run.{Ran}
 use Rattle.mimic_main.proofs.Mapped.{IfOfRun-map_err, IfOk-map_err}
-use Rattle.mimic_main.proofs.job.Job.run.Goals as goal
+use Rattle.mimic_main.proofs.run.run_into.Goals as goal
 
 pub returns-in-None-clause-ran : goal.returns-in-None-clause-ran
 returns-in-None-clause-ran g c = λ no_logfile.

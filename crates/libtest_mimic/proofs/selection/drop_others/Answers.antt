@@ -2,7 +2,7 @@ use Rattle.std.proofs.Common.{◌≡◌, false, rules}
 use Rattle.std.specs.Prelude.{◌↔◌, IsFalse}
 use Rattle.libtest_mimic.specs.Selection.{IsDropped}
 use Rattle.libtest_mimic.proofs.Selecting.{LeavesOut-from_retain, LeavesOut-none}
-use Rattle.libtest_mimic.proofs.running.selection.drop_others.Goals as goal
+use Rattle.libtest_mimic.proofs.selection.drop_others.Goals as goal
 
 pub returns-then-drops_nothing-clause-selection : goal.returns-then-drops_nothing-clause-selection
 returns-then-drops_nothing-clause-selection g c = LeavesOut-none _ (c.drops_nothing.ensures (search rules)) c.args.trials.now.items

@@ -1,7 +1,7 @@
 use Rattle.mimic_trial.specs.Trial.{runner_of}
 use Rattle.libtest_mimic.specs.Selection.{IsDropped}
 use Rattle.libtest_mimic.proofs.Selecting.{All-LeavesOut}
-use Rattle.libtest_mimic.proofs.running.selection.select.Goals as goal
+use Rattle.libtest_mimic.proofs.selection.Selection.new.Goals as goal
 
 pub returns-clause-runnable : goal.returns-clause-runnable
 returns-clause-runnable g c all =

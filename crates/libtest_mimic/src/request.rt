@@ -1,0 +1,68 @@
+//! What is asked of a run.
+ghost use Rattle.std.specs.Prelude.{◌≡◌};
+ghost use Rattle.mimic_args.specs.Arguments.{threads_of};
+ghost use Rattle.mimic_printer.specs.Row.{labels_of};
+ghost use Rattle.mimic_printer.specs.Widths.{kind_width_of, name_width_of};
+ghost use Rattle.libtest_mimic.specs.Steps.{PrintsAs};
+ghost use Rattle.libtest_mimic.specs.Suite.{printer_for};
+
+use crate::selection::Selection;
+use mimic_args::{Arguments, FormatSetting};
+use mimic_pool::{RunningTrials, Schedule};
+use mimic_printer::{Printer, widths_of_trials};
+use mimic_trial::{Task, Trial};
+use std::sync::Arc;
+
+/// What is asked of a run, and who looks at it.
+#[derive(Drop)]
+pub struct Request<'a, R> {
+    /// Its trials, and the arguments that selected them.
+    pub selection: Selection<'a, R>,
+    /// How many threads run the trials if the arguments leave it open, at least 1.
+    pub default_threads: usize,
+    /// Whether its report has colours if the arguments leave it open.
+    pub auto_colours: bool,
+    /// How the trials come to workers if more than one thread runs them.
+    pub schedule: Schedule,
+    /// Where each thread marks the trial that it runs, by its place among the selected ones, if anybody looks. A thread for which there
+    /// is no cell marks none.
+    pub running: Option<Arc<RunningTrials>>,
+}
+
+impl<R: Task> Request<'_, R> {
+    /// How many threads are to run the trials.
+    pub fn threads(&self) -> usize
+        ensures { result ≡ threads_of self.now.selection.args.now self.now.default_threads }
+    {
+        self.selection.args.threads(self.default_threads)
+    }
+
+    // A printer that prints as that of the run does: only in pretty it has columns for the trials.
+    pub(crate) fn printer(&self) -> Printer
+        ensures { PrintsAs result (printer_for self.now.selection.args.now self.now.auto_colours
+            (labels_of self.now.selection.trials.items)) }
+    {
+        let args = self.selection.args;
+        let format = args.format_used();
+        let (name_width, kind_width) = columns_for(format, self.selection.trials.as_slice());
+        Printer::new(
+            format,
+            args.colours(self.auto_colours),
+            name_width,
+            kind_width,
+        )
+    }
+}
+
+// The widths of its columns. Only pretty has columns, so for other formats the trials aren't looked at.
+fn columns_for<R>(format: FormatSetting, trials: &[Trial<R>]) -> (usize, usize)
+    ensures names { format ≡ FormatSetting.Pretty
+        → result.0 ≡ name_width_of (labels_of trials.now) }
+    ensures kinds { format ≡ FormatSetting.Pretty
+        → result.1 ≡ kind_width_of (labels_of trials.now) }
+{
+    match format {
+        FormatSetting::Pretty => widths_of_trials(trials),
+        FormatSetting::Terse | FormatSetting::Json => (0, 0),
+    }
+}
