@@ -1,5 +1,5 @@
 -- What a run left in its sink, in terms of the bytes that were written out.
-use Rattle.std.proofs.Common.{◌≡◌, ℕ, List, Option, Result, Ok, Err, refl, ap, ap₂, is_ok, subst, sym, IfErr, IfOk, OnOk, IsOk}
+use Rattle.std.proofs.Common.{◌≡◌, ℕ, length, List, Option, Result, Ok, Err, refl, ap, ap₂, is_ok, subst, sym, IfErr, IfOk, OnOk, IsOk}
 use Rattle.std.proofs.lemmas.Bool.{false≢true}
 use Rattle.std.proofs.KnownBytes.{Appends-kept}
 use Rattle.std.specs.Io.KnownBytes.{Keeps}
@@ -9,12 +9,13 @@ use Rattle.mimic_printer.specs.declared.sink.Sink.{Sink}
 use Rattle.mimic_printer.specs.declared.sink.WriteFault.TheVariants as WriteFault
 use Rattle.libtest_mimic.specs.declared.running.RunError.{RunError}
 use Rattle.libtest_mimic.specs.declared.running.RunError.TheVariants.{Write}
-use Rattle.libtest_mimic.specs.Run.{Done}
+use Rattle.libtest_mimic.specs.Count.{total_of}
+use Rattle.libtest_mimic.specs.Run.{Done, HasAnswer, Lists, Runs}
 use Rattle.libtest_mimic.specs.Sink.{Put, Shown, faults_of, shown, writer_of}
 use Rattle.libtest_mimic.specs.Stopwatch.{Watched}
 use Rattle.libtest_mimic.specs.Suite.{Asked}
 use Rattle.mimic_main.specs.Output.{HandsOn}
-use Rattle.mimic_main.specs.Run.{GotBeginning, IsFaultOf, Left, Ran, done_over, faultless}
+use Rattle.mimic_main.specs.Run.{GotBeginning, IsFaultOf, IsLawful, Left, Ran, done_over, faultless}
 
 -- a sink with no fault shows the bytes of its writer
 pub shown-new : {W : Type 0} (contents : W → Option (List ℕ)) (s : Sink W) (w : W) → writer_of s ≡ w → faults_of s ≡ 0 → shown contents s ≡ faultless (contents w)
@@ -106,3 +107,18 @@ module _ {R : Type 0} (asked : Asked R) (watch : Watched) where
   GotBeginning-from old first new got ran (Ok c) finished e handed same kept cause left = tt
   GotBeginning-from old first new got ran (Err fault) finished e handed same kept cause left =
       (new, ran, left_behind old first new ran e left, handed, IsFaultOf-settled ran fault finished same kept cause)
+
+-- counts that a run answered are lawful
+pub lawful_settled : {R : Type 0} (asked : Asked R) (did : Done) (r : Result Conclusion RunError) → IfOk r (λ c. did.answer ≡ Ok c) → Runs asked did → IfOk r (IsLawful asked)
+lawful_settled asked did (Ok c) answered runs =
+    let Answer : Result Conclusion RunError → Type 0 = λ a. HasAnswer asked a in
+    let AddsUp : Result Conclusion RunError → Type 0 = λ a. IfOk a (λ x. total_of x ≡ length asked.trials) in
+    record {
+      listed = λ is_list.
+          let l = runs.listed is_list in
+          let Listed : Result Conclusion RunError → Type 0 = λ a. Lists l.0 did.before did.after a in
+          (subst Listed answered l.2).0;
+      answer = subst Answer answered runs.answer;
+      adds_up = λ unlisted. subst AddsUp answered (runs.adds_up unlisted);
+    }
+lawful_settled asked did (Err e) answered runs = tt

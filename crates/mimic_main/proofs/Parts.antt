@@ -43,5 +43,5 @@ ends_whole ask trials (Err OutOfMemory) status e = (None, None, nothing, (e, ref
 ends_whole ask trials (Err (Help text)) status e = (None, None, nothing, (e, tt))
 ends_whole ask trials (Err (Refused text)) status e = (None, None, nothing, (e, refl))
 ends_whole ask trials (Ok args) status (inl h) =
-    let Ends : Arguments → Type 0 = λ a. EndsSomehow (ask trials) (Ok a) status in subst Ends (h.1.none refl) h.2
+    let Ends : Arguments → Type 0 = λ a. EndsSomehow (ask trials) (Ok a) status in subst Ends (h.1.none refl) (h.2, h.3, h.4, h.5)
 ends_whole ask trials (Ok args) status (inr h) = absurd (no_fault h.0 h.1)

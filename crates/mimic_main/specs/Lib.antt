@@ -3,6 +3,5 @@ pub mod Output
 pub mod Policy
 pub mod Program
 pub mod Run
-pub mod FullNames
 pub mod ShardVariables
 pub mod Sharding

@@ -1,6 +1,6 @@
 //! A program around a run, but for the machine that it runs on.
 ghost use Rattle.std.specs.Prelude.{◌≡◌, ◌≤◌, false};
-ghost use Rattle.libtest_mimic.specs.Request.{IsSelected, asked_by};
+ghost use Rattle.libtest_mimic.specs.Request.{IsSelected};
 ghost use Rattle.libtest_mimic.specs.Suite.{asking};
 ghost use Rattle.libtest_mimic.specs.Trial.{AllCanRun};
 ghost use Rattle.mimic_main.specs.Ended.{Ended, GotWithout, number_of, status_of, status_without, status_without_part};
@@ -179,9 +179,11 @@ impl Program<'_> {
         args: &'a Arguments,
         tests: Vec<Trial<R>>,
     ) -> Request<'a, R>
-        ensures asked { asked_by R.gives result ≡ asking R.gives self.now.threads self.now.auto_colours tests.items args.now }
+        ensures args { result.selection.args.now ≡ args.now }
+        ensures handed_in { result.selection.handed_in.value ≡ tests }
         ensures selected { IsSelected result.selection }
         ensures threads { result.default_threads ≡ self.now.threads }
+        ensures colours { result.auto_colours ≡ self.now.auto_colours }
         ensures runnable { AllCanRun R.can_run tests.items → AllCanRun R.can_run result.selection.trials.items }
     {
         Request {

@@ -1,7 +1,7 @@
 use Rattle.libtest_mimic.specs.Sink.{shown}
 use Rattle.mimic_main.specs.Output.{given_to}
 use Rattle.libtest_mimic.specs.Request.{asked_by}
-use Rattle.mimic_main.proofs.HandedOn.{GotBeginning-from, Ran-settled, shown-new}
+use Rattle.mimic_main.proofs.HandedOn.{GotBeginning-from, Ran-settled, lawful_settled, shown-new}
 use Rattle.mimic_main.proofs.run.run_buffered.Goals as goal
 
 pub returns-clause-ran : goal.returns-clause-ran
@@ -24,3 +24,6 @@ returns-clause-beginning g c =
     GotBeginning-from (asked_by g.R.Task.gives c.args.request) c.run_request-ran.new.watch (bytes c.args.output) (shown bytes c.new-sink.result)
     (shown bytes c.run_request-ran.new.sink) (g.W.Write.contents c.finish-writer.result.0) c.run_request-ran.result c.settled.result c.finish-writer.result.1
     first handed settled.refused settled.kept settled.cause (record { listed = ran.runs.listed; watched = ran.runs.watched; reported = ran.reported })
+
+pub returns-clause-lawful : goal.returns-clause-lawful
+returns-clause-lawful g c = lawful_settled (asked_by g.R.Task.gives c.args.request) _ c.settled.result c.settled.ensures.answered c.run_request-ran.ensures.runs
