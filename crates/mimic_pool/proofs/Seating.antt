@@ -16,7 +16,7 @@ use Rattle.mimic_trial.specs.declared.outcome.Outcome.TheVariants as outcome
 use Rattle.mimic_trial.specs.Places.{Placed, placed_if, places_of}
 use Rattle.mimic_pool.specs.Arrivals.{Arrived, arrived_at, has_come, missing_of}
 use Rattle.mimic_pool.specs.Missing.{free_from}
-use Rattle.mimic_pool.specs.Marks.{kept_of}
+use Rattle.mimic_pool.specs.OutcomeKinds.{kept_of}
 use Rattle.mimic_pool.specs.Seats.{Begins, IsSeated, arrived_of, lying_at, outcome_in, seated_at}
 use Rattle.mimic_pool.specs.declared.desk.Desk.TheInside.{Inside}
 use Rattle.mimic_pool.proofs.Ordering.{order_whole}

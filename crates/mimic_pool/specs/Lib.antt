@@ -9,11 +9,11 @@ pub mod Missing
 pub mod Seats
 pub mod Board
 pub mod Inbox
-pub mod Marks
+pub mod OutcomeKinds
 pub mod Posted
 pub mod Rows
 pub mod Balance
 pub mod Passes
 pub mod Queue
 pub mod Taking
-pub mod Supply
+pub mod WaitingTrials

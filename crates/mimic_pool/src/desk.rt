@@ -7,7 +7,7 @@ ghost use Rattle.std.specs.Option.{option_copied};
 ghost use Rattle.mimic_trial.specs.Places.{Placed, placed_at, places_of};
 ghost use Rattle.mimic_trial.specs.declared.outcome.Outcome.{Outcome as AnOutcome};
 ghost use Rattle.mimic_pool.specs.Arrivals.{AgreesAt, arrival_of, arrived_at, first_arrivals, missing_of, order_of, rows_after};
-ghost use Rattle.mimic_pool.specs.Marks.{kept_of};
+ghost use Rattle.mimic_pool.specs.OutcomeKinds.{kept_of};
 ghost use Rattle.mimic_pool.specs.Missing.{free_from, missing_items};
 ghost use Rattle.mimic_pool.specs.Returned.{HasAll, StandsFor};
 ghost use Rattle.mimic_pool.specs.Rows.{rows_in};
