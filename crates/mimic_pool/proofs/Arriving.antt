@@ -10,7 +10,7 @@ use Rattle.mimic_trial.specs.declared.outcome.Outcome.{Outcome}
 use Rattle.mimic_trial.specs.Places.{Placed, placed_at, placed_if, places_of}
 use Rattle.mimic_pool.specs.Arrivals.{Arrived, has_come, missing_of, rows_after}
 use Rattle.mimic_pool.proofs.FirstArrivals.{again_kept, first_kept}
-use Rattle.mimic_pool.proofs.Seating.{or_false, place_if}
+use Rattle.mimic_pool.proofs.Numbering.{or_false, place_if}
 
 -- of `count` places from this one on, those at which nothing came
 abbrev pub missing_from : ℕ → ℕ → List Placed → List ℕ

@@ -183,8 +183,8 @@ fn put_rows(mut rows: Rows, mut outcomes: Vec<Outcome>) -> Vec<Outcome>
     ensures len { vec_len result ≡ vec_len outcomes }
 {
     while let Some((place, outcome)) = rows.next() {
-        if let Some(seat) = outcomes.get_mut(place) {
-            *seat = outcome;
+        if let Some(old) = outcomes.get_mut(place) {
+            *old = outcome;
         }
     }
     outcomes

@@ -1,7 +1,7 @@
 use Rattle.std.proofs.Common.{◌∙◌, ap}
 use Rattle.mimic_trial.specs.Places.{places_of}
-use Rattle.mimic_pool.specs.Seats.{lying_at}
-use Rattle.mimic_pool.proofs.Seating.{order_shown, shown_whole}
+use Rattle.mimic_pool.specs.Numbers.{lying_at}
+use Rattle.mimic_pool.proofs.Numbering.{order_shown, shown_whole}
 use Rattle.mimic_pool.proofs.desk.Desk.order.Goals as goal
 
 pub returns-clause-places : goal.returns-clause-places

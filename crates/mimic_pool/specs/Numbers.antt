@@ -1,4 +1,4 @@
--- What a desk keeps inside: the seats of its places, the outcomes in them, and the places in order of arrival. No public clause names these words.
+-- What a desk keeps inside: for each place the number of its outcome, the outcomes, and the places in order of arrival. No public clause names these words.
 use Rattle.std.specs.Prelude.{ℕ, zero, suc, ◌≡◌, ◌+◌, ◌≤◌, List, Option, Some, None, is_some, length, slice_get, slice_index_or, vec_capacity, eqb}
 use Rattle.std.specs.List.{flat_map, list_any, IsDistinct}
 use Rattle.mimic_trial.specs.declared.outcome.Outcome.{Outcome}
@@ -7,7 +7,7 @@ use Rattle.mimic_trial.specs.Places.{Placed, placed_if}
 use Rattle.mimic_pool.specs.Arrivals.{Arrived}
 use Rattle.mimic_pool.specs.declared.desk.Desk.TheInside.{Inside}
 
--- the outcome in the seat: none in 0, and else the one of this number, counted from 1
+-- the outcome of the number: none of 0, and else the one that is counted so from 1
 abbrev pub outcome_in : List Outcome → ℕ → Option Outcome
 outcome_in outcomes zero = None
 outcome_in outcomes (suc index) = slice_get outcomes index
@@ -17,26 +17,24 @@ pub record Begins (outcomes : List Outcome) : Type 0 where
   pub passed : slice_get outcomes 0 ≡ Some Passed
   pub ignored : slice_get outcomes 1 ≡ Some Ignored
 
--- the outcome at the place of a desk with this inside: none if the seats don't go so far
+-- the outcome at the place of a desk with this inside: none if the desk has no such place
 abbrev pub lying_at : Inside → ℕ → Option Outcome
-lying_at desk place = outcome_in desk.outcomes.items (slice_index_or desk.seats.items place 0)
+lying_at desk place = outcome_in desk.outcomes.items (slice_index_or desk.numbers.items place 0)
 
 -- the places in this order, each with its outcome; a place that has none is left out
-abbrev pub seated_at : List ℕ → (ℕ → Option Outcome) → List Placed
-seated_at order lying = flat_map (λ place. placed_if place (lying place)) order
+abbrev pub rows_of_order : List ℕ → (ℕ → Option Outcome) → List Placed
+rows_of_order order lying = flat_map (λ place. placed_if place (lying place)) order
 
 -- what a desk with this inside shows
 abbrev pub arrived_of : Inside → Arrived
-arrived_of desk = record { places = desk.places; rows = seated_at desk.order.items (lying_at desk) }
+arrived_of desk = record { places = length desk.numbers.items; rows = rows_of_order desk.order.items (lying_at desk) }
 
--- a place is in the order exactly if something is there; none is there twice, each seat's outcome is there, no seat is of a place that the desk doesn't have, and there is room for all
-pub record IsSeated (desk : Inside) : Type 0 where
+-- a place is in the order exactly if something is there; none is there twice, each number is that of an outcome, and there is room for all
+pub record IsDesk (desk : Inside) : Type 0 where
   pub taken : (place : ℕ) → list_any (eqb place) desk.order.items ≡ is_some (lying_at desk place)
   pub distinct : IsDistinct eqb desk.order.items
   pub begins : Begins desk.outcomes.items
-  pub found : (place : ℕ) → slice_index_or desk.seats.items place 0 ≤ length desk.outcomes.items
-  pub within : length desk.seats.items ≤ desk.places
+  pub found : (place : ℕ) → slice_index_or desk.numbers.items place 0 ≤ length desk.outcomes.items
   pub few : length desk.outcomes.items ≤ length desk.order.items + 2
-  pub seats_room : desk.places ≤ vec_capacity desk.seats
-  pub outcomes_room : desk.places + 2 ≤ vec_capacity desk.outcomes
-  pub order_room : desk.places ≤ vec_capacity desk.order
+  pub outcomes_room : length desk.numbers.items + 2 ≤ vec_capacity desk.outcomes
+  pub order_room : length desk.numbers.items ≤ vec_capacity desk.order
