@@ -131,16 +131,16 @@ kept_found (o ∷ kept) zero low = refl
 kept_found (o ∷ kept) (suc i) low = kept_found kept i (omega arith)
 
 -- what was found compares as the outcome exactly if it is the outcome
-same_found : (seat got : Option (Bor Outcome)) (o : Outcome) → option_copied got ≡ Some o → (option_eq (λ x y. same_outcome x.now y.now) seat got ≡ true) ↔ (option_copied seat ≡ Some o)
-same_found seat None o is = absurd (cc)
+same_found : (came got : Option (Bor Outcome)) (o : Outcome) → option_copied got ≡ Some o → (option_eq (λ x y. same_outcome x.now y.now) came got ≡ true) ↔ (option_copied came ≡ Some o)
+same_found came None o is = absurd (cc)
 same_found None (Some got) o is = (λ e. absurd (cc), λ e. absurd (cc))
-same_found (Some seat) (Some got) o is =
+same_found (Some came) (Some got) o is =
     let at : got.now ≡ o = cc in
-    (λ e. ap Some ((outcome_decides seat.now got.now).0 e ∙ at), λ e. let here : seat.now ≡ o = cc in (outcome_decides seat.now got.now).1 (here ∙ sym at))
+    (λ e. ap Some ((outcome_decides came.now got.now).0 e ∙ at), λ e. let here : came.now ≡ o = cc in (outcome_decides came.now got.now).1 (here ∙ sym at))
 
-pub same_kept : (seat got : Option (Bor Outcome)) (kept : List Outcome) (i : ℕ) → i < length kept → (IsSome got → i < length kept) → (i < length kept → IsSome got) → IfSome got (λ x. x.now ≡ slice_index_or kept i x.now)
-    → (option_eq (λ x y. same_outcome x.now y.now) seat got ≡ true) ↔ (option_copied seat ≡ Some (outcome_by Kept (drop i kept)))
-same_kept seat got kept i low within some is = same_found seat got (outcome_by Kept (drop i kept)) (item_got got kept i within some is ∙ kept_found kept i low)
+pub same_kept : (came got : Option (Bor Outcome)) (kept : List Outcome) (i : ℕ) → i < length kept → (IsSome got → i < length kept) → (i < length kept → IsSome got) → IfSome got (λ x. x.now ≡ slice_index_or kept i x.now)
+    → (option_eq (λ x y. same_outcome x.now y.now) came got ≡ true) ↔ (option_copied came ≡ Some (outcome_by Kept (drop i kept)))
+same_kept came got kept i low within some is = same_found came got (outcome_by Kept (drop i kept)) (item_got got kept i within some is ∙ kept_found kept i low)
 
 module _ (P : Placed → Type 0) where
   pub all_none : (ms : List (ℕ × OutcomeKind)) (kept : List Outcome) → ms ≡ [] → All P (rows_of ms kept)
