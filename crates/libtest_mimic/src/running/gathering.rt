@@ -14,7 +14,7 @@ ghost use Rattle.libtest_mimic.specs.Steps.{PutsArrived};
 
 use crate::running::RunError;
 use crate::running::arrivals::{add_arrivals, add_missing};
-use mimic_pool::{Workers, Desk, Inbox, Rows, Spawner, join_workers, put_joined};
+use mimic_pool::{Desk, Inbox, Rows, Spawner, Workers, join_workers, put_joined};
 use mimic_printer::{Printer, Sink};
 use mimic_trial::{Outcome, Task, TestInfo};
 use std::io::Write;

@@ -5,8 +5,8 @@ ghost use Rattle.mimic_pool.specs.declared.share.Assigned.{Assigned};
 
 use super::{Plain, numbered};
 use mimic_pool::{
-    Desk, Inbox, Reports, Rows, RunningTrials, Schedule, Spawner, WaitingTrials, Untold, join_workers,
-    put_joined, start_workers,
+    Desk, Inbox, Reports, Rows, RunningTrials, Schedule, Spawner, Untold, WaitingTrials,
+    join_workers, put_joined, start_workers,
 };
 use mimic_trial::{Failed, Outcome, Task};
 use std::alloc::{AllocError, Global};
