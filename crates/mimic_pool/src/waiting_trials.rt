@@ -29,8 +29,8 @@ use std::sync::{Arc, Wait};
 /// Which worker runs which trial.
 #[derive(Clone, Copy, Debug, PartialEq, Eq)]
 pub enum Schedule {
-    /// Trials are dealt out beforehand: the one at a place goes to the worker whose number is the place's remainder by the number of
-    /// workers.
+    /// Trials are dealt out beforehand: the one at a place goes to the worker whose number is the place's remainder by the number
+    /// of workers.
     Shares,
     /// Trials wait in one queue, and a worker takes the next ones when it is free.
     Queue,
@@ -52,8 +52,8 @@ pub enum WaitingTrials<T: Task> {
     Queue(Queue<T>),
 }
 
-/// Workers that can be started. All memory is taken by then, except for copies of messages, for the threads, and for rows of a worker
-/// that takes more trials from a queue than its equal part.
+/// Workers that can be started. All memory is taken by then, except for copies of messages, for the threads, and for rows of a
+/// worker that takes more trials from a queue than its equal part.
 #[derive(Drop)]
 pub enum ReadyWorkers<T: Task> {
     /// A worker for each share.
@@ -87,8 +87,8 @@ impl<T: Task> WaitingTrials<T> {
         }
     }
 
-    /// Puts one trial more: its place, its runner, and whether that is not to be called. If an allocation fails, trials may have been
-    /// dropped, and `self` is of no more use.
+    /// Puts one trial more: its place, its runner, and whether that is not to be called. If an allocation fails, trials may have
+    /// been dropped, and `self` is of no more use.
     pub fn put<R: Wait>(
         &mut self,
         rt: &R,
@@ -114,8 +114,8 @@ impl<T: Task> WaitingTrials<T> {
         }
     }
 
-    /// Makes the workers ready to run the trials, of which there are `count`, and an inbox to which they, and no others, will report.
-    /// If `timed`, they note there how long each trial runs, and in `running` they mark which ones run, if anybody looks.
+    /// Makes the workers ready to run the trials, of which there are `count`, and an inbox to which they, and no others, will
+    /// report. If `timed`, they note there how long each trial runs. In `running` they mark which ones run, if anybody looks.
     pub fn prepare<R: Wait>(
         self,
         rt: &R,
@@ -181,12 +181,16 @@ pub fn join_workers<T: Task + Send + 'static, R: Spawner>(
     requires running { (mode : Bool) × (trials : List (Assigned T)) × Runs T.gives workers mode trials }
     ensures joined { (mode : Bool) (trials : List (Assigned T)) → Runs T.gives workers mode trials
         → AreJoined T.gives mode trials (runs_all workers || whole) (map rows_in result.items) }
-    ensures places { (mode : Bool) (runners : List T) (flags : List Bool) → Runs T.gives workers mode (assigned_from 0 runners flags)
+    ensures places { (mode : Bool) (runners : List T) (flags : List Bool)
+        → Runs T.gives workers mode (assigned_from 0 runners flags)
         → HavePlaces (runs_all workers || whole) (length (assigned_from 0 runners flags)) (map rows_in result.items) }
-    ensures shares { (mode : Bool) (runners : List T) (flags : List Bool) → Runs T.gives workers mode (assigned_from 0 runners flags)
+    ensures shares { (mode : Bool) (runners : List T) (flags : List Bool)
+        → Runs T.gives workers mode (assigned_from 0 runners flags)
         → OnShares workers (AreOfShares T.gives mode (assigned_from 0 runners flags) (map rows_in result.items)) }
-    ensures outcomes { (mode : Bool) (runners : List T) (flags : List Bool) → Runs T.gives workers mode (assigned_from 0 runners flags)
-        → (runs_all workers || whole) ≡ true → (outcomes : List AnOutcome) → length outcomes ≡ length (assigned_from 0 runners flags)
+    ensures outcomes { (mode : Bool) (runners : List T) (flags : List Bool)
+        → Runs T.gives workers mode (assigned_from 0 runners flags)
+        → (runs_all workers || whole) ≡ true
+        → (outcomes : List AnOutcome) → length outcomes ≡ length (assigned_from 0 runners flags)
         → AreOutcomes T.gives mode (assigned_from 0 runners flags) (put_each (map rows_in result.items) outcomes) }
 {
     match workers {
