@@ -1,135 +1,72 @@
--- What the numbers and the order of a desk show. `lying` gives the outcome at each place.
-use Rattle.std.proofs.Common.{◌≡◌, ◌≢◌, ℕ, suc, zero, ◌+◌, ◌-◌, ◌<◌, ◌≤◌, ◌==◌, eqb, Bool, true, false, not, ◌||◌, cond, List, [], ◌∷◌, ◌++◌, Option, Some, None, is_some, filter, length, length-append, map, slice_index_or, slice_set, refl, sym, ◌∙◌, ap, ap₂, subst, vec_capacity, inl, inr, arith}
+-- What the numbers and the order of a desk show.
+use Rattle.std.proofs.Common.{◌≡◌, ◌≢◌, ℕ, suc, zero, ◌+◌, ◌-◌, ◌<◌, ◌≤◌, ◌==◌, eqb, Bool, true, false, not, ◌||◌, cond, List, [], ◌∷◌, ◌++◌, Some, None, filter, length, length-append, slice_index_or, slice_set, refl, sym, ◌∙◌, ap, ap₂, subst, vec_capacity, inl, inr, arith}
 use Rattle.std.specs.Prelude.{slice_get}
 use Rattle.std.specs.List.{list_any, IsDistinct, range_with_len}
-use Rattle.std.proofs.Math.ListN.{get_or-eq_default, length-set}
+use Rattle.std.specs.List.Sorted.{IsPermutation}
+use Rattle.std.specs.Option.{option_map}
+use Rattle.std.proofs.Math.Bool.{or-true}
+use Rattle.std.proofs.Math.ListN.{get_or-append, get_or-eq_default, length-set}
 use Rattle.std.proofs.lemmas.Grind.{get_or-set_at}
-use Rattle.std.proofs.lemmas.List.{get_or-set_other, get_or_read_under, length-map}
-use Rattle.std.proofs.lemmas.List.Concat.{flat_map-append}
+use Rattle.std.proofs.lemmas.List.{get_or-set_other, get_or_read_under, length-map, map-append}
 use Rattle.std.proofs.lemmas.List.Folds.{list_any-append}
 use Rattle.std.specs.Cmp.{IsEquivalence}
-use Rattle.std.proofs.lemmas.Bool.{eqb-true, eq-eqb}
+use Rattle.std.proofs.lemmas.Bool.{cases_Bool, eqb-true, eq-eqb}
+use Rattle.std.proofs.lemmas.Bool.Decides.{eqb_tells}
 use Rattle.std.proofs.lemmas.Map.Keys.{IsDistinct-push}
 use Rattle.std.proofs.lemmas.Map.Steps.{length-le_from_distinct_below}
-use Rattle.std.proofs.lemmas.Bool.Decides.{eqb_tells}
-use Rattle.std.proofs.lemmas.Option.{slice_get-get_or}
+use Rattle.std.proofs.lemmas.Option.{get_or_from_slice_get, slice_get-get_or, slice_get-map, slice_get_within}
 use Rattle.mimic_trial.specs.declared.outcome.Outcome.{Outcome}
 use Rattle.mimic_trial.specs.declared.outcome.Outcome.TheVariants as outcome
-use Rattle.mimic_trial.specs.Places.{Placed, placed_if, places_of}
+use Rattle.mimic_trial.specs.Places.{Placed, places_of}
 use Rattle.mimic_pool.specs.Arrivals.{Arrived, arrived_at, has_come, missing_of}
 use Rattle.mimic_pool.specs.Missing.{free_from}
+use Rattle.mimic_pool.specs.Numbers.{Begins, IsDesk, arrived_of, outcome_at, rows_of_order}
 use Rattle.mimic_pool.specs.OutcomeKinds.{kept_of}
-use Rattle.mimic_pool.specs.Numbers.{Begins, IsDesk, arrived_of, lying_at, outcome_in, rows_of_order}
 use Rattle.mimic_pool.specs.declared.desk.Desk.TheInside.{Inside}
 use Rattle.mimic_pool.proofs.Ordering.{order_whole}
-use Rattle.std.specs.List.Sorted.{IsPermutation}
 
--- something is at each place in the order
-AllTaken : (ℕ → Option Outcome) → List ℕ → Type 0
-AllTaken lying order = (q : ℕ) → list_any (eqb q) order ≡ true → is_some (lying q) ≡ true
+-- ---- places in an order, each with its outcome
 
-true_after : (b : Bool) → (b || true) ≡ true
-true_after true = refl
-true_after false = refl
+module _ (at : ℕ → Outcome) where
+  pub has_shown : (order : List ℕ) (p : ℕ) → has_come p (rows_of_order order at) ≡ list_any (eqb p) order
+  has_shown [] p = refl
+  has_shown (x ∷ xs) p = ap (λ t. eqb p x || t) (has_shown xs p)
 
-module _ (lying : ℕ → Option Outcome) (x : ℕ) (xs : List ℕ) where
-  taken_first : AllTaken lying (x ∷ xs) → is_some (lying x) ≡ true
-  unfolding AllTaken
-  taken_first all = all x (ap (λ b. b || list_any (eqb x) xs) (eq-eqb x x refl))
+  pub order_shown : (order : List ℕ) → order ≡ places_of (rows_of_order order at)
+  order_shown [] = refl
+  order_shown (x ∷ xs) = ap (λ l. x ∷ l) (order_shown xs)
 
-  taken_rest : AllTaken lying (x ∷ xs) → AllTaken lying xs
-  unfolding AllTaken
-  taken_rest all = λ q h. all q (ap (λ b. eqb q x || b) h ∙ true_after (eqb q x))
-
-all_taken : (lying : ℕ → Option Outcome) (order : List ℕ)
-    → ((q : ℕ) → list_any (eqb q) order ≡ is_some (lying q)) → AllTaken lying order
-unfolding AllTaken
-all_taken lying order taken = λ q h. sym (taken q) ∙ h
-
--- ---- the row of one place that is taken, before others
-
-module _ (x : ℕ) (rest : List Placed) where
-  come_if : (p : ℕ) (o : Option Outcome) → is_some o ≡ true → has_come p (placed_if x o ++ rest) ≡ (eqb p x || has_come p rest)
-  come_if p (Some o) some = refl
-  come_if p None some = absurd (cc)
-
-  pub place_if : (o : Option Outcome) → is_some o ≡ true → map (λ r. r.0) (placed_if x o ++ rest) ≡ x ∷ map (λ r. r.0) rest
-  place_if (Some o) some = refl
-  place_if None some = absurd (cc)
-
-  found_if : (p : ℕ) (o : Option Outcome) → is_some o ≡ true → arrived_at p (placed_if x o ++ rest) ≡ cond (eqb p x) o (arrived_at p rest)
-  found_if p (Some o) some = refl
-  found_if p None some = absurd (cc)
-
--- ---- all rows
-
-some_or_none : (o : Option Outcome) → cond (is_some o) o None ≡ o
-some_or_none (Some o) = refl
-some_or_none None = refl
-
-module _ (lying : ℕ → Option Outcome) where
-  has_in_order : (order : List ℕ) (p : ℕ) → AllTaken lying order
-      → has_come p (rows_of_order order lying) ≡ list_any (eqb p) order
-  has_in_order [] p all = refl
-  has_in_order (x ∷ xs) p all =
-      come_if x (rows_of_order xs lying) p (lying x) (taken_first lying x xs all)
-      ∙ ap (λ t. eqb p x || t) (has_in_order xs p (taken_rest lying x xs all))
-
-  order_of_rows : (order : List ℕ) → AllTaken lying order
-      → order ≡ map (λ r. r.0) (rows_of_order order lying)
-  order_of_rows [] all = refl
-  order_of_rows (x ∷ xs) all =
-      ap (λ t. x ∷ t) (order_of_rows xs (taken_rest lying x xs all))
-      ∙ sym (place_if x (rows_of_order xs lying) (lying x) (taken_first lying x xs all))
-
-  row_found : (order : List ℕ) (p : ℕ) → AllTaken lying order
-      → arrived_at p (rows_of_order order lying) ≡ cond (list_any (eqb p) order) (lying p) None
-  row_found [] p all = refl
-  row_found (x ∷ xs) p all =
-      let rest = arrived_at p (rows_of_order xs lying) in
-      let P : Bool → Type 0 =
-      λ t. cond t (lying x) rest ≡ cond (t || list_any (eqb p) xs) (lying p) None in
-      found_if x (rows_of_order xs lying) p (lying x) (taken_first lying x xs all)
-      ∙ elim (eqb_tells p x) [
-        | inl h ↦ subst P (sym h.0) (ap lying (sym h.1))
-        | inr h ↦ subst P (sym h.0) (row_found xs p (taken_rest lying x xs all))
+  pub row_shown : (order : List ℕ) (p : ℕ) → arrived_at p (rows_of_order order at) ≡ cond (list_any (eqb p) order) (Some (at p)) None
+  row_shown [] p = refl
+  row_shown (x ∷ xs) p =
+      let first = λ (t : Bool). cond t (Some (at x)) (arrived_at p (rows_of_order xs at)) in
+      let last = λ (t : Bool). cond (t || list_any (eqb p) xs) (Some (at p)) None in
+      elim (eqb_tells p x) [
+        | inl e ↦ ap first e.0 ∙ (ap (λ q. Some (at q)) (sym e.1) ∙ sym (ap last e.0))
+        | inr e ↦ ap first e.0 ∙ (row_shown xs p ∙ sym (ap last e.0))
       ]
 
-  module _ (order : List ℕ) (taken : (q : ℕ) → list_any (eqb q) order ≡ is_some (lying q)) where
-    pub has_shown : (p : ℕ) → has_come p (rows_of_order order lying) ≡ list_any (eqb p) order
-    has_shown p = has_in_order order p (all_taken lying order taken)
+  row_at : (order : List ℕ) (k p : ℕ) → slice_get order k ≡ Some p → slice_get (rows_of_order order at) k ≡ Some (p, at p)
+  row_at order k p is = slice_get-map (λ q. (q, at q)) order k ∙ ap (λ found. option_map (λ q. (q, at q)) found) is
 
-    pub order_shown : order ≡ map (λ r. r.0) (rows_of_order order lying)
-    order_shown = order_of_rows order (all_taken lying order taken)
+-- the rows after one more place, if the outcomes at all others stay
+module _ (at now : ℕ → Outcome) (p : ℕ) (others : (q : ℕ) → q ≢ p → now q ≡ at q) where
+  shown_others : (order : List ℕ) → list_any (eqb p) order ≡ false → rows_of_order order now ≡ rows_of_order order at
+  shown_others [] none = refl
+  shown_others (x ∷ xs) none =
+      elim (eqb_tells p x) [
+        | inl e ↦ absurd (grind (arith, e.0, none))
+        | inr e ↦
+            let rest = shown_others xs (ap (λ t. t || list_any (eqb p) xs) (sym e.0) ∙ none) in
+            let other : x ≢ p = λ same. e.1 (sym same) in
+            ap₂ (λ o rows. (x, o) ∷ rows) (others x other) rest
+      ]
 
-    pub row_shown : (p : ℕ) → arrived_at p (rows_of_order order lying) ≡ lying p
-    row_shown p =
-        row_found order p (all_taken lying order taken)
-        ∙ (ap (λ t. cond t (lying p) None) (taken p) ∙ some_or_none (lying p))
+  shown_more : (order : List ℕ) (o : Outcome) → now p ≡ o → list_any (eqb p) order ≡ false → rows_of_order (order ++ p ∷ []) now ≡ rows_of_order order at ++ (p, o) ∷ []
+  shown_more order o here none =
+      map-append (λ q. (q, now q)) order (p ∷ []) ∙ ap₂ (λ rows v. rows ++ (p, v) ∷ []) (shown_others order none) here
 
--- ---- the row at one index
-
-later_row : (x k : ℕ) (rest : List Placed) (o : Option Outcome) → is_some o ≡ true → slice_get (placed_if x o ++ rest) (suc k) ≡ slice_get rest k
-later_row x k rest (Some o) some = refl
-later_row x k rest None some = absurd (cc)
-
-module _ (lying : ℕ → Option Outcome) (p : ℕ) (o : Outcome) (lies : lying p ≡ Some o) where
-  row_got : (order : List ℕ) (k : ℕ) → AllTaken lying order → slice_get order k ≡ Some p
-      → slice_get (rows_of_order order lying) k ≡ Some (p, o)
-  row_got [] k all at = absurd (cc)
-  row_got (x ∷ xs) zero all at =
-      let same : x ≡ p = cc in
-      ap (λ q. slice_get (placed_if q (lying q) ++ rows_of_order xs lying) 0) same
-      ∙ ap (λ v. slice_get (placed_if p v ++ rows_of_order xs lying) 0) lies
-  row_got (x ∷ xs) (suc k) all at =
-      later_row x k (rows_of_order xs lying) (lying x) (taken_first lying x xs all)
-      ∙ row_got xs k (taken_rest lying x xs all) at
-
-  -- the row at this index has the outcome at the place at this index
-  pub row_at : (order : List ℕ) (k : ℕ)
-      → ((q : ℕ) → list_any (eqb q) order ≡ is_some (lying q))
-      → slice_get order k ≡ Some p → slice_get (rows_of_order order lying) k ≡ Some (p, o)
-  row_at order k taken at = row_got order k (all_taken lying order taken) at
+-- ---- an order of different places
 
 pub or_false : (b : Bool) → (b || (false || false)) ≡ b
 or_false true = refl
@@ -181,69 +118,23 @@ module _ (order : List ℕ) (p : ℕ) where
         let len = length-append order (p ∷ []) in
         omega arith
 
--- what is at places, and what is there once something is at one more
-module _ (lying now : ℕ → Option Outcome) (p : ℕ) (others : (q : ℕ) → q ≢ p → now q ≡ lying q) where
-  -- the rows of an order without that place stay
-  shown_others : (order : List ℕ) → list_any (eqb p) order ≡ false
-      → rows_of_order order now ≡ rows_of_order order lying
-  shown_others [] none = refl
-  shown_others (x ∷ xs) none =
-      elim (eqb_tells p x) [
-        | inl h ↦ absurd (grind (arith, h.0, none))
-        | inr h ↦
-            let rest : list_any (eqb p) xs ≡ false =
-            ap (λ t. t || list_any (eqb p) xs) (sym h.0) ∙ none in
-            let other : x ≢ p = λ e. h.1 (sym e) in
-            ap₂ (λ o rows. placed_if x o ++ rows) (others x other) (shown_others xs rest)
-      ]
-
-  module _ (order : List ℕ) (o : Outcome) (here : now p ≡ Some o) where
-    -- the order knows of the place
-    pub taken_more : ((q : ℕ) → list_any (eqb q) order ≡ is_some (lying q)) → (q : ℕ)
-        → list_any (eqb q) (order ++ p ∷ []) ≡ is_some (now q)
-    taken_more taken = flags_more order p (λ q. is_some (lying q)) (λ q. is_some (now q)) taken
-        (ap is_some here) (λ q other. ap is_some (others q other))
-
-    -- the rows after a first arrival
-    pub shown_more : list_any (eqb p) order ≡ false
-        → rows_of_order (order ++ p ∷ []) now ≡ rows_of_order order lying ++ (p, o) ∷ []
-    shown_more none =
-        flat_map-append (λ q. placed_if q (now q)) order (p ∷ [])
-        ∙ ap₂ (λ rows v. rows ++ (placed_if p v ++ [])) (shown_others order none) here
-
 pub distinct_none : IsDistinct eqb []
 unfolding IsDistinct
 distinct_none = tt
 
--- ---- numbers
+-- ---- a desk
 
-pub outcome_of_index : (outcomes : List Outcome) (number index : ℕ) → 1 ≤ number → index ≡ number - 1 → outcome_in outcomes number ≡ slice_get outcomes index
-outcome_of_index outcomes zero index some is = absurd (omega arith)
-outcome_of_index outcomes (suc other) index some is = ap (slice_get outcomes) (let same : other ≡ index = omega arith in same)
+not_zero : (n : ℕ) → (n ≡ 0 → ⊥) → not (n == 0) ≡ true
+not_zero n some = elim (eqb_tells n 0) [ inl e ↦ absurd (some e.1) | inr e ↦ ap not e.0 ]
 
-some_there : (outcomes : List Outcome) (i : ℕ) → i < length outcomes → is_some (slice_get outcomes i) ≡ true
-some_there [] i low = absurd (omega arith)
-some_there (o ∷ outcomes) zero low = refl
-some_there (o ∷ outcomes) (suc i) low = some_there outcomes i (omega arith)
+not_not : (b : Bool) → b ≡ not (not b)
+not_not true = refl
+not_not false = refl
 
--- what a number shows by itself
-zero_free : (outcomes : List Outcome) (number : ℕ) → number ≤ length outcomes → (number == 0) ≡ not (is_some (outcome_in outcomes number))
-zero_free outcomes zero low = refl
-zero_free outcomes (suc index) low = elim (eqb_tells (suc index) 0) [
-  | inl e ↦ absurd (let no = e.1 in omega arith)
-  | inr e ↦ e.0 ∙ sym (ap not (some_there outcomes index (omega arith)))
-]
-
-some_below : (outcomes : List Outcome) (numbers : List ℕ) (p : ℕ)
-    → is_some (outcome_in outcomes (slice_index_or numbers p 0)) ≡ true → p < length numbers
-some_below outcomes [] p some = absurd (cc)
-some_below outcomes (number ∷ numbers) zero some = omega arith
-some_below outcomes (number ∷ numbers) (suc p) some = let rest = some_below outcomes numbers p some in
-    omega arith
-
--- nothing is at a place that the desk doesn't have
-pub none_high : (desk : Inside) (p : ℕ) → length desk.numbers.items ≤ p → lying_at desk p ≡ None
-none_high desk p high = ap (outcome_in desk.outcomes.items) (get_or-eq_default desk.numbers.items 0 high)
+some_below : (numbers : List ℕ) (p : ℕ) → not (slice_index_or numbers p 0 == 0) ≡ true → p < length numbers
+some_below [] p some = absurd (cc)
+some_below (n ∷ numbers) zero some = omega arith
+some_below (n ∷ numbers) (suc p) some = let rest = some_below numbers p some in omega arith
 
 -- at places whose number is 0 nothing came, so that the same places are missing
 filter_same : (f g : ℕ → Bool) → ((p : ℕ) → f p ≡ g p) → (places : List ℕ)
@@ -253,42 +144,65 @@ filter_same f g same (p ∷ places) =
     ap₂ (λ t rest. cond t (p ∷ rest) rest) (same p) (filter_same f g same places)
 
 module _ (desk : Inside) (is : IsDesk desk) where
-  -- the number of a place shows whether something is there
-  pub free_at : (p : ℕ)
-      → (slice_index_or desk.numbers.items p 0 == 0) ≡ not (is_some (lying_at desk p))
-  free_at p = zero_free desk.outcomes.items (slice_index_or desk.numbers.items p 0) (is.found p)
+  -- each place in the order is one of the desk's
+  pub places_below : (q : ℕ) → list_any (eqb q) desk.order.items ≡ true → q < length desk.numbers.items
+  places_below q h = some_below desk.numbers.items q (sym (is.taken q) ∙ h)
 
   pub missing_shown : free_from 0 (length desk.numbers.items) desk.numbers.items ≡ missing_of (arrived_of desk)
   missing_shown = filter_same _ _
-      (λ p. free_at p ∙ (ap not (sym (is.taken p))
-      ∙ ap not (sym (has_shown (lying_at desk) desk.order.items is.taken p))))
+      (λ p. not_not (slice_index_or desk.numbers.items p 0 == 0) ∙ sym (ap not (has_shown (outcome_at desk) desk.order.items p ∙ is.taken p)))
       (range_with_len 0 (length desk.numbers.items))
 
-  -- something is only at places that the desk has
-  pub lies_below : (p : ℕ) → is_some (lying_at desk p) ≡ true → p < length desk.numbers.items
-  lies_below p some = some_below desk.outcomes.items desk.numbers.items p some
+  pub come_at : (p : ℕ) (b : Bool) → list_any (eqb p) desk.order.items ≡ b → has_come p (arrived_of desk).rows ≡ b
+  come_at p b known = has_shown (outcome_at desk) desk.order.items p ∙ known
 
-  -- each place in the order is one of the desk's
-  pub places_below : (q : ℕ) → list_any (eqb q) desk.order.items ≡ true → q < length desk.numbers.items
-  places_below q h = lies_below q (sym (is.taken q) ∙ h)
+  -- what arrived at a place, by whether it is in the order
+  pub found_at : (p : ℕ) (b : Bool) → list_any (eqb p) desk.order.items ≡ b → cond b (Some (outcome_at desk p)) None ≡ arrived_at p (arrived_of desk).rows
+  found_at p b known = sym (row_shown (outcome_at desk) desk.order.items p ∙ ap (λ t. cond t (Some (outcome_at desk p)) None) known)
 
--- ---- a number is written
+  pub arrived_low : (p : ℕ) (o : Outcome) → arrived_at p (arrived_of desk).rows ≡ Some o → p < length desk.numbers.items
+  arrived_low p o some = elim (cases_Bool (list_any (eqb p) desk.order.items)) [
+    | inl t ↦ places_below p t
+    | inr f ↦ absurd (let no = found_at p false f ∙ some in cc)
+  ]
 
-get_front : (outcomes more : List Outcome) (i : ℕ) → i < length outcomes → slice_get (outcomes ++ more) i ≡ slice_get outcomes i
-get_front [] more i low = absurd (omega arith)
-get_front (o ∷ outcomes) more zero low = refl
-get_front (o ∷ outcomes) more (suc i) low = get_front outcomes more i (omega arith)
+  -- nothing arrived at a place that the desk doesn't have
+  pub none_high : (p : ℕ) → length desk.numbers.items ≤ p → None ≡ arrived_at p (arrived_of desk).rows
+  none_high p high = found_at p false (is.taken p ∙ ap (λ n. not (n == 0)) (get_or-eq_default desk.numbers.items 0 high))
 
-in_front : (outcomes more : List Outcome) (number : ℕ) → number ≤ length outcomes → outcome_in (outcomes ++ more) number ≡ outcome_in outcomes number
-in_front outcomes more zero low = refl
-in_front outcomes more (suc index) low = get_front outcomes more index (omega arith)
+  -- the number of a place, what it shows about the order, and the outcome
+  module _ (p number : ℕ) (low : p < length desk.numbers.items) (at : number ≡ slice_index_or desk.numbers.items p number) where
+    number_is : number ≡ slice_index_or desk.numbers.items p 0
+    number_is = get_or_read_under desk.numbers.items p (length desk.numbers.items) number 0 at low refl
 
--- a number with an outcome is one of those that are there
-pub number_low : (outcomes : List Outcome) (number : ℕ) (o : Outcome) → outcome_in outcomes number ≡ Some o → number ≤ length outcomes
-number_low outcomes zero o is = omega arith
-number_low [] (suc index) o is = absurd (cc)
-number_low (x ∷ outcomes) (suc zero) o is = omega arith
-number_low (x ∷ outcomes) (suc (suc index)) o is = let rest = number_low outcomes (suc index) o is in omega arith
+    pub number_taken : (number ≡ 0 → ⊥) → list_any (eqb p) desk.order.items ≡ true
+    number_taken some = is.taken p ∙ (ap (λ n. not (n == 0)) (sym number_is) ∙ not_zero number some)
+
+    pub number_free : number ≡ 0 → list_any (eqb p) desk.order.items ≡ false
+    number_free none = is.taken p ∙ (ap (λ n. not (n == 0)) (sym number_is) ∙ ap (λ n. not (n == 0)) none)
+
+    pub number_low : number ≤ length desk.outcomes.items
+    number_low = omega (arith, number_is, is.found p)
+
+    pub outcome_read : (o : Outcome) → (number ≡ 0 → ⊥) → o ≡ slice_index_or desk.outcomes.items (number - 1) o → o ≡ outcome_at desk p
+    outcome_read o some read =
+        get_or_read_under desk.outcomes.items (number - 1) (length desk.outcomes.items) o outcome.Ignored read (omega (arith, number_low, some)) refl
+        ∙ ap (λ n. slice_index_or desk.outcomes.items (n - 1) outcome.Ignored) number_is
+
+-- the places of what a desk shows, and then those that are missing, are all places, each once
+pub shown_whole : (desk : Inside) (shown : Arrived) → IsDesk desk → arrived_of desk ≡ shown → IsPermutation (places_of shown.rows ++ missing_of shown) (range_with_len 0 shown.places)
+shown_whole desk shown holds is =
+    let order = desk.order.items in
+    let same : order ≡ places_of (rows_of_order order (outcome_at desk)) = order_shown (outcome_at desk) order in
+    let P : List ℕ → Type 0 = λ l. IsDistinct eqb l in
+    let Q : List ℕ → Type 0 = λ l. (p : ℕ) → list_any (eqb p) l ≡ true → p < length desk.numbers.items in
+    let R : Arrived → Type 0 = λ d. IsPermutation (places_of d.rows ++ missing_of d) (range_with_len 0 d.places) in
+    let whole : R (arrived_of desk) =
+    order_whole (length desk.numbers.items) (rows_of_order order (outcome_at desk)) _ (subst P same holds.distinct)
+    (subst Q same (places_below desk holds)) refl in
+    subst R is whole
+
+-- ---- a first arrival
 
 -- the first two stay
 pub begins_more : (outcomes more : List Outcome) → Begins outcomes → Begins (outcomes ++ more)
@@ -302,124 +216,79 @@ kept_one (outcome.Failed failed) = omega arith
 kept_one outcome.Ignored = omega arith
 kept_one (outcome.Measured measured) = omega arith
 
--- the places of what a desk shows, and then those that are missing, are all places, each once
-pub shown_whole : (desk : Inside) (shown : Arrived) → IsDesk desk → arrived_of desk ≡ shown → IsPermutation (places_of shown.rows ++ missing_of shown) (range_with_len 0 shown.places)
-shown_whole desk shown holds is =
-    let lying = lying_at desk in
-    let order = desk.order.items in
-    let same : order ≡ places_of (rows_of_order order lying) = order_shown lying order holds.taken in
-    let P : List ℕ → Type 0 = λ l. IsDistinct eqb l in
-    let Q : List ℕ → Type 0 = λ l. (p : ℕ) → list_any (eqb p) l ≡ true → p < length desk.numbers.items in
-    let R : Arrived → Type 0 = λ d. IsPermutation (places_of d.rows ++ missing_of d) (range_with_len 0 d.places) in
-    let whole : R (arrived_of desk) =
-    order_whole (length desk.numbers.items) (rows_of_order order lying) _ (subst P same holds.distinct)
-    (subst Q same (places_below desk holds)) refl in
-    subst R is whole
+module _ (desk : Inside) (is : IsDesk desk) (p : ℕ) (low : p < length desk.numbers.items) (free : list_any (eqb p) desk.order.items ≡ false) where
+  pub desk_fits : length desk.order.items < length desk.numbers.items
+  desk_fits = room_left desk.order.items p (length desk.numbers.items) (places_below desk is) low is.distinct free
 
--- ---- an arrival at a desk
+  -- the number of an outcome is written at the place
+  module _ (o : Outcome) (new : Inside) (number : ℕ)
+      (outcomes : new.outcomes.items ≡ desk.outcomes.items ++ kept_of o)
+      (lies : (1 ≤ number) × (slice_get new.outcomes.items (number - 1) ≡ Some o))
+      (numbers : new.numbers.items ≡ slice_set desk.numbers.items p number)
+      (order : new.order.items ≡ desk.order.items ++ p ∷ []) where
+    here : slice_index_or new.numbers.items p 0 ≡ number
+    here = ap (λ l. slice_index_or l p 0) numbers ∙ get_or-set_at desk.numbers.items p p number 0 refl low
 
-number_there : (outcomes : List Outcome) (number : ℕ) → (number ≡ 0 → ⊥) → number ≤ length outcomes → is_some (outcome_in outcomes number) ≡ true
-number_there outcomes zero some low = absurd (some refl)
-number_there outcomes (suc index) some low = some_there outcomes index (omega arith)
+    others : (q : ℕ) → q ≢ p → slice_index_or new.numbers.items q 0 ≡ slice_index_or desk.numbers.items q 0
+    others q other = ap (λ l. slice_index_or l q 0) numbers ∙ get_or-set_other desk.numbers.items p q number 0 other
 
-module _ (desk : Inside) (is : IsDesk desk) where
-  -- what the number of a place shows about the order
-  module _ (p number : ℕ) (low : p < length desk.numbers.items) (at : number ≡ slice_index_or desk.numbers.items p number) where
-    pub number_is : number ≡ slice_index_or desk.numbers.items p 0
-    number_is = get_or_read_under desk.numbers.items p (length desk.numbers.items) number 0 at low refl
+    outcome_here : outcome_at new p ≡ o
+    outcome_here =
+        ap (λ n. slice_index_or new.outcomes.items (n - 1) outcome.Ignored) here
+        ∙ get_or_from_slice_get new.outcomes.items (number - 1) o outcome.Ignored lies.1
 
-    number_known : list_any (eqb p) desk.order.items ≡ is_some (outcome_in desk.outcomes.items number)
-    number_known = is.taken p ∙ ap (λ n. is_some (outcome_in desk.outcomes.items n)) (sym number_is)
+    outcome_others : (q : ℕ) → q ≢ p → outcome_at new q ≡ outcome_at desk q
+    outcome_others q other =
+        let some = slice_get_within desk.outcomes.items 0 outcome.Passed is.begins.passed in
+        ap₂ (λ l n. slice_index_or l (n - 1) outcome.Ignored) outcomes (others q other)
+        ∙ get_or-append desk.outcomes.items (kept_of o) outcome.Ignored (slice_index_or desk.numbers.items q 0 - 1) (omega (arith, some, is.found q))
 
-    pub number_taken : (number ≡ 0 → ⊥) → list_any (eqb p) desk.order.items ≡ true
-    number_taken some = number_known ∙ number_there desk.outcomes.items number some (omega (arith, is.found p, number_is))
+    found_more : (q : ℕ) → slice_index_or new.numbers.items q 0 ≤ length new.outcomes.items
+    found_more q = elim (eqb_tells q p) [
+      | inl e ↦
+          let there : slice_index_or new.numbers.items q 0 ≡ number = ap (λ r. slice_index_or new.numbers.items r 0) e.1 ∙ here in
+          omega (arith, there, slice_get_within new.outcomes.items (number - 1) o lies.1)
+      | inr e ↦
+          let len = ap length outcomes ∙ length-append desk.outcomes.items (kept_of o) in
+          omega (arith, others q e.1, is.found q, len)
+    ]
 
-    pub number_free : number ≡ 0 → list_any (eqb p) desk.order.items ≡ false
-    number_free none = number_known ∙ ap (λ n. is_some (outcome_in desk.outcomes.items n)) none
+    -- the desk shows one row more
+    pub rows_more : (arrived_of new).rows ≡ (arrived_of desk).rows ++ (p, o) ∷ []
+    rows_more =
+        ap (λ places. rows_of_order places (outcome_at new)) order
+        ∙ shown_more (outcome_at desk) (outcome_at new) p outcome_others desk.order.items o outcome_here free
 
-  pub come_at : (p : ℕ) (b : Bool) → list_any (eqb p) desk.order.items ≡ b → has_come p (arrived_of desk).rows ≡ b
-  come_at p b known = has_shown (lying_at desk) desk.order.items is.taken p ∙ known
+    pub desk_more : vec_capacity new.outcomes ≡ vec_capacity desk.outcomes → vec_capacity new.order ≡ vec_capacity desk.order → IsDesk new
+    desk_more outcomes_room order_room =
+        let same = ap length numbers ∙ length-set desk.numbers.items p number in
+        let len = length-append desk.outcomes.items (kept_of o) in
+        let longer = length-append desk.order.items (p ∷ []) in
+        let some : number ≡ 0 → ⊥ = λ none. let one = lies.0 in omega (arith, none, one) in
+        record {
+          taken = rw order (flags_more desk.order.items p
+              (λ q. not (slice_index_or desk.numbers.items q 0 == 0)) (λ q. not (slice_index_or new.numbers.items q 0 == 0)) is.taken
+              (ap (λ n. not (n == 0)) here ∙ not_zero number some) (λ q other. ap (λ n. not (n == 0)) (others q other)));
+          distinct = rw order (distinct_more desk.order.items p is.distinct free);
+          begins = rw outcomes (begins_more desk.outcomes.items (kept_of o) is.begins);
+          found = found_more;
+          few = let few = is.few in let one = kept_one o in rw (order, outcomes) (omega (arith, len, longer, few, one));
+          outcomes_room = omega (arith, is.outcomes_room, same, outcomes_room);
+          order_room = omega (arith, is.order_room, same, order_room);
+        }
 
-  module _ (p : ℕ) (low : p < length desk.numbers.items) (free : list_any (eqb p) desk.order.items ≡ false) where
-    pub desk_fits : length desk.order.items < length desk.numbers.items
-    desk_fits = room_left desk.order.items p (length desk.numbers.items) (places_below desk is) low is.distinct free
-
-    -- the number of an outcome is written at the place
-    module _ (o : Outcome) (new : Inside) (number : ℕ)
-        (outcomes : new.outcomes.items ≡ desk.outcomes.items ++ kept_of o)
-        (lies : outcome_in new.outcomes.items number ≡ Some o)
-        (numbers : new.numbers.items ≡ slice_set desk.numbers.items p number)
-        (order : new.order.items ≡ desk.order.items ++ p ∷ []) where
-      here : slice_index_or new.numbers.items p 0 ≡ number
-      here = ap (λ l. slice_index_or l p 0) numbers ∙ get_or-set_at desk.numbers.items p p number 0 refl low
-
-      others : (q : ℕ) → q ≢ p → slice_index_or new.numbers.items q 0 ≡ slice_index_or desk.numbers.items q 0
-      others q other = ap (λ l. slice_index_or l q 0) numbers ∙ get_or-set_other desk.numbers.items p q number 0 other
-
-      lying_here : lying_at new p ≡ Some o
-      lying_here = ap (outcome_in new.outcomes.items) here ∙ lies
-
-      lying_others : (q : ℕ) → q ≢ p → lying_at new q ≡ lying_at desk q
-      lying_others q other =
-          ap₂ outcome_in outcomes (others q other)
-          ∙ in_front desk.outcomes.items (kept_of o) (slice_index_or desk.numbers.items q 0)
-          (is.found q)
-
-      found_more : (q : ℕ) → slice_index_or new.numbers.items q 0 ≤ length new.outcomes.items
-      found_more q = elim (eqb_tells q p) [
-        | inl e ↦
-            let there : slice_index_or new.numbers.items q 0 ≡ number =
-            ap (λ r. slice_index_or new.numbers.items r 0) e.1 ∙ here in
-            omega (arith, there, number_low new.outcomes.items number o lies)
-        | inr e ↦
-            let len = ap length outcomes ∙ length-append desk.outcomes.items (kept_of o) in
-            omega (arith, others q e.1, is.found q, len)
-      ]
-
-      -- the desk shows one row more
-      pub rows_more : (arrived_of new).rows ≡ (arrived_of desk).rows ++ (p, o) ∷ []
-      rows_more =
-          ap (λ places. rows_of_order places (lying_at new)) order
-          ∙ shown_more (lying_at desk) (lying_at new) p lying_others desk.order.items o lying_here
-          free
-
-      pub desk_more : vec_capacity new.outcomes ≡ vec_capacity desk.outcomes → vec_capacity new.order ≡ vec_capacity desk.order → IsDesk new
-      desk_more outcomes_room order_room =
-          let same = ap length numbers ∙ length-set desk.numbers.items p number in
-          let len = length-append desk.outcomes.items (kept_of o) in
-          let longer = length-append desk.order.items (p ∷ []) in
-          record {
-            taken = rw order (taken_more (lying_at desk) (lying_at new) p lying_others
-                desk.order.items o lying_here is.taken);
-            distinct = rw order (distinct_more desk.order.items p is.distinct free);
-            begins = rw outcomes (begins_more desk.outcomes.items (kept_of o) is.begins);
-            found = found_more;
-            few = let few = is.few in let one = kept_one o in rw (order, outcomes) (omega (arith, len, longer, few, one));
-            outcomes_room = omega (arith, is.outcomes_room, same, outcomes_room);
-            order_room = omega (arith, is.order_room, same, order_room);
-          }
-
--- ---- what is at a place of a desk
+-- ---- the row at one index
 
 in_order : (order : List ℕ) (k p : ℕ) → k < length order → p ≡ slice_index_or order k p → list_any (eqb p) order ≡ true
 in_order [] k p low at = absurd (omega arith)
 in_order (x ∷ xs) zero p low at = ap (λ t. t || list_any (eqb p) xs) (eq-eqb p x at)
-in_order (x ∷ xs) (suc k) p low at = ap (λ t. eqb p x || t) (in_order xs k p (omega arith) at) ∙ true_after (eqb p x)
-
--- a number of which there is an outcome is not 0
-some_number : (outcomes : List Outcome) (number : ℕ) → is_some (outcome_in outcomes number) ≡ true
-    → 1 ≤ number
-some_number outcomes zero some = absurd (cc)
-some_number outcomes (suc index) some = omega arith
+in_order (x ∷ xs) (suc k) p low at = ap (λ t. eqb p x || t) (in_order xs k p (omega arith) at) ∙ or-true (eqb p x)
 
 module _ (desk : Inside) (is : IsDesk desk) where
-  pub lies_arrived : (p : ℕ) → lying_at desk p ≡ arrived_at p (arrived_of desk).rows
-  lies_arrived p = sym (row_shown (lying_at desk) desk.order.items is.taken p)
-
   pub row_low : (shown : Arrived) (k : ℕ) → arrived_of desk ≡ shown → k < length shown.rows → k < length desk.order.items
   row_low shown k view low =
-      let count = ap length (order_shown (lying_at desk) desk.order.items is.taken) in
-      omega (arith, low, count, length-map (arrived_of desk).rows (λ r. r.0), ap (λ d. length d.rows) view)
+      let row : ℕ → Placed = λ q. (q, outcome_at desk q) in
+      omega (arith, low, length-map desk.order.items row, ap (λ d. length d.rows) view)
 
   -- a place in the order, its number, and what is there
   module _ (k p : ℕ) (low : k < length desk.order.items) (at : p ≡ slice_index_or desk.order.items k p) where
@@ -427,24 +296,16 @@ module _ (desk : Inside) (is : IsDesk desk) where
     place_low = places_below desk is p (in_order desk.order.items k p low at)
 
     module _ (number : ℕ) (holds : number ≡ slice_index_or desk.numbers.items p number) where
-      pub number_some : (1 ≤ number) × (number ≤ length desk.outcomes.items)
-      number_some =
-          let same = number_is desk is p number place_low holds in
-          let some : is_some (outcome_in desk.outcomes.items number) ≡ true =
-          ap (λ n. is_some (outcome_in desk.outcomes.items n)) same ∙ (sym (is.taken p) ∙ in_order desk.order.items k p low at) in
-          (some_number desk.outcomes.items number some, omega (arith, is.found p, same))
+      pub number_some : number ≡ 0 → ⊥
+      number_some none = let no = sym (number_free desk is p number place_low holds none) ∙ in_order desk.order.items k p low at in absurd (cc)
 
-      pub row_lies : (o : Outcome) → o ≡ slice_index_or desk.outcomes.items (number - 1) o
-          → slice_get (arrived_of desk).rows k ≡ Some (p, o)
+      pub number_within : (1 ≤ number) × (number ≤ length desk.outcomes.items)
+      number_within = (omega (arith, number_some), number_low desk is p number place_low holds)
+
+      pub row_lies : (o : Outcome) → o ≡ slice_index_or desk.outcomes.items (number - 1) o → slice_get (arrived_of desk).rows k ≡ Some (p, o)
       row_lies o lies =
-          let taken = number_some in
-          let here : lying_at desk p ≡ Some o =
-          ap (outcome_in desk.outcomes.items) (sym (number_is desk is p number place_low holds))
-          ∙ (outcome_of_index desk.outcomes.items number (number - 1) taken.0 refl
-          ∙ (slice_get-get_or desk.outcomes.items (number - 1) o
-          (let some = taken.0 in let low = taken.1 in omega arith) ∙ ap Some (sym lies))) in
-          row_at (lying_at desk) p o here desk.order.items k is.taken
-          (slice_get-get_or desk.order.items k p low ∙ ap Some (sym at))
+          row_at (outcome_at desk) desk.order.items k p (slice_get-get_or desk.order.items k p low ∙ ap Some (sym at))
+          ∙ ap (λ o. Some (p, o)) (sym (outcome_read desk is p number place_low holds o number_some lies))
 
 -- ---- the missing places
 

@@ -1,5 +1,5 @@
 //! The desk where outcomes arrive from the workers.
-ghost use Rattle.std.specs.Prelude.{◌≡◌, ◌≢◌, ◌++◌, ◌∷◌, [], ◌↔◌, ◌<◌, ◌≤◌, All, IfErr, IfOk, IsTrue, List, MatchResult, OnOk, Some, length, map, slice_get, slice_index_or, vec_capacity, vec_len, ℕ};
+ghost use Rattle.std.specs.Prelude.{◌≡◌, ◌-◌, ◌++◌, ◌∷◌, [], ◌↔◌, ◌<◌, ◌≤◌, All, IfErr, IfOk, IsTrue, List, MatchResult, OnOk, Some, length, map, slice_get, slice_index_or, vec_capacity, vec_len, ℕ};
 ghost use Rattle.std.specs.Iterator.{YieldsFirst, item_count};
 ghost use Rattle.std.specs.List.{range_with_len};
 ghost use Rattle.std.specs.List.Sorted.{IsPermutation};
@@ -11,7 +11,7 @@ ghost use Rattle.mimic_pool.specs.OutcomeKinds.{kept_of};
 ghost use Rattle.mimic_pool.specs.Missing.{free_from, missing_items};
 ghost use Rattle.mimic_pool.specs.Returned.{HasAll, StandsFor};
 ghost use Rattle.mimic_pool.specs.Rows.{rows_in};
-ghost use Rattle.mimic_pool.specs.Numbers.{Begins, outcome_in};
+ghost use Rattle.mimic_pool.specs.Numbers.{Begins};
 
 use crate::rows::Rows;
 use mimic_trial::Outcome;
@@ -111,8 +111,11 @@ impl Desk {
     pub fn outcome(&self, place: usize) -> Option<&Outcome>
         ensures { option_copied result ≡ arrived_at place self.now.rows }
     {
-        let number = self.numbers.get(place)?;
-        outcome_of(self.outcomes.as_slice(), *number)
+        let number = *self.numbers.get(place)?;
+        if number == 0 {
+            return None;
+        }
+        Some(&self.outcomes[number - 1])
     }
 
     /// The places of the first arrivals, in the order in which they came. They and those that are missing are all places, each
@@ -238,7 +241,7 @@ fn numbered(outcome: Outcome, outcomes: &mut Vec<Outcome>) -> usize
     requires room { vec_len outcomes.old < vec_capacity outcomes.old }
     ensures outcomes { outcomes.new.items ≡ outcomes.old.items ++ kept_of outcome }
     ensures room { vec_capacity outcomes.new ≡ vec_capacity outcomes.old }
-    ensures number { outcome_in outcomes.new.items result ≡ Some outcome }
+    ensures number { (1 ≤ result) × (slice_get outcomes.new.items (result - 1) ≡ Some outcome) }
 {
     match outcome {
         Outcome::Passed => 1,
@@ -248,14 +251,6 @@ fn numbered(outcome: Outcome, outcomes: &mut Vec<Outcome>) -> usize
             outcomes.len()
         }
     }
-}
-
-// The outcome of this number, and `None` for 0.
-fn outcome_of(outcomes: &[Outcome], number: usize) -> Option<&Outcome>
-    ensures { option_copied result ≡ outcome_in outcomes.now number }
-{
-    let index = number.checked_sub(1)?;
-    outcomes.get(index)
 }
 
 // Whether nothing arrived, or this outcome.

@@ -1,5 +1,5 @@
 use Rattle.std.proofs.Common.{arith}
-use Rattle.mimic_pool.proofs.Numbering.{number_some, place_low, row_lies, row_low}
+use Rattle.mimic_pool.proofs.Numbering.{number_within, place_low, row_lies, row_low}
 use Rattle.mimic_pool.proofs.desk.Desk.row.Goals as goal
 
 pub index-place-requires : goal.index-place-requires
@@ -16,12 +16,12 @@ index-requires c =
 pub overflow_sub-index : goal.overflow_sub-index
 overflow_sub-index c =
     let low = row_low c.self.inside c.self.invariant c.args.self.now c.args.number c.self.view_is c.requires in
-    (number_some c.self.inside c.self.invariant c.args.number c.index-place.result.now low c.index-place.ensures c.index.result.now c.index.ensures).0
+    (number_within c.self.inside c.self.invariant c.args.number c.index-place.result.now low c.index-place.ensures c.index.result.now c.index.ensures).0
 
 pub index-requires-2 : goal.index-requires-2
 index-requires-2 c =
     let low = row_low c.self.inside c.self.invariant c.args.self.now c.args.number c.self.view_is c.requires in
-    let some = number_some c.self.inside c.self.invariant c.args.number c.index-place.result.now low c.index-place.ensures c.index.result.now c.index.ensures in
+    let some = number_within c.self.inside c.self.invariant c.args.number c.index-place.result.now low c.index-place.ensures c.index.result.now c.index.ensures in
     omega (arith, some.0, some.1, c.self.inside.outcomes.ok)
 
 pub returns : goal.returns
