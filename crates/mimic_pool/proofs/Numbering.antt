@@ -1,5 +1,5 @@
 -- What the numbers and the order of a desk show.
-use Rattle.std.proofs.Common.{◌≡◌, ◌≢◌, ℕ, suc, zero, ◌+◌, ◌-◌, ◌<◌, ◌≤◌, ◌==◌, eqb, Bool, true, false, not, ◌||◌, cond, List, [], ◌∷◌, ◌++◌, Some, None, filter, length, length-append, slice_index_or, slice_set, refl, sym, ◌∙◌, ap, ap₂, subst, vec_capacity, inl, inr, arith}
+use Rattle.std.proofs.Common.{◌≡◌, ◌≢◌, ℕ, suc, zero, ◌+◌, ◌-◌, ◌<◌, ◌≤◌, ◌==◌, eqb, Bool, true, false, not, ◌||◌, cond, List, [], ◌∷◌, ◌++◌, Some, None, length, length-append, slice_index_or, slice_set, refl, sym, ◌∙◌, ap, ap₂, subst, vec_capacity, inl, inr, arith}
 use Rattle.std.specs.Prelude.{slice_get}
 use Rattle.std.specs.List.{list_any, IsDistinct, range_with_len}
 use Rattle.std.specs.List.Sorted.{IsPermutation}
@@ -23,7 +23,7 @@ use Rattle.mimic_pool.specs.Missing.{free_from}
 use Rattle.mimic_pool.specs.Numbers.{Begins, IsDesk, arrived_of, outcome_at, rows_of_order}
 use Rattle.mimic_pool.specs.OutcomeKinds.{kept_of}
 use Rattle.mimic_pool.specs.declared.desk.Desk.TheInside.{Inside}
-use Rattle.mimic_pool.proofs.Ordering.{order_whole}
+use Rattle.mimic_pool.proofs.Ordering.{filter_same, order_whole}
 
 -- ---- places in an order, each with its outcome
 
@@ -136,18 +136,12 @@ some_below [] p some = absurd (cc)
 some_below (n ∷ numbers) zero some = omega arith
 some_below (n ∷ numbers) (suc p) some = let rest = some_below numbers p some in omega arith
 
--- at places whose number is 0 nothing came, so that the same places are missing
-filter_same : (f g : ℕ → Bool) → ((p : ℕ) → f p ≡ g p) → (places : List ℕ)
-    → filter f places ≡ filter g places
-filter_same f g same [] = refl
-filter_same f g same (p ∷ places) =
-    ap₂ (λ t rest. cond t (p ∷ rest) rest) (same p) (filter_same f g same places)
-
 module _ (desk : Inside) (is : IsDesk desk) where
   -- each place in the order is one of the desk's
   pub places_below : (q : ℕ) → list_any (eqb q) desk.order.items ≡ true → q < length desk.numbers.items
   places_below q h = some_below desk.numbers.items q (sym (is.taken q) ∙ h)
 
+  -- at places whose number is 0 nothing came, so that the same places are missing
   pub missing_shown : free_from 0 (length desk.numbers.items) desk.numbers.items ≡ missing_of (arrived_of desk)
   missing_shown = filter_same _ _
       (λ p. not_not (slice_index_or desk.numbers.items p 0 == 0) ∙ sym (ap not (has_shown (outcome_at desk) desk.order.items p ∙ is.taken p)))

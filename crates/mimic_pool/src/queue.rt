@@ -149,36 +149,18 @@ pub(crate) fn prepare_queue_workers<T: Task, R: Wait>(
     let mut queue = queue;
     queue.flush(rt)?;
     let inbox = Inbox::with_times(alloc, count, queue.workers, timed, running)?;
-    let ready = ready_queue_workers(alloc, queue, count, &inbox)?;
-    Ok((inbox, ready))
-}
-
-// Makes the workers of the queue ready to run its trials, all of which are in full batches, and to report to the inbox.
-fn ready_queue_workers<T: Task>(
-    alloc: Global,
-    queue: Queue<T>,
-    count: usize,
-    inbox: &Inbox,
-) -> Result<ReadyQueueWorkers<T>, AllocError>
-    requires held { (trials : List (Assigned T)) × IsFilling T.can_run queue trials }
-    requires flushed { items_of queue.next ≡ [] }
-    requires inbox { (board_of inbox.now).workers ≡ queue.workers }
-    ensures len { IfOk result (λ made. vec_len made.workers ≡ queue.workers) }
-    ensures ready { IfOk result (λ made. (trials : List (Assigned T)) → length trials ≤ count
-        → IsFilling T.can_run queue trials → AreReadyQueueWorkers made trials) }
-{
     let Queue {
         queue,
         mut pass,
         workers,
         ..
     } = queue;
-    let workers = workers_at_queue(alloc, &queue, &mut pass, workers, count, inbox)?;
+    let workers = workers_at_queue(alloc, &queue, &mut pass, workers, count, &inbox)?;
     let handles = Vec::with_capacity(alloc, workers.len())?;
     let joined = Vec::with_capacity(alloc, workers.len() + 1)?;
     let spare = Rows::with_capacity(alloc, count)?;
     let board = inbox.board()?;
-    Ok(ReadyQueueWorkers {
+    let ready = ReadyQueueWorkers {
         queue,
         pass,
         workers,
@@ -186,7 +168,8 @@ fn ready_queue_workers<T: Task>(
         joined,
         spare,
         board,
-    })
+    };
+    Ok((inbox, ready))
 }
 
 // A worker for each of those of the inbox, with a pass, and with room for an equal part of `count` rows and for a batch more.

@@ -1,12 +1,12 @@
 //! Trials that are dealt out to workers beforehand.
-ghost use Rattle.std.specs.Prelude.{◌≡◌, ◌≤◌, [], All, Bool, IfOk, IfSome, List, MatchResult, length, map, take, true, vec_capacity, vec_len};
+ghost use Rattle.std.specs.Prelude.{◌≡◌, ◌≤◌, [], Bool, IfOk, IfSome, List, length, map, true, vec_len};
 ghost use Rattle.mimic_pool.specs.Answers.{Answers};
 ghost use Rattle.mimic_pool.specs.Board.{empty_board};
 ghost use Rattle.mimic_pool.specs.Inbox.{board_of, is_timed};
 ghost use Rattle.mimic_pool.specs.Rows.{rows_in};
 ghost use Rattle.mimic_pool.specs.Share.{AllRunners, assigned_from, items_of};
 ghost use Rattle.mimic_pool.specs.Joined.{AreJoined};
-ghost use Rattle.mimic_pool.specs.Shares.{AreAnswered, AreDealt, AreOfShares, AreReadyShareWorkers, RunsShares, job_of, jobs_of, shares_of};
+ghost use Rattle.mimic_pool.specs.Shares.{AreDealt, AreOfShares, AreReadyShareWorkers, RunsShares, shares_of};
 ghost use Rattle.mimic_pool.specs.declared.share.Assigned.{Assigned};
 
 use crate::board_reports::BoardReports;
@@ -65,7 +65,8 @@ pub(crate) fn prepare_share_workers<T: Task>(
     Ok((inbox, ready))
 }
 
-// Starts a worker for each share. `None` if one can't be started; the workers that were started are joined then.
+// Starts a worker for each share. If one can't be started, no more are, those that were started are joined, and there are none; the
+// others never close.
 pub(crate) fn start_share_workers<T: Task + Send + 'static, R: Spawner + 'static>(
     rt: &R,
     alloc: Global,
@@ -78,19 +79,29 @@ pub(crate) fn start_share_workers<T: Task + Send + 'static, R: Spawner + 'static
 {
     let ReadyShareWorkers {
         workers,
-        handles,
+        mut handles,
         joined,
     } = ready;
-    match start_each(rt, alloc, workers, test_mode, handles) {
-        Ok(handles) => Some(ShareWorkers { handles, joined }),
-        Err(handles) => {
-            join_each(rt, handles, joined);
-            None
+    for worker in workers {
+        match start_share_worker(rt, alloc, worker, test_mode) {
+            Some(handle) => handles.push_reserved(handle),
+            None => {
+                end_each(rt, handles);
+                return None;
+            }
         }
+    }
+    Some(ShareWorkers { handles, joined })
+}
+
+// Joins the workers, and drops what they return.
+fn end_each<T: Task + Send + 'static, R: Threads>(rt: &R, handles: Handles<T>) {
+    for handle in handles {
+        handle.join(rt);
     }
 }
 
-// Joins the workers, which run their shares to the end, and returns the rows of each.
+// Joins the workers one after another, which run their shares to the end, and returns the rows of each. It takes no memory.
 pub(crate) fn join_share_workers<T: Task + Send + 'static, R: Threads>(
     rt: &R,
     workers: ShareWorkers<T>,
@@ -101,8 +112,14 @@ pub(crate) fn join_share_workers<T: Task + Send + 'static, R: Threads>(
     ensures shares { (mode : Bool) (runners : List T) (flags : List Bool) → RunsShares workers mode (assigned_from 0 runners flags)
         → AreOfShares T.gives mode (assigned_from 0 runners flags) (map rows_in result.items) }
 {
-    let ShareWorkers { handles, joined } = workers;
-    join_each(rt, handles, joined)
+    let ShareWorkers {
+        handles,
+        mut joined,
+    } = workers;
+    for handle in handles {
+        joined.push_reserved(handle.join(rt));
+    }
+    joined
 }
 
 // A worker for each share, with room for its rows, and the board of the inbox.
@@ -121,32 +138,6 @@ fn workers_for_shares<T: Task>(
         ready.push_reserved(ReadyShareWorker { share, rows, board });
     }
     Ok(ready)
-}
-
-// Starts a worker for each share, and keeps their handles in `handles`, which takes no memory. If a worker can't be started, no
-// more are, and the handles of those that were started, for the first shares, are returned. The others never close.
-fn start_each<T: Task + Send + 'static, R: Spawner + 'static>(
-    rt: &R,
-    alloc: Global,
-    workers: Vec<ReadyShareWorker<T>>,
-    test_mode: bool,
-    mut handles: Handles<T>,
-) -> Result<Handles<T>, Handles<T>>
-    requires runnable { All (λ share. AllRunners T.can_run share) (shares_of workers.items) }
-    requires empty { vec_len handles ≡ 0 }
-    requires fits { vec_len workers ≤ vec_capacity handles }
-    ensures { MatchResult result
-        (λ started. map job_of started.items ≡ jobs_of test_mode (shares_of workers.items))
-        (λ started. map job_of started.items ≡ take (vec_len started)
-        (jobs_of test_mode (shares_of workers.items))) }
-{
-    for worker in workers {
-        match start_share_worker(rt, alloc, worker, test_mode) {
-            Some(handle) => handles.push_reserved(handle),
-            None => return Err(handles),
-        }
-    }
-    Ok(handles)
 }
 
 // Starts one worker. `None` if no thread can be made.
@@ -181,20 +172,4 @@ fn start_share_worker<T: Task + Send + 'static, R: Spawner + 'static>(
         },
     );
     started.ok()
-}
-
-// Joins the workers one after another, and keeps the rows that each returned in `joined`, which takes no memory.
-fn join_each<T: Task + Send + 'static, R: Threads>(
-    rt: &R,
-    handles: Handles<T>,
-    mut joined: Vec<Rows>,
-) -> Vec<Rows>
-    requires empty { vec_len joined ≡ 0 }
-    requires fits { vec_len handles ≤ vec_capacity joined }
-    ensures { AreAnswered T.gives (map job_of handles.items) (map rows_in result.items) }
-{
-    for handle in handles {
-        joined.push_reserved(handle.join(rt));
-    }
-    joined
 }
