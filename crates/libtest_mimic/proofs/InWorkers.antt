@@ -15,9 +15,9 @@ use Rattle.mimic_trial.specs.Places.{Placed, placed_at, places_of}
 use Rattle.mimic_pool.specs.Arrivals.{Arrived}
 use Rattle.mimic_trial.specs.Promise.{Gives}
 use Rattle.mimic_trial.specs.Trial.{info_of, runner_of}
-use Rattle.mimic_pool.specs.declared.supply.Supply.{Supply}
+use Rattle.mimic_pool.specs.declared.waiting_trials.WaitingTrials.{WaitingTrials}
 use Rattle.mimic_pool.specs.Share.{assigned_from}
-use Rattle.mimic_pool.specs.Supply.{Holds}
+use Rattle.mimic_pool.specs.WaitingTrials.{Holds}
 use Rattle.mimic_printer.specs.declared.sink.WriteFault.{WriteFault}
 use Rattle.mimic_printer.specs.Report.{failures_text, rows_text, summary_text, title_text}
 use Rattle.mimic_printer.specs.Row.{PrintedRow, label_of, labels_of, outcomes_of, rows_at}
@@ -39,7 +39,7 @@ parts_shown : {R : Type 0} (args : Arguments) (trials : List (Trial R)) (infos s
 parts_shown args trials infos shown rs bs e parts = record { each_info = e ∙ parts.each_info; each_runner = parts.each_runner; each_flag = parts.each_flag }
 
 -- trials that were supplied, and what is shown of each
-module _ {R : Type 0} (gives : Gives R) (suite : Suite R) (can_run : R → Type 0) (supply : Supply R) (known infos : List TestInfo) (are : infos ≡ known) (supplied : AreSupplied can_run suite.args suite.trials known supply) where
+module _ {R : Type 0} (gives : Gives R) (suite : Suite R) (can_run : R → Type 0) (waiting : WaitingTrials R) (known infos : List TestInfo) (are : infos ≡ known) (supplied : AreSupplied can_run suite.args suite.trials known waiting) where
   abbrev rs : List R
   rs = supplied.runners
 
@@ -68,7 +68,7 @@ module _ {R : Type 0} (gives : Gives R) (suite : Suite R) (can_run : R → Type 
   flags_of_infos : length bs ≡ length infos
   flags_of_infos = sym (flags_length suite.args suite.trials bs parts.each_flag) ∙ sym count
 
-  pub held_of : (rs' : List R) × (bs' : List Bool) × (length rs' ≡ length infos) × (length bs' ≡ length infos) × Holds can_run supply (assigned_from 0 rs' bs')
+  pub held_of : (rs' : List R) × (bs' : List Bool) × (length rs' ≡ length infos) × (length bs' ≡ length infos) × Holds can_run waiting (assigned_from 0 rs' bs')
   held_of = (rs, bs, runners_of_infos, flags_of_infos, supplied.held)
 
   -- as many were put as there are trials
@@ -131,12 +131,12 @@ module _ {R : Type 0} (gives : Gives R) (suite : Suite R) (can_run : R → Type 
     refused_by asked is a b w (Arrival place) r (low, h) = (several, subst (λ (n : ℕ). place < n) count low, h, r)
 
     pub rows_refused : (asked : Bool) → asked ≡ suite.args.report_time → (a b : Shown) (w : Watched) (e : RunError) → IsRunning w
-        → ((rs' : List R) (bs' : List Bool) → length rs' ≡ length infos → length bs' ≡ length infos → Holds can_run supply (assigned_from 0 rs' bs')
+        → ((rs' : List R) (bs' : List Bool) → length rs' ≡ length infos → length bs' ≡ length infos → Holds can_run waiting (assigned_from 0 rs' bs')
         → RowsRefused gives (not suite.args.bench) (assigned_from 0 rs' bs') asked suite.printer infos a b e) → ReportRefused gives threads suite a b w e
     rows_refused asked is a b w e r said = refused_by asked is a b w e r (said rs bs runners_of_infos flags_of_infos supplied.held)
 
     module _ (asked : Bool) (is : asked ≡ suite.args.report_time) (desk : Arrived) (a c : Shown)
-        (said : (rs' : List R) (bs' : List Bool) → length rs' ≡ length infos → length bs' ≡ length infos → Holds can_run supply (assigned_from 0 rs' bs')
+        (said : (rs' : List R) (bs' : List Bool) → length rs' ≡ length infos → length bs' ≡ length infos → Holds can_run waiting (assigned_from 0 rs' bs')
         → IsGathered gives (not suite.args.bench) (assigned_from 0 rs' bs') desk × PutsTitled asked suite.printer infos desk a c) where
       gathered : IsGathered gives (not suite.args.bench) (assigned_from 0 rs bs) desk
       gathered = (said rs bs runners_of_infos flags_of_infos supplied.held).0

@@ -8,25 +8,25 @@ use Rattle.mimic_trial.specs.declared.trial.TestInfo.{TestInfo}
 use Rattle.mimic_trial.specs.declared.trial.Trial.{Trial}
 use Rattle.mimic_pool.proofs.Dealing.{assigned_more}
 use Rattle.mimic_pool.specs.Share.{assigned_from}
-use Rattle.mimic_pool.specs.Supply.{Holds}
+use Rattle.mimic_pool.specs.WaitingTrials.{Holds}
 use Rattle.mimic_pool.specs.declared.share.Assigned.{Assigned}
-use Rattle.mimic_pool.specs.declared.supply.Supply.{Supply}
+use Rattle.mimic_pool.specs.declared.waiting_trials.WaitingTrials.{WaitingTrials}
 use Rattle.libtest_mimic.specs.Selection.{IsIgnored}
 use Rattle.libtest_mimic.specs.Steps.{AreSupplied}
 use Rattle.libtest_mimic.proofs.Arranged.{flags_length, flags_push}
 
 -- the trials before those that are left were put
-pub record IsPutSoFar {R : Type 0} (can_run : R → Type 0) (args : Arguments) (trials left : List (Trial R)) (infos : List TestInfo) (supply : Supply R) : Type 0 where
+pub record IsPutSoFar {R : Type 0} (can_run : R → Type 0) (args : Arguments) (trials left : List (Trial R)) (infos : List TestInfo) (waiting : WaitingTrials R) : Type 0 where
   pub seen : List (Trial R)
   pub are_all : seen ++ left ≡ trials
-  pub put : AreSupplied can_run args seen infos supply
+  pub put : AreSupplied can_run args seen infos waiting
 
 module _ {R : Type 0} where
   seen_next : (trials left seen : List (Trial R)) (trial : Trial R) (rest : List (Trial R)) → left ≡ trial ∷ rest → seen ++ left ≡ trials → (seen ++ trial ∷ []) ++ rest ≡ trials
   seen_next trials left seen trial rest next are_all = append_assoc seen (trial ∷ []) rest ∙ ap (λ l. seen ++ l) (sym next) ∙ are_all
 
   -- one more trial was put
-  pub put_next : (can_run : R → Type 0) (args : Arguments) (trials left rest : List (Trial R)) (infos more : List TestInfo) (old new : Supply R)
+  pub put_next : (can_run : R → Type 0) (args : Arguments) (trials left rest : List (Trial R)) (infos more : List TestInfo) (old new : WaitingTrials R)
       (trial : Trial R) (info : TestInfo) (runner : R) (flag : Bool) (place : ℕ)
       → left ≡ trial ∷ rest → info ≡ info_of trial → runner ≡ runner_of trial → (IsTrue flag ↔ IsIgnored args trial) → place ≡ length infos → more ≡ infos ++ info ∷ []
       → ((items : List (Assigned R)) → Holds can_run old items → Holds can_run new (items ++ record { place = place; runner = runner; ignored = flag } ∷ []))
@@ -52,7 +52,7 @@ module _ {R : Type 0} where
         };
       }
 
-  pub put_all : (can_run : R → Type 0) (args : Arguments) (infos : List TestInfo) (supply : Supply R) (trials left : List (Trial R)) → left ≡ [] → IsPutSoFar can_run args trials left infos supply → AreSupplied can_run args trials infos supply
-  put_all can_run args infos supply trials left none so_far =
+  pub put_all : (can_run : R → Type 0) (args : Arguments) (infos : List TestInfo) (waiting : WaitingTrials R) (trials left : List (Trial R)) → left ≡ [] → IsPutSoFar can_run args trials left infos waiting → AreSupplied can_run args trials infos waiting
+  put_all can_run args infos waiting trials left none so_far =
       let all : so_far.seen ++ [] ≡ trials = ap (λ l. so_far.seen ++ l) (sym none) ∙ so_far.are_all in
-      subst (λ l. AreSupplied can_run args l infos supply) (sym (append-nil so_far.seen) ∙ all) so_far.put
+      subst (λ l. AreSupplied can_run args l infos waiting) (sym (append-nil so_far.seen) ∙ all) so_far.put

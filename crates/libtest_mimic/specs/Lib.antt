@@ -36,4 +36,4 @@ pub use Rattle.mimic_pool.specs.Inbox
 pub use Rattle.mimic_pool.specs.Arrivals
 pub use Rattle.mimic_pool.specs.Missing
 pub use Rattle.mimic_pool.specs.Joined
-pub use Rattle.mimic_pool.specs.Supply
+pub use Rattle.mimic_pool.specs.WaitingTrials

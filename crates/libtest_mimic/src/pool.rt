@@ -2,7 +2,7 @@
 //! outcomes arrive, and the rows of workers that one has started.
 pub use crate::running::gathering::{Started, gather_rows};
 pub use mimic_pool::{
-    Arrival, Board, BoardReports, Crew, Desk, Inbox, MemoryReports, Missing, Notes, Reports, Rows,
-    RunningCell, RunningTrials, Schedule, Share, Starts, Supply, Untold, deal, deal_next,
-    empty_shares, join_all, put_joined, start_all, work, worker_count,
+    Arrival, Board, BoardReports, Desk, Inbox, MemoryReports, Missing, ReadyWorkers, Reports, Rows,
+    RunningCell, RunningTrials, Schedule, Share, Untold, WaitingTrials, Workers, deal, deal_next,
+    empty_shares, join_workers, put_joined, start_workers, work, worker_count,
 };

@@ -1,7 +1,7 @@
 -- What a program does until it says otherwise.
 use Rattle.std.specs.Prelude.{◌≡◌, false, true, IsSomeAnd}
 use Rattle.std.specs.Duration.{as_nanos}
-use Rattle.mimic_pool.specs.declared.supply.Schedule.TheVariants.{Queue}
+use Rattle.mimic_pool.specs.declared.waiting_trials.Schedule.TheVariants.{Queue}
 use Rattle.mimic_main.specs.declared.program.Program.{Program}
 
 -- it prints faults with their causes, trials that run for over a minute and a warning of equal names, its workers take trials from

@@ -1,16 +1,18 @@
 -- Outcomes that arrive at the places that are missing.
-use Rattle.std.proofs.Common.{◌≡◌, ◌∙◌, ℕ, suc, zero, ◌+◌, ◌<◌, ◌≤◌, eqb, Bool, true, false, not, ◌||◌, cond, List, [], ◌∷◌, ◌++◌, Some, filter, drop, is_some, length, refl, sym, ap, subst, append_assoc, inl, inr, arith}
+use Rattle.std.proofs.Common.{◌≡◌, ◌∙◌, ℕ, suc, zero, ◌+◌, ◌<◌, ◌≤◌, eqb, Bool, true, false, not, ◌||◌, cond, List, [], ◌∷◌, ◌++◌, Some, filter, drop, length, refl, sym, ap, subst, append_assoc, inl, inr, arith}
 use Rattle.std.specs.Prelude.{slice_get}
 use Rattle.std.specs.List.{range_with_len}
 use Rattle.std.specs.List.Sorted.{IsPermutation}
 use Rattle.std.proofs.lemmas.List.{map-append}
 use Rattle.std.proofs.lemmas.Bool.Decides.{eqb_tells}
 use Rattle.std.proofs.lemmas.List.Folds.{list_any-append}
+use Rattle.std.proofs.lemmas.Option.{slice_get-get_or}
 use Rattle.mimic_trial.specs.declared.outcome.Outcome.{Outcome}
+use Rattle.mimic_trial.specs.declared.outcome.Outcome.TheVariants.{Ignored}
 use Rattle.mimic_trial.specs.Places.{Placed, placed_at, placed_if, places_of}
 use Rattle.mimic_pool.specs.Arrivals.{Arrived, has_come, missing_of, rows_after}
 use Rattle.mimic_pool.proofs.FirstArrivals.{again_kept, first_kept}
-use Rattle.mimic_pool.proofs.Seating.{or_false, place_if}
+use Rattle.mimic_pool.proofs.Numbering.{or_false}
 
 -- of `count` places from this one on, those at which nothing came
 abbrev pub missing_from : ℕ → ℕ → List Placed → List ℕ
@@ -54,11 +56,6 @@ module _ (desk : Arrived) (outcomes : List Outcome) (place count : ℕ) (o : Out
       ≡ desk.rows ++ placed_at (missing_from place (suc count) desk.rows) outcomes
   next_arrived = next_come (has_come place desk.rows) refl
 
-some_there : (outcomes : List Outcome) (place : ℕ) → place < length outcomes → is_some (slice_get outcomes place) ≡ true
-some_there [] place low = absurd (omega arith)
-some_there (o ∷ outcomes) zero low = refl
-some_there (o ∷ outcomes) (suc place) low = some_there outcomes place (omega arith)
-
 -- each place that is missing has an outcome
 missing_placed : (outcomes : List Outcome) (rows : List Placed) (place count : ℕ) → place + count ≤ length outcomes
     → places_of (placed_at (missing_from place count rows) outcomes) ≡ missing_from place count rows
@@ -66,7 +63,8 @@ missing_placed outcomes rows place zero low = refl
 missing_placed outcomes rows place (suc count) low =
     let rest = missing_from (place + 1) count rows in
     let are = missing_placed outcomes rows (place + 1) count (omega arith) in
-    let here = place_if place (placed_at rest outcomes) (slice_get outcomes place) (some_there outcomes place (omega arith)) ∙ ap (λ l. place ∷ l) are in
+    let found = slice_get-get_or outcomes place Ignored (omega arith) in
+    let here = ap (λ o. places_of (placed_if place o ++ placed_at rest outcomes)) found ∙ ap (λ l. place ∷ l) are in
     elim (has_come place rows) as (λ t. places_of (placed_at (cond (not t) (place ∷ rest) rest) outcomes) ≡ cond (not t) (place ∷ rest) rest) [ true ↦ are | false ↦ here ]
 
 -- the places of a desk at which nothing is missing any more are all places, each once

@@ -1,9 +1,8 @@
 -- What holds of each element of a list, one by one, and what is found in it.
 use Rattle.std.proofs.Common.{ℕ, suc, zero, ◌≡◌, ◌<◌, ◌∙◌, ◌∷◌, ◌++◌, [], All, Bor, List, None, Option, Some, ap, arith, length, refl, replicate, slice_index_or, subst, sym}
 use Rattle.std.specs.Prelude.{IfSome, IsSome, slice_get}
-use Rattle.std.specs.Slice.{IsItemAt}
 use Rattle.std.specs.Option.{option_copied}
-use Rattle.std.proofs.lemmas.Option.{slice_get-get_or, slice_get_past}
+use Rattle.std.proofs.lemmas.Option.{slice_get-get_or}
 use Rattle.std.proofs.lemmas.List.Elements.{All-head, All-push, All-tail}
 
 module _ {A : Type 0} (P : A → Type 0) where
@@ -31,11 +30,6 @@ none_high (x ∷ xs) (suc i) high = none_high xs i (λ low. high (omega (arith, 
 pub item_got : {A : Type 0} (got : Option (Bor A)) (xs : List A) (i : ℕ) → (IsSome got → i < length xs) → (i < length xs → IsSome got) → IfSome got (λ x. x.now ≡ slice_index_or xs i x.now) → option_copied got ≡ slice_get xs i
 item_got None xs i within some is = sym (none_high xs i (λ low. let none = some low in cc))
 item_got (Some got) xs i within some is = ap Some is ∙ sym (slice_get-get_or xs i got.now (within refl))
-
--- the same of a slice
-pub item_found : {A : Type 0} (got : Option (Bor A)) (xs : List A) (i : ℕ) → IsItemAt xs i got → option_copied got ≡ slice_get xs i
-item_found None xs i at = sym (slice_get_past xs i at.3)
-item_found (Some got) xs i at = ap Some at.1 ∙ sym (slice_get-get_or xs i got.now at.3.0)
 
 -- in a list of one value, each item is that value
 pub all_same : {A : Type 0} (x : A) (n i : ℕ) → slice_index_or (replicate n x) i x ≡ x

@@ -1,11 +1,13 @@
 -- First arrivals: one more arrival, by case, and the places at which nothing came.
-use Rattle.std.proofs.Common.{◌≡◌, ◌∙◌, ℕ, suc, zero, ◌+◌, ◌<◌, ◌≤◌, nat_lt, eqb, Bool, true, false, not, ◌&&◌, ◌||◌, cond, List, [], ◌∷◌, ◌++◌, filter, refl, sym, ap, append_assoc, append-nil, inl, inr, arith}
+use Rattle.std.proofs.Common.{◌≡◌, ◌∙◌, ℕ, suc, zero, ◌+◌, ◌<◌, ◌≤◌, nat_lt, eqb, Bool, true, false, not, ◌&&◌, ◌||◌, cond, List, [], ◌∷◌, ◌++◌, filter, refl, sym, ap, ap₂, None, Some, append_assoc, append-nil, inl, inr, arith}
 use Rattle.std.specs.List.{range_with_len}
 use Rattle.std.proofs.lemmas.List.Folds.{list_any-append}
-use Rattle.std.proofs.lemmas.Bool.{cases_Bool, eqb-true}
-use Rattle.std.proofs.lemmas.Bool.Decides.{nat_tests}
+use Rattle.std.proofs.lemmas.Bool.{cases_Bool, eq-eqb, eqb-true}
+use Rattle.std.proofs.lemmas.Bool.Decides.{eqb_tells, nat_tests}
+use Rattle.mimic_trial.specs.declared.outcome.Outcome.{Outcome}
 use Rattle.mimic_trial.specs.Places.{Placed, places_of}
-use Rattle.mimic_pool.specs.Arrivals.{Arrived, arrival_of, first_after, first_arrivals, has_come, order_of, rows_after}
+use Rattle.mimic_pool.specs.Arrivals.{Arrived, arrival_of, arrived_at, first_after, first_arrivals, has_come, is_first, order_of, rows_after}
+use Rattle.mimic_pool.specs.Keeping.{lent_of}
 use Rattle.mimic_pool.specs.declared.desk.Arrival.TheVariants.{First, Again, Stranger}
 
 -- ---- one more arrival
@@ -104,6 +106,32 @@ pub said : (d : Arrived) (p : ℕ) (h : Bool) → p < d.places → has_come p d.
 said d p h low e =
     let yes : nat_lt p d.places ≡ true = grind (arith, nat_tests) in
     ap (λ b. cond b Again First) (sym e) ∙ ap (λ t. cond t (cond (has_come p d.rows) Again First) Stranger) (sym yes)
+
+-- ---- what is lent
+
+arrived_behind : (rows : List Placed) (p : ℕ) (o : Outcome) → has_come p rows ≡ false → arrived_at p (rows ++ (p, o) ∷ []) ≡ Some o
+arrived_behind [] p o none = ap (λ t. cond t (Some o) None) (eq-eqb p p refl)
+arrived_behind (row ∷ rows) p o none =
+    elim (eqb_tells p row.0) [
+      | inl e ↦ absurd (let both = ap (λ t. t || has_come p rows) (sym e.0) ∙ none in cc)
+      | inr e ↦
+          ap (λ t. cond t (Some row.1) (arrived_at p (rows ++ (p, o) ∷ []))) e.0
+          ∙ arrived_behind rows p o (ap (λ t. t || has_come p rows) (sym e.0) ∙ none)
+    ]
+
+-- after a first arrival its outcome is at its place
+pub first_lent : (d : Arrived) (p : ℕ) (o : Outcome) → First ≡ arrival_of d p → arrived_at p (rows_after d.places d.rows (p, o)) ≡ lent_of d (p, o)
+first_lent d p o first =
+    let rows = d.rows ++ (p, o) ∷ [] in
+    elim (cases_Bool (nat_lt p d.places)) [
+      | inr f ↦ absurd (let no = first ∙ ap (λ t. cond t (cond (has_come p d.rows) Again First) Stranger) f in cc)
+      | inl t ↦ elim (cases_Bool (has_come p d.rows)) [
+        | inl h ↦ absurd (let no = first ∙ ap₂ (λ t h. cond t (cond h Again First) Stranger) t h in cc)
+        | inr n ↦
+            let yes : is_first d.places d.rows (p, o) ≡ true = ap₂ (λ t h. t && not h) t n in
+            ap (λ b. arrived_at p (cond b rows d.rows)) yes ∙ (arrived_behind d.rows p o n ∙ ap (λ b. cond b (Some o) None) (sym yes))
+      ]
+    ]
 
 -- ---- the places at which nothing came
 

@@ -6,7 +6,7 @@ pub mod Posting
 pub mod Joining
 pub mod Placing
 pub mod Ordering
-pub mod Seating
+pub mod Numbering
 pub mod Settling
 pub mod Arriving
 pub mod Having

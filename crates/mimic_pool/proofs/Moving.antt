@@ -7,10 +7,6 @@ module _ (n n' left rest : ℕ) (one : n' ≡ n + 1) (next : rest + 1 ≡ left) 
   pub moved : n' + rest ≡ n + left
   moved = omega (arith, one, next)
 
-  -- the room is still enough
-  pub moved_fits : (c c' : ℕ) → c' ≡ c → n + left ≤ c → n' + rest ≤ c'
-  moved_fits c c' same fits = omega (arith, one, next)
-
   -- the room is still more than enough
   pub moved_below : (c c' : ℕ) → c' ≡ c → n + left < c → n' + rest < c'
   moved_below c c' same fits = omega (arith, one, next)
@@ -34,7 +30,3 @@ module _ (n n' left rest : ℕ) (one : n' ≡ n + 1) (next : rest + 1 ≡ left) 
 -- one of those that are left is gone
 pub fits_rest : (n left rest c : ℕ) → rest + 1 ≡ left → n + left ≤ c → n + rest ≤ c
 fits_rest n left rest c next fits = omega arith
-
--- room that is kept
-pub room_kept : (n c c' : ℕ) → c' ≡ c → n ≤ c → n ≤ c'
-room_kept n c c' same fits = omega arith

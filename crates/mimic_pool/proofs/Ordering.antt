@@ -1,9 +1,10 @@
 -- Distinct places below n, and then the others, are all of them, each once.
-use Rattle.std.proofs.Common.{◌≡◌, ◌∙◌, ℕ, suc, zero, ◌+◌, ◌<◌, ◌≤◌, eqb, Bool, true, false, not, ◌||◌, cond, List, [], ◌∷◌, ◌++◌, filter, refl, sym, ap, subst, inl, inr, arith}
+use Rattle.std.proofs.Common.{◌≡◌, ◌∙◌, ℕ, suc, zero, ◌+◌, ◌<◌, ◌≤◌, eqb, Bool, true, false, not, ◌||◌, cond, List, [], ◌∷◌, ◌++◌, filter, refl, sym, ap, ap₂, subst, inl, inr, arith}
 use Rattle.std.specs.List.{AllByRecursion, list_any, IsDistinct, range_with_len}
 use Rattle.std.specs.List.Sorted.{IsPermutation}
 use Rattle.std.proofs.lemmas.List.Sorted.{IsPermutation-refl, IsPermutation-cons, IsPermutation-middle, IsPermutation-trans, IsPermutation-sym}
-use Rattle.std.proofs.lemmas.Bool.{eq-eqb}
+use Rattle.std.proofs.lemmas.Bool.{eq-eqb, eqb-true}
+use Rattle.std.proofs.lemmas.Map.Views.{any-filter_same}
 use Rattle.std.proofs.lemmas.Bool.Decides.{eqb_tells}
 use Rattle.std.proofs.lemmas.Map.Keys.{IsDistinct-cons, IsDistinct-tail}
 use Rattle.mimic_trial.specs.Places.{Placed, places_of}
@@ -92,17 +93,7 @@ filter_twice xs x (y ∷ ys) =
 
 -- a place that is in ys and isn't x is in ys without x, too
 still_in : (q x : ℕ) (ys : List ℕ) → eqb q x ≡ false → list_any (eqb q) ys ≡ true → list_any (eqb q) (filter (λ p. not (eqb p x)) ys) ≡ true
-still_in q x [] other h = absurd (cc)
-still_in q x (y ∷ ys) other h =
-    let F = filter (λ p. not (eqb p x)) ys in
-    elim (eqb_tells q y) [
-      | inl e ↦
-          let kept : eqb y x ≡ false = ap (λ k. eqb k x) (sym e.1) ∙ other in
-          ap (λ b. list_any (eqb q) (cond (not b) (y ∷ F) F)) kept ∙ ap (λ b. b || list_any (eqb q) F) e.0
-      | inr e ↦
-          let rest : list_any (eqb q) F ≡ true = still_in q x ys other (ap (λ b. b || list_any (eqb q) ys) (sym e.0) ∙ h) in
-          elim (eqb y x) as (λ b. list_any (eqb q) (cond (not b) (y ∷ F) F) ≡ true) [ true ↦ rest | false ↦ ap (λ b. b || list_any (eqb q) F) e.0 ∙ rest ]
-    ]
+still_in q x ys other h = any-filter_same (eqb q) (λ p. not (eqb p x)) true (λ k same. ap (λ r. not (eqb r x)) (sym (eqb-true q k same)) ∙ ap not other) ys ∙ h
 
 pub lacked : (x : ℕ) (ys : List ℕ) → Lacks x ys → list_any (eqb x) ys ≡ false
 lacked x [] h = refl
@@ -135,11 +126,9 @@ pub has_place : (p : ℕ) (rows : List Placed) → list_any (eqb p) (places_of r
 has_place p [] = refl
 has_place p (r ∷ rs) = ap (λ t. eqb p r.0 || t) (has_place p rs)
 
-missing_is : (rows : List Placed) (ys : List ℕ) → filter (λ p. not (list_any (eqb p) (places_of rows))) ys ≡ filter (λ p. not (has_come p rows)) ys
-missing_is rows [] = refl
-missing_is rows (y ∷ ys) =
-    ap (λ b. cond (not b) (y ∷ filter (λ p. not (list_any (eqb p) (places_of rows))) ys) (filter (λ p. not (list_any (eqb p) (places_of rows))) ys)) (has_place y rows)
-    ∙ ap (λ l. cond (not (has_come y rows)) (y ∷ l) l) (missing_is rows ys)
+pub filter_same : (f g : ℕ → Bool) → ((p : ℕ) → f p ≡ g p) → (places : List ℕ) → filter f places ≡ filter g places
+filter_same f g same [] = refl
+filter_same f g same (p ∷ places) = ap₂ (λ t rest. cond t (p ∷ rest) rest) (same p) (filter_same f g same places)
 
 -- the places of rows, if each comes once and is below n, and then the missing ones are all places, each once
 pub order_whole : (n : ℕ) (rows : List Placed) (missing : List ℕ) → IsDistinct eqb (places_of rows) → ((p : ℕ) → list_any (eqb p) (places_of rows) ≡ true → p < n)
@@ -148,4 +137,4 @@ order_whole n rows missing distinct below is =
     let all : IsPermutation (range_with_len 0 n) (places_of rows ++ filter (λ p. not (list_any (eqb p) (places_of rows))) (range_with_len 0 n)) =
     split_whole (places_of rows) (range_with_len 0 n) distinct (distinct_range 0 n) (λ q h. let low = below q h in in_range q 0 n (omega arith) (omega arith)) in
     let P : List ℕ → Type 0 = λ l. IsPermutation (places_of rows ++ l) (range_with_len 0 n) in
-    subst P (missing_is rows (range_with_len 0 n) ∙ sym is) (IsPermutation-sym _ _ all)
+    subst P (filter_same _ _ (λ p. ap not (has_place p rows)) (range_with_len 0 n) ∙ sym is) (IsPermutation-sym _ _ all)

@@ -20,7 +20,7 @@ use Rattle.mimic_pool.specs.Joined.{AnswersSome, HavePlaces, put_all, put_each}
 use Rattle.mimic_pool.specs.Share.{assigned_from, share_of}
 use Rattle.mimic_pool.proofs.Joining.{length_put, put_flat}
 use Rattle.mimic_pool.proofs.Ordering.{Lacks, distinct_range}
-use Rattle.mimic_pool.proofs.Seating.{eqb_equiv}
+use Rattle.mimic_pool.proofs.Numbering.{eqb_equiv}
 
 -- ---- which places rows have
 

@@ -13,7 +13,7 @@ use Rattle.mimic_pool.specs.Posted.{IsBoard, posted}
 use Rattle.mimic_pool.specs.Rows.{Returned}
 use Rattle.mimic_pool.specs.declared.board.Board.TheInside.{Inside}
 use Rattle.mimic_pool.proofs.Reporting.{accepted_free, drop_first, report_accepted, taken_first}
-use Rattle.mimic_pool.proofs.Seating.{distinct_more, eqb_equiv, flags_more, room_left}
+use Rattle.mimic_pool.proofs.Numbering.{distinct_more, eqb_equiv, flags_more, room_left}
 
 flag_low : (flags : List Bool) (p : ℕ) → slice_index_or flags p false ≡ true → p < length flags
 flag_low [] p is = absurd (cc)

@@ -1,4 +1,4 @@
--- What a queue of trials holds, and what its workers start with, run and return.
+-- What a queue of trials holds, and its workers before they start, while they run and when they have ended.
 use Rattle.std.specs.Prelude.{◌≡◌, ◌+◌, ◌++◌, ◌<◌, ◌≤◌, ℕ, All, Bool, List, [], length, true, vec_capacity, vec_len}
 use Rattle.std.specs.Arc.{arc_value}
 use Rattle.std.specs.List.{flat_map}
@@ -12,22 +12,22 @@ use Rattle.mimic_pool.specs.Balance.{account, all_parts}
 use Rattle.mimic_pool.specs.Passes.{account_of}
 use Rattle.mimic_pool.specs.Share.{AllRunners, items_of}
 use Rattle.mimic_pool.specs.declared.queue.Queue.{Queue}
-use Rattle.mimic_pool.specs.declared.queue.QueueCrew.{QueueCrew}
-use Rattle.mimic_pool.specs.declared.queue.QueueStarts.{QueueStarts}
+use Rattle.mimic_pool.specs.declared.queue.QueueWorkers.{QueueWorkers}
+use Rattle.mimic_pool.specs.declared.queue.ReadyQueueWorkers.{ReadyQueueWorkers}
 use Rattle.mimic_pool.specs.declared.share.Assigned.{Assigned}
 use Rattle.mimic_pool.specs.declared.shared_queue.TheConstants.{MOST_IN_BATCH}
-use Rattle.mimic_pool.specs.declared.taker.AnswersTaken.{AnswersTaken}
-use Rattle.mimic_pool.specs.declared.taker.Taken.{Taken}
-use Rattle.mimic_pool.specs.declared.taker.TakerStart.{TakerStart}
-use Rattle.mimic_pool.specs.declared.taker.Taker.{Taker}
+use Rattle.mimic_pool.specs.declared.queue_source.AnswersTaken.{AnswersTaken}
+use Rattle.mimic_pool.specs.declared.queue_source.EndedWorker.{EndedWorker}
+use Rattle.mimic_pool.specs.declared.queue_source.ReadyQueueWorker.{ReadyQueueWorker}
+use Rattle.mimic_pool.specs.declared.queue_source.QueueSource.{QueueSource}
 
 module _ {X : Type 0} where
   -- which queue the worker takes from
-  abbrev pub queue_id : {R : Type 0} → Taker X R → SegId Global
-  queue_id taker = (arc_value taker.queue).queue
+  abbrev pub queue_id : {R : Type 0} → QueueSource X R → SegId Global
+  queue_id source = (arc_value source.queue).queue
 
   -- the worker has handed these trials out, and put none
-  pub record GoesOn {R : Type 0} (first : Taker X R) (items : List (Assigned X)) (last : Taker X R) : Type 0 where
+  pub record GoesOn {R : Type 0} (first : QueueSource X R) (items : List (Assigned X)) (last : QueueSource X R) : Type 0 where
     pub same : queue_id last ≡ queue_id first
     pub ours : IsSegPassOf (queue_id first) first.pass → IsSegPassOf (queue_id first) last.pass
     pub parts : (account_of last.pass).parts ≡ (account_of first.pass).parts
@@ -36,22 +36,22 @@ module _ {X : Type 0} where
         → (account_of last.pass).taken ≡ (before ++ items) ++ last.left
 
   -- the worker may take, and what is left of its batch may be run and has room
-  pub record MayTake {R : Type 0} (can_run : X → Type 0) (taker : Taker X R) (room : ℕ) : Type 0 where
-    pub ours : IsSegPassOf (queue_id taker) taker.pass
-    pub some_part : 0 < (account_of taker.pass).parts
-    pub runnable : All (λ item. can_run item.runner) taker.left
-    pub fits : length taker.left ≤ room
+  pub record MayTake {R : Type 0} (can_run : X → Type 0) (source : QueueSource X R) (room : ℕ) : Type 0 where
+    pub ours : IsSegPassOf (queue_id source) source.pass
+    pub some_part : 0 < (account_of source.pass).parts
+    pub runnable : All (λ item. can_run item.runner) source.left
+    pub fits : length source.left ≤ room
 
   -- how many trials the worker hands out at most
-  abbrev pub most_of : {R : Type 0} → Taker X R → ℕ
-  most_of taker = length taker.left + taker.budget
+  abbrev pub most_of : {R : Type 0} → QueueSource X R → ℕ
+  most_of source = length source.left + source.budget
 
   -- the worker has put and taken nothing, and has one part of this queue
-  pub record IsFresh (queue : SegId Global) (start : TakerStart X) : Type 0 where
-    pub same : (arc_value start.queue).queue ≡ queue
-    pub ours : IsSegPassOf (arc_value start.queue).queue start.pass
-    pub fresh : account_of start.pass ≡ account 1 [] []
-    pub empty : start.room.items ≡ []
+  pub record IsFresh (queue : SegId Global) (worker : ReadyQueueWorker X) : Type 0 where
+    pub same : (arc_value worker.queue).queue ≡ queue
+    pub ours : IsSegPassOf (arc_value worker.queue).queue worker.pass
+    pub fresh : account_of worker.pass ≡ account 1 [] []
+    pub empty : worker.rows.items ≡ []
 
   -- a worker was started on this queue in this mode
   pub record IsJob {T : Type 0} (queue : SegId Global) (mode : Bool) (handle : PromisedHandle T (AnswersTaken X)) : Type 0 where
@@ -75,37 +75,37 @@ module _ {X : Type 0} where
     pub room : length (items_of queue.next) < queue.size
 
   -- these trials were put, and each worker is to start with one part
-  pub record AreReadyTakers (starts : QueueStarts X) (trials : List (Assigned X)) : Type 0 where
-    pub ours : IsSegPassOf (arc_value starts.queue).queue starts.pass
-    pub some_part : 0 < (account_of starts.pass).parts
-    pub parts : (account_of starts.pass).parts + vec_len starts.starts ≡ all_parts
-    pub none_taken : (account_of starts.pass).taken ≡ []
-    pub put : (account_of starts.pass).put ≡ trials
-    pub fresh : All (IsFresh (arc_value starts.queue).queue) starts.starts.items
-    pub no_handles : vec_len starts.handles ≡ 0
-    pub fits : vec_len starts.starts ≤ vec_capacity starts.handles
-    pub none_joined : vec_len starts.joined ≡ 0
-    pub fits_joined : vec_len starts.starts < vec_capacity starts.joined
-    pub no_rows : starts.spare.items ≡ []
-    pub fits_rows : length trials ≤ starts.spare.room
+  pub record AreReadyQueueWorkers (ready : ReadyQueueWorkers X) (trials : List (Assigned X)) : Type 0 where
+    pub ours : IsSegPassOf (arc_value ready.queue).queue ready.pass
+    pub some_part : 0 < (account_of ready.pass).parts
+    pub parts : (account_of ready.pass).parts + vec_len ready.workers ≡ all_parts
+    pub none_taken : (account_of ready.pass).taken ≡ []
+    pub put : (account_of ready.pass).put ≡ trials
+    pub fresh : All (IsFresh (arc_value ready.queue).queue) ready.workers.items
+    pub no_handles : vec_len ready.handles ≡ 0
+    pub fits : vec_len ready.workers ≤ vec_capacity ready.handles
+    pub none_joined : vec_len ready.joined ≡ 0
+    pub fits_joined : vec_len ready.workers < vec_capacity ready.joined
+    pub no_rows : ready.spare.items ≡ []
+    pub fits_rows : length trials ≤ ready.spare.room
 
 module _ {X : Type 0} (gives : Gives X) (mode : Bool) where
   -- the worker has put nothing, and returned its part and an own outcome of each trial that it took
-  pub record HasTaken (queue : SegId Global) (taken : Taken X) : Type 0 where
-    pub ours : IsSegPassOf queue taken.pass
-    pub parts : (account_of taken.pass).parts ≡ 1
-    pub put : (account_of taken.pass).put ≡ []
-    pub answers : Answers gives mode (account_of taken.pass).taken taken.rows.items
+  pub record HasTaken (queue : SegId Global) (ended : EndedWorker X) : Type 0 where
+    pub ours : IsSegPassOf queue ended.pass
+    pub parts : (account_of ended.pass).parts ≡ 1
+    pub put : (account_of ended.pass).put ≡ []
+    pub answers : Answers gives mode (account_of ended.pass).taken ended.rows.items
 
 -- these trials were put, workers in this mode have all other parts, and what those that have ended took is answered
-pub record RunsQueue {X : Type 0} (gives : Gives X) (crew : QueueCrew X) (mode : Bool) (trials : List (Assigned X)) : Type 0 where
-  pub mode_is : crew.test_mode ≡ mode
-  pub ours : IsSegPassOf (arc_value crew.queue).queue crew.pass
-  pub some_part : 0 < (account_of crew.pass).parts
-  pub parts : (account_of crew.pass).parts + vec_len crew.handles ≡ all_parts
-  pub put : (account_of crew.pass).put ≡ trials
-  pub answered : AnswersSome gives crew.test_mode true (account_of crew.pass).taken (flat_map (λ rows. rows.items) crew.joined.items)
-  pub jobs : All (IsJob (arc_value crew.queue).queue crew.test_mode) crew.handles.items
-  pub fits : vec_len crew.joined + vec_len crew.handles < vec_capacity crew.joined
-  pub no_rows : crew.spare.items ≡ []
-  pub fits_rows : length trials ≤ crew.spare.room
+pub record RunsQueue {X : Type 0} (gives : Gives X) (workers : QueueWorkers X) (mode : Bool) (trials : List (Assigned X)) : Type 0 where
+  pub mode_is : workers.test_mode ≡ mode
+  pub ours : IsSegPassOf (arc_value workers.queue).queue workers.pass
+  pub some_part : 0 < (account_of workers.pass).parts
+  pub parts : (account_of workers.pass).parts + vec_len workers.handles ≡ all_parts
+  pub put : (account_of workers.pass).put ≡ trials
+  pub answered : AnswersSome gives workers.test_mode true (account_of workers.pass).taken (flat_map (λ rows. rows.items) workers.joined.items)
+  pub jobs : All (IsJob (arc_value workers.queue).queue workers.test_mode) workers.handles.items
+  pub fits : vec_len workers.joined + vec_len workers.handles < vec_capacity workers.joined
+  pub no_rows : workers.spare.items ≡ []
+  pub fits_rows : length trials ≤ workers.spare.room

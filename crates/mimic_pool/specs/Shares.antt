@@ -7,16 +7,16 @@ use Rattle.mimic_pool.specs.Answers.{Answers}
 use Rattle.mimic_pool.specs.Share.{AreShares, items_of, share_of}
 use Rattle.mimic_pool.specs.declared.share.Assigned.{Assigned}
 use Rattle.mimic_pool.specs.declared.share.Share.{Share}
-use Rattle.mimic_pool.specs.declared.shares.ShareCrew.{ShareCrew}
-use Rattle.mimic_pool.specs.declared.shares.ShareStarts.{ShareStarts}
-use Rattle.mimic_pool.specs.declared.share_start.AnswersShare.{AnswersShare}
-use Rattle.mimic_pool.specs.declared.share_start.Start.{Start}
+use Rattle.mimic_pool.specs.declared.shares.ShareWorkers.{ShareWorkers}
+use Rattle.mimic_pool.specs.declared.shares.ReadyShareWorkers.{ReadyShareWorkers}
+use Rattle.mimic_pool.specs.declared.ready_share_worker.AnswersShare.{AnswersShare}
+use Rattle.mimic_pool.specs.declared.ready_share_worker.ReadyShareWorker.{ReadyShareWorker}
 use Rattle.std.specs.declared.thread.PromisedHandle.{PromisedHandle}
 
 module _ {X : Type 0} where
-  -- the shares that workers start with, one for each
-  abbrev pub shares_of : List (Start X) → List (Share X)
-  shares_of starts = map (λ start. start.share) starts
+  -- the shares of workers, one of each
+  abbrev pub shares_of : List (ReadyShareWorker X) → List (Share X)
+  shares_of workers = map (λ worker. worker.share) workers
 
   -- the job of a started worker: the mode, and the items of its share
   abbrev pub job_of : {T : Type 0} → PromisedHandle T (AnswersShare X) → Bool × List (Assigned X)
@@ -33,21 +33,21 @@ module _ {X : Type 0} where
     pub runnable : All (λ item. can_run item.runner) trials
 
   -- a worker can be started on each share, and joined
-  pub record AreReadyShares (can_run : X → Type 0) (starts : ShareStarts X) (trials : List (Assigned X)) : Type 0 where
-    pub dealt : AreDealt can_run (shares_of starts.starts.items) trials
-    pub no_handles : vec_len starts.handles ≡ 0
-    pub fits : vec_len starts.starts ≤ vec_capacity starts.handles
-    pub none_joined : vec_len starts.joined ≡ 0
-    pub fits_joined : vec_len starts.starts ≤ vec_capacity starts.joined
+  pub record AreReadyShareWorkers (can_run : X → Type 0) (ready : ReadyShareWorkers X) (trials : List (Assigned X)) : Type 0 where
+    pub dealt : AreDealt can_run (shares_of ready.workers.items) trials
+    pub no_handles : vec_len ready.handles ≡ 0
+    pub fits : vec_len ready.workers ≤ vec_capacity ready.handles
+    pub none_joined : vec_len ready.joined ≡ 0
+    pub fits_joined : vec_len ready.workers ≤ vec_capacity ready.joined
 
   -- a worker was started on each share in this mode
-  pub record RunsShares (crew : ShareCrew X) (mode : Bool) (trials : List (Assigned X)) : Type 0 where
+  pub record RunsShares (workers : ShareWorkers X) (mode : Bool) (trials : List (Assigned X)) : Type 0 where
     pub shares : List (Share X)
     pub some : 1 ≤ length shares
     pub dealt : AreShares trials (length shares) shares
-    pub started : map job_of crew.handles.items ≡ jobs_of mode shares
-    pub none_joined : vec_len crew.joined ≡ 0
-    pub fits_joined : vec_len crew.handles ≤ vec_capacity crew.joined
+    pub started : map job_of workers.handles.items ≡ jobs_of mode shares
+    pub none_joined : vec_len workers.joined ≡ 0
+    pub fits_joined : vec_len workers.handles ≤ vec_capacity workers.joined
 
 -- for each job in turn there are rows that answer it
 abbrev pub AreAnswered : {X : Type 0} → Gives X → List (Bool × List (Assigned X)) → List (List Placed) → Type 0

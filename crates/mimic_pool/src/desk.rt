@@ -1,5 +1,5 @@
 //! The desk where outcomes arrive from the workers.
-ghost use Rattle.std.specs.Prelude.{◌≡◌, ◌≢◌, ◌++◌, ◌∷◌, [], ◌↔◌, ◌<◌, ◌≤◌, All, IfErr, IfOk, IsTrue, List, MatchResult, OnOk, Some, length, map, slice_get, slice_index_or, vec_capacity, vec_len, ℕ};
+ghost use Rattle.std.specs.Prelude.{◌≡◌, ◌-◌, ◌++◌, ◌∷◌, [], ◌↔◌, ◌<◌, ◌≤◌, All, IfErr, IfOk, IsTrue, List, MatchResult, OnOk, Some, length, map, slice_get, slice_index_or, vec_capacity, vec_len, ℕ};
 ghost use Rattle.std.specs.Iterator.{YieldsFirst, item_count};
 ghost use Rattle.std.specs.List.{range_with_len};
 ghost use Rattle.std.specs.List.Sorted.{IsPermutation};
@@ -7,11 +7,11 @@ ghost use Rattle.std.specs.Option.{option_copied};
 ghost use Rattle.mimic_trial.specs.Places.{Placed, placed_at, places_of};
 ghost use Rattle.mimic_trial.specs.declared.outcome.Outcome.{Outcome as AnOutcome};
 ghost use Rattle.mimic_pool.specs.Arrivals.{AgreesAt, arrival_of, arrived_at, first_arrivals, missing_of, order_of, rows_after};
-ghost use Rattle.mimic_pool.specs.Marks.{kept_of};
+ghost use Rattle.mimic_pool.specs.OutcomeKinds.{kept_of};
 ghost use Rattle.mimic_pool.specs.Missing.{free_from, missing_items};
 ghost use Rattle.mimic_pool.specs.Returned.{HasAll, StandsFor};
 ghost use Rattle.mimic_pool.specs.Rows.{rows_in};
-ghost use Rattle.mimic_pool.specs.Seats.{Begins, outcome_in};
+ghost use Rattle.mimic_pool.specs.Numbers.{Begins};
 
 use crate::rows::Rows;
 use mimic_trial::Outcome;
@@ -35,10 +35,8 @@ pub enum Arrival {
 /// Outcomes may be lost on their way, come twice, come from nowhere, and come in any order.
 #[derive(Drop)]
 pub struct Desk {
-    places: usize,
-    // For each place: 0 if nothing arrived there, else the number of its outcome among these, counted from 1. They go no
-    // further than the last place at which something arrived, so that memory is touched only as outcomes arrive.
-    seats: Vec<usize>,
+    // For each place: 0 if nothing arrived there, else the number of its outcome among these, counted from 1.
+    numbers: Vec<usize>,
     // `Passed`, `Ignored`, and behind these two each other outcome that arrived.
     outcomes: Vec<Outcome>,
     order: Vec<usize>,
@@ -46,16 +44,19 @@ pub struct Desk {
 
 impl Model for Desk {
     ghost use Rattle.mimic_pool.specs.Arrivals.{Arrived};
-    ghost use Rattle.mimic_pool.specs.Seats.{IsSeated, arrived_of};
+    ghost use Rattle.mimic_pool.specs.Numbers.{IsDesk, arrived_of};
 
     ghost Value = { Arrived };
 
     ghost view = { arrived_of };
 
-    ghost invariant = { IsSeated };
+    ghost invariant = { IsDesk };
 }
 
 impl Desk {
+    ghost use Rattle.std.specs.Borrow.{sem};
+    ghost use Rattle.mimic_pool.specs.Keeping.{Keeps, lent_of};
+
     /// A desk of `n` places at which nothing arrived yet. All of its memory is taken here.
     pub fn new(alloc: Global, n: usize) -> Result<Desk, AllocError>
         ensures { IfOk result (λ desk. desk ≡ record { places = n; rows = [] }) }
@@ -63,14 +64,13 @@ impl Desk {
         let Some(all) = n.checked_add(2) else {
             return Err(AllocError);
         };
-        let seats = Vec::with_capacity(alloc, n)?;
+        let numbers = vec![in alloc; 0; n]?;
         let mut outcomes = Vec::with_capacity(alloc, all)?;
         outcomes.push_reserved(Outcome::Passed);
         outcomes.push_reserved(Outcome::Ignored);
         let order = Vec::with_capacity(alloc, n)?;
         Ok(Desk {
-            places: n,
-            seats,
+            numbers,
             outcomes,
             order,
         })
@@ -85,24 +85,37 @@ impl Desk {
             → self.old.rows ≡ first_arrivals self.old.places arrivals
             → self.new.rows ≡ first_arrivals self.old.places (arrivals ++ (place, outcome) ∷ []) }
     {
-        if place >= self.places {
+        if place >= self.numbers.len() {
             return Arrival::Stranger;
         }
-        if seat_at(self.seats.as_slice(), place) != 0 {
+        if self.numbers[place] != 0 {
             return Arrival::Again;
         }
-        let seat = seated(outcome, &mut self.outcomes);
-        set_seat(&mut self.seats, place, seat);
+        self.numbers[place] = numbered(outcome, &mut self.outcomes);
         self.order.push_reserved(place);
         Arrival::First
+    }
+
+    /// Takes an arrival as `arrive` does, and lends its outcome if it is the first one at a place of the desk.
+    pub fn keep(&mut self, place: usize, outcome: Outcome) -> Option<&Outcome>
+        ensures* after { sem 𝓛 (Keeps self.entry (place, outcome)) }
+        ensures lent { option_copied result ≡ lent_of self.old (place, outcome) }
+    {
+        match self.arrive(place, outcome) {
+            Arrival::First => self.outcome(place),
+            Arrival::Again | Arrival::Stranger => None,
+        }
     }
 
     /// The first outcome that arrived at the place.
     pub fn outcome(&self, place: usize) -> Option<&Outcome>
         ensures { option_copied result ≡ arrived_at place self.now.rows }
     {
-        let seat = seat_at(self.seats.as_slice(), place);
-        lying(self.outcomes.as_slice(), seat)
+        let number = *self.numbers.get(place)?;
+        if number == 0 {
+            return None;
+        }
+        Some(&self.outcomes[number - 1])
     }
 
     /// The places of the first arrivals, in the order in which they came. They and those that are missing are all places, each
@@ -124,7 +137,10 @@ impl Desk {
         ensures whole { IsPermutation (places_of self.now.rows ++ missing_items result)
             (range_with_len 0 self.now.places) }
     {
-        free_seats(self.seats.as_slice(), self.places)
+        Missing {
+            numbers: self.numbers.as_slice(),
+            next: 0,
+        }
     }
 
     /// Compares the first arrivals with the outcomes that workers returned: `joined` has that of each place at its index. An
@@ -139,7 +155,7 @@ impl Desk {
             (self.now.rows ≡ placed_at (places_of self.now.rows) joined.now) }
         ensures below { IfErr result (λ place. place < self.now.places) }
     {
-        for place in 0..self.places {
+        for place in 0..self.numbers.len() {
             if !agrees(self.outcome(place), &joined[place]) {
                 return Err(place);
             }
@@ -153,7 +169,7 @@ impl Desk {
         ensures all { IsTrue result ↔ HasAll self.now (map rows_in joined.now) }
         ensures outcomes { IsTrue result → StandsFor self.now (map rows_in joined.now) }
     {
-        if self.order.len() < self.places {
+        if self.order.len() < self.numbers.len() {
             return false;
         }
         for rows in joined {
@@ -171,7 +187,7 @@ impl Desk {
         ensures rows { self.new.rows ≡ self.old.rows ++ placed_at (missing_of self.old) outcomes.items }
         ensures whole { IsPermutation (places_of self.new.rows) (range_with_len 0 self.new.places) }
     {
-        if self.order.len() == self.places {
+        if self.order.len() == self.numbers.len() {
             return;
         }
         let mut place = 0;
@@ -189,16 +205,14 @@ impl Desk {
         ensures { slice_get self.now.rows number ≡ Some (result.0, result.1.now) }
     {
         let place = self.order[number];
-        let seat = seat_at(self.seats.as_slice(), place);
-        (place, &self.outcomes[seat - 1])
+        (place, &self.outcomes[self.numbers[place] - 1])
     }
 }
 
 /// The places of a desk at which nothing arrived, rising.
 #[derive(Drop)]
 pub struct Missing<'a> {
-    seats: &'a [usize],
-    places: usize,
+    numbers: &'a [usize],
     next: usize,
 }
 
@@ -210,10 +224,10 @@ impl<'a> Iterator for Missing<'a> {
     ghost remaining = { item_count missing_items };
 
     fn next(&mut self) -> Option<usize> {
-        while self.next < self.places {
+        while self.next < self.numbers.len() {
             let place = self.next;
             self.next += 1;
-            if seat_at(self.seats, place) == 0 {
+            if self.numbers[place] == 0 {
                 return Some(place);
             }
         }
@@ -221,46 +235,13 @@ impl<'a> Iterator for Missing<'a> {
     }
 }
 
-// Of this number of places those whose seats are free, rising.
-fn free_seats(seats: &[usize], places: usize) -> Missing<'_>
-    ensures { missing_items result ≡ free_from 0 places seats.now }
-{
-    Missing {
-        seats,
-        places,
-        next: 0,
-    }
-}
-
-// The seat of the place, and 0 if the seats don't go so far.
-fn seat_at(seats: &[usize], place: usize) -> usize
-    ensures { result ≡ slice_index_or seats.now place 0 }
-{
-    seats.get(place).copied().unwrap_or(0)
-}
-
-// Writes the seat of the place down, and 0 for the places before it that have none yet.
-fn set_seat(seats: &mut Vec<usize>, place: usize, seat: usize)
-    requires { place < vec_capacity seats.old }
-    ensures here { slice_index_or seats.new.items place 0 ≡ seat }
-    ensures others { (other : ℕ) → other ≢ place
-        → slice_index_or seats.new.items other 0 ≡ slice_index_or seats.old.items other 0 }
-    ensures len { (n : ℕ) → place < n → length seats.old.items ≤ n → length seats.new.items ≤ n }
-    ensures room { vec_capacity seats.new ≡ vec_capacity seats.old }
-{
-    while seats.len() <= place {
-        seats.push_reserved(0);
-    }
-    seats[place] = seat;
-}
-
-// The seat of the outcome, which is put behind the others if it isn't one of the first two.
-fn seated(outcome: Outcome, outcomes: &mut Vec<Outcome>) -> usize
+// The number of the outcome, which is put behind the others if it isn't one of the first two.
+fn numbered(outcome: Outcome, outcomes: &mut Vec<Outcome>) -> usize
     requires begins { Begins outcomes.old.items }
     requires room { vec_len outcomes.old < vec_capacity outcomes.old }
     ensures outcomes { outcomes.new.items ≡ outcomes.old.items ++ kept_of outcome }
     ensures room { vec_capacity outcomes.new ≡ vec_capacity outcomes.old }
-    ensures seat { outcome_in outcomes.new.items result ≡ Some outcome }
+    ensures number { (1 ≤ result) × (slice_get outcomes.new.items (result - 1) ≡ Some outcome) }
 {
     match outcome {
         Outcome::Passed => 1,
@@ -272,20 +253,12 @@ fn seated(outcome: Outcome, outcomes: &mut Vec<Outcome>) -> usize
     }
 }
 
-// The outcome in the seat.
-fn lying(outcomes: &[Outcome], seat: usize) -> Option<&Outcome>
-    ensures { option_copied result ≡ outcome_in outcomes.now seat }
-{
-    let index = seat.checked_sub(1)?;
-    outcomes.get(index)
-}
-
-// Whether the seat is empty, or has this outcome.
-fn agrees(seat: Option<&Outcome>, joined: &Outcome) -> bool
-    ensures { IsTrue result ↔ ((o : AnOutcome) → option_copied seat.entry ≡ Some o
+// Whether nothing arrived, or this outcome.
+fn agrees(found: Option<&Outcome>, joined: &Outcome) -> bool
+    ensures { IsTrue result ↔ ((o : AnOutcome) → option_copied found.entry ≡ Some o
         → joined.now ≡ o) }
 {
-    match seat {
+    match found {
         Some(outcome) => *joined == *outcome,
         None => true,
     }

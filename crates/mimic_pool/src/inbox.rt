@@ -6,7 +6,7 @@ ghost use Rattle.mimic_pool.specs.Reports.{refused_to, told_to};
 
 use crate::board::Board;
 use crate::board_reports::BoardReports;
-use crate::notes::Notes;
+use crate::running::RunningTrials;
 use crate::shared_board::{SharedBoard, zero_times};
 use mimic_trial::Outcome;
 use std::alloc::{AllocError, Global};
@@ -44,22 +44,22 @@ impl Inbox {
         ensures timed { IfOk result (λ inbox. is_timed inbox ≡ false) }
         ensures room { IfOk result (λ inbox. 1 ≤ n → CanTake inbox) }
     {
-        Inbox::with_notes(alloc, n, workers, Notes::none())
+        Inbox::with_times(alloc, n, workers, false, None)
     }
 
-    /// An inbox as `new` makes it, for workers that make these notes. If it is timed, they note there for how many nanoseconds the trial
-    /// at each place ran.
-    pub fn with_notes(
+    /// An inbox as `new` makes it. If it is timed, the workers note there for how many nanoseconds the trial at each place ran. In
+    /// `running` they mark which trials run, if anybody looks.
+    pub fn with_times(
         alloc: Global,
         n: usize,
         workers: usize,
-        notes: Notes,
+        timed: bool,
+        running: Option<Arc<RunningTrials>>,
     ) -> Result<Inbox, AllocError>
         ensures board { IfOk result (λ inbox. board_of inbox ≡ empty_board n workers) }
-        ensures timed { IfOk result (λ inbox. is_timed inbox ≡ notes.timed) }
+        ensures timed { IfOk result (λ inbox. is_timed inbox ≡ timed) }
         ensures room { IfOk result (λ inbox. 1 ≤ n → CanTake inbox) }
     {
-        let Notes { timed, running } = notes;
         let board = Board::new(alloc, n, workers)?;
         let empty = Snapshot::of(&board);
         let times = zero_times(alloc, if timed { n } else { 0 })?;

@@ -10,20 +10,20 @@ ghost use Rattle.mimic_pool.specs.Board.{empty_board};
 ghost use Rattle.mimic_pool.specs.Inbox.{board_of, is_timed};
 ghost use Rattle.mimic_pool.specs.Joined.{AnswersSome, AreJoined};
 ghost use Rattle.mimic_pool.specs.Passes.{account_of};
-ghost use Rattle.mimic_pool.specs.Queue.{AreReadyTakers, HasTaken, HoldsQueue, IsFilling, IsFresh, IsJob, RunsQueue};
+ghost use Rattle.mimic_pool.specs.Queue.{AreReadyQueueWorkers, HasTaken, HoldsQueue, IsFilling, IsFresh, IsJob, RunsQueue};
 ghost use Rattle.mimic_pool.specs.Rows.{rows_in};
 ghost use Rattle.mimic_pool.specs.Share.{AllRunners, items_of};
 ghost use Rattle.mimic_pool.specs.declared.share.Assigned.{Assigned};
 
 use crate::inbox::Inbox;
-use crate::notes::Notes;
+use crate::queue_source::{AnswersTaken, EndedWorker, ReadyQueueWorker, work_from_queue};
 use crate::reports::Unheard;
 use crate::rows::Rows;
+use crate::running::RunningTrials;
 use crate::share::{Assigned, Share};
 use crate::shared_board::SharedBoard;
 use crate::shared_queue::{MOST_IN_BATCH, QueuePass, SharedQueue};
 use crate::spawner::Spawner;
-use crate::taker::{AnswersTaken, Taken, TakerStart, take_and_work};
 use crate::timer::Timer;
 use crate::worker::work_from;
 use mimic_trial::Task;
@@ -37,7 +37,7 @@ use std::{mem, thread};
 // Each worker takes this many batches or more, if all take equally many.
 const BATCHES_A_WORKER: usize = 64;
 
-type TakerHandle<T> = PromisedHandle<Taken<T>, AnswersTaken<T>>;
+type QueueHandle<T> = PromisedHandle<EndedWorker<T>, AnswersTaken<T>>;
 
 /// Trials that wait for workers, in the order in which they were put.
 #[derive(Drop)]
@@ -51,13 +51,13 @@ pub struct Queue<T: Task> {
     pub(crate) alloc: Global,
 }
 
-/// What workers start with, and room for their handles and for what each returns.
+/// Workers that can be started, and room for their handles and for what each returns.
 #[derive(Drop)]
-pub struct QueueStarts<T: Task> {
+pub struct ReadyQueueWorkers<T: Task> {
     pub(crate) queue: Arc<SharedQueue<T>>,
     pub(crate) pass: QueuePass<T>,
-    pub(crate) starts: Vec<TakerStart<T>>,
-    pub(crate) handles: Vec<TakerHandle<T>>,
+    pub(crate) workers: Vec<ReadyQueueWorker<T>>,
+    pub(crate) handles: Vec<QueueHandle<T>>,
     pub(crate) joined: Vec<Rows>,
     // Room for the rows of trials that no worker took, and the board that has room for their times.
     pub(crate) spare: Rows,
@@ -65,10 +65,10 @@ pub struct QueueStarts<T: Task> {
 }
 
 /// Workers that were started, and what the others returned, which could not be started.
-pub struct QueueCrew<T: Task> {
+pub struct QueueWorkers<T: Task> {
     pub(crate) queue: Arc<SharedQueue<T>>,
     pub(crate) pass: QueuePass<T>,
-    pub(crate) handles: Vec<TakerHandle<T>>,
+    pub(crate) handles: Vec<QueueHandle<T>>,
     pub(crate) joined: Vec<Rows>,
     pub(crate) spare: Rows,
     pub(crate) board: Arc<SharedBoard>,
@@ -131,129 +131,112 @@ impl<T: Task> Queue<T> {
     }
 }
 
-// Makes the workers of the queue ready to run its trials, of which there are `count`, and an inbox to which they will report, with
-// these notes.
-pub(crate) fn prepare_takers<T: Task, R: Wait>(
+// Makes the workers of the queue ready to run its trials, of which there are `count`, and an inbox to which they will report.
+pub(crate) fn prepare_queue_workers<T: Task, R: Wait>(
     rt: &R,
     alloc: Global,
     queue: Queue<T>,
     count: usize,
-    notes: Notes,
-) -> Result<(Inbox, QueueStarts<T>), AllocError>
+    timed: bool,
+    running: Option<Arc<RunningTrials>>,
+) -> Result<(Inbox, ReadyQueueWorkers<T>), AllocError>
     requires held { (trials : List (Assigned T)) × HoldsQueue T.can_run queue trials }
-    ensures inbox { IfOk result (λ made. board_of made.0 ≡ empty_board count (vec_len made.1.starts)) }
-    ensures timed { IfOk result (λ made. is_timed made.0 ≡ notes.timed) }
+    ensures inbox { IfOk result (λ made. board_of made.0 ≡ empty_board count (vec_len made.1.workers)) }
+    ensures timed { IfOk result (λ made. is_timed made.0 ≡ timed) }
     ensures ready { IfOk result (λ made. (trials : List (Assigned T)) → length trials ≤ count
-        → HoldsQueue T.can_run queue trials → AreReadyTakers made.1 trials) }
+        → HoldsQueue T.can_run queue trials → AreReadyQueueWorkers made.1 trials) }
 {
     let mut queue = queue;
     queue.flush(rt)?;
-    let inbox = Inbox::with_notes(alloc, count, queue.workers, notes)?;
-    let starts = takers_of(alloc, queue, count, &inbox)?;
-    Ok((inbox, starts))
-}
-
-// Makes the workers of the queue ready to run its trials, all of which are in full batches, and to report to the inbox.
-fn takers_of<T: Task>(
-    alloc: Global,
-    queue: Queue<T>,
-    count: usize,
-    inbox: &Inbox,
-) -> Result<QueueStarts<T>, AllocError>
-    requires held { (trials : List (Assigned T)) × IsFilling T.can_run queue trials }
-    requires flushed { items_of queue.next ≡ [] }
-    requires inbox { (board_of inbox.now).workers ≡ queue.workers }
-    ensures len { IfOk result (λ made. vec_len made.starts ≡ queue.workers) }
-    ensures ready { IfOk result (λ made. (trials : List (Assigned T)) → length trials ≤ count
-        → IsFilling T.can_run queue trials → AreReadyTakers made trials) }
-{
+    let inbox = Inbox::with_times(alloc, count, queue.workers, timed, running)?;
     let Queue {
         queue,
         mut pass,
         workers,
         ..
     } = queue;
-    let starts = starts_at(alloc, &queue, &mut pass, workers, count, inbox)?;
-    let handles = Vec::with_capacity(alloc, starts.len())?;
-    let joined = Vec::with_capacity(alloc, starts.len() + 1)?;
+    let workers = workers_at_queue(alloc, &queue, &mut pass, workers, count, &inbox)?;
+    let handles = Vec::with_capacity(alloc, workers.len())?;
+    let joined = Vec::with_capacity(alloc, workers.len() + 1)?;
     let spare = Rows::with_capacity(alloc, count)?;
     let board = inbox.board()?;
-    Ok(QueueStarts {
+    let ready = ReadyQueueWorkers {
         queue,
         pass,
-        starts,
+        workers,
         handles,
         joined,
         spare,
         board,
-    })
+    };
+    Ok((inbox, ready))
 }
 
-// What each of the workers of the inbox starts with: a pass, and room for an equal part of `count` rows and for a batch more.
-fn starts_at<T: Task>(
+// A worker for each of those of the inbox, with a pass, and with room for an equal part of `count` rows and for a batch more.
+fn workers_at_queue<T: Task>(
     alloc: Global,
     queue: &Arc<SharedQueue<T>>,
     pass: &mut QueuePass<T>,
     workers: usize,
     count: usize,
     inbox: &Inbox,
-) -> Result<Vec<TakerStart<T>>, AllocError>
+) -> Result<Vec<ReadyQueueWorker<T>>, AllocError>
     requires ours { IsSegPassOf (arc_value queue.now).queue pass.old }
     requires parts { (account_of pass.old).parts ≡ all_parts }
     requires some_worker { 1 ≤ workers }
     requires inbox { (board_of inbox.now).workers ≡ workers }
-    ensures len { IfOk result (λ starts. vec_len starts ≡ workers) }
+    ensures len { IfOk result (λ ready. vec_len ready ≡ workers) }
     ensures ours { OnOk result (IsSegPassOf (arc_value queue.now).queue pass.new) }
     ensures put { OnOk result ((account_of pass.new).put ≡ (account_of pass.old).put) }
     ensures taken { OnOk result ((account_of pass.new).taken ≡ (account_of pass.old).taken) }
-    ensures parts { IfOk result (λ starts. (account_of pass.new).parts + vec_len starts ≡ all_parts) }
+    ensures parts { IfOk result (λ ready. (account_of pass.new).parts + vec_len ready ≡ all_parts) }
     ensures some_part { OnOk result (0 < (account_of pass.new).parts) }
-    ensures starts { IfOk result (λ starts. All (IsFresh (arc_value queue.now).queue) starts.items) }
+    ensures fresh { IfOk result (λ ready. All (IsFresh (arc_value queue.now).queue) ready.items) }
 {
     let room = count.div_ceil(workers).saturating_add(MOST_IN_BATCH);
     let budget = (count as u64).saturating_add(MOST_IN_BATCH as u64);
-    let mut starts = Vec::with_capacity(alloc, workers)?;
+    let mut ready = Vec::with_capacity(alloc, workers)?;
     for number in 0..workers {
-        let room = Rows::with_capacity(alloc, room)?;
+        let rows = Rows::with_capacity(alloc, room)?;
         let board = inbox.board()?;
         let shared = Arc::try_clone(queue)?;
-        starts.push_reserved(TakerStart {
+        ready.push_reserved(ReadyQueueWorker {
             queue: shared,
             pass: queue.another(pass),
-            room,
+            rows,
             board,
             number,
             budget,
         });
     }
-    Ok(starts)
+    Ok(ready)
 }
 
 // Starts the workers. If one can't be started, no more are started, and the others take all trials. `None` if there are none.
-pub(crate) fn start_takers<T: Task + Send + 'static, R: Spawner + 'static>(
+pub(crate) fn start_queue_workers<T: Task + Send + 'static, R: Spawner + 'static>(
     rt: &R,
     alloc: Global,
-    starts: QueueStarts<T>,
+    ready: ReadyQueueWorkers<T>,
     test_mode: bool,
-) -> Option<QueueCrew<T>>
-    requires ready { (trials : List (Assigned T)) × AreReadyTakers starts trials }
-    ensures started { IfSome result (λ crew. (trials : List (Assigned T)) → AreReadyTakers starts trials
-        → RunsQueue T.gives crew test_mode trials) }
+) -> Option<QueueWorkers<T>>
+    requires ready { (trials : List (Assigned T)) × AreReadyQueueWorkers ready trials }
+    ensures started { IfSome result (λ workers. (trials : List (Assigned T)) → AreReadyQueueWorkers ready trials
+        → RunsQueue T.gives workers test_mode trials) }
 {
-    let QueueStarts {
+    let ReadyQueueWorkers {
         queue,
         mut pass,
-        starts,
+        workers,
         mut handles,
         mut joined,
         spare,
         board,
-    } = starts;
-    for start in starts {
-        match start_taker(rt, alloc, &queue, start, test_mode) {
+    } = ready;
+    for worker in workers {
+        match start_queue_worker(rt, alloc, &queue, worker, test_mode) {
             Ok(handle) => handles.push_reserved(handle),
-            Err(taken) => {
-                let Taken { rows, pass: other } = taken;
+            Err(ended) => {
+                let EndedWorker { rows, pass: other } = ended;
                 queue.absorb(&mut pass, other);
                 joined.push_reserved(rows);
             }
@@ -262,7 +245,7 @@ pub(crate) fn start_takers<T: Task + Send + 'static, R: Spawner + 'static>(
     if handles.is_empty() {
         return None;
     }
-    Some(QueueCrew {
+    Some(QueueWorkers {
         queue,
         pass,
         handles,
@@ -274,20 +257,20 @@ pub(crate) fn start_takers<T: Task + Send + 'static, R: Spawner + 'static>(
 }
 
 // Starts a worker. If no thread can be made for it, or none could be made for an earlier one, it takes no trial, and ends here.
-fn start_taker<T: Task + Send + 'static, R: Spawner + 'static>(
+fn start_queue_worker<T: Task + Send + 'static, R: Spawner + 'static>(
     rt: &R,
     alloc: Global,
     queue: &SharedQueue<T>,
-    start: TakerStart<T>,
+    worker: ReadyQueueWorker<T>,
     test_mode: bool,
-) -> Result<TakerHandle<T>, Taken<T>>
-    requires fresh { IsFresh queue.now.queue start }
+) -> Result<QueueHandle<T>, EndedWorker<T>>
+    requires fresh { IsFresh queue.now.queue worker }
     ensures started { IfOk result (IsJob queue.now.queue test_mode) }
     ensures ended { IfErr result (HasTaken T.gives test_mode queue.now.queue) }
 {
-    let (worker_rt, number) = (*rt, start.number);
+    let (worker_rt, number) = (*rt, worker.number);
     if !queue.is_open_to(number) {
-        return Err(take_and_work(worker_rt, alloc, start, test_mode));
+        return Err(work_from_queue(worker_rt, alloc, worker, test_mode));
     }
     let promise = AnswersTaken {
         queue: Snapshot::of(queue),
@@ -296,10 +279,10 @@ fn start_taker<T: Task + Send + 'static, R: Spawner + 'static>(
     let started = thread::spawn_with(
         rt,
         promise,
-        move || -> Taken<T>
-            requires fresh { IsFresh (arc_value start.queue).queue start }
-            ensures { HasTaken T.gives test_mode (arc_value start.queue).queue result }
-        { take_and_work(worker_rt, alloc, start, test_mode) },
+        move || -> EndedWorker<T>
+            requires fresh { IsFresh (arc_value worker.queue).queue worker }
+            ensures { HasTaken T.gives test_mode (arc_value worker.queue).queue result }
+        { work_from_queue(worker_rt, alloc, worker, test_mode) },
     );
     match started {
         Ok(handle) => Ok(handle),
@@ -312,16 +295,16 @@ fn start_taker<T: Task + Send + 'static, R: Spawner + 'static>(
 
 // Joins the workers, and returns the rows of each, and last those of trials that no worker took. Unless `whole` is set, workers
 // end what they have taken and take no more, and the trials that are left are dropped.
-pub(crate) fn join_takers<T: Task + Send + 'static, R: Spawner>(
+pub(crate) fn join_queue_workers<T: Task + Send + 'static, R: Spawner>(
     rt: &R,
-    crew: QueueCrew<T>,
+    workers: QueueWorkers<T>,
     whole: bool,
 ) -> Vec<Rows>
-    requires running { (mode : Bool) × (trials : List (Assigned T)) × RunsQueue T.gives crew mode trials }
-    ensures joined { (mode : Bool) (trials : List (Assigned T)) → RunsQueue T.gives crew mode trials
+    requires running { (mode : Bool) × (trials : List (Assigned T)) × RunsQueue T.gives workers mode trials }
+    ensures joined { (mode : Bool) (trials : List (Assigned T)) → RunsQueue T.gives workers mode trials
         → AreJoined T.gives mode trials whole (map rows_in result.items) }
 {
-    let QueueCrew {
+    let QueueWorkers {
         queue,
         mut pass,
         handles,
@@ -329,12 +312,12 @@ pub(crate) fn join_takers<T: Task + Send + 'static, R: Spawner>(
         spare,
         board,
         test_mode,
-    } = crew;
+    } = workers;
     if !whole {
         queue.close_from(0);
     }
     for handle in handles {
-        let Taken { rows, pass: other } = handle.join(rt);
+        let EndedWorker { rows, pass: other } = handle.join(rt);
         queue.absorb(&mut pass, other);
         joined.push_reserved(rows);
     }

@@ -1,14 +1,14 @@
-//! Rows in their order, most of which are known by a mark.
+//! Rows in their order, of most of which only the outcome's kind is kept.
 ghost use Rattle.std.specs.Prelude.{◌≡◌, ◌++◌, ◌∷◌, [], ◌+◌, ◌≤◌, ◌↔◌, IfNone, IfOk, IfSome, IsTrue, OnOk, Some, drop, length, map, vec_len};
 ghost use Rattle.std.specs.Option.{option_copied};
 ghost use Rattle.std.specs.VecDeque.{deque_items, deque_len};
 ghost use Rattle.mimic_pool.specs.Joined.{put_all, put_each};
-ghost use Rattle.mimic_pool.specs.Marks.{outcome_by, weight_of};
+ghost use Rattle.mimic_pool.specs.OutcomeKinds.{outcome_by, weight_of};
 ghost use Rattle.mimic_pool.specs.Returned.{HaveArrived};
 ghost use Rattle.mimic_pool.specs.Rows.{rows_in};
 
 use crate::desk::Desk;
-use crate::marks::{Mark, marked, unmarked, weight};
+use crate::outcome_kind::{OutcomeKind, keep, restored, weight};
 use mimic_trial::Outcome;
 use std::alloc::{AllocError, Global};
 use std::collections::VecDeque;
@@ -21,8 +21,8 @@ use std::marker::Model;
 #[derive(Drop)]
 pub struct Rows {
     places: Vec<usize>,
-    marks: Vec<Mark>,
-    // Outcomes that don't fit in a mark, of rows that were not taken, in order.
+    kinds: Vec<OutcomeKind>,
+    // Outcomes of which the kind doesn't say all, of rows that were not taken, in order.
     kept: VecDeque<Outcome>,
     taken: usize,
 }
@@ -32,11 +32,11 @@ impl Model for Rows {
 
     ghost Value = { Returned };
 
-    ghost use Rattle.mimic_pool.specs.Marks.{AreMarked, returned_of};
+    ghost use Rattle.mimic_pool.specs.OutcomeKinds.{AreRows, returned_of};
 
     ghost view = { returned_of };
 
-    ghost invariant = { AreMarked };
+    ghost invariant = { AreRows };
 }
 
 impl Rows {
@@ -48,11 +48,11 @@ impl Rows {
         ensures room { IfOk result (λ rows. n ≤ rows.room) }
     {
         let kept = VecDeque::with_capacity(alloc, n)?;
-        let marks = Vec::with_capacity(alloc, n)?;
+        let kinds = Vec::with_capacity(alloc, n)?;
         let places = Vec::with_capacity(alloc, n)?;
         Ok(Rows {
             places,
-            marks,
+            kinds,
             kept,
             taken: 0,
         })
@@ -72,11 +72,11 @@ impl Rows {
             return Ok(());
         }
         let growth = more.max(len);
-        // The places come last, since there is to be a mark and a kept outcome for each.
+        // The places come last, since there is to be a kind and a kept outcome for each.
         let all = len.saturating_add(growth);
         self.kept
             .reserve_exact(all.saturating_sub(self.kept.len()))?;
-        self.marks.reserve_exact(growth)?;
+        self.kinds.reserve_exact(growth)?;
         self.places.reserve_exact(growth)?;
         Ok(())
     }
@@ -96,8 +96,8 @@ impl Rows {
         ensures taken { self.new.taken ≡ self.old.taken }
         ensures room { self.old.room ≡ self.new.room + 1 }
     {
-        let mark = marked(outcome, &mut self.kept);
-        self.marks.push_reserved(mark);
+        let kind = keep(outcome, &mut self.kept);
+        self.kinds.push_reserved(kind);
         self.places.push_reserved(place);
     }
 
@@ -113,7 +113,7 @@ impl Rows {
             return None;
         }
         let place = self.places[self.taken];
-        let outcome = unmarked(self.marks[self.taken], &mut self.kept);
+        let outcome = restored(self.kinds[self.taken], &mut self.kept);
         self.taken += 1;
         Some((place, outcome))
     }
@@ -138,25 +138,30 @@ impl Rows {
     {
         let mut kept = 0;
         for number in self.taken..self.places.len() {
-            let mark = self.marks[number];
-            if !is_marked_so(desk.outcome(self.places[number]), mark, &self.kept, kept) {
+            let kind = self.kinds[number];
+            if !is_of_kind(desk.outcome(self.places[number]), kind, &self.kept, kept) {
                 return false;
             }
-            kept += weight(mark);
+            kept += weight(kind);
         }
         true
     }
 }
 
-// Whether `found` is the outcome of the mark: the kept one at `index`, if it doesn't fit in the mark.
-fn is_marked_so(found: Option<&Outcome>, mark: Mark, kept: &VecDeque<Outcome>, index: usize) -> bool
-    requires { index + weight_of mark ≤ deque_len kept.now }
-    ensures { IsTrue result ↔ (option_copied found.entry ≡ Some (outcome_by mark (drop index (deque_items kept.now)))) }
+// Whether `found` is the outcome of the kind: the kept one at `index`, if the kind doesn't say all of it.
+fn is_of_kind(
+    found: Option<&Outcome>,
+    kind: OutcomeKind,
+    kept: &VecDeque<Outcome>,
+    index: usize,
+) -> bool
+    requires { index + weight_of kind ≤ deque_len kept.now }
+    ensures { IsTrue result ↔ (option_copied found.entry ≡ Some (outcome_by kind (drop index (deque_items kept.now)))) }
 {
-    match mark {
-        Mark::Passed => matches!(found, Some(Outcome::Passed)),
-        Mark::Ignored => matches!(found, Some(Outcome::Ignored)),
-        Mark::Kept => found == kept.get(index),
+    match kind {
+        OutcomeKind::Passed => matches!(found, Some(Outcome::Passed)),
+        OutcomeKind::Ignored => matches!(found, Some(Outcome::Ignored)),
+        OutcomeKind::Kept => found == kept.get(index),
     }
 }
 
@@ -178,8 +183,8 @@ fn put_rows(mut rows: Rows, mut outcomes: Vec<Outcome>) -> Vec<Outcome>
     ensures len { vec_len result ≡ vec_len outcomes }
 {
     while let Some((place, outcome)) = rows.next() {
-        if let Some(seat) = outcomes.get_mut(place) {
-            *seat = outcome;
+        if let Some(old) = outcomes.get_mut(place) {
+            *old = outcome;
         }
     }
     outcomes

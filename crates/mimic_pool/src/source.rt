@@ -3,7 +3,7 @@ ghost use Rattle.std.specs.Prelude.{◌≡◌, ◌++◌, ◌∷◌, ◌+◌, ◌
 ghost use Rattle.mimic_pool.specs.declared.share.Assigned.{Assigned};
 
 use crate::remaining::Remaining;
-use crate::room::Room;
+use crate::row_buffer::RowBuffer;
 use crate::share::Assigned;
 use mimic_trial::Task;
 
@@ -22,14 +22,14 @@ pub(crate) trait Source<T: Task> {
     ghost has_ended: { Self → Type 0 };
 
     // Hands out the next trial, for whose row there is room then. `None` ends the worker.
-    fn next<O: Room>(&mut self, room: &mut O) -> Option<Assigned<T>>
-        requires ready { is_ready self.old (O.room_in room.old) }
-        ensures rows { O.rows_in room.new ≡ O.rows_in room.old }
-        ensures as_much { O.room_in room.old ≤ O.room_in room.new }
+    fn next<O: RowBuffer>(&mut self, buffer: &mut O) -> Option<Assigned<T>>
+        requires ready { is_ready self.old (O.room_in buffer.old) }
+        ensures rows { O.rows_in buffer.new ≡ O.rows_in buffer.old }
+        ensures as_much { O.room_in buffer.old ≤ O.room_in buffer.new }
         ensures none { IfNone result (goes_on self.old [] self.new × has_ended self.new) }
         ensures next { IfSome result (λ item. goes_on self.old (item ∷ []) self.new × T.can_run item.runner) }
-        ensures room { IfSome result (λ _. 1 ≤ O.room_in room.new) }
-        ensures ready { IfSome result (λ _. (left : ℕ) → O.room_in room.new ≡ left + 1 → is_ready self.new left) }
+        ensures room { IfSome result (λ _. 1 ≤ O.room_in buffer.new) }
+        ensures ready { IfSome result (λ _. (left : ℕ) → O.room_in buffer.new ≡ left + 1 → is_ready self.new left) }
         ensures most { IfSome result (λ _. most self.new < most self.old) };
 
     // Nothing was handed out yet.
@@ -52,7 +52,7 @@ impl<T: Task> Source<T> for Remaining<Assigned<T>> {
 
     ghost has_ended = { λ left. left ≡ [] };
 
-    fn next<O: Room>(&mut self, _room: &mut O) -> Option<Assigned<T>> {
+    fn next<O: RowBuffer>(&mut self, _buffer: &mut O) -> Option<Assigned<T>> {
         Remaining::next(self)
     }
 

@@ -5,7 +5,7 @@ ghost use Rattle.mimic_pool.specs.Answers.{Answers, HasWorked};
 ghost use Rattle.mimic_pool.specs.Share.{AllRunners, items_of};
 
 use crate::reports::Reports;
-use crate::room::Room;
+use crate::row_buffer::RowBuffer;
 use crate::share::{Assigned, Share};
 use crate::source::Source;
 use mimic_trial::{Outcome, Task, run_unless};
@@ -13,16 +13,16 @@ use mimic_trial::{Outcome, Task, run_unless};
 /// Runs the share in its order, reports each row when its trial has ended, and returns all of them.
 ///
 /// A runner that is ignored is dropped without a call. A row that could not be reported is returned all the same. All are
-/// put into `room`, which has room for them.
+/// put into `rows`, which has room for them.
 pub fn work<T: Task, R: Reports>(
     share: Share<T>,
     test_mode: bool,
     reports: &mut R,
-    room: Vec<(usize, Outcome)>,
+    rows: Vec<(usize, Outcome)>,
 ) -> Vec<(usize, Outcome)>
     requires runnable { AllRunners T.can_run share }
-    requires empty { vec_len room ≡ 0 }
-    requires fits { length (items_of share) ≤ vec_capacity room }
+    requires empty { vec_len rows ≡ 0 }
+    requires fits { length (items_of share) ≤ vec_capacity rows }
     requires told { R.told_of reports.old + length (items_of share) < 2 ^ 64 }
     requires refusals { R.refused_by reports.old + length (items_of share) < 2 ^ 64 }
     ensures answers { Answers T.gives test_mode (items_of share) result.items }
@@ -31,30 +31,30 @@ pub fn work<T: Task, R: Reports>(
     ensures heard { (rows : List Placed) → R.heard reports.old rows
         → R.heard reports.new (rows ++ result.items) }
 {
-    let (_, rows) = work_from(share.into_remaining(), test_mode, reports, room);
+    let (_, rows) = work_from(share.into_remaining(), test_mode, reports, rows);
     rows
 }
 
-// Runs the trials of the source, reports each row when its trial has ended, adds it to those in the room, and returns the source
-// and the room.
-pub(crate) fn work_from<T: Task, S: Source<T>, R: Reports, O: Room>(
+// Runs the trials of the source, reports each row when its trial has ended, adds it to those in the buffer, and returns the source
+// and the buffer.
+pub(crate) fn work_from<T: Task, S: Source<T>, R: Reports, O: RowBuffer>(
     source: S,
     test_mode: bool,
     reports: &mut R,
-    room: O,
+    buffer: O,
 ) -> (S, O)
-    requires ready { S.is_ready source (O.room_in room) }
+    requires ready { S.is_ready source (O.room_in buffer) }
     requires told { R.told_of reports.old + S.most source < 2 ^ 64 }
     requires refusals { R.refused_by reports.old + S.most source < 2 ^ 64 }
     ensures worked { HasWorked S.goes_on T.gives test_mode (R.heard reports.old) (R.heard reports.new) source result.0
-        (O.rows_in room) (O.rows_in result.1) }
+        (O.rows_in buffer) (O.rows_in result.1) }
     ensures ended { S.has_ended result.0 }
-    ensures counted { R.told_of reports.new + R.refused_by reports.new + length (O.rows_in room)
+    ensures counted { R.told_of reports.new + R.refused_by reports.new + length (O.rows_in buffer)
         ≡ R.told_of reports.old + R.refused_by reports.old + length (O.rows_in result.1) }
-    ensures room { O.room_in room + length (O.rows_in room) ≤ O.room_in result.1 + length (O.rows_in result.1) }
+    ensures room { O.room_in buffer + length (O.rows_in buffer) ≤ O.room_in result.1 + length (O.rows_in result.1) }
 {
-    let (mut source, mut room) = (source, room);
-    while let Some(item) = source.next(&mut room) {
+    let (mut source, mut buffer) = (source, buffer);
+    while let Some(item) = source.next(&mut buffer) {
         let Assigned {
             place,
             runner,
@@ -65,7 +65,7 @@ pub(crate) fn work_from<T: Task, S: Source<T>, R: Reports, O: Room>(
         reports.end(place, started);
         // Reported or not, the row is returned: whoever joins the worker gets it then.
         let _ = reports.tell(place, &outcome);
-        room.put(place, outcome);
+        buffer.put(place, outcome);
     }
-    (source, room)
+    (source, buffer)
 }

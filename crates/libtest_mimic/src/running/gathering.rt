@@ -6,7 +6,7 @@ ghost use Rattle.mimic_trial.specs.declared.outcome.Outcome.{Outcome as AnOutcom
 ghost use Rattle.mimic_pool.specs.Arrivals.{arrived_at};
 ghost use Rattle.mimic_pool.specs.Rows.{rows_in};
 ghost use Rattle.mimic_pool.specs.Share.{assigned_from};
-ghost use Rattle.mimic_pool.specs.Supply.{Runs, runs_all};
+ghost use Rattle.mimic_pool.specs.WaitingTrials.{Runs, runs_all};
 ghost use Rattle.mimic_pool.specs.declared.share.Assigned.{Assigned};
 ghost use Rattle.libtest_mimic.specs.Gathering.{IsGathered, IsOfRows, IsReadyFor, Completes, GatheringRefused};
 ghost use Rattle.mimic_pool.specs.Inbox.{is_timed};
@@ -14,7 +14,7 @@ ghost use Rattle.libtest_mimic.specs.Steps.{PutsArrived};
 
 use crate::running::RunError;
 use crate::running::arrivals::{add_arrivals, add_missing};
-use mimic_pool::{Crew, Desk, Inbox, Rows, Spawner, join_all, put_joined};
+use mimic_pool::{Desk, Inbox, Rows, Spawner, Workers, join_workers, put_joined};
 use mimic_printer::{Printer, Sink};
 use mimic_trial::{Outcome, Task, TestInfo};
 use std::io::Write;
@@ -24,7 +24,7 @@ pub struct Started<R: Task> {
     /// Where their rows come from.
     pub inbox: Inbox,
     /// The workers.
-    pub crew: Crew<R>,
+    pub workers: Workers<R>,
     /// A desk at which nothing has arrived, with a place for each trial.
     pub desk: Desk,
     /// Room for an outcome of each trial, which is taken only if a row did not arrive or differs, or after a write fault.
@@ -47,27 +47,27 @@ pub fn gather_rows<R: Task + Send + 'static, W: Write, T: Spawner + 'static>(
 ) -> Result<Desk, RunError>
     requires room { HasFaultLeft sink.old }
     requires ready { IsReadyFor started (length infos.now) }
-    requires running { (mode : Bool) × (trials : List (Assigned R)) × Runs R.gives started.crew mode trials }
+    requires running { (mode : Bool) × (trials : List (Assigned R)) × Runs R.gives started.workers mode trials }
     ensures rows { (runners : List R) (flags : List Bool) (test_mode : Bool)
         → length runners ≡ length infos.now → length flags ≡ length infos.now
-        → Runs R.gives started.crew test_mode (assigned_from 0 runners flags)
+        → Runs R.gives started.workers test_mode (assigned_from 0 runners flags)
         → MatchResult result
         (λ desk. IsGathered R.gives test_mode (assigned_from 0 runners flags) desk
         × PutsArrived (is_timed started.inbox) printer.now infos.now desk (shown W.contents sink.old) (shown W.contents sink.new))
-        (λ e. GatheringRefused R.gives test_mode (assigned_from 0 runners flags) (runs_all started.crew) (is_timed started.inbox)
+        (λ e. GatheringRefused R.gives test_mode (assigned_from 0 runners flags) (runs_all started.workers) (is_timed started.inbox)
         printer.now infos.now (shown W.contents sink.old) (shown W.contents sink.new) e) }
     ensures refused { IfErr result IsOfRows }
 {
     let Started {
         mut inbox,
-        crew,
+        workers,
         mut desk,
         room,
     } = started;
     add_arrivals(rt, printer, infos, &mut inbox, &mut desk, sink);
     let written = sink.end();
     let whole = written.is_ok();
-    let joined = join_all(rt, crew, whole);
+    let joined = join_workers(rt, workers, whole);
     let arrived = desk.order().len();
     complete(&mut desk, joined, infos.len(), room, whole)?;
     // A write fault waits until here, since an outcome that differs is reported in its place.

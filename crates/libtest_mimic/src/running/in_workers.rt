@@ -4,7 +4,7 @@ ghost use Rattle.mimic_args.specs.Arguments.{threads_of};
 ghost use Rattle.mimic_printer.specs.Sink.{HasFaultLeft, shown};
 ghost use Rattle.mimic_trial.specs.Trial.{AllCanRun};
 ghost use Rattle.mimic_pool.specs.Share.{assigned_from};
-ghost use Rattle.mimic_pool.specs.Supply.{Holds};
+ghost use Rattle.mimic_pool.specs.WaitingTrials.{Holds};
 ghost use Rattle.libtest_mimic.specs.Gathering.{IsGathered};
 ghost use Rattle.libtest_mimic.specs.Run.{OnNothingWritten, Reports};
 ghost use Rattle.libtest_mimic.specs.Steps.{AreSupplied, PutsTitled, RowsRefused, selected_suite};
@@ -19,7 +19,9 @@ use crate::select::is_ignored;
 use crate::selection::Selection;
 use crate::stopwatch::{Clock, Stopwatch};
 use mimic_args::Arguments;
-use mimic_pool::{Desk, Notes, Remaining, Spawner, Supply, start_all, worker_count};
+use mimic_pool::{
+    Desk, Remaining, RunningTrials, Spawner, WaitingTrials, start_workers, worker_count,
+};
 use mimic_printer::{Printer, Sink};
 use mimic_trial::{Conclusion, Task, TestInfo, Trial};
 use std::alloc::{AllocError, Global};
@@ -58,16 +60,13 @@ pub(super) fn run_in_workers<R: Task + Send + 'static, W: Write, C: Clock, T: Sp
         ..
     } = selection;
     let count = worker_count(threads, trials.len());
-    let supply = Supply::new(alloc, schedule, trials.len(), count)?;
-    let notes = Notes {
-        timed: args.report_time,
-        running,
-    };
-    let (infos, supply) = take_apart(rt, alloc, args, trials, supply)?;
+    let waiting = WaitingTrials::new(alloc, schedule, trials.len(), count)?;
+    let (infos, waiting) = take_apart(rt, alloc, args, trials, waiting)?;
     let supplied = Supplied {
         alloc,
-        supply,
-        notes,
+        waiting,
+        timed: args.report_time,
+        running,
     };
     let infos = infos.as_slice();
     let desk = write_rows(rt, &printer, infos, supplied, !args.bench, sink)?;
@@ -83,38 +82,39 @@ pub(super) fn run_in_workers<R: Task + Send + 'static, W: Write, C: Clock, T: Sp
 #[derive(Drop)]
 struct Supplied<R: Task> {
     alloc: Global,
-    supply: Supply<R>,
-    notes: Notes,
+    waiting: WaitingTrials<R>,
+    timed: bool,
+    running: Option<Arc<RunningTrials>>,
 }
 
-// What is known of each trial, and the runners, which were put into the supply.
+// What is known of each trial, and the runners, which wait for workers.
 fn take_apart<R: Task, T: Wait>(
     rt: &T,
     alloc: Global,
     args: &Arguments,
     trials: Vec<Trial<R>>,
-    supply: Supply<R>,
-) -> Result<(Vec<TestInfo>, Supply<R>), AllocError>
-    requires empty { Holds R.can_run supply [] }
+    waiting: WaitingTrials<R>,
+) -> Result<(Vec<TestInfo>, WaitingTrials<R>), AllocError>
+    requires empty { Holds R.can_run waiting [] }
     requires runnable { AllCanRun R.can_run trials.items }
     ensures { IfOk result
         (λ parts. AreSupplied R.can_run args.now trials.items parts.0.items parts.1) }
 {
-    let mut supply = supply;
+    let mut waiting = waiting;
     let mut infos = Vec::with_capacity(alloc, trials.len())?;
     let mut left = Remaining::new(trials);
     while let Some(trial) = left.next() {
         let is_ignored = is_ignored(args, &trial);
         let (info, runner) = trial.into_parts();
-        supply.put(rt, infos.len(), runner, is_ignored)?;
+        waiting.put(rt, infos.len(), runner, is_ignored)?;
         infos.push(info)?;
     }
-    Ok((infos, supply))
+    Ok((infos, waiting))
 }
 
 // Runs the trials in workers, and writes the title and the rows. Returns the desk where they arrived.
 //
-// No memory is taken after the title, except for what `Starts` names.
+// No memory is taken after the title, except for what `ReadyWorkers` names.
 fn write_rows<R: Task + Send + 'static, W: Write, T: Spawner + 'static>(
     rt: &T,
     printer: &Printer,
@@ -125,33 +125,34 @@ fn write_rows<R: Task + Send + 'static, W: Write, T: Spawner + 'static>(
 ) -> Result<Desk, RunError>
     requires room { HasFaultLeft sink.old }
     requires held { (runners : List R) × (flags : List Bool) × (length runners ≡ length infos.now)
-        × (length flags ≡ length infos.now) × Holds R.can_run supplied.supply (assigned_from 0 runners flags) }
+        × (length flags ≡ length infos.now) × Holds R.can_run supplied.waiting (assigned_from 0 runners flags) }
     ensures rows { (runners : List R) (flags : List Bool) → length runners ≡ length infos.now
         → length flags ≡ length infos.now
-        → Holds R.can_run supplied.supply (assigned_from 0 runners flags)
+        → Holds R.can_run supplied.waiting (assigned_from 0 runners flags)
         → MatchResult result
         (λ desk. IsGathered R.gives test_mode (assigned_from 0 runners flags) desk
-        × PutsTitled supplied.notes.timed printer.now infos.now desk (shown W.contents sink.old) (shown W.contents sink.new))
-        (λ e. RowsRefused R.gives test_mode (assigned_from 0 runners flags) supplied.notes.timed printer.now infos.now
+        × PutsTitled supplied.timed printer.now infos.now desk (shown W.contents sink.old) (shown W.contents sink.new))
+        (λ e. RowsRefused R.gives test_mode (assigned_from 0 runners flags) supplied.timed printer.now infos.now
         (shown W.contents sink.old) (shown W.contents sink.new) e) }
     ensures unwritten { OnNothingWritten result (sink.new ≡ sink.old) }
 {
     let Supplied {
         alloc,
-        supply,
-        notes,
+        waiting,
+        timed,
+        running,
     } = supplied;
     let count = infos.len();
-    let (inbox, starts) = supply.prepare(rt, alloc, count, notes)?;
+    let (inbox, ready) = waiting.prepare(rt, alloc, count, timed, running)?;
     let desk = Desk::new(alloc, count)?;
     let room = Vec::with_capacity(alloc, count)?;
     printer.print_title(sink, count as u64)?;
-    let Some(crew) = start_all(rt, alloc, starts, test_mode) else {
+    let Some(workers) = start_workers(rt, alloc, ready, test_mode) else {
         return Err(RunError::Spawn);
     };
     let started = Started {
         inbox,
-        crew,
+        workers,
         desk,
         room,
     };

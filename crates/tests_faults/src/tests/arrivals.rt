@@ -1,11 +1,11 @@
 //! Rows that arrive otherwise than their workers answer.
 ghost use Rattle.std.specs.Prelude.{◌≤◌, Bool, IfOk, List, length};
 ghost use Rattle.libtest_mimic.specs.Gathering.{IsReadyFor};
-ghost use Rattle.mimic_pool.specs.Supply.{Holds, Runs};
+ghost use Rattle.mimic_pool.specs.WaitingTrials.{Holds, Runs};
 ghost use Rattle.mimic_pool.specs.declared.share.Assigned.{Assigned};
 
 use super::runs::SCHEDULES;
-use libtest_mimic::pool::{Desk, Notes, Reports, Started, Supply, gather_rows, start_all};
+use libtest_mimic::pool::{Desk, Reports, Started, WaitingTrials, gather_rows, start_workers};
 use libtest_mimic::printer::Printer;
 use libtest_mimic::{FormatSetting, Outcome, RunError, Schedule, Sink, Spawner, Task, TestInfo};
 use mimic_testkit::{Fault, FaultPlace, FaultyWriter, Known};
@@ -29,23 +29,23 @@ fn infos_of_all(alloc: Global) -> Result<Vec<TestInfo>, AllocError> {
     Ok(infos)
 }
 
-// A supply of `trials` tasks for two workers, none of which is ignored.
-fn supply_of<T: Task, R: Wait, F: Fn(usize) -> T>(
+// `trials` tasks that wait for two workers, none of which is ignored.
+fn waiting_tasks<T: Task, R: Wait, F: Fn(usize) -> T>(
     rt: &R,
     alloc: Global,
     schedule: Schedule,
     trials: usize,
     task: F,
-) -> Result<Supply<T>, AllocError>
+) -> Result<WaitingTrials<T>, AllocError>
     requires made { F.IsAlwaysCallable task }
     requires runnable { (made : T) → T.can_run made }
-    ensures { IfOk result (λ supply. (held : List (Assigned T)) × (length held ≤ trials) × Holds T.can_run supply held) }
+    ensures { IfOk result (λ waiting. (held : List (Assigned T)) × (length held ≤ trials) × Holds T.can_run waiting held) }
 {
-    let mut supply = Supply::new(alloc, schedule, trials, 2)?;
+    let mut waiting = WaitingTrials::new(alloc, schedule, trials, 2)?;
     for place in 0..trials {
-        supply.put(rt, place, task(place), false)?;
+        waiting.put(rt, place, task(place), false)?;
     }
-    Ok(supply)
+    Ok(waiting)
 }
 
 // Writes the rows of workers that were started. The place that they are refused for, how many faults the sink has counted then, and
@@ -57,7 +57,7 @@ fn gathered<T: Task + Send + 'static, R: Spawner + 'static>(
     writer: FaultyWriter,
 ) -> (Option<usize>, u64, bool)
     requires ready { IsReadyFor started (length infos.now) }
-    requires running { (mode : Bool) × (trials : List (Assigned T)) × Runs T.gives started.crew mode trials }
+    requires running { (mode : Bool) × (trials : List (Assigned T)) × Runs T.gives started.workers mode trials }
 {
     let printer = Printer::new(FormatSetting::Json, false, 0, 0);
     let mut sink = Sink::new(writer);
@@ -83,17 +83,17 @@ fn gather_with_lies<T: Task + Send + 'static, R: Spawner + 'static, F: Fn(usize)
 {
     let room = Vec::with_capacity(alloc, infos.len())?;
     let desk = Desk::new(alloc, infos.len())?;
-    let supply = supply_of(rt, alloc, schedule, infos.len(), task)?;
-    let (inbox, starts) = supply.prepare(rt, alloc, infos.len(), Notes::none())?;
+    let waiting = waiting_tasks(rt, alloc, schedule, infos.len(), task)?;
+    let (inbox, ready) = waiting.prepare(rt, alloc, infos.len(), false, None)?;
     let mut lies = inbox.reports(*rt, alloc)?;
     let _ = lies.tell(3, &Outcome::Ignored);
     let _ = lies.tell(1, &Outcome::Ignored);
-    let Some(crew) = start_all(rt, alloc, starts, true) else {
+    let Some(workers) = start_workers(rt, alloc, ready, true) else {
         return Err(Fail::new("a worker could not be started"));
     };
     let started = Started {
         inbox,
-        crew,
+        workers,
         desk,
         room,
     };

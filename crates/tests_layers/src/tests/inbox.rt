@@ -1,12 +1,12 @@
 //! An inbox: workers that report to one board, and a thread that takes.
 ghost use Rattle.std.specs.Prelude.{◌≤◌, IfOk, List, length};
-ghost use Rattle.mimic_pool.specs.Supply.{Holds};
+ghost use Rattle.mimic_pool.specs.WaitingTrials.{Holds};
 ghost use Rattle.mimic_pool.specs.declared.share.Assigned.{Assigned};
 
 use super::{Plain, numbered};
 use mimic_pool::{
-    Desk, Inbox, Notes, Reports, Rows, RunningTrials, Schedule, Spawner, Supply, Untold, join_all,
-    put_joined, start_all,
+    Desk, Inbox, Reports, Rows, RunningTrials, Schedule, Spawner, Untold, WaitingTrials,
+    join_workers, put_joined, start_workers,
 };
 use mimic_trial::{Failed, Outcome, Task};
 use std::alloc::{AllocError, Global};
@@ -113,11 +113,7 @@ fn notes_times(rt: HostRuntime) -> Result<(), Fail> {
             readings: [*first, *second],
             is_second: Cell::new(false),
         };
-        let timed = Notes {
-            timed: true,
-            running: None,
-        };
-        let inbox = Inbox::with_notes(rt.alloc(), 3, 1, timed)?;
+        let inbox = Inbox::with_times(rt.alloc(), 3, 1, true, None)?;
         let reports = inbox.reports(clock, rt.alloc())?;
         let started = reports.begin(1);
         reports.end(1, started);
@@ -144,11 +140,8 @@ fn notes_no_times(rt: HostRuntime) -> Result<(), Fail> {
 fn marks_what_runs(rt: HostRuntime) -> Result<(), Fail> {
     let alloc = rt.alloc();
     let running = Arc::new(alloc, RunningTrials::new(alloc, 2)?)?;
-    let notes = Notes {
-        timed: false,
-        running: Some(Arc::try_clone(&running)?),
-    };
-    let inbox = Inbox::with_notes(alloc, 4, 3, notes)?;
+    let cells = Arc::try_clone(&running)?;
+    let inbox = Inbox::with_times(alloc, 4, 3, false, Some(cells))?;
     let first = inbox.reports(rt, alloc)?;
     let second = inbox.reports(rt, alloc)?;
     let third = inbox.reports(rt, alloc)?;
@@ -249,23 +242,23 @@ impl Task for Awaits {
     }
 }
 
-// A supply of `trials` tasks for two workers, none of which is ignored.
-fn supply_of<T: Task, R: Wait, F: Fn(usize) -> Result<T, AllocError>>(
+// `trials` tasks that wait for two workers, none of which is ignored.
+fn waiting_tasks<T: Task, R: Wait, F: Fn(usize) -> Result<T, AllocError>>(
     rt: &R,
     alloc: Global,
     schedule: Schedule,
     trials: usize,
     task: F,
-) -> Result<Supply<T>, AllocError>
+) -> Result<WaitingTrials<T>, AllocError>
     requires made { F.IsAlwaysCallable task }
     requires runnable { (made : T) → T.can_run made }
-    ensures { IfOk result (λ supply. (held : List (Assigned T)) × (length held ≤ trials) × Holds T.can_run supply held) }
+    ensures { IfOk result (λ waiting. (held : List (Assigned T)) × (length held ≤ trials) × Holds T.can_run waiting held) }
 {
-    let mut supply = Supply::new(alloc, schedule, trials, 2)?;
+    let mut waiting = WaitingTrials::new(alloc, schedule, trials, 2)?;
     for place in 0..trials {
-        supply.put(rt, place, task(place)?, false)?;
+        waiting.put(rt, place, task(place)?, false)?;
     }
-    Ok(supply)
+    Ok(waiting)
 }
 
 // Runs `trials` tasks by two workers, and returns the rows in the order in which they were taken, and what the workers
@@ -286,9 +279,9 @@ fn rows_taken<
     requires runnable { (made : T) → T.can_run made }
 {
     let mut rows = Vec::with_capacity(alloc, trials)?;
-    let supply = supply_of(rt, alloc, schedule, trials, task)?;
-    let (mut inbox, starts) = supply.prepare(rt, alloc, trials, Notes::none())?;
-    let Some(crew) = start_all(rt, alloc, starts, true) else {
+    let waiting = waiting_tasks(rt, alloc, schedule, trials, task)?;
+    let (mut inbox, ready) = waiting.prepare(rt, alloc, trials, false, None)?;
+    let Some(workers) = start_workers(rt, alloc, ready, true) else {
         return Err(Fail::new("a worker could not be started"));
     };
     for _ in rt.forever() {
@@ -299,7 +292,7 @@ fn rows_taken<
         let _ = rows.push(row);
         taken.fetch_add(1, Ordering::SeqCst);
     }
-    Ok((rows, join_all(rt, crew, true)))
+    Ok((rows, join_workers(rt, workers, true)))
 }
 
 // How tasks come to two workers, how many there are, and which of them await rows: the one at a multiple of `step` ends once

@@ -5,7 +5,7 @@ use Rattle.mimic_trial.specs.Places.{places_of}
 use Rattle.mimic_pool.specs.Joined.{put_each}
 use Rattle.mimic_pool.specs.Rows.{rows_in}
 use Rattle.mimic_pool.specs.Share.{assigned_from}
-use Rattle.mimic_pool.specs.Supply.{Runs, runs_all}
+use Rattle.mimic_pool.specs.WaitingTrials.{Runs, runs_all}
 use Rattle.mimic_printer.specs.Sink.{shown}
 use Rattle.libtest_mimic.specs.Gathering.{Gathered, GatheringRefused}
 use Rattle.mimic_pool.specs.Inbox.{is_timed}
@@ -40,24 +40,24 @@ all_arrived g c =
 
 -- then each trial has an outcome
 gathered : (g : Over) (c : In_ok-written g) (mode : Bool) (rs : List _) (bs : List Bool) → length rs ≡ length c.args.infos.now → length bs ≡ length c.args.infos.now
-    → Runs g.R.Task.gives c.args.started.crew mode (assigned_from 0 rs bs)
-    → Gathered g.R.Task.gives mode (assigned_from 0 rs bs) (places_of c.complete.new.desk.rows) (put_each (map rows_in c.join_all-joined.result.items) c.in_ok-complete.ensures.completed.outcomes)
+    → Runs g.R.Task.gives c.args.started.workers mode (assigned_from 0 rs bs)
+    → Gathered g.R.Task.gives mode (assigned_from 0 rs bs) (places_of c.complete.new.desk.rows) (put_each (map rows_in c.join_workers-joined.result.items) c.in_ok-complete.ensures.completed.outcomes)
 gathered g c mode rs bs runners flags runs =
     let same = runners ∙ sym flags in
     let here = c.add_arrivals.ensures.places ∙ ap (λ d. d.places) c.requires.ready.desk ∙ sym runners in
     let done = c.in_ok-complete.ensures.completed in
-    let whole = or_true (runs_all c.args.started.crew) c.is_ok-whole.result (c.is_ok-whole.ensures.value ∙ ap is_ok c.in_ok-written.was) in
+    let whole = or_true (runs_all c.args.started.workers) c.is_ok-whole.result (c.is_ok-whole.ensures.value ∙ ap is_ok c.in_ok-written.was) in
     let count = outcomes_count g.R.Task.gives mode rs bs same _ _ _ _ done here in
-    completed_gathered g.R.Task.gives mode rs bs same _ _ _ _ done (c.join_all-joined.ensures.outcomes mode rs bs runs whole done.outcomes count) here
+    completed_gathered g.R.Task.gives mode rs bs same _ _ _ _ done (c.join_workers-joined.ensures.outcomes mode rs bs runs whole done.outcomes count) here
 
 pub returns-in_err-complete-clause-rows : goal.returns-in_err-complete-clause-rows
 returns-in_err-complete-clause-rows g c = λ rs bs mode runners flags runs.
     let arrivals = (goal.at.returns-in_err-complete-clause-rows g c).After-end-written in
     on_error c.from_residual.result _ _
-    (GatheringRefused g.R.Task.gives mode (assigned_from 0 rs bs) (runs_all c.args.started.crew) (is_timed c.args.started.inbox) c.args.printer.now c.args.infos.now (shown g.W.Write.contents c.args.sink.now) (shown g.W.Write.contents c.end-written.new.self))
+    (GatheringRefused g.R.Task.gives mode (assigned_from 0 rs bs) (runs_all c.args.started.workers) (is_timed c.args.started.inbox) c.args.printer.now c.args.infos.now (shown g.W.Write.contents c.args.sink.now) (shown g.W.Write.contents c.end-written.new.self))
     c.from_residual.ensures.1
-    (differs_refused g.R.Task.gives mode rs bs (runs_all c.args.started.crew) c.is_ok-whole.result (is_timed c.args.started.inbox) c.end-written.result c.args.printer.now c.args.infos.now _ _ _ _ (places g arrivals)
-    c.is_ok-whole.ensures.value c.order-arrived.ensures.whole (arrived g arrivals) (c.join_all-joined.ensures.joined mode _ runs) _ c.in_err-complete.ensures.completed)
+    (differs_refused g.R.Task.gives mode rs bs (runs_all c.args.started.workers) c.is_ok-whole.result (is_timed c.args.started.inbox) c.end-written.result c.args.printer.now c.args.infos.now _ _ _ _ (places g arrivals)
+    c.is_ok-whole.ensures.value c.order-arrived.ensures.whole (arrived g arrivals) (c.join_workers-joined.ensures.joined mode _ runs) _ c.in_err-complete.ensures.completed)
 
 pub returns-in_err-written-clause-rows : goal.returns-in_err-written-clause-rows
 returns-in_err-written-clause-rows g c = λ rs bs mode runners flags runs.
@@ -68,10 +68,10 @@ returns-in_err-written-clause-rows g c = λ rs bs mode runners flags runs.
     let stopped = subst (λ r. WritesRows c.args.printer.now (AreArrived asked c.args.infos.now c.add_arrivals.new.desk) before after r) c.in_err-written.was (arrived g arrivals) in
     let part : c.is_ok-whole.result ≡ false = c.is_ok-whole.ensures.value ∙ ap is_ok c.in_err-written.was in
     on_error c.from_residual-in_err-written.result _ _
-    (GatheringRefused g.R.Task.gives mode (assigned_from 0 rs bs) (runs_all c.args.started.crew) asked c.args.printer.now c.args.infos.now before after)
+    (GatheringRefused g.R.Task.gives mode (assigned_from 0 rs bs) (runs_all c.args.started.workers) asked c.args.printer.now c.args.infos.now before after)
     c.from_residual-in_err-written.ensures.1
-    (arrival_refused g.R.Task.gives mode rs bs (runners ∙ sym flags) asked c.args.printer.now c.args.infos.now (runs_all c.args.started.crew) c.is_ok-whole.result _ _ _ c.in_ok-complete.ensures.completed part
-    (c.join_all-joined.ensures.joined mode _ runs) (places g arrivals ∙ sym runners) before _ stopped)
+    (arrival_refused g.R.Task.gives mode rs bs (runners ∙ sym flags) asked c.args.printer.now c.args.infos.now (runs_all c.args.started.workers) c.is_ok-whole.result _ _ _ c.in_ok-complete.ensures.completed part
+    (c.join_workers-joined.ensures.joined mode _ runs) (places g arrivals ∙ sym runners) before _ stopped)
 
 pub end-written-requires : goal.end-written-requires
 end-written-requires g c =
@@ -103,7 +103,7 @@ returns-in_err-end-clause-rows g c = λ rs bs mode runners flags runs.
     let missing = rows_ended c.args.printer.now _ _ (rw c.add_arrivals.ensures.timed at c.add_missing.ensures) c.in_err-end.ensures in
     let stopped = stopped_missing asked c.args.printer.now c.args.infos.now _ _ _ _ done _ _ _ (all_arrived g whole) _ count missing in
     on_error c.from_residual-in_err-end.result _ _
-    (GatheringRefused g.R.Task.gives mode (assigned_from 0 rs bs) (runs_all c.args.started.crew) asked c.args.printer.now c.args.infos.now (shown g.W.Write.contents c.args.sink.now) (shown g.W.Write.contents c.end.new.self))
+    (GatheringRefused g.R.Task.gives mode (assigned_from 0 rs bs) (runs_all c.args.started.workers) asked c.args.printer.now c.args.infos.now (shown g.W.Write.contents c.args.sink.now) (shown g.W.Write.contents c.end.new.self))
     c.from_residual-in_err-end.ensures.1 (
       c.complete.new.desk.rows,
       [],
@@ -121,7 +121,7 @@ returns-clause-rows g c = λ rs bs mode runners flags runs.
     let count = ap length c.order-arrived.ensures.places ∙ length-map c.add_arrivals.new.desk.rows (λ r. r.0) in
     let missing = rows_ended c.args.printer.now _ _ (rw c.add_arrivals.ensures.timed at c.add_missing.ensures) c.in_ok-end.ensures in (
       record {
-        outcomes = put_each (map rows_in c.join_all-joined.result.items) done.outcomes;
+        outcomes = put_each (map rows_in c.join_workers-joined.result.items) done.outcomes;
         gathered = gathered g whole mode rs bs runners flags runs;
         rows = done.returned;
       },

@@ -5,7 +5,7 @@ use Rattle.libtest_mimic.proofs.running.in_workers.take_apart.Given as goal
 
 abbrev pub invariant-loop-trial : goal.invariant-loop-trial
 invariant-loop-trial g l = record {
-  supplied : IsPutSoFar g.R.Task.can_run l.args l.fn.trials.items l.left l.infos.items l.supply;
+  supplied : IsPutSoFar g.R.Task.can_run l.args l.fn.trials.items l.left l.infos.items l.waiting;
   runnable : AllCanRun g.R.Task.can_run l.left;
 }
 

@@ -1,7 +1,7 @@
 use Rattle.std.proofs.Common.{◌≡◌, ◌≤◌, ◌∙◌, ℕ, Bool, List, arith, inl, length, refl, sym}
 use Rattle.mimic_pool.specs.Inbox.{is_timed}
 use Rattle.mimic_pool.specs.Share.{assigned_from}
-use Rattle.mimic_pool.specs.Supply.{runs_all}
+use Rattle.mimic_pool.specs.WaitingTrials.{runs_all}
 use Rattle.libtest_mimic.proofs.Arranged.{length_assigned}
 use Rattle.libtest_mimic.specs.Gathering.{IsOfRows}
 use Rattle.libtest_mimic.specs.declared.running.RunError.TheVariants.{OutOfMemory, Write}
@@ -37,8 +37,8 @@ returns-in_err-print_title-clause-unwritten g c =
     let r = c.from_residual-in_err-print_title.result in
     written_before r _ (on_err r (Write c.in_err-print_title.field-0.0) IsOfRows c.from_residual-in_err-print_title.ensures.1 tt)
 
-pub start_all-requires-clause-ready : goal.start_all-requires-clause-ready
-start_all-requires-clause-ready g c κs within =
+pub start_workers-requires-clause-ready : goal.start_workers-requires-clause-ready
+start_workers-requires-clause-ready g c κs within =
     let h = c.requires.held in
     (assigned_from 0 h.0 h.1, c.in_ok-inbox.ensures.ready _ (put_fits h.0 h.1 _ h.2 h.3) h.4)
 
@@ -50,7 +50,7 @@ gather_rows-requires-clause-running g c κs within =
 pub returns-clause-rows : goal.returns-clause-rows
 returns-clause-rows g c = λ rs bs runners flags held.
     rows_titled g.R.Task.gives c.args.test_mode (assigned_from 0 rs bs) c.args.printer.now c.args.infos.now _ _ _ _ refl c.in_ok-print_title.ensures
-    (runs_all c.in-Some.crew) (is_timed c.in_ok-inbox.inbox) _ c.in_ok-inbox.ensures.timed c.gather_rows.result
+    (runs_all c.in-Some.workers) (is_timed c.in_ok-inbox.inbox) _ c.in_ok-inbox.ensures.timed c.gather_rows.result
     (c.gather_rows.ensures.rows rs bs c.args.test_mode runners flags (c.in-Some.ensures.started _ (c.in_ok-inbox.ensures.ready _ (put_fits rs bs _ runners flags) held)))
 
 pub returns-clause-unwritten : goal.returns-clause-unwritten

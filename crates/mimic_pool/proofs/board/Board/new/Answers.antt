@@ -2,7 +2,7 @@ use Rattle.std.proofs.Common.{arith, ◌∙◌, ap, eqb, false, refl, slice_inde
 use Rattle.std.specs.List.{list_any}
 use Rattle.mimic_pool.proofs.Elements.{all_same}
 use Rattle.mimic_pool.proofs.Reporting.{all_calls}
-use Rattle.mimic_pool.proofs.Seating.{distinct_none}
+use Rattle.mimic_pool.proofs.Numbering.{distinct_none}
 use Rattle.mimic_pool.proofs.board.Board.new.Goals as goal
 
 pub invariant_of-result : goal.invariant_of-result

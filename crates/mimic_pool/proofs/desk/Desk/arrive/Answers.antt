@@ -1,112 +1,80 @@
-use Rattle.std.proofs.Common.{◌<◌, ◌∙◌, ap, arith, false, refl, slice_index_or, true}
-use Rattle.mimic_pool.specs.Seats.{arrived_of}
+use Rattle.std.proofs.Common.{◌<◌, ◌∙◌, arith, false, length, refl, true}
+use Rattle.std.specs.Vec.{with_item}
+use Rattle.mimic_pool.specs.Numbers.{arrived_of}
 use Rattle.mimic_pool.specs.declared.desk.Desk.TheInside.{Inside}
 use Rattle.mimic_pool.proofs.FirstArrivals.{again_kept, first_kept, history_more, said, stranger_kept}
-use Rattle.mimic_pool.proofs.Seating.{come_at, desk_fits, desk_more, rows_more, seat_free, seat_taken}
+use Rattle.mimic_pool.proofs.Numbering.{come_at, desk_fits, desk_more, number_free, number_taken, rows_more}
 use Rattle.mimic_pool.proofs.desk.Desk.arrive.Goals as goal
 
 -- ---- no such place
 
-pub returns-then-place-self-clause-rows : goal.returns-then-place-self-clause-rows
-returns-then-place-self-clause-rows c =
-    rw (← c.self.view_is)
-    (stranger_kept (arrived_of c.self.inside) _ (omega (arith, c.if-place-self.true)))
+pub returns-then-place-len-clause-rows : goal.returns-then-place-len-clause-rows
+returns-then-place-len-clause-rows c =
+    rw (← c.self.view_is) (stranger_kept (arrived_of c.self.inside) _ (omega (arith, c.if-place-len.true, c.len.ensures, c.self.inside.numbers.ok)))
 
-pub returns-then-place-self-clause-history : goal.returns-then-place-self-clause-history
-returns-then-place-self-clause-history c =
-    history_more _ _ _ _ (returns-then-place-self-clause-rows c)
+pub returns-then-place-len-clause-history : goal.returns-then-place-len-clause-history
+returns-then-place-len-clause-history c = history_more _ _ _ _ (returns-then-place-len-clause-rows c)
 
--- ---- its seat is taken
+-- ---- something arrived there
 
-pub returns-then-seat_at-ne0-clause-answer : goal.returns-then-seat_at-ne0-clause-answer
-returns-then-seat_at-ne0-clause-answer c =
-    let low : c.args.place < c.self.inside.places = omega (arith, c.if-place-self.false) in
-    let seat = c.seat_at.ensures
-    ∙ ap (λ seats. slice_index_or seats c.args.place 0) c.as_slice.ensures.value in
-    let known = seat_taken c.self.inside c.self.invariant c.args.place c.seat_at.result seat
-    c.if-seat_at-ne0.true in
+pub returns-then-index-ne0-clause-answer : goal.returns-then-index-ne0-clause-answer
+returns-then-index-ne0-clause-answer c =
+    let low : c.args.place < length c.self.inside.numbers.items = omega (arith, c.if-place-len.false, c.len.ensures, c.self.inside.numbers.ok) in
+    let known = number_taken c.self.inside c.self.invariant c.args.place c.index.result.now low c.index.ensures c.if-index-ne0.true in
     rw (← c.self.view_is) (said (arrived_of c.self.inside) _ true low (come_at c.self.inside c.self.invariant c.args.place true known))
 
-pub returns-then-seat_at-ne0-clause-rows : goal.returns-then-seat_at-ne0-clause-rows
-returns-then-seat_at-ne0-clause-rows c =
-    let low : c.args.place < c.self.inside.places = omega (arith, c.if-place-self.false) in
-    let seat = c.seat_at.ensures
-    ∙ ap (λ seats. slice_index_or seats c.args.place 0) c.as_slice.ensures.value in
-    let known = seat_taken c.self.inside c.self.invariant c.args.place c.seat_at.result seat
-    c.if-seat_at-ne0.true in
+pub returns-then-index-ne0-clause-rows : goal.returns-then-index-ne0-clause-rows
+returns-then-index-ne0-clause-rows c =
+    let low : c.args.place < length c.self.inside.numbers.items = omega (arith, c.if-place-len.false, c.len.ensures, c.self.inside.numbers.ok) in
+    let known = number_taken c.self.inside c.self.invariant c.args.place c.index.result.now low c.index.ensures c.if-index-ne0.true in
     rw (← c.self.view_is) (again_kept (arrived_of c.self.inside) _ low (come_at c.self.inside c.self.invariant c.args.place true known))
 
-pub returns-then-seat_at-ne0-clause-history : goal.returns-then-seat_at-ne0-clause-history
-returns-then-seat_at-ne0-clause-history c =
-    history_more _ _ _ _ (returns-then-seat_at-ne0-clause-rows c)
+pub returns-then-index-ne0-clause-history : goal.returns-then-index-ne0-clause-history
+returns-then-index-ne0-clause-history c = history_more _ _ _ _ (returns-then-index-ne0-clause-rows c)
 
--- ---- its seat is free
+-- ---- nothing arrived there
 
-pub seated-seat-requires-clause-room : goal.seated-seat-requires-clause-room
-seated-seat-requires-clause-room c =
-    let low : c.args.place < c.self.inside.places = omega (arith, c.if-place-self.false) in
-    let seat = c.seat_at.ensures
-    ∙ ap (λ seats. slice_index_or seats c.args.place 0) c.as_slice.ensures.value in
-    let known = seat_free c.self.inside c.self.invariant c.args.place c.seat_at.result seat
-    c.if-seat_at-ne0.false in
-    let fits = desk_fits c.self.inside c.self.invariant c.args.place low known in
+pub numbered-requires-clause-room : goal.numbered-requires-clause-room
+numbered-requires-clause-room c =
+    let low : c.args.place < length c.self.inside.numbers.items = omega (arith, c.if-place-len.false, c.len.ensures, c.self.inside.numbers.ok) in
+    let free = number_free c.self.inside c.self.invariant c.args.place c.index.result.now low c.index.ensures c.if-index-ne0.false in
+    let fits = desk_fits c.self.inside c.self.invariant c.args.place low free in
     omega (arith, fits, c.self.invariant.few, c.self.invariant.outcomes_room, c.self.inside.outcomes.ok)
-
-pub set_seat-requires : goal.set_seat-requires
-set_seat-requires c = omega (arith, c.if-place-self.false, c.self.invariant.seats_room)
 
 pub push_reserved-requires : goal.push_reserved-requires
 push_reserved-requires c =
-    let low : c.args.place < c.self.inside.places = omega (arith, c.if-place-self.false) in
-    let seat = c.seat_at.ensures
-    ∙ ap (λ seats. slice_index_or seats c.args.place 0) c.as_slice.ensures.value in
-    let known = seat_free c.self.inside c.self.invariant c.args.place c.seat_at.result seat
-    c.if-seat_at-ne0.false in
-    let fits = desk_fits c.self.inside c.self.invariant c.args.place low known in
+    let low : c.args.place < length c.self.inside.numbers.items = omega (arith, c.if-place-len.false, c.len.ensures, c.self.inside.numbers.ok) in
+    let free = number_free c.self.inside c.self.invariant c.args.place c.index.result.now low c.index.ensures c.if-index-ne0.false in
+    let fits = desk_fits c.self.inside c.self.invariant c.args.place low free in
     omega (arith, fits, c.self.invariant.order_room, c.self.inside.order.ok)
 
 pub invariant_of-self : goal.invariant_of-self
 invariant_of-self c =
-    let low : c.args.place < c.self.inside.places = omega (arith, c.if-place-self.false) in
-    let seat = c.seat_at.ensures
-    ∙ ap (λ seats. slice_index_or seats c.args.place 0) c.as_slice.ensures.value in
-    let known = seat_free c.self.inside c.self.invariant c.args.place c.seat_at.result seat
-    c.if-seat_at-ne0.false in
-    let written = c.set_seat.ensures in
-    let within = written.len c.self.inside.places low c.self.invariant.within in
-    desk_more c.self.inside c.self.invariant c.args.place low known c.args.outcome _
-    c.seated-seat.result c.seated-seat.ensures.outcomes c.seated-seat.ensures.seat
-    written.here written.others c.push_reserved.ensures.items refl within written.room
-    c.seated-seat.ensures.room c.push_reserved.ensures.capacity
+    let low : c.args.place < length c.self.inside.numbers.items = omega (arith, c.if-place-len.false, c.len.ensures, c.self.inside.numbers.ok) in
+    let free = number_free c.self.inside c.self.invariant c.args.place c.index.result.now low c.index.ensures c.if-index-ne0.false in
+    desk_more c.self.inside c.self.invariant c.args.place low free c.args.outcome _
+    c.numbered.result c.numbered.ensures.outcomes c.numbered.ensures.number refl
+    c.push_reserved.ensures.items c.numbered.ensures.room c.push_reserved.ensures.capacity
 
 pub returns-clause-answer : goal.returns-clause-answer
 returns-clause-answer c =
-    let low : c.args.place < c.self.inside.places = omega (arith, c.if-place-self.false) in
-    let seat = c.seat_at.ensures
-    ∙ ap (λ seats. slice_index_or seats c.args.place 0) c.as_slice.ensures.value in
-    let known = seat_free c.self.inside c.self.invariant c.args.place c.seat_at.result seat
-    c.if-seat_at-ne0.false in
-    rw (← c.self.view_is) (said (arrived_of c.self.inside) _ false low (come_at c.self.inside c.self.invariant c.args.place false known))
+    let low : c.args.place < length c.self.inside.numbers.items = omega (arith, c.if-place-len.false, c.len.ensures, c.self.inside.numbers.ok) in
+    let free = number_free c.self.inside c.self.invariant c.args.place c.index.result.now low c.index.ensures c.if-index-ne0.false in
+    rw (← c.self.view_is) (said (arrived_of c.self.inside) _ false low (come_at c.self.inside c.self.invariant c.args.place false free))
 
 pub returns-clause-rows : goal.returns-clause-rows
 returns-clause-rows c =
-    let low : c.args.place < c.self.inside.places = omega (arith, c.if-place-self.false) in
-    let seat = c.seat_at.ensures
-    ∙ ap (λ seats. slice_index_or seats c.args.place 0) c.as_slice.ensures.value in
-    let known = seat_free c.self.inside c.self.invariant c.args.place c.seat_at.result seat
-    c.if-seat_at-ne0.false in
+    let low : c.args.place < length c.self.inside.numbers.items = omega (arith, c.if-place-len.false, c.len.ensures, c.self.inside.numbers.ok) in
+    let free = number_free c.self.inside c.self.invariant c.args.place c.index.result.now low c.index.ensures c.if-index-ne0.false in
     let new : Inside = record {
-      places = c.self.inside.places;
-      seats = c.set_seat.new.seats;
-      outcomes =
-          c.seated-seat.new.outcomes;
+      numbers = with_item c.self.inside.numbers c.args.place c.numbered.result;
+      outcomes = c.numbered.new.outcomes;
       order = c.push_reserved.new.self;
     } in
     rw (← c.self.view_is)
-    (rows_more c.self.inside c.self.invariant c.args.place low known c.args.outcome new
-    c.seated-seat.result c.seated-seat.ensures.outcomes c.seated-seat.ensures.seat
-    c.set_seat.ensures.here c.set_seat.ensures.others c.push_reserved.ensures.items
-    ∙ first_kept (arrived_of c.self.inside) _ low (come_at c.self.inside c.self.invariant c.args.place false known))
+    (rows_more c.self.inside c.self.invariant c.args.place low free c.args.outcome new
+    c.numbered.result c.numbered.ensures.outcomes c.numbered.ensures.number refl c.push_reserved.ensures.items
+    ∙ first_kept (arrived_of c.self.inside) _ low (come_at c.self.inside c.self.invariant c.args.place false free))
 
 pub returns-clause-history : goal.returns-clause-history
 returns-clause-history c = history_more _ _ _ _ (returns-clause-rows c)

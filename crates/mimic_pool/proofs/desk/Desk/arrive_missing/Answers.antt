@@ -3,21 +3,21 @@ use Rattle.std.specs.Vec.Iter.{into_iter_items}
 use Rattle.mimic_trial.specs.Places.{placed_at}
 use Rattle.mimic_pool.proofs.Arriving.{arrived_whole, first_left, next_arrived}
 use Rattle.mimic_pool.proofs.Having.{missing_none}
-use Rattle.mimic_pool.proofs.Seating.{shown_whole}
+use Rattle.mimic_pool.proofs.Numbering.{shown_whole}
 use Rattle.mimic_pool.proofs.desk.Desk.arrive_missing.Goals as goal
 
 -- if the order is as long as there are places, none is missing
-pub returns-then-len-self-clause-rows : goal.returns-then-len-self-clause-rows
-returns-then-len-self-clause-rows c =
+pub returns-then-len-clause-rows : goal.returns-then-len-clause-rows
+returns-then-len-clause-rows c =
     let none = missing_none c.self.inside c.args.self.now c.self.invariant c.self.view_is
-    (omega (arith, c.if-len-self.true, c.len.ensures, c.self.inside.order.ok.0)) in
+    (omega (arith, c.if-len.true, c.len.ensures, c.len-2.ensures, c.self.inside.order.ok.0, c.self.inside.numbers.ok.0)) in
     sym (append-nil c.args.self.now.rows) ∙ ap (λ l. c.args.self.now.rows ++ placed_at l c.args.outcomes.items) (sym none)
 
-pub returns-then-len-self-clause-whole : goal.returns-then-len-self-clause-whole
-returns-then-len-self-clause-whole c =
+pub returns-then-len-clause-whole : goal.returns-then-len-clause-whole
+returns-then-len-clause-whole c =
     let whole = shown_whole c.self.inside c.args.self.now c.self.invariant c.self.view_is in
     arrived_whole c.args.self.now c.args.self.now c.args.outcomes.items
-    (sym c.args.outcomes.ok.0 ∙ c.requires) refl (returns-then-len-self-clause-rows c) whole
+    (sym c.args.outcomes.ok.0 ∙ c.requires) refl (returns-then-len-clause-rows c) whole
 
 pub loop-outcome-preserved : goal.loop-outcome-preserved
 loop-outcome-preserved c =

@@ -6,12 +6,12 @@ use Rattle.mimic_pool.specs.Returned.{HaveArrived}
 use Rattle.mimic_pool.proofs.Having.{all_stand, missing_none, order_as_long}
 use Rattle.mimic_pool.proofs.desk.Desk.has_all.Goals as goal
 
-pub returns-then-len-self-clause-all : goal.returns-then-len-self-clause-all
-returns-then-len-self-clause-all c = (
+pub returns-then-len-clause-all : goal.returns-then-len-clause-all
+returns-then-len-clause-all c = (
   λ t. absurd (cc),
   λ has.
       let as_long = order_as_long c.self.inside c.args.self.now c.self.invariant c.self.view_is has.complete in
-      absurd (omega (arith, as_long, c.if-len-self.true, c.len.ensures, c.self.inside.order.ok.0)),
+      absurd (omega (arith, as_long, c.if-len.true, c.len.ensures, c.len-2.ensures, c.self.inside.order.ok.0, c.self.inside.numbers.ok.0)),
 )
 
 pub loop-rows-preserved : goal.loop-rows-preserved
@@ -37,7 +37,7 @@ pub returns-clause-all : goal.returns-clause-all
 returns-clause-all c =
     let rows = rw (take_all _ c.args.joined.now c.loop-rows-test.false) at c.loop-rows.invariant in
     let complete = missing_none c.self.inside c.args.self.now c.self.invariant c.self.view_is
-    (omega (arith, c.if-len-self.false, c.len.ensures, c.self.inside.order.ok.0)) in
+    (omega (arith, c.if-len.false, c.len.ensures, c.len-2.ensures, c.self.inside.order.ok.0, c.self.inside.numbers.ok.0)) in
     (λ t. record { complete = complete; same = All-map (HaveArrived c.args.self.now) rows_in c.args.joined.now rows }, λ has. refl)
 
 pub returns-clause-outcomes : goal.returns-clause-outcomes

@@ -1,16 +1,18 @@
-use Rattle.std.proofs.Common.{◌∙◌, ◌++◌, ℕ, List, ap, subst, sym}
+use Rattle.std.proofs.Common.{◌≡◌, ◌-◌, ◌∙◌, ◌++◌, ℕ, List, ap, arith, length, subst, sym}
 use Rattle.std.specs.List.{range_with_len}
 use Rattle.std.specs.List.Sorted.{IsPermutation}
 use Rattle.mimic_trial.specs.Places.{places_of}
 use Rattle.mimic_pool.specs.Arrivals.{missing_of}
 use Rattle.mimic_pool.specs.Missing.{free_from}
 use Rattle.mimic_pool.proofs.FirstArrivals.{order_same}
-use Rattle.mimic_pool.proofs.Seating.{missing_shown, shown_whole}
+use Rattle.mimic_pool.proofs.Numbering.{missing_shown, shown_whole}
 use Rattle.mimic_pool.proofs.desk.Desk.missing.Goals as goal
 
 pub returns-clause-places : goal.returns-clause-places
 returns-clause-places c =
-    c.free_seats.ensures ∙ (ap (free_from 0 c.self.inside.places) c.as_slice.ensures.value
+    let P : List ℕ → List ℕ = λ numbers. free_from 0 (length numbers) numbers in
+    let all : length c.as_slice.result.now - 0 ≡ length c.as_slice.result.now = omega arith in
+    ap (λ n. free_from 0 n c.as_slice.result.now) all ∙ (ap P c.as_slice.ensures.value
     ∙ (missing_shown c.self.inside c.self.invariant ∙ ap missing_of c.self.view_is))
 
 pub returns-clause-order : goal.returns-clause-order

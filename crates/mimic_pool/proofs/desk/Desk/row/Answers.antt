@@ -1,5 +1,5 @@
-use Rattle.std.proofs.Common.{◌∙◌, ap, arith, slice_index_or}
-use Rattle.mimic_pool.proofs.Seating.{row_lies, row_low, seat_some}
+use Rattle.std.proofs.Common.{arith}
+use Rattle.mimic_pool.proofs.Numbering.{number_within, place_low, row_lies, row_low}
 use Rattle.mimic_pool.proofs.desk.Desk.row.Goals as goal
 
 pub index-place-requires : goal.index-place-requires
@@ -7,29 +7,25 @@ index-place-requires c =
     let low = row_low c.self.inside c.self.invariant c.args.self.now c.args.number c.self.view_is c.requires in
     omega (arith, low, c.self.inside.order.ok)
 
-pub overflow_sub-seat : goal.overflow_sub-seat
-overflow_sub-seat c =
-    let low = row_low c.self.inside c.self.invariant c.args.self.now c.args.number c.self.view_is c.requires in
-    let seat = c.seat_at-seat.ensures
-    ∙ ap (λ seats. slice_index_or seats c.index-place.result.now 0) c.as_slice.ensures.value in
-    let some = seat_some c.self.inside c.self.invariant c.args.number c.index-place.result.now
-    c.seat_at-seat.result low c.index-place.ensures seat in
-    some.0
-
 pub index-requires : goal.index-requires
 index-requires c =
     let low = row_low c.self.inside c.self.invariant c.args.self.now c.args.number c.self.view_is c.requires in
-    let seat = c.seat_at-seat.ensures
-    ∙ ap (λ seats. slice_index_or seats c.index-place.result.now 0) c.as_slice.ensures.value in
-    let some = seat_some c.self.inside c.self.invariant c.args.number c.index-place.result.now
-    c.seat_at-seat.result low c.index-place.ensures seat in
+    let place = place_low c.self.inside c.self.invariant c.args.number c.index-place.result.now low c.index-place.ensures in
+    omega (arith, place, c.self.inside.numbers.ok)
+
+pub overflow_sub-index : goal.overflow_sub-index
+overflow_sub-index c =
+    let low = row_low c.self.inside c.self.invariant c.args.self.now c.args.number c.self.view_is c.requires in
+    (number_within c.self.inside c.self.invariant c.args.number c.index-place.result.now low c.index-place.ensures c.index.result.now c.index.ensures).0
+
+pub index-requires-2 : goal.index-requires-2
+index-requires-2 c =
+    let low = row_low c.self.inside c.self.invariant c.args.self.now c.args.number c.self.view_is c.requires in
+    let some = number_within c.self.inside c.self.invariant c.args.number c.index-place.result.now low c.index-place.ensures c.index.result.now c.index.ensures in
     omega (arith, some.0, some.1, c.self.inside.outcomes.ok)
 
 pub returns : goal.returns
 returns c =
     let low = row_low c.self.inside c.self.invariant c.args.self.now c.args.number c.self.view_is c.requires in
-    let seat = c.seat_at-seat.ensures
-    ∙ ap (λ seats. slice_index_or seats c.index-place.result.now 0) c.as_slice.ensures.value in
     rw (← c.self.view_is)
-    (row_lies c.self.inside c.self.invariant c.args.number c.index-place.result.now
-    c.seat_at-seat.result low c.index-place.ensures seat c.index.result.now c.index.ensures)
+    (row_lies c.self.inside c.self.invariant c.args.number c.index-place.result.now low c.index-place.ensures c.index.result.now c.index.ensures c.index-2.result.now c.index-2.ensures)

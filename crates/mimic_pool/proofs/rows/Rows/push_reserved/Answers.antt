@@ -2,12 +2,12 @@ use Rattle.std.proofs.Common.{ap, arith, length-append, ◌∷◌, []}
 use Rattle.mimic_pool.proofs.Returning.{kept_fits, rows_more, weight_more}
 use Rattle.mimic_pool.proofs.rows.Rows.push_reserved.Goals as goal
 
-pub marked-mark-requires : goal.marked-mark-requires
-marked-mark-requires c =
+pub keep-kind-requires : goal.keep-kind-requires
+keep-kind-requires c =
     let places = c.self.inside.places.items in
-    let marks = c.self.inside.marks.items in
+    let kinds = c.self.inside.kinds.items in
     let inv = c.self.invariant in
-    let few = kept_fits places marks inv.marks c.self.inside.taken inv.taken c.self.inside.kept.items inv.kept in
+    let few = kept_fits places kinds inv.kinds c.self.inside.taken inv.taken c.self.inside.kept.items inv.kept in
     let room = ap (λ r. r.room) c.self.view_is in
     let ok = c.self.inside.kept.ok in
     let its = c.self.inside.places.ok in
@@ -16,24 +16,24 @@ marked-mark-requires c =
 pub invariant_of-self : goal.invariant_of-self
 invariant_of-self c =
     let places = c.self.inside.places.items in
-    let marks = c.self.inside.marks.items in
+    let kinds = c.self.inside.kinds.items in
     let inv = c.self.invariant in
-    let mark = c.marked-mark.ensures.mark in
-    let kept = c.marked-mark.ensures.kept in
+    let kind = c.keep-kind.ensures.kind in
+    let kept = c.keep-kind.ensures.kept in
     let pushed = c.push_reserved.ensures.items in
     let placed = c.push_reserved-2.ensures.items in
     record {
       taken = rw placed (omega (arith, inv.taken, length-append places (c.args.place ∷ [])));
-      marks = rw (pushed, placed) (omega (arith, inv.marks, length-append places (c.args.place ∷ []), length-append marks (c.marked-mark.result ∷ [])));
-      kept = rw (pushed, placed, mark, kept) (weight_more places marks inv.marks c.self.inside.taken inv.taken c.args.place c.args.outcome _ inv.kept);
-      marks_room = omega (arith, inv.marks_room, c.push_reserved.ensures.capacity, c.push_reserved-2.ensures.capacity);
-      kept_room = omega (arith, inv.kept_room, c.marked-mark.ensures.room, c.push_reserved-2.ensures.capacity);
+      kinds = rw (pushed, placed) (omega (arith, inv.kinds, length-append places (c.args.place ∷ []), length-append kinds (c.keep-kind.result ∷ [])));
+      kept = rw (pushed, placed, kind, kept) (weight_more places kinds inv.kinds c.self.inside.taken inv.taken c.args.place c.args.outcome _ inv.kept);
+      kinds_room = omega (arith, inv.kinds_room, c.push_reserved.ensures.capacity, c.push_reserved-2.ensures.capacity);
+      kept_room = omega (arith, inv.kept_room, c.keep-kind.ensures.room, c.push_reserved-2.ensures.capacity);
     }
 
 pub returns-clause-items : goal.returns-clause-items
 returns-clause-items c =
     let places = c.self.inside.places.items in
-    let marks = c.self.inside.marks.items in
+    let kinds = c.self.inside.kinds.items in
     let inv = c.self.invariant in
-    rw (c.push_reserved.ensures.items, c.push_reserved-2.ensures.items, c.marked-mark.ensures.mark, c.marked-mark.ensures.kept, ← c.self.view_is)
-    (rows_more places marks inv.marks c.self.inside.taken inv.taken c.args.place c.args.outcome _ inv.kept)
+    rw (c.push_reserved.ensures.items, c.push_reserved-2.ensures.items, c.keep-kind.ensures.kind, c.keep-kind.ensures.kept, ← c.self.view_is)
+    (rows_more places kinds inv.kinds c.self.inside.taken inv.taken c.args.place c.args.outcome _ inv.kept)

@@ -1,5 +1,0 @@
-use Rattle.mimic_pool.proofs.Sharing.{runnable_shares}
-use Rattle.mimic_pool.proofs.shares.start_shares.Goals as goal
-
-pub start_workers-requires-clause-runnable : goal.start_workers-requires-clause-runnable
-start_workers-requires-clause-runnable g c κs within = runnable_shares g.T.Task.can_run _ c.requires.ready.0 c.requires.ready.1.dealt
