@@ -2,7 +2,7 @@
 use Rattle.std.proofs.Common.{ℕ, suc, zero, ◌≡◌, ◌<◌, ◌∙◌, ◌∷◌, ◌++◌, [], All, Bor, List, None, Option, Some, ap, arith, length, refl, replicate, slice_index_or, subst, sym}
 use Rattle.std.specs.Prelude.{IfSome, IsSome, slice_get}
 use Rattle.std.specs.Option.{option_copied}
-use Rattle.std.proofs.lemmas.Option.{slice_get-get_or}
+use Rattle.std.proofs.lemmas.Option.{slice_get-get_or, slice_get_past}
 use Rattle.std.proofs.lemmas.List.Elements.{All-head, All-push, All-tail}
 
 module _ {A : Type 0} (P : A → Type 0) where
@@ -17,18 +17,11 @@ module _ {A : Type 0} (P : A → Type 0) where
   pub with_one : (x : A) (before all : List A) → all ≡ before ++ x ∷ [] → All P before → P x → All P all
   with_one x before all is are this = subst (All P) (sym is) (All-push P before x are this)
 
-pub none_of : {A : Type 0} (xs : List A) → length xs ≡ 0 → xs ≡ []
-none_of [] none = refl
-none_of (x ∷ xs) none = absurd (omega arith)
-
-none_high : {A : Type 0} (xs : List A) (i : ℕ) → (i < length xs → ⊥) → slice_get xs i ≡ None
-none_high [] i high = refl
-none_high (x ∷ xs) zero high = absurd (high (omega arith))
-none_high (x ∷ xs) (suc i) high = none_high xs i (λ low. high (omega (arith, low)))
-
 -- what a look at the list gives
 pub item_got : {A : Type 0} (got : Option (Bor A)) (xs : List A) (i : ℕ) → (IsSome got → i < length xs) → (i < length xs → IsSome got) → IfSome got (λ x. x.now ≡ slice_index_or xs i x.now) → option_copied got ≡ slice_get xs i
-item_got None xs i within some is = sym (none_high xs i (λ low. let none = some low in cc))
+item_got None xs i within some is =
+    let high : i < length xs → ⊥ = λ low. let none = some low in cc in
+    sym (slice_get_past xs i (omega (arith, high)))
 item_got (Some got) xs i within some is = ap Some is ∙ sym (slice_get-get_or xs i got.now (within refl))
 
 -- in a list of one value, each item is that value

@@ -1,9 +1,9 @@
 -- What the joined outcomes are: at each place one of the item there.
 use Rattle.std.proofs.Common.{◌≡◌, ◌⊎◌, inl, inr, ℕ, suc, zero, ◌+◌, ◌<◌, Bool, true, List, [], ◌∷◌, ◌++◌, length, slice_index_or, slice_set, All, refl, sym, ◌∙◌, ap, append-nil, subst, arith}
-use Rattle.std.specs.List.{Contains, flat_map}
+use Rattle.std.specs.List.{AllByRecursion, Contains, flat_map}
 use Rattle.std.specs.List.Sorted.{IsPermutation}
 use Rattle.std.proofs.lemmas.List.Sorted.{All-permutation, Contains-permutation}
-use Rattle.std.proofs.lemmas.List.Elements.{All-cons, All-head, All-nil, All-tail}
+use Rattle.std.proofs.lemmas.List.Elements.{All-from_recursion, recursion_from_All}
 use Rattle.std.proofs.lemmas.Grind.{get_or-set_at}
 use Rattle.std.proofs.lemmas.List.{get_or_default, get_or-set_other}
 use Rattle.std.proofs.lemmas.Bool.Decides.{eqb_tells}
@@ -22,8 +22,7 @@ module _ {X : Type 0} where
   IsPlaced items x = (x.place < length items) × ((d : Assigned X) → slice_index_or items x.place d ≡ x)
 
   abbrev pub ArePlaced : List (Assigned X) → List (Assigned X) → Type 0
-  ArePlaced items [] = Unit {0}
-  ArePlaced items (x ∷ xs) = IsPlaced items x × ArePlaced items xs
+  ArePlaced items xs = AllByRecursion (IsPlaced items) xs
 
   -- some item has the place
   abbrev pub HasPlace : ℕ → List (Assigned X) → Type 0
@@ -37,14 +36,10 @@ module _ {X : Type 0} where
   assigned_place k (suc p) (r ∷ rs) (b ∷ bs) d low =
       let h = assigned_place (k + 1) p rs bs d (omega arith) in omega arith
 
-  placed_from_index : (items xs : List (Assigned X)) → ((k : ℕ) (d : Assigned X) → k < length xs → IsPlaced items (slice_index_or xs k d)) → ArePlaced items xs
-  placed_from_index items [] h = tt
-  placed_from_index items (x ∷ xs) h = (h 0 x (omega arith), placed_from_index items xs (λ k d low. h (suc k) d (omega arith)))
-
   pub placed_whole : (rs : List X) (bs : List Bool) → let items = assigned_from 0 rs bs in ArePlaced items items
   placed_whole rs bs =
       let items = assigned_from 0 rs bs in
-      placed_from_index items items (λ k d low.
+      recursion_from_All (IsPlaced items) items (λ k d low.
       let e : (slice_index_or items k d).place ≡ k = assigned_place 0 k rs bs d low ∙ omega arith in
       (omega arith, λ c. ap (λ p. slice_index_or items p c) e ∙ get_or_default items k c d low))
 
@@ -106,14 +101,6 @@ length_put_each [] outcomes = refl
 length_put_each (rows ∷ joined) outcomes = length_put_each joined (put_all rows outcomes) ∙ length_put rows outcomes
 
 module _ {X : Type 0} where
-  all_of_placed : (items xs : List (Assigned X)) → ArePlaced items xs → All (IsPlaced items) xs
-  all_of_placed items [] placed = All-nil (IsPlaced items)
-  all_of_placed items (x ∷ xs) placed = All-cons (IsPlaced items) x xs placed.0 (all_of_placed items xs placed.1)
-
-  placed_of_all : (items xs : List (Assigned X)) → All (IsPlaced items) xs → ArePlaced items xs
-  placed_of_all items [] all = tt
-  placed_of_all items (x ∷ xs) all = (All-head (IsPlaced items) x xs all, placed_of_all items xs (All-tail (IsPlaced items) x xs all))
-
   first_placed : (items given dropped : List (Assigned X)) → ArePlaced items (given ++ dropped) → ArePlaced items given
   first_placed items [] dropped placed = tt
   first_placed items (x ∷ given) dropped placed = (placed.0, first_placed items given dropped placed.1)
@@ -135,7 +122,7 @@ module _ {X : Type 0} (gives : Gives X) (mode : Bool) (rs : List X) (bs : List B
       let items = assigned_from 0 rs bs in
       let rows = flat_map (λ rows. rows) joined in
       let same : IsPermutation items part.given = subst (λ l. IsPermutation items l) (append-nil part.given) part.parts in
-      let placed : ArePlaced items part.given = placed_of_all items part.given (All-permutation (IsPlaced items) items part.given same (all_of_placed items items (placed_whole rs bs))) in
+      let placed : ArePlaced items part.given = recursion_from_All (IsPlaced items) part.given (All-permutation (IsPlaced items) items part.given same (All-from_recursion (IsPlaced items) items (placed_whole rs bs))) in
       let all : AreOutcomes gives mode items (put_all rows outcomes) = (
         length_put rows outcomes ∙ len,
         λ p low. own_put gives mode items part.given rows outcomes p len placed part.answers (inl (has_taken items part.given p same low (λ d. assigned_place 0 p rs bs d low ∙ omega arith))),
@@ -176,5 +163,5 @@ module _ {X : Type 0} (gives : Gives X) (mode : Bool) (rs : List X) (bs : List B
   joined_own_or dropped joined outcomes p part len =
       let items = assigned_from 0 rs bs in
       let rows = flat_map (λ rows. rows) joined in
-      let placed : ArePlaced items part.given = first_placed items part.given dropped (placed_of_all items (part.given ++ dropped) (All-permutation (IsPlaced items) items (part.given ++ dropped) part.parts (all_of_placed items items (placed_whole rs bs)))) in
+      let placed : ArePlaced items part.given = first_placed items part.given dropped (recursion_from_All (IsPlaced items) (part.given ++ dropped) (All-permutation (IsPlaced items) items (part.given ++ dropped) part.parts (All-from_recursion (IsPlaced items) items (placed_whole rs bs)))) in
       subst (λ l. IsOwnOr outcomes l p) (sym (put_flat joined outcomes)) (own_or part.given rows outcomes p len placed part.answers)

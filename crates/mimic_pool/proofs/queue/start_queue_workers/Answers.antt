@@ -7,7 +7,8 @@ use Rattle.mimic_pool.specs.Joined.{AnswersSome}
 use Rattle.mimic_pool.specs.Passes.{account_of}
 use Rattle.mimic_pool.specs.Queue.{IsFresh, IsJob}
 use Rattle.mimic_pool.proofs.Accounts.{absorbed}
-use Rattle.mimic_pool.proofs.Elements.{none_of, rest_of, with_one}
+use Rattle.mimic_pool.proofs.Elements.{rest_of, with_one}
+use Rattle.std.proofs.lemmas.List.{nil_from_length}
 use Rattle.mimic_pool.proofs.Emptying.{rows_pushed, takes_both, takes_none}
 use Rattle.mimic_pool.proofs.Moving.{fits_rest, moved_before, moved_before_below, moved_behind, moved_behind_below, moved_fits}
 use Rattle.mimic_pool.proofs.queue.start_queue_workers.Goals as goal
@@ -16,7 +17,7 @@ pub loop-worker-init : goal.loop-worker-init
 loop-worker-init g c =
     let ready = c.requires.ready.1 in
     let none : length c.args.ready.joined.items ≡ 0 = sym c.args.ready.joined.ok.0 ∙ ready.none_joined in
-    let rows : flat_map (λ rows. rows.items) c.args.ready.joined.items ≡ [] = ap (flat_map (λ rows. rows.items)) (none_of c.args.ready.joined.items none) in
+    let rows : flat_map (λ rows. rows.items) c.args.ready.joined.items ≡ [] = ap (flat_map (λ rows. rows.items)) (nil_from_length c.args.ready.joined.items none) in
     record {
       ours = ready.ours;
       some_part = ready.some_part;
