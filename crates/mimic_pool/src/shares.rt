@@ -65,7 +65,7 @@ pub(crate) fn prepare_share_workers<T: Task>(
     Ok((inbox, ready))
 }
 
-// Starts a worker for each share. If one can't be started, no more are, those that were started are joined, and there are none; the
+// Starts a worker for each share. `None` if one can't be started; then no more are, and those that were started are joined. The
 // others never close.
 pub(crate) fn start_share_workers<T: Task + Send + 'static, R: Spawner + 'static>(
     rt: &R,

@@ -1,4 +1,4 @@
-use Rattle.std.proofs.Common.{◌∙◌, ◌++◌, map, refl, rules, subst, sym, vec_capacity, vec_len}
+use Rattle.std.proofs.Common.{◌∙◌, ◌++◌, map, refl, rules, subst, sym, arith}
 use Rattle.std.specs.Arc.{arc_value}
 use Rattle.std.specs.List.{flat_map}
 use Rattle.std.specs.Vec.Iter.{into_iter_items, into_iter_len}
@@ -12,7 +12,7 @@ use Rattle.mimic_pool.proofs.Accounts.{absorbed}
 use Rattle.mimic_pool.proofs.Elements.{first_of, rest_of}
 use Rattle.mimic_pool.proofs.Emptying.{rows_pushed, takes_any, takes_both, takes_whole}
 use Rattle.mimic_pool.proofs.Handing.{job_done}
-use Rattle.mimic_pool.proofs.Moving.{moved, moved_below}
+use Rattle.mimic_pool.proofs.Moving.{moved}
 use Rattle.mimic_pool.proofs.queue.join_queue_workers.Goals as goal
 
 pub absorb-requires-clause-other : goal.absorb-requires-clause-other
@@ -57,7 +57,7 @@ loop-handle-preserved g c =
       put = ◌∙◌ {c = (account_of c.args.workers.pass).put} both.put_is was.put;
       answered = takes_both g.T.Task.gives c.args.workers.test_mode c.args.whole old.taken other.taken new.taken (flat_map (λ rows. rows.items) joined.items) c.join-rows.result.rows.items (flat_map (λ rows. rows.items) more.items) both.taken_is (rows_pushed (λ rows. rows.items) joined.items more.items c.join-rows.result.rows pushed.items) worked.answers was.answered;
       jobs = rest_of IsMine c.in-Some.handle (into_iter_items rest) (into_iter_items left) next.0 was.jobs;
-      fits = moved_below (vec_len joined) (vec_len more) (into_iter_len left) (into_iter_len rest) pushed.len next.1 (vec_capacity joined) (vec_capacity more) pushed.capacity was.fits;
+      fits = omega (arith, was.fits, pushed.len, pushed.capacity, next.1);
     }
 
 pub returns : goal.returns

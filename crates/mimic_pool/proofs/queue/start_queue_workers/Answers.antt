@@ -1,4 +1,4 @@
-use Rattle.std.proofs.Common.{◌≡◌, ◌∙◌, [], ap, length, refl, rules, subst, sym, true, vec_capacity, vec_len}
+use Rattle.std.proofs.Common.{◌≡◌, ◌∙◌, [], ap, length, refl, rules, subst, sym, true, vec_len, arith}
 use Rattle.std.specs.Arc.{arc_value}
 use Rattle.std.specs.List.{flat_map}
 use Rattle.std.specs.Vec.Iter.{into_iter_items, into_iter_len}
@@ -10,7 +10,7 @@ use Rattle.mimic_pool.proofs.Accounts.{absorbed}
 use Rattle.mimic_pool.proofs.Elements.{rest_of, with_one}
 use Rattle.std.proofs.lemmas.List.{nil_from_length}
 use Rattle.mimic_pool.proofs.Emptying.{rows_pushed, takes_both, takes_none}
-use Rattle.mimic_pool.proofs.Moving.{fits_rest, moved_before, moved_before_below, moved_behind, moved_behind_below, moved_fits}
+use Rattle.mimic_pool.proofs.Moving.{moved_before, moved_behind}
 use Rattle.mimic_pool.proofs.queue.start_queue_workers.Goals as goal
 
 pub loop-worker-init : goal.loop-worker-init
@@ -49,8 +49,8 @@ loop-worker-preserved-in-Ok g c =
       answered = was.answered;
       jobs = with_one (IsJob q c.args.test_mode) c.in-Ok.handle handles.items more.items pushed.items was.jobs (subst (λ q. IsJob q c.args.test_mode c.in-Ok.handle) same c.in-Ok.ensures.started);
       left = rest_of (IsFresh q) c.in-Some.worker (into_iter_items rest) (into_iter_items left) next.0 was.left;
-      fits = moved_fits (vec_len handles) (vec_len more) (into_iter_len left) (into_iter_len rest) pushed.len next.1 (vec_capacity handles) (vec_capacity more) pushed.capacity was.fits;
-      fits_joined = moved_behind_below (vec_len handles) (vec_len more) (into_iter_len left) (into_iter_len rest) pushed.len next.1 (vec_len c.loop-worker.joined) (vec_capacity c.loop-worker.joined) was.fits_joined;
+      fits = omega (arith, was.fits, pushed.len, pushed.capacity, next.1);
+      fits_joined = omega (arith, was.fits_joined, pushed.len, next.1);
     }
 
 pub loop-worker-preserved : goal.loop-worker-preserved
@@ -76,6 +76,6 @@ loop-worker-preserved g c =
       answered = takes_both g.T.Task.gives c.args.test_mode true old.taken other.taken new.taken (flat_map (λ rows. rows.items) joined.items) c.in-Err.ended.rows.items (flat_map (λ rows. rows.items) more.items) both.taken_is (rows_pushed (λ rows. rows.items) joined.items more.items c.in-Err.ended.rows pushed.items) worked.answers was.answered;
       jobs = was.jobs;
       left = rest_of (IsFresh q) c.in-Some.worker (into_iter_items rest) (into_iter_items left) next.0 was.left;
-      fits = fits_rest (vec_len c.loop-worker.handles) (into_iter_len left) (into_iter_len rest) (vec_capacity c.loop-worker.handles) next.1 was.fits;
-      fits_joined = moved_before_below (vec_len joined) (vec_len more) (into_iter_len left) (into_iter_len rest) pushed.len next.1 (vec_len c.loop-worker.handles) (vec_capacity joined) (vec_capacity more) pushed.capacity was.fits_joined;
+      fits = omega (arith, was.fits, next.1);
+      fits_joined = omega (arith, was.fits_joined, pushed.len, pushed.capacity, next.1);
     }
