@@ -15,7 +15,6 @@ use Rattle.mimic_printer.specs.Row.{label_at, rows_at, Label, PrintedRow, label_
 use Rattle.mimic_trial.specs.Promise.{Gives, IsOutcomeOf}
 use Rattle.mimic_trial.specs.Trial.{info_of, runner_of}
 use Rattle.mimic_trial.proofs.Counting.{HasRoom-counts, counts-push}
-use Rattle.mimic_printer.specs.declared.Printer.{Printer}
 use Rattle.mimic_printer.specs.Report.{announcement_text, rows_text, timed_outcome_text}
 use Rattle.mimic_printer.specs.declared.sink.Sink.{Sink}
 use Rattle.mimic_printer.specs.Sink.{Adds, keeps_fault}

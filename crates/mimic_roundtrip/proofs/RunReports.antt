@@ -13,7 +13,7 @@ use Rattle.libtest_mimic.specs.Json.{Contents, IsJsonReport}
 use Rattle.libtest_mimic.specs.Report.{report_text}
 use Rattle.libtest_mimic.specs.Run.{Reported}
 use Rattle.libtest_mimic.specs.Sink.{Shown}
-use Rattle.libtest_mimic.specs.Suite.{OfAsked, asking, rows_of, suite_of}
+use Rattle.libtest_mimic.specs.Suite.{OfAsked, asking, suite_of}
 use Rattle.libtest_mimic.proofs.JsonRuns.{run_json}
 use Rattle.mimic_printer.proofs.JsonReports.{contents_of as contents_of_rows}
 use Rattle.mimic_events.specs.declared.report.Report.{Report}

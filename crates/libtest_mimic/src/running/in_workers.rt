@@ -26,7 +26,7 @@ use mimic_printer::{Printer, Sink};
 use mimic_trial::{Conclusion, Task, TestInfo, Trial};
 use std::alloc::{AllocError, Global};
 use std::io::Write;
-use std::sync::Wait;
+use std::sync::{Arc, Wait};
 
 // Runs the trials in workers, one for each thread, but no more than there are trials, and writes their report.
 pub(super) fn run_in_workers<R: Task + Send + 'static, W: Write, C: Clock, T: Spawner + 'static>(
