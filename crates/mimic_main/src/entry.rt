@@ -11,8 +11,6 @@ ghost use Rattle.mimic_main.specs.Program.{HasDefaults};
 use crate::clock::MonotonicClock;
 use crate::machine::Machine;
 use crate::monitor::{Monitor, Notices};
-use crate::output::Output;
-use crate::policy::FlushPolicy;
 use crate::program::Program;
 use crate::run::run_into;
 use crate::sharding::{ShardError, Sharding};
@@ -218,10 +216,9 @@ impl<'a> Program<'a> {
         let monitor = self.monitor(machine, &request);
         request.running = monitor.as_ref().and_then(|monitor| monitor.running());
         let out = machine.stdout();
-        let policy = FlushPolicy::of_run(&args, self.threads, out.is_terminal());
-        let output = Output::new(policy, out);
+        let on_terminal = out.is_terminal();
         let clock = MonotonicClock::new(machine);
-        let (_, _, ran) = run_into(&host, &host, alloc, request, clock, output);
+        let (_, _, ran) = run_into(&host, &host, request, clock, out, on_terminal);
         if let Some(monitor) = monitor {
             monitor.end(&host);
         }

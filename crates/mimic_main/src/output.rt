@@ -35,7 +35,6 @@ impl<W: Write> Output<W> {
     /// An empty buffer.
     pub fn new(policy: FlushPolicy, writer: W) -> Self
         ensures bytes { given_to W.contents result ≡ W.contents writer }
-        ensures writer { writer_of result ≡ writer }
         ensures policy { flushes_by result ≡ policy }
         ensures lines { has_odd_lines result ≡ false }
         ensures runs { has_stopped result ≡ false }
@@ -58,15 +57,8 @@ impl<W: Write> Output<W> {
             × (W.contents result.0 ≡ W.contents (writer_of self)) }
     {
         let finished = self.hand_on_and_flush();
-        (self.into_writer(), finished)
-    }
-
-    // Gives the writer back, and drops what waits.
-    pub(crate) fn into_writer(self) -> W
-        ensures { result ≡ writer_of self }
-    {
         let Output { writer, .. } = self;
-        writer
+        (writer, finished)
     }
 
     // Writes out what waits, up to a fault.

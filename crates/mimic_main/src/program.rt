@@ -5,8 +5,6 @@ ghost use Rattle.libtest_mimic.specs.Suite.{asking};
 ghost use Rattle.libtest_mimic.specs.Trial.{AllCanRun};
 ghost use Rattle.mimic_main.specs.Ended.{Ended, GotWithout, number_of, status_of, status_without, status_without_part};
 
-use crate::output::Output;
-use crate::policy::FlushPolicy;
 use crate::run::run_into;
 use crate::sharding::ShardError;
 use crate::status::Status;
@@ -160,9 +158,7 @@ impl Program<'_> {
         match line {
             Ok(args) => {
                 let request = self.request(&args, tests);
-                let policy = FlushPolicy::of_run(&args, self.threads, self.on_terminal);
-                let output = Output::new(policy, out);
-                let (out, watch, ran) = run_into(rt, files, alloc, request, clock, output);
+                let (out, watch, ran) = run_into(rt, files, request, clock, out, self.on_terminal);
                 (out, watch, self.status_of(ran, args.logfile.as_ref(), err))
             }
             Err(error) => {

@@ -5,7 +5,7 @@ ghost use Rattle.libtest_mimic.specs.declared.running.RunError.TheVariants.{Writ
 ghost use Rattle.libtest_mimic.specs.Request.{IsSelected, asked_by};
 ghost use Rattle.libtest_mimic.specs.Trial.{AllCanRun};
 ghost use Rattle.mimic_main.specs.Ended.{IfOfRun};
-ghost use Rattle.mimic_main.specs.Output.{given_to, writer_of};
+ghost use Rattle.mimic_main.specs.Output.{given_to};
 ghost use Rattle.mimic_main.specs.Run.{GotBeginning, IsLawful, Ran};
 
 use crate::output::Output;
@@ -19,8 +19,8 @@ use std::fs::Files;
 use std::io::Write;
 use std::{fs, io};
 
-// Runs or lists the trials of the request into the logfile if there is one, which is made or emptied first, else into `output`. Gives
-// back the writer of `output`, and the watch over the clock, which is fresh if the logfile could not be made.
+// Runs or lists the trials of the request into the logfile if there is one, which is made or emptied first, else to `out`, which may be
+// a terminal. Gives back `out` and the watch over the clock, which is fresh if the logfile could not be made.
 pub(crate) fn run_into<
     R: Task + Send + 'static,
     O: Write,
@@ -30,36 +30,39 @@ pub(crate) fn run_into<
 >(
     rt: &T,
     files: &F,
-    alloc: Global,
     request: Request<'_, R>,
     clock: C,
-    output: Output<O>,
+    out: O,
+    on_terminal: bool,
 ) -> (O, Stopwatch<C>, Result<Conclusion, Fault>)
     requires selected { IsSelected request.selection }
     requires runnable { AllCanRun R.can_run request.selection.trials.items }
     requires some_thread { 1 ≤ request.default_threads }
     ensures ran { IsNone request.entry.selection.args.now.logfile
-        → IfOk result.2 (Ran (asked_by R.gives request.entry) (given_to O.contents output) (O.contents result.0) result.1) }
+        → IfOk result.2 (Ran (asked_by R.gives request.entry) (O.contents out) (O.contents result.0) result.1) }
     ensures beginning { IsNone request.entry.selection.args.now.logfile
         → IfErr result.2 (λ fault. IfOfRun fault
-        (GotBeginning (asked_by R.gives request.entry) (given_to O.contents output) (O.contents result.0) result.1)) }
-    ensures nothing { IsSome request.entry.selection.args.now.logfile → result.0 ≡ writer_of output }
+        (GotBeginning (asked_by R.gives request.entry) (O.contents out) (O.contents result.0) result.1)) }
+    ensures nothing { IsSome request.entry.selection.args.now.logfile → result.0 ≡ out }
     ensures lawful { IfOk result.2 (IsLawful (asked_by R.gives request.entry)) }
 {
     let args = request.selection.args;
+    let alloc = *request.selection.trials.allocator();
+    // A buffer is large, so each is made where it is used: the thread that calls may have a small stack.
     let Some(path) = &args.logfile else {
-        let (writer, watch, ran) = run_buffered(rt, alloc, request, clock, output);
-        return (writer, watch, ran.map_err(Fault::Run));
+        let policy = FlushPolicy::of_run(args, request.default_threads, on_terminal);
+        let output = Output::new(policy, out);
+        let (out, watch, ran) = run_buffered(rt, alloc, request, clock, output);
+        return (out, watch, ran.map_err(Fault::Run));
     };
-    let writer = output.into_writer();
     match fs::create(files, path.as_str()) {
         Ok(file) => {
             let policy = FlushPolicy::of_run(args, request.default_threads, false);
             let logfile = Output::new(policy, file);
             let (_, watch, ran) = run_buffered(rt, alloc, request, clock, logfile);
-            (writer, watch, ran.map_err(Fault::Run))
+            (out, watch, ran.map_err(Fault::Run))
         }
-        Err(error) => (writer, Stopwatch::new(clock), Err(Fault::Logfile(error))),
+        Err(error) => (out, Stopwatch::new(clock), Err(Fault::Logfile(error))),
     }
 }
 

@@ -1,4 +1,4 @@
-use Rattle.std.proofs.Common.{◌∙◌, ap, sym}
+use Rattle.std.proofs.Common.{ap}
 use Rattle.libtest_mimic.specs.Suite.{asking}
 use Rattle.libtest_mimic.specs.Trial.{runner_of}
 use Rattle.mimic_trial.specs.declared.trial.Trial.{Trial}
@@ -16,7 +16,6 @@ returns g c =
     let ask = asking g.R.Task.gives c.args.self.now.threads c.args.self.now.auto_colours in
     let request = c.request-request.result in
     let made = c.request-request.ensures in
-    let output = c.new-output.ensures in
     let ran = c.run_into-ran.ensures in
     let status = number_of c.status_of.result in
     let ended : RanLine (asking g.R.Task.gives request.default_threads request.auto_colours request.selection.handed_in.value.items request.selection.args.now) _ _ _ status = record {
@@ -24,7 +23,7 @@ returns g c =
       ended = c.status_of.ensures;
       ran = ran.ran;
       beginning = ran.beginning;
-      nothing = λ some. ap g.M.Stdout.Write.contents (ran.nothing some ∙ output.writer) ∙ sym output.bytes;
+      nothing = λ some. ap g.M.Stdout.Write.contents (ran.nothing some);
       lawful = ran.lawful;
     } in
     ends_in_part ask c.args.tests.items c.in-Ok.part.1.items c.args.args c.in-Ok.part.0 c.args.sharding _ _ _ status
