@@ -7,21 +7,8 @@ use Rattle.std.proofs.lemmas.List.{get_or_default, length-map}
 use Rattle.std.proofs.lemmas.List.Elements.{All-cons, All-head, All-nil, All-tail}
 use Rattle.std.proofs.lemmas.List.FromFn.{get_or-range_with_len, length-range_with_len}
 use Rattle.std.proofs.lemmas.List.Sorted.{All-permutation, IsPermutation-sym}
-use Rattle.mimic_args.specs.declared.Arguments.{Arguments}
-use Rattle.mimic_trial.specs.declared.outcome.Outcome.{Outcome}
+use Rattle.libtest_mimic.specs.Prelude.{AreFlags, AreOutcomes, Arguments, Assigned, assigned_from, Gathered, Gives, info_of, IsArrangement, IsIgnored, IsOutcomeOf, IsOwn, IsOwnAt, IsRowOf, label_of, labels_of, Outcome, Placed, placed_at, placed_if, places_of, runner_of, Trial}
 use Rattle.mimic_trial.specs.declared.outcome.Outcome.TheVariants.{Passed}
-use Rattle.mimic_trial.specs.declared.trial.Trial.{Trial}
-use Rattle.mimic_trial.specs.Places.{Placed, placed_at, placed_if, places_of}
-use Rattle.mimic_trial.specs.Promise.{Gives, IsOutcomeOf}
-use Rattle.mimic_trial.specs.Trial.{info_of, runner_of}
-use Rattle.mimic_pool.specs.declared.share.Assigned.{Assigned}
-use Rattle.mimic_pool.specs.Joined.{AreOutcomes}
-use Rattle.mimic_pool.specs.Share.{assigned_from}
-use Rattle.mimic_printer.specs.Row.{label_of, labels_of}
-use Rattle.libtest_mimic.specs.Arrangement.{IsArrangement, IsOwn, IsOwnAt}
-use Rattle.libtest_mimic.specs.Selection.{IsIgnored}
-use Rattle.libtest_mimic.specs.Gathering.{Gathered, IsRowOf}
-use Rattle.libtest_mimic.specs.Steps.{AreFlags}
 use Rattle.libtest_mimic.proofs.OnlyOutcomes.{outcome_at}
 use Rattle.libtest_mimic.proofs.ArrivedRows.{slice_get-at}
 

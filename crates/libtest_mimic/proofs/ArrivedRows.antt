@@ -4,20 +4,10 @@ use Rattle.std.specs.Prelude.{All, slice_get}
 use Rattle.std.proofs.lemmas.Bool.Decides.{nat_tests}
 use Rattle.std.proofs.lemmas.List.{length-map, map-append, take_more}
 use Rattle.std.proofs.lemmas.List.Concat.{flat_map-append}
-use Rattle.mimic_trial.specs.declared.outcome.Outcome.{Outcome}
-use Rattle.mimic_trial.specs.declared.trial.TestInfo.{TestInfo}
+use Rattle.libtest_mimic.specs.Prelude.{Adds, AddsRows, AreArrived, AreTimed, arrival_of, Arrived, has_come, has_time, IsTime, IsTimed, Label, label_at, label_of, Outcome, Placed, places_of, PrintedRow, Printer, row_of, row_text, rows_after, rows_at, rows_text, Sink, TestInfo, timed_row}
 use Rattle.std.proofs.lemmas.List.Elements.{All-head, All-tail}
-use Rattle.mimic_trial.specs.Places.{Placed, places_of}
-use Rattle.mimic_pool.specs.Arrivals.{Arrived, arrival_of, has_come, rows_after}
 use Rattle.mimic_pool.specs.declared.desk.Arrival.TheVariants.{First, Again, Stranger}
-use Rattle.mimic_printer.specs.declared.Printer.{Printer}
-use Rattle.mimic_printer.specs.Report.{row_text, rows_text}
-use Rattle.mimic_printer.specs.Row.{Label, PrintedRow, label_at, label_of, row_of, rows_at, timed_row}
-use Rattle.mimic_printer.specs.declared.sink.Sink.{Sink}
-use Rattle.mimic_printer.specs.Sink.{Adds}
 use Rattle.mimic_printer.proofs.Adding.{adds_then}
-use Rattle.libtest_mimic.specs.Steps.{AddsRows, AreArrived}
-use Rattle.libtest_mimic.specs.Suite.{AreTimed, IsTime, IsTimed, has_time}
 use Rattle.libtest_mimic.proofs.Timed.{timed-append}
 
 -- ---- a first arrival

@@ -2,23 +2,10 @@
 use Rattle.std.proofs.Common.{◌≡◌, ◌∙◌, ℕ, Bool, List, [], ◌∷◌, ◌++◌, Option, None, Some, Result, Ok, Err, length, refl, ap, ap₂, subst}
 use Rattle.std.specs.List.{concat}
 use Rattle.std.specs.Prelude.{MatchOption}
-use Rattle.mimic_trial.specs.declared.formats.FormatSetting.{FormatSetting}
+use Rattle.libtest_mimic.specs.Prelude.{announcement_in, announcement_text, Conclusion, counts_of, elapsed_of, failures_in, failures_text, FormatSetting, Gives, Label, next_text, Outcome, outcome_in, outcome_line, outcome_mark, outcomes_of, PrintedRow, Printer, PrintsAs, Put, report_text, Reported, Reports, result_summary, row_text, rows_text, RunError, Shown, start_text, StartsReport, Stopped, Suite, summary_in, summary_text, terse_outcome, title_in, title_text, Watched}
 use Rattle.mimic_trial.specs.declared.formats.FormatSetting.TheVariants.{Pretty, Terse, Json}
-use Rattle.mimic_trial.specs.declared.outcome.Outcome.{Outcome}
 use Rattle.mimic_trial.specs.declared.outcome.Outcome.TheVariants.{Passed, Failed, Ignored, Measured}
-use Rattle.mimic_trial.specs.declared.outcome.conclusion.Conclusion.{Conclusion}
-use Rattle.mimic_trial.specs.Count.{counts_of}
-use Rattle.mimic_trial.specs.Promise.{Gives}
-use Rattle.mimic_printer.specs.Row.{Label, PrintedRow, outcomes_of}
-use Rattle.mimic_printer.specs.declared.Printer.{Printer}
-use Rattle.mimic_printer.specs.Report.{announcement_in, announcement_text, failures_in, failures_text, outcome_in, outcome_line, outcome_mark, report_text, result_summary, row_text, rows_text, summary_in, terse_outcome, title_in, title_text, summary_text}
-use Rattle.mimic_printer.specs.Sink.{Shown, Put, Stopped}
-use Rattle.libtest_mimic.specs.declared.running.RunError.{RunError}
 use Rattle.libtest_mimic.specs.declared.running.RunError.TheVariants.{OutOfMemory, Write, ZeroThreads, Spawn, Arrival}
-use Rattle.libtest_mimic.specs.Run.{Reported, Reports, StartsReport, next_text, start_text}
-use Rattle.libtest_mimic.specs.Steps.{PrintsAs}
-use Rattle.libtest_mimic.specs.Stopwatch.{Watched, elapsed_of}
-use Rattle.libtest_mimic.specs.Suite.{Suite}
 
 -- a printer is its fields
 pub Printer-is : (p : Printer) (f : FormatSetting) (c : Bool) (n k : ℕ) → p.format ≡ f → p.colour ≡ c → p.name_width ≡ n → p.kind_width ≡ k

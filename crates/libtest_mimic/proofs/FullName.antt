@@ -3,8 +3,7 @@ use Rattle.std.proofs.Common.{◌≡◌, ◌∙◌, ℕ, ◌+◌, ◌-◌, ◌�
 use Rattle.std.proofs.lemmas.List.{drop_at, drop-append-le, drop-drop, get_or_append_left}
 use Rattle.std.proofs.lemmas.List.Prefix.{at_from_reads, at_reads}
 use Rattle.std.proofs.lemmas.Bool.{cases_lt}
-use Rattle.libtest_mimic.specs.Selection.{Occurs}
-use Rattle.libtest_mimic.specs.Steps.{OccursBefore, StandsAt}
+use Rattle.libtest_mimic.specs.Prelude.{Occurs, OccursBefore, StandsAt}
 
 -- a pattern that is at some place occurs
 pub occurs_at : (p s : List ℕ) (at : ℕ) → StandsAt p s at → Occurs p s

@@ -5,30 +5,13 @@ use Rattle.std.specs.List.Sorted.{IsPermutation}
 use Rattle.std.specs.Prelude.{IfErr, IsErrAnd, MatchResult, is_ok, slice_get}
 use Rattle.std.proofs.Math.Seq.{drop-append_seam}
 use Rattle.std.proofs.lemmas.List.Concat.{flat_map-append}
-use Rattle.mimic_trial.specs.declared.outcome.Outcome.{Outcome}
-use Rattle.mimic_trial.specs.declared.trial.TestInfo.{TestInfo}
-use Rattle.mimic_trial.specs.Places.{Placed, placed_at, placed_if, places_of}
-use Rattle.mimic_pool.specs.declared.share.Assigned.{Assigned}
-use Rattle.mimic_pool.specs.Arrivals.{AgreesAt, Arrived, arrived_at, missing_of}
-use Rattle.mimic_pool.specs.Joined.{AreJoined, AreOutcomes, put_each}
-use Rattle.mimic_pool.specs.Share.{assigned_from}
+use Rattle.libtest_mimic.specs.Prelude.{AddsRows, AgreesAt, AreArrived, AreJoined, AreOutcomes, AreRowsOf, AreTimed, Arrived, arrived_at, Assigned, assigned_from, Ends, Follows, Gathered, GatheredSome, GatheringRefused, Gives, IsCompleted, IsDifference, IsGathered, IsLeastDifference, IsOfRows, IsReturned, Label, label_at, label_of, missing_of, OnNothingWritten, Outcome, Placed, placed_at, placed_if, places_of, PrintedRow, Printer, Put, put_each, PutsArrived, PutsTitled, rows_at, rows_text, RowsRefused, RunError, Shown, shown, Sink, Stopped, TestInfo, title_text, Writes, WrittenAndReturned}
 use Rattle.mimic_pool.proofs.Joining.{joined_whole}
 use Rattle.mimic_pool.proofs.Placing.{have_places, put_or, row_put}
-use Rattle.mimic_trial.specs.Promise.{Gives}
-use Rattle.mimic_printer.specs.declared.Printer.{Printer}
-use Rattle.mimic_printer.specs.Report.{rows_text, title_text}
-use Rattle.mimic_printer.specs.Row.{Label, PrintedRow, label_at, label_of, rows_at}
-use Rattle.mimic_printer.specs.declared.sink.Sink.{Sink}
-use Rattle.mimic_printer.specs.Sink.{Ends, Put, Shown, Stopped, Writes, shown}
 use Rattle.std.proofs.KnownBytes.{Appends-trans}
 use Rattle.mimic_printer.proofs.Adding.{adds_nothing, puts_added}
 use Rattle.mimic_printer.proofs.Appending.{Put-Stopped, Put-refl, Put-trans}
-use Rattle.libtest_mimic.specs.Run.{Follows, OnNothingWritten}
-use Rattle.libtest_mimic.specs.declared.running.RunError.{RunError}
 use Rattle.libtest_mimic.specs.declared.running.RunError.TheVariants.{OutOfMemory, Write, ZeroThreads, Spawn, Arrival}
-use Rattle.libtest_mimic.specs.Gathering.{Gathered, GatheredSome, GatheringRefused, IsCompleted, IsDifference, IsGathered, IsLeastDifference, IsOfRows, IsReturned, WrittenAndReturned}
-use Rattle.libtest_mimic.specs.Steps.{AddsRows, AreArrived, PutsArrived, PutsTitled, RowsRefused}
-use Rattle.libtest_mimic.specs.Suite.{AreTimed}
 use Rattle.libtest_mimic.proofs.Arranged.{length_assigned}
 use Rattle.std.proofs.lemmas.Bool.{false≢true}
 use Rattle.std.proofs.lemmas.List.{map-append}
@@ -172,7 +155,7 @@ module _ (asked : Bool) (p : Printer) (infos : List TestInfo) (whole : Bool) (ol
 -- a write fault in rows that were reported. If the workers ran all trials, all rows are theirs, else those that were reported are
 pub arrival_refused : {R : Type 0} (gives : Gives R) (mode : Bool) (rs : List R) (bs : List Bool) (same : length rs ≡ length bs) (asked : Bool) (p : Printer) (infos : List TestInfo) (runs whole : Bool) (old new : Arrived) (joined : List (List Placed))
     (done : IsCompleted whole old joined new) → whole ≡ false → AreJoined gives mode (assigned_from 0 rs bs) (runs || whole) joined → old.places ≡ length rs → (a b : Shown) → StopsArrived asked p infos old a b
-    → (placed : List Placed) × (left : List ℕ) × (rows : List PrintedRow) × GatheredSome gives mode (assigned_from 0 rs bs) placed left × (runs ≡ true → left ≡ []) × AreTimed asked (rows_at (map label_of infos) placed) rows × Stopped a b (rows_text p rows)
+    → (placed : List Placed) × (left : List ℕ) × (rows : List PrintedRow) × GatheredSome gives mode (assigned_from 0 rs bs) placed left × (runs ≡ true → left ≡ []) × AreRowsOf asked infos placed rows × Stopped a b (rows_text p rows)
 arrival_refused gives mode rs bs same asked p infos true whole old new joined done part are places a b stopped =
     let all = stopped_arrived asked p infos whole old new joined done a b stopped in (
       new.rows,
@@ -201,7 +184,7 @@ module _ {R : Type 0} (gives : Gives R) (mode : Bool) (items : List (Assigned R)
   titled = subst (λ (k : ℕ). Put a b (title_text p k)) count title
 
   -- what was written if rows were refused that came after the title
-  after_title : (all asked : Bool) (e : RunError) → GatheringRefused gives mode items all asked p infos b c e → RowsRefused gives mode items asked p infos a c e
+  after_title : (all asked : Bool) (e : RunError) → GatheringRefused gives mode items all (AreRowsOf asked infos) p b c e → RowsRefused gives mode items asked p infos a c e
   after_title all asked OutOfMemory h = absurd h
   after_title all asked (Write fault) (placed, left, rows, some, none, timed, s) = inr (placed, left, rows, some, timed, Put-Stopped _ _ titled s)
   after_title all asked ZeroThreads h = absurd h
@@ -215,7 +198,7 @@ module _ {R : Type 0} (gives : Gives R) (mode : Bool) (items : List (Assigned R)
 
   -- either way, with times as they are noted
   pub rows_titled : (all timed asked : Bool) → timed ≡ asked → (r : Result Arrived RunError)
-      → MatchResult r (λ desk. IsGathered gives mode items desk × PutsArrived timed p infos desk b c) (λ e. GatheringRefused gives mode items all timed p infos b c e)
+      → MatchResult r (λ desk. IsGathered gives mode items desk × PutsArrived timed p infos desk b c) (λ e. GatheringRefused gives mode items all (AreRowsOf timed infos) p b c e)
       → MatchResult r (λ desk. IsGathered gives mode items desk × PutsTitled asked p infos desk a c) (λ e. RowsRefused gives mode items asked p infos a c e)
   rows_titled all timed asked noted (Ok desk) h = subst (λ (t : Bool). IsGathered gives mode items desk × PutsTitled t p infos desk a c) noted (titled_all timed desk h)
   rows_titled all timed asked noted (Err e) h = subst (λ (t : Bool). RowsRefused gives mode items t p infos a c e) noted (after_title all timed e h)
@@ -262,12 +245,12 @@ module _ {R : Type 0} (gives : Gives R) (mode : Bool) (rs : List R) (bs : List B
   was_written all whole (Err x) text a b joined is stopped are = inr (stopped, subst (λ (w : Bool). AreJoined gives mode trials w joined) (or_false all whole is) are)
 
   -- a difference that is named
-  pub differs_refused : {E T : Type 0} (all whole asked : Bool) (r : Result T E) (p : Printer) (infos : List TestInfo) (a b : Shown) (desk : Arrived) (joined : List (List Placed)) → desk.places ≡ length infos → whole ≡ is_ok r
+  pub differs_refused : {E T : Type 0} (all whole asked : Bool) (r : Result T E) (p : Printer) (infos : List TestInfo) (a b : Shown) (desk : Arrived) (joined : List (List Placed)) → desk.places ≡ length trials → whole ≡ is_ok r
       → IsPermutation (places_of desk.rows ++ missing_of desk) (range_with_len 0 desk.places)
-      → WritesRows p (AreArrived asked infos desk) a b r → AreJoined gives mode trials (all || whole) joined → (e : RunError) → IsDifference desk joined e → GatheringRefused gives mode trials all asked p infos a b e
+      → WritesRows p (AreArrived asked infos desk) a b r → AreJoined gives mode trials (all || whole) joined → (e : RunError) → IsDifference desk joined e → GatheringRefused gives mode trials all (AreRowsOf asked infos) p a b e
   differs_refused all whole asked r p infos a b desk joined places is once (rows, timed, written) are e difference =
       let named = difference.named in
-      subst (GatheringRefused gives mode trials all asked p infos a b) (sym named.named) (
+      subst (GatheringRefused gives mode trials all (AreRowsOf asked infos) p a b) (sym named.named) (
         subst (λ (n : ℕ). named.place < n) places named.below,
         follows a a b [] (rows_text p rows) r (Put-refl a) written,
         record {
@@ -276,7 +259,7 @@ module _ {R : Type 0} (gives : Gives R) (mode : Bool) (rs : List R) (bs : List B
           once = subst (λ (n : ℕ). IsPermutation (places_of desk.rows ++ missing_of desk) (range_with_len 0 n)) places once;
           returned = joined;
           rows = rows;
-          timed = timed;
+          are = timed;
           written = was_written all whole r (rows_text p rows) a b joined is written are;
           least = least_difference (all || whole) desk joined e difference are;
         },

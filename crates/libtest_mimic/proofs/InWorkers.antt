@@ -3,33 +3,10 @@ use Rattle.std.proofs.Common.{◌≡◌, ◌≢◌, ◌∙◌, ◌≤◌, ◌<�
 use Rattle.std.specs.List.{range_with_len}
 use Rattle.std.specs.List.Sorted.{IsPermutation}
 use Rattle.std.specs.Prelude.{All}
-use Rattle.mimic_args.specs.declared.Arguments.{Arguments}
-use Rattle.mimic_trial.specs.declared.trial.Trial.{Trial}
+use Rattle.libtest_mimic.specs.Prelude.{AreParts, AreSupplied, AreTimed, Arguments, Arrived, assigned_from, Conclusion, counts_of, elapsed_of, failures_text, Gathered, Gives, Holds, in_order, info_of, IsArrangement, IsGathered, IsOwnAt, IsRowOf, IsRunning, label_of, labels_of, Outcome, outcomes_of, Placed, placed_at, places_of, PrintedRow, Put, PutsTitled, Reported, ReportRefused, rows_at, rows_of, rows_text, RowsRefused, RunError, runner_of, Shown, start_text, Stopped, Suite, summary_text, TestInfo, title_text, Trial, WaitingTrials, Watched, WriteFault}
 use Rattle.std.proofs.lemmas.List.{length-map}
 use Rattle.std.proofs.lemmas.List.Sorted.{IsPermutation-refl}
-use Rattle.mimic_trial.specs.declared.outcome.Outcome.{Outcome}
-use Rattle.mimic_trial.specs.declared.outcome.conclusion.Conclusion.{Conclusion}
-use Rattle.mimic_trial.specs.declared.trial.TestInfo.{TestInfo}
-use Rattle.mimic_trial.specs.Count.{counts_of}
-use Rattle.mimic_trial.specs.Places.{Placed, placed_at, places_of}
-use Rattle.mimic_pool.specs.Arrivals.{Arrived}
-use Rattle.mimic_trial.specs.Promise.{Gives}
-use Rattle.mimic_trial.specs.Trial.{info_of, runner_of}
-use Rattle.mimic_pool.specs.declared.waiting_trials.WaitingTrials.{WaitingTrials}
-use Rattle.mimic_pool.specs.Share.{assigned_from}
-use Rattle.mimic_pool.specs.WaitingTrials.{Holds}
-use Rattle.mimic_printer.specs.declared.sink.WriteFault.{WriteFault}
-use Rattle.mimic_printer.specs.Report.{failures_text, rows_text, summary_text, title_text}
-use Rattle.mimic_printer.specs.Row.{PrintedRow, label_of, labels_of, outcomes_of, rows_at}
-use Rattle.mimic_printer.specs.Sink.{Put, Shown, Stopped}
-use Rattle.libtest_mimic.specs.declared.running.RunError.{RunError}
 use Rattle.libtest_mimic.specs.declared.running.RunError.TheVariants.{OutOfMemory, Write, ZeroThreads, Spawn, Arrival}
-use Rattle.libtest_mimic.specs.Arrangement.{IsArrangement, IsOwnAt}
-use Rattle.libtest_mimic.specs.Run.{ReportRefused, Reported, start_text}
-use Rattle.libtest_mimic.specs.Gathering.{Gathered, IsGathered, IsRowOf}
-use Rattle.libtest_mimic.specs.Steps.{AreParts, AreSupplied, PutsTitled, RowsRefused}
-use Rattle.libtest_mimic.specs.Stopwatch.{Watched, IsRunning, elapsed_of}
-use Rattle.libtest_mimic.specs.Suite.{AreTimed, Suite, in_order, rows_of}
 use Rattle.libtest_mimic.proofs.Arranged.{arranged, flags_length, labels_apart, length_assigned, length_gathered, order_below, rows_own, whole_gathered}
 use Rattle.libtest_mimic.proofs.OnlyOutcomes.{outcomes_of-rows_at}
 use Rattle.libtest_mimic.proofs.WholeReport.{reported, started, starts_failures, starts_some, starts_summary, starts_title, titled}
@@ -128,7 +105,7 @@ module _ {R : Type 0} (gives : Gives R) (suite : Suite R) (can_run : R → Type 
         (places_of placed ++ left, order, in_some_order, some_thread, start)
     refused_by asked is a b w ZeroThreads r h = absurd h
     refused_by asked is a b w Spawn r h = (several, some, subst (λ (n : ℕ). Put a b (title_text suite.printer n)) count h, r)
-    refused_by asked is a b w (Arrival place) r (low, h) = (several, subst (λ (n : ℕ). place < n) count low, h, r)
+    refused_by asked is a b w (Arrival place) r (low, h) = (several, subst (λ (n : ℕ). place < n) as_many_put low, h, r)
 
     pub rows_refused : (asked : Bool) → asked ≡ suite.args.report_time → (a b : Shown) (w : Watched) (e : RunError) → IsRunning w
         → ((rs' : List R) (bs' : List Bool) → length rs' ≡ length infos → length bs' ≡ length infos → Holds can_run waiting (assigned_from 0 rs' bs')

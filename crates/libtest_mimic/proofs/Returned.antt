@@ -7,15 +7,8 @@ use Rattle.std.proofs.lemmas.Bool.Decides.{eqb_tells}
 use Rattle.std.proofs.lemmas.Bool.{eq-eqb}
 use Rattle.std.proofs.lemmas.List.{map-append}
 use Rattle.std.proofs.lemmas.List.Elements.{All-cons, All-head, All-nil, All-tail}
-use Rattle.mimic_trial.specs.declared.outcome.Outcome.{Outcome}
-use Rattle.mimic_trial.specs.Places.{Placed, placed_at, placed_if, places_of}
-use Rattle.mimic_trial.specs.Promise.{Gives, IsOutcomeOf}
-use Rattle.mimic_pool.specs.declared.share.Assigned.{Assigned}
-use Rattle.mimic_pool.specs.Arrivals.{Arrived, arrived_at}
-use Rattle.mimic_pool.specs.Joined.{AnswersPart, IsOutcomeAt, put_each}
-use Rattle.mimic_pool.specs.Share.{assigned_from}
+use Rattle.libtest_mimic.specs.Prelude.{AnswersPart, Arrived, arrived_at, Assigned, assigned_from, Gathered, GatheredSome, Gives, IsCompleted, IsOutcomeAt, IsOutcomeOf, IsRowOf, Outcome, Placed, placed_at, placed_if, places_of, put_each}
 use Rattle.mimic_pool.proofs.Joining.{joined_own_or, length_put_each}
-use Rattle.libtest_mimic.specs.Gathering.{Gathered, GatheredSome, IsCompleted, IsRowOf}
 use Rattle.libtest_mimic.proofs.Arranged.{length_assigned}
 use Rattle.libtest_mimic.proofs.ArrivedRows.{slice_get-at}
 

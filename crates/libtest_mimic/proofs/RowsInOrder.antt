@@ -5,26 +5,10 @@ use Rattle.std.proofs.lemmas.List.Elements.{All-append, All-cons, All-head, All-
 use Rattle.std.proofs.lemmas.List.Sums.{count_by-le-length, length-filter}
 use Rattle.std.specs.List.{range_with_len}
 use Rattle.std.specs.Prelude.{◌↔◌, IsSomeAnd, IsTrue, slice_get}
-use Rattle.mimic_args.specs.declared.Arguments.{Arguments}
-use Rattle.mimic_trial.specs.declared.outcome.Outcome.{Outcome}
-use Rattle.mimic_trial.specs.declared.trial.TestInfo.{TestInfo}
-use Rattle.mimic_trial.specs.declared.trial.Trial.{Trial}
-use Rattle.mimic_trial.specs.Count.{HasRoom, counted, counts_of, is_failed}
-use Rattle.mimic_trial.specs.Places.{InOrder, Placed, places_of}
-use Rattle.mimic_printer.specs.Row.{label_at, rows_at, Label, PrintedRow, label_of, outcomes_of, row_of, labels_of, timed_row}
-use Rattle.mimic_trial.specs.Promise.{Gives, IsOutcomeOf}
-use Rattle.mimic_trial.specs.Trial.{info_of, runner_of}
+use Rattle.libtest_mimic.specs.Prelude.{Adds, announcement_text, AreTimed, Arguments, counted, counts_of, Gives, has_time, HasCounted, HasRoom, HasRoomFor, info_of, InOrder, is_failed, IsIgnored, IsOutcomeOf, IsOwn, IsOwnAt, IsTime, keeps_fault, Label, label_at, label_of, labels_of, Outcome, outcomes_of, Placed, places_of, PrintedRow, row_of, rows_at, rows_of, rows_text, RowsRun, runner_of, Sink, Suite, Tally, TestInfo, timed_outcome_text, timed_row, Trial}
 use Rattle.mimic_trial.proofs.Counting.{HasRoom-counts, counts-push}
-use Rattle.mimic_printer.specs.Report.{announcement_text, rows_text, timed_outcome_text}
-use Rattle.mimic_printer.specs.declared.sink.Sink.{Sink}
-use Rattle.mimic_printer.specs.Sink.{Adds, keeps_fault}
 use Rattle.mimic_printer.proofs.Adding.{adds_then}
 use Rattle.mimic_printer.proofs.FailedRows.{range-push}
-use Rattle.libtest_mimic.specs.declared.running.tally.Tally.{Tally}
-use Rattle.libtest_mimic.specs.Arrangement.{IsOwn, IsOwnAt}
-use Rattle.libtest_mimic.specs.Selection.{IsIgnored}
-use Rattle.libtest_mimic.specs.Steps.{HasCounted, HasRoomFor, RowsRun}
-use Rattle.libtest_mimic.specs.Suite.{AreTimed, IsTime, Suite, has_time, rows_of}
 use Rattle.libtest_mimic.proofs.ArrivedRows.{rows_text-push}
 use Rattle.libtest_mimic.proofs.Timed.{timed-append}
 

@@ -3,7 +3,7 @@ use Rattle.std.proofs.Common.{All, ◌≡◌, ◌∙◌, ◌≤◌, Bool, true, 
 use Rattle.std.proofs.lemmas.List.Elements.{All-cons, All-head, All-tail}
 use Rattle.std.specs.List.{items_where_true}
 use Rattle.std.specs.List.Retain.{IsFiltered, ReturnsInTurn}
-use Rattle.libtest_mimic.specs.Selection.{LeavesOut}
+use Rattle.libtest_mimic.specs.Prelude.{LeavesOut}
 
 module _ {A P : Type 0} (R : P → A → Bool → P → Type 0) (Out : A → Type 0) (p : P) (says : (x : A) (b : Bool) (q : P) → R p x b q → (b ≡ true → ¬ Out x) × (b ≡ false → Out x) × (q ≡ p)) where
   kept : (bs : List Bool) (xs : List A) (q r : P) → r ≡ p → length bs ≡ length xs → ReturnsInTurn R r bs xs q → LeavesOut Out xs (items_where_true bs xs)

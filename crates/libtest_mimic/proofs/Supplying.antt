@@ -2,17 +2,8 @@
 use Rattle.std.proofs.Common.{◌≡◌, ℕ, ◌+◌, Bool, List, [], ◌∷◌, ◌++◌, append-nil, append_assoc, ap, ap₂, arith, length, subst, sym, ◌∙◌}
 use Rattle.std.proofs.lemmas.List.{length-map, map-append}
 use Rattle.std.specs.Prelude.{◌↔◌, IsTrue}
-use Rattle.mimic_args.specs.declared.Arguments.{Arguments}
-use Rattle.mimic_trial.specs.Trial.{info_of, runner_of}
-use Rattle.mimic_trial.specs.declared.trial.TestInfo.{TestInfo}
-use Rattle.mimic_trial.specs.declared.trial.Trial.{Trial}
+use Rattle.libtest_mimic.specs.Prelude.{AreSupplied, Arguments, Assigned, assigned_from, Holds, info_of, IsIgnored, runner_of, TestInfo, Trial, WaitingTrials}
 use Rattle.mimic_pool.proofs.Dealing.{assigned_more}
-use Rattle.mimic_pool.specs.Share.{assigned_from}
-use Rattle.mimic_pool.specs.WaitingTrials.{Holds}
-use Rattle.mimic_pool.specs.declared.share.Assigned.{Assigned}
-use Rattle.mimic_pool.specs.declared.waiting_trials.WaitingTrials.{WaitingTrials}
-use Rattle.libtest_mimic.specs.Selection.{IsIgnored}
-use Rattle.libtest_mimic.specs.Steps.{AreSupplied}
 use Rattle.libtest_mimic.proofs.Arranged.{flags_length, flags_push}
 
 -- the trials before those that are left were put

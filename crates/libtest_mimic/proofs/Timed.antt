@@ -1,15 +1,8 @@
 -- Rows with times are like those without, but for their times.
 use Rattle.std.proofs.Common.{◌≡◌, ℕ, suc, ◌&&◌, Bool, true, false, List, [], ◌∷◌, ◌++◌, Option, None, Some, length, map, refl, sym, ap, ap₂, subst, arith}
 use Rattle.std.specs.List.{AllByRecursion, flat_map}
-use Rattle.mimic_trial.specs.declared.formats.FormatSetting.{FormatSetting}
+use Rattle.libtest_mimic.specs.Prelude.{AreTimed, failed_name, failure_text, failures_if_any, failures_in, failures_text, FitsEntry, FitsLabel, FitsTime, FitsTypes, FormatSetting, has_time, IsTime, Outcome, outcomes_of, PrintedRow, Printer, row_failed_name, row_failure}
 use Rattle.mimic_trial.specs.declared.formats.FormatSetting.TheVariants.{Pretty, Terse, Json}
-use Rattle.mimic_trial.specs.declared.outcome.Outcome.{Outcome}
-use Rattle.mimic_trial.specs.Promise.{FitsTypes}
-use Rattle.mimic_printer.specs.Json.{FitsEntry, FitsLabel, FitsTime}
-use Rattle.mimic_printer.specs.Report.{failed_name, failure_text, failures_if_any, failures_in, failures_text, row_failed_name, row_failure}
-use Rattle.mimic_printer.specs.Row.{PrintedRow, outcomes_of}
-use Rattle.mimic_printer.specs.declared.Printer.{Printer}
-use Rattle.libtest_mimic.specs.Suite.{AreTimed, IsTime, has_time}
 
 module _ (asked : Bool) where
   pub timed-append : (xs us ys vs : List PrintedRow) → AreTimed asked xs us → AreTimed asked ys vs → AreTimed asked (xs ++ ys) (us ++ vs)

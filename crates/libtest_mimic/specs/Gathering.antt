@@ -60,6 +60,10 @@ pub record IsDifference (desk : Arrived) (joined : List (List Placed)) (error : 
 abbrev pub Completes : {T : Type 0} → Bool → Arrived → List (List Placed) → Arrived → Result T RunError → Type 0
 Completes whole old joined new result = MatchResult result (λ _. IsCompleted whole old joined new) (IsDifference old joined)
 
+-- these rows are of outcomes at places, each with a time as asked
+abbrev pub AreRowsOf : Bool → List TestInfo → List Placed → List PrintedRow → Type 0
+AreRowsOf asked infos placed rows = AreTimed asked (rows_at (map label_of infos) placed) rows
+
 -- rows are refused for a write fault, or for an outcome that isn't the one that arrived
 abbrev pub IsOfRows : RunError → Type 0
 IsOfRows OutOfMemory = ⊥
@@ -105,27 +109,26 @@ module _ {R : Type 0} (gives : Gives R) (test_mode : Bool) (items : List (Assign
       (Put old new text × AreJoined gives test_mode items true returned)
       ⊎ (Stopped old new text × AreJoined gives test_mode items all returned)
 
-  -- rows arrived, each at a place of its own, and were written with times as asked, or a beginning of them was; the workers returned
-  -- rows; and the place is
-  -- the least one at which these differ
-  pub record NamesLeast (all asked : Bool) (p : Printer) (infos : List TestInfo) (old new : Shown) (place : ℕ) : Type 0 where
+  -- outcomes arrived, each at a place of its own, and their rows were written, or a beginning of them was; the workers returned
+  -- rows; and the place is the least one at which these two differ
+  pub record NamesLeast (all : Bool) (AreRows : List Placed → List PrintedRow → Type 0) (p : Printer) (old new : Shown) (place : ℕ) : Type 0 where
     pub arrived : List Placed
     pub missing : List ℕ
-    pub once : IsPermutation (places_of arrived ++ missing) (range_with_len 0 (length infos))
+    pub once : IsPermutation (places_of arrived ++ missing) (range_with_len 0 (length items))
     pub returned : List (List Placed)
     pub rows : List PrintedRow
-    pub timed : AreTimed asked (rows_at (map label_of infos) arrived) rows
+    pub are : AreRows arrived rows
     pub written : WrittenAndReturned all (rows_text p rows) old new returned
     pub least : IsLeastDifference arrived returned place
 
   -- what was written if rows were refused: if a write failed, a beginning of rows of what the workers returned, and no item is left
   -- if these run all; if an outcome that arrived isn't the one that its worker returned, what had arrived, and its place is the least
-  abbrev pub GatheringRefused : Bool → Bool → Printer → List TestInfo → Shown → Shown → RunError → Type 0
-  GatheringRefused all asked p infos old new OutOfMemory = ⊥
-  GatheringRefused all asked p infos old new (Write fault) =
+  abbrev pub GatheringRefused : Bool → (List Placed → List PrintedRow → Type 0) → Printer → Shown → Shown → RunError → Type 0
+  GatheringRefused all AreRows p old new OutOfMemory = ⊥
+  GatheringRefused all AreRows p old new (Write fault) =
       (placed : List Placed) × (left : List ℕ) × (rows : List PrintedRow) × GatheredSome placed left × (all ≡ true → left ≡ [])
-      × AreTimed asked (rows_at (map label_of infos) placed) rows × Stopped old new (rows_text p rows)
-  GatheringRefused all asked p infos old new ZeroThreads = ⊥
-  GatheringRefused all asked p infos old new Spawn = ⊥
-  GatheringRefused all asked p infos old new (Arrival place) =
-      (place < length infos) × Follows old new × NamesLeast all asked p infos old new place
+      × AreRows placed rows × Stopped old new (rows_text p rows)
+  GatheringRefused all AreRows p old new ZeroThreads = ⊥
+  GatheringRefused all AreRows p old new Spawn = ⊥
+  GatheringRefused all AreRows p old new (Arrival place) =
+      (place < length items) × Follows old new × NamesLeast all AreRows p old new place

@@ -6,6 +6,7 @@ pub mod Request
 pub mod Run
 pub mod Gathering
 pub mod Steps
+pub mod Prelude
 -- the words of the crates below, so that clauses above need not name those
 pub use Rattle.mimic_trial.specs.Text
 pub use Rattle.mimic_trial.specs.Escape

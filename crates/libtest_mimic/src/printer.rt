@@ -1,6 +1,5 @@
 //! Writes the parts of a report.
-ghost use Rattle.mimic_printer.specs.List.{list_text, listed};
-ghost use Rattle.mimic_printer.specs.Sink.{HasFaultLeft, Puts};
+ghost use Rattle.libtest_mimic.specs.Prelude.{HasFaultLeft, list_text, listed, Puts};
 
 pub use mimic_printer::{Printer, ShownRows, widths};
 use mimic_printer::{Sink, WriteFault};

@@ -1,10 +1,6 @@
 //! What is asked of a run.
 ghost use Rattle.std.specs.Prelude.{◌≡◌};
-ghost use Rattle.mimic_args.specs.Arguments.{threads_of};
-ghost use Rattle.mimic_printer.specs.Row.{labels_of};
-ghost use Rattle.mimic_printer.specs.Widths.{kind_width_of, name_width_of};
-ghost use Rattle.libtest_mimic.specs.Steps.{PrintsAs};
-ghost use Rattle.libtest_mimic.specs.Suite.{printer_for};
+ghost use Rattle.libtest_mimic.specs.Prelude.{kind_width_of, labels_of, name_width_of, printer_for, PrintsAs, threads_of};
 
 use crate::selection::Selection;
 use mimic_args::{Arguments, FormatSetting};

@@ -1,12 +1,6 @@
 //! Runs trials and writes their report.
 ghost use Rattle.std.specs.Prelude.{◌≡◌, ◌≢◌, ◌≤◌, [], Err};
-ghost use Rattle.mimic_printer.specs.Sink.{HasFaultLeft, shown};
-ghost use Rattle.mimic_trial.specs.Trial.{AllCanRun};
-ghost use Rattle.mimic_args.specs.Arguments.{threads_of};
-ghost use Rattle.libtest_mimic.specs.Request.{IsSelected, asked_by};
-ghost use Rattle.libtest_mimic.specs.Run.{IsRun, Lists, done};
-ghost use Rattle.libtest_mimic.specs.Stopwatch.{IsFresh, IsRunning};
-ghost use Rattle.libtest_mimic.specs.Suite.{asking};
+ghost use Rattle.libtest_mimic.specs.Prelude.{AllCanRun, asked_by, asking, done, HasFaultLeft, IsFresh, IsRun, IsRunning, IsSelected, Lists, shown, threads_of};
 
 mod arrivals;
 mod desk_rows;

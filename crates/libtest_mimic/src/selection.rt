@@ -1,9 +1,6 @@
 //! The trials that arguments select.
 ghost use Rattle.std.specs.Prelude.{◌≡◌, IsFalse, ◌↔◌};
-ghost use Rattle.mimic_trial.specs.Trial.{AllCanRun};
-ghost use Rattle.libtest_mimic.specs.Request.{IsSelected};
-ghost use Rattle.libtest_mimic.specs.Selection.{IsDropped, IsSelection};
-ghost use Rattle.libtest_mimic.specs.Suite.{filtered_out_of};
+ghost use Rattle.libtest_mimic.specs.Prelude.{AllCanRun, filtered_out_of, IsDropped, IsSelected, IsSelection};
 
 use crate::select::{drops_nothing, is_filtered_out};
 use mimic_args::Arguments;

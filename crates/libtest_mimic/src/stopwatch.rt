@@ -1,6 +1,6 @@
 //! The time that a run takes.
 ghost use Rattle.std.specs.Prelude.{◌≡◌, ◌↔◌, IsTrue};
-ghost use Rattle.libtest_mimic.specs.Stopwatch.{elapsed_of, IsFresh, IsRunning, StopsAfter};
+ghost use Rattle.libtest_mimic.specs.Prelude.{elapsed_of, IsFresh, IsRunning, StopsAfter};
 
 use std::marker::Model;
 
@@ -28,7 +28,7 @@ pub struct Stopwatch<C: Clock> {
 }
 
 impl<C: Clock> Model for Stopwatch<C> {
-    ghost use Rattle.libtest_mimic.specs.Stopwatch.{Watched, watched};
+    ghost use Rattle.libtest_mimic.specs.Prelude.{Watched, watched};
 
     ghost Value = { Watched };
 

@@ -4,16 +4,11 @@ use Rattle.std.proofs.lemmas.Bool.{false≢true}
 use Rattle.std.proofs.KnownBytes.{Appends-kept}
 use Rattle.std.specs.Io.KnownBytes.{Keeps}
 use Rattle.std.specs.declared.io.Error.{Error}
-use Rattle.mimic_trial.specs.declared.outcome.conclusion.Conclusion.{Conclusion}
-use Rattle.mimic_printer.specs.declared.sink.Sink.{Sink}
+use Rattle.libtest_mimic.specs.Prelude.{Asked, Conclusion, Done, HasAnswer, Lists, Put, RunError, Shown, shown, Sink, total_of, Watched}
 use Rattle.mimic_printer.specs.declared.sink.WriteFault.TheVariants as WriteFault
-use Rattle.libtest_mimic.specs.declared.running.RunError.{RunError}
 use Rattle.libtest_mimic.specs.declared.running.RunError.TheVariants.{Write}
-use Rattle.libtest_mimic.specs.Count.{total_of}
-use Rattle.libtest_mimic.specs.Run.{Done, HasAnswer, Lists, Runs}
-use Rattle.libtest_mimic.specs.Sink.{Put, Shown, faults_of, shown, writer_of}
-use Rattle.libtest_mimic.specs.Stopwatch.{Watched}
-use Rattle.libtest_mimic.specs.Suite.{Asked}
+use Rattle.libtest_mimic.specs.Run.{Runs}
+use Rattle.libtest_mimic.specs.Sink.{faults_of, writer_of}
 use Rattle.mimic_main.specs.Output.{HandsOn}
 use Rattle.mimic_main.specs.Run.{GotBeginning, IsFaultOf, IsLawful, Left, Ran, done_over, faultless}
 

@@ -1,4 +1,5 @@
 pub mod Cases
+pub mod FullNames
 pub mod HandedOn
 pub mod Mapped
 pub mod Parts

@@ -2,12 +2,10 @@
 use Rattle.std.proofs.Common.{◌≡◌, ℕ, inl, inr, List, Option, None, Some, Ok, Err, Result, refl, subst, sym}
 use Rattle.std.proofs.lemmas.Bool.{false≢true}
 use Rattle.std.specs.Prelude.{All}
-use Rattle.mimic_args.specs.declared.Arguments.{Arguments}
+use Rattle.libtest_mimic.specs.Prelude.{Arguments, Asked, Trial, Watched}
 use Rattle.mimic_args.specs.declared.error.ArgumentsError.{ArgumentsError}
 use Rattle.mimic_args.specs.declared.error.ArgumentsError.TheVariants.{OutOfMemory, Help, Refused}
-use Rattle.mimic_trial.specs.declared.trial.Trial.{Trial}
-use Rattle.libtest_mimic.specs.Stopwatch.{Watched, nothing}
-use Rattle.libtest_mimic.specs.Suite.{Asked}
+use Rattle.libtest_mimic.specs.Stopwatch.{nothing}
 use Rattle.mimic_trial.proofs.AllShards.{all_of_shard}
 use Rattle.mimic_trial.specs.declared.shard.Shard.{Shard}
 use Rattle.mimic_main.specs.Ended.{EndsAsAsked, EndsInPart, EndsSomehow, RanLine}

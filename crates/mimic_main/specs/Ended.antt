@@ -1,15 +1,9 @@
 -- How the program ends: its exit status, and what its output has got then.
 use Rattle.std.specs.Prelude.{◌≡◌, ◌⊎◌, ℕ, Bool, List, Option, IsNone, IsSome, if◌then◌else◌, Result, Ok, Err, IfOk, IfErr, nat_lt, ⊤}
-use Rattle.mimic_args.specs.declared.Arguments.{Arguments}
+use Rattle.libtest_mimic.specs.Prelude.{Arguments, Asked, asking, Conclusion, Gives, RunError, Trial, Watched}
 use Rattle.mimic_args.specs.declared.error.ArgumentsError.{ArgumentsError}
 use Rattle.mimic_args.specs.declared.error.ArgumentsError.TheVariants.{OutOfMemory, Help, Refused}
-use Rattle.mimic_trial.specs.declared.trial.Trial.{Trial}
-use Rattle.mimic_trial.specs.Promise.{Gives}
-use Rattle.mimic_trial.specs.declared.outcome.conclusion.Conclusion.{Conclusion}
 use Rattle.libtest_mimic.specs.CommandLine.{IsMeaningOf}
-use Rattle.libtest_mimic.specs.Stopwatch.{Watched}
-use Rattle.libtest_mimic.specs.Suite.{Asked, asking}
-use Rattle.libtest_mimic.specs.declared.running.RunError.{RunError}
 use Rattle.mimic_main.specs.declared.program.Fault.{Fault}
 use Rattle.mimic_main.specs.declared.program.Fault.TheVariants.{Logfile, Run}
 use Rattle.mimic_main.specs.declared.sharding.Sharding.{Sharding}

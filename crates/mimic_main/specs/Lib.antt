@@ -1,4 +1,5 @@
 pub mod Ended
+pub mod FullNames
 pub mod Output
 pub mod Policy
 pub mod Program

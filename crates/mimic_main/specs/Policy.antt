@@ -1,8 +1,6 @@
 -- When a buffered output is written out.
 use Rattle.std.specs.Prelude.{◌&&◌, ℕ, Bool, true, false, if◌then◌else◌, nat_lt}
-use Rattle.mimic_args.specs.declared.Arguments.{Arguments}
-use Rattle.mimic_args.specs.Arguments.{format_of}
-use Rattle.mimic_trial.specs.declared.formats.FormatSetting.{FormatSetting}
+use Rattle.libtest_mimic.specs.Prelude.{Arguments, format_of, FormatSetting}
 use Rattle.mimic_trial.specs.declared.formats.FormatSetting.TheVariants.{Pretty, Terse, Json}
 use Rattle.mimic_main.specs.declared.policy.FlushPolicy.{FlushPolicy}
 use Rattle.mimic_main.specs.declared.policy.FlushPolicy.TheVariants.{Always, OnFlush, OnLineEnd, OnEvenLineEnd, WhenFull}

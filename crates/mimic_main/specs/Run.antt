@@ -1,17 +1,10 @@
 -- What a run into a buffered writer returns, and what that writer has got.
 use Rattle.std.specs.Prelude.{◌≡◌, ℕ, List, [], length, Option, Result, Ok, Err, true, false}
-use Rattle.mimic_trial.specs.declared.outcome.conclusion.Conclusion.{Conclusion}
-use Rattle.libtest_mimic.specs.Stopwatch.{IsRunning, Watched}
+use Rattle.libtest_mimic.specs.Prelude.{Asked, Conclusion, counts_of, Done, HasAnswer, IsRunning, Lists, OfAsked, RunError, Shown, threads_of, total_of, Watched}
 use Rattle.std.specs.declared.io.Error.{Error}
 use Rattle.mimic_printer.specs.declared.sink.WriteFault.TheVariants as WriteFault
-use Rattle.libtest_mimic.specs.declared.running.RunError.{RunError}
 use Rattle.libtest_mimic.specs.declared.running.RunError.TheVariants.{Write}
-use Rattle.libtest_mimic.specs.Run.{Done, HasAnswer, Lists, RunsBy}
-use Rattle.mimic_args.specs.Arguments.{threads_of}
-use Rattle.libtest_mimic.specs.Sink.{Shown}
-use Rattle.libtest_mimic.specs.Suite.{Asked, OfAsked}
-use Rattle.mimic_trial.specs.Count.{counts_of}
-use Rattle.libtest_mimic.specs.Count.{total_of}
+use Rattle.libtest_mimic.specs.Run.{RunsBy}
 use Rattle.mimic_main.specs.Output.{HandsOn}
 
 -- what a sink over these bytes shows if it has counted no fault

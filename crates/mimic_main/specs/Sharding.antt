@@ -1,7 +1,7 @@
 -- What the variables of an environment ask of a program, and which of its trials run then.
 use Rattle.std.specs.Prelude.{◌≡◌, ◌≢◌, ◌⊎◌, List, ℕ, [], ◌∷◌, Option, Some, None, IsNone, IsSome, IfSome, Result, Ok, Err, String, is_some, option_map, string_bytes, if◌then◌else◌, ⊤}
 use Rattle.std.specs.declared.alloc.Global.{Global}
-use Rattle.mimic_args.specs.declared.Arguments.{Arguments}
+use Rattle.libtest_mimic.specs.Prelude.{Arguments}
 use Rattle.mimic_trial.specs.Shard.{shard_of}
 use Rattle.mimic_main.specs.ShardVariables.{GivesShard}
 use Rattle.mimic_trial.specs.declared.shard.Shard.{Shard}

@@ -2,8 +2,7 @@
 ghost use Rattle.std.specs.Prelude.{◌≡◌, ◌≤◌, All, IfOk, OnErr, false};
 ghost use Rattle.std.specs.NonZero.{non_zero_usize_get};
 ghost use Rattle.std.specs.Result.{is_ok};
-ghost use Rattle.libtest_mimic.specs.Suite.{asking};
-ghost use Rattle.libtest_mimic.specs.Trial.{AllCanRun};
+ghost use Rattle.libtest_mimic.specs.Prelude.{AllCanRun, asking};
 ghost use Rattle.mimic_trial.specs.Case.{AreTestsOf};
 ghost use Rattle.mimic_main.specs.Ended.{EndsAsAsked, EndsByLine, EndsForLine, EndsInPart, EndsSomehow, IsOfReadLine, number_of, status_without};
 ghost use Rattle.mimic_main.specs.Program.{HasDefaults};

@@ -1,6 +1,6 @@
 //! When bytes go out.
 ghost use Rattle.std.specs.Prelude.{◌≡◌};
-ghost use Rattle.mimic_args.specs.Arguments.{threads_of};
+ghost use Rattle.libtest_mimic.specs.Prelude.{threads_of};
 ghost use Rattle.mimic_main.specs.Policy.{policy_for};
 
 use libtest_mimic::{Arguments, FormatSetting};

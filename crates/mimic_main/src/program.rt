@@ -1,8 +1,6 @@
 //! A program around a run, but for the machine that it runs on.
 ghost use Rattle.std.specs.Prelude.{◌≡◌, ◌≤◌, false};
-ghost use Rattle.libtest_mimic.specs.Request.{IsSelected};
-ghost use Rattle.libtest_mimic.specs.Suite.{asking};
-ghost use Rattle.libtest_mimic.specs.Trial.{AllCanRun};
+ghost use Rattle.libtest_mimic.specs.Prelude.{AllCanRun, asking, IsSelected};
 ghost use Rattle.mimic_main.specs.Ended.{Ended, GotWithout, number_of, status_of, status_without, status_without_part};
 
 use crate::run::run_into;

@@ -2,8 +2,7 @@
 ghost use Rattle.std.specs.Prelude.{◌≡◌, ◌≤◌, Err, IfErr, IfOk, IsNone, IsOk, IsSome, Ok};
 ghost use Rattle.mimic_printer.specs.declared.sink.WriteFault.TheVariants.{Error};
 ghost use Rattle.libtest_mimic.specs.declared.running.RunError.TheVariants.{Write};
-ghost use Rattle.libtest_mimic.specs.Request.{IsSelected, asked_by};
-ghost use Rattle.libtest_mimic.specs.Trial.{AllCanRun};
+ghost use Rattle.libtest_mimic.specs.Prelude.{AllCanRun, asked_by, IsSelected};
 ghost use Rattle.mimic_main.specs.Ended.{IfOfRun};
 ghost use Rattle.mimic_main.specs.Output.{given_to};
 ghost use Rattle.mimic_main.specs.Run.{GotBeginning, IsLawful, Ran};

@@ -1,11 +1,7 @@
 //! Adds rows as workers report them.
 ghost use Rattle.std.specs.Prelude.{◌≡◌, ◌<◌, ◌≤◌, All, drop, length, map};
-ghost use Rattle.mimic_printer.specs.Row.{label_of, rows_at};
+ghost use Rattle.libtest_mimic.specs.Prelude.{AddsRows, AreArrived, AreTimed, is_timed, label_of, places_of, rows_at};
 ghost use Rattle.mimic_printer.specs.declared.sink.Sink.{Sink as TheSink};
-ghost use Rattle.mimic_trial.specs.Places.{places_of};
-ghost use Rattle.mimic_pool.specs.Inbox.{is_timed};
-ghost use Rattle.libtest_mimic.specs.Steps.{AddsRows, AreArrived};
-ghost use Rattle.libtest_mimic.specs.Suite.{AreTimed};
 
 use crate::running::timing::time_shown;
 use mimic_pool::{Arrival, Desk, Inbox};

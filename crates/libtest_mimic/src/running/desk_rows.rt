@@ -1,6 +1,6 @@
 //! The rows of a desk, as their failures are shown and as they are counted.
 ghost use Rattle.std.specs.Prelude.{◌≡◌, map};
-ghost use Rattle.mimic_trial.specs.Count.{counts_of};
+ghost use Rattle.libtest_mimic.specs.Prelude.{counts_of};
 
 use mimic_pool::Desk;
 use mimic_printer::ShownRows;
@@ -15,8 +15,7 @@ pub(super) struct DeskRows<'a> {
 
 impl<'a> ShownRows for DeskRows<'a> {
     ghost use Rattle.std.specs.Prelude.{◌<◌, All, length, map};
-    ghost use Rattle.mimic_trial.specs.Places.{places_of};
-    ghost use Rattle.mimic_printer.specs.Row.{label_of, rows_at};
+    ghost use Rattle.libtest_mimic.specs.Prelude.{label_of, places_of, rows_at};
 
     // Each place has an info.
     ghost can_show = { λ rows. All (λ place. place < length rows.infos.now) (places_of rows.desk.now.rows) };

@@ -1,16 +1,8 @@
 //! Gathers the rows of workers.
 ghost use Rattle.std.specs.Prelude.{ℕ, ◌≡◌, ◌≢◌, ◌≤◌, Bool, IfErr, List, MatchResult, Some, length, map, slice_get, vec_capacity, vec_len};
 ghost use Rattle.std.specs.Option.{option_copied};
-ghost use Rattle.mimic_printer.specs.Sink.{HasFaultLeft, shown};
+ghost use Rattle.libtest_mimic.specs.Prelude.{AreRowsOf, arrived_at, Assigned, assigned_from, Completes, GatheringRefused, HasFaultLeft, is_timed, IsGathered, IsOfRows, IsReadyFor, PutsArrived, rows_in, Runs, runs_all, shown};
 ghost use Rattle.mimic_trial.specs.declared.outcome.Outcome.{Outcome as AnOutcome};
-ghost use Rattle.mimic_pool.specs.Arrivals.{arrived_at};
-ghost use Rattle.mimic_pool.specs.Rows.{rows_in};
-ghost use Rattle.mimic_pool.specs.Share.{assigned_from};
-ghost use Rattle.mimic_pool.specs.WaitingTrials.{Runs, runs_all};
-ghost use Rattle.mimic_pool.specs.declared.share.Assigned.{Assigned};
-ghost use Rattle.libtest_mimic.specs.Gathering.{IsGathered, IsOfRows, IsReadyFor, Completes, GatheringRefused};
-ghost use Rattle.mimic_pool.specs.Inbox.{is_timed};
-ghost use Rattle.libtest_mimic.specs.Steps.{PutsArrived};
 
 use crate::running::RunError;
 use crate::running::arrivals::{add_arrivals, add_missing};
@@ -54,8 +46,8 @@ pub fn gather_rows<R: Task + Send + 'static, W: Write, T: Spawner + 'static>(
         → MatchResult result
         (λ desk. IsGathered R.gives test_mode (assigned_from 0 runners flags) desk
         × PutsArrived (is_timed started.inbox) printer.now infos.now desk (shown W.contents sink.old) (shown W.contents sink.new))
-        (λ e. GatheringRefused R.gives test_mode (assigned_from 0 runners flags) (runs_all started.workers) (is_timed started.inbox)
-        printer.now infos.now (shown W.contents sink.old) (shown W.contents sink.new) e) }
+        (λ e. GatheringRefused R.gives test_mode (assigned_from 0 runners flags) (runs_all started.workers)
+        (AreRowsOf (is_timed started.inbox) infos.now) printer.now (shown W.contents sink.old) (shown W.contents sink.new) e) }
     ensures refused { IfErr result IsOfRows }
 {
     let Started {

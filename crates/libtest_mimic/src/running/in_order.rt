@@ -1,10 +1,6 @@
 //! Runs trials in the calling thread, one after another.
 ghost use Rattle.std.specs.Prelude.{◌≡◌, [], vec_len};
-ghost use Rattle.mimic_trial.specs.Trial.{AllCanRun};
-ghost use Rattle.mimic_printer.specs.Sink.{HasFaultLeft, shown};
-ghost use Rattle.libtest_mimic.specs.Run.{OnNothingWritten, Reports};
-ghost use Rattle.libtest_mimic.specs.Steps.{HasCounted, HasRoomFor, RowsRun, selected_suite};
-ghost use Rattle.libtest_mimic.specs.Stopwatch.{IsRunning};
+ghost use Rattle.libtest_mimic.specs.Prelude.{AllCanRun, HasCounted, HasFaultLeft, HasRoomFor, IsRunning, OnNothingWritten, Reports, RowsRun, selected_suite, shown};
 
 use crate::request::Request;
 use crate::running::RunError;

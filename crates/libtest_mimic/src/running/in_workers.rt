@@ -1,14 +1,6 @@
 //! Runs trials in worker threads.
 ghost use Rattle.std.specs.Prelude.{◌≡◌, ◌≢◌, ◌≤◌, [], Bool, IfOk, List, MatchResult, length};
-ghost use Rattle.mimic_args.specs.Arguments.{threads_of};
-ghost use Rattle.mimic_printer.specs.Sink.{HasFaultLeft, shown};
-ghost use Rattle.mimic_trial.specs.Trial.{AllCanRun};
-ghost use Rattle.mimic_pool.specs.Share.{assigned_from};
-ghost use Rattle.mimic_pool.specs.WaitingTrials.{Holds};
-ghost use Rattle.libtest_mimic.specs.Gathering.{IsGathered};
-ghost use Rattle.libtest_mimic.specs.Run.{OnNothingWritten, Reports};
-ghost use Rattle.libtest_mimic.specs.Steps.{AreSupplied, PutsTitled, RowsRefused, selected_suite};
-ghost use Rattle.libtest_mimic.specs.Stopwatch.{IsRunning};
+ghost use Rattle.libtest_mimic.specs.Prelude.{AllCanRun, AreSupplied, assigned_from, HasFaultLeft, Holds, IsGathered, IsRunning, OnNothingWritten, PutsTitled, Reports, RowsRefused, selected_suite, shown, threads_of};
 
 use crate::request::Request;
 use crate::running::RunError;

@@ -1,6 +1,5 @@
 //! The end of a report.
-ghost use Rattle.libtest_mimic.specs.Steps.{AddsSummary};
-ghost use Rattle.libtest_mimic.specs.Stopwatch.{IsRunning};
+ghost use Rattle.libtest_mimic.specs.Prelude.{AddsSummary, IsRunning};
 
 use crate::stopwatch::{Clock, Stopwatch};
 use mimic_printer::{Printer, Sink};

@@ -1,7 +1,6 @@
 //! What a run keeps of the trials that ran: their counts, and those that failed.
 ghost use Rattle.std.specs.Prelude.{ℕ, ◌≡◌, ◌+◌, ◌∷◌, ◌++◌, [], IfOk, IsOk, List, vec_len};
-ghost use Rattle.mimic_printer.specs.Report.{failures_text};
-ghost use Rattle.mimic_printer.specs.Sink.{Adds};
+ghost use Rattle.libtest_mimic.specs.Prelude.{Adds, failures_text};
 
 use mimic_printer::{Printer, Sink};
 use mimic_trial::{Conclusion, Outcome, TestInfo};
@@ -17,9 +16,7 @@ pub(crate) struct Tally {
 }
 
 impl Tally {
-    ghost use Rattle.mimic_trial.specs.Count.{HasRoom};
-    ghost use Rattle.mimic_printer.specs.Row.{PrintedRow, row_of};
-    ghost use Rattle.libtest_mimic.specs.Steps.{HasCounted, HasRoomFor};
+    ghost use Rattle.libtest_mimic.specs.Prelude.{HasCounted, HasRoom, HasRoomFor, PrintedRow, row_of};
 
     // Nothing is counted yet, and there is room for `trials` failures.
     pub(crate) fn with_capacity(

@@ -1,6 +1,6 @@
 //! How long each trial runs, if the rows are to say so.
 ghost use Rattle.std.specs.Prelude.{◌≡◌, ◌&&◌, is_some};
-ghost use Rattle.libtest_mimic.specs.Suite.{IsTime, has_time};
+ghost use Rattle.libtest_mimic.specs.Prelude.{has_time, IsTime};
 
 use crate::stopwatch::{Clock, Stopwatch};
 use mimic_trial::Outcome;

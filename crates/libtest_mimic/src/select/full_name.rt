@@ -1,9 +1,7 @@
 //! Searches full names part by part: the kind in its brackets, if there is one, and then the name.
 //! Patterns are bytes here, since one may be cut between any two.
 ghost use Rattle.std.specs.Prelude.{◌≡◌, ◌↔◌, ◌+◌, ◌<◌, ◌≤◌, IsTrue, length, slice_index};
-ghost use Rattle.libtest_mimic.specs.Selection.{full_name};
-ghost use Rattle.libtest_mimic.specs.Steps.{OccursBefore, StandsAt};
-ghost use Rattle.mimic_trial.specs.Text.{kind_part};
+ghost use Rattle.libtest_mimic.specs.Prelude.{full_name, kind_part, OccursBefore, StandsAt};
 
 use mimic_trial::brackets;
 

@@ -1,6 +1,6 @@
 use Rattle.std.proofs.Common.{◌∙◌, None, ap, arith}
 use Rattle.mimic_pool.specs.declared.waiting_trials.Schedule.TheVariants.{Queue}
-use Rattle.libtest_mimic.specs.declared.request.Request.{Request}
+use Rattle.libtest_mimic.specs.Prelude.{Request}
 use Rattle.libtest_mimic.proofs.Answered.{is_run}
 use Rattle.libtest_mimic.proofs.running.run_here.Goals as goal
 

@@ -1,7 +1,7 @@
 use Rattle.std.proofs.Common.{◌≡◌, ◌∙◌, [], ap, arith, length, sym}
 use Rattle.std.proofs.lemmas.Bool.{eqb-true}
 use Rattle.std.proofs.lemmas.List.{nil_from_length}
-use Rattle.libtest_mimic.specs.Steps.{selected_suite}
+use Rattle.libtest_mimic.specs.Prelude.{selected_suite}
 use Rattle.libtest_mimic.proofs.Answered.{by_any_number, is_run}
 use Rattle.libtest_mimic.proofs.running.run_request.Goals.{then-threads-eq1-via-then-threads-eq1, then-threads-eq1-via-else-threads-eq1+then-is_empty}
 use Rattle.libtest_mimic.proofs.running.run_request.Goals as goal

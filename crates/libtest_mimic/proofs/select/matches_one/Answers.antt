@@ -2,7 +2,7 @@ use Rattle.std.proofs.Common.{arith, rules, sym}
 use Rattle.std.specs.Prelude.{string_bytes}
 use Rattle.std.proofs.lemmas.List.{take_all}
 use Rattle.std.proofs.lemmas.List.Elements.{All-more}
-use Rattle.libtest_mimic.specs.Selection.{MatchesTrial}
+use Rattle.libtest_mimic.specs.Prelude.{MatchesTrial}
 use Rattle.libtest_mimic.proofs.select.matches_one.Goals as goal
 
 pub returns-then-matches_trial : goal.returns-then-matches_trial

@@ -1,6 +1,6 @@
 use Rattle.std.proofs.Common.{take}
 use Rattle.std.specs.Prelude.{string_bytes, All}
-use Rattle.libtest_mimic.specs.Selection.{MatchesTrial}
+use Rattle.libtest_mimic.specs.Prelude.{MatchesTrial}
 use Rattle.libtest_mimic.proofs.select.matches_one.Given as goal
 
 abbrev pub invariant-loop-pattern : goal.invariant-loop-pattern

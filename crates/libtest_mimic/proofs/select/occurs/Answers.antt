@@ -1,6 +1,6 @@
 use Rattle.std.proofs.Common.{rules, inl, inr}
 use Rattle.std.proofs.lemmas.Str.Pattern.{contains_text}
-use Rattle.mimic_trial.specs.Text.{kind_part}
+use Rattle.libtest_mimic.specs.Prelude.{kind_part}
 use Rattle.libtest_mimic.proofs.FullName.{occurs_at, occurs_second, occurs_split}
 use Rattle.libtest_mimic.proofs.select.occurs.Goals as goal
 

@@ -1,6 +1,6 @@
 use Rattle.std.proofs.Common.{◌≡◌, false, rules}
 use Rattle.std.specs.Prelude.{◌↔◌, IsFalse}
-use Rattle.libtest_mimic.specs.Selection.{IsDropped}
+use Rattle.libtest_mimic.specs.Prelude.{IsDropped}
 use Rattle.libtest_mimic.proofs.Selecting.{LeavesOut-from_retain, LeavesOut-none}
 use Rattle.libtest_mimic.proofs.selection.drop_others.Goals as goal
 

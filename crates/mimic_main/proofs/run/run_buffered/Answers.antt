@@ -1,6 +1,5 @@
-use Rattle.libtest_mimic.specs.Sink.{shown}
+use Rattle.libtest_mimic.specs.Prelude.{asked_by, shown}
 use Rattle.mimic_main.specs.Output.{given_to}
-use Rattle.libtest_mimic.specs.Request.{asked_by}
 use Rattle.mimic_main.proofs.HandedOn.{GotBeginning-from, Ran-settled, lawful_settled, shown-new}
 use Rattle.mimic_main.proofs.run.run_buffered.Goals as goal
 

@@ -1,4 +1,4 @@
-use Rattle.libtest_mimic.specs.Request.{asked_by}
+use Rattle.libtest_mimic.specs.Prelude.{asked_by}
 use Rattle.mimic_main.specs.Run.{Ran}
 use Rattle.mimic_main.proofs.Mapped.{IfOfRun-map_err, IfOk-map_err}
 use Rattle.mimic_main.proofs.run.run_into.Goals as goal

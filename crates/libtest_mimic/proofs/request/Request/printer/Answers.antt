@@ -1,6 +1,5 @@
 use Rattle.std.proofs.Common.{◌∙◌, ap, sym}
-use Rattle.mimic_printer.specs.Row.{labels_of}
-use Rattle.mimic_printer.specs.Widths.{kind_width_of, name_width_of}
+use Rattle.libtest_mimic.specs.Prelude.{kind_width_of, labels_of, name_width_of}
 use Rattle.libtest_mimic.proofs.Columns.{Printer-is}
 use Rattle.libtest_mimic.proofs.request.Request.printer.Goals as goal
 

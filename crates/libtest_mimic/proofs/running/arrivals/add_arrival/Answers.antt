@@ -1,12 +1,7 @@
 use Rattle.std.proofs.Common.{◌≡◌, ◌∙◌, ◌<◌, ◌∷◌, ℕ, Some, [], ap, arith, length, length-append, sym, subst}
 use Rattle.std.specs.Prelude.{slice_get}
 use Rattle.std.proofs.lemmas.List.{length-map}
-use Rattle.mimic_trial.specs.declared.outcome.Outcome.{Outcome}
-use Rattle.mimic_trial.specs.Places.{Placed}
-use Rattle.mimic_printer.specs.Report.{row_text}
-use Rattle.mimic_printer.specs.Row.{timed_row}
-use Rattle.mimic_printer.specs.Sink.{Adds}
-use Rattle.mimic_pool.specs.Inbox.{is_timed}
+use Rattle.libtest_mimic.specs.Prelude.{Adds, is_timed, Outcome, Placed, row_text, timed_row}
 use Rattle.libtest_mimic.proofs.ArrivedRows.{arrived_more, first_row, label_at-info, row_last, shown_time}
 use Rattle.libtest_mimic.proofs.running.arrivals.add_arrival.Goals as goal
 

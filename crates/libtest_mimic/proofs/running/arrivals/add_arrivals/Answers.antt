@@ -1,5 +1,5 @@
 use Rattle.std.proofs.Common.{◌≡◌, ◌∙◌}
-use Rattle.mimic_pool.specs.Inbox.{is_timed}
+use Rattle.libtest_mimic.specs.Prelude.{is_timed}
 use Rattle.libtest_mimic.proofs.running.arrivals.add_arrivals.Goals.{in-None, in-Some+in_default, in-Some+in-Some-next+then-has_fault}
 use Rattle.libtest_mimic.proofs.running.arrivals.add_arrivals.Goals as goal
 

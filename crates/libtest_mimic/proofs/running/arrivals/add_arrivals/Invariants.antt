@@ -1,7 +1,5 @@
 use Rattle.std.proofs.Common.{◌≡◌}
-use Rattle.mimic_pool.specs.Inbox.{is_timed}
-use Rattle.mimic_printer.specs.declared.sink.Sink.{Sink}
-use Rattle.libtest_mimic.specs.Steps.{AddsRows, AreArrived}
+use Rattle.libtest_mimic.specs.Prelude.{AddsRows, AreArrived, is_timed, Sink}
 use Rattle.libtest_mimic.proofs.running.arrivals.add_arrivals.Given as goal
 
 abbrev pub invariant-loop : goal.invariant-loop

@@ -1,11 +1,7 @@
 use Rattle.std.proofs.Common.{[], ◌≡◌, ◌+◌, ◌-◌, ◌<◌, ℕ, ap, arith, drop, length, map, refl, rules, subst, sym, take}
 use Rattle.std.proofs.lemmas.List.{length-drop, length-map, take_all}
-use Rattle.mimic_trial.specs.Places.{Placed}
-use Rattle.mimic_printer.specs.Row.{PrintedRow, label_of, row_of, rows_at, timed_row}
+use Rattle.libtest_mimic.specs.Prelude.{AddsRows, AreTimed, is_timed, IsTimed, label_of, Placed, PrintedRow, row_of, rows_at, timed_row}
 use Rattle.mimic_printer.proofs.Adding.{adds_nothing}
-use Rattle.mimic_pool.specs.Inbox.{is_timed}
-use Rattle.libtest_mimic.specs.Steps.{AddsRows}
-use Rattle.libtest_mimic.specs.Suite.{AreTimed, IsTimed}
 use Rattle.libtest_mimic.proofs.ArrivedRows.{count_rows_at, next_added, place_below, row_from, shown_time}
 use Rattle.libtest_mimic.proofs.running.arrivals.add_missing.Goals as goal
 

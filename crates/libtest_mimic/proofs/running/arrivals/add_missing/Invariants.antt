@@ -1,8 +1,5 @@
 use Rattle.std.proofs.Common.{◌-◌, ◌≤◌, drop, map, take}
-use Rattle.mimic_pool.specs.Inbox.{is_timed}
-use Rattle.mimic_printer.specs.Row.{label_of, rows_at}
-use Rattle.libtest_mimic.specs.Steps.{AddsRows}
-use Rattle.libtest_mimic.specs.Suite.{AreTimed}
+use Rattle.libtest_mimic.specs.Prelude.{AddsRows, AreTimed, is_timed, label_of, rows_at}
 use Rattle.libtest_mimic.proofs.running.arrivals.add_missing.Given as goal
 
 abbrev pub invariant-loop-number : goal.invariant-loop-number

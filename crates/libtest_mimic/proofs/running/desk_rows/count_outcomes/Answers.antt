@@ -1,7 +1,6 @@
 use Rattle.std.proofs.Common.{◌∙◌, ◌<◌, ap, arith, length, map, sym}
 use Rattle.std.proofs.lemmas.List.{length-map}
-use Rattle.mimic_trial.specs.Count.{counted}
-use Rattle.mimic_trial.specs.Places.{Placed}
+use Rattle.libtest_mimic.specs.Prelude.{counted, Placed}
 use Rattle.mimic_trial.proofs.Counting.{counts-more}
 use Rattle.libtest_mimic.proofs.ArrivedRows.{outcome_of_row}
 use Rattle.libtest_mimic.proofs.running.desk_rows.count_outcomes.Goals as goal

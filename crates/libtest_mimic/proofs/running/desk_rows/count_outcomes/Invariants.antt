@@ -1,5 +1,5 @@
 use Rattle.std.proofs.Common.{◌≡◌, map, take}
-use Rattle.mimic_trial.specs.Count.{counts_of}
+use Rattle.libtest_mimic.specs.Prelude.{counts_of}
 use Rattle.libtest_mimic.proofs.running.desk_rows.count_outcomes.Given as goal
 
 abbrev pub invariant-loop-number : goal.invariant-loop-number

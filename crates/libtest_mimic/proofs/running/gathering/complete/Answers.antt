@@ -1,10 +1,7 @@
 use Rattle.std.proofs.Common.{◌∙◌, ℕ, ap, map, subst, sym}
 use Rattle.std.specs.List.{range_with_len}
 use Rattle.std.specs.List.Sorted.{IsPermutation}
-use Rattle.mimic_trial.specs.Places.{placed_at, places_of}
-use Rattle.mimic_pool.specs.Arrivals.{AgreesAt}
-use Rattle.mimic_pool.specs.Rows.{rows_in}
-use Rattle.libtest_mimic.specs.Gathering.{IsReturned}
+use Rattle.libtest_mimic.specs.Prelude.{AgreesAt, IsReturned, placed_at, places_of, rows_in}
 use Rattle.libtest_mimic.proofs.Gathering.{completed}
 use Rattle.libtest_mimic.proofs.running.gathering.complete.Goals as goal
 

@@ -1,16 +1,8 @@
 use Rattle.std.proofs.Common.{◌≡◌, ◌∙◌, ◌<◌, [], ℕ, Bool, List, ap, arith, false, length, map, refl, subst, sym}
 use Rattle.std.specs.Prelude.{All, is_ok}
 use Rattle.std.proofs.lemmas.List.{length-append, length-map}
-use Rattle.mimic_trial.specs.Places.{places_of}
-use Rattle.mimic_pool.specs.Joined.{put_each}
-use Rattle.mimic_pool.specs.Rows.{rows_in}
-use Rattle.mimic_pool.specs.Share.{assigned_from}
-use Rattle.mimic_pool.specs.WaitingTrials.{Runs, runs_all}
-use Rattle.mimic_printer.specs.Sink.{shown}
-use Rattle.libtest_mimic.specs.Gathering.{Gathered, GatheringRefused}
-use Rattle.mimic_pool.specs.Inbox.{is_timed}
-use Rattle.libtest_mimic.specs.Steps.{AreArrived, PutsArrived}
-use Rattle.libtest_mimic.proofs.Arranged.{order_below}
+use Rattle.libtest_mimic.specs.Prelude.{AreArrived, AreRowsOf, assigned_from, Gathered, GatheringRefused, is_timed, places_of, put_each, PutsArrived, rows_in, Runs, runs_all, shown}
+use Rattle.libtest_mimic.proofs.Arranged.{length_assigned, order_below}
 use Rattle.libtest_mimic.proofs.Gathering.{WritesRows, arrival_refused, completed_gathered, differs_refused, nothing_arrived, on_error, or_true, outcomes_count, put_all, rows_ended, stopped_missing}
 use Rattle.libtest_mimic.proofs.Returned.{all_gathered}
 use Rattle.libtest_mimic.proofs.running.gathering.gather_rows.Given.{Over}
@@ -54,9 +46,9 @@ pub returns-in_err-complete-clause-rows : goal.returns-in_err-complete-clause-ro
 returns-in_err-complete-clause-rows g c = λ rs bs mode runners flags runs.
     let arrivals = (goal.at.returns-in_err-complete-clause-rows g c).After-end-written in
     on_error c.from_residual.result _ _
-    (GatheringRefused g.R.Task.gives mode (assigned_from 0 rs bs) (runs_all c.args.started.workers) (is_timed c.args.started.inbox) c.args.printer.now c.args.infos.now (shown g.W.Write.contents c.args.sink.now) (shown g.W.Write.contents c.end-written.new.self))
+    (GatheringRefused g.R.Task.gives mode (assigned_from 0 rs bs) (runs_all c.args.started.workers) (AreRowsOf (is_timed c.args.started.inbox) c.args.infos.now) c.args.printer.now (shown g.W.Write.contents c.args.sink.now) (shown g.W.Write.contents c.end-written.new.self))
     c.from_residual.ensures.1
-    (differs_refused g.R.Task.gives mode rs bs (runs_all c.args.started.workers) c.is_ok-whole.result (is_timed c.args.started.inbox) c.end-written.result c.args.printer.now c.args.infos.now _ _ _ _ (places g arrivals)
+    (differs_refused g.R.Task.gives mode rs bs (runs_all c.args.started.workers) c.is_ok-whole.result (is_timed c.args.started.inbox) c.end-written.result c.args.printer.now c.args.infos.now _ _ _ _ (places g arrivals ∙ sym runners ∙ sym (length_assigned 0 rs bs (runners ∙ sym flags)))
     c.is_ok-whole.ensures.value c.order-arrived.ensures.whole (arrived g arrivals) (c.join_workers-joined.ensures.joined mode _ runs) _ c.in_err-complete.ensures.completed)
 
 pub returns-in_err-written-clause-rows : goal.returns-in_err-written-clause-rows
@@ -68,7 +60,7 @@ returns-in_err-written-clause-rows g c = λ rs bs mode runners flags runs.
     let stopped = subst (λ r. WritesRows c.args.printer.now (AreArrived asked c.args.infos.now c.add_arrivals.new.desk) before after r) c.in_err-written.was (arrived g arrivals) in
     let part : c.is_ok-whole.result ≡ false = c.is_ok-whole.ensures.value ∙ ap is_ok c.in_err-written.was in
     on_error c.from_residual-in_err-written.result _ _
-    (GatheringRefused g.R.Task.gives mode (assigned_from 0 rs bs) (runs_all c.args.started.workers) asked c.args.printer.now c.args.infos.now before after)
+    (GatheringRefused g.R.Task.gives mode (assigned_from 0 rs bs) (runs_all c.args.started.workers) (AreRowsOf asked c.args.infos.now) c.args.printer.now before after)
     c.from_residual-in_err-written.ensures.1
     (arrival_refused g.R.Task.gives mode rs bs (runners ∙ sym flags) asked c.args.printer.now c.args.infos.now (runs_all c.args.started.workers) c.is_ok-whole.result _ _ _ c.in_ok-complete.ensures.completed part
     (c.join_workers-joined.ensures.joined mode _ runs) (places g arrivals ∙ sym runners) before _ stopped)
@@ -103,7 +95,7 @@ returns-in_err-end-clause-rows g c = λ rs bs mode runners flags runs.
     let missing = rows_ended c.args.printer.now _ _ (rw c.add_arrivals.ensures.timed at c.add_missing.ensures) c.in_err-end.ensures in
     let stopped = stopped_missing asked c.args.printer.now c.args.infos.now _ _ _ _ done _ _ _ (all_arrived g whole) _ count missing in
     on_error c.from_residual-in_err-end.result _ _
-    (GatheringRefused g.R.Task.gives mode (assigned_from 0 rs bs) (runs_all c.args.started.workers) asked c.args.printer.now c.args.infos.now (shown g.W.Write.contents c.args.sink.now) (shown g.W.Write.contents c.end.new.self))
+    (GatheringRefused g.R.Task.gives mode (assigned_from 0 rs bs) (runs_all c.args.started.workers) (AreRowsOf asked c.args.infos.now) c.args.printer.now (shown g.W.Write.contents c.args.sink.now) (shown g.W.Write.contents c.end.new.self))
     c.from_residual-in_err-end.ensures.1 (
       c.complete.new.desk.rows,
       [],

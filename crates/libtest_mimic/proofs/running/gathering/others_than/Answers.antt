@@ -1,7 +1,6 @@
 use Rattle.std.proofs.Common.{◌≡◌, ◌⊎◌, ◌∙◌, inl, inr, ◌++◌, ◌∷◌, [], ℕ, List, Some, ap, arith, length, refl, rules, subst, suc, sym, zero}
 use Rattle.std.specs.Prelude.{slice_get}
-use Rattle.mimic_trial.specs.declared.outcome.Outcome.{Outcome}
-use Rattle.mimic_pool.specs.Arrivals.{arrived_at}
+use Rattle.libtest_mimic.specs.Prelude.{arrived_at, Outcome}
 use Rattle.libtest_mimic.proofs.running.gathering.others_than.Goals as goal
 
 same_outcome : (a b : Outcome) → Some a ≡ Some b → a ≡ b

@@ -1,7 +1,6 @@
 use Rattle.std.proofs.Common.{ℕ, ◌≡◌, ◌≢◌, ◌≤◌, Some, vec_capacity, vec_len}
 use Rattle.std.specs.Prelude.{slice_get}
-use Rattle.mimic_trial.specs.declared.outcome.Outcome.{Outcome}
-use Rattle.mimic_pool.specs.Arrivals.{arrived_at}
+use Rattle.libtest_mimic.specs.Prelude.{arrived_at, Outcome}
 use Rattle.libtest_mimic.proofs.running.gathering.others_than.Given as goal
 
 abbrev pub invariant-loop-place : goal.invariant-loop-place

@@ -1,13 +1,8 @@
 use Rattle.std.proofs.Common.{◌∙◌, arith, subst, refl, sym}
 use Rattle.std.proofs.lemmas.List.Sorted.{IsPermutation-refl}
-use Rattle.mimic_trial.specs.declared.outcome.conclusion.Conclusion.{Conclusion}
-use Rattle.mimic_printer.specs.Sink.{shown}
+use Rattle.libtest_mimic.specs.Prelude.{Conclusion, in_order, IsRunning, Reported, rows_of, selected_suite, shown}
 use Rattle.mimic_printer.proofs.Adding.{puts_added}
 use Rattle.libtest_mimic.specs.declared.running.RunError.TheVariants.{Write}
-use Rattle.libtest_mimic.specs.Run.{Reported}
-use Rattle.libtest_mimic.specs.Steps.{selected_suite}
-use Rattle.libtest_mimic.specs.Stopwatch.{IsRunning}
-use Rattle.libtest_mimic.specs.Suite.{in_order, rows_of}
 use Rattle.libtest_mimic.proofs.Gathering.{on_error}
 use Rattle.libtest_mimic.proofs.WholeReport.{reported_ran, start_added, starts_before, starts_ran}
 use Rattle.libtest_mimic.proofs.running.in_order.run_in_order.Goals as goal

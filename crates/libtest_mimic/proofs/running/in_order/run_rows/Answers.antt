@@ -1,13 +1,8 @@
 use Rattle.std.proofs.Common.{◌≡◌, ◌&&◌, ℕ, Bool, Option, ◌∙◌, ◌++◌, ◌∷◌, [], refl, rules, ap, append_assoc, arith, length, length-append, subst, sym, vec_len}
 use Rattle.std.proofs.lemmas.List.Elements.{All-nil}
 use Rattle.std.specs.Vec.Iter.{into_iter_items}
-use Rattle.mimic_printer.specs.Row.{label_of, labels_of}
-use Rattle.mimic_trial.specs.Trial.{runner_of}
+use Rattle.libtest_mimic.specs.Prelude.{has_time, IsOwnAt, IsTime, label_of, labels_of, Outcome, runner_of, selected_suite, Suite}
 use Rattle.mimic_printer.proofs.Adding.{adds_nothing}
-use Rattle.libtest_mimic.specs.Arrangement.{IsOwnAt}
-use Rattle.libtest_mimic.specs.Steps.{selected_suite}
-use Rattle.mimic_trial.specs.declared.outcome.Outcome.{Outcome}
-use Rattle.libtest_mimic.specs.Suite.{IsTime, Suite, has_time}
 use Rattle.libtest_mimic.proofs.RowsInOrder.{All-next, HasRoom-tally, HasRoomFor-tally, RowsSoFar-push, all_ran, count_rows, label_at-next, longer, ran-next, stopped_before}
 use Rattle.libtest_mimic.proofs.running.in_order.run_rows.Goals.{in-None, in-Some+then-has_fault}
 use Rattle.libtest_mimic.proofs.running.in_order.run_rows.Goals as goal

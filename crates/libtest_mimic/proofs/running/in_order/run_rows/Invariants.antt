@@ -1,6 +1,6 @@
 use Rattle.std.proofs.Common.{◌≡◌, ◌++◌, length, vec_len}
 use Rattle.std.specs.Vec.Iter.{into_iter_items}
-use Rattle.libtest_mimic.specs.Steps.{HasRoomFor, selected_suite}
+use Rattle.libtest_mimic.specs.Prelude.{HasRoomFor, selected_suite}
 use Rattle.libtest_mimic.proofs.RowsInOrder.{RowsSoFar}
 use Rattle.libtest_mimic.proofs.running.in_order.run_rows.Given as goal
 

@@ -1,6 +1,6 @@
 use Rattle.std.proofs.Common.{arith, refl}
 use Rattle.mimic_printer.proofs.Adding.{puts_added}
-use Rattle.libtest_mimic.specs.Steps.{selected_suite}
+use Rattle.libtest_mimic.specs.Prelude.{selected_suite}
 use Rattle.libtest_mimic.proofs.Gathering.{on_error}
 use Rattle.libtest_mimic.proofs.InWorkers.{can_show, failures_refused, held_of, no_fault, reported_by, rows_refused, summary_refused}
 use Rattle.libtest_mimic.proofs.running.in_workers.run_in_workers.Goals as goal

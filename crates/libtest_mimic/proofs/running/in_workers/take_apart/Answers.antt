@@ -1,8 +1,6 @@
 use Rattle.std.proofs.Common.{◌∙◌, [], All, List, refl, subst, sym}
 use Rattle.std.proofs.lemmas.List.Elements.{All-head, All-rest}
-use Rattle.mimic_trial.specs.declared.trial.Trial.{Trial}
-use Rattle.mimic_trial.specs.Trial.{runner_of}
-use Rattle.mimic_pool.specs.Share.{assigned_from}
+use Rattle.libtest_mimic.specs.Prelude.{assigned_from, runner_of, Trial}
 use Rattle.libtest_mimic.proofs.Supplying.{put_all, put_next}
 use Rattle.libtest_mimic.proofs.running.in_workers.take_apart.Goals as goal
 

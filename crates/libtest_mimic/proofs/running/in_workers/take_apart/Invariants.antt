@@ -1,5 +1,5 @@
 use Rattle.std.proofs.Common.{length}
-use Rattle.mimic_trial.specs.Trial.{AllCanRun}
+use Rattle.libtest_mimic.specs.Prelude.{AllCanRun}
 use Rattle.libtest_mimic.proofs.Supplying.{IsPutSoFar}
 use Rattle.libtest_mimic.proofs.running.in_workers.take_apart.Given as goal
 

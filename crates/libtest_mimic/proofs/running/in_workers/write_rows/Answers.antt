@@ -1,9 +1,6 @@
 use Rattle.std.proofs.Common.{◌≡◌, ◌≤◌, ◌∙◌, ℕ, Bool, List, arith, inl, length, refl, sym}
-use Rattle.mimic_pool.specs.Inbox.{is_timed}
-use Rattle.mimic_pool.specs.Share.{assigned_from}
-use Rattle.mimic_pool.specs.WaitingTrials.{runs_all}
+use Rattle.libtest_mimic.specs.Prelude.{assigned_from, is_timed, IsOfRows, runs_all}
 use Rattle.libtest_mimic.proofs.Arranged.{length_assigned}
-use Rattle.libtest_mimic.specs.Gathering.{IsOfRows}
 use Rattle.libtest_mimic.specs.declared.running.RunError.TheVariants.{OutOfMemory, Write}
 use Rattle.libtest_mimic.proofs.Gathering.{not_written, on_err, on_error, rows_titled, written_before}
 use Rattle.libtest_mimic.proofs.running.in_workers.write_rows.Goals as goal

@@ -1,6 +1,5 @@
 use Rattle.std.proofs.Common.{◌<◌, ℕ}
-use Rattle.libtest_mimic.specs.Selection.{full_name}
-use Rattle.libtest_mimic.specs.Steps.{StandsAt}
+use Rattle.libtest_mimic.specs.Prelude.{full_name, StandsAt}
 use Rattle.libtest_mimic.proofs.select.full_name.begins_in_kind_part.Given as goal
 
 abbrev pub invariant-loop-start : goal.invariant-loop-start

@@ -1,5 +1,5 @@
 use Rattle.std.proofs.Common.{◌≡◌, ◌++◌, arith, length, length-append}
-use Rattle.mimic_trial.specs.Text.{kind_part}
+use Rattle.libtest_mimic.specs.Prelude.{kind_part}
 use Rattle.libtest_mimic.proofs.FullName.{stands_whole, whole_stands}
 use Rattle.libtest_mimic.proofs.select.full_name.is_full_name.Goals as goal
 

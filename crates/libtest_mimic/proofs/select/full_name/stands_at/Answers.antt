@@ -1,7 +1,7 @@
 use Rattle.std.proofs.Common.{arith, rules, ◌≡◌, true}
 use Rattle.std.proofs.lemmas.Bool.Decides.{Decides-eqb}
 use Rattle.std.proofs.lemmas.Slice.Eq.{starts_is}
-use Rattle.mimic_trial.specs.Text.{kind_part}
+use Rattle.libtest_mimic.specs.Prelude.{kind_part}
 use Rattle.libtest_mimic.proofs.FullName.{stands_cut, stands_short}
 use Rattle.libtest_mimic.proofs.select.full_name.stands_at.Goals as goal
 

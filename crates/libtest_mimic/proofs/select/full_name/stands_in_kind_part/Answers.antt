@@ -1,6 +1,6 @@
 use Rattle.std.proofs.Common.{arith, rules, ◌+◌, drop, length}
 use Rattle.std.proofs.lemmas.List.Prefix.{at_from_reads}
-use Rattle.mimic_trial.specs.Text.{kind_part}
+use Rattle.libtest_mimic.specs.Prelude.{kind_part}
 use Rattle.libtest_mimic.proofs.select.full_name.stands_in_kind_part.Goals as goal
 
 pub returns : goal.returns

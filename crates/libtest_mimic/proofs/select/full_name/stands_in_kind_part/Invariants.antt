@@ -1,5 +1,5 @@
 use Rattle.std.proofs.Common.{◌≡◌, ◌+◌, ◌<◌, ℕ, get_or}
-use Rattle.mimic_trial.specs.Text.{kind_part}
+use Rattle.libtest_mimic.specs.Prelude.{kind_part}
 use Rattle.libtest_mimic.proofs.select.full_name.stands_in_kind_part.Given as goal
 
 abbrev pub invariant-loop-i : goal.invariant-loop-i

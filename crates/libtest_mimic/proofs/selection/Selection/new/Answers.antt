@@ -1,5 +1,4 @@
-use Rattle.mimic_trial.specs.Trial.{runner_of}
-use Rattle.libtest_mimic.specs.Selection.{IsDropped}
+use Rattle.libtest_mimic.specs.Prelude.{IsDropped, runner_of}
 use Rattle.libtest_mimic.proofs.Selecting.{All-LeavesOut}
 use Rattle.libtest_mimic.proofs.selection.Selection.new.Goals as goal
 

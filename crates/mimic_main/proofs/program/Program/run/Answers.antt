@@ -1,4 +1,4 @@
-use Rattle.libtest_mimic.specs.Suite.{asking}
+use Rattle.libtest_mimic.specs.Prelude.{asking}
 use Rattle.mimic_main.specs.Ended.{number_of}
 use Rattle.mimic_main.proofs.Parts.{ends_whole}
 use Rattle.mimic_main.proofs.program.Program.run.Goals as goal

@@ -1,5 +1,5 @@
 use Rattle.std.proofs.Common.{◌∙◌, Some, ap, rules}
-use Rattle.mimic_printer.specs.Row.{row_of}
+use Rattle.libtest_mimic.specs.Prelude.{row_of}
 use Rattle.libtest_mimic.proofs.ArrivedRows.{place_below, row_by_info}
 use Rattle.libtest_mimic.proofs.running.desk_rows.DeskRowsShownRows.row.Goals as goal
 

@@ -1,7 +1,5 @@
 use Rattle.std.proofs.Common.{◌∙◌, ap, List, ℕ, subst}
-use Rattle.mimic_printer.specs.Report.{failures_text}
-use Rattle.mimic_printer.specs.Sink.{Adds}
-use Rattle.mimic_printer.specs.Row.{rows_from}
+use Rattle.libtest_mimic.specs.Prelude.{Adds, failures_text, rows_from}
 use Rattle.mimic_printer.proofs.FailedRows.{failures_text-failed}
 use Rattle.libtest_mimic.proofs.running.tally.Tally.add_failures.Goals as goal
 

@@ -1,7 +1,6 @@
 use Rattle.std.proofs.Common.{◌∙◌, ◌++◌, ◌∷◌, [], ap, sym}
 use Rattle.std.proofs.lemmas.List.{map-append}
-use Rattle.mimic_trial.specs.Count.{counted, is_failed}
-use Rattle.mimic_printer.specs.Row.{row_of, rows_from}
+use Rattle.libtest_mimic.specs.Prelude.{counted, is_failed, row_of, rows_from}
 use Rattle.mimic_printer.proofs.FailedRows.{failed-push}
 use Rattle.libtest_mimic.proofs.RowsInOrder.{counts-row}
 use Rattle.libtest_mimic.proofs.running.tally.Tally.record.Goals as goal
