@@ -4,7 +4,8 @@ use Rattle.std.proofs.lemmas.Bool.{false≢true}
 use Rattle.std.proofs.KnownBytes.{Appends-kept}
 use Rattle.std.specs.Io.KnownBytes.{Keeps}
 use Rattle.std.specs.declared.io.Error.{Error}
-use Rattle.libtest_mimic.specs.Prelude.{Asked, Conclusion, Done, HasAnswer, Lists, Put, RunError, Shown, shown, Sink, total_of, Watched}
+use Rattle.libtest_mimic.specs.Prelude.{Asked, Conclusion, Done, HasAnswer, Lists, Put, Shown, shown, Sink, total_of, Watched}
+use Rattle.libtest_mimic.specs.declared.running.RunError.{RunError}
 use Rattle.mimic_printer.specs.declared.sink.WriteFault.TheVariants as WriteFault
 use Rattle.libtest_mimic.specs.declared.running.RunError.TheVariants.{Write}
 use Rattle.libtest_mimic.specs.Run.{Runs}

@@ -1,7 +1,7 @@
 -- What still holds if an error is mapped.
 use Rattle.std.proofs.Common.{◌≡◌, Result, Ok, Err, IfErr, IfOk, IsErrAnd, is_ok, MatchResult, subst, sym}
 use Rattle.std.proofs.lemmas.Bool.{false≢true}
-use Rattle.libtest_mimic.specs.Prelude.{RunError}
+use Rattle.libtest_mimic.specs.declared.running.RunError.{RunError}
 use Rattle.mimic_main.specs.Ended.{IfOfRun}
 use Rattle.mimic_main.specs.declared.program.Fault.{Fault}
 use Rattle.mimic_main.specs.declared.program.Fault.TheVariants.{Run}

@@ -1,6 +1,7 @@
 -- How the program ends: its exit status, and what its output has got then.
 use Rattle.std.specs.Prelude.{◌≡◌, ◌⊎◌, ℕ, Bool, List, Option, IsNone, IsSome, if◌then◌else◌, Result, Ok, Err, IfOk, IfErr, nat_lt, ⊤}
-use Rattle.libtest_mimic.specs.Prelude.{Arguments, Asked, asking, Conclusion, Gives, RunError, Trial, Watched}
+use Rattle.libtest_mimic.specs.Prelude.{Arguments, Asked, asking, Conclusion, Gives, Trial, Watched}
+use Rattle.libtest_mimic.specs.declared.running.RunError.{RunError}
 use Rattle.mimic_args.specs.declared.error.ArgumentsError.{ArgumentsError}
 use Rattle.mimic_args.specs.declared.error.ArgumentsError.TheVariants.{OutOfMemory, Help, Refused}
 use Rattle.libtest_mimic.specs.CommandLine.{IsMeaningOf}

@@ -1,6 +1,7 @@
 -- What a run into a buffered writer returns, and what that writer has got.
 use Rattle.std.specs.Prelude.{◌≡◌, ℕ, List, [], length, Option, Result, Ok, Err, true, false}
-use Rattle.libtest_mimic.specs.Prelude.{Asked, Conclusion, counts_of, Done, HasAnswer, IsRunning, Lists, OfAsked, RunError, Shown, threads_of, total_of, Watched}
+use Rattle.libtest_mimic.specs.Prelude.{Asked, Conclusion, counts_of, Done, HasAnswer, IsRunning, Lists, OfAsked, Shown, threads_of, total_of, Watched}
+use Rattle.libtest_mimic.specs.declared.running.RunError.{RunError}
 use Rattle.std.specs.declared.io.Error.{Error}
 use Rattle.mimic_printer.specs.declared.sink.WriteFault.TheVariants as WriteFault
 use Rattle.libtest_mimic.specs.declared.running.RunError.TheVariants.{Write}

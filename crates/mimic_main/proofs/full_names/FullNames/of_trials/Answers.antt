@@ -14,7 +14,7 @@ loop-trial-preserved g c =
     was.are c.in_ok-push_full_name.ensures (c.len.ensures ∙ c.push_full_name.new.names.ok.0) c.in_ok-push.ensures.items in
     let next = take_more c.args.trials.now c.loop-trial.trial-index c.trial-item.result (omega (arith, c.loop-trial-test.true)) in
     let names =
-        ap (λ info. full_names_of seen ++ full_name_of info ∷ []) c.info.ensures
-        ∙ sym (map-append (λ (t : Trial _). full_name_of (info_of t)) seen (c.trial-item.result ∷ []))
-        ∙ ap (λ (t : Trial _). full_names_of (seen ++ t ∷ [])) c.trial-item.is ∙ ap full_names_of (sym next) in
+    ap (λ info. full_names_of seen ++ full_name_of info ∷ []) c.info.ensures
+    ∙ sym (map-append (λ (t : Trial _). full_name_of (info_of t)) seen (c.trial-item.result ∷ []))
+    ∙ ap (λ (t : Trial _). full_names_of (seen ++ t ∷ [])) c.trial-item.is ∙ ap full_names_of (sym next) in
     record { are = more.0; parts = more.1 ∙ ap (λ l. l ++ name ∷ []) was.parts ∙ names }
