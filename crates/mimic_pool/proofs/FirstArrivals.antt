@@ -6,8 +6,7 @@ use Rattle.std.proofs.lemmas.Bool.{cases_Bool, eq-eqb, eqb-true}
 use Rattle.std.proofs.lemmas.Bool.Decides.{eqb_tells, nat_tests}
 use Rattle.mimic_trial.specs.declared.outcome.Outcome.{Outcome}
 use Rattle.mimic_trial.specs.Places.{Placed, places_of}
-use Rattle.mimic_pool.specs.Arrivals.{Arrived, arrival_of, arrived_at, first_after, first_arrivals, has_come, is_first, order_of, rows_after}
-use Rattle.mimic_pool.specs.Keeping.{lent_of}
+use Rattle.mimic_pool.specs.Arrivals.{Arrived, arrival_of, arrived_at, first_after, first_arrivals, has_come, order_of, rows_after}
 use Rattle.mimic_pool.specs.declared.desk.Arrival.TheVariants.{First, Again, Stranger}
 
 -- ---- one more arrival
@@ -107,7 +106,7 @@ said d p h low e =
     let yes : nat_lt p d.places ≡ true = grind (arith, nat_tests) in
     ap (λ b. cond b Again First) (sym e) ∙ ap (λ t. cond t (cond (has_come p d.rows) Again First) Stranger) (sym yes)
 
--- ---- what is lent
+-- ---- what arrived last
 
 arrived_behind : (rows : List Placed) (p : ℕ) (o : Outcome) → has_come p rows ≡ false → arrived_at p (rows ++ (p, o) ∷ []) ≡ Some o
 arrived_behind [] p o none = ap (λ t. cond t (Some o) None) (eq-eqb p p refl)
@@ -120,18 +119,16 @@ arrived_behind (row ∷ rows) p o none =
     ]
 
 -- after a first arrival its outcome is at its place
-pub first_lent : (d : Arrived) (p : ℕ) (o : Outcome) → First ≡ arrival_of d p → arrived_at p (rows_after d.places d.rows (p, o)) ≡ lent_of d (p, o)
-first_lent d p o first =
-    let rows = d.rows ++ (p, o) ∷ [] in
-    elim (cases_Bool (nat_lt p d.places)) [
-      | inr f ↦ absurd (let no = first ∙ ap (λ t. cond t (cond (has_come p d.rows) Again First) Stranger) f in cc)
-      | inl t ↦ elim (cases_Bool (has_come p d.rows)) [
-        | inl h ↦ absurd (let no = first ∙ ap₂ (λ t h. cond t (cond h Again First) Stranger) t h in cc)
-        | inr n ↦
-            let yes : is_first d.places d.rows (p, o) ≡ true = ap₂ (λ t h. t && not h) t n in
-            ap (λ b. arrived_at p (cond b rows d.rows)) yes ∙ (arrived_behind d.rows p o n ∙ ap (λ b. cond b (Some o) None) (sym yes))
-      ]
-    ]
+pub first_arrived : (desk : Arrived) (place : ℕ) (o : Outcome) → arrival_of desk place ≡ First → arrived_at place (rows_after desk.places desk.rows (place, o)) ≡ Some o
+first_arrived desk place o first = elim (cases_Bool (nat_lt place desk.places)) [
+  | inr f ↦ absurd (let no = sym first ∙ ap (λ t. cond t (cond (has_come place desk.rows) Again First) Stranger) f in cc)
+  | inl t ↦ elim (cases_Bool (has_come place desk.rows)) [
+    | inl h ↦ absurd (let no = sym first ∙ ap₂ (λ t h. cond t (cond h Again First) Stranger) t h in cc)
+    | inr n ↦
+        ap (λ b. arrived_at place (cond b (desk.rows ++ (place, o) ∷ []) desk.rows)) (ap₂ (λ t h. t && not h) t n)
+        ∙ arrived_behind desk.rows place o n
+  ]
+]
 
 -- ---- the places at which nothing came
 

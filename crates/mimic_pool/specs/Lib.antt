@@ -6,7 +6,6 @@ pub mod Reports
 pub mod Arrivals
 pub mod Returned
 pub mod Missing
-pub mod Keeping
 pub mod Numbers
 pub mod Board
 pub mod Inbox

@@ -54,9 +54,6 @@ impl Model for Desk {
 }
 
 impl Desk {
-    ghost use Rattle.std.specs.Borrow.{sem};
-    ghost use Rattle.mimic_pool.specs.Keeping.{Keeps, lent_of};
-
     /// A desk of `n` places at which nothing arrived yet. All of its memory is taken here.
     pub fn new(alloc: Global, n: usize) -> Result<Desk, AllocError>
         ensures { IfOk result (λ desk. desk ≡ record { places = n; rows = [] }) }
@@ -94,17 +91,6 @@ impl Desk {
         self.numbers[place] = numbered(outcome, &mut self.outcomes);
         self.order.push_reserved(place);
         Arrival::First
-    }
-
-    /// Takes an arrival as `arrive` does, and lends its outcome if it is the first one at a place of the desk.
-    pub fn keep(&mut self, place: usize, outcome: Outcome) -> Option<&Outcome>
-        ensures* after { sem 𝓛 (Keeps self.entry (place, outcome)) }
-        ensures lent { option_copied result ≡ lent_of self.old (place, outcome) }
-    {
-        match self.arrive(place, outcome) {
-            Arrival::First => self.outcome(place),
-            Arrival::Again | Arrival::Stranger => None,
-        }
     }
 
     /// The first outcome that arrived at the place.

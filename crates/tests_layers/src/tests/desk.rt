@@ -79,18 +79,6 @@ const RETURNED: [([Plain; 3], Result<(), usize>); 2] = [
     ),
 ];
 
-// A desk lends what it keeps: the first outcome at each place that it has.
-#[test]
-fn lends_what_it_keeps(rt: HostRuntime) -> Result<(), Fail> {
-    let mut desk = Desk::new(rt.alloc(), 2)?;
-    assert!(rt; desk.keep(1, Outcome::Ignored) == Some(&Outcome::Ignored));
-    assert!(rt; desk.keep(1, Outcome::Passed).is_none());
-    assert!(rt; desk.keep(2, Outcome::Passed).is_none());
-    assert!(rt; desk.order() == [1].as_slice());
-    assert!(rt; desk.outcome(1) == Some(&Outcome::Ignored));
-    Ok(())
-}
-
 #[test]
 fn keeps_first_arrivals(rt: HostRuntime) -> Result<(), Fail> {
     let mut desk = Desk::new(rt.alloc(), 3)?;
