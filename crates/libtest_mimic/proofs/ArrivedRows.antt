@@ -28,10 +28,6 @@ first_row d p o e =
       ap (λ b. cond (b && not (has_come p d.rows)) (d.rows ++ (p, o) ∷ []) d.rows) h.0 ∙ ap (λ b. cond (true && not b) (d.rows ++ (p, o) ∷ []) d.rows) h.1,
     )
 
-pub row_last : (rows : List Placed) (row : Placed) → slice_get (rows ++ row ∷ []) (length rows) ≡ Some row
-row_last [] row = refl
-row_last (r ∷ rows) row = row_last rows row
-
 -- ---- texts of rows at places
 
 -- what a report shows of an info, by place

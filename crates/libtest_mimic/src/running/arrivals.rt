@@ -52,11 +52,12 @@ fn add_arrival<W: Write>(
         → AddsRows W.contents printer.now (AreArrived (is_timed inbox.now) infos.now desk.old) base sink.old
         → AddsRows W.contents printer.now (AreArrived (is_timed inbox.now) infos.now desk.new) base sink.new }
 {
-    let number = desk.order().len();
     let (place, outcome) = row;
     match desk.arrive(place, outcome) {
         Arrival::First => {
-            let (_, outcome) = desk.row(number);
+            let Some(outcome) = desk.outcome(place) else {
+                unreachable!()
+            };
             let nanos = time_shown(outcome, inbox.time(place));
             printer.add_row(sink, &infos[place], outcome, nanos);
         }
