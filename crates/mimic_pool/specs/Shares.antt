@@ -1,5 +1,5 @@
 -- Shares that workers start with, run and return.
-use Rattle.std.specs.Prelude.{◌≡◌, ◌%◌, ◌<◌, ◌≤◌, ◌==◌, ◌∷◌, [], ℕ, All, Bool, List, filter, length, map, slice_index_or, vec_capacity, vec_len}
+use Rattle.std.specs.Prelude.{◌≡◌, ◌%◌, ◌<◌, ◌≤◌, ◌==◌, ◌∷◌, [], ℕ, All, Bool, List, filter, length, map, slice_index_or}
 use Rattle.std.specs.List.{range_with_len}
 use Rattle.mimic_trial.specs.Places.{Placed, places_of}
 use Rattle.mimic_trial.specs.Promise.{Gives}
@@ -7,10 +7,9 @@ use Rattle.mimic_pool.specs.Answers.{Answers}
 use Rattle.mimic_pool.specs.Share.{AreShares, items_of, share_of}
 use Rattle.mimic_pool.specs.declared.share.Assigned.{Assigned}
 use Rattle.mimic_pool.specs.declared.share.Share.{Share}
-use Rattle.mimic_pool.specs.declared.shares.ShareWorkers.{ShareWorkers}
-use Rattle.mimic_pool.specs.declared.shares.ReadyShareWorkers.{ReadyShareWorkers}
-use Rattle.mimic_pool.specs.declared.ready_share_worker.AnswersShare.{AnswersShare}
-use Rattle.mimic_pool.specs.declared.ready_share_worker.ReadyShareWorker.{ReadyShareWorker}
+use Rattle.mimic_pool.specs.declared.share_workers.ShareWorkers.{ShareWorkers}
+use Rattle.mimic_pool.specs.declared.share_workers.AnswersShare.{AnswersShare}
+use Rattle.mimic_pool.specs.declared.share_workers.ReadyShareWorker.{ReadyShareWorker}
 use Rattle.std.specs.declared.thread.PromisedHandle.{PromisedHandle}
 
 module _ {X : Type 0} where
@@ -32,22 +31,12 @@ module _ {X : Type 0} where
     pub dealt : AreShares trials (length shares) shares
     pub runnable : All (λ item. can_run item.runner) trials
 
-  -- a worker can be started on each share, and joined
-  pub record AreReadyShareWorkers (can_run : X → Type 0) (ready : ReadyShareWorkers X) (trials : List (Assigned X)) : Type 0 where
-    pub dealt : AreDealt can_run (shares_of ready.workers.items) trials
-    pub no_handles : vec_len ready.handles ≡ 0
-    pub fits : vec_len ready.workers ≤ vec_capacity ready.handles
-    pub none_joined : vec_len ready.joined ≡ 0
-    pub fits_joined : vec_len ready.workers ≤ vec_capacity ready.joined
-
   -- a worker was started on each share in this mode
   pub record RunsShares (workers : ShareWorkers X) (mode : Bool) (trials : List (Assigned X)) : Type 0 where
     pub shares : List (Share X)
     pub some : 1 ≤ length shares
     pub dealt : AreShares trials (length shares) shares
     pub started : map job_of workers.handles.items ≡ jobs_of mode shares
-    pub none_joined : vec_len workers.joined ≡ 0
-    pub fits_joined : vec_len workers.handles ≤ vec_capacity workers.joined
 
 -- for each job in turn there are rows that answer it
 abbrev pub AreAnswered : {X : Type 0} → Gives X → List (Bool × List (Assigned X)) → List (List Placed) → Type 0

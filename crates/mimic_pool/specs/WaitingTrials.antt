@@ -2,7 +2,7 @@
 use Rattle.std.specs.Prelude.{ℕ, Bool, List, false, true, vec_len}
 use Rattle.mimic_trial.specs.Promise.{Gives}
 use Rattle.mimic_pool.specs.Queue.{AreReadyQueueWorkers, HoldsQueue, RunsQueue}
-use Rattle.mimic_pool.specs.Shares.{AreDealt, AreReadyShareWorkers, RunsShares}
+use Rattle.mimic_pool.specs.Shares.{AreDealt, RunsShares, shares_of}
 use Rattle.mimic_pool.specs.declared.share.Assigned.{Assigned}
 use Rattle.mimic_pool.specs.declared.waiting_trials.Workers.{Workers}
 use Rattle.mimic_pool.specs.declared.waiting_trials.Workers.TheVariants as workers
@@ -19,7 +19,7 @@ module _ {X : Type 0} where
 
   -- workers can be started for these trials
   abbrev pub AreReady : (X → Type 0) → ReadyWorkers X → List (Assigned X) → Type 0
-  AreReady can_run (ready.Shares made) trials = AreReadyShareWorkers can_run made trials
+  AreReady can_run (ready.Shares made) trials = AreDealt can_run (shares_of made.workers.items) trials
   AreReady can_run (ready.Queue made) trials = AreReadyQueueWorkers made trials
 
   -- how many workers can be started

@@ -24,13 +24,13 @@ mod memory_reports;
 mod outcome_kind;
 mod queue;
 mod queue_source;
-mod ready_share_worker;
 mod remaining;
 mod reports;
 mod row_buffer;
 mod rows;
 mod running;
 mod share;
+mod share_workers;
 mod shared_board;
 mod shared_queue;
 mod shares;
@@ -51,7 +51,7 @@ pub use reports::{Reports, Untold};
 pub use rows::{Rows, put_joined};
 pub use running::{RunningCell, RunningTrials};
 pub use share::{Share, deal, deal_next, empty_shares};
-pub use shares::{ReadyShareWorkers, ShareWorkers};
+pub use share_workers::{ReadyShareWorkers, ShareWorkers};
 pub use spawner::Spawner;
 pub use waiting_trials::{
     ReadyWorkers, Schedule, WaitingTrials, Workers, join_workers, start_workers, worker_count,

@@ -6,15 +6,17 @@ ghost use Rattle.mimic_pool.specs.Inbox.{board_of, is_timed};
 ghost use Rattle.mimic_pool.specs.Rows.{rows_in};
 ghost use Rattle.mimic_pool.specs.Share.{AllRunners, assigned_from, items_of};
 ghost use Rattle.mimic_pool.specs.Joined.{AreJoined};
-ghost use Rattle.mimic_pool.specs.Shares.{AreDealt, AreOfShares, AreReadyShareWorkers, RunsShares, shares_of};
+ghost use Rattle.mimic_pool.specs.Shares.{AreDealt, AreOfShares, RunsShares, shares_of};
 ghost use Rattle.mimic_pool.specs.declared.share.Assigned.{Assigned};
 
 use crate::board_reports::BoardReports;
 use crate::inbox::Inbox;
-use crate::ready_share_worker::{AnswersShare, ReadyShareWorker};
 use crate::rows::Rows;
 use crate::running::RunningTrials;
 use crate::share::Share;
+use crate::share_workers::{
+    AnswersShare, Handles, ReadyShareWorker, ReadyShareWorkers, ShareWorkers,
+};
 use crate::spawner::Spawner;
 use crate::worker::work_from;
 use mimic_trial::Task;
@@ -23,23 +25,6 @@ use std::snapshot::Snapshot;
 use std::sync::Arc;
 use std::thread;
 use std::thread::{PromisedHandle, Threads};
-
-// The handles of workers that were started, in the order of their shares.
-type Handles<T> = Vec<PromisedHandle<Rows, AnswersShare<T>>>;
-
-/// Workers that can be started, each with a share, and room for their handles and for what each returns.
-#[derive(Drop)]
-pub struct ReadyShareWorkers<T: Task> {
-    pub(crate) workers: Vec<ReadyShareWorker<T>>,
-    pub(crate) handles: Handles<T>,
-    pub(crate) joined: Vec<Rows>,
-}
-
-/// Workers that were started, each on its share, and room for what each returns.
-pub struct ShareWorkers<T: Task> {
-    pub(crate) handles: Handles<T>,
-    pub(crate) joined: Vec<Rows>,
-}
 
 // Makes a worker ready for each share, and an inbox to which they will report their rows, of which there are `count`.
 pub(crate) fn prepare_share_workers<T: Task>(
@@ -52,7 +37,7 @@ pub(crate) fn prepare_share_workers<T: Task>(
     ensures inbox { IfOk result (λ made. board_of made.0 ≡ empty_board count (vec_len made.1.workers)) }
     ensures timed { IfOk result (λ made. is_timed made.0 ≡ timed) }
     ensures ready { IfOk result (λ made. (trials : List (Assigned T)) → AreDealt T.can_run shares.items trials
-        → AreReadyShareWorkers T.can_run made.1 trials) }
+        → AreDealt T.can_run (shares_of made.1.workers.items) trials) }
 {
     let len = shares.len();
     let inbox = Inbox::with_times(alloc, count, len, timed, running)?;
@@ -73,9 +58,9 @@ pub(crate) fn start_share_workers<T: Task + Send + 'static, R: Spawner + 'static
     ready: ReadyShareWorkers<T>,
     test_mode: bool,
 ) -> Option<ShareWorkers<T>>
-    requires ready { (trials : List (Assigned T)) × AreReadyShareWorkers T.can_run ready trials }
-    ensures started { IfSome result (λ workers. (trials : List (Assigned T)) → AreReadyShareWorkers T.can_run ready trials
-        → RunsShares workers test_mode trials) }
+    requires ready { (trials : List (Assigned T)) × AreDealt T.can_run (shares_of ready.workers.items) trials }
+    ensures started { IfSome result (λ workers. (trials : List (Assigned T))
+        → AreDealt T.can_run (shares_of ready.workers.items) trials → RunsShares workers test_mode trials) }
 {
     let ReadyShareWorkers {
         workers,

@@ -18,9 +18,8 @@ use crate::queue::{
 use crate::rows::Rows;
 use crate::running::RunningTrials;
 use crate::share::{Assigned, Share, deal_next, empty_shares};
-use crate::shares::{
-    ReadyShareWorkers, ShareWorkers, join_share_workers, prepare_share_workers, start_share_workers,
-};
+use crate::share_workers::{ReadyShareWorkers, ShareWorkers};
+use crate::shares::{join_share_workers, prepare_share_workers, start_share_workers};
 use crate::spawner::Spawner;
 use mimic_trial::Task;
 use std::alloc::{AllocError, Global};

@@ -17,8 +17,7 @@ loop-handle-preserved g c =
     let rows = ap (map rows_in) pushed.items ∙ map-append rows_in c.loop-handle.joined.items (c.join.result ∷ []) in
     record {
       answered = job_answered g.T.Task.gives (map job_of c.args.workers.handles.items) (map job_of (into_iter_items c.loop-handle.handle-iterator)) (map job_of (into_iter_items c.next.new.self)) (map rows_in c.loop-handle.joined.items) (map rows_in c.push_reserved.new.self.items) (job_of c.in-Some.handle) (rows_in c.join.result) (ap (map job_of) next.0) rows c.join.ensures was.answered;
-      len = omega (arith, was.len, pushed.len, next.1);
-      room = omega (arith, was.room, pushed.capacity);
+      fits = omega (arith, was.fits, pushed.len, pushed.capacity, next.1);
     }
 
 pub returns : goal.returns

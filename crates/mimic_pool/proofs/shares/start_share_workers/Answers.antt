@@ -9,14 +9,14 @@ use Rattle.mimic_pool.proofs.shares.start_share_workers.Goals as goal
 
 pub loop-worker-init : goal.loop-worker-init
 loop-worker-init g c =
-    let ready = c.requires.ready.1 in
+    let ready = c.args.ready in
     let gives = c.into_iter-worker-iterator.ensures.into_iter_gives in
-    let none = nil_from_length c.args.ready.handles.items (sym c.args.ready.handles.ok.0 ∙ ready.no_handles) in
+    let none = nil_from_length ready.handles.items (sym ready.handles.ok.0 ∙ ready.no_handles) in
     record {
       jobs = rw (none, gives.0) refl;
       fits = omega (arith, ready.fits, ready.no_handles, gives.1);
       fits_joined = omega (arith, ready.fits_joined, ready.no_handles, gives.1);
-      runnable = rw gives.0 (runnable_shares g.T.Task.can_run _ c.requires.ready.0 ready.dealt);
+      runnable = rw gives.0 (runnable_shares g.T.Task.can_run _ c.requires.ready.0 c.requires.ready.1);
     }
 
 pub loop-worker-preserved : goal.loop-worker-preserved
@@ -49,10 +49,8 @@ returns g c =
     record {
       started = λ trials ready. record {
         shares = shares_of c.args.ready.workers.items;
-        some = ready.dealt.some;
-        dealt = ready.dealt.dealt;
+        some = ready.some;
+        dealt = ready.dealt;
         started = sym (append-nil (map job_of c.loop-worker.handles.items)) ∙ jobs;
-        none_joined = ready.none_joined;
-        fits_joined = omega (arith, was.fits_joined);
       };
     }
