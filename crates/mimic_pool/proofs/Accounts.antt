@@ -1,4 +1,4 @@
--- What follows once an account is known: its fields, and what there is room for.
+-- What follows once an account is known: its fields, what there is room for, and the parts of all.
 use Rattle.std.proofs.Common.{◌≡◌, ◌∙◌, ◌++◌, ◌+◌, ◌<◌, ◌≤◌, ℕ, [], List, ap, append-nil, arith, length, length-append}
 use Rattle.mimic_pool.specs.declared.shared_queue.Account.{Account}
 use Rattle.mimic_pool.specs.declared.share.Assigned.{Assigned}
@@ -41,3 +41,17 @@ module _ {A : Type 0} (put taken items : List A) (room : ℕ) (fits : length put
 
   pub room_left : (left : ℕ) → room ≤ left + length items → length all ≤ length longer + left
   room_left left used = let put_len = ap length same in let taken_len = ap length took in omega (arith, length-append taken items, put_len, taken_len, fits, used)
+
+-- of those that are left one was added
+module _ (n n' left rest : ℕ) (one : n' ≡ n + 1) (next : rest + 1 ≡ left) where
+  -- the sum stays
+  pub moved : n' + rest ≡ n + left
+  moved = omega (arith, one, next)
+
+  -- beside others, which are counted second or first, it stays, too
+  module _ (more : ℕ) where
+    pub moved_before : n' + more + rest ≡ n + more + left
+    moved_before = omega (arith, one, next)
+
+    pub moved_behind : more + n' + rest ≡ more + n + left
+    moved_behind = omega (arith, one, next)

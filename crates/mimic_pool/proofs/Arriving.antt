@@ -3,6 +3,7 @@ use Rattle.std.proofs.Common.{◌≡◌, ◌∙◌, ℕ, suc, zero, ◌+◌, ◌
 use Rattle.std.specs.Prelude.{slice_get}
 use Rattle.std.specs.List.{range_with_len}
 use Rattle.std.specs.List.Sorted.{IsPermutation}
+use Rattle.std.proofs.Math.Bool.{or-false}
 use Rattle.std.proofs.lemmas.List.{map-append}
 use Rattle.std.proofs.lemmas.Bool.Decides.{eqb_tells}
 use Rattle.std.proofs.lemmas.List.Folds.{list_any-append}
@@ -12,7 +13,6 @@ use Rattle.mimic_trial.specs.declared.outcome.Outcome.TheVariants.{Ignored}
 use Rattle.mimic_trial.specs.Places.{Placed, placed_at, placed_if, places_of}
 use Rattle.mimic_pool.specs.Arrivals.{Arrived, has_come, missing_of, rows_after}
 use Rattle.mimic_pool.proofs.FirstArrivals.{again_kept, first_kept}
-use Rattle.mimic_pool.proofs.Numbering.{or_false}
 
 -- of `count` places from this one on, those at which nothing came
 abbrev pub missing_from : ℕ → ℕ → List Placed → List ℕ
@@ -35,7 +35,7 @@ missing_after place (suc count) low o rows lower =
     let rest = missing_after (place + 1) count low o rows (omega arith) in
     let other : eqb place low ≡ false = elim (eqb_tells place low) [ inl e ↦ absurd (let k = e.1 in omega arith) | inr e ↦ e.0 ] in
     let same : has_come place (rows ++ (low, o) ∷ []) ≡ has_come place rows =
-    list_any-append (λ a. eqb place a.0) rows ((low, o) ∷ []) ∙ (ap (λ t. has_come place rows || (t || false)) other ∙ or_false (has_come place rows)) in
+    list_any-append (λ a. eqb place a.0) rows ((low, o) ∷ []) ∙ (ap (λ t. has_come place rows || (t || false)) other ∙ or-false (has_come place rows)) in
     ap (λ t. cond (not t) (place ∷ missing_from (place + 1) count (rows ++ (low, o) ∷ [])) (missing_from (place + 1) count (rows ++ (low, o) ∷ []))) same
     ∙ ap (λ l. cond (not (has_come place rows)) (place ∷ l) l) rest
 

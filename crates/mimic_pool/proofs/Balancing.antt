@@ -2,7 +2,7 @@
 use Rattle.std.proofs.Common.{◌≡◌, ◌≢◌, ℕ, zero, suc, List, [], ◌∷◌, ◌++◌, ◌+◌, ◌-◌, ◌<◌, ◌≤◌, ◌^◌, set, sym, refl, ap, ◌∙◌, subst, ⊎_elim, append-nil, append_assoc, arith, length-append}
 use Rattle.std.specs.List.{flat_map, sum_by}
 use Rattle.std.specs.List.Sorted.{IsPermutation}
-use Rattle.std.proofs.lemmas.List.Sorted.{IsPermutation-refl, IsPermutation-sym, IsPermutation-trans, IsPermutation-append_left, IsPermutation-append_right, IsPermutation-append_comm, length_permutation}
+use Rattle.std.proofs.lemmas.List.Sorted.{IsPermutation-sym, IsPermutation-trans, IsPermutation-append_left, IsPermutation-append_right, IsPermutation-append_comm, length_permutation}
 use Rattle.std.proofs.lemmas.List.Elements.{All-head, All-tail, All-append, All-cons}
 use Rattle.std.proofs.lemmas.List.Concat.{flat_map-append}
 use Rattle.std.proofs.lemmas.List.Sums.{sum_by-append, sum_by-cons}
@@ -230,15 +230,3 @@ module _ {X : Type 0} where
           idle = idle_set (set views port both) other spent (λ _. (refl, refl)) (idle_set views port both (λ none. absurd (omega arith)) kept.idle);
           items = kept.items;
         }
-
-    idle_first : (port : ℕ) (v : Account X) → get_elem? (account (2 ^ 64) [] [] ∷ []) port ≡ some v → v.parts ≡ 0 → (v.put ≡ []) × (v.taken ≡ [])
-    idle_first zero v at none = let e = some-injective (account (2 ^ 64) [] []) v at in (ap (λ (y : Account X). y.put) (sym e), ap (λ (y : Account X). y.taken) (sym e))
-    idle_first (suc port) v at none = absurd (some-ne-none v (sym at))
-
-    pub begins : IsBalanced can_run [] (account (2 ^ 64) [] [] ∷ [])
-    begins = record {
-      parts = refl;
-      same = IsPermutation-refl [];
-      idle = λ port v at none. idle_first port v at none;
-      items = λ k d below. absurd (omega arith);
-    }

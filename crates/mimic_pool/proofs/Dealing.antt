@@ -1,14 +1,16 @@
--- One runner more is dealt.
-use Rattle.std.proofs.Common.{◌≡◌, ◌≢◌, ◌∙◌, ℕ, ◌+◌, ◌%◌, ◌<◌, ◌==◌, Bool, true, false, List, [], ◌∷◌, ◌++◌, cond, length, length-append, slice_index_or, slice_set, map, suc, zero, refl, sym, ap, arith}
-use Rattle.std.specs.Prelude.{Ok, Err, OnErr, Result}
+-- A runner more is dealt, or put into the batch that is being filled.
+use Rattle.std.proofs.Common.{◌≡◌, ◌≢◌, ◌∙◌, ℕ, ◌+◌, ◌%◌, ◌<◌, ◌==◌, Bool, true, false, List, [], ◌∷◌, ◌++◌, cond, length, slice_index_or, slice_set, refl, sym, ap, arith, All, append_assoc, subst}
+use Rattle.std.specs.Prelude.{Ok, Err, OnErr, Result, OnOk}
 use Rattle.std.proofs.lemmas.Grind.{get_or-set_at}
 use Rattle.std.proofs.lemmas.List.{append-nil, get_or_default, get_or-set_other}
-use Rattle.std.proofs.lemmas.List.Elements.{filter-append}
+use Rattle.std.proofs.lemmas.List.Elements.{filter-append, All-push}
 use Rattle.std.proofs.lemmas.Bool.Decides.{nat_tests}
 use Rattle.mimic_pool.specs.declared.share.Assigned.{Assigned}
 use Rattle.mimic_pool.specs.declared.share.Share.{Share}
-use Rattle.mimic_pool.specs.Share.{AreShares, IsDealt, assigned_from, items_of, share_of}
-use Rattle.mimic_pool.proofs.Elements.{with_one}
+use Rattle.mimic_pool.specs.Share.{AreShares, assigned_from, items_of, share_of}
+use Rattle.mimic_pool.specs.declared.queue.Queue.{Queue}
+use Rattle.mimic_pool.specs.Balance.{account_of}
+use Rattle.mimic_pool.specs.Queue.{IsFilling}
 
 -- what holds anyhow holds of a refusal
 pub on_refusal : {T E P : Type 0} (r : Result T E) → P → OnErr r P
@@ -16,12 +18,6 @@ on_refusal (Ok x) p = tt
 on_refusal (Err e) p = p
 
 module _ {X : Type 0} where
-  -- a share more, to which nothing was dealt either
-  pub none_dealt : (n : ℕ) (S new : List (Share X)) (s : Share X) → length S ≡ n → new ≡ S ++ s ∷ [] → items_of s ≡ [] → IsDealt [] [] n S → IsDealt [] [] (n + 1) new
-  none_dealt n S new s len is none dealt = λ w d low.
-      let count = ap length is in
-      with_one (λ s. items_of s ≡ []) s S new is (λ k d below. dealt k d (omega (arith, below, len))) none w d (omega (arith, low, len, count, length-append S (s ∷ [])))
-
   -- a runner more is assigned behind the others
   pub assigned_more : (k p : ℕ) (rs : List X) (bs : List Bool) (r : X) (b : Bool) → k + length rs ≡ p → length rs ≡ length bs
       → assigned_from k (rs ++ r ∷ []) (bs ++ b ∷ []) ≡ assigned_from k rs bs ++ record { place = p; runner = r; ignored = b } ∷ []
@@ -64,9 +60,20 @@ module _ {X : Type 0} where
       ap (λ k. items_of (slice_index_or (slice_set S k new) w d)) e
       ∙ dealt_by workers p w S d new items item place (omega (arith, e, below)) last (dealt w d low) (item.place % workers == w) refl
 
-  -- a share that was set to one with the same items
-  pub map_kept : (S : List (Share X)) (at : ℕ) (now new : Share X) → at < length S → now ≡ slice_index_or S at now → items_of new ≡ items_of now
-      → map items_of (slice_set S at new) ≡ map items_of S
-  map_kept [] at now new low value is = absurd (omega (arith, low))
-  map_kept (s ∷ S) zero now new low value is = ap (λ l. l ∷ map items_of S) (is ∙ ap items_of value)
-  map_kept (s ∷ S) (suc at) now new low value is = ap (λ l. items_of s ∷ l) (map_kept S at now new (omega (arith, low)) value is)
+-- what follows on success
+pub on_ok : {T E P Q : Type 0} (r : Result T E) → (P → Q) → OnOk r P → OnOk r Q
+on_ok (Ok x) f p = f p
+on_ok (Err e) f p = tt
+
+pub filled : {X : Type 0} (can_run : X → Type 0) (queue : Queue X) (next : Share X) (item : Assigned X) (trials : List (Assigned X)) → items_of next ≡ items_of queue.next ++ item ∷ [] → can_run item.runner
+    → IsFilling can_run queue trials → IsFilling can_run (record queue { next = next }) (trials ++ item ∷ [])
+filled can_run queue next item trials is may was = record {
+  ours = was.ours;
+  parts = was.parts;
+  none_taken = was.none_taken;
+  put = ap (λ l. (account_of queue.pass).put ++ l) is ∙ sym (append_assoc (account_of queue.pass).put (items_of queue.next) (item ∷ [])) ∙ ap (λ l. l ++ item ∷ []) was.put;
+  runnable = subst (λ l. All (λ item. can_run item.runner) l) (sym is) (All-push (λ item. can_run item.runner) (items_of queue.next) item was.runnable may);
+  some = was.some;
+  few = was.few;
+  workers = was.workers;
+}

@@ -9,14 +9,10 @@ pub mod Ordering
 pub mod Numbering
 pub mod Settling
 pub mod Arriving
-pub mod Having
 pub mod Returning
 pub mod Balancing
 pub mod Sources
 pub mod Sharing
-pub mod Handing
 pub mod Emptying
-pub mod Filling
 pub mod Elements
 pub mod Accounts
-pub mod Moving

@@ -4,13 +4,13 @@ use Rattle.std.specs.Prelude.{slice_get}
 use Rattle.std.specs.List.{list_any, IsDistinct, range_with_len}
 use Rattle.std.specs.List.Sorted.{IsPermutation}
 use Rattle.std.specs.Option.{option_map}
-use Rattle.std.proofs.Math.Bool.{or-true}
+use Rattle.std.proofs.Math.Bool.{or-false, or-true}
 use Rattle.std.proofs.Math.ListN.{get_or-append, get_or-eq_default, length-set}
 use Rattle.std.proofs.lemmas.Grind.{get_or-set_at}
 use Rattle.std.proofs.lemmas.List.{get_or-set_other, get_or_read_under, length-map, map-append}
 use Rattle.std.proofs.lemmas.List.Folds.{list_any-append}
-use Rattle.std.specs.Cmp.{IsEquivalence}
-use Rattle.std.proofs.lemmas.Bool.{cases_Bool, eqb-true, eq-eqb}
+use Rattle.std.proofs.lemmas.Cmp.{nat_eq_equiv}
+use Rattle.std.proofs.lemmas.Bool.{cases_Bool, eq-eqb}
 use Rattle.std.proofs.lemmas.Bool.Decides.{eqb_tells}
 use Rattle.std.proofs.lemmas.Map.Keys.{IsDistinct-push}
 use Rattle.std.proofs.lemmas.Map.Steps.{length-le_from_distinct_below}
@@ -68,26 +68,8 @@ module _ (at now : ℕ → Outcome) (p : ℕ) (others : (q : ℕ) → q ≢ p �
 
 -- ---- an order of different places
 
-pub or_false : (b : Bool) → (b || (false || false)) ≡ b
-or_false true = refl
-or_false false = refl
-
-pub or_true : (b : Bool) → (b || (true || false)) ≡ true
-or_true true = refl
-or_true false = refl
-
-pub eqb_equiv : IsEquivalence eqb
-eqb_equiv = record {
-  refl = λ x. eq-eqb x x refl;
-  symm = λ x y. elim (eqb_tells x y) [
-    | inl h ↦ h.0 ∙ sym (eq-eqb y x (sym h.1))
-    | inr h ↦ elim (eqb_tells y x) [ inl k ↦ absurd (h.1 (sym k.1)) | inr k ↦ h.0 ∙ sym k.0 ]
-  ];
-  congr = λ x y z h. ap (λ v. eqb v z) (eqb-true x y h);
-}
-
 pub distinct_more : (xs : List ℕ) (p : ℕ) → IsDistinct eqb xs → list_any (eqb p) xs ≡ false → IsDistinct eqb (xs ++ p ∷ [])
-distinct_more xs p d none = IsDistinct-push eqb_equiv xs p d none
+distinct_more xs p d none = IsDistinct-push nat_eq_equiv xs p d none
 
 -- an order of places and one more behind them
 module _ (order : List ℕ) (p : ℕ) where
@@ -99,8 +81,8 @@ module _ (order : List ℕ) (p : ℕ) where
       → (q : ℕ) → list_any (eqb q) (order ++ p ∷ []) ≡ now q
   flags_more flag now known here others q =
       elim (eqb_tells q p) [
-        | inl e ↦ in_more q true e.0 ∙ (or_true (list_any (eqb q) order) ∙ (sym here ∙ ap now (sym e.1)))
-        | inr e ↦ in_more q false e.0 ∙ (or_false (list_any (eqb q) order) ∙ (known q ∙ sym (others q e.1)))
+        | inl e ↦ in_more q true e.0 ∙ (or-true (list_any (eqb q) order) ∙ (sym here ∙ ap now (sym e.1)))
+        | inr e ↦ in_more q false e.0 ∙ (or-false (list_any (eqb q) order) ∙ (known q ∙ sym (others q e.1)))
       ]
 
   -- there is room for a place that is not in the order
@@ -109,7 +91,7 @@ module _ (order : List ℕ) (p : ℕ) where
     more_below q h =
         elim (eqb_tells q p) [
           | inl e ↦ let same = e.1 in omega arith
-          | inr e ↦ below q (sym (or_false (list_any (eqb q) order)) ∙ (sym (in_more q false e.0) ∙ h))
+          | inr e ↦ below q (sym (or-false (list_any (eqb q) order)) ∙ (sym (in_more q false e.0) ∙ h))
         ]
 
     pub room_left : IsDistinct eqb order → list_any (eqb p) order ≡ false → length order < n

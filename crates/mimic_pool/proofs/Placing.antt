@@ -7,6 +7,7 @@ use Rattle.std.proofs.Math.ListN.{length-set}
 use Rattle.std.proofs.lemmas.Bool.Decides.{eqb_tells}
 use Rattle.std.proofs.lemmas.Grind.{get_or-set_at}
 use Rattle.std.proofs.lemmas.List.{get_or-set_other, map-append}
+use Rattle.std.proofs.lemmas.Cmp.{nat_eq_equiv}
 use Rattle.std.proofs.lemmas.List.Elements.{All-cons, All-contains, All-nil, Contains-append_right}
 use Rattle.std.proofs.lemmas.List.Sorted.{IsPermutation-map, IsPermutation-sym}
 use Rattle.std.proofs.lemmas.Map.Keys.{IsDistinct-IsPermutation, IsDistinct-head, IsDistinct-tail}
@@ -20,7 +21,6 @@ use Rattle.mimic_pool.specs.Joined.{AnswersSome, HavePlaces, put_all, put_each}
 use Rattle.mimic_pool.specs.Share.{assigned_from, share_of}
 use Rattle.mimic_pool.proofs.Joining.{length_put, put_flat}
 use Rattle.mimic_pool.proofs.Ordering.{Lacks, distinct_range}
-use Rattle.mimic_pool.proofs.Numbering.{eqb_equiv}
 
 -- ---- which places rows have
 
@@ -88,7 +88,7 @@ distinct_front (x ∷ xs) ys d = (lacks_front x xs ys d.0, distinct_front xs ys 
 places_distinct : (whole : Bool) (count : ℕ) (joined : List (List Placed)) → HavePlaces whole count joined → IsDistinct eqb (places_of (flat_map (λ rows. rows) joined))
 places_distinct whole count joined have =
     let places = places_of (flat_map (λ rows. rows) joined) in
-    distinct_front places have.left (IsDistinct-IsPermutation eqb eqb_equiv.symm (range_with_len 0 count) (places ++ have.left) (IsPermutation-sym _ _ have.once) (distinct_range 0 count))
+    distinct_front places have.left (IsDistinct-IsPermutation eqb nat_eq_equiv.symm (range_with_len 0 count) (places ++ have.left) (IsPermutation-sym _ _ have.once) (distinct_range 0 count))
 
 -- ---- what is at a place once rows are put
 

@@ -4,6 +4,7 @@ use Rattle.std.specs.Prelude.{IfNone, IfSome, slice_get}
 use Rattle.std.specs.List.{list_any}
 use Rattle.std.specs.Vec.{with_item}
 use Rattle.std.proofs.Math.ListN.{length-set}
+use Rattle.std.proofs.lemmas.Cmp.{nat_eq_equiv}
 use Rattle.std.proofs.lemmas.Grind.{get_or-set_at}
 use Rattle.std.proofs.lemmas.List.{drop-append-le, get_or-set_other, get_or_default, map-append}
 use Rattle.std.proofs.lemmas.Map.Views.{All-from_any}
@@ -13,7 +14,7 @@ use Rattle.mimic_pool.specs.Posted.{IsBoard, posted}
 use Rattle.mimic_pool.specs.Rows.{Returned}
 use Rattle.mimic_pool.specs.declared.board.Board.TheInside.{Inside}
 use Rattle.mimic_pool.proofs.Reporting.{accepted_free, drop_first, report_accepted, taken_first}
-use Rattle.mimic_pool.proofs.Numbering.{distinct_more, eqb_equiv, flags_more, room_left}
+use Rattle.mimic_pool.proofs.Numbering.{distinct_more, flags_more, room_left}
 
 flag_low : (flags : List Bool) (p : ℕ) → slice_index_or flags p false ≡ true → p < length flags
 flag_low [] p is = absurd (cc)
@@ -91,7 +92,7 @@ module _ (board : Inside) (rows : Returned) where
 pub history_shown : (board : Inside) → IsBoard board → HasHistory (posted board)
 history_shown board is = record {
   distinct = is.distinct;
-  below = All-from_any eqb_equiv (λ p. p < length board.reported.items) board.rows.order (order_low board is);
+  below = All-from_any nat_eq_equiv (λ p. p < length board.reported.items) board.rows.order (order_low board is);
   taken = is.taken;
   waiting = is.waiting;
   closed = is.closed;

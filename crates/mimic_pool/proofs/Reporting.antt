@@ -1,5 +1,5 @@
 -- What calls make of what a board shows, beside the reports that it agrees with.
-use Rattle.std.proofs.Common.{◌≡◌, ◌∙◌, ℕ, suc, zero, ◌+◌, ◌<◌, ◌≤◌, nat_lt, eqb, Bool, true, false, not, ◌&&◌, ◌||◌, cond, List, [], ◌∷◌, ◌++◌, Option, drop, length, refl, sym, ap, append_assoc, append-nil, arith, subst, take}
+use Rattle.std.proofs.Common.{◌≡◌, ◌∙◌, ℕ, suc, zero, ◌+◌, ◌<◌, ◌≤◌, nat_lt, eqb, Bool, true, false, not, ◌&&◌, ◌||◌, cond, List, [], ◌∷◌, ◌++◌, Option, drop, length, refl, sym, ap, append_assoc, append-nil, arith, take}
 use Rattle.std.specs.List.{list_any}
 use Rattle.std.specs.Prelude.{min, slice_get}
 use Rattle.std.proofs.lemmas.List.{drop-append-le, map-append}
@@ -94,9 +94,6 @@ length_places (row ∷ rows) = ap suc (length_places rows)
 
 -- ---- agreement, call by call
 
-pub agrees_empty : (places workers : ℕ) → Agrees (empty_board places workers) []
-agrees_empty places workers = record { order = refl; waiting = refl }
-
 pub agrees_reported : (board new : Posted) (row : Placed) → board.taken ≤ length board.order → new ≡ after_report board row
     → (reports : List Placed) → Agrees board reports → Agrees new (reports ++ row ∷ [])
 unfolding reported
@@ -151,11 +148,6 @@ agrees_taken board new made reports agrees =
       order = ap (λ b. b.order) made ∙ (agrees.order ∙ ap places_of (sym all));
       waiting = ap (λ b. b.waiting) made ∙ (rest_taken board.waiting board.taken F agrees.waiting ∙ (ap (λ k. drop k F) (sym (ap (λ b. b.taken) made)) ∙ ap (drop new.taken) (sym all)));
     }
-
-pub agrees_closed : (board new : Posted) → new ≡ after_close board → (reports : List Placed) → Agrees board reports → Agrees new reports
-agrees_closed board new made reports agrees =
-    let P : Posted → Type 0 = λ b. Agrees b reports in
-    subst P (sym made) (record { order = agrees.order; waiting = agrees.waiting })
 
 -- ---- any calls
 

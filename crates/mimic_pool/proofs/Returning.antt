@@ -6,7 +6,7 @@ use Rattle.std.specs.Option.{option_copied, option_eq}
 use Rattle.std.proofs.Math.Seq.{drop-cons}
 use Rattle.std.proofs.lemmas.List.{drop-append-le, drop-drop, length-drop, nil_from_length}
 use Rattle.std.proofs.lemmas.List.Elements.{All-cons, All-head, All-tail}
-use Rattle.std.proofs.lemmas.Slice.Zip.{get_or-zip}
+use Rattle.std.proofs.lemmas.Slice.Zip.{get_or-zip, length-zip}
 use Rattle.mimic_trial.specs.declared.outcome.Outcome.{Outcome}
 use Rattle.mimic_trial.specs.Places.{Placed}
 use Rattle.mimic_trial.specs.Same.{outcome_decides, same_outcome}
@@ -66,11 +66,6 @@ zip_more [] (n ∷ kinds) p m len = absurd (omega arith)
 zip_more (q ∷ places) [] p m len = absurd (omega arith)
 zip_more (q ∷ places) (n ∷ kinds) p m len = ap (λ l. (q, n) ∷ l) (zip_more places kinds p m (omega arith))
 
-pub length_zipped : (places : List ℕ) (kinds : List OutcomeKind) → length kinds ≡ length places → length (zip places kinds) ≡ length places
-length_zipped [] kinds len = refl
-length_zipped (q ∷ places) [] len = absurd (omega arith)
-length_zipped (q ∷ places) (n ∷ kinds) len = ap suc (length_zipped places kinds (omega arith))
-
 length_rows : (ms : List (ℕ × OutcomeKind)) (kept : List Outcome) → length (rows_of ms kept) ≡ length ms
 length_rows [] kept = refl
 length_rows (m ∷ ms) kept = ap suc (length_rows ms (kept_after m.1 kept))
@@ -79,7 +74,7 @@ module _ (places : List ℕ) (kinds : List OutcomeKind) (same : length kinds ≡
   module _ (taken : ℕ) (few : taken ≤ length places) where
     left_more : (p : ℕ) (m : OutcomeKind) → drop taken (zip (places ++ p ∷ []) (kinds ++ m ∷ [])) ≡ drop taken (zip places kinds) ++ (p, m) ∷ []
     left_more p m =
-        let len = length_zipped places kinds same in
+        let len = length-zip places kinds in
         ap (drop taken) (zip_more places kinds p m same) ∙ drop-append-le taken (zip places kinds) ((p, m) ∷ []) (omega (arith, few, len))
 
     -- no more is kept than there are places
@@ -87,7 +82,7 @@ module _ (places : List ℕ) (kinds : List OutcomeKind) (same : length kinds ≡
     kept_fits kept is =
         let weight = weight_few (drop taken (zip places kinds)) in
         let left = length-drop taken (zip places kinds) in
-        let len = length_zipped places kinds same in
+        let len = length-zip places kinds in
         omega (arith, is, weight, left, len)
 
     module _ (p : ℕ) (o : Outcome) (kept : List Outcome) (is : length kept ≡ weight_of_all (drop taken (zip places kinds))) where
@@ -106,7 +101,7 @@ module _ (places : List ℕ) (kinds : List OutcomeKind) (same : length kinds ≡
           omega (arith, all, more, one, is)
 
   pub count_left : (k : ℕ) (kept : List Outcome) → length (rows_of (drop k (zip places kinds)) kept) + k ≡ length places + (k - length places)
-  count_left k kept = omega (arith, length_rows (drop k (zip places kinds)) kept, length-drop k (zip places kinds), length_zipped places kinds same)
+  count_left k kept = omega (arith, length_rows (drop k (zip places kinds)) kept, length-drop k (zip places kinds), length-zip places kinds)
 
   -- ---- the first row
 
@@ -114,14 +109,14 @@ module _ (places : List ℕ) (kinds : List OutcomeKind) (same : length kinds ≡
       → drop k (zip places kinds) ≡ (p, m) ∷ drop (k + 1) (zip places kinds)
   first_left k p m low place kind =
       let z = zip places kinds in
-      let len = length_zipped places kinds same in
+      let len = length-zip places kinds in
       let one : suc k ≡ k + 1 = omega arith in
       let here : slice_index_or z k (p, m) ≡ (p, m) = get_or-zip places kinds k (p, m) low (omega (arith, low, same)) ∙ (ap (λ q. (q, slice_index_or kinds k m)) (sym place) ∙ ap (λ n. (p, n)) (sym kind)) in
       drop-cons z k (p, m) (omega (arith, low, len)) ∙ (ap (λ row. row ∷ drop (suc k) z) here ∙ ap (λ n. (p, m) ∷ drop n z) one)
 
   -- nothing is left
   pub none_left : (k : ℕ) → length places ≤ k → drop k (zip places kinds) ≡ []
-  none_left k high = nil_from_length (drop k (zip places kinds)) (let len = length_zipped places kinds same in let left = length-drop k (zip places kinds) in omega (arith, len, left, high))
+  none_left k high = nil_from_length (drop k (zip places kinds)) (let len = length-zip places kinds in let left = length-drop k (zip places kinds) in omega (arith, len, left, high))
 
 -- ---- what holds of each row
 

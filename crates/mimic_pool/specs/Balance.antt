@@ -4,6 +4,8 @@ use Rattle.std.specs.List.{flat_map, sum_by}
 use Rattle.std.specs.List.Sorted.{IsPermutation}
 use mathlib.Core.Option.{some}
 use lib.ListN.{get_elem?}
+use Rattle.atomic_blocks.specs.declared.web.Seat.{Seat}
+use Rattle.crossbeam_queue.specs.declared.seg_queue.Going.{Going}
 use Rattle.mimic_pool.specs.declared.shared_queue.Account.{Account}
 use Rattle.mimic_pool.specs.declared.shared_queue.TheConstants.{MOST_IN_BATCH}
 use Rattle.mimic_pool.specs.declared.share.Assigned.{Assigned}
@@ -13,6 +15,10 @@ use Rattle.mimic_pool.specs.Share.{AllRunners, items_of}
 -- all parts of the right to know the whole
 abbrev pub all_parts : ℕ
 all_parts = 2 ^ 64
+
+-- what the owner of a pass has put and taken
+abbrev pub account_of : {S T V A : Type 0} → Seat S (Going T V) A → V
+account_of pass = pass.me.view.client
 
 module _ {X : Type 0} where
   abbrev pub account : ℕ → List (Assigned X) → List (Assigned X) → Account X

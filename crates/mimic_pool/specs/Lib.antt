@@ -13,7 +13,5 @@ pub mod OutcomeKinds
 pub mod Posted
 pub mod Rows
 pub mod Balance
-pub mod Passes
 pub mod Queue
-pub mod Taking
 pub mod WaitingTrials

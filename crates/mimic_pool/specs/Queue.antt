@@ -1,4 +1,5 @@
 -- What a queue of trials holds, and its workers before they start, while they run and when they have ended.
+use Rattle.std.proofs.Common.{◌∙◌, ap, append-nil, append_assoc, refl, subst, sym}
 use Rattle.std.specs.Prelude.{◌≡◌, ◌+◌, ◌++◌, ◌<◌, ◌≤◌, ℕ, All, Bool, List, [], length, true, vec_capacity, vec_len}
 use Rattle.std.specs.Arc.{arc_value}
 use Rattle.std.specs.List.{flat_map}
@@ -8,8 +9,7 @@ use Rattle.crossbeam_queue.specs.SegTies.{IsSegPassOf, SegId}
 use Rattle.mimic_trial.specs.Promise.{Gives}
 use Rattle.mimic_pool.specs.Answers.{Answers}
 use Rattle.mimic_pool.specs.Joined.{AnswersSome}
-use Rattle.mimic_pool.specs.Balance.{account, all_parts}
-use Rattle.mimic_pool.specs.Passes.{account_of}
+use Rattle.mimic_pool.specs.Balance.{account, account_of, all_parts}
 use Rattle.mimic_pool.specs.Share.{AllRunners, items_of}
 use Rattle.mimic_pool.specs.declared.queue.Queue.{Queue}
 use Rattle.mimic_pool.specs.declared.queue.QueueWorkers.{QueueWorkers}
@@ -109,3 +109,26 @@ pub record RunsQueue {X : Type 0} (gives : Gives X) (workers : QueueWorkers X) (
   pub fits : vec_len workers.joined + vec_len workers.handles < vec_capacity workers.joined
   pub no_rows : workers.spare.items ≡ []
   pub fits_rows : length trials ≤ workers.spare.room
+
+-- ---- laws of a worker's end of a queue
+
+module _ {X R : Type 0} where
+  -- nothing was handed out yet
+  pub goes_nowhere : (source : QueueSource X R) → GoesOn source [] source
+  goes_nowhere source = record {
+    same = refl;
+    ours = λ ours. ours;
+    parts = refl;
+    put = refl;
+    taken = λ before is. is ∙ ap (λ l. l ++ source.left) (sym (append-nil before));
+  }
+
+  -- what was handed out first, and then
+  pub goes_on_twice : (first mid last : QueueSource X R) (items more : List (Assigned X)) → GoesOn first items mid → GoesOn mid more last → GoesOn first (items ++ more) last
+  goes_on_twice first mid last items more was is = record {
+    same = is.same ∙ was.same;
+    ours = λ ours. subst (λ q. IsSegPassOf q last.pass) was.same (is.ours (subst (λ q. IsSegPassOf q mid.pass) (sym was.same) (was.ours ours)));
+    parts = is.parts ∙ was.parts;
+    put = is.put ∙ was.put;
+    taken = λ before begun. is.taken (before ++ items) (was.taken before begun) ∙ ap (λ l. l ++ last.left) (append_assoc before items more);
+  }

@@ -56,8 +56,7 @@ impl<T: Task, R: Wait + Drop> QueueSource<T, R> {
 }
 
 impl<T: Task, R: Wait + Drop> Source<T> for QueueSource<T, R> {
-    ghost use Rattle.mimic_pool.specs.Queue.{GoesOn, MayTake, most_of};
-    ghost use Rattle.mimic_pool.specs.Taking.{goes_nowhere, goes_on_twice};
+    ghost use Rattle.mimic_pool.specs.Queue.{GoesOn, MayTake, goes_nowhere, goes_on_twice, most_of};
 
     ghost goes_on = { GoesOn };
 

@@ -2,8 +2,7 @@
 ghost use Rattle.std.specs.Prelude.{◌≡◌, ◌++◌, ◌+◌, ◌-◌, ◌<◌, ◌≤◌, [], IfNone, IfOk, IfSome, length};
 ghost use Rattle.std.specs.List.Sorted.{IsPermutation};
 ghost use Rattle.crossbeam_queue.specs.SegTies.{IsSegPassOf};
-ghost use Rattle.mimic_pool.specs.Balance.{IsItem, account, all_parts};
-ghost use Rattle.mimic_pool.specs.Passes.{account_of};
+ghost use Rattle.mimic_pool.specs.Balance.{IsItem, account, account_of, all_parts};
 ghost use Rattle.mimic_pool.specs.Share.{items_of};
 
 use crate::share::{Assigned, Share};

@@ -3,16 +3,14 @@ use Rattle.std.specs.Arc.{arc_value}
 use Rattle.std.specs.List.{flat_map}
 use Rattle.std.specs.Vec.Iter.{into_iter_items, into_iter_len}
 use Rattle.std.proofs.lemmas.List.Folds.{flat_map-map}
-use Rattle.mimic_pool.specs.Balance.{all_parts}
+use Rattle.mimic_pool.specs.Balance.{account_of, all_parts}
 use Rattle.mimic_pool.specs.Joined.{AreJoined}
-use Rattle.mimic_pool.specs.Passes.{account_of}
 use Rattle.mimic_pool.specs.Queue.{IsJob}
 use Rattle.mimic_pool.specs.Rows.{rows_in}
-use Rattle.mimic_pool.proofs.Accounts.{absorbed}
+use Rattle.mimic_pool.proofs.Accounts.{absorbed, moved}
 use Rattle.mimic_pool.proofs.Elements.{first_of, rest_of}
 use Rattle.mimic_pool.proofs.Emptying.{rows_pushed, takes_any, takes_both, takes_whole}
-use Rattle.mimic_pool.proofs.Handing.{job_done}
-use Rattle.mimic_pool.proofs.Moving.{moved}
+use Rattle.mimic_pool.proofs.Sources.{job_done}
 use Rattle.mimic_pool.proofs.queue.join_queue_workers.Goals as goal
 
 pub absorb-requires-clause-other : goal.absorb-requires-clause-other

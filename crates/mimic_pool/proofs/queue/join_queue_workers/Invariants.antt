@@ -3,9 +3,8 @@ use Rattle.std.specs.Arc.{arc_value}
 use Rattle.std.specs.List.{flat_map}
 use Rattle.std.specs.Vec.Iter.{into_iter_items, into_iter_len}
 use Rattle.crossbeam_queue.specs.SegTies.{IsSegPassOf}
-use Rattle.mimic_pool.specs.Balance.{all_parts}
+use Rattle.mimic_pool.specs.Balance.{account_of, all_parts}
 use Rattle.mimic_pool.specs.Joined.{AnswersSome}
-use Rattle.mimic_pool.specs.Passes.{account_of}
 use Rattle.mimic_pool.specs.Queue.{IsJob}
 use Rattle.mimic_pool.proofs.queue.join_queue_workers.Given as goal
 

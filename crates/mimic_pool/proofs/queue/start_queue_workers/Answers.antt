@@ -2,15 +2,13 @@ use Rattle.std.proofs.Common.{◌≡◌, ◌∙◌, [], ap, length, refl, rules,
 use Rattle.std.specs.Arc.{arc_value}
 use Rattle.std.specs.List.{flat_map}
 use Rattle.std.specs.Vec.Iter.{into_iter_items, into_iter_len}
-use Rattle.mimic_pool.specs.Balance.{all_parts}
+use Rattle.mimic_pool.specs.Balance.{account_of, all_parts}
 use Rattle.mimic_pool.specs.Joined.{AnswersSome}
-use Rattle.mimic_pool.specs.Passes.{account_of}
 use Rattle.mimic_pool.specs.Queue.{IsFresh, IsJob}
-use Rattle.mimic_pool.proofs.Accounts.{absorbed}
+use Rattle.mimic_pool.proofs.Accounts.{absorbed, moved_before, moved_behind}
 use Rattle.mimic_pool.proofs.Elements.{rest_of, with_one}
 use Rattle.std.proofs.lemmas.List.{nil_from_length}
 use Rattle.mimic_pool.proofs.Emptying.{rows_pushed, takes_both, takes_none}
-use Rattle.mimic_pool.proofs.Moving.{moved_before, moved_behind}
 use Rattle.mimic_pool.proofs.queue.start_queue_workers.Goals as goal
 
 pub loop-worker-init : goal.loop-worker-init

@@ -1,7 +1,6 @@
 use Rattle.std.proofs.Common.{◌∙◌, ◌++◌, subst, sym}
-use Rattle.mimic_pool.specs.Balance.{all_parts}
+use Rattle.mimic_pool.specs.Balance.{account_of, all_parts}
 use Rattle.mimic_pool.specs.Joined.{AnswersSome}
-use Rattle.mimic_pool.specs.Passes.{account_of}
 use Rattle.mimic_pool.specs.Share.{items_of}
 use Rattle.mimic_pool.proofs.Accounts.{fields_of, room_for, room_left}
 use Rattle.mimic_pool.proofs.queue.take_left.Goals as goal

@@ -1,7 +1,6 @@
 use Rattle.std.proofs.Common.{◌≡◌, ◌+◌, ◌++◌, ◌≤◌, length}
 use Rattle.crossbeam_queue.specs.SegTies.{IsSegPassOf}
-use Rattle.mimic_pool.specs.Balance.{all_parts}
-use Rattle.mimic_pool.specs.Passes.{account_of}
+use Rattle.mimic_pool.specs.Balance.{account_of, all_parts}
 use Rattle.mimic_pool.specs.Joined.{AnswersSome}
 use Rattle.mimic_pool.proofs.queue.take_left.Given as goal
 

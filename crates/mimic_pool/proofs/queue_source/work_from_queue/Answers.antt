@@ -1,5 +1,5 @@
 use Rattle.std.proofs.Common.{◌∙◌, [], sym}
-use Rattle.mimic_pool.specs.Passes.{account_of}
+use Rattle.mimic_pool.specs.Balance.{account_of}
 use Rattle.mimic_pool.proofs.Accounts.{fields_of}
 use Rattle.mimic_pool.proofs.Sources.{all_returned}
 use Rattle.mimic_pool.proofs.queue_source.work_from_queue.Goals as goal

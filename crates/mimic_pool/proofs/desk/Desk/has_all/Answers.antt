@@ -3,7 +3,7 @@ use Rattle.std.proofs.lemmas.List.{get_or-map, length-map, take_all}
 use Rattle.std.proofs.lemmas.List.Elements.{All-map, All-more}
 use Rattle.mimic_pool.specs.Rows.{rows_in}
 use Rattle.mimic_pool.specs.Returned.{HaveArrived}
-use Rattle.mimic_pool.proofs.Having.{all_stand, missing_none, order_as_long}
+use Rattle.mimic_pool.proofs.Settling.{all_stand, missing_none, order_as_long}
 use Rattle.mimic_pool.proofs.desk.Desk.has_all.Goals as goal
 
 pub returns-then-len-clause-all : goal.returns-then-len-clause-all

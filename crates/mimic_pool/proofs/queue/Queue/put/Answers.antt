@@ -1,5 +1,5 @@
 use Rattle.std.proofs.Common.{◌++◌, ◌∷◌, []}
-use Rattle.mimic_pool.proofs.Filling.{filled, on_ok}
+use Rattle.mimic_pool.proofs.Dealing.{filled, on_ok}
 use Rattle.mimic_pool.proofs.queue.Queue.put.Goals as goal
 
 pub returns : goal.returns

@@ -1,7 +1,7 @@
 use Rattle.std.proofs.Common.{[], ◌∙◌, ap, subst, sym}
 use Rattle.std.specs.Prelude.{Some}
 use Rattle.mimic_pool.specs.Queue.{GoesOn}
-use Rattle.mimic_pool.proofs.Handing.{handed, may_take_rest}
+use Rattle.mimic_pool.proofs.Sources.{handed, may_take_rest}
 use Rattle.mimic_pool.proofs.queue_source.QueueSourceSource.next.Goals as goal
 
 pub returns-in-Some-clause-ready : goal.returns-in-Some-clause-ready

@@ -1,6 +1,6 @@
 use Rattle.std.proofs.Common.{◌≡◌, length, rules, subst, vec_len}
 use Rattle.mimic_pool.specs.WaitingTrials.{Holds}
-use Rattle.mimic_pool.proofs.Filling.{on_ok}
+use Rattle.mimic_pool.proofs.Dealing.{on_ok}
 use Rattle.mimic_pool.proofs.Sharing.{deals_one}
 use Rattle.mimic_pool.proofs.waiting_trials.WaitingTrials.put.Goals as goal
 
