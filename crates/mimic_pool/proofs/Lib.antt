@@ -2,13 +2,11 @@ pub mod Dealing
 pub mod Working
 pub mod FirstArrivals
 pub mod Reporting
-pub mod Posting
 pub mod Joining
 pub mod Placing
 pub mod Ordering
 pub mod Numbering
 pub mod Settling
-pub mod Arriving
 pub mod Returning
 pub mod Balancing
 pub mod Sources

@@ -4,6 +4,7 @@ use Rattle.std.specs.List.{AllByRecursion, list_any, IsDistinct, range_with_len}
 use Rattle.std.specs.List.Sorted.{IsPermutation}
 use Rattle.std.proofs.lemmas.List.Sorted.{IsPermutation-refl, IsPermutation-cons, IsPermutation-middle, IsPermutation-trans, IsPermutation-sym}
 use Rattle.std.proofs.lemmas.Bool.{eq-eqb, eqb-true}
+use Rattle.std.proofs.lemmas.Cmp.{nat_eq_equiv}
 use Rattle.std.proofs.lemmas.Map.Views.{any-filter_same}
 use Rattle.std.proofs.lemmas.Bool.Decides.{eqb_tells}
 use Rattle.std.proofs.lemmas.Map.Keys.{IsDistinct-cons, IsDistinct-tail}
@@ -14,12 +15,6 @@ use Rattle.mimic_pool.specs.Arrivals.{has_come}
 abbrev pub Lacks : ℕ → List ℕ → Type 0
 Lacks x ys = AllByRecursion (λ y. eqb x y ≡ false) ys
 
-flip : (x y : ℕ) → eqb x y ≡ false → eqb y x ≡ false
-flip x y h = elim (eqb_tells y x) [
-  | inl e ↦ absurd (let k : eqb x y ≡ true = eq-eqb x y (sym e.1) in let w = sym k ∙ h in cc)
-  | inr e ↦ e.0
-]
-
 head_lacks : (x : ℕ) (ys : List ℕ) → IsDistinct eqb (x ∷ ys) → Lacks x ys
 unfolding IsDistinct
 head_lacks x ys d = d.0
@@ -28,7 +23,7 @@ head_lacks x ys d = d.0
 left_out : (x : ℕ) (ys : List ℕ) → Lacks x ys → filter (λ p. not (eqb p x)) ys ≡ ys
 left_out x [] h = refl
 left_out x (y ∷ ys) h =
-    ap (λ b. cond (not b) (y ∷ filter (λ p. not (eqb p x)) ys) (filter (λ p. not (eqb p x)) ys)) (flip x y h.0) ∙ ap (λ l. y ∷ l) (left_out x ys h.1)
+    ap (λ b. cond (not b) (y ∷ filter (λ p. not (eqb p x)) ys) (filter (λ p. not (eqb p x)) ys)) (nat_eq_equiv.symm y x ∙ h.0) ∙ ap (λ l. y ∷ l) (left_out x ys h.1)
 
 -- a place that is in a list without doubles, pulled to the front
 pub pulled : (x : ℕ) (ys : List ℕ) → IsDistinct eqb ys → list_any (eqb x) ys ≡ true → IsPermutation ys (x ∷ filter (λ p. not (eqb p x)) ys)
@@ -42,7 +37,7 @@ pulled x (y ∷ ys) d h =
           let P : List ℕ → Type 0 = λ l. IsPermutation (y ∷ ys) l in
           subst P (sym whole) (IsPermutation-refl (y ∷ ys))
       | inr e ↦
-          let other : eqb x y ≡ false = flip y x e.0 in
+          let other : eqb x y ≡ false = nat_eq_equiv.symm x y ∙ e.0 in
           let rest : list_any (eqb x) ys ≡ true = ap (λ b. b || list_any (eqb x) ys) (sym other) ∙ h in
           let more = IsPermutation-cons y ys (x ∷ F) (pulled x ys (IsDistinct-tail eqb y ys d) rest) in
           let swap = IsPermutation-middle (y ∷ []) x F in

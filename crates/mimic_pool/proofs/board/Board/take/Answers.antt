@@ -1,6 +1,5 @@
 use Rattle.mimic_pool.specs.Posted.{posted}
-use Rattle.mimic_pool.proofs.Posting.{board_less, board_taken}
-use Rattle.mimic_pool.proofs.Reporting.{agrees_taken, row_taken}
+use Rattle.mimic_pool.proofs.Reporting.{agrees_taken, board_less, board_taken, row_taken}
 use Rattle.mimic_pool.proofs.board.Board.take.Goals as goal
 
 pub invariant_of-self : goal.invariant_of-self

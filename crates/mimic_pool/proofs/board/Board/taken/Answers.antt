@@ -1,4 +1,4 @@
-use Rattle.mimic_pool.proofs.Posting.{history_shown}
+use Rattle.mimic_pool.proofs.Reporting.{history_shown}
 use Rattle.mimic_pool.proofs.board.Board.taken.Goals as goal
 
 pub returns-clause-history : goal.returns-clause-history

@@ -1,7 +1,7 @@
 use Rattle.std.proofs.Common.{◌≡◌, ◌∙◌, ◌<◌, ◌++◌, ap, append-nil, arith, length, refl, sym}
 use Rattle.std.specs.Vec.Iter.{into_iter_items}
 use Rattle.mimic_trial.specs.Places.{placed_at}
-use Rattle.mimic_pool.proofs.Arriving.{arrived_whole, first_left, next_arrived}
+use Rattle.mimic_pool.proofs.FirstArrivals.{arrived_whole, first_left, next_arrived}
 use Rattle.mimic_pool.proofs.Settling.{missing_none}
 use Rattle.mimic_pool.proofs.Numbering.{shown_whole}
 use Rattle.mimic_pool.proofs.desk.Desk.arrive_missing.Goals as goal
