@@ -42,16 +42,10 @@ module _ {A : Type 0} (put taken items : List A) (room : ℕ) (fits : length put
   pub room_left : (left : ℕ) → room ≤ left + length items → length all ≤ length longer + left
   room_left left used = let put_len = ap length same in let taken_len = ap length took in omega (arith, length-append taken items, put_len, taken_len, fits, used)
 
--- of those that are left one was added
-module _ (n n' left rest : ℕ) (one : n' ≡ n + 1) (next : rest + 1 ≡ left) where
-  -- the sum stays
-  pub moved : n' + rest ≡ n + left
-  moved = omega (arith, one, next)
+-- one of those that are out came back
+pub came_back : (n n' out all : ℕ) → n' ≡ n + 1 → n + (out + 1) ≡ all → n' + out ≡ all
+came_back n n' out all one was = omega arith
 
-  -- beside others, which are counted second or first, it stays, too
-  module _ (more : ℕ) where
-    pub moved_before : n' + more + rest ≡ n + more + left
-    moved_before = omega (arith, one, next)
-
-    pub moved_behind : more + n' + rest ≡ more + n + left
-    moved_behind = omega (arith, one, next)
+-- none is out
+pub all_back : (n all : ℕ) → n + 0 ≡ all → n ≡ all
+all_back n all was = omega arith

@@ -65,8 +65,8 @@ module _ {X : Type 0} (gives : Gives X) (mode : Bool) where
       all = was.all;
     }
 
-  pub takes_none : (taken : List (Assigned X)) → taken ≡ [] → AnswersSome gives mode true taken []
-  takes_none taken none = record { dropped = []; answered = record { given = []; parts = subst (λ l. IsPermutation l []) (sym none) (IsPermutation-refl []); answers = tt }; all = λ _. refl }
+  pub takes_none : (taken : List (Assigned X)) (rows : List Placed) → taken ≡ [] → rows ≡ [] → AnswersSome gives mode true taken rows
+  takes_none taken rows none empty = record { dropped = []; answered = record { given = []; parts = subst (λ l. IsPermutation l []) (sym none) (IsPermutation-refl []); answers = subst (Answers gives mode []) (sym empty) tt }; all = λ _. refl }
 
 -- the rows of one more
 pub rows_pushed : {V Y : Type 0} (f : V → List Y) (old new : List V) (last : V) → new ≡ old ++ last ∷ [] → flat_map f new ≡ flat_map f old ++ f last

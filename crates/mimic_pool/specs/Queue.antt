@@ -11,6 +11,7 @@ use Rattle.mimic_pool.specs.Answers.{Answers}
 use Rattle.mimic_pool.specs.Joined.{AnswersSome}
 use Rattle.mimic_pool.specs.Balance.{account, account_of, all_parts}
 use Rattle.mimic_pool.specs.Share.{AllRunners, items_of}
+use Rattle.mimic_pool.specs.declared.queue.EndedWorkers.{EndedWorkers}
 use Rattle.mimic_pool.specs.declared.queue.Queue.{Queue}
 use Rattle.mimic_pool.specs.declared.queue.QueueWorkers.{QueueWorkers}
 use Rattle.mimic_pool.specs.declared.queue.ReadyQueueWorkers.{ReadyQueueWorkers}
@@ -74,20 +75,24 @@ module _ {X : Type 0} where
     pub filling : IsFilling can_run queue trials
     pub room : length (items_of queue.next) < queue.size
 
+  -- these trials were put, this many workers have all other parts, and there is room for all rows that are to come
+  pub record Awaits (ended : EndedWorkers X) (out : ℕ) (trials : List (Assigned X)) : Type 0 where
+    pub ours : IsSegPassOf (arc_value ended.queue).queue ended.pass
+    pub some_part : 0 < (account_of ended.pass).parts
+    pub parts : (account_of ended.pass).parts + out ≡ all_parts
+    pub put : (account_of ended.pass).put ≡ trials
+    pub fits : vec_len ended.joined + out < vec_capacity ended.joined
+    pub no_rows : ended.spare.items ≡ []
+    pub fits_rows : length trials ≤ ended.spare.room
+
   -- these trials were put, and each worker is to start with one part
   pub record AreReadyQueueWorkers (ready : ReadyQueueWorkers X) (trials : List (Assigned X)) : Type 0 where
-    pub ours : IsSegPassOf (arc_value ready.queue).queue ready.pass
-    pub some_part : 0 < (account_of ready.pass).parts
-    pub parts : (account_of ready.pass).parts + vec_len ready.workers ≡ all_parts
-    pub none_taken : (account_of ready.pass).taken ≡ []
-    pub put : (account_of ready.pass).put ≡ trials
-    pub fresh : All (IsFresh (arc_value ready.queue).queue) ready.workers.items
+    pub awaits : Awaits ready.ended (vec_len ready.workers) trials
+    pub none_taken : (account_of ready.ended.pass).taken ≡ []
+    pub none_joined : vec_len ready.ended.joined ≡ 0
+    pub fresh : All (IsFresh (arc_value ready.ended.queue).queue) ready.workers.items
     pub no_handles : vec_len ready.handles ≡ 0
     pub fits : vec_len ready.workers ≤ vec_capacity ready.handles
-    pub none_joined : vec_len ready.joined ≡ 0
-    pub fits_joined : vec_len ready.workers < vec_capacity ready.joined
-    pub no_rows : ready.spare.items ≡ []
-    pub fits_rows : length trials ≤ ready.spare.room
 
 module _ {X : Type 0} (gives : Gives X) (mode : Bool) where
   -- the worker has put nothing, and returned its part and an own outcome of each trial that it took
@@ -97,18 +102,16 @@ module _ {X : Type 0} (gives : Gives X) (mode : Bool) where
     pub put : (account_of ended.pass).put ≡ []
     pub answers : Answers gives mode (account_of ended.pass).taken ended.rows.items
 
--- these trials were put, workers in this mode have all other parts, and what those that have ended took is answered
+  -- what the workers that have ended took is answered, and the others are awaited
+  pub record HasAnswers (ended : EndedWorkers X) (out : ℕ) (trials : List (Assigned X)) : Type 0 where
+    pub awaits : Awaits ended out trials
+    pub answered : AnswersSome gives mode true (account_of ended.pass).taken (flat_map (λ rows. rows.items) ended.joined.items)
+
+-- workers in this mode were started for these trials
 pub record RunsQueue {X : Type 0} (gives : Gives X) (workers : QueueWorkers X) (mode : Bool) (trials : List (Assigned X)) : Type 0 where
   pub mode_is : workers.test_mode ≡ mode
-  pub ours : IsSegPassOf (arc_value workers.queue).queue workers.pass
-  pub some_part : 0 < (account_of workers.pass).parts
-  pub parts : (account_of workers.pass).parts + vec_len workers.handles ≡ all_parts
-  pub put : (account_of workers.pass).put ≡ trials
-  pub answered : AnswersSome gives workers.test_mode true (account_of workers.pass).taken (flat_map (λ rows. rows.items) workers.joined.items)
-  pub jobs : All (IsJob (arc_value workers.queue).queue workers.test_mode) workers.handles.items
-  pub fits : vec_len workers.joined + vec_len workers.handles < vec_capacity workers.joined
-  pub no_rows : workers.spare.items ≡ []
-  pub fits_rows : length trials ≤ workers.spare.room
+  pub answered : HasAnswers gives workers.test_mode workers.ended (vec_len workers.handles) trials
+  pub jobs : All (IsJob (arc_value workers.ended.queue).queue workers.test_mode) workers.handles.items
 
 -- ---- laws of a worker's end of a queue
 

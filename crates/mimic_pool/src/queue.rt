@@ -1,15 +1,13 @@
 //! Trials in a queue, and workers that take them when they are free.
-ghost use Rattle.std.specs.Prelude.{◌≡◌, ◌++◌, ◌∷◌, ◌+◌, ◌<◌, ◌≤◌, [], All, Bool, IfErr, IfNone, IfOk, IfSome, List, OnOk, length, map, true, vec_capacity, vec_len};
+ghost use Rattle.std.specs.Prelude.{◌≡◌, ◌++◌, ◌∷◌, ◌+◌, ◌<◌, ◌≤◌, [], All, Bool, IfErr, IfOk, IfSome, List, OnOk, length, map, vec_len, ℕ};
 ghost use Rattle.std.specs.Arc.{arc_value};
-ghost use Rattle.std.specs.List.{flat_map};
-ghost use Rattle.std.specs.List.Sorted.{IsPermutation};
 ghost use Rattle.crossbeam_queue.specs.SegTies.{IsSegPassOf};
 ghost use Rattle.mimic_trial.specs.Places.{Placed};
 ghost use Rattle.mimic_pool.specs.Balance.{account_of, all_parts};
 ghost use Rattle.mimic_pool.specs.Board.{empty_board};
 ghost use Rattle.mimic_pool.specs.Inbox.{board_of, is_timed};
 ghost use Rattle.mimic_pool.specs.Joined.{AnswersSome, AreJoined};
-ghost use Rattle.mimic_pool.specs.Queue.{AreReadyQueueWorkers, HasTaken, HoldsQueue, IsFilling, IsFresh, IsJob, RunsQueue};
+ghost use Rattle.mimic_pool.specs.Queue.{AreReadyQueueWorkers, HasAnswers, HasTaken, HoldsQueue, IsFilling, IsFresh, IsJob, RunsQueue};
 ghost use Rattle.mimic_pool.specs.Rows.{rows_in};
 ghost use Rattle.mimic_pool.specs.Share.{AllRunners, items_of};
 ghost use Rattle.mimic_pool.specs.declared.share.Assigned.{Assigned};
@@ -53,25 +51,27 @@ pub struct Queue<T: Task> {
 /// Workers that can be started, and room for their handles and for what each returns.
 #[derive(Drop)]
 pub struct ReadyQueueWorkers<T: Task> {
-    pub(crate) queue: Arc<SharedQueue<T>>,
-    pub(crate) pass: QueuePass<T>,
     pub(crate) workers: Vec<ReadyQueueWorker<T>>,
     pub(crate) handles: Vec<QueueHandle<T>>,
-    pub(crate) joined: Vec<Rows>,
-    // Room for the rows of trials that no worker took, and the board that has room for their times.
-    pub(crate) spare: Rows,
-    pub(crate) board: Arc<SharedBoard>,
+    pub(crate) ended: EndedWorkers<T>,
 }
 
 /// Workers that were started, and what the others returned, which could not be started.
 pub struct QueueWorkers<T: Task> {
+    pub(crate) handles: Vec<QueueHandle<T>>,
+    pub(crate) ended: EndedWorkers<T>,
+    pub(crate) test_mode: bool,
+}
+
+// What workers that have ended returned, and room for what each of the others will.
+#[derive(Drop)]
+pub(crate) struct EndedWorkers<T: Task> {
     pub(crate) queue: Arc<SharedQueue<T>>,
     pub(crate) pass: QueuePass<T>,
-    pub(crate) handles: Vec<QueueHandle<T>>,
     pub(crate) joined: Vec<Rows>,
+    // Room for the rows of trials that no worker took, and the board that has room for their times.
     pub(crate) spare: Rows,
     pub(crate) board: Arc<SharedBoard>,
-    pub(crate) test_mode: bool,
 }
 
 impl<T: Task> Queue<T> {
@@ -159,14 +159,17 @@ pub(crate) fn prepare_queue_workers<T: Task, R: Wait>(
     let joined = Vec::with_capacity(alloc, workers.len() + 1)?;
     let spare = Rows::with_capacity(alloc, count)?;
     let board = inbox.board()?;
-    let ready = ReadyQueueWorkers {
+    let ended = EndedWorkers {
         queue,
         pass,
-        workers,
-        handles,
         joined,
         spare,
         board,
+    };
+    let ready = ReadyQueueWorkers {
+        workers,
+        handles,
+        ended,
     };
     Ok((inbox, ready))
 }
@@ -223,34 +226,22 @@ pub(crate) fn start_queue_workers<T: Task + Send + 'static, R: Spawner + 'static
         → RunsQueue T.gives workers test_mode trials) }
 {
     let ReadyQueueWorkers {
-        queue,
-        mut pass,
         workers,
         mut handles,
-        mut joined,
-        spare,
-        board,
+        mut ended,
     } = ready;
     for worker in workers {
-        match start_queue_worker(rt, alloc, &queue, worker, test_mode) {
+        match start_queue_worker(rt, alloc, &ended.queue, worker, test_mode) {
             Ok(handle) => handles.push_reserved(handle),
-            Err(ended) => {
-                let EndedWorker { rows, pass: other } = ended;
-                queue.absorb(&mut pass, other);
-                joined.push_reserved(rows);
-            }
+            Err(worker) => ended.absorb(worker),
         }
     }
     if handles.is_empty() {
         return None;
     }
     Some(QueueWorkers {
-        queue,
-        pass,
         handles,
-        joined,
-        spare,
-        board,
+        ended,
         test_mode,
     })
 }
@@ -304,59 +295,63 @@ pub(crate) fn join_queue_workers<T: Task + Send + 'static, R: Spawner>(
         → AreJoined T.gives mode trials whole (map rows_in result.items) }
 {
     let QueueWorkers {
-        queue,
-        mut pass,
         handles,
-        mut joined,
-        spare,
-        board,
+        mut ended,
         test_mode,
     } = workers;
     if !whole {
-        queue.close_from(0);
+        ended.queue.close_from(0);
     }
     for handle in handles {
-        let EndedWorker { rows, pass: other } = handle.join(rt);
-        queue.absorb(&mut pass, other);
-        joined.push_reserved(rows);
+        ended.absorb(handle.join(rt));
     }
-    // All workers have ended, so each cell is free.
-    let timer = Timer {
-        rt,
-        board: &board,
-        cell: 0,
-    };
-    let rows = take_left(timer, &queue, &mut pass, test_mode, whole, spare);
-    joined.push_reserved(rows);
-    joined
+    ended.take_left(rt, test_mode, whole)
 }
 
-// Takes all trials that are left, by the pass that has all parts, and runs them, or drops them if not all are to be run. Then what
-// was taken is what was put.
-fn take_left<T: Task, R: Wait + Clock + Copy>(
-    timer: Timer<'_, R>,
-    queue: &SharedQueue<T>,
-    pass: &mut QueuePass<T>,
-    test_mode: bool,
-    whole: bool,
-    mut rows: Rows,
-) -> Rows
-    requires ours { IsSegPassOf queue.now.queue pass.old }
-    requires parts { (account_of pass.old).parts ≡ all_parts }
-    requires no_rows { rows.items ≡ [] }
-    requires fits { length (account_of pass.old).put ≤ length (account_of pass.old).taken + rows.room }
-    ensures put { (account_of pass.new).put ≡ (account_of pass.old).put }
-    ensures all { IsPermutation (account_of pass.new).put (account_of pass.new).taken }
-    ensures answers { (before : List Placed) → AnswersSome T.gives test_mode whole (account_of pass.old).taken before
-        → AnswersSome T.gives test_mode whole (account_of pass.new).taken (before ++ result.items) }
-{
-    for _ in timer.rt.forever() {
-        let Some(batch) = queue.take(timer.rt, pass) else {
-            return rows;
-        };
-        rows = end_batch(timer, batch, test_mode, whole, rows);
+impl<T: Task> EndedWorkers<T> {
+    // Takes in what a worker returned.
+    fn absorb(&mut self, worker: EndedWorker<T>)
+        requires answered { (mode : Bool) × (out : ℕ) × (trials : List (Assigned T))
+            × HasAnswers T.gives mode self.old (out + 1) trials × HasTaken T.gives mode (arc_value self.old.queue).queue worker }
+        ensures queue { (arc_value self.new.queue).queue ≡ (arc_value self.old.queue).queue }
+        ensures answered { (mode : Bool) (out : ℕ) (trials : List (Assigned T)) → HasAnswers T.gives mode self.old (out + 1) trials
+            → HasTaken T.gives mode (arc_value self.old.queue).queue worker → HasAnswers T.gives mode self.new out trials }
+    {
+        let EndedWorker { rows, pass } = worker;
+        self.queue.absorb(&mut self.pass, pass);
+        self.joined.push_reserved(rows);
     }
-    unreachable!()
+
+    // Takes all trials that are left, by the pass that has all parts, and runs them, or drops them if not all are to be run.
+    // Returns the rows of each worker, and last those of the trials that it ran.
+    fn take_left<R: Wait + Clock + Copy>(self, rt: &R, test_mode: bool, whole: bool) -> Vec<Rows>
+        requires answered { (trials : List (Assigned T)) × HasAnswers T.gives test_mode self 0 trials }
+        ensures joined { (trials : List (Assigned T)) → HasAnswers T.gives test_mode self 0 trials
+            → AreJoined T.gives test_mode trials whole (map rows_in result.items) }
+    {
+        let EndedWorkers {
+            queue,
+            mut pass,
+            mut joined,
+            spare,
+            board,
+        } = self;
+        // All workers have ended, so each cell is free.
+        let timer = Timer {
+            rt,
+            board: &board,
+            cell: 0,
+        };
+        let mut rows = spare;
+        for _ in rt.forever() {
+            let Some(batch) = queue.take(rt, &mut pass) else {
+                joined.push_reserved(rows);
+                return joined;
+            };
+            rows = end_batch(timer, batch, test_mode, whole, rows);
+        }
+        unreachable!()
+    }
 }
 
 // Runs the batch, or drops it if not all trials are to be run.

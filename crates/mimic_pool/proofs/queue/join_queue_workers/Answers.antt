@@ -1,72 +1,52 @@
-use Rattle.std.proofs.Common.{◌∙◌, ◌++◌, map, refl, rules, subst, sym, arith}
+use Rattle.std.proofs.Common.{ℕ, All, map, rules, subst, sym}
 use Rattle.std.specs.Arc.{arc_value}
-use Rattle.std.specs.List.{flat_map}
 use Rattle.std.specs.Vec.Iter.{into_iter_items, into_iter_len}
-use Rattle.std.proofs.lemmas.List.Folds.{flat_map-map}
-use Rattle.mimic_pool.specs.Balance.{account_of, all_parts}
 use Rattle.mimic_pool.specs.Joined.{AreJoined}
-use Rattle.mimic_pool.specs.Queue.{IsJob}
+use Rattle.mimic_pool.specs.Queue.{HasAnswers, IsJob}
 use Rattle.mimic_pool.specs.Rows.{rows_in}
-use Rattle.mimic_pool.proofs.Accounts.{absorbed, moved}
 use Rattle.mimic_pool.proofs.Elements.{first_of, rest_of}
-use Rattle.mimic_pool.proofs.Emptying.{rows_pushed, takes_any, takes_both, takes_whole}
 use Rattle.mimic_pool.proofs.Sources.{job_done}
 use Rattle.mimic_pool.proofs.queue.join_queue_workers.Goals as goal
 
-pub absorb-requires-clause-other : goal.absorb-requires-clause-other
-absorb-requires-clause-other g c =
-    let job = first_of (IsJob (arc_value c.args.workers.queue).queue c.args.workers.test_mode) c.in-Some.handle (into_iter_items c.next.new.self) (into_iter_items c.loop-handle.handle-iterator) c.in-Some.ensures.steps.0 c.loop-handle.invariant.jobs in
-    let ours = (job_done g.T.Task.gives (arc_value c.args.workers.queue).queue c.args.workers.test_mode c.in-Some.handle c.join-rows.result job c.join-rows.ensures).ours in
-    search rules
-
 pub loop-handle-init : goal.loop-handle-init
-loop-handle-init g c =
-    let was = c.requires.running.2 in
-    record {
-      ours = was.ours;
-      some_part = was.some_part;
-      parts = search rules;
-      put = refl;
-      answered = takes_any g.T.Task.gives c.args.workers.test_mode c.args.whole (account_of c.args.workers.pass).taken (flat_map (λ rows. rows.items) c.args.workers.joined.items) was.answered;
-      jobs = search rules;
-      fits = search rules;
-    }
+loop-handle-init g c = record {
+  answered = λ mode trials runs. subst (λ (n : ℕ). HasAnswers g.T.Task.gives c.args.workers.test_mode c.args.workers.ended n trials) (search rules) runs.answered;
+  jobs = search rules;
+}
+
+pub absorb-requires : goal.absorb-requires
+absorb-requires g c =
+    let runs = c.requires.running in
+    let was = c.loop-handle.invariant in
+    let next = c.in-Some.ensures.steps in
+    let rest = c.next.new.self in
+    let job = first_of (IsJob (arc_value c.loop-handle.ended.queue).queue c.args.workers.test_mode) c.in-Some.handle (into_iter_items rest) (into_iter_items c.loop-handle.handle-iterator) next.0 was.jobs in
+    let worked = job_done g.T.Task.gives (arc_value c.loop-handle.ended.queue).queue c.args.workers.test_mode c.in-Some.handle c.join.result job c.join.ensures in
+    let before = subst (λ (n : ℕ). HasAnswers g.T.Task.gives c.args.workers.test_mode c.loop-handle.ended n runs.1) (sym next.1) (was.answered runs.0 runs.1 runs.2) in
+    record { answered = (c.args.workers.test_mode, into_iter_len rest, runs.1, before, worked) }
 
 pub loop-handle-preserved : goal.loop-handle-preserved
 loop-handle-preserved g c =
     let was = c.loop-handle.invariant in
     let next = c.in-Some.ensures.steps in
-    let left = c.loop-handle.handle-iterator in
+    let mode = c.args.workers.test_mode in
     let rest = c.next.new.self in
-    let joined = c.loop-handle.joined in
-    let more = c.push_reserved.new.self in
-    let pushed = c.push_reserved.ensures in
-    let IsMine = IsJob (arc_value c.args.workers.queue).queue c.args.workers.test_mode in
-    let job = first_of IsMine c.in-Some.handle (into_iter_items rest) (into_iter_items left) next.0 was.jobs in
-    let worked = job_done g.T.Task.gives (arc_value c.args.workers.queue).queue c.args.workers.test_mode c.in-Some.handle c.join-rows.result job c.join-rows.ensures in
-    let old = account_of c.loop-handle.pass in
-    let other = account_of c.join-rows.result.pass in
-    let new = account_of c.absorb.new.pass in
-    let both = absorbed new old other c.absorb.ensures.both worked.parts worked.put in
+    let IsMine = IsJob (arc_value c.loop-handle.ended.queue).queue mode in
+    let job = first_of IsMine c.in-Some.handle (into_iter_items rest) (into_iter_items c.loop-handle.handle-iterator) next.0 was.jobs in
+    let worked = job_done g.T.Task.gives (arc_value c.loop-handle.ended.queue).queue mode c.in-Some.handle c.join.result job c.join.ensures in
     record {
-      ours = search rules;
-      some_part = both.some_part;
-      parts = ◌∙◌ {c = all_parts} (moved old.parts new.parts (into_iter_len left) (into_iter_len rest) both.parts_are next.1) was.parts;
-      put = ◌∙◌ {c = (account_of c.args.workers.pass).put} both.put_is was.put;
-      answered = takes_both g.T.Task.gives c.args.workers.test_mode c.args.whole old.taken other.taken new.taken (flat_map (λ rows. rows.items) joined.items) c.join-rows.result.rows.items (flat_map (λ rows. rows.items) more.items) both.taken_is (rows_pushed (λ rows. rows.items) joined.items more.items c.join-rows.result.rows pushed.items) worked.answers was.answered;
-      jobs = rest_of IsMine c.in-Some.handle (into_iter_items rest) (into_iter_items left) next.0 was.jobs;
-      fits = omega (arith, was.fits, pushed.len, pushed.capacity, next.1);
+      answered = λ mode trials runs. c.absorb.ensures.answered c.args.workers.test_mode (into_iter_len rest) trials (subst (λ (n : ℕ). HasAnswers g.T.Task.gives c.args.workers.test_mode c.loop-handle.ended n trials) (sym next.1) (was.answered mode trials runs)) worked;
+      jobs = subst (λ q. All (IsJob q c.args.workers.test_mode) (into_iter_items rest)) (sym c.absorb.ensures.queue) (rest_of IsMine c.in-Some.handle (into_iter_items rest) (into_iter_items c.loop-handle.handle-iterator) next.0 was.jobs);
     }
+
+pub take_left-requires : goal.take_left-requires
+take_left-requires g c =
+    let runs = c.requires.running in
+    record { answered = (runs.1, subst (λ (n : ℕ). HasAnswers g.T.Task.gives c.args.workers.test_mode c.loop-handle.ended n runs.1) c.in-None.ensures.steps.0 (c.loop-handle.invariant.answered runs.0 runs.1 runs.2)) }
 
 pub returns : goal.returns
 returns g c = record {
   joined = λ mode trials runs.
-      let was = c.loop-handle.invariant in
-      let whole = c.take_left-rows.ensures in
-      let joined = c.push_reserved-2.new.self.items in
-      let before = flat_map (λ rows. rows.items) c.loop-handle.joined.items in
-      let rows = rows_pushed (λ rows. rows.items) c.loop-handle.joined.items joined c.take_left-rows.result c.push_reserved-2.ensures.items in
-      let put = ◌∙◌ {b = (account_of c.loop-handle.pass).put} whole.put (◌∙◌ {b = (account_of c.args.workers.pass).put} was.put runs.put) in
-      let all = takes_whole g.T.Task.gives c.args.workers.test_mode c.args.whole trials (account_of c.take_left-rows.new.pass).put (account_of c.take_left-rows.new.pass).taken (map rows_in joined) (before ++ c.take_left-rows.result.items) put whole.all (sym rows ∙ sym (flat_map-map (λ (rows : _). rows) rows_in joined)) (whole.answers before was.answered) in
-      subst (λ mode. AreJoined g.T.Task.gives mode trials c.args.whole (map rows_in joined)) runs.mode_is all;
+      let last = subst (λ (n : ℕ). HasAnswers g.T.Task.gives c.args.workers.test_mode c.loop-handle.ended n trials) c.in-None.ensures.steps.0 (c.loop-handle.invariant.answered mode trials runs) in
+      subst (λ mode. AreJoined g.T.Task.gives mode trials c.args.whole (map rows_in c.take_left.result.items)) runs.mode_is (c.take_left.ensures.joined trials last);
 }

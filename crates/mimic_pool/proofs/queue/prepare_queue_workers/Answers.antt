@@ -22,17 +22,19 @@ returns g c =
       ready = λ trials fits held.
           let filling = (c.in_ok-flush.ensures.put trials held.filling).filling in
           record {
-            ours = workers.ours;
-            some_part = workers.some_part;
-            parts = workers.parts;
+            awaits = record {
+              ours = workers.ours;
+              some_part = workers.some_part;
+              parts = workers.parts;
+              put = workers.put ∙ sym (append-nil put) ∙ ap (λ l. put ++ l) (sym c.in_ok-flush.ensures.empty) ∙ filling.put;
+              fits = search rules;
+              no_rows = search rules;
+              fits_rows = search rules;
+            };
             none_taken = workers.taken ∙ filling.none_taken;
-            put = workers.put ∙ sym (append-nil put) ∙ ap (λ l. put ++ l) (sym c.in_ok-flush.ensures.empty) ∙ filling.put;
+            none_joined = search rules;
             fresh = workers.fresh;
             no_handles = search rules;
             fits = search rules;
-            none_joined = search rules;
-            fits_joined = search rules;
-            no_rows = search rules;
-            fits_rows = search rules;
           };
     }

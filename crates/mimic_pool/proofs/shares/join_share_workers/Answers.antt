@@ -1,4 +1,4 @@
-use Rattle.std.proofs.Common.{◌≡◌, ◌∙◌, ◌∷◌, [], ap, append-nil, arith, length, map, refl, subst, sym}
+use Rattle.std.proofs.Common.{◌≡◌, ◌∙◌, ◌∷◌, ◌++◌, [], append-nil, arith, length, map, refl, subst, sym}
 use Rattle.std.proofs.lemmas.List.{length-map, map-append}
 use Rattle.std.specs.List.{flat_map}
 use Rattle.std.specs.List.Sorted.{IsPermutation}
@@ -14,9 +14,9 @@ loop-handle-preserved g c =
     let was = c.loop-handle.invariant in
     let next = c.in-Some.ensures.steps in
     let pushed = c.push_reserved.ensures in
-    let rows = ap (map rows_in) pushed.items ∙ map-append rows_in c.loop-handle.joined.items (c.join.result ∷ []) in
+    let rows : map rows_in c.push_reserved.new.self.items ≡ map rows_in c.loop-handle.joined.items ++ rows_in c.join.result ∷ [] = rw (pushed.items, map-append) in
     record {
-      answered = job_answered g.T.Task.gives (map job_of c.args.workers.handles.items) (map job_of (into_iter_items c.loop-handle.handle-iterator)) (map job_of (into_iter_items c.next.new.self)) (map rows_in c.loop-handle.joined.items) (map rows_in c.push_reserved.new.self.items) (job_of c.in-Some.handle) (rows_in c.join.result) (ap (map job_of) next.0) rows c.join.ensures was.answered;
+      answered = job_answered g.T.Task.gives (map job_of c.args.workers.handles.items) (map job_of (into_iter_items c.loop-handle.handle-iterator)) (map job_of (into_iter_items c.next.new.self)) (map rows_in c.loop-handle.joined.items) (map rows_in c.push_reserved.new.self.items) (job_of c.in-Some.handle) (rows_in c.join.result) (rw next.0) rows c.join.ensures was.answered;
       fits = omega (arith, was.fits, pushed.len, pushed.capacity, next.1);
     }
 
