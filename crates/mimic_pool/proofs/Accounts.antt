@@ -1,8 +1,6 @@
 -- What follows once an account is known: its fields, what there is room for, and the parts of all.
 use Rattle.std.proofs.Common.{◌≡◌, ◌∙◌, ◌++◌, ◌+◌, ◌<◌, ◌≤◌, ℕ, [], List, ap, append-nil, arith, length, length-append}
-use Rattle.mimic_pool.specs.declared.shared_queue.Account.{Account}
-use Rattle.mimic_pool.specs.declared.share.Assigned.{Assigned}
-use Rattle.mimic_pool.specs.Balance.{account}
+use Rattle.mimic_pool.specs.Prelude.{Account, account, Assigned}
 
 module _ {X : Type 0} where
   pub record HasFields (v : Account X) (parts : ℕ) (put taken : List (Assigned X)) : Type 0 where

@@ -10,11 +10,7 @@ use mathlib.Core.Option.{some, some-injective, some-ne-none}
 use lib.ListN.{get_elem?}
 use Rattle.crossbeam_queue.specs.Fifo.{Pushes, Pops, Forks, Merges, Learns}
 use Rattle.crossbeam_queue.proofs.Lists.{at_set, at_snoc, set_else}
-use Rattle.mimic_pool.specs.declared.shared_queue.Account.{Account}
-use Rattle.mimic_pool.specs.declared.share.Assigned.{Assigned}
-use Rattle.mimic_pool.specs.declared.share.Share.{Share}
-use Rattle.mimic_pool.specs.Share.{items_of}
-use Rattle.mimic_pool.specs.Balance.{AreIdleEmpty, Balances, IsBalanced, IsItem, Took, account, puts_of, takes_of, trials_in}
+use Rattle.mimic_pool.specs.Prelude.{Account, account, AreIdleEmpty, Assigned, Balances, IsBalanced, IsItem, items_of, puts_of, Share, takes_of, Took, trials_in}
 
 module _ {V Y : Type 0} (f : V → List Y) where
   -- one gives more than before

@@ -5,12 +5,7 @@ use Rattle.std.proofs.lemmas.Grind.{get_or-set_at}
 use Rattle.std.proofs.lemmas.List.{append-nil, get_or_default, get_or-set_other}
 use Rattle.std.proofs.lemmas.List.Elements.{filter-append, All-push}
 use Rattle.std.proofs.lemmas.Bool.Decides.{nat_tests}
-use Rattle.mimic_pool.specs.declared.share.Assigned.{Assigned}
-use Rattle.mimic_pool.specs.declared.share.Share.{Share}
-use Rattle.mimic_pool.specs.Share.{AreShares, assigned_from, items_of, share_of}
-use Rattle.mimic_pool.specs.declared.queue.Queue.{Queue}
-use Rattle.mimic_pool.specs.Balance.{account_of}
-use Rattle.mimic_pool.specs.Queue.{IsFilling}
+use Rattle.mimic_pool.specs.Prelude.{account_of, AreShares, Assigned, assigned_from, IsFilling, items_of, Queue, Share, share_of}
 
 -- what holds anyhow holds of a refusal
 pub on_refusal : {T E P : Type 0} (r : Result T E) → P → OnErr r P

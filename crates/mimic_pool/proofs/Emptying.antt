@@ -5,11 +5,7 @@ use Rattle.std.proofs.lemmas.Bool.{false≢true}
 use Rattle.std.specs.List.Sorted.{IsPermutation}
 use Rattle.std.proofs.lemmas.List.Concat.{flat_map-append}
 use Rattle.std.proofs.lemmas.List.Sorted.{IsPermutation-append_comm, IsPermutation-append_left, IsPermutation-append_right, IsPermutation-refl, IsPermutation-trans}
-use Rattle.mimic_trial.specs.Places.{Placed}
-use Rattle.mimic_trial.specs.Promise.{Gives}
-use Rattle.mimic_pool.specs.declared.share.Assigned.{Assigned}
-use Rattle.mimic_pool.specs.Answers.{Answers}
-use Rattle.mimic_pool.specs.Joined.{AnswersSome, AreJoined}
+use Rattle.mimic_pool.specs.Prelude.{Answers, AnswersSome, AreJoined, Assigned, Gives, Placed}
 use Rattle.mimic_pool.proofs.Working.{answers_both}
 
 module _ {X : Type 0} where

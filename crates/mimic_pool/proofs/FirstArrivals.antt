@@ -9,10 +9,8 @@ use Rattle.std.specs.List.Sorted.{IsPermutation}
 use Rattle.std.proofs.Math.Bool.{or-false}
 use Rattle.std.proofs.lemmas.List.{map-append}
 use Rattle.std.proofs.lemmas.Option.{slice_get-get_or}
-use Rattle.mimic_trial.specs.declared.outcome.Outcome.{Outcome}
-use Rattle.mimic_trial.specs.Places.{Placed, places_of, placed_at, placed_if}
+use Rattle.mimic_pool.specs.Prelude.{arrival_of, Arrived, arrived_at, first_after, first_arrivals, has_come, missing_of, order_of, Outcome, Placed, placed_at, placed_if, places_of, rows_after}
 use Rattle.mimic_trial.specs.declared.outcome.Outcome.TheVariants.{Ignored}
-use Rattle.mimic_pool.specs.Arrivals.{Arrived, arrival_of, arrived_at, first_after, first_arrivals, has_come, order_of, rows_after, missing_of}
 use Rattle.mimic_pool.specs.declared.desk.Arrival.TheVariants.{First, Again, Stranger}
 
 -- ---- one more arrival

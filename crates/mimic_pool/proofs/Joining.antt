@@ -8,13 +8,7 @@ use Rattle.std.proofs.lemmas.Grind.{get_or-set_at}
 use Rattle.std.proofs.lemmas.List.{get_or_default, get_or-set_other}
 use Rattle.std.proofs.lemmas.Bool.Decides.{eqb_tells}
 use Rattle.std.proofs.Math.ListN.{length-set}
-use Rattle.mimic_trial.specs.declared.outcome.Outcome.{Outcome}
-use Rattle.mimic_trial.specs.Places.{Placed}
-use Rattle.mimic_trial.specs.Promise.{Gives, IsOutcomeOf}
-use Rattle.mimic_pool.specs.declared.share.Assigned.{Assigned}
-use Rattle.mimic_pool.specs.Answers.{Answers}
-use Rattle.mimic_pool.specs.Share.{assigned_from}
-use Rattle.mimic_pool.specs.Joined.{AnswersPart, AnswersSome, AreOutcomes, IsOutcomeAt, put_all, put_each}
+use Rattle.mimic_pool.specs.Prelude.{Answers, AnswersPart, AnswersSome, AreOutcomes, Assigned, assigned_from, Gives, IsOutcomeAt, IsOutcomeOf, Outcome, Placed, put_all, put_each}
 
 module _ {X : Type 0} where
   -- the item is the one at its place

@@ -15,13 +15,8 @@ use Rattle.std.proofs.lemmas.Bool.Decides.{eqb_tells}
 use Rattle.std.proofs.lemmas.Map.Keys.{IsDistinct-push}
 use Rattle.std.proofs.lemmas.Map.Steps.{length-le_from_distinct_below}
 use Rattle.std.proofs.lemmas.Option.{get_or_from_slice_get, slice_get-get_or, slice_get-map, slice_get_within}
-use Rattle.mimic_trial.specs.declared.outcome.Outcome.{Outcome}
+use Rattle.mimic_pool.specs.Prelude.{Arrived, arrived_at, arrived_of, Begins, free_from, has_come, IsDesk, kept_of, missing_of, Outcome, outcome_at, Placed, places_of, rows_of_order}
 use Rattle.mimic_trial.specs.declared.outcome.Outcome.TheVariants as outcome
-use Rattle.mimic_trial.specs.Places.{Placed, places_of}
-use Rattle.mimic_pool.specs.Arrivals.{Arrived, arrived_at, has_come, missing_of}
-use Rattle.mimic_pool.specs.Missing.{free_from}
-use Rattle.mimic_pool.specs.Numbers.{Begins, IsDesk, arrived_of, outcome_at, rows_of_order}
-use Rattle.mimic_pool.specs.OutcomeKinds.{kept_of}
 use Rattle.mimic_pool.specs.declared.desk.Desk.TheInside.{Inside}
 use Rattle.mimic_pool.proofs.Ordering.{filter_same, order_whole}
 

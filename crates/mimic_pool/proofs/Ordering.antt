@@ -8,8 +8,7 @@ use Rattle.std.proofs.lemmas.Cmp.{nat_eq_equiv}
 use Rattle.std.proofs.lemmas.Map.Views.{any-filter_same}
 use Rattle.std.proofs.lemmas.Bool.Decides.{eqb_tells}
 use Rattle.std.proofs.lemmas.Map.Keys.{IsDistinct-cons, IsDistinct-tail}
-use Rattle.mimic_trial.specs.Places.{Placed, places_of}
-use Rattle.mimic_pool.specs.Arrivals.{has_come}
+use Rattle.mimic_pool.specs.Prelude.{has_come, Placed, places_of}
 
 -- no place of the list is x
 abbrev pub Lacks : ℕ → List ℕ → Type 0

@@ -12,13 +12,7 @@ use Rattle.std.proofs.lemmas.List.Elements.{All-cons, All-contains, All-nil, Con
 use Rattle.std.proofs.lemmas.List.Sorted.{IsPermutation-map, IsPermutation-sym}
 use Rattle.std.proofs.lemmas.Map.Keys.{IsDistinct-IsPermutation, IsDistinct-head, IsDistinct-tail}
 use Rattle.std.proofs.lemmas.Option.{get_or_from_slice_get, slice_get-get_or, slice_get_within}
-use Rattle.mimic_trial.specs.declared.outcome.Outcome.{Outcome}
-use Rattle.mimic_trial.specs.Places.{Placed, places_of}
-use Rattle.mimic_trial.specs.Promise.{Gives}
-use Rattle.mimic_pool.specs.declared.share.Assigned.{Assigned}
-use Rattle.mimic_pool.specs.Answers.{Answers}
-use Rattle.mimic_pool.specs.Joined.{AnswersSome, HavePlaces, put_all, put_each}
-use Rattle.mimic_pool.specs.Share.{assigned_from, share_of}
+use Rattle.mimic_pool.specs.Prelude.{Answers, AnswersSome, Assigned, assigned_from, Gives, HavePlaces, Outcome, Placed, places_of, put_all, put_each, share_of}
 use Rattle.mimic_pool.proofs.Joining.{length_put, put_flat}
 use Rattle.mimic_pool.proofs.Ordering.{Lacks, distinct_range}
 

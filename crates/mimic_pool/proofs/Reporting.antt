@@ -9,12 +9,7 @@ use Rattle.std.proofs.Math.ListN.{length-set}
 use Rattle.std.proofs.lemmas.Cmp.{nat_eq_equiv}
 use Rattle.std.proofs.lemmas.Grind.{get_or-set_at}
 use Rattle.std.proofs.lemmas.Map.Views.{All-from_any}
-use Rattle.mimic_trial.specs.Places.{Placed, places_of}
-use Rattle.mimic_pool.specs.Arrivals.{first_arrivals, has_come}
-use Rattle.mimic_pool.specs.Board.{Agrees, Call, HandsOnFirstReports, Posted, accepts, after_all, after_close, after_report, after_take, empty_board, given_by_all, reports_of, HasHistory}
-use Rattle.mimic_pool.specs.Board.Call.{close_one, report, take_one}
-use Rattle.mimic_pool.specs.Posted.{IsBoard, posted}
-use Rattle.mimic_pool.specs.Rows.{Returned}
+use Rattle.mimic_pool.specs.Prelude.{accepts, after_all, after_close, after_report, after_take, Agrees, Call, close_one, empty_board, first_arrivals, given_by_all, HandsOnFirstReports, has_come, HasHistory, IsBoard, Placed, places_of, Posted, posted, report, reports_of, Returned, take_one}
 use Rattle.mimic_pool.specs.declared.board.Board.TheInside.{Inside}
 use Rattle.mimic_pool.proofs.FirstArrivals.{first_more}
 use Rattle.mimic_pool.proofs.Ordering.{has_place}

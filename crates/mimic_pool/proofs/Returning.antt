@@ -7,12 +7,8 @@ use Rattle.std.proofs.Math.Seq.{drop-cons}
 use Rattle.std.proofs.lemmas.List.{drop-append-le, drop-drop, length-drop, nil_from_length}
 use Rattle.std.proofs.lemmas.List.Elements.{All-cons, All-head, All-tail}
 use Rattle.std.proofs.lemmas.Slice.Zip.{get_or-zip, length-zip}
-use Rattle.mimic_trial.specs.declared.outcome.Outcome.{Outcome}
-use Rattle.mimic_trial.specs.Places.{Placed}
-use Rattle.mimic_trial.specs.Same.{outcome_decides, same_outcome}
+use Rattle.mimic_pool.specs.Prelude.{kept_after, kept_of, kind_of, Outcome, outcome_by, outcome_decides, OutcomeKind, Placed, rows_of, same_outcome, weight_of, weight_of_all}
 use Rattle.mimic_trial.specs.declared.outcome.Outcome.TheVariants as outcome
-use Rattle.mimic_pool.specs.OutcomeKinds.{kept_after, kept_of, kind_of, outcome_by, rows_of, weight_of, weight_of_all}
-use Rattle.mimic_pool.specs.declared.outcome_kind.OutcomeKind.{OutcomeKind}
 use Rattle.mimic_pool.specs.declared.outcome_kind.OutcomeKind.TheVariants.{Passed, Ignored, Kept}
 use Rattle.mimic_pool.proofs.Elements.{item_got}
 

@@ -10,14 +10,9 @@ use Rattle.std.proofs.lemmas.List.{nil_from_length, set-get_or}
 use Rattle.std.proofs.lemmas.List.Elements.{recursion_from_All}
 use Rattle.std.proofs.lemmas.List.FromFn.{get_or-map-range_with_len, length-map-range_with_len, length-range_with_len}
 use Rattle.std.proofs.lemmas.List.Sorted.{length_permutation}
-use Rattle.mimic_trial.specs.declared.outcome.Outcome.{Outcome}
-use Rattle.mimic_trial.specs.Places.{Placed, placed_at, placed_if, places_of}
+use Rattle.mimic_pool.specs.Prelude.{AgreesAt, Arrived, arrived_at, arrived_of, HasAll, IsDesk, missing_of, Outcome, outcome_at, outcomes_by_place, Placed, placed_at, placed_if, places_of, put_all, put_each, rows_of_order, StandsFor}
 use Rattle.mimic_trial.specs.declared.outcome.Outcome.TheVariants.{Ignored}
-use Rattle.mimic_pool.specs.Arrivals.{AgreesAt, Arrived, arrived_at, missing_of, outcomes_by_place}
-use Rattle.mimic_pool.specs.Numbers.{IsDesk, arrived_of, outcome_at, rows_of_order}
 use Rattle.mimic_pool.specs.declared.desk.Desk.TheInside.{Inside}
-use Rattle.mimic_pool.specs.Joined.{put_all, put_each}
-use Rattle.mimic_pool.specs.Returned.{HasAll, StandsFor}
 use Rattle.mimic_pool.proofs.Numbering.{arrived_low, found_at, order_shown, shown_whole}
 
 -- rows of which each is the joined outcome at its place

@@ -6,13 +6,7 @@ use Rattle.std.proofs.lemmas.List.Sorted.{IsPermutation-refl, IsPermutation-tran
 use Rattle.std.proofs.lemmas.List.Elements.{All-cons, All-head, All-push, All-tail}
 use Rattle.std.proofs.lemmas.Nat.{mod_below}
 use Rattle.std.proofs.lemmas.Bool.Decides.{nat_tests, eqb_tells}
-use Rattle.mimic_trial.specs.Places.{Placed}
-use Rattle.mimic_trial.specs.Promise.{Gives}
-use Rattle.mimic_pool.specs.declared.share.Assigned.{Assigned}
-use Rattle.mimic_pool.specs.declared.share.Share.{Share}
-use Rattle.mimic_pool.specs.Answers.{Answers}
-use Rattle.mimic_pool.specs.Share.{AllRunners, AreShares, assigned_from, items_of, share_of}
-use Rattle.mimic_pool.specs.Shares.{AreAnswered, AreDealt, AreOfShare, AreOfShares, jobs_of}
+use Rattle.mimic_pool.specs.Prelude.{AllRunners, Answers, AreAnswered, AreDealt, AreOfShare, AreOfShares, AreShares, Assigned, assigned_from, Gives, items_of, jobs_of, Placed, Share, share_of}
 use Rattle.mimic_pool.proofs.Placing.{answered_places, share_places}
 use Rattle.mimic_pool.proofs.Working.{answers_both}
 

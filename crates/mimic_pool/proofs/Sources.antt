@@ -5,15 +5,7 @@ use Rattle.std.proofs.lemmas.List.Elements.{All-head, All-tail}
 use Rattle.std.specs.declared.alloc.Global.{Global}
 use Rattle.std.specs.declared.thread.PromisedHandle.{PromisedHandle}
 use Rattle.crossbeam_queue.specs.SegTies.{IsSegPassOf, SegId}
-use Rattle.mimic_trial.specs.Places.{Placed}
-use Rattle.mimic_trial.specs.Promise.{Gives}
-use Rattle.mimic_pool.specs.declared.share.Assigned.{Assigned}
-use Rattle.mimic_pool.specs.Answers.{Answers}
-use Rattle.mimic_pool.specs.Balance.{account_of}
-use Rattle.mimic_pool.specs.Queue.{GoesOn, HasTaken, IsJob, MayTake, goes_on_twice}
-use Rattle.mimic_pool.specs.declared.queue_source.AnswersTaken.{AnswersTaken}
-use Rattle.mimic_pool.specs.declared.queue_source.EndedWorker.{EndedWorker}
-use Rattle.mimic_pool.specs.declared.queue_source.QueueSource.{QueueSource}
+use Rattle.mimic_pool.specs.Prelude.{account_of, Answers, AnswersTaken, Assigned, EndedWorker, Gives, goes_on_twice, GoesOn, HasTaken, IsJob, MayTake, Placed, QueueSource}
 
 module _ {X : Type 0} (can_run : X → Type 0) where
   abbrev pub MayRun : Assigned X → Type 0

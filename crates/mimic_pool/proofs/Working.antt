@@ -1,9 +1,6 @@
 -- What a worker answers: after each of its trials, and once its loop has ended.
 use Rattle.std.proofs.Common.{◌≡◌, ◌∙◌, Bool, List, [], ◌∷◌, ◌++◌, ap, append-nil, append_assoc, arith, length, refl, subst, sym}
-use Rattle.mimic_trial.specs.Places.{Placed}
-use Rattle.mimic_trial.specs.Promise.{Gives, IsOutcomeOf}
-use Rattle.mimic_pool.specs.declared.share.Assigned.{Assigned}
-use Rattle.mimic_pool.specs.Answers.{Answers, HasWorked}
+use Rattle.mimic_pool.specs.Prelude.{Answers, Assigned, Gives, HasWorked, IsOutcomeOf, Placed}
 
 module _ {X : Type 0} (gives : Gives X) (mode : Bool) where
   -- those of one list, and then those of another

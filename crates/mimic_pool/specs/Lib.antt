@@ -15,3 +15,4 @@ pub mod Rows
 pub mod Balance
 pub mod Queue
 pub mod WaitingTrials
+pub mod Prelude

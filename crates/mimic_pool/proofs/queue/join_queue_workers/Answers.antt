@@ -1,9 +1,7 @@
 use Rattle.std.proofs.Common.{ℕ, All, map, rules, subst, sym}
 use Rattle.std.specs.Arc.{arc_value}
 use Rattle.std.specs.Vec.Iter.{into_iter_items, into_iter_len}
-use Rattle.mimic_pool.specs.Joined.{AreJoined}
-use Rattle.mimic_pool.specs.Queue.{HasAnswers, IsJob}
-use Rattle.mimic_pool.specs.Rows.{rows_in}
+use Rattle.mimic_pool.specs.Prelude.{AreJoined, HasAnswers, IsJob, rows_in}
 use Rattle.mimic_pool.proofs.Elements.{first_of, rest_of}
 use Rattle.mimic_pool.proofs.Sources.{job_done}
 use Rattle.mimic_pool.proofs.queue.join_queue_workers.Goals as goal

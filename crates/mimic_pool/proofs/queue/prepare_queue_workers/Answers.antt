@@ -1,6 +1,5 @@
 use Rattle.std.proofs.Common.{◌∙◌, ◌++◌, ap, append-nil, rules, sym}
-use Rattle.mimic_pool.specs.Board.{empty_board}
-use Rattle.mimic_pool.specs.Balance.{account_of}
+use Rattle.mimic_pool.specs.Prelude.{account_of, empty_board}
 use Rattle.mimic_pool.proofs.queue.prepare_queue_workers.Goals as goal
 
 pub workers_at_queue-requires-clause-ours : goal.workers_at_queue-requires-clause-ours

@@ -1,9 +1,7 @@
 use Rattle.std.proofs.Common.{◌≡◌, ◌∙◌, ◌-◌, rules}
 use Rattle.std.specs.Arc.{arc_value}
 use Rattle.crossbeam_queue.specs.SegTies.{IsSegPassOf}
-use Rattle.mimic_pool.specs.Queue.{IsFresh}
-use Rattle.mimic_pool.specs.Balance.{account_of}
-use Rattle.mimic_pool.specs.declared.queue_source.ReadyQueueWorker.{ReadyQueueWorker}
+use Rattle.mimic_pool.specs.Prelude.{account_of, IsFresh, ReadyQueueWorker}
 use Rattle.mimic_pool.proofs.Accounts.{fields_of}
 use Rattle.mimic_pool.proofs.Elements.{with_one}
 use Rattle.mimic_pool.proofs.queue.workers_at_queue.Goals as goal

@@ -1,8 +1,7 @@
 use Rattle.std.proofs.Common.{◌≡◌, ◌+◌, ◌≤◌, All, vec_capacity, vec_len}
 use Rattle.std.specs.Arc.{arc_value}
 use Rattle.crossbeam_queue.specs.SegTies.{IsSegPassOf}
-use Rattle.mimic_pool.specs.Balance.{account_of, all_parts}
-use Rattle.mimic_pool.specs.Queue.{IsFresh}
+use Rattle.mimic_pool.specs.Prelude.{account_of, all_parts, IsFresh}
 use Rattle.mimic_pool.proofs.queue.workers_at_queue.Given as goal
 
 abbrev pub invariant-loop-number : goal.invariant-loop-number

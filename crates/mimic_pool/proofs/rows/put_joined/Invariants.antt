@@ -1,7 +1,6 @@
 use Rattle.std.proofs.Common.{◌≡◌, map, vec_len}
 use Rattle.std.specs.Vec.Iter.{into_iter_items}
-use Rattle.mimic_pool.specs.Rows.{rows_in}
-use Rattle.mimic_pool.specs.Joined.{put_each}
+use Rattle.mimic_pool.specs.Prelude.{put_each, rows_in}
 use Rattle.mimic_pool.proofs.rows.put_joined.Given as goal
 
 abbrev pub invariant-loop-rows : goal.invariant-loop-rows

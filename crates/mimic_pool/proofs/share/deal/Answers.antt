@@ -1,7 +1,6 @@
 use Rattle.std.proofs.Common.{◌≡◌, ◌∙◌, ◌+◌, ◌∷◌, ◌++◌, ◌<◌, [], List, Bool, ap, append_assoc, arith, length, length-append, length-take, subst, sym, take}
 use Rattle.std.proofs.lemmas.List.{take_more}
-use Rattle.mimic_pool.specs.Share.{AreShares, IsDealt, assigned_from}
-use Rattle.mimic_pool.specs.declared.share.Assigned.{Assigned}
+use Rattle.mimic_pool.specs.Prelude.{AreShares, Assigned, assigned_from, IsDealt}
 use Rattle.mimic_pool.proofs.Dealing.{assigned_more}
 use Rattle.mimic_pool.proofs.share.deal.Goals as goal
 

@@ -3,9 +3,7 @@ use Rattle.std.proofs.lemmas.List.{length-map, map-append}
 use Rattle.std.specs.List.{flat_map}
 use Rattle.std.specs.List.Sorted.{IsPermutation}
 use Rattle.std.specs.Vec.Iter.{into_iter_items}
-use Rattle.mimic_pool.specs.Rows.{rows_in}
-use Rattle.mimic_pool.specs.Share.{items_of}
-use Rattle.mimic_pool.specs.Shares.{AreAnswered, job_of}
+use Rattle.mimic_pool.specs.Prelude.{AreAnswered, items_of, job_of, rows_in}
 use Rattle.mimic_pool.proofs.Sharing.{answered_flat, dealt_whole, job_answered, jobs_done, of_shares}
 use Rattle.mimic_pool.proofs.shares.join_share_workers.Goals as goal
 

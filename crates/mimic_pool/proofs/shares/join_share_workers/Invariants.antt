@@ -1,7 +1,6 @@
 use Rattle.std.proofs.Common.{◌+◌, ◌≤◌, map, vec_capacity, vec_len}
 use Rattle.std.specs.Vec.Iter.{into_iter_items, into_iter_len}
-use Rattle.mimic_pool.specs.Rows.{rows_in}
-use Rattle.mimic_pool.specs.Shares.{job_of}
+use Rattle.mimic_pool.specs.Prelude.{job_of, rows_in}
 use Rattle.mimic_pool.proofs.Sharing.{LeavesJobs}
 use Rattle.mimic_pool.proofs.shares.join_share_workers.Given as goal
 

@@ -2,8 +2,7 @@ use Rattle.std.proofs.Common.{◌≡◌, ◌∙◌, ap₂, append-nil, append_as
 use Rattle.std.proofs.lemmas.List.{map-append, nil_from_length}
 use Rattle.std.specs.Vec.Iter.{into_iter_items}
 use Rattle.std.proofs.lemmas.List.Elements.{All-head, All-tail}
-use Rattle.mimic_pool.specs.Shares.{job_of, shares_of}
-use Rattle.mimic_pool.specs.Share.{AllRunners, items_of}
+use Rattle.mimic_pool.specs.Prelude.{AllRunners, items_of, job_of, shares_of}
 use Rattle.mimic_pool.proofs.Sharing.{runnable_shares}
 use Rattle.mimic_pool.proofs.shares.start_share_workers.Goals as goal
 

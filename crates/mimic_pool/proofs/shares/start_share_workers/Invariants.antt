@@ -1,7 +1,6 @@
 use Rattle.std.proofs.Common.{◌≡◌, ◌+◌, ◌≤◌, ◌++◌, All, map, vec_capacity, vec_len}
 use Rattle.std.specs.Vec.Iter.{into_iter_items, into_iter_len}
-use Rattle.mimic_pool.specs.Shares.{job_of, jobs_of, shares_of}
-use Rattle.mimic_pool.specs.Share.{AllRunners}
+use Rattle.mimic_pool.specs.Prelude.{AllRunners, job_of, jobs_of, shares_of}
 use Rattle.mimic_pool.proofs.shares.start_share_workers.Given as goal
 
 abbrev pub invariant-loop-worker : goal.invariant-loop-worker

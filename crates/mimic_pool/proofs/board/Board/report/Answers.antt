@@ -1,7 +1,5 @@
 use Rattle.std.proofs.Common.{◌≡◌, ◌<◌, length, true, false, arith}
-use Rattle.mimic_trial.specs.Places.{Placed}
-use Rattle.mimic_pool.specs.Board.{accepts}
-use Rattle.mimic_pool.specs.Posted.{posted}
+use Rattle.mimic_pool.specs.Prelude.{accepts, Placed, posted}
 use Rattle.mimic_pool.proofs.Reporting.{agrees_reported, board_fits, board_more, board_reported, flag_known, refused_again, refused_high, report_refused}
 use Rattle.mimic_pool.proofs.board.Board.report.Goals as goal
 use Rattle.mimic_pool.proofs.board.Board.report.Goals.{then-place-len-via-then-place-len, then-place-len-via-else-place-len+then-index}

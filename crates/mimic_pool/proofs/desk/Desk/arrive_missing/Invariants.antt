@@ -1,7 +1,6 @@
 use Rattle.std.proofs.Common.{◌≡◌, ◌+◌, ◌++◌, drop, length}
 use Rattle.std.specs.Vec.Iter.{into_iter_items}
-use Rattle.mimic_trial.specs.Places.{placed_at}
-use Rattle.mimic_pool.specs.Arrivals.{missing_of}
+use Rattle.mimic_pool.specs.Prelude.{missing_of, placed_at}
 use Rattle.mimic_pool.proofs.FirstArrivals.{missing_from}
 use Rattle.mimic_pool.proofs.desk.Desk.arrive_missing.Given as goal
 

@@ -1,8 +1,7 @@
 use Rattle.std.proofs.Common.{◌≡◌, ◌∙◌, ap, arith, map, refl, slice_index_or, sym}
 use Rattle.std.proofs.lemmas.List.{get_or-map, length-map, take_all}
 use Rattle.std.proofs.lemmas.List.Elements.{All-map, All-more}
-use Rattle.mimic_pool.specs.Rows.{rows_in}
-use Rattle.mimic_pool.specs.Returned.{HaveArrived}
+use Rattle.mimic_pool.specs.Prelude.{HaveArrived, rows_in}
 use Rattle.mimic_pool.proofs.Settling.{all_stand, missing_none, order_as_long}
 use Rattle.mimic_pool.proofs.desk.Desk.has_all.Goals as goal
 

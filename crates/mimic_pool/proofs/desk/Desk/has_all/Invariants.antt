@@ -1,6 +1,5 @@
 use Rattle.std.proofs.Common.{All, take}
-use Rattle.mimic_pool.specs.Rows.{rows_in}
-use Rattle.mimic_pool.specs.Returned.{HaveArrived}
+use Rattle.mimic_pool.specs.Prelude.{HaveArrived, rows_in}
 use Rattle.mimic_pool.proofs.desk.Desk.has_all.Given as goal
 
 abbrev pub invariant-loop-rows : goal.invariant-loop-rows

@@ -1,9 +1,7 @@
 use Rattle.std.proofs.Common.{◌≡◌, ◌-◌, ◌∙◌, ◌++◌, ℕ, List, ap, arith, length, subst, sym}
 use Rattle.std.specs.List.{range_with_len}
 use Rattle.std.specs.List.Sorted.{IsPermutation}
-use Rattle.mimic_trial.specs.Places.{places_of}
-use Rattle.mimic_pool.specs.Arrivals.{missing_of}
-use Rattle.mimic_pool.specs.Missing.{free_from}
+use Rattle.mimic_pool.specs.Prelude.{free_from, missing_of, places_of}
 use Rattle.mimic_pool.proofs.FirstArrivals.{order_same}
 use Rattle.mimic_pool.proofs.Numbering.{missing_shown, shown_whole}
 use Rattle.mimic_pool.proofs.desk.Desk.missing.Goals as goal

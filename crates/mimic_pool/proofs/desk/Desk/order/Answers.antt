@@ -1,6 +1,5 @@
 use Rattle.std.proofs.Common.{◌∙◌, ap}
-use Rattle.mimic_trial.specs.Places.{places_of}
-use Rattle.mimic_pool.specs.Numbers.{outcome_at}
+use Rattle.mimic_pool.specs.Prelude.{outcome_at, places_of}
 use Rattle.mimic_pool.proofs.Numbering.{order_shown, shown_whole}
 use Rattle.mimic_pool.proofs.desk.Desk.order.Goals as goal
 

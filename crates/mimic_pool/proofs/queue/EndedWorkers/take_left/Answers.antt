@@ -1,10 +1,7 @@
 use Rattle.std.proofs.Common.{◌∙◌, ◌++◌, ap, append-nil, arith, length, map, refl, rules, subst, sym}
 use Rattle.std.specs.List.{flat_map}
 use Rattle.std.proofs.lemmas.List.Folds.{flat_map-map}
-use Rattle.mimic_pool.specs.Balance.{account_of, all_parts}
-use Rattle.mimic_pool.specs.Joined.{AnswersSome}
-use Rattle.mimic_pool.specs.Rows.{rows_in}
-use Rattle.mimic_pool.specs.Share.{items_of}
+use Rattle.mimic_pool.specs.Prelude.{account_of, all_parts, AnswersSome, items_of, rows_in}
 use Rattle.mimic_pool.proofs.Accounts.{all_back, fields_of, room_for, room_left}
 use Rattle.mimic_pool.proofs.Emptying.{rows_pushed, takes_any, takes_whole}
 use Rattle.mimic_pool.proofs.queue.EndedWorkers.take_left.Goals as goal

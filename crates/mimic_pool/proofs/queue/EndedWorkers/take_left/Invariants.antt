@@ -2,8 +2,7 @@ use Rattle.std.proofs.Common.{◌≡◌, ◌+◌, ◌++◌, ◌<◌, ◌≤◌, 
 use Rattle.std.specs.Arc.{arc_value}
 use Rattle.std.specs.List.{flat_map}
 use Rattle.crossbeam_queue.specs.SegTies.{IsSegPassOf}
-use Rattle.mimic_pool.specs.Balance.{account_of, all_parts}
-use Rattle.mimic_pool.specs.Joined.{AnswersSome}
+use Rattle.mimic_pool.specs.Prelude.{account_of, all_parts, AnswersSome}
 use Rattle.mimic_pool.proofs.queue.EndedWorkers.take_left.Given as goal
 
 abbrev pub invariant-loop : goal.invariant-loop

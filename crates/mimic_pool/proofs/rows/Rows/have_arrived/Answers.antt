@@ -1,7 +1,5 @@
 use Rattle.std.proofs.Common.{◌≡◌, ◌<◌, ◌≤◌, ◌∙◌, Some, ap, arith, drop, length, refl, sym}
-use Rattle.mimic_trial.specs.Places.{Placed}
-use Rattle.mimic_pool.specs.Arrivals.{arrived_at}
-use Rattle.mimic_pool.specs.OutcomeKinds.{outcome_by, weight_of_all}
+use Rattle.mimic_pool.specs.Prelude.{arrived_at, outcome_by, Placed, weight_of_all}
 use Rattle.mimic_pool.proofs.Returning.{all_behind, all_first, all_none, first_left, none_left}
 use Rattle.mimic_pool.proofs.rows.Rows.have_arrived.Goals as goal
 

@@ -1,7 +1,6 @@
 use Rattle.std.proofs.Common.{◌≡◌, ◌+◌, ◌↔◌, drop, length}
 use Rattle.std.specs.List.{zip}
-use Rattle.mimic_pool.specs.OutcomeKinds.{kinds_left, rows_of, weight_of_all}
-use Rattle.mimic_pool.specs.Returned.{HaveArrived}
+use Rattle.mimic_pool.specs.Prelude.{HaveArrived, kinds_left, rows_of, weight_of_all}
 use Rattle.mimic_pool.proofs.rows.Rows.have_arrived.Given as goal
 
 abbrev pub invariant-loop-number : goal.invariant-loop-number
