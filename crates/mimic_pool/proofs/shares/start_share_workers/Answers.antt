@@ -1,8 +1,8 @@
-use Rattle.std.proofs.Common.{◌≡◌, ◌∙◌, ap₂, append-nil, append_assoc, arith, map, refl, sym}
+use Rattle.std.proofs.Common.{◌≡◌, ◌∙◌, ◌++◌, ap₂, append-nil, append_assoc, arith, map, sym}
 use Rattle.std.proofs.lemmas.List.{map-append, nil_from_length}
 use Rattle.std.specs.Vec.Iter.{into_iter_items}
 use Rattle.std.proofs.lemmas.List.Elements.{All-head, All-tail}
-use Rattle.mimic_pool.specs.Prelude.{AllRunners, items_of, job_of, shares_of}
+use Rattle.mimic_pool.specs.Prelude.{AllRunners, items_of, job_of, jobs_of, shares_of}
 use Rattle.mimic_pool.proofs.Sharing.{runnable_shares}
 use Rattle.mimic_pool.proofs.shares.start_share_workers.Goals as goal
 
@@ -12,7 +12,7 @@ loop-worker-init g c =
     let gives = c.into_iter-worker-iterator.ensures.into_iter_gives in
     let none = nil_from_length ready.handles.items (sym ready.handles.ok.0 ∙ ready.no_handles) in
     record {
-      jobs = rw (none, gives.0) refl;
+      jobs = ap₂ (λ handles workers. map job_of handles ++ jobs_of c.args.test_mode (shares_of workers)) none gives.0;
       fits = omega (arith, ready.fits, ready.no_handles, gives.1);
       fits_joined = omega (arith, ready.fits_joined, ready.no_handles, gives.1);
       runnable = rw gives.0 (runnable_shares g.T.Task.can_run _ c.requires.ready.0 c.requires.ready.1);
