@@ -1,4 +1,4 @@
-use Rattle.std.proofs.Common.{◌≡◌, ◌∙◌, arith, ◌++◌, ◌∷◌, [], ap, sym, take}
+use Rattle.std.proofs.Common.{◌∙◌, arith, ◌++◌, ◌∷◌, [], ap, sym, take}
 use Rattle.std.proofs.lemmas.List.{map-append, take_more}
 use Rattle.libtest_mimic.specs.Prelude.{info_of, Trial}
 use Rattle.mimic_main.specs.FullNames.{full_name_of, full_names_of}
