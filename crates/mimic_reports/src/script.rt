@@ -114,5 +114,5 @@ ask();
 form.hidden = false;
 "#;
 
-// The script's digest, by which the page allows it and no other. If the script changes, `checks/programs` prints the new one.
+// The script's digest, by which the page allows it and no other. If the script changes, `.ci/run` prints the new one.
 pub(crate) const SCRIPT_DIGEST: &str = "sha256-cqfjaZmr/xN2aLSjBCwyh0FCwM7+XbJsLphZfpcEjPQ=";

@@ -1,4 +1,4 @@
-//! Refused memory: what may be returned if the Nth allocation fails, for any N. `bench/refuse_memory` makes each fail in
+//! Refused memory: what may be returned if the Nth allocation fails, for any N. `.ci/run` makes each fail in
 //! turn; without it none does, and a test shows what comes with ample memory alone. All that is handed in is made
 //! beforehand; if that fails, a test says nothing.
 use super::in_both_orders;

@@ -1,4 +1,4 @@
-//! Memory refused to workers. `bench/refuse_memory` refuses each request in turn, and looks for the errors that these tests
+//! Memory refused to workers. `.ci/run` refuses each request in turn, and looks for the errors that these tests
 //! return; if nothing is refused, each run is whole.
 use super::in_all_orders;
 use super::runs::{Left, SCHEDULES, asking, becoming, roomy, run_by};
