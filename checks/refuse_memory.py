@@ -1,15 +1,15 @@
 #!/usr/bin/env python3
 """Refuses each request for memory of a program in turn, until a run meets no refusal.
 
-    bench/refuse_memory [--meets TEXT].. tests PROGRAM [PART]    each test of a built out/NAME_tests whose name has this part
-    bench/refuse_memory [--meets TEXT].. runs PROGRAM [WORD..]   a program over these words and standard input
+    checks/refuse_memory.py [--meets TEXT].. tests PROGRAM [PART]    each test of a built out/NAME_tests whose name has this part
+    checks/refuse_memory.py [--meets TEXT].. runs PROGRAM [WORD..]   a program over these words and standard input
 
 With memory refused a test may return an error of its own, but no assertion may fail. A program may end as with ample
 memory, with the same lines in any order; or with status 1, a word on its standard error, and none but lines of those; or,
 if a trial lacked memory, with status 101, the same title, and a failure that speaks of memory. With --meets, some run in
 which memory was refused must end with this text in `status N: standard error and output`. Each line says in how many runs
 memory was refused, and how they ended; the last one is `N passed, M failed`, for the tests, or the program, and the texts.
-The refusals are those of bench/refuse_memory.c, which cc compiles.
+The refusals are those of checks/refuse_memory.c, which cc compiles.
 """
 
 import argparse
