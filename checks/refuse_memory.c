@@ -1,6 +1,6 @@
 /* Preloaded into a program, it refuses the request for memory whose number REFUSED holds, counted from 1 over all threads.
    The file descriptor TOLD gets one byte then, so that refuse_memory.py sees whether there was such a request. When the program
-   ends, COUNTED gets the number of all requests, for checks/programs. */
+   ends, COUNTED gets the number of all requests, for memory.py. */
 
 #define _GNU_SOURCE
 #include <errno.h>

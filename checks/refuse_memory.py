@@ -1,4 +1,4 @@
-#!/usr/bin/env python3
+#!/usr/bin/env -S python3 -B
 """Refuses each request for memory of a program in turn, until a run meets no refusal.
 
     checks/refuse_memory.py [--meets TEXT].. tests PROGRAM [PART]    each test of a built out/NAME_tests whose name has this part
@@ -20,7 +20,8 @@ import subprocess
 import sys
 import tempfile
 
-SHIM = os.path.join(os.path.dirname(os.path.abspath(__file__)), "refuse_memory.c")
+import runner
+
 TIMES = re.compile(rb'finished in [0-9.]+s|"exec_time": [0-9.]+')
 SECONDS = 60
 
@@ -105,9 +106,7 @@ def main():
     parser.add_argument("words", nargs=argparse.REMAINDER)
     asked = parser.parse_args()
     with tempfile.TemporaryDirectory() as folder:
-        shim = f"{folder}/refuse_memory.so"
-        subprocess.run(["cc", "-O2", "-shared", "-fPIC", "-o", shim, SHIM], check=True)
-        found = refuse(shim, asked)
+        found = refuse(runner.shim("refuse_memory", folder), asked)
     if not found:
         sys.exit("no such test")
     held = [is_right for is_right, _ in found]
@@ -115,8 +114,7 @@ def main():
         is_met = any(text in end for _, ends in found for end in ends)
         print(f"{'met' if is_met else 'NOT MET'}: {text}")
         held.append(is_met)
-    print(f"{held.count(True)} passed, {held.count(False)} failed")
-    sys.exit(0 if all(held) else 1)
+    runner.finish(held.count(True), held.count(False))
 
 
 main()

@@ -1,0 +1,130 @@
+#!/usr/bin/env -S python3 -B
+"""Runs programs over a clock that is known, counts the threads that they start, and refuses them some.
+
+    checks/clock.py    prints a line for each check, and last `N passed, M failed`
+
+The K-th reading of the clock, from 0, is K * K milliseconds, so the next one is 2 * K + 1 more. Making the tests of bench_suite
+lies between the readings 0 and 1, and running them between 2 and 3. The rounds of a benchmark lie between 1 and 2, 3 and 4, and so
+on: the first takes 3 ms, and each of the other 49 takes 4 more than the one before.
+
+With --report-time the clock is read before and after each trial, too. In bench_suite that is the run's own clock with one thread,
+which stands or is the machine's, and with two the machine's. So the trial takes 9 ms and the run 27, between the readings 3 and 6,
+or 7 ms if the readings 3 and 4 are the trial's or the run's alone.
+"""
+
+import os
+import re
+import shlex
+import tempfile
+import time
+
+import runner
+
+MEASURED = """
+running 1 test
+test [heap] time of 100 mixed ... bench: {} ns/iter (+/- 196,000,000)
+
+test result: ok. 0 passed; 0 failed; 0 ignored; 1 measured; 17 filtered out; finished in {}s
+
+"""
+PRETTY = """
+running 1 test
+test test_000000 ... ok{}
+
+test result: ok. 1 passed; 0 failed; 0 ignored; 0 measured; 0 filtered out; finished in {}s
+
+"""
+MESSAGE = r"Error: \"assertion `left == right` failed\n  left: 4\n right: 5\"\n"
+
+
+def report(rows, took):
+    """Returns the report in JSON of trials, of which each is a name and perhaps a time. The sum 2 + 2 fails."""
+    lines = [f'{{ "type": "suite", "event": "started", "test_count": {len(rows)} }}\n']
+    for name, *times in rows:
+        fails = name == "2 + 2"
+        ended = f'"event": "{"failed" if fails else "ok"}"' + "".join(f', "exec_time": {seconds}' for seconds in times)
+        ended += f', "stdout": "{MESSAGE}"' if fails else ""
+        lines.append(f'{{ "type": "test", "event": "started", "name": "{name}" }}\n')
+        lines.append(f'{{ "type": "test", "name": "{name}", {ended} }}\n')
+    failed = [name for name, *_ in rows].count("2 + 2")
+    counts = f'"passed": {len(rows) - failed}, "failed": {failed}, "ignored": 0, "measured": 0, "filtered_out": 0'
+    end = "failed" if failed else "ok"
+    return "".join([*lines, f'{{ "type": "suite", "event": "{end}", {counts}, "exec_time": {took} }}\n'])
+
+
+def one(took, *times):
+    return report([("test_000000", *times)], took)
+
+
+TIMED_SUMS = report([("1 + 1", "0.003"), ("2 + 2", "0.007"), ("7 + 0", "0.011")], "0.049")
+# A program and its words, the status, what it prints, and the seconds that bench_suite prints of its run.
+KNOWN = [
+    ("example_sorts --bench --test-threads 1 --exact '[heap] time of 100 mixed'", 0, MEASURED.format("101,000,000", "10.20"), ""),
+    # Between the readings before and after a benchmark each round is 2 ms longer.
+    ("example_sorts --bench --report-time --test-threads 1 --exact '[heap] time of 100 mixed'", 0)
+    + (MEASURED.format("103,000,000", "10.61"), ""),
+    ("example_sums --report-time --format json --test-threads 1", 101, TIMED_SUMS, ""),
+    ("bench_suite 1 json 1", 0, one("0"), "0.005"),
+    ("bench_suite 1 json 1 report_time 1", 0, one("0", "0"), "0.005"),
+    ("bench_suite 1 json 1 clock real", 0, one("0.007"), "0.021"),
+    ("bench_suite 1 json 1 report_time 1 clock real", 0, one("0.027", "0.009"), "0.045"),
+    ("bench_suite 1 json 2 report_time 1 clock real", 0, one("0.027", "0.009"), "0.045"),
+    ("bench_suite 1 json 2 dealt 1 report_time 1 clock real", 0, one("0.027", "0.009"), "0.045"),
+    ("bench_suite 1 json 2 report_time 1", 0, one("0", "0.007"), "0.021"),
+    ("bench_suite 1 pretty 1 report_time 1 clock real", 0, PRETTY.format(" <0.009s>", "0.03"), "0.045"),
+    ("bench_suite 1 pretty 1 report_time 1", 0, PRETTY.format(" <0.000s>", "0.00"), "0.005"),
+    ("bench_suite 1 pretty 1 clock real", 0, PRETTY.format("", "0.01"), "0.021"),
+]
+# Words of harness, and how many workers run the trials: by default four, and never more than there are trials.
+WORKERS = [("", 4), ("--test-threads 1", 0), ("--test-threads 7", 7), ("--test-threads 99", 17), ("--exact cat dog", 2)]
+
+
+def check_known(shim, line, status, out, run):
+    told = rf"n=1 .* make=0\.001s run={re.escape(run)}s VmHWM:\d+kB\n" if run else ""
+    found = runner.ended(line, env={**os.environ, "LD_PRELOAD": shim})
+    assert found[:2] == (status, out) and re.fullmatch(told, found[2]), f"{found!r} and not {(status, out, told)!r}"
+
+
+def check_workers(shim, words, count):
+    """A run that is no list has one thread more than workers, which looks for slow trials."""
+    reader, writer = os.pipe()
+    runner.ended(["harness", *words], pass_fds=[writer], env={**os.environ, "LD_PRELOAD": shim, "THREADS": str(writer)})
+    os.close(writer)
+    with os.fdopen(reader, "rb") as started:
+        threads = len(started.read())
+    assert threads == count + 1, f"{threads} threads"
+
+
+def check_no_thread(shim):
+    """A run whose slow trials can't be looked for, since no thread can be started, is as any other."""
+    line = "example_sums --format json --test-threads 1".split()
+    found = runner.ended(line, env={**os.environ, "LD_PRELOAD": shim, "MOST": "0"})
+    assert found == (101, report([("1 + 1",), ("2 + 2",), ("7 + 0",)], "0.001"), ""), f"{found!r}"
+
+
+def check_refused_worker(shim, words, status, out, told, least):
+    """One of two workers can't be started, and four trials wait for 0.4 seconds each."""
+    begun = time.monotonic()
+    line = ["bench_suite", *"4 json 2 wait 400".split(), *words]
+    found = runner.ended(line, env={**os.environ, "LD_PRELOAD": shim, "MOST": "1"})
+    assert found[:2] == (status, out) and re.fullmatch(told, found[2]), f"{found!r}"
+    assert time.monotonic() - begun > least
+
+
+def checks(shim):
+    for line, *rest in KNOWN:
+        yield line, lambda line=line, rest=rest: check_known(shim, shlex.split(line), *rest)
+    for words, count in WORKERS:
+        yield f"workers of harness {words}", lambda words=words, count=count: check_workers(shim, words.split(), count)
+    yield "example_sums without a thread", lambda: check_no_thread(shim)
+    # The other worker runs all trials that are in a queue. If it has a share it ends that, and the run is refused.
+    numbers = r"n=4 format=json threads=2 .*\n"
+    whole = report([(f"test_00000{place}",) for place in range(4)], "0")
+    yield "bench_suite with one worker of two", lambda: check_refused_worker(shim, [], 0, whole, numbers, 1.6)
+    refused = r"bench_suite: cannot start a worker\n" + numbers
+    title = whole.splitlines(keepends=True)[0]
+    yield "bench_suite with one share of two", lambda: check_refused_worker(shim, ["dealt", "1"], 1, title, refused, 0.8)
+
+
+with tempfile.TemporaryDirectory() as folder:
+    runner.run(["bench_suite", "example_sorts", "example_sums", "harness"], checks(runner.shim("known_machine", folder)))

@@ -1,0 +1,133 @@
+#!/usr/bin/env -S python3 -B
+"""Gives programs what is large: runs and reports of many trials, long lines, and inputs without an end.
+
+    checks/large.py    prints a line for each check, and last `N passed, M failed`
+
+A program that says of these that there is no memory would meet its contract.
+"""
+
+import os
+import pathlib
+import resource
+import shlex
+import subprocess
+
+import runner
+
+# What readreport may take for an input of any length.
+MOST_BYTES = 32 << 20
+# A second thread's stack is 8 MB, and what an allocator reserves for it 64 MB more.
+MOST_OF_TWO = 128 << 20
+MANY = 110_000
+
+
+def title(count):
+    return f'{{ "type": "suite", "event": "started", "test_count": {count} }}\n'
+
+
+def rows(trials):
+    """Returns the lines of trials: of each its name, and what its row has behind that."""
+    line = '{{ "type": "test", "event": "started", "name": "{0}" }}\n{{ "type": "test", "name": "{0}", "event": {1} }}\n'
+    return "".join(line.format(name, end) for name, end in trials)
+
+
+def report(trials):
+    """Returns the report of these trials."""
+    failed = sum(end.startswith('"failed"') for _, end in trials)
+    counts = f'"passed": {len(trials) - failed}, "failed": {failed}, "ignored": 0, "measured": 0, "filtered_out": 0, "exec_time": 0'
+    return title(len(trials)) + rows(trials) + f'{{ "type": "suite", "event": "{"failed" if failed else "ok"}", {counts} }}\n'
+
+
+# A line, its status, and how often this text is in what is printed.
+LARGE = [
+    ("bench_suite 200000 json 2", 0, '"event": "ok" }', 200_000),
+    ("reports junit many", 0, "<testcase ", MANY),
+    ("reports join --equal-names --shards 1 many", 101, '"event": "ok", ', MANY - 1),
+    ("reports show many", 101, "... ok", MANY - 1),
+    ("reports page many", 0, "<li id=", MANY),
+    (f"reports slowest -n {MANY} many", 0, "\n", MANY),
+    ("reports known many", 0, '"event": "failed"', 1),
+    ("reports expect /dev/null many", 101, f"failed: {MANY - 1}\n", 1),
+    ("reports compare many many", 0, f" 1 still failing; {MANY - 1} unchanged; ", 1),
+    ("example_sums --format json --exact '1 + 1' " + 999 * "x ", 0, '"event": "ok" }', 1),
+]
+# Calls of reports that read standard input as a report, of which the last one stands for itself.
+READING = ["show -", "show --failed -", "junit -", "known -", "expect /dev/null -", "compare - none", "compare none -"]
+READING += ["page -", "slowest -", "join --shards 1 -", "join --cut --shards 1 -", "watch"]
+# Inputs that are no report.
+NO_REPORTS = {"a line of 100 MB": 100_000_000 * "\0", "two reports": 2 * report(300_000 * [("a", '"ok"')])}
+
+
+def limited(most):
+    """Returns a call that limits the memory of a process."""
+    return lambda: resource.setrlimit(resource.RLIMIT_AS, (most, most))
+
+
+def check_large(line, status, text, count):
+    found = runner.ended(shlex.split(line))
+    assert (found[0], found[1].count(text)) == (status, count), f"{found[0]}, {found[1].count(text)}, {found[2]}"
+
+
+def check_no_report(text):
+    found = runner.ended(["readreport"], input=text, preexec_fn=limited(MOST_BYTES))
+    assert found == (1, "", "not a report\n"), f"{found!r}"
+
+
+def check_endless_line(words):
+    """A first line without an end is refused before it fills the memory."""
+    place = "" if words == "watch" else "-: "
+    status, _, said = runner.ended(["reports", *words.split()], input=100_000_000 * "\0", preexec_fn=limited(MOST_OF_TWO))
+    assert (status, said) == (1, f"reports: {place}its first line is too long for a report\n"), f"{status}, {said!r}"
+
+
+def check_stops_reading(words):
+    """Behind a wrong line nothing more is read than one piece."""
+    streams = {"stdin": subprocess.PIPE, "stdout": subprocess.DEVNULL, "stderr": subprocess.DEVNULL, "bufsize": 0}
+    pieces = 0
+    with subprocess.Popen([runner.program("reports"), *words.split()], **streams) as process:
+        try:
+            for _ in range(1000):
+                process.stdin.write(13_107 * b"what\n")
+                pieces += 1
+            process.stdin.close()
+        except BrokenPipeError:
+            pass
+        process.wait(timeout=60)
+    assert (process.returncode, pieces < 10) == (1, True), f"{process.returncode}, {pieces}"
+
+
+def check_long_input():
+    """Of a report that is too long to be kept, the rows before are in the XML, and an error for the rest. A file is read as it is.
+
+    The other calls that keep rows refuse the rest, too.
+    """
+    said = '"failed", "stdout": "Error: \\"' + 2**20 * "x" + '\\"\\n"'
+    text = title(258) + 258 * rows([("", said)])
+    pathlib.Path("long").write_text(text, encoding="utf-8")
+    for words, kept, cause in (("-", range(254, 257), "too long to be kept"), ("long", range(258, 259), "")):
+        status, out, err = runner.ended(["reports", "junit", "--name", "n", words], input=text)
+        count = out.count("<failure ")
+        assert status == 1 and count in kept and cause in err and out.count("<error ") == 1, f"{count}, {err}"
+    for words in ("page", "show", "slowest"):
+        status, _, err = runner.ended(["reports", words, "-"], input=text)
+        assert status == 1 and "too long to be kept" in err, f"{words}: {status}, {err}"
+    os.remove("long")
+
+
+def checks():
+    last = MANY - 1
+    trials = [(place, ('"failed"' if place == last else '"ok"') + ', "exec_time": 1') for place in range(MANY)]
+    pathlib.Path("many").write_text(report(trials), encoding="utf-8")
+    pathlib.Path("none").write_text(report([]), encoding="utf-8")
+    for line, *rest in LARGE:
+        yield line[:60], lambda line=line, rest=rest: check_large(line, *rest)
+    for name, text in NO_REPORTS.items():
+        yield f"readreport of {name}", lambda text=text: check_no_report(text)
+    for words in READING:
+        yield f"reports {words} of a first line without an end", lambda words=words: check_endless_line(words)
+    for words in READING[:-1]:
+        yield f"reports {words} behind a wrong line", lambda words=words: check_stops_reading(words)
+    yield "reports of a long report", check_long_input
+
+
+runner.run(["bench_suite", "example_sums", "readreport", "reports"], checks())

@@ -1,0 +1,134 @@
+#!/usr/bin/env -S python3 -B
+"""Looks at programs while they run: what they have read and written by then, how soon they end, and what they do without room.
+
+    checks/live.py    prints a line for each check, and last `N passed, M failed`
+"""
+
+import json
+import os
+import pathlib
+import resource
+import signal
+import subprocess
+import threading
+import time
+
+import runner
+
+MANY = 20_000
+# Words of harness, for how many bytes of its output there is room, and the status.
+ROOM = [("--list a", "all", 0), ("--list a", "all but one", 1), ("--exact cat", 20, 1), ("--list --help", 0, 0)]
+
+
+def started(line, **streams):
+    """Starts a program by its name and words."""
+    return subprocess.Popen([runner.program(line[0]), *line[1:]], **streams)
+
+
+def check_slow_screen():
+    """While nobody reads what is shown, little more than a MiB is read of the report, and all of it later."""
+    rows = "".join(
+        f'{{ "type": "test", "event": "started", "name": "{place}" }}\n'
+        f'{{ "type": "test", "name": "{place}", "event": "failed", "stdout": "Error: \\"{200 * "x"}\\"\\n" }}\n'
+        for place in range(MANY)
+    )
+    counts = f'"passed": 0, "failed": {MANY}, "ignored": 0, "measured": 0, "filtered_out": 0, "exec_time": 0'
+    title = f'{{ "type": "suite", "event": "started", "test_count": {MANY} }}\n'
+    text = (title + rows + f'{{ "type": "suite", "event": "failed", {counts} }}\n').encode()
+    written = 0
+
+    def feed(file):
+        nonlocal written
+        with file:
+            for at in range(0, len(text), 4096):
+                file.write(text[at : at + 4096])
+                written = at
+
+    with started(["reports", "watch"], stdin=subprocess.PIPE, stdout=subprocess.PIPE, bufsize=0) as process:
+        feeder = threading.Thread(target=feed, args=[process.stdin], daemon=True)
+        feeder.start()
+        time.sleep(1)
+        read = written
+        watchdog = threading.Timer(60, process.kill)
+        watchdog.start()
+        shown = process.stdout.read() if read < 4 << 20 < len(text) else b""
+        watchdog.cancel()
+        process.kill()
+        feeder.join()
+    assert shown.count(b"FAILED ") == MANY and f"; {MANY} failed; ".encode() in shown, f"{read} of {len(text)}, {len(shown)}"
+
+
+def check_waiting_input():
+    """An input that doesn't block, and has nothing yet, is asked again."""
+    report = runner.ended("example_sums --format json --test-threads 1".split())[1]
+    wanted = runner.ended(["reports", "watch"], input=report)
+    reader, writer = os.pipe()
+    os.set_blocking(reader, False)
+    with started(["reports", "watch"], stdin=reader, stdout=subprocess.PIPE, encoding="utf-8") as process:
+        os.close(reader)
+        for line in report.splitlines(keepends=True):
+            time.sleep(0.05)
+            os.write(writer, line.encode())
+        os.close(writer)
+        shown, _ = process.communicate(timeout=60)
+    assert (process.returncode, shown, "") == wanted and shown, f"{process.returncode}, {shown!r}"
+
+
+def check_own_times():
+    """A trial's time is its own, also if it ends after those behind it."""
+    out = runner.ended("bench_suite 9 json 2 uneven one report_time 1".split())[1]
+    times = {row["name"]: row["exec_time"] for row in map(json.loads, out.splitlines()[1:-1]) if "exec_time" in row}
+    long = [name for name, seconds in times.items() if seconds >= 1]
+    assert len(times) == 9 and long == ["test_000004"], f"{times}"
+
+
+def check_logfile():
+    """A row is in the logfile when its trial has ended."""
+    file = pathlib.Path("live")
+    with started("bench_suite 3 json 1 wait 700 logfile live".split(), stderr=subprocess.DEVNULL) as process:
+        rows = 0
+        while rows == 0 and process.poll() is None:
+            time.sleep(0.02)
+            rows = file.read_text(encoding="utf-8").count('"event": "ok"') if file.exists() else 0
+        is_running = process.poll() is None
+    assert (rows, is_running) == (1, True), f"{rows}, {is_running}"
+
+
+def check_quick_end():
+    """A program ends when its trials have, and doesn't wait for the thread that looks for slow ones."""
+    times = []
+    for _ in range(3):
+        begun = time.monotonic()
+        runner.ended(["example_sums"])
+        times.append(time.monotonic() - begun)
+    assert min(times) < 0.5, f"{times}"
+
+
+def check_room(words, room, status):
+    """What there is no room for isn't printed."""
+    whole = runner.ended(["harness", *words])[1]
+    most = {"all": len(whole), "all but one": len(whole) - 1}.get(room, room)
+
+    def limit():
+        signal.signal(signal.SIGXFSZ, signal.SIG_IGN)
+        resource.setrlimit(resource.RLIMIT_FSIZE, (most, most))
+
+    with open("out", "wb") as out:
+        ended, _, said = runner.ended(["harness", *words], stdout=out, preexec_fn=limit)
+    got = pathlib.Path("out").read_text(encoding="utf-8")
+    wanted = status, "harness: cannot write the report\n" if status == 1 else "", whole[:most]
+    assert whole and (ended, said, got) == wanted, f"{ended}, {said!r}, {got!r}"
+
+
+def checks():
+    yield "reports watch on a screen that nobody reads", check_slow_screen
+    yield "reports watch of an input that doesn't block", check_waiting_input
+    yield "times of trials of two threads", check_own_times
+    yield "a logfile while trials run", check_logfile
+    yield "the end of example_sums", check_quick_end
+    for words, room, status in ROOM:
+        row = words.split(), room, status
+        yield f"harness {words} and room for {room} bytes", lambda row=row: check_room(*row)
+
+
+runner.run(["bench_suite", "example_sums", "harness", "reports"], checks())
