@@ -250,7 +250,7 @@ A report that is cut, wrong or absent makes the status 1, unless there is a regr
   0 regressed; 0 missing; 0 not run; 0 new; 0 not run before; 0 newly ignored; 0 newly passing; 0 another message; 0 still failing; 0 unchanged; 0 slower; 0 faster
   2> reports: empty: the report is cut
   [1]
-  $ sums | head -n 6 >killed; sums >sums; reports compare --missing killed sums
+  $ sums | sed '7,$d' >killed; sums >sums; reports compare --missing killed sums
   not run before: 7 + 0
   0 regressed; 0 missing; 0 not run; 0 new; 1 not run before; 0 newly ignored; 0 newly passing; 0 another message; 1 still failing; 1 unchanged; 0 slower; 0 faster
   2> reports: killed: the report is cut

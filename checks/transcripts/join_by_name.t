@@ -63,7 +63,7 @@ names.
   $ reports join --by-name --cut --shards 4 0of1 1of1 0of2 | diff - <(begun 6 ok\ {a,a,a,l,l,l})
   2> reports: no report of 1 of 4 shards
   [1]
-  $ report 'ok 1 + 1' 'ok 7 + 0' | head -n 4 >killed
+  $ report 'ok 1 + 1' 'ok 7 + 0' | sed '5,$d' >killed
   $ reports join --by-name --cut --shards 3 s0 killed | diff - <(begun 4 'ok 1 + 1' ok\ {a,l})
   2> reports: killed: the report is cut; running: 7 + 0
   2> reports: no report of 1 of 3 shards

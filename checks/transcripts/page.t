@@ -363,7 +363,7 @@ Reports that are cut, wrong or absent. Nothing counts behind a wrong line. A pag
   <li id="/plain" class="passed"><a href="#/plain">ok</a> <bdi>plain</bdi></li>
   2> reports: wrong: line 5: not what a report has there
   [1]
-  $ sums | head -n 6 >killed; page killed
+  $ sums | sed '7,$d' >killed; page killed
   7c7
   <title>killed: cut. 1 failed; 1 passed; 0 ignored; 0 measured</title>
   156,158c156,158
