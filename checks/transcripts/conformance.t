@@ -1,6 +1,7 @@
 `conformance SUITE PATH` runs a suite that others publish, in its own form, over a parser or a table of the toolchain. Each
 sample of ten cases passes, those below `failing` fail, and those below `wrong` are no suites.
 
+  $ cp -r "$top"/crates/conformance/data/. .
   $ conformance toml toml -- --test-threads 2 --quiet | timeless
   
   running 10 tests

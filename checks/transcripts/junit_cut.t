@@ -4,6 +4,7 @@ error that says where the report ends, and which trial was running.
 Shown are the numbers and texts of the lines in which the XML differs from that of the whole report, and which of its lines are
 there.
 
+  $ cp "$top"/checks/transcripts/junit/hostile.json .
   $ reports junit hostile.json >whole; grep -n '' whole
   1:<?xml version="1.0" encoding="UTF-8"?>
   2:<testsuites tests="7" failures="3" errors="0" skipped="1" time="0.000">

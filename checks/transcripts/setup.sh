@@ -1,7 +1,9 @@
 # Makes a shell ready for the commands of the transcripts. To paste some, copy the folder that is named as their file, if there is
 # one, begin there with `env -i PATH="$PATH" bash --norc`, and read this file with `.`.
 
-for main in "$(cd "$(dirname "${BASH_SOURCE[0]}")/../.." && pwd)"/crates/*/src/main.rt; do
+# The top of the repository.
+top=$(cd "$(dirname "${BASH_SOURCE[0]}")/../.." && pwd)
+for main in "$top"/crates/*/src/main.rt; do
     PATH=${main%/src/main.rt}/out:$PATH
 done
 export PATH LC_ALL=C
