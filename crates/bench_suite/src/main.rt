@@ -29,7 +29,9 @@ ghost use Rattle.libtest_mimic.specs.Trial.{AllCanRun};
 use asked::{Asked, Runners};
 use libtest_mimic::{ArgumentsError, Clock, Failed, Outcome, RunError, Task, Trial};
 use measured::Measured;
-use mimic_main::{Machine, MonotonicClock, Program, Sharding, Status, StillClock};
+use mimic_main::{
+    Machine, MonotonicClock, Program, Sharding, Status, StillClock, hold_closed_streams,
+};
 use std::alloc::Global;
 use std::fs::Files;
 use std::io::{Eprint, IsTerminal};
@@ -38,14 +40,19 @@ use std::time::Duration;
 use waits::Waits;
 use xorshift::rounds;
 
+const NAME: &str = "bench_suite";
+
 fn bench_suite() -> Program<'static> {
-    Program::new("bench_suite", 1)
+    Program::new(NAME, 1)
 }
 
 // What a failing test says.
 const MESSAGE: &str = "the left side is not equal to the right!";
 
 fn main(rt: HostRuntime) -> Status {
+    if let Err(status) = hold_closed_streams(&rt, NAME) {
+        return status;
+    }
     let ended = match Asked::from_words(&rt) {
         Ok(asked) => measure(&rt, &asked),
         Err(error) => Ok(refuse(&rt, error)),

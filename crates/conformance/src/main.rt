@@ -22,7 +22,7 @@ mod toml_suite;
 mod url_suite;
 
 use libtest_mimic::{ArgumentsError, Line};
-use mimic_main::{Sharding, Status, refuse_line, run_line};
+use mimic_main::{Sharding, Status, hold_closed_streams, refuse_line, run_line};
 use suite::Suite;
 
 const NAME: &str = "conformance";
@@ -42,6 +42,9 @@ Runs a trial for each case of a suite:
 ";
 
 fn main(rt: HostRuntime) -> Status {
+    if let Err(status) = hold_closed_streams(&rt, NAME) {
+        return status;
+    }
     let alloc = rt.alloc();
     let line = Line::from_args(&rt, alloc);
     let (options, words) = match line.into_operands(alloc, 2..=2, USAGE) {

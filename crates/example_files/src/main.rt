@@ -10,7 +10,7 @@ use bless::bless;
 use case::FileCase;
 use libtest_mimic::{Line, Trial};
 use mimic_files::{FolderError, cases_below};
-use mimic_main::{Sharding, refuse_line, run_line};
+use mimic_main::{Sharding, hold_closed_streams, refuse_line, run_line};
 use std::alloc::{AllocError, Global};
 use std::path::Path;
 use std::process::{ExitCode, Termination};
@@ -42,6 +42,9 @@ fn case_of(file: &str) -> Option<&str> {
 }
 
 fn main(rt: HostRuntime) -> ExitCode {
+    if let Err(status) = hold_closed_streams(&rt, NAME) {
+        return status.report(&rt);
+    }
     let alloc = rt.alloc();
     let mut line = Line::from_args(&rt, alloc);
     let blesses = take_bless(&mut line.own);

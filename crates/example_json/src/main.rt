@@ -8,7 +8,7 @@ mod report;
 use case::{Expectation, JsonFile};
 use libtest_mimic::{Line, Trial};
 use mimic_files::{FolderError, cases_below};
-use mimic_main::{Sharding, Status, refuse_line, run_line};
+use mimic_main::{Sharding, Status, hold_closed_streams, refuse_line, run_line};
 use std::rt::Files;
 
 const NAME: &str = "example_json";
@@ -28,6 +28,9 @@ fn case_of(file: &str) -> Option<&str> {
 }
 
 fn main(rt: HostRuntime) -> Status {
+    if let Err(status) = hold_closed_streams(&rt, NAME) {
+        return status;
+    }
     let alloc = rt.alloc();
     let line = Line::from_args(&rt, alloc);
     let (options, folders) = match line.into_operands(alloc, 1..=1, USAGE) {

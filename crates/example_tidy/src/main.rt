@@ -8,7 +8,7 @@ use job::Job;
 use libtest_mimic::{TestInfo, Trial};
 use line::{Rules, TidyLine};
 use mimic_files::{FolderError, Found, cases_below};
-use mimic_main::{Sharding, Status, refuse_line, run_line};
+use mimic_main::{Sharding, Status, hold_closed_streams, refuse_line, run_line};
 use std::rt::{Clock, Files};
 
 const NAME: &str = "example_tidy";
@@ -19,6 +19,9 @@ fn case_of(file: &str) -> Option<&str> {
 }
 
 fn main(rt: HostRuntime) -> Status {
+    if let Err(status) = hold_closed_streams(&rt, NAME) {
+        return status;
+    }
     let alloc = rt.alloc();
     let line = match TidyLine::from_args(&rt, alloc) {
         Ok(line) => line,

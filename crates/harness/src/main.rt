@@ -4,11 +4,16 @@
 ghost use Rattle.libtest_mimic.specs.Trial.{AllCanRun};
 
 use libtest_mimic::{Arguments, Failed, Measurement, RunError, Task, Trial};
-use mimic_main::{Machine, Program, Sharding, Status};
+use mimic_main::{Machine, Program, Sharding, Status, hold_closed_streams};
 use mimic_testkit::{MIXED_BAG, trials_of};
 
+const NAME: &str = "harness";
+
 fn main(rt: HostRuntime) -> Status {
-    let harness = Program::new("harness", 4).without_causes();
+    if let Err(status) = hold_closed_streams(&rt, NAME) {
+        return status;
+    }
+    let harness = Program::new(NAME, 4).without_causes();
     harness.end(&rt, run_mixed_bag(&rt, &harness))
 }
 

@@ -55,3 +55,8 @@ pub none_at : (text : List ℕ) (start : ℕ) (ends : List ℕ) (place : ℕ) �
 none_at text start [] place all = refl
 none_at text start (end ∷ ends) zero all = absurd (omega arith)
 none_at text start (end ∷ ends) (suc place) all = none_at text end ends place (omega arith)
+
+-- there are as many parts as ends
+pub length-parts : (text : List ℕ) (start : ℕ) (ends : List ℕ) → length (parts_of text start ends) ≡ length ends
+length-parts text start [] = refl
+length-parts text start (end ∷ ends) = ap suc (length-parts text end ends)

@@ -1,5 +1,5 @@
 //! A whole program on a machine: the calls of its `main`.
-ghost use Rattle.std.specs.Prelude.{◌≡◌, ◌≤◌, All, IfOk, OnErr, false};
+ghost use Rattle.std.specs.Prelude.{◌≡◌, ◌≤◌, All, IfErr, IfOk, OnErr, false};
 ghost use Rattle.std.specs.NonZero.{non_zero_usize_get};
 ghost use Rattle.std.specs.Result.{is_ok};
 ghost use Rattle.libtest_mimic.specs.Prelude.{AllCanRun, asking};
@@ -41,10 +41,26 @@ pub fn run_program<M: Machine, R: Task + Send + 'static, X: Display + Drop>(
     ensures made { IfOk tests (λ made. EndsByLine R.gives made.items (number_of result)) }
     ensures refused { OnErr tests (number_of result ≡ 1) }
 {
+    if let Err(status) = hold_closed_streams(machine, name) {
+        return status;
+    }
     let line = Arguments::from_args(machine, machine.alloc());
     let sharding = Sharding::from_env(machine);
     let program = Program::on(machine, name);
     program.run_line(machine, line, sharding, tests)
+}
+
+/// Opens /dev/null for each standard stream of the program that is closed, so that no file that it opens later gets the stream's
+/// descriptor, and with it what is written to the stream. [`run_program`] begins with it, and so does a `main` that opens files
+/// itself or calls [`run_line`]. If /dev/null can't be opened, the reason is printed on standard error, and the `Err` is what `main` is
+/// to return: the status 1.
+pub fn hold_closed_streams<M: Machine>(machine: &M, name: &str) -> Result<(), Status>
+    ensures { IfErr result (λ status. number_of status ≡ 1) }
+{
+    machine.hold_closed_streams().map_err(|error| {
+        let reason = format_args!("cannot open /dev/null for a closed standard stream: {error}");
+        Program::new(name, 1).refuse(reason, &mut machine.stderr())
+    })
 }
 
 /// Runs or lists the trials as `run_program` does, for a line that was read already, as by a program with words of its own

@@ -41,7 +41,9 @@ impl FullNames {
     }
 
     // How many there are.
-    pub(crate) fn len(&self) -> usize {
+    pub(crate) fn len(&self) -> usize
+        ensures { result ≡ length self.now }
+    {
         self.ends.len()
     }
 

@@ -35,7 +35,7 @@ mod sharding;
 mod status;
 
 pub use clock::{MonotonicClock, StillClock};
-pub use entry::{refuse_line, run_line, run_program, trials_of_cases};
+pub use entry::{hold_closed_streams, refuse_line, run_line, run_program, trials_of_cases};
 pub use machine::Machine;
 pub use mimic_console::{Streams, print_line, shows_colours};
 pub use output::Output;

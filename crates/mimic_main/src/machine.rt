@@ -2,6 +2,7 @@
 use libtest_mimic::Spawner;
 use mimic_console::Streams;
 use std::fs::Files;
+use std::io;
 use std::io::{IsTerminal, Write};
 use std::rt::{Clock, Env, Stderr, Stdout};
 
@@ -25,6 +26,12 @@ pub trait Machine: Env + AllocGlobal + Clock {
 
     /// Its standard error.
     fn stderr(&self) -> Self::Stderr;
+
+    /// Sees to it that no file gets the descriptor of a standard stream that is closed, as
+    /// [`Streams::hold_closed_streams`] does. A machine without descriptors does nothing.
+    fn hold_closed_streams(&self) -> io::Result<()> {
+        Ok(())
+    }
 }
 
 impl<R: Env + AllocGlobal + Clock + Files + Streams + Spawner + 'static> Machine for R {
@@ -44,5 +51,9 @@ impl<R: Env + AllocGlobal + Clock + Files + Streams + Spawner + 'static> Machine
 
     fn stderr(&self) -> Stderr {
         Streams::stderr(self)
+    }
+
+    fn hold_closed_streams(&self) -> io::Result<()> {
+        Streams::hold_closed_streams(self)
     }
 }

@@ -1,4 +1,7 @@
 //! Prints which trials run for too long, while they do.
+ghost use Rattle.std.specs.Prelude.{◌≡◌, ◌≢◌, ◌*◌, ◌/◌, ◌-◌, ◌^◌, ◌≤◌, IfSome, IsNone, IsSome, None, Some, false, min, nat_lt, true};
+ghost use Rattle.std.specs.Duration.{as_nanos};
+
 use crate::full_names::FullNames;
 use crate::output::BLOCK;
 use arrayvec::ArrayVec;
@@ -144,7 +147,12 @@ impl Look {
     // Looks at the trial that is there now. Returns whether it has run for too long and wasn't printed yet.
     //
     // The clock is read only for a trial that was seen before, so for none that is fast.
-    fn is_slow<T: Clock>(&mut self, rt: &T, place: Option<usize>, limit: Duration) -> bool {
+    fn is_slow<T: Clock>(&mut self, rt: &T, place: Option<usize>, limit: Duration) -> bool
+        ensures another { place ≢ self.old.place → (result ≡ false)
+            × (self.new ≡ record { place = place; since = None; is_printed = false }) }
+        ensures slow { result ≡ true → (place ≡ self.old.place) × IsSome place × IsSome self.old.since
+            × (self.old.is_printed ≡ false) × (self.new.is_printed ≡ true) }
+    {
         if place != self.place {
             *self = Look {
                 place,
@@ -156,13 +164,25 @@ impl Look {
         if place.is_none() || self.is_printed {
             return false;
         }
-        let Ok(now) = rt.monotonic() else {
+        match rt.monotonic() {
+            Ok(now) => self.is_slow_at(now, limit),
+            Err(_) => false,
+        }
+    }
+
+    // The same, once it was seen again, at this time.
+    fn is_slow_at(&mut self, now: Duration, limit: Duration) -> bool
+        ensures first { IsNone self.old.since
+            → (result ≡ false) × (self.new ≡ record self.old { since = Some now }) }
+        ensures later { IfSome self.old.since
+            (λ since. (result ≡ nat_lt (as_nanos limit) (as_nanos now - as_nanos since))
+            × (self.new ≡ record self.old { is_printed = result })) }
+    {
+        let Some(since) = self.since else {
+            self.since = Some(now);
             return false;
         };
-        match self.since {
-            Some(since) => self.is_printed = now.saturating_sub(since) > limit,
-            None => self.since = Some(now),
-        }
+        self.is_printed = now.saturating_sub(since).as_nanos() > limit.as_nanos();
         self.is_printed
     }
 }
@@ -215,8 +235,11 @@ fn look_at_all<T: Clock, E: Write>(
 }
 
 impl<E: Write> Notifier<E> {
-    // How long the thread sleeps between two looks: an eighth of the limit, but no longer than a second.
-    fn pause(&self) -> Duration {
+    // How long the thread sleeps between two looks: an eighth of the limit, but no longer than a second, and at least a millisecond.
+    fn pause(&self) -> Duration
+        ensures second { as_nanos result ≤ 1_000_000_000 }
+        ensures eighth { 8_000_000 ≤ as_nanos self.now.limit → as_nanos result * 8 ≤ as_nanos self.now.limit }
+    {
         Duration::from_millis((millis_of(self.limit) / 8).clamp(1, 1000))
     }
 
@@ -261,6 +284,9 @@ fn in_words(time: Duration) -> (u64, &'static str) {
     }
 }
 
-fn millis_of(time: Duration) -> u64 {
+// Its whole milliseconds.
+fn millis_of(time: Duration) -> u64
+    ensures { result ≡ min (as_nanos time / 1_000_000) (2 ^ 64 - 1) }
+{
     u64::try_from(time.as_millis()).unwrap_or(u64::MAX)
 }

@@ -465,24 +465,24 @@ impl Subcommand {
 }
 
 fn join_command<'a>(alloc: Global) -> Result<Command<'a>, AllocError> {
-    let shards = Arg::new(alloc, "shards")
-        .long("shards")
-        .value_name("N")
+    let shards = option(alloc, "shards", "N", "How many shards there are")
         .value_parser(value_parser!(usize))
-        .required(true)
-        .help("How many shards there are");
-    let equal_names = Arg::new(alloc, "equal-names")
-        .long("equal-names")
-        .action(ArgAction::SetTrue)
-        .help("Let trials in two shards have the same kind and name");
-    let cut = Arg::new(alloc, "cut")
-        .long("cut")
-        .action(ArgAction::SetTrue)
-        .help("Join what can be read, also if reports are cut, unreadable or absent");
-    let by_name = Arg::new(alloc, "by-name")
-        .long("by-name")
-        .action(ArgAction::SetTrue)
-        .help("Take the reports in the order of the numbers in the files' names");
+        .required(true);
+    let equal_names = flag(
+        alloc,
+        "equal-names",
+        "Let trials in two shards have the same kind and name",
+    );
+    let cut = flag(
+        alloc,
+        "cut",
+        "Join what can be read, also if reports are cut, unreadable or absent",
+    );
+    let by_name = flag(
+        alloc,
+        "by-name",
+        "Take the reports in the order of the numbers in the files' names",
+    );
     let files = files(
         alloc,
         "The shards' reports in JSON, from index 0 on if not --by-name; - is standard input",
@@ -493,20 +493,21 @@ fn join_command<'a>(alloc: Global) -> Result<Command<'a>, AllocError> {
 }
 
 fn junit_command<'a>(alloc: Global) -> Result<Command<'a>, AllocError> {
-    let name = Arg::new(alloc, "name")
-        .long("name")
-        .value_name("PROGRAM")
-        .help("The name of the program; else that of the one file, without its ending");
-    let status = Arg::new(alloc, "status")
-        .long("status")
-        .action(ArgAction::SetTrue)
-        .help("End with 101 if a trial failed");
-    let root = Arg::new(alloc, "root")
-        .long("root")
-        .value_name("ELEMENT")
-        .value_parser(ROOTS.as_slice())
-        .default_value(ROOTS[0])
-        .help("The root element of the document, testsuite only for one FILE");
+    let name = option(
+        alloc,
+        "name",
+        "PROGRAM",
+        "The name of the program; else that of the one file, without its ending",
+    );
+    let status = flag(alloc, "status", "End with 101 if a trial failed");
+    let root = option(
+        alloc,
+        "root",
+        "ELEMENT",
+        "The root element of the document, testsuite only for one FILE",
+    )
+    .value_parser(ROOTS.as_slice())
+    .default_value(ROOTS[0]);
     let files = files(alloc, "Reports in JSON; - is standard input");
     Command::new(alloc, "junit")
         .about("Print reports as JUnit's XML")
@@ -514,15 +515,10 @@ fn junit_command<'a>(alloc: Global) -> Result<Command<'a>, AllocError> {
 }
 
 fn show_command<'a>(alloc: Global) -> Result<Command<'a>, AllocError> {
-    let failed = Arg::new(alloc, "failed")
-        .long("failed")
-        .action(ArgAction::SetTrue)
-        .help("Print the failures alone");
-    let color = Arg::new(alloc, "color")
-        .long("color")
-        .value_name("WHEN")
-        .value_parser(COLOURS.as_slice())
-        .help("When to use colours");
+    let failed = flag(alloc, "failed", "Print the failures alone");
+    let color = option(alloc, "color", "WHEN", "When to use colours").value_parser(
+        COLOURS.as_slice(),
+    );
     let file = file(alloc, "FILE", "A report in JSON; - is standard input");
     Command::new(alloc, "show")
         .about("Print a report as the harness does")
@@ -530,18 +526,13 @@ fn show_command<'a>(alloc: Global) -> Result<Command<'a>, AllocError> {
 }
 
 fn expect_command<'a>(alloc: Global) -> Result<Command<'a>, AllocError> {
-    let lax = Arg::new(alloc, "lax")
-        .long("lax")
-        .action(ArgAction::SetTrue)
-        .help("Let known failures pass");
-    let lines = Arg::new(alloc, "lines")
-        .long("lines")
-        .action(ArgAction::SetTrue)
-        .help("Print trials as lines in JSON");
-    let update = Arg::new(alloc, "update")
-        .long("update")
-        .action(ArgAction::SetTrue)
-        .help("Bring KNOWN up to date, if the reports are whole");
+    let lax = flag(alloc, "lax", "Let known failures pass");
+    let lines = flag(alloc, "lines", "Print trials as lines in JSON");
+    let update = flag(
+        alloc,
+        "update",
+        "Bring KNOWN up to date, if the reports are whole",
+    );
     let known = file(
         alloc,
         "KNOWN",
@@ -562,40 +553,40 @@ fn known_command<'a>(alloc: Global) -> Result<Command<'a>, AllocError> {
 fn compare_command<'a>(alloc: Global) -> Result<Command<'a>, AllocError> {
     let old = file(alloc, "OLD", "A report in JSON; - is standard input");
     let new = file(alloc, "NEW", "A later report in JSON; - is standard input");
-    let slower = Arg::new(alloc, "slower")
-        .long("slower")
-        .value_name("FACTOR")
-        .default_value(SLOWER)
-        .help("Print times that changed by more than this factor");
-    let missing = Arg::new(alloc, "missing")
-        .long("missing")
-        .action(ArgAction::SetTrue)
-        .help("Print also what a report lacks since it is cut or trials were filtered out");
+    let slower = option(
+        alloc,
+        "slower",
+        "FACTOR",
+        "Print times that changed by more than this factor",
+    )
+    .default_value(SLOWER);
+    let missing = flag(
+        alloc,
+        "missing",
+        "Print also what a report lacks since it is cut or trials were filtered out",
+    );
     Command::new(alloc, "compare")
         .about("Print what is not in a report as in an older one")
         .args(vec![in alloc; slower, missing, old, new]?)
 }
 
 fn page_command<'a>(alloc: Global) -> Result<Command<'a>, AllocError> {
-    let title = Arg::new(alloc, "title")
-        .long("title")
-        .value_name("TEXT")
-        .help("What is in the heading; else the file's name, without its ending");
-    let note = Arg::new(alloc, "note")
-        .long("note")
-        .value_name("TEXT")
-        .action(ArgAction::Append)
-        .help("A line below the heading");
-    let failed = Arg::new(alloc, "failed")
-        .long("failed")
-        .action(ArgAction::SetTrue)
-        .help("List the failures alone");
-    let rows = Arg::new(alloc, "rows")
-        .long("rows")
-        .value_name("N")
-        .value_parser(value_parser!(u64))
-        .conflicts_with("failed")?
-        .help("How many trials that did not fail to list at most");
+    let title = option(
+        alloc,
+        "title",
+        "TEXT",
+        "What is in the heading; else the file's name, without its ending",
+    );
+    let note = option(alloc, "note", "TEXT", "A line below the heading").action(ArgAction::Append);
+    let failed = flag(alloc, "failed", "List the failures alone");
+    let rows = option(
+        alloc,
+        "rows",
+        "N",
+        "How many trials that did not fail to list at most",
+    )
+    .value_parser(value_parser!(u64))
+    .conflicts_with("failed")?;
     let file = file(alloc, "FILE", "A report in JSON; - is standard input");
     Command::new(alloc, "page")
         .about("Print a report as a page of HTML")
@@ -619,14 +610,29 @@ fn slowest_command<'a>(alloc: Global) -> Result<Command<'a>, AllocError> {
 }
 
 fn watch_command<'a>(alloc: Global) -> Result<Command<'a>, AllocError> {
-    let columns = Arg::new(alloc, "columns")
-        .long("columns")
-        .value_name("N")
-        .value_parser(value_parser!(usize))
-        .help("How wide lines of how far the run is may be; else COLUMNS, 39 on a terminal, or 79");
+    let columns = option(
+        alloc,
+        "columns",
+        "N",
+        "How wide lines of how far the run is may be; else COLUMNS, 39 on a terminal, or 79",
+    )
+    .value_parser(value_parser!(usize));
     Command::new(alloc, "watch")
         .about("Show the report on standard input as it comes")
         .arg(columns)
+}
+
+// An option without a value.
+fn flag<'a>(alloc: Global, id: &'a str, help: &'a str) -> Arg<'a> {
+    Arg::new(alloc, id)
+        .long(id)
+        .action(ArgAction::SetTrue)
+        .help(help)
+}
+
+// An option with a value, which help calls `value`.
+fn option<'a>(alloc: Global, id: &'a str, value: &'a str, help: &'a str) -> Arg<'a> {
+    Arg::new(alloc, id).long(id).value_name(value).help(help)
 }
 
 // A word that names a file.

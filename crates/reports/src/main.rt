@@ -22,6 +22,7 @@ mod watch;
 use clap::error::ErrorKind;
 use faults::{refuse_all, refuse_write};
 use line::{Line, LineError};
+use mimic_console::Streams;
 use mimic_printer::{Sink, WriteFault};
 use mimic_trial::Conclusion;
 use std::alloc::{AllocError, Global};
@@ -43,6 +44,10 @@ const TRIALS_FAILED: u8 = Conclusion::FAILED;
 
 fn main(rt: HostRuntime) -> ExitCode {
     let alloc = rt.alloc();
+    if let Err(error) = rt.hold_closed_streams() {
+        let fault = format_args!("cannot open /dev/null for a closed standard stream: {error}");
+        return ExitCode::from(refuse_all(&rt, &fault));
+    }
     let status = match Line::from_args(&rt, alloc) {
         Ok(Line::Join(join)) => join::run(&rt, alloc, &join),
         Ok(Line::Junit(junit)) => junit::run(&rt, alloc, &junit),
