@@ -15,9 +15,9 @@ use Rattle.mimic_trial.specs.declared.outcome.Outcome.TheVariants as outcome
 use Rattle.mimic_trial.specs.Count.{is_failed}
 use Rattle.mimic_trial.specs.Failed.{same_text}
 use Rattle.mimic_trial.specs.Same.{same_outcome}
-use Rattle.mimic_compare.specs.Classes.{failures, have_other_messages, is_other, times}
+use Rattle.mimic_compare.specs.Classes.{failures, frequency, have_other_messages, is_other}
 use Rattle.mimic_compare.specs.Fates.{Fate}
-use Rattle.mimic_compare.specs.Messages.{HasTimes, same_message}
+use Rattle.mimic_compare.specs.Messages.{HasCounts, same_message}
 use denote.Ref.{Bor}
 
 -- ---- messages
@@ -40,36 +40,36 @@ is_same (Some f) (Some g) h = ap (λ x. Some x) ((bytes_eq-Decides f.now g.now).
 
 -- ---- one more row
 
-times-push : (o : Outcome) (fates : List Fate) (i : ℕ) (fate : Fate) → i < length fates → fate ≡ get_or fates i fate
-    → times o (take (i + 1) fates) ≡ times o (take i fates) + cond (same_outcome o fate.outcome) 1 0
-times-push o fates i fate lt is =
+frequency-push : (o : Outcome) (fates : List Fate) (i : ℕ) (fate : Fate) → i < length fates → fate ≡ get_or fates i fate
+    → frequency o (take (i + 1) fates) ≡ frequency o (take i fates) + cond (same_outcome o fate.outcome) 1 0
+frequency-push o fates i fate lt is =
     rw (take_more fates i fate lt, ← is) (sum_by_push (λ (f : Fate). cond (same_outcome o f.outcome) 1 0) (take i fates) fate)
 
-pub times_small : (fates : List Fate) (i : ℕ) (o : Outcome) (n : ℕ) → i < length fates → length fates < 2 ^ 64 → n ≡ times o (take i fates) → n < 2 ^ 64 - 1
-times_small fates i o n lt small is =
+pub frequency_small : (fates : List Fate) (i : ℕ) (o : Outcome) (n : ℕ) → i < length fates → length fates < 2 ^ 64 → n ≡ frequency o (take i fates) → n < 2 ^ 64 - 1
+frequency_small fates i o n lt small is =
     omega (arith, lt, small, is, count_by-le-length (λ (fate : Fate). same_outcome o fate.outcome) (take i fates), length-take i fates)
 
 module _ {S : Type 0} (fates : List Fate) (i : ℕ) (fate : Fate) (lt : i < length fates) (is : fate ≡ get_or fates i fate) (old : HashMap (Option (Bor (List ℕ))) ℕ S)
-    (has : HasTimes old (take i fates)) where
+    (has : HasCounts old (take i fates)) where
   -- one more failure
-  pub times_more : (new : HashMap (Option (Bor (List ℕ))) ℕ S) (message key : Option (Bor (List ℕ))) (f : Option (List ℕ)) (n : ℕ) → fate.outcome ≡ outcome.Failed f → option_copied key ≡ f
+  pub frequency_more : (new : HashMap (Option (Bor (List ℕ))) ℕ S) (message key : Option (Bor (List ℕ))) (f : Option (List ℕ)) (n : ℕ) → fate.outcome ≡ outcome.Failed f → option_copied key ≡ f
       → ((q : Option (Bor (List ℕ))) → get same_message new q ≡ cond (same_message key q) (Some (n + 1)) (get same_message old q))
-      → option_copied message ≡ f → n ≡ times (outcome.Failed (option_copied message)) (take i fates) → HasTimes new (take (i + 1) fates)
-  times_more new message key f n failed own updates asked e q =
-      rw (updates q, times-push (outcome.Failed (option_copied q)) fates i fate lt is, failed, ← own, ← same_texts key q) (at (same_message key q) refl)
+      → option_copied message ≡ f → n ≡ frequency (outcome.Failed (option_copied message)) (take i fates) → HasCounts new (take (i + 1) fates)
+  frequency_more new message key f n failed own updates asked e q =
+      rw (updates q, frequency-push (outcome.Failed (option_copied q)) fates i fate lt is, failed, ← own, ← same_texts key q) (at (same_message key q) refl)
     where
-      at : (b : Bool) → same_message key q ≡ b → unwrap_or (cond b (Some (n + 1)) (get same_message old q)) 0 ≡ times (outcome.Failed (option_copied q)) (take i fates) + cond b 1 0
-      at true h = ap (λ (k : ℕ). k + 1) (e ∙ ap (λ (m : Option (List ℕ)). times (outcome.Failed m) (take i fates)) (asked ∙ sym own ∙ is_same key q h))
-      at false h = has q ∙ sym (add-zero (times (outcome.Failed (option_copied q)) (take i fates)))
+      at : (b : Bool) → same_message key q ≡ b → unwrap_or (cond b (Some (n + 1)) (get same_message old q)) 0 ≡ frequency (outcome.Failed (option_copied q)) (take i fates) + cond b 1 0
+      at true h = ap (λ (k : ℕ). k + 1) (e ∙ ap (λ (m : Option (List ℕ)). frequency (outcome.Failed m) (take i fates)) (asked ∙ sym own ∙ is_same key q h))
+      at false h = has q ∙ sym (add-zero (frequency (outcome.Failed (option_copied q)) (take i fates)))
 
   -- one more row that is no failure
-  pub times_kept : is_failed fate.outcome ≡ false → HasTimes old (take (i + 1) fates)
-  times_kept sound q = has q ∙ sym (times-push (outcome.Failed (option_copied q)) fates i fate lt is ∙ at fate.outcome sound)
+  pub frequency_kept : is_failed fate.outcome ≡ false → HasCounts old (take (i + 1) fates)
+  frequency_kept sound q = has q ∙ sym (frequency-push (outcome.Failed (option_copied q)) fates i fate lt is ∙ at fate.outcome sound)
     where
-      at : (o : Outcome) → is_failed o ≡ false → times (outcome.Failed (option_copied q)) (take i fates) + cond (same_outcome (outcome.Failed (option_copied q)) o) 1 0
-          ≡ times (outcome.Failed (option_copied q)) (take i fates)
+      at : (o : Outcome) → is_failed o ≡ false → frequency (outcome.Failed (option_copied q)) (take i fates) + cond (same_outcome (outcome.Failed (option_copied q)) o) 1 0
+          ≡ frequency (outcome.Failed (option_copied q)) (take i fates)
       at (outcome.Failed f) h = absurd (cc)
-      at other h = add-zero (times (outcome.Failed (option_copied q)) (take i fates))
+      at other h = add-zero (frequency (outcome.Failed (option_copied q)) (take i fates))
 
 -- ---- no failure
 
@@ -80,7 +80,7 @@ none_failed before after (fate ∷ fates) h =
     at (is_failed fate.outcome) (sym counted ∙ h) (none_failed before after fates)
   where
     at : (b : Bool) → cond b 1 0 + failures fates ≡ 0 → (failures fates ≡ 0 → list_any (is_other before after) fates ≡ false)
-        → ((b && not (times fate.outcome before == times fate.outcome after)) || list_any (is_other before after) fates) ≡ false
+        → ((b && not (frequency fate.outcome before == frequency fate.outcome after)) || list_any (is_other before after) fates) ≡ false
     at true n rest = absurd (omega (arith, n))
     at false n rest = rest (omega (arith, n))
 

@@ -11,7 +11,7 @@ use Rattle.mimic_events.proofs.Keys.{same_label-decides}
 use Rattle.mimic_compare.specs.Classes.{Compared, compared, comparisons}
 use Rattle.mimic_compare.specs.Trials.{Come, Holds, Keeps, compared_entry, fates_in, found_among}
 use Rattle.mimic_compare.specs.declared.fates.BothFates.{BothFates}
-use Rattle.mimic_compare.specs.declared.fates.Report.TheVariants.{Old, New}
+use Rattle.mimic_compare.specs.declared.fates.Side.TheVariants.{Old, New}
 use Rattle.mimic_printer.specs.Json.{Entry}
 
 laws : IsEquivalence same_label

@@ -14,7 +14,7 @@ use Rattle.mimic_compare.specs.Classes.{distinct}
 use Rattle.mimic_compare.specs.Fates.{fate_of, fates_with}
 use Rattle.mimic_compare.specs.Trials.{Keeps, fates_at, with_fate}
 use Rattle.mimic_compare.specs.declared.fates.BothFates.{BothFates}
-use Rattle.mimic_compare.specs.declared.fates.Report.{Report}
+use Rattle.mimic_compare.specs.declared.fates.Side.{Side}
 use Rattle.mimic_compare.proofs.Laws.{distinct_stand}
 
 -- one more label
@@ -29,7 +29,7 @@ fates_push : (label : Label) (rows : List Entry) (e : Entry)
 fates_push label rows e = grind (arith, common_steps)
 
 -- one more row is kept
-pub kept : {S : Type 0} (old new : HashMap Label BothFates S) (report : Report) (e : Entry) (v : BothFates)
+pub kept : {S : Type 0} (old new : HashMap Label BothFates S) (side : Side) (e : Entry) (v : BothFates)
     → ((label : Label) → get same_label new label ≡ cond (same_label e.label label) (Some v) (get same_label old label))
-    → new.entries ≡ insert_entry same_label old.entries e.label v → v ≡ with_fate report (fate_of e) (fates_at old e.label) → Keeps old new report (e ∷ [])
-kept old new report e v updates entries is = grind (arith, common_steps, keys_insert_entry, distinct_stand, distinct_push, fates_push, same_label-symm, same_label-decides)
+    → new.entries ≡ insert_entry same_label old.entries e.label v → v ≡ with_fate side (fate_of e) (fates_at old e.label) → Keeps old new side (e ∷ [])
+kept old new side e v updates entries is = grind (arith, common_steps, keys_insert_entry, distinct_stand, distinct_push, fates_push, same_label-symm, same_label-decides)

@@ -32,12 +32,12 @@ abbrev pub ignored : List Fate → ℕ
 ignored fates = count_by (λ fate. is_ignored_outcome fate.outcome) fates
 
 -- how many of the rows have this outcome
-abbrev pub times : Outcome → List Fate → ℕ
-times outcome fates = count_by (λ fate. same_outcome outcome fate.outcome) fates
+abbrev pub frequency : Outcome → List Fate → ℕ
+frequency outcome fates = count_by (λ fate. same_outcome outcome fate.outcome) fates
 
 -- the row failed, and one list has failures with its message more often than the other
 abbrev pub is_other : List Fate → List Fate → Fate → Bool
-is_other old new fate = is_failed fate.outcome && not (times fate.outcome old == times fate.outcome new)
+is_other old new fate = is_failed fate.outcome && not (frequency fate.outcome old == frequency fate.outcome new)
 
 -- one list has some failure more often than the other
 abbrev pub have_other_messages : List Fate → List Fate → Bool

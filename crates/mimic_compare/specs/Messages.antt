@@ -4,7 +4,7 @@ use Rattle.std.specs.HashMap.{HashMap, get}
 use Rattle.std.specs.Option.{option_copied, option_eq}
 use Rattle.std.specs.Str.{bytes_eq}
 use Rattle.mimic_trial.specs.declared.outcome.Outcome.TheVariants as outcome
-use Rattle.mimic_compare.specs.Classes.{times}
+use Rattle.mimic_compare.specs.Classes.{frequency}
 use Rattle.mimic_compare.specs.Fates.{Fate}
 use denote.Ref.{Bor}
 
@@ -12,6 +12,6 @@ abbrev pub same_message : Option (Bor (List ℕ)) → Option (Bor (List ℕ)) �
 same_message = option_eq (λ f g. bytes_eq f.now g.now)
 
 -- the table counts how often each message comes in the failures
-abbrev pub HasTimes : {S : Type 0} → HashMap (Option (Bor (List ℕ))) ℕ S → List Fate → Type 0
-HasTimes counted fates = (message : Option (Bor (List ℕ))) → unwrap_or (get same_message counted message) 0
-    ≡ times (outcome.Failed (option_copied message)) fates
+abbrev pub HasCounts : {S : Type 0} → HashMap (Option (Bor (List ℕ))) ℕ S → List Fate → Type 0
+HasCounts counted fates = (message : Option (Bor (List ℕ))) → unwrap_or (get same_message counted message) 0
+    ≡ frequency (outcome.Failed (option_copied message)) fates

@@ -7,8 +7,8 @@ use Rattle.mimic_events.specs.Key.{same_label}
 use Rattle.mimic_compare.specs.Classes.{Compared, compared, distinct, labels_in}
 use Rattle.mimic_compare.specs.Fates.{Fate, fates_with}
 use Rattle.mimic_compare.specs.declared.fates.BothFates.{BothFates}
-use Rattle.mimic_compare.specs.declared.fates.Report.{Report}
-use Rattle.mimic_compare.specs.declared.fates.Report.TheVariants.{Old, New}
+use Rattle.mimic_compare.specs.declared.fates.Side.{Side}
+use Rattle.mimic_compare.specs.declared.fates.Side.TheVariants.{Old, New}
 
 -- the rows of both reports that have come, and the kinds and names of all in the order in which they came
 pub record Come : Type 0 where
@@ -17,7 +17,7 @@ pub record Come : Type 0 where
   pub new : List Entry
 
 -- these rows of a report came as well
-abbrev pub with_rows : Report → List Entry → Come → Come
+abbrev pub with_rows : Side → List Entry → Come → Come
 with_rows Old rows come = record { labels = come.labels ++ labels_in rows; old = come.old ++ rows; new = come.new }
 with_rows New rows come = record { labels = come.labels ++ labels_in rows; old = come.old; new = come.new ++ rows }
 
@@ -25,7 +25,7 @@ abbrev pub both : List Fate → List Fate → BothFates
 both old new = record { old = old; new = new }
 
 -- with one more row
-abbrev pub with_fate : Report → Fate → BothFates → BothFates
+abbrev pub with_fate : Side → Fate → BothFates → BothFates
 with_fate Old fate fates = both (fates.old ++ fate ∷ []) fates.new
 with_fate New fate fates = both fates.old (fates.new ++ fate ∷ [])
 
@@ -43,8 +43,8 @@ pub record Holds {S : Type 0} (trials : HashMap Label BothFates S) (come : Come)
   pub fates : (label : Label) → fates_at trials label ≡ fates_in come label
 
 -- the rows of this report came as well
-abbrev pub Keeps : {S : Type 0} → HashMap Label BothFates S → HashMap Label BothFates S → Report → List Entry → Type 0
-Keeps old new report rows = (come : Come) → Holds old come → Holds new (with_rows report rows come)
+abbrev pub Keeps : {S : Type 0} → HashMap Label BothFates S → HashMap Label BothFates S → Side → List Entry → Type 0
+Keeps old new side rows = (come : Come) → Holds old come → Holds new (with_rows side rows come)
 
 -- what is reported for an entry of the table
 abbrev pub compared_entry : Bool → Label × BothFates → Compared

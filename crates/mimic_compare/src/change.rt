@@ -2,7 +2,7 @@
 ghost use Rattle.std.specs.Prelude.{◌≡◌, ◌++◌, IfOk, OnOk, option_to_list};
 ghost use Rattle.mimic_compare.specs.Changes.{AreRanked, average_changes, changes_in, changes_of, is_beyond, measurements, only, time_changes, times_taken};
 
-use crate::fates::{KeptFate, Named};
+use crate::fates::{KeptFate, TrialLabel};
 use crate::trials::Comparison;
 use mimic_trial::Measurement;
 use std::alloc::{AllocError, Global};
@@ -21,7 +21,7 @@ pub(crate) enum Quantity {
 // A number of nanoseconds in both reports.
 #[derive(Drop)]
 pub(crate) struct Change<'a> {
-    pub(crate) label: &'a Named,
+    pub(crate) label: &'a TrialLabel,
     pub(crate) quantity: Quantity,
     pub(crate) old: u64,
     pub(crate) new: u64,
@@ -106,7 +106,7 @@ fn only_time(fates: &[KeptFate]) -> Option<u64>
 // Returns the change of a benchmark's average, if there is one that counts.
 fn average_change(
     factor: u64,
-    label: &Named,
+    label: &TrialLabel,
     old: Option<Measurement>,
     new: Option<Measurement>,
 ) -> Option<Change<'_>>
@@ -132,7 +132,12 @@ fn average_change(
 const NOTICEABLE: u64 = 10_000_000;
 
 // Returns the change of a trial's time, if there is one that counts.
-fn time_change(factor: u64, label: &Named, old: Option<u64>, new: Option<u64>) -> Option<Change<'_>>
+fn time_change(
+    factor: u64,
+    label: &TrialLabel,
+    old: Option<u64>,
+    new: Option<u64>,
+) -> Option<Change<'_>>
     ensures { option_to_list result ≡ time_changes factor label.now old new }
 {
     let (Some(old), Some(new)) = (old, new) else {

@@ -14,12 +14,12 @@ use std::{mem, slice};
 
 // A kind and a name.
 #[derive(Drop)]
-pub(crate) struct Named {
+pub(crate) struct TrialLabel {
     pub(crate) kind: String,
     pub(crate) name: String,
 }
 
-impl Model for Named {
+impl Model for TrialLabel {
     ghost use Rattle.std.specs.Prelude.{string_bytes};
     ghost use Rattle.mimic_printer.specs.Row.{Label};
 
@@ -28,7 +28,7 @@ impl Model for Named {
     ghost view = { λ n. record { kind = string_bytes n.kind; name = string_bytes n.name } };
 }
 
-impl PartialEq for Named {
+impl PartialEq for TrialLabel {
     ghost use Rattle.std.specs.Cmp.{decided, partial_equiv_from_equiv};
     ghost use Rattle.mimic_events.specs.Key.{same_label};
     ghost use Rattle.mimic_events.proofs.Keys.{same_label-decides};
@@ -42,7 +42,7 @@ impl PartialEq for Named {
     }
 }
 
-impl Eq for Named {
+impl Eq for TrialLabel {
     ghost use Rattle.std.specs.Cmp.{decided};
     ghost use Rattle.mimic_events.specs.Key.{same_label};
     ghost use Rattle.mimic_events.proofs.Keys.{same_label-decides};
@@ -50,7 +50,7 @@ impl Eq for Named {
     ghost laws = { decided same_label same_label-decides };
 }
 
-impl Hash for Named {
+impl Hash for TrialLabel {
     ghost use Rattle.std.specs.Prelude.{◌++◌};
     ghost use Rattle.std.specs.Cmp.Rules.{hashing};
     ghost use Rattle.std.specs.Hash as fed;
@@ -215,9 +215,9 @@ impl Kept {
     }
 }
 
-// One of two reports.
+// Which of two reports.
 #[derive(Clone, Copy)]
-pub(crate) enum Report {
+pub(crate) enum Side {
     Old,
     New,
 }
@@ -243,14 +243,14 @@ impl BothFates {
     pub(crate) fn push(
         &mut self,
         alloc: Global,
-        report: Report,
+        side: Side,
         fate: KeptFate,
     ) -> Result<(), AllocError>
-        ensures { OnOk result (self.exit.now ≡ with_fate report fate self.entry.now) }
+        ensures { OnOk result (self.exit.now ≡ with_fate side fate self.entry.now) }
     {
-        match report {
-            Report::Old => self.old.push(alloc, fate),
-            Report::New => self.new.push(alloc, fate),
+        match side {
+            Side::Old => self.old.push(alloc, fate),
+            Side::New => self.new.push(alloc, fate),
         }
     }
 }

@@ -3,33 +3,33 @@ ghost use Rattle.std.specs.Prelude.{◌≡◌, IfOk, List};
 ghost use Rattle.std.specs.List.{list_any};
 ghost use Rattle.std.specs.Option.{option_copied};
 ghost use Rattle.mimic_trial.specs.declared.outcome.Outcome.TheVariants as outcome;
-ghost use Rattle.mimic_compare.specs.Classes.{have_other_messages, is_other, times};
+ghost use Rattle.mimic_compare.specs.Classes.{frequency, have_other_messages, is_other};
 ghost use Rattle.mimic_compare.specs.Fates.{Fate};
-ghost use Rattle.mimic_compare.specs.Messages.{HasTimes};
+ghost use Rattle.mimic_compare.specs.Messages.{HasCounts};
 
 use crate::fates::KeptFate;
 use std::alloc::{AllocError, Global};
 use std::collections::HashMap;
 
 // How often each message comes in failures. Those without a message have `None`.
-type Times<'a> = HashMap<Option<&'a str>, u64>;
+type MessageCounts<'a> = HashMap<Option<&'a str>, u64>;
 
 // Returns how often the message was counted.
-fn times_of<'a>(counted: &Times<'a>, message: Option<&'a str>) -> u64
-    ensures { (fates : List Fate) → HasTimes counted.now fates
-        → result ≡ times (outcome.Failed (option_copied message.entry)) fates }
+fn count_of_message<'a>(counted: &MessageCounts<'a>, message: Option<&'a str>) -> u64
+    ensures { (fates : List Fate) → HasCounts counted.now fates
+        → result ≡ frequency (outcome.Failed (option_copied message.entry)) fates }
 {
     counted.get(&message).copied().unwrap_or(0)
 }
 
 // Counts how often each message comes in the failures.
-fn times_in(alloc: Global, fates: &[KeptFate]) -> Result<Times<'_>, AllocError>
-    ensures { IfOk result (λ counted. HasTimes counted fates.now) }
+fn message_counts(alloc: Global, fates: &[KeptFate]) -> Result<MessageCounts<'_>, AllocError>
+    ensures { IfOk result (λ counted. HasCounts counted fates.now) }
 {
     let mut counted = HashMap::new(alloc);
     for fate in fates {
         if let Some(failed) = fate.failed() {
-            let before = times_of(&counted, failed.message());
+            let before = count_of_message(&counted, failed.message());
             counted.insert(failed.message(), before + 1)?;
         }
     }
@@ -37,19 +37,20 @@ fn times_in(alloc: Global, fates: &[KeptFate]) -> Result<Times<'_>, AllocError>
 }
 
 // Whether the row is a failure whose message comes more often in one report than in the other.
-fn is_other<'a>(fate: &'a KeptFate, old: &Times<'a>, new: &Times<'a>) -> bool
-    ensures { (before after : List Fate) → HasTimes old.now before → HasTimes new.now after
+fn is_other<'a>(fate: &'a KeptFate, old: &MessageCounts<'a>, new: &MessageCounts<'a>) -> bool
+    ensures { (before after : List Fate) → HasCounts old.now before → HasCounts new.now after
         → result ≡ is_other before after fate.now }
 {
     match fate.failed() {
-        Some(failed) => times_of(old, failed.message()) != times_of(new, failed.message()),
+        Some(failed) => count_of_message(old, failed.message())
+            != count_of_message(new, failed.message()),
         None => false,
     }
 }
 
 // Whether one of the rows is such a failure.
-fn are_other<'a>(fates: &'a [KeptFate], old: &Times<'a>, new: &Times<'a>) -> bool
-    ensures { (before after : List Fate) → HasTimes old.now before → HasTimes new.now after
+fn are_other<'a>(fates: &'a [KeptFate], old: &MessageCounts<'a>, new: &MessageCounts<'a>) -> bool
+    ensures { (before after : List Fate) → HasCounts old.now before → HasCounts new.now after
         → result ≡ list_any (is_other before after) fates.now }
 {
     for fate in fates {
@@ -68,6 +69,6 @@ pub(crate) fn have_other_messages(
 ) -> Result<bool, AllocError>
     ensures { IfOk result (λ other. other ≡ have_other_messages old.now new.now) }
 {
-    let (old_times, new_times) = (times_in(alloc, old)?, times_in(alloc, new)?);
-    Ok(are_other(old, &old_times, &new_times) || are_other(new, &old_times, &new_times))
+    let (old_counts, new_counts) = (message_counts(alloc, old)?, message_counts(alloc, new)?);
+    Ok(are_other(old, &old_counts, &new_counts) || are_other(new, &old_counts, &new_counts))
 }

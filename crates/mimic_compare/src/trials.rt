@@ -4,7 +4,7 @@ ghost use Rattle.mimic_events.specs.Contents.{entry_read};
 ghost use Rattle.mimic_compare.specs.Trials.{Come, Holds, Keeps, found_among};
 
 use crate::class::Class;
-use crate::fates::{BothFates, KeptFate, Named, Report};
+use crate::fates::{BothFates, KeptFate, Side, TrialLabel};
 use indexmap::IndexMap;
 use mimic_events::{Row, RowTaker};
 use mimic_printer::OutputFault;
@@ -12,14 +12,14 @@ use std::alloc::{AllocError, Global};
 use std::marker::Model;
 
 // What the rows say, by their kinds and names, in the order in which these first came.
-pub(crate) type Trials = IndexMap<Named, BothFates>;
+pub(crate) type Trials = IndexMap<TrialLabel, BothFates>;
 
 // Keeps what the rows of a report say.
 #[derive(Drop)]
 pub(crate) struct Keeper {
     pub(crate) alloc: Global,
     pub(crate) trials: Trials,
-    pub(crate) report: Report,
+    pub(crate) side: Side,
 }
 
 impl RowTaker for Keeper {
@@ -27,19 +27,19 @@ impl RowTaker for Keeper {
     ghost use Rattle.mimic_printer.specs.declared.sink.OutputFault.TheVariants.{OutOfMemory};
     ghost use Rattle.mimic_compare.specs.Trials.{Keeps};
 
-    ghost takes = { λ old rows new. (new.report ≡ old.report) × Keeps old.trials new.trials old.report rows };
+    ghost takes = { λ old rows new. (new.side ≡ old.side) × Keeps old.trials new.trials old.side rows };
 
     ghost stops = { λ old rows fault new. fault ≡ OutOfMemory };
 
     fn take(&mut self, row: Row) -> Result<(), OutputFault> {
-        keep_row(self.alloc, &mut self.trials, self.report, row)?;
+        keep_row(self.alloc, &mut self.trials, self.side, row)?;
         Ok(())
     }
 }
 
 // Keeps what the row says.
-fn keep_row(alloc: Global, trials: &mut Trials, report: Report, row: Row) -> Result<(), AllocError>
-    ensures { OnOk result (Keeps trials.old trials.new report (entry_read row ∷ [])) }
+fn keep_row(alloc: Global, trials: &mut Trials, side: Side, row: Row) -> Result<(), AllocError>
+    ensures { OnOk result (Keeps trials.old trials.new side (entry_read row ∷ [])) }
 {
     let Row {
         name,
@@ -49,16 +49,16 @@ fn keep_row(alloc: Global, trials: &mut Trials, report: Report, row: Row) -> Res
     } = row;
     let fate = KeptFate::new(alloc, outcome, nanos)?;
     let fates = trials
-        .entry(Named { kind, name })?
+        .entry(TrialLabel { kind, name })?
         .or_insert(BothFates::new());
-    fates.push(alloc, report, fate)?;
+    fates.push(alloc, side, fate)?;
     Ok(())
 }
 
 // A kind and a name of one report or both.
 #[derive(Drop)]
 pub(crate) struct Comparison<'a> {
-    pub(crate) label: &'a Named,
+    pub(crate) label: &'a TrialLabel,
     pub(crate) fates: &'a BothFates,
     pub(crate) class: Class,
 }

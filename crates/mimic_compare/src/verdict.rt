@@ -4,7 +4,7 @@ ghost use Rattle.mimic_compare.specs.Written.{ComparisonLaws, LeavesComparison};
 
 use crate::change::ranked_changes;
 use crate::class::Class;
-use crate::fates::Report;
+use crate::fates::Side;
 use crate::lines::{add_comparison, count_of};
 use crate::trials::{Keeper, compare_trials};
 use indexmap::IndexMap;
@@ -92,10 +92,10 @@ pub fn write_comparison<I: Read + Drop, W: Write>(
     let mut keeper = Keeper {
         alloc,
         trials: IndexMap::new(alloc),
-        report: Report::Old,
+        side: Side::Old,
     };
     let old = read_into(alloc, old, &mut keeper)?;
-    keeper.report = Report::New;
+    keeper.side = Side::New;
     let new = read_into(alloc, new, &mut keeper)?;
     let found = compare_trials(alloc, &keeper.trials, old.has_all() && new.has_all())?;
     let changes = ranked_changes(alloc, options.slower, &found)?;

@@ -9,7 +9,7 @@
 //! let report = read_from(alloc, &mut report_file)?;
 //! // In pretty, without colours:
 //! show_report(alloc, report, false, &mut terminal)?;
-//! let suite = Suite::kept(alloc, "harness", any_file)?;
+//! let suite = Suite::read(alloc, "harness", any_file)?;
 //! let page = PageContents {
 //!     title: "harness",
 //!     notes: &[],

@@ -1,4 +1,4 @@
-//! Reads reports that are to be written in XML.
+//! Reads reports that are to be written in XML or HTML.
 ghost use Rattle.std.specs.Prelude.{◌≡◌, ◌^◌, IfOk, IfSome, map, string_bytes};
 ghost use Rattle.std.specs.List.{list_all, list_any};
 ghost use Rattle.mimic_events.specs.Contents.{entry_read};
@@ -24,7 +24,7 @@ pub struct Suite<'a> {
 impl<'a> Suite<'a> {
     /// Reads a report, and keeps its rows. Of what isn't a whole report these are the rows that have ended, before the first line that
     /// no report has there or the reader's error. It fails only if there is no memory.
-    pub fn kept<I: Read + Drop>(
+    pub fn read<I: Read + Drop>(
         alloc: Global,
         program: &'a str,
         input: I,

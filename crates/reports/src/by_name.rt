@@ -12,7 +12,7 @@ const MOST_NAMED: usize = 20;
 
 // A file, and the numbers in its name.
 #[derive(Debug, Drop)]
-struct Named {
+struct NumberedFile {
     file: String,
     numbers: Vec<u64>,
 }
@@ -36,35 +36,35 @@ pub(crate) fn in_order(alloc: Global, files: Vec<String>) -> Result<Vec<String>,
     Ok(files_of(alloc, named)?)
 }
 
-fn with_numbers(alloc: Global, files: Vec<String>) -> Result<Vec<Named>, AllocError>
+fn with_numbers(alloc: Global, files: Vec<String>) -> Result<Vec<NumberedFile>, AllocError>
     ensures { IfOk result (λ named. map (λ it. it.file) named.items ≡ files.items) }
 {
     let mut named = Vec::with_capacity(alloc, files.len())?;
     for file in files {
         let numbers = numbers_in(alloc, file.as_str())?;
-        named.push(Named { file, numbers })?;
+        named.push(NumberedFile { file, numbers })?;
     }
     Ok(named)
 }
 
-fn files_of(alloc: Global, named: Vec<Named>) -> Result<Vec<String>, AllocError>
+fn files_of(alloc: Global, named: Vec<NumberedFile>) -> Result<Vec<String>, AllocError>
     ensures { IfOk result (λ files. files.items ≡ map (λ it. it.file) named.items) }
 {
     let mut files = Vec::with_capacity(alloc, named.len())?;
-    for Named { file, numbers: _ } in named {
+    for NumberedFile { file, numbers: _ } in named {
         files.push(file)?;
     }
     Ok(files)
 }
 
-fn sort(named: &mut Vec<Named>) -> Result<(), AllocError>
+fn sort(named: &mut Vec<NumberedFile>) -> Result<(), AllocError>
     ensures { OnOk result (IsPermutation named.old.items named.new.items) }
 {
     named.sort_by(|first, second| first.numbers.cmp(&second.numbers))
 }
 
 // Returns the first two neighbours that have the same numbers.
-fn equal_pair(named: &[Named]) -> Option<(&Named, &Named)> {
+fn equal_pair(named: &[NumberedFile]) -> Option<(&NumberedFile, &NumberedFile)> {
     for pair in named.windows(2) {
         if let [first, second] = pair
             && first.numbers == second.numbers

@@ -2,7 +2,7 @@
 use crate::faults::{refuse, refuse_output, status_of_end};
 use crate::input::Input;
 use crate::line::Compare;
-use crate::{REFUSED, output};
+use crate::{CANNOT_RUN, output};
 use mimic_compare::{ComparisonOptions, ComparisonVerdict, write_comparison};
 use mimic_printer::OutputFault;
 use std::alloc::Global;
@@ -13,7 +13,7 @@ pub(crate) fn run(rt: &HostRuntime, alloc: Global, compare: &Compare) -> u8 {
     let old = open(rt, compare.old.as_str());
     let new = open(rt, compare.new.as_str());
     let (Some(old), Some(new)) = (old, new) else {
-        return REFUSED;
+        return CANNOT_RUN;
     };
     match print(rt, alloc, compare, old, new) {
         Ok(verdict) => {
@@ -41,7 +41,7 @@ fn print<'a>(
 ) -> Result<ComparisonVerdict, OutputFault> {
     let options = ComparisonOptions {
         slower: compare.slower,
-        lists_not_run: compare.lists_missing,
+        lists_not_run: compare.lists_not_run,
     };
     write_comparison(alloc, old, new, &options, &mut output(rt, alloc)?)
 }

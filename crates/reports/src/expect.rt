@@ -2,7 +2,7 @@
 use crate::faults::{refuse, refuse_output, status_of_end};
 use crate::input::Input;
 use crate::line::Expect;
-use crate::{REFUSED, SUCCESS, output};
+use crate::{CANNOT_RUN, SUCCESS, output};
 use mimic_expect::{
     Expectation, ExpectationVerdict, KnownFault, read_known, write_unexpected, write_updated,
 };
@@ -83,7 +83,7 @@ fn update(
 ) -> u8 {
     let new = match updated(rt, alloc, expect, text, known) {
         Ok(Some(new)) => new,
-        Ok(None) => return REFUSED,
+        Ok(None) => return CANNOT_RUN,
         Err(fault) => return refuse_output(rt, &fault),
     };
     let file = expect.known.as_str();
@@ -107,7 +107,7 @@ fn updated(
     let mut copies: Vec<Vec<u8>> = files.iter().map(|_| Vec::new(alloc)).collect(alloc)?;
     let inputs = copied_inputs(rt, alloc, files, &mut copies)?;
     let verdict = print(rt, alloc, expect, known, inputs)?;
-    if verdict.status() == REFUSED {
+    if verdict.status() == CANNOT_RUN {
         return Ok(None);
     }
     let reports = copies.iter().map(|copy| copy.as_slice()).collect(alloc)?;

@@ -1,5 +1,5 @@
 //! Prints on standard error why there is no report, or no more of one. Each is one line, whatever a file's name has.
-use crate::{REFUSED, SUCCESS};
+use crate::{CANNOT_RUN, SUCCESS};
 use mimic_console::{Streams, print_line};
 use mimic_events::{Ending, Label, Stop};
 use mimic_printer::{OutputFault, WriteFault};
@@ -65,7 +65,7 @@ pub(crate) fn hint_of(wrong_line: Option<u128>) -> &'static str {
 // Prints a fault that belongs to no single file, and returns the status.
 pub(crate) fn refuse_all<H: Streams, F: fmt::Display>(host: &H, fault: &F) -> u8 {
     print_line(format_args!("reports: {fault}"), &mut host.stderr());
-    REFUSED
+    CANNOT_RUN
 }
 
 // Prints why a text was not written to its end, and returns the status.
@@ -85,7 +85,7 @@ pub(crate) fn refuse_write<H: Streams>(host: &H, fault: &WriteFault) -> u8 {
             &format_args!("cannot write to standard output: {fault}"),
         );
     }
-    REFUSED
+    CANNOT_RUN
 }
 
 fn is_of_closed_pipe(fault: &WriteFault) -> bool {

@@ -14,7 +14,7 @@ const NAMELESS: &str = "report";
 // How many bytes are read at most of a first line that doesn't end. A report's title has fewer than 100.
 const LONGEST_TITLE: usize = 4096;
 
-// How many bytes a report may have that is no regular file, if its rows are kept.
+// How many bytes a report may have that is no regular file, if a call keeps its rows.
 const KEPT_BYTES: u64 = 256 << 20;
 
 /// A file, which is opened at the first read, or standard input.
@@ -28,7 +28,7 @@ pub(crate) struct Input<'a> {
 
 #[derive(Drop)]
 enum Source<'a> {
-    Named { rt: &'a HostRuntime, path: &'a str },
+    Unopened { rt: &'a HostRuntime, path: &'a str },
     Open(File),
     Standard(Stdin),
 }
@@ -38,7 +38,7 @@ impl<'a> Source<'a> {
         if path == STANDARD {
             Source::Standard(rt.stdin())
         } else {
-            Source::Named { rt, path }
+            Source::Unopened { rt, path }
         }
     }
 }
@@ -88,8 +88,9 @@ impl<'a> Input<'a> {
         }
     }
 
-    /// The same, whose rows are kept. If it is no regular file, it may never end, so reading it fails if it has more than 256 MiB.
-    pub(crate) fn kept(rt: &'a HostRuntime, path: &'a str) -> Input<'a> {
+    /// The same, for a caller that keeps its rows. If it is no regular file, it may never end, so reading it fails if it has more than
+    /// 256 MiB.
+    pub(crate) fn limited(rt: &'a HostRuntime, path: &'a str) -> Input<'a> {
         let mut input = Input::new(rt, path);
         if path == STANDARD || !is_regular(rt, path) {
             input.left = KEPT_BYTES;
@@ -147,7 +148,7 @@ fn is_regular(rt: &HostRuntime, path: &str) -> bool {
 
 impl Read for Input<'_> {
     fn read(&mut self, buf: &mut [u8]) -> io::Result<usize> {
-        if let Source::Named { rt, path } = &self.source {
+        if let Source::Unopened { rt, path } = &self.source {
             let file = fs::open(*rt, *path)?;
             self.source = Source::Open(file);
         }
@@ -155,7 +156,7 @@ impl Read for Input<'_> {
             Source::Open(file) => file.read(buf)?,
             Source::Standard(stdin) => stdin.read(buf)?,
             // The file was opened above.
-            Source::Named { .. } => 0,
+            Source::Unopened { .. } => 0,
         };
         let Some(left) = self.left.checked_sub(count as u64) else {
             return Err(io::Error::new(

@@ -3,7 +3,7 @@ use crate::by_name::Absent;
 use crate::faults::{hint_of, refuse_all, refuse_write, status_with_running};
 use crate::input::Input;
 use crate::line::Join;
-use crate::{REFUSED, SUCCESS, TRIALS_FAILED, output};
+use crate::{CANNOT_RUN, SUCCESS, TRIALS_FAILED, output};
 use mimic_events::{ReadFault, RowsRead};
 use mimic_join::{JoinFault, Joined, Refusal, join_cut_reports, join_reports};
 use std::alloc::Global;
@@ -41,7 +41,7 @@ fn refuse_shards(rt: &HostRuntime, alloc: Global, join: &Join, reads: &[RowsRead
     if let Some(absent) = Absent::of(alloc, join) {
         refuse_all(rt, &absent);
     }
-    REFUSED
+    CANNOT_RUN
 }
 
 // Prints why there is no joined report, and returns the status.
@@ -57,7 +57,7 @@ fn refuse_fault(rt: &HostRuntime, alloc: Global, join: &Join, fault: &JoinFault)
     {
         refuse_all(rt, &absent);
     }
-    REFUSED
+    CANNOT_RUN
 }
 
 // What a user may have missed. Empty if nothing comes to mind.

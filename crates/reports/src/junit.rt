@@ -19,7 +19,7 @@ pub(crate) fn run(rt: &HostRuntime, alloc: Global, junit: &Junit) -> u8 {
             Some(name) => name.as_str(),
             None => name_of(file),
         };
-        let Ok(suite) = Suite::kept(alloc, name, Input::kept(rt, file)) else {
+        let Ok(suite) = Suite::read(alloc, name, Input::limited(rt, file)) else {
             return refuse(rt, file, &ReadFault::OutOfMemory);
         };
         status = status.max(status_of_end(rt, file, suite.ending()));

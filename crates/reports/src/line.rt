@@ -91,8 +91,8 @@ pub(crate) struct Known {
 pub(crate) struct Compare {
     /// The factor by which a time is slower or faster than before, in hundredths.
     pub(crate) slower: u64,
-    /// Whether those are listed that were not run in one report.
-    pub(crate) lists_missing: bool,
+    /// Whether kinds and names are listed that were not run in one report.
+    pub(crate) lists_not_run: bool,
     pub(crate) old: String,
     pub(crate) new: String,
 }
@@ -306,7 +306,7 @@ impl Compare {
         };
         Ok(Compare {
             slower,
-            lists_missing: matches.get_flag("missing"),
+            lists_not_run: matches.get_flag("missing"),
             old: String::from_str(alloc, old)?,
             new: String::from_str(alloc, new)?,
         })

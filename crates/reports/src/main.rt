@@ -36,9 +36,9 @@ const BLOCK: usize = 65_536;
 // The exit statuses.
 const SUCCESS: u8 = 0;
 
-const REFUSED: u8 = 1;
+const CANNOT_RUN: u8 = 1;
 
-const USAGE: u8 = 2;
+const REFUSED_LINE: u8 = 2;
 
 const TRIALS_FAILED: u8 = Conclusion::FAILED;
 
@@ -89,14 +89,14 @@ fn refuse(rt: &HostRuntime, error: &LineError) -> u8 {
         | LineError::InputUpdated
         | LineError::NoSubcommand => {
             refuse_all(rt, error);
-            USAGE
+            REFUSED_LINE
         }
         LineError::Shown(error) if error.kind() == ErrorKind::OutOfMemory => {
             let _ = error.print(rt);
-            REFUSED
+            CANNOT_RUN
         }
         LineError::Shown(error) => match error.print(rt) {
-            _ if error.use_stderr() => USAGE,
+            _ if error.use_stderr() => REFUSED_LINE,
             Ok(()) => SUCCESS,
             Err(fault) => refuse_write(rt, &WriteFault::Error(fault)),
         },

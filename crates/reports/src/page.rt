@@ -11,7 +11,7 @@ use std::alloc::Global;
 // Prints the page of what could be read of the file's report, and why it is cut or could not be read to its end.
 pub(crate) fn run(rt: &HostRuntime, alloc: Global, page: &Page) -> u8 {
     let file = page.file.as_str();
-    let Ok(suite) = Suite::kept(alloc, name_of(file), Input::kept(rt, file)) else {
+    let Ok(suite) = Suite::read(alloc, name_of(file), Input::limited(rt, file)) else {
         return refuse(rt, file, &ReadFault::OutOfMemory);
     };
     match print(rt, alloc, page, &suite) {

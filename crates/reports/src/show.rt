@@ -12,7 +12,7 @@ use std::alloc::Global;
 // Prints what has ended in the report of the file, or only its failures, and why it is cut or there is none.
 pub(crate) fn run(rt: &HostRuntime, alloc: Global, show: &Show) -> u8 {
     let file = show.file.as_str();
-    let Ok(RowsRead { rows, ending }) = read_rows(alloc, Input::kept(rt, file)) else {
+    let Ok(RowsRead { rows, ending }) = read_rows(alloc, Input::limited(rt, file)) else {
         return refuse(rt, file, &ReadFault::OutOfMemory);
     };
     let status = if counts_of_rows(&rows, 0).has_failed() {

@@ -13,7 +13,7 @@ pub(crate) fn run(rt: &HostRuntime, alloc: Global, line: &line::Slowest) -> u8 {
     let mut status = SUCCESS;
     for file in &line.files {
         let file = file.as_str();
-        match read_into(alloc, Input::kept(rt, file), &mut slowest) {
+        match read_into(alloc, Input::limited(rt, file), &mut slowest) {
             Ok(ending) => status = status.max(status_of_end(rt, file, &ending)),
             Err(fault) => return refuse(rt, file, &fault),
         }

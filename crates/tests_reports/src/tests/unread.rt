@@ -24,7 +24,7 @@ impl Read for Unreadable<'_> {
 
 // Returns the report of the program `a` whose reader fails after the text.
 fn unread(alloc: Global, text: &str) -> Result<Suite<'static>, Fail> {
-    Ok(Suite::kept(alloc, "a", Unreadable(Slow::of(text)))?)
+    Ok(Suite::read(alloc, "a", Unreadable(Slow::of(text)))?)
 }
 
 // Returns the document of two such reports, the second one of no text.

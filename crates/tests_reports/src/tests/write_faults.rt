@@ -191,12 +191,12 @@ fn page(alloc: Global, writer: FaultyWriter) -> Written {
 }
 
 fn junit(alloc: Global, text: &str, writer: FaultyWriter) -> Written {
-    let suites = vec![in alloc; Suite::kept(alloc, "a", Slow::of(text))?]?;
+    let suites = vec![in alloc; Suite::read(alloc, "a", Slow::of(text))?]?;
     written!(alloc, writer, sink => write_junit(&suites, &mut sink))
 }
 
 fn alone(alloc: Global, text: &str, writer: FaultyWriter) -> Written {
-    let suite = Suite::kept(alloc, "a", Slow::of(text))?;
+    let suite = Suite::read(alloc, "a", Slow::of(text))?;
     written!(alloc, writer, sink => write_suite(&suite, &mut sink))
 }
 
