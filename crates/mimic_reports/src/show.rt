@@ -39,9 +39,9 @@ pub fn show_report<W: Write>(
 }
 
 /// Prints the failures among these rows, which have ended in a report, as the harness prints them in pretty, but each under its full
-/// name, `[kind] name`, and flushes them. If the report is cut, an empty line follows, and one that says how far it goes: `the report ends after 1 of 3 trials; running: [kind] name`.
-/// A trial is named if its announcement is the last line that has ended. Control characters of its kind and name are shown by their
-/// numbers.
+/// name, `[kind] name`, and flushes them. If the report is cut, an empty line follows, and one that says how far it goes: `the report
+/// ends after 1 of 3 trials; running: [kind] name`. A trial is named if its announcement is the last line that has ended, or the last
+/// before a wrong one. Control characters of its kind and name are shown by their numbers.
 ///
 /// Why the reader failed is not printed. Nothing is written if the report isn't cut and no trial failed.
 #[tactic(auto, using(mimic_printer::proofs::Adding::puts_added))]
