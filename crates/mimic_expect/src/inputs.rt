@@ -24,8 +24,8 @@ use std::alloc::Global;
 use std::io::{Read, Write};
 
 /// Writes what of the reports is not as the known failures say, each once and as one line, then a line of the numbers, and
-/// flushes it. Of a report that is not whole the rows are judged that have ended. If the last line of it that has ended announces
-/// a trial, this one was running: its line comes before the numbers.
+/// flushes it. Of a report that is not whole the rows are judged that have ended. If the last line of it that has ended, or the last
+/// before a wrong one, announces a trial, this one was running: its line comes before the numbers.
 ///
 /// A failure meets one known failure of its kind and name: the first one of its message that is left, or else the first one of
 /// any message. Each known failure that is left then takes a row of its kind and name that has met nothing: a failure, which
