@@ -3,10 +3,11 @@ ghost use Rattle.std.specs.Prelude.{◌≤◌, IfOk, List, length};
 ghost use Rattle.mimic_pool.specs.WaitingTrials.{Holds};
 ghost use Rattle.mimic_pool.specs.declared.share.Assigned.{Assigned};
 
+use super::workers::shares_of_five;
 use super::{Plain, numbered};
 use mimic_pool::{
     Desk, Inbox, Reports, Rows, RunningTrials, Schedule, Spawner, Untold, WaitingTrials,
-    join_workers, put_joined, start_workers,
+    join_workers, put_joined, start_workers, work,
 };
 use mimic_trial::{Failed, Outcome, Task};
 use std::alloc::{AllocError, Global};
@@ -69,24 +70,36 @@ fn reports_each_outcome(rt: HostRuntime) -> Result<(), Fail> {
     Ok(())
 }
 
-// A machine whose clock reads these nanoseconds, first the one and then the other. `None` is a reading that fails.
+// What a clock reads, one reading after another. `None` is a reading that fails, as do those behind the last one.
+type Readings = &'static [Option<u64>];
+
+// A machine whose clock reads these nanoseconds.
 #[derive(Drop)]
 struct KnownClock<R> {
     rt: R,
-    readings: [Option<u64>; 2],
-    is_second: Cell<bool>,
+    readings: Readings,
+    next: Cell<usize>,
+}
+
+impl<R> KnownClock<R> {
+    fn new(rt: R, readings: Readings) -> Self {
+        KnownClock {
+            rt,
+            readings,
+            next: Cell::new(0),
+        }
+    }
 }
 
 impl<R: Wait> Wait for KnownClock<R> {}
 
 impl<R> Clock for KnownClock<R> {
     fn monotonic(&self) -> io::Result<Duration> {
-        let [first, second] = self.readings;
-        let reading = if self.is_second.get() { second } else { first };
-        self.is_second.set(true);
-        match reading {
-            Some(nanos) => Ok(Duration::from_nanos(nanos)),
-            None => Err(io::Error::from(ErrorKind::Unsupported)),
+        let next = self.next.get();
+        self.next.set(next.saturating_add(1));
+        match self.readings.get(next) {
+            Some(Some(nanos)) => Ok(Duration::from_nanos(*nanos)),
+            _ => Err(io::Error::from(ErrorKind::Unsupported)),
         }
     }
 
@@ -96,30 +109,117 @@ impl<R> Clock for KnownClock<R> {
 }
 
 // What the clock reads before and after a trial, and the time that is noted: 0 if it went back or couldn't be read.
-static TIMES: [(Option<u64>, Option<u64>, u64); 5] = [
-    (Some(5), Some(12), 7),
-    (Some(0), Some(u64::MAX), u64::MAX),
-    (Some(12), Some(5), 0),
-    (None, Some(12), 0),
-    (Some(5), None, 0),
+static TIMES: [(Readings, u64); 5] = [
+    (&[Some(5), Some(12), Some(90)], 7),
+    (&[Some(0), Some(u64::MAX)], u64::MAX),
+    (&[Some(12), Some(5)], 0),
+    (&[None, Some(12)], 0),
+    (&[Some(5), None], 0),
 ];
 
 // A worker notes how long a trial ran at its place, and nowhere else.
 #[test]
 fn notes_times(rt: HostRuntime) -> Result<(), Fail> {
-    for (first, second, time) in &TIMES {
-        let clock = KnownClock {
-            rt,
-            readings: [*first, *second],
-            is_second: Cell::new(false),
-        };
+    for (readings, time) in &TIMES {
+        let clock = KnownClock::new(rt, *readings);
         let inbox = Inbox::with_times(rt.alloc(), 3, 1, true, None)?;
         let reports = inbox.reports(clock, rt.alloc())?;
         let started = reports.begin(1);
         reports.end(1, started);
         reports.end(3, started);
-        assert!(rt; inbox.time(1) == Some(*time), "{first:?} {second:?}");
+        assert!(rt; inbox.time(1) == Some(*time), "{readings:?}");
         assert!(rt; inbox.time(0) == Some(0) && inbox.time(2) == Some(0));
+    }
+    Ok(())
+}
+
+// Five runners, which are dealt out to two workers. The last one is ignored.
+const FIVE: [Plain; 5] = [
+    Plain::Passed,
+    Plain::Failed(None),
+    Plain::Passed,
+    Plain::Measured(32, 3),
+    Plain::Passed,
+];
+
+// What the clocks of the two workers read, directly before and directly after each of their trials.
+static EVEN_READINGS: Readings = &[
+    Some(1_000),
+    Some(1_007),
+    Some(2_000),
+    Some(2_000),
+    Some(9_000),
+    Some(9_050),
+];
+
+static ODD_READINGS: Readings = &[Some(500), Some(800), Some(4_000), Some(4_001)];
+
+// The times of the trials that aren't ignored, by their places: the differences of the readings around each.
+static TIMES_OF_FIVE: [u64; 4] = [7, 300, 0, 1];
+
+// Each trial of a worker has its own time, and none has that of the trials before it, too.
+#[test]
+fn times_each_trial_of_a_worker(rt: HostRuntime) -> Result<(), Fail> {
+    let alloc = rt.alloc();
+    let inbox = Inbox::with_times(alloc, 5, 2, true, None)?;
+    for share in shares_of_five(alloc, FIVE)? {
+        let readings = if share.place(0) == Some(0) {
+            EVEN_READINGS
+        } else {
+            ODD_READINGS
+        };
+        let mut reports = inbox.reports(KnownClock::new(rt, readings), alloc)?;
+        let room = Vec::with_capacity(alloc, share.len())?;
+        let _ = work(share, true, &mut reports, room);
+    }
+    for (place, time) in TIMES_OF_FIVE.iter().enumerate() {
+        let noted = inbox.time(place);
+        assert!(rt; noted == Some(*time), "{place} {noted:?}");
+    }
+    Ok(())
+}
+
+// A machine whose clock reads the square of the number of its readings before.
+#[derive(Drop)]
+struct SquareClock<R> {
+    rt: R,
+    readings: Cell<u64>,
+}
+
+impl<R: Wait> Wait for SquareClock<R> {}
+
+impl<R> Clock for SquareClock<R> {
+    fn monotonic(&self) -> io::Result<Duration> {
+        let number = self.readings.get();
+        self.readings.set(number.saturating_add(1));
+        Ok(Duration::from_nanos(number.saturating_mul(number)))
+    }
+
+    fn since_1970(&self) -> io::Result<Duration> {
+        Err(io::Error::from(ErrorKind::Unsupported))
+    }
+}
+
+// There is room for the time of each of many trials. The one at place p runs between the readings 2p and 2p + 1, whose squares differ
+// by 4p + 1.
+#[test]
+fn notes_times_of_many(rt: HostRuntime) -> Result<(), Fail> {
+    for places in [300, 3_000] {
+        let clock = SquareClock {
+            rt,
+            readings: Cell::new(0),
+        };
+        let inbox = Inbox::with_times(rt.alloc(), places, 1, true, None)?;
+        let reports = inbox.reports(clock, rt.alloc())?;
+        for place in 0..places {
+            let started = reports.begin(place);
+            reports.end(place, started);
+        }
+        for place in 0..places {
+            let time = (place as u64).saturating_mul(4).saturating_add(1);
+            assert!(rt; inbox.time(place) == Some(time), "{place}");
+        }
+        assert!(rt; inbox.time(places) == Some(0));
     }
     Ok(())
 }

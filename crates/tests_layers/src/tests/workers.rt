@@ -6,6 +6,7 @@ use super::Plain;
 use mimic_pool::{MemoryReports, Reports, Share, Untold, deal, work};
 use mimic_trial::{Failed, Measurement, Outcome, Runner, Task, TestRunner};
 use std::alloc::{AllocError, Global};
+use std::cell::Cell;
 use std::process::Abort;
 use std::sync::Arc;
 use std::sync::atomic::{AtomicU64, Ordering};
@@ -247,5 +248,129 @@ fn tells_when_a_trial_has_ended(rt: HostRuntime) -> Result<(), Fail> {
         assert!(rt; have_rows(&answer, &COUNTED));
     }
     assert!(rt; seen.load(Ordering::SeqCst) == 3);
+    Ok(())
+}
+
+// A call, and for which place it was.
+#[derive(Clone, Copy, Debug, PartialEq, Eq)]
+enum Call {
+    Begin(usize),
+    Run(usize),
+    // With the reading that it was given.
+    End(usize, Option<u64>),
+    Tell(usize),
+}
+
+// The calls that were made, one after another.
+#[derive(Drop)]
+struct Calls {
+    alloc: Global,
+    made: Cell<Vec<Call>>,
+}
+
+impl Calls {
+    fn note(&self, call: Call) {
+        let mut made = self.made.replace(Vec::new(self.alloc));
+        // One that were lost here would be missed.
+        let _ = made.push(call);
+        self.made.set(made);
+    }
+}
+
+// Notes that it was called.
+#[derive(Drop)]
+struct NotedTask<'a> {
+    calls: &'a Calls,
+    place: usize,
+}
+
+impl Task for NotedTask<'_> {
+    fn run(self, _test_mode: bool) -> Outcome {
+        self.calls.note(Call::Run(self.place));
+        Outcome::Passed
+    }
+}
+
+// Notes what it is called for. Its reading before the trial at place p is 70 + p.
+#[derive(Drop)]
+struct NotedReports<'a> {
+    calls: &'a Calls,
+    told: u64,
+}
+
+impl Reports for NotedReports<'_> {
+    ghost told_of = { λ reports. reports.told };
+
+    ghost refused_by = { λ _. 0 };
+
+    ghost heard = { λ _ _. Unit {0} };
+
+    fn tell(&mut self, place: usize, _outcome: &Outcome) -> Result<(), Untold> {
+        self.told += 1;
+        self.calls.note(Call::Tell(place));
+        Ok(())
+    }
+
+    fn begin(&self, place: usize) -> Option<u64> {
+        self.calls.note(Call::Begin(place));
+        Some((place as u64).saturating_add(70))
+    }
+
+    fn end(&self, place: usize, started: Option<u64>) {
+        self.calls.note(Call::End(place, started));
+    }
+
+    fn refusals(&self) -> u64 {
+        0
+    }
+
+    fn told(&self) -> u64 {
+        self.told
+    }
+}
+
+// The share of one worker of three such tasks, the second of which is ignored.
+fn noted_shares(alloc: Global, calls: &Calls) -> Result<Vec<Share<NotedTask<'_>>>, AllocError> {
+    let runners = vec![in alloc;
+        NotedTask { calls, place: 0 },
+        NotedTask { calls, place: 1 },
+        NotedTask { calls, place: 2 },
+    ]?;
+    deal(alloc, runners, vec![in alloc; false, true, false]?, 1)
+}
+
+const CALLS: [Call; 11] = [
+    Call::Begin(0),
+    Call::Run(0),
+    Call::End(0, Some(70)),
+    Call::Tell(0),
+    Call::Begin(1),
+    Call::End(1, Some(71)),
+    Call::Tell(1),
+    Call::Begin(2),
+    Call::Run(2),
+    Call::End(2, Some(72)),
+    Call::Tell(2),
+];
+
+// Directly around its runner a trial is begun and ended, with the reading of its own begin. Only then its row is reported: whoever
+// takes the row finds the time noted.
+#[test]
+fn ends_a_trial_before_it_tells(rt: HostRuntime) -> Result<(), Fail> {
+    let alloc = rt.alloc();
+    let calls = Calls {
+        alloc,
+        made: Cell::new(Vec::with_capacity(alloc, CALLS.len())?),
+    };
+    for share in noted_shares(alloc, &calls)? {
+        let room = Vec::with_capacity(alloc, share.len())?;
+        let mut reports = NotedReports {
+            calls: &calls,
+            told: 0,
+        };
+        let _ = work(share, true, &mut reports, room);
+    }
+    let made = calls.made.replace(Vec::new(alloc));
+    assert!(rt; made.as_slice() == CALLS.as_slice(), "{made:?}");
     Ok(())
 }
