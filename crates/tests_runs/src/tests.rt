@@ -4,6 +4,7 @@ mod checks;
 mod first_page;
 mod in_memory;
 mod large;
+mod marks;
 mod reports;
 mod runners;
 mod runs;
