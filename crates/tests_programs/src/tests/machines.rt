@@ -1,5 +1,8 @@
 //! Whole programs, on a machine whose parts are known.
-use super::known_machine::{NO_OPTIONS, Streams, Variables, Words, known_machine, run_on};
+use super::known_machine::{
+    NO_OPTIONS, Streams, Variables, Words, known_machine, run_line_on, run_on, run_program_on,
+};
+use super::programs::{SCHEDULED, eight_tests};
 use super::runs::Host;
 use libtest_mimic::{Arguments, ArgumentsError, Failed, Line, Outcome, RunError, Task, Trial};
 use mimic_main::{Program, Sharding, Status, refuse_line, run_line, trials_of_cases};
@@ -275,5 +278,24 @@ fn runs_in_the_threads_of_its_machine(rt: HostRuntime) -> Result<(), Fail> {
     let streams = Streams::new(alloc)?;
     let machine = known_machine(rt, alloc, NO_OPTIONS, &streams);
     assert!(rt; run_on(&machine, Ok(tests)) == ExitCode::SUCCESS);
+    Ok(())
+}
+
+// Tests come to workers as the program says, whether or not its line was read before.
+#[test]
+fn deals_out_or_queues_on_a_machine(rt: HostRuntime) -> Result<(), Fail> {
+    let alloc = rt.alloc();
+    for (schedule, looks, status) in &SCHEDULED {
+        let program = Program::new("plain", 2)
+            .with_schedule(*schedule)
+            .with_equal_names();
+        let streams = Streams::new(alloc)?;
+        let machine = known_machine(rt, alloc, NO_OPTIONS, &streams);
+        let ran = run_program_on(&machine, &program, eight_tests(alloc, *looks)?);
+        let args = Arguments::new(alloc);
+        let ran_line = run_line_on(&machine, &program, args, eight_tests(alloc, *looks)?);
+        let expected = ExitCode::from(*status);
+        assert!(rt; ran == expected && ran_line == expected, "{schedule:?}");
+    }
     Ok(())
 }

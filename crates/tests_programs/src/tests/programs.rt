@@ -292,7 +292,7 @@ fn runs_nothing_without_a_title(rt: HostRuntime) -> Result<(), Fail> {
 
 // A test that counts itself, and passes if `awaited` tests have done so before it has looked `looks` times.
 #[derive(Drop)]
-struct Awaits {
+pub(super) struct Awaits {
     count: Arc<AtomicU64>,
     awaited: u64,
     looks: u64,
@@ -312,7 +312,7 @@ impl Task for Awaits {
 }
 
 // Eight tests, the first of which awaits the others.
-fn eight_tests(alloc: Global, looks: u64) -> Result<Vec<Trial<Awaits>>, AllocError> {
+pub(super) fn eight_tests(alloc: Global, looks: u64) -> Result<Vec<Trial<Awaits>>, AllocError> {
     let count = Arc::new(alloc, AtomicU64::new(0))?;
     let mut tests = Vec::new(alloc);
     for awaited in [8, 0, 0, 0, 0, 0, 0, 0] {
@@ -328,7 +328,7 @@ fn eight_tests(alloc: Global, looks: u64) -> Result<Vec<Trial<Awaits>>, AllocErr
 
 // How tests come to two workers, how often the first one looks for the others, and the status: from a queue the other worker takes
 // them all, and in the first worker's share three wait behind it, so it fails however often it looks.
-static SCHEDULED: [(Schedule, u64, u8); 2] = [
+pub(super) static SCHEDULED: [(Schedule, u64, u8); 2] = [
     (Schedule::Queue, 10_000_000, 0),
     (Schedule::Shares, 1_000, 101),
 ];

@@ -5,9 +5,11 @@ use libtest_mimic::{Failed, Outcome, Task, Trial};
 use mimic_main::Program;
 use std::alloc::{AllocError, Global};
 use std::process::ExitCode;
+use std::rt::Clock;
 use std::sync::Arc;
 use std::sync::atomic::Ordering;
 use std::test::Fail;
+use std::thread;
 use std::thread::yield_now;
 use std::time::Duration;
 
@@ -56,7 +58,10 @@ const LOOKS: u64 = 100_000_000;
 // For rows in which some trials are fast, also on a busy machine.
 const LONGER: Option<u64> = Some(300);
 
-static ROWS: [Row; 9] = [
+// Instead of how often a trial looks: it is ignored.
+const IGNORED: u64 = u64::MAX;
+
+static ROWS: [Row; 10] = [
     Row {
         trials: &[("", "slow", 1, LOOKS)],
         threads: 1,
@@ -86,6 +91,17 @@ static ROWS: [Row; 9] = [
             "program: a has been running for over 300 ms\n",
             "program: c has been running for over 300 ms\n",
         ],
+    },
+    // Behind one that is ignored.
+    Row {
+        trials: &[
+            ("", "a", 0, IGNORED),
+            ("", "b", 1, LOOKS),
+            ("", "c", 0, IGNORED),
+        ],
+        threads: 1,
+        limit: LIMIT,
+        lines: &["program: b has been running for over 20 ms\n"],
     },
     Row {
         trials: &[("", "a", 0, 0), ("", "b", 0, 0), ("", "c", 0, 0)],
@@ -169,6 +185,7 @@ fn waiting(
             looks: *looks,
         };
         let trial = Trial::new(String::from_str(alloc, name)?, runner);
+        let trial = trial.with_ignored_flag(*looks == IGNORED);
         trials.push(trial.with_kind(String::from_str(alloc, kind)?))?;
     }
     Ok(trials)
@@ -197,6 +214,73 @@ fn prints_slow_trials(rt: HostRuntime) -> Result<(), Fail> {
             "{:?}",
             left.printed
         );
+    }
+    Ok(())
+}
+
+// Sleeps for so many milliseconds, once so many notices were printed.
+#[derive(Drop)]
+struct Sleeps<M> {
+    machine: M,
+    printed: Arc<Printed>,
+    awaited: usize,
+    millis: u64,
+}
+
+impl<M: Clock + Drop> Task for Sleeps<M> {
+    fn run(self, _test_mode: bool) -> Outcome {
+        for _ in 0..1_000_000_000 {
+            if self.printed.writes.load(Ordering::SeqCst) >= self.awaited {
+                break;
+            }
+            yield_now();
+        }
+        thread::sleep(&self.machine, Duration::from_millis(self.millis));
+        Outcome::Passed
+    }
+}
+
+// The name of a trial, how many notices it awaits, and how many milliseconds it sleeps then.
+type Sleeping = (&'static str, usize, u64);
+
+// In milliseconds.
+const LONGEST: u64 = 800;
+
+// Trials that run one after another in one thread, and what is printed of those that run for longer than `LONGEST`. In the first row
+// none does, but all together do.
+static SLEEPING: [(&[Sleeping], &str); 2] = [
+    (&[("a", 0, 600), ("b", 0, 600)], ""),
+    (
+        &[("a", 1, 0), ("b", 0, 450)],
+        "program: a has been running for over 800 ms\n",
+    ),
+];
+
+// What is printed of a run of them.
+fn printed_of<H: Host>(host: H, alloc: Global, trials: &[Sleeping]) -> Result<String, Fail> {
+    let streams = Streams::new(alloc)?;
+    let machine = known_machine(host, alloc, NO_OPTIONS, &streams);
+    let mut tests = Vec::new(alloc);
+    for (name, awaited, millis) in trials {
+        let runner = Sleeps {
+            machine: host,
+            printed: Arc::try_clone(&streams.err)?,
+            awaited: *awaited,
+            millis: *millis,
+        };
+        tests.push(Trial::new(String::from_str(alloc, name)?, runner))?;
+    }
+    let program = Program::new("program", 1).with_slow_limit(Some(Duration::from_millis(LONGEST)));
+    let _ = run_program_on(&machine, &program, tests);
+    Ok(String::from_utf8(streams.into_printed(alloc))?)
+}
+
+// How long a trial runs is counted from its own start, and not from that of the trial before it in its thread.
+#[test]
+fn counts_from_the_start_of_each_trial(rt: HostRuntime) -> Result<(), Fail> {
+    for (trials, text) in &SLEEPING {
+        let printed = printed_of(rt, rt.alloc(), trials)?;
+        assert!(rt; printed.as_str() == *text, "{printed:?}");
     }
     Ok(())
 }
