@@ -75,8 +75,27 @@ KNOWN = [
     ("bench_suite 1 pretty 1 report_time 1", 0, PRETTY.format(" <0.000s>", "0.00"), "0.005"),
     ("bench_suite 1 pretty 1 clock real", 0, PRETTY.format("", "0.01"), "0.021"),
 ]
-# Words of harness, and how many workers run the trials: by default four, and never more than there are trials.
-WORKERS = [("", 4), ("--test-threads 1", 0), ("--test-threads 7", 7), ("--test-threads 99", 17), ("--exact cat dog", 2)]
+# A program and its words, and how many threads it starts. Workers are by default four, and never more than there are selected trials.
+# A program that runs some by its line has one thread more, which looks for slow trials; bench_suite has none without slow_limit.
+THREADS = [
+    ("harness", 5),
+    ("harness --test-threads 1", 1),
+    ("harness --test-threads 7", 8),
+    ("harness --test-threads 99", 18),
+    ("harness --exact cat dog", 3),
+    ("harness --list", 0),
+    ("harness --list --test-threads 7", 0),
+    ("harness zebra", 0),
+    ("harness --test-threads 7 zebra", 0),
+    ("bench_suite 9 json 1", 0),
+    ("bench_suite 9 json 4", 4),
+    ("bench_suite 3 json 99", 3),
+    ("bench_suite 0 json 4", 0),
+    ("bench_suite 9 json 1 dealt 1", 0),
+    ("bench_suite 9 json 4 dealt 1", 4),
+    ("bench_suite 3 json 99 dealt 1", 3),
+    ("bench_suite 0 json 4 dealt 1", 0),
+]
 
 
 def check_known(shim, line, status, out, run):
@@ -85,14 +104,13 @@ def check_known(shim, line, status, out, run):
     assert found[:2] == (status, out) and re.fullmatch(told, found[2]), f"{found!r} and not {(status, out, told)!r}"
 
 
-def check_workers(shim, words, count):
-    """A run that is no list has one thread more than workers, which looks for slow trials."""
+def check_threads(shim, line, count):
     reader, writer = os.pipe()
-    runner.ended(["harness", *words], pass_fds=[writer], env={**os.environ, "LD_PRELOAD": shim, "THREADS": str(writer)})
+    runner.ended(line, pass_fds=[writer], env={**os.environ, "LD_PRELOAD": shim, "THREADS": str(writer)})
     os.close(writer)
     with os.fdopen(reader, "rb") as started:
         threads = len(started.read())
-    assert threads == count + 1, f"{threads} threads"
+    assert threads == count, f"{threads} threads"
 
 
 def check_no_thread(shim):
@@ -102,28 +120,36 @@ def check_no_thread(shim):
     assert found == (101, report([("1 + 1",), ("2 + 2",), ("7 + 0",)], "0.001"), ""), f"{found!r}"
 
 
-def check_refused_worker(shim, words, status, out, told, least):
-    """One of two workers can't be started, and four trials wait for 0.4 seconds each."""
+def check_refused_worker(shim, words, most, status, rows, told, seconds):
+    """No more workers than this can be started, and trials wait for 0.4 seconds each. The rows of one come in order."""
     begun = time.monotonic()
-    line = ["bench_suite", *"4 json 2 wait 400".split(), *words]
-    found = runner.ended(line, env={**os.environ, "LD_PRELOAD": shim, "MOST": "1"})
-    assert found[:2] == (status, out) and re.fullmatch(told, found[2]), f"{found!r}"
-    assert time.monotonic() - begun > least
+    line = ["bench_suite", *words.split(), "wait", "400"]
+    ended, out, err = runner.ended(line, env={**os.environ, "LD_PRELOAD": shim, "MOST": str(most)})
+    took = time.monotonic() - begun
+    lines, wanted = out.splitlines(), rows.splitlines()
+    is_right = lines == wanted if most == 1 else sorted(lines) == sorted(wanted)
+    assert ended == status and is_right, f"{ended} {out}"
+    assert re.fullmatch(told, err), err
+    assert seconds[0] < took < seconds[1], f"{took:.1f} s"
 
 
 def checks(shim):
     for line, *rest in KNOWN:
         yield line, lambda line=line, rest=rest: check_known(shim, shlex.split(line), *rest)
-    for words, count in WORKERS:
-        yield f"workers of harness {words}", lambda words=words, count=count: check_workers(shim, words.split(), count)
+    for line, count in THREADS:
+        yield f"threads of {line}", lambda line=line, count=count: check_threads(shim, line.split(), count)
     yield "example_sums without a thread", lambda: check_no_thread(shim)
-    # The other worker runs all trials that are in a queue. If it has a share it ends that, and the run is refused.
-    numbers = r"n=4 format=json threads=2 .*\n"
-    whole = report([(f"test_00000{place}",) for place in range(4)], "0")
-    yield "bench_suite with one worker of two", lambda: check_refused_worker(shim, [], 0, whole, numbers, 1.6)
-    refused = r"bench_suite: cannot start a worker\n" + numbers
-    title = whole.splitlines(keepends=True)[0]
-    yield "bench_suite with one share of two", lambda: check_refused_worker(shim, ["dealt", "1"], 1, title, refused, 0.8)
+    # The others run all trials that are in a queue, at the same time. If they have shares they end those, and the run is refused.
+    four, eight = [report([(f"test_00000{place}",) for place in range(count)], "0") for count in (4, 8)]
+    title, told = four.splitlines()[0], r"n=4 format=json threads=2 .*\n"
+    refused = r"bench_suite: cannot start a worker\n" + told
+    rows = [
+        ("4 json 2", 1, 0, four, told, (1.6, 60)),
+        ("8 json 3", 2, 0, eight, r"n=8 format=json threads=3 .*\n", (1.6, 2.4)),
+        ("4 json 2 dealt 1", 1, 1, title, refused, (0.8, 60)),
+    ]
+    for row in rows:
+        yield f"bench_suite {row[0]} with workers: {row[1]}", lambda row=row: check_refused_worker(shim, *row)
 
 
 with tempfile.TemporaryDirectory() as folder:
