@@ -8,6 +8,7 @@ mod lists;
 mod memory;
 mod refusals;
 mod refused_workers;
+mod requests;
 mod runs;
 mod texts;
 mod threads;

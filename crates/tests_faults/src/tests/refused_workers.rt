@@ -1,17 +1,19 @@
 //! Memory refused to workers. `.ci/run` refuses each request in turn, and looks for the errors that these tests
 //! return; if nothing is refused, each run is whole.
 use super::in_all_orders;
-use super::runs::{Left, SCHEDULES, asking, becoming, roomy, run_by};
+use super::runs::{Left, SCHEDULES, Workers, asking, becoming, roomy, run_by, run_in_workers};
+use super::times::{read_back, timed};
 use libtest_mimic::{FormatSetting, Outcome, RunError, Schedule, Spawner, Task, Trial};
 use mimic_testkit::FaultyWriter;
 use std::alloc::{AllocError, Global};
+use std::io::Write;
 use std::process::Abort;
 use std::rt::Clock;
 use std::sync::Arc;
-use std::sync::atomic::{AtomicU64, Ordering};
+use std::sync::atomic::{AtomicBool, AtomicU64, Ordering};
 use std::test::Fail;
-use std::thread;
 use std::time::Duration;
+use std::{io, thread};
 
 // Counts that it began and, some milliseconds later, that it has ended.
 #[derive(Drop)]
@@ -138,6 +140,115 @@ fn writes_a_row_that_could_not_be_copied(rt: HostRuntime) -> Result<(), Fail> {
         let left = run_by(&rt, alloc, &args, tests, roomy(alloc)?, schedule);
         left.answer?;
         assert!(rt; left.writer.bytes.as_slice() == WOOPS);
+    }
+    Ok(())
+}
+
+// What trials and the writer of their report know together.
+#[derive(Drop)]
+struct Known {
+    line_ends: AtomicU64,
+    // Whether a trial has waited in vain for the rows before it.
+    are_left: AtomicBool,
+}
+
+// Counts the line ends that it gets.
+#[derive(Drop)]
+struct Counting {
+    known: Arc<Known>,
+    bytes: Vec<u8>,
+}
+
+impl Write for Counting {
+    fn write(&mut self, buf: &[u8]) -> io::Result<usize> {
+        self.bytes.extend_from_slice(buf)?;
+        for byte in buf {
+            let count = u64::from(*byte == b'\n');
+            self.known.line_ends.fetch_add(count, Ordering::SeqCst);
+        }
+        Ok(buf.len())
+    }
+
+    fn flush(&mut self) -> io::Result<()> {
+        Ok(())
+    }
+}
+
+// Waits a millisecond, and then until as many lines were written as are before its row. While the calling thread runs trials it
+// writes no row, so they wait in vain there: one for a while, and those behind it no more.
+#[derive(Drop)]
+struct Following<M> {
+    machine: M,
+    known: Arc<Known>,
+    lines: u64,
+}
+
+impl<M: Clock + Drop> Following<M> {
+    fn is_to_wait(&self) -> bool {
+        self.known.line_ends.load(Ordering::SeqCst) < self.lines
+            && !self.known.are_left.load(Ordering::SeqCst)
+    }
+}
+
+impl<M: Clock + Drop> Task for Following<M> {
+    fn run(self, _test_mode: bool) -> Outcome {
+        thread::sleep(&self.machine, Duration::from_millis(1));
+        for _ in 0..300 {
+            if !self.is_to_wait() {
+                return Outcome::Passed;
+            }
+            thread::sleep(&self.machine, Duration::from_millis(1));
+        }
+        self.known.are_left.store(true, Ordering::SeqCst);
+        Outcome::Passed
+    }
+}
+
+// Eight trials. Before the row of each are the title, and two lines of each row before it.
+fn eight_following<M: Clock + Copy + Drop>(
+    machine: M,
+    alloc: Global,
+    known: &Arc<Known>,
+) -> Result<Vec<Trial<Following<M>>>, AllocError> {
+    let mut tests = Vec::with_capacity(alloc, 8)?;
+    for lines in [1, 3, 5, 7, 9, 11, 13, 15] {
+        let known = Arc::try_clone(known)?;
+        let following = Following {
+            machine,
+            known,
+            lines,
+        };
+        tests.push(Trial::new(String::new(alloc), following))?;
+    }
+    Ok(tests)
+}
+
+// Each row has the time of its trial, also of one that workers left, which the calling thread runs. One of two workers leaves some if
+// the other can't be started, and there is no memory for the rows of more than its equal part.
+#[test]
+fn times_what_workers_leave(rt: HostRuntime) -> Result<(), Fail> {
+    let alloc = rt.alloc();
+    let known = Known {
+        line_ends: AtomicU64::new(0),
+        are_left: AtomicBool::new(false),
+    };
+    let known = Arc::new(alloc, known)?;
+    let tests = eight_following(rt, alloc, &known)?;
+    let writer = Counting {
+        known: Arc::try_clone(&known)?,
+        bytes: Vec::with_capacity(alloc, 2000)?,
+    };
+    let (args, schedule) = (timed(alloc, Some(2)), Schedule::Queue);
+    let workers = Workers { schedule, count: 2 };
+    let left = run_in_workers(&rt, alloc, &args, tests, writer, workers);
+    left.answer?;
+    let report = read_back(alloc, &left.writer.bytes)?;
+    assert!(rt; report.rows.len() == 8);
+    for row in &report.rows {
+        assert!(rt; row.nanos.unwrap_or(0) >= 1_000_000, "{:?}", row.nanos);
+    }
+    if known.are_left.load(Ordering::SeqCst) {
+        return Err(Fail::new("workers left trials"));
     }
     Ok(())
 }

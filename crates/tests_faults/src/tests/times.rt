@@ -16,25 +16,28 @@ use std::thread::Threads;
 use std::time::Duration;
 
 // What asks for a report in JSON whose rows have times.
-fn timed(alloc: Global, threads: Option<usize>) -> Arguments {
+pub(super) fn timed(alloc: Global, threads: Option<usize>) -> Arguments {
     let mut args = asking(alloc, FormatSetting::Json, threads);
     args.report_time = true;
     args
 }
 
-fn read_back(alloc: Global, bytes: &[u8]) -> Result<Report, Fail> {
+pub(super) fn read_back(alloc: Global, bytes: &[u8]) -> Result<Report, Fail> {
     Ok(read_report(alloc, bytes)?.ok_or("no report")?)
 }
 
-// The names of trials, and how many milliseconds each waits.
-static WAITS: [(&str, u64); 3] = [("a", 20), ("b", 40), ("c", 80)];
+// The name of a trial, and how many milliseconds it waits.
+type Waiting = (&'static str, u64);
+
+static WAITS: [Waiting; 3] = [("a", 20), ("b", 40), ("c", 80)];
 
 fn that_wait<M: Clock + Copy + Drop>(
     machine: M,
     alloc: Global,
+    waits: &[Waiting],
 ) -> Result<Vec<Trial<Sleeps<M>>>, AllocError> {
     let mut trials = Vec::new(alloc);
-    for (name, millis) in &WAITS {
+    for (name, millis) in waits {
         let sleeps = Sleeps {
             machine,
             millis: *millis,
@@ -48,11 +51,12 @@ fn that_wait<M: Clock + Copy + Drop>(
 fn run_waiting<T: Spawner + 'static>(
     rt: &T,
     alloc: Global,
+    waits: &[Waiting],
     threads: usize,
     schedule: Schedule,
 ) -> Result<(Report, u128), Fail> {
     let args = timed(alloc, Some(threads));
-    let tests = that_wait(*rt, alloc)?;
+    let tests = that_wait(*rt, alloc, waits)?;
     let (bytes, workers) = (Vec::new(alloc), Workers { schedule, count: 1 });
     let before = rt.monotonic()?.as_nanos();
     let left = run_in_workers(rt, alloc, &args, tests, bytes, workers);
@@ -79,7 +83,7 @@ fn time_of(report: &Report, name: &str) -> Option<u64> {
 fn times_trials_that_wait(rt: HostRuntime) -> Result<(), Fail> {
     for schedule in SCHEDULES {
         for threads in [2, 4] {
-            let (report, took) = run_waiting(&rt, rt.alloc(), threads, schedule)?;
+            let (report, took) = run_waiting(&rt, rt.alloc(), &WAITS, threads, schedule)?;
             assert!(rt; report.rows.len() == WAITS.len() && report.nanos == 0);
             for (name, millis) in &WAITS {
                 let nanos = time_of(&report, name).ok_or("no time")?;
@@ -90,6 +94,22 @@ fn times_trials_that_wait(rt: HostRuntime) -> Result<(), Fail> {
             }
         }
     }
+    Ok(())
+}
+
+// The first and the third are the share of one of two workers.
+static LONG_FIRST: [Waiting; 3] = [("a", 500), ("b", 0), ("c", 0)];
+
+// A trial's time doesn't begin with that of the trial before it in its worker's share.
+#[test]
+fn times_a_trial_behind_a_long_one(rt: HostRuntime) -> Result<(), Fail> {
+    let (report, _) = run_waiting(&rt, rt.alloc(), &LONG_FIRST, 2, Schedule::Shares)?;
+    let long = time_of(&report, "a").ok_or("no time")?;
+    let behind = time_of(&report, "c").ok_or("no time")?;
+    assert!(rt;
+        behind < 500_000_000 && 500_000_000 <= long,
+        "{behind} {long}"
+    );
     Ok(())
 }
 

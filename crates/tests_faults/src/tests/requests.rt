@@ -1,0 +1,114 @@
+//! Runs that ask for no memory, and so start no thread: lists, and runs of no selected trial. All that is handed in is made beforehand,
+//! and it is as much in each of these tests. `.ci/run` counts the requests of each: they are as many as those of the one that runs
+//! nothing.
+use super::runs::{Becomes, asking, becoming, roomy, run_by};
+use libtest_mimic::{Arguments, FormatSetting, Schedule, Spawner, Trial};
+use mimic_testkit::FaultyWriter;
+use std::alloc::{AllocError, Global};
+use std::process::Abort;
+use std::test::Fail;
+
+// What is handed in.
+#[derive(Drop)]
+struct Handed {
+    args: Arguments,
+    tests: Vec<Trial<Becomes>>,
+    writer: FaultyWriter,
+}
+
+// Two tests, of which those are skipped whose names have the word.
+fn hand_in(alloc: Global, threads: Option<usize>, skipped: &str) -> Result<Handed, AllocError> {
+    let mut args = asking(alloc, FormatSetting::Pretty, threads);
+    args.skip.push(String::from_str(alloc, skipped)?)?;
+    let mut tests = Vec::with_capacity(alloc, 2)?;
+    tests.push(becoming(alloc, "test_a", None)?)?;
+    tests.push(becoming(alloc, "test_b", None)?)?;
+    Ok(Handed {
+        args,
+        tests,
+        writer: roomy(alloc)?,
+    })
+}
+
+static LIST: &[u8] = b"test_a: test\ntest_b: test\n";
+
+static NONE_SELECTED: &[u8] =
+    b"\nrunning 0 tests\n\ntest result: ok. 0 passed; 0 failed; 0 ignored; 0 measured; 2 filtered out; finished in 0.00s\n\n";
+
+// A list by this number of threads, or by the calling thread, is whole.
+fn check_list<T: Spawner + Abort + 'static>(
+    rt: &T,
+    alloc: Global,
+    threads: Option<usize>,
+    schedule: Schedule,
+) -> Result<(), Fail> {
+    let mut handed = hand_in(alloc, threads, "none")?;
+    handed.args.list = true;
+    let left = run_by(
+        rt,
+        alloc,
+        &handed.args,
+        handed.tests,
+        handed.writer,
+        schedule,
+    );
+    assert!(rt; left.is_stopped_by(None) && left.writer.bytes.as_slice() == LIST);
+    Ok(())
+}
+
+// And so is a run of no selected trial.
+fn check_none<T: Spawner + Abort + 'static>(
+    rt: &T,
+    alloc: Global,
+    threads: Option<usize>,
+    schedule: Schedule,
+) -> Result<(), Fail> {
+    let handed = hand_in(alloc, threads, "test")?;
+    let left = run_by(
+        rt,
+        alloc,
+        &handed.args,
+        handed.tests,
+        handed.writer,
+        schedule,
+    );
+    assert!(rt; left.is_stopped_by(None) && left.writer.bytes.as_slice() == NONE_SELECTED);
+    Ok(())
+}
+
+#[test]
+fn makes_what_is_handed_in(rt: HostRuntime) -> Result<(), Fail> {
+    let handed = hand_in(rt.alloc(), Some(4), "none")?;
+    assert!(rt; handed.tests.len() == 2 && handed.writer.bytes.is_empty());
+    Ok(())
+}
+
+#[test]
+fn lists_in_place(rt: HostRuntime) -> Result<(), Fail> {
+    check_list(&rt, rt.alloc(), None, Schedule::Queue)
+}
+
+#[test]
+fn lists_with_shares(rt: HostRuntime) -> Result<(), Fail> {
+    check_list(&rt, rt.alloc(), Some(4), Schedule::Shares)
+}
+
+#[test]
+fn lists_with_a_queue(rt: HostRuntime) -> Result<(), Fail> {
+    check_list(&rt, rt.alloc(), Some(4), Schedule::Queue)
+}
+
+#[test]
+fn runs_none_in_place(rt: HostRuntime) -> Result<(), Fail> {
+    check_none(&rt, rt.alloc(), None, Schedule::Queue)
+}
+
+#[test]
+fn runs_none_with_shares(rt: HostRuntime) -> Result<(), Fail> {
+    check_none(&rt, rt.alloc(), Some(4), Schedule::Shares)
+}
+
+#[test]
+fn runs_none_with_a_queue(rt: HostRuntime) -> Result<(), Fail> {
+    check_none(&rt, rt.alloc(), Some(4), Schedule::Queue)
+}
