@@ -71,7 +71,7 @@ def title(count):
 
 
 def summary(counts, filtered_out, nanos):
-    """Returns the last line of a report with so many rows of each event."""
+    """Returns the last line of a report with these numbers of rows of each event."""
     verdict = "failed" if counts["failed"] else "ok"
     passed, failed, ignored, measured = (counts[event] for event in EVENTS)
     said = f'"passed": {passed}, "failed": {failed}, "ignored": {ignored}, "measured": {measured}'
@@ -101,7 +101,7 @@ def hostile_row(source):
 
 
 def hostile_reports(count):
-    """Yields so many reports, always the same ones, each with a name of its program."""
+    """Yields this number of reports, always the same ones, each with a name of its program."""
     source = random.Random(55)
     for _ in range(count):
         rows = [hostile_row(source) for _ in range(source.randint(0, 12))]

@@ -15,13 +15,13 @@ TENTH += 6 * [("ok", (), None)]
 
 
 def rows_of(count):
-    """Yields the rows of a report of so many."""
+    """Yields the rows of a report of this number."""
     for number in range(count):
         yield Row("kind" if number % 2 else "", f"test_{number:06}", *TENTH[number % 10])
 
 
 def write(file, rows):
-    """Writes a report of so many rows."""
+    """Writes a report of this number of rows."""
     counts = {event: rows // 10 * sum(row[0] == event for row in TENTH) for event in EVENTS}
     with open(file, "w", encoding="utf-8", newline="\n") as out:
         out.write(title(rows))
