@@ -145,7 +145,7 @@ fn names_the_least_place_that_differs(rt: HostRuntime) -> Result<(), Fail> {
     Ok(())
 }
 
-// Passes after some milliseconds, and once so many rows were taken.
+// Passes after some milliseconds, and once a number of rows were taken.
 #[derive(Drop)]
 struct Waits<M> {
     machine: M,

@@ -42,16 +42,13 @@ fn check_list<T: Spawner + Abort + 'static>(
     threads: Option<usize>,
     schedule: Schedule,
 ) -> Result<(), Fail> {
-    let mut handed = hand_in(alloc, threads, "none")?;
-    handed.args.list = true;
-    let left = run_by(
-        rt,
-        alloc,
-        &handed.args,
-        handed.tests,
-        handed.writer,
-        schedule,
-    );
+    let Handed {
+        mut args,
+        tests,
+        writer,
+    } = hand_in(alloc, threads, "none")?;
+    args.list = true;
+    let left = run_by(rt, alloc, &args, tests, writer, schedule);
     assert!(rt; left.is_stopped_by(None) && left.writer.bytes.as_slice() == LIST);
     Ok(())
 }
@@ -63,15 +60,12 @@ fn check_none<T: Spawner + Abort + 'static>(
     threads: Option<usize>,
     schedule: Schedule,
 ) -> Result<(), Fail> {
-    let handed = hand_in(alloc, threads, "test")?;
-    let left = run_by(
-        rt,
-        alloc,
-        &handed.args,
-        handed.tests,
-        handed.writer,
-        schedule,
-    );
+    let Handed {
+        args,
+        tests,
+        writer,
+    } = hand_in(alloc, threads, "test")?;
+    let left = run_by(rt, alloc, &args, tests, writer, schedule);
     assert!(rt; left.is_stopped_by(None) && left.writer.bytes.as_slice() == NONE_SELECTED);
     Ok(())
 }

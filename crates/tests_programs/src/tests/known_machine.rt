@@ -4,8 +4,8 @@ ghost use Rattle.std.specs.Prelude.{IfOk};
 ghost use Rattle.libtest_mimic.specs.Trial.{AllCanRun};
 
 use super::runs::Host;
-use libtest_mimic::{Arguments, RunError, Task, Trial};
-use mimic_main::{Machine, Program, Sharding, run_program};
+use libtest_mimic::{RunError, Task, Trial};
+use mimic_main::{Machine, Program, run_program};
 use std::alloc::{Alloc, AllocError, Global};
 use std::cell::Cell;
 use std::env::FillError;
@@ -276,20 +276,6 @@ pub(super) fn run_program_on<H: Host, R: Task + Send + 'static>(
     requires { AllCanRun R.can_run tests.items }
 {
     program.run(machine, tests).report(&machine.host)
-}
-
-// The same for a line that was read already, which asks for this.
-pub(super) fn run_line_on<H: Host, R: Task + Send + 'static>(
-    machine: &KnownMachine<'_, H>,
-    program: &Program<'_>,
-    args: Arguments,
-    tests: Vec<Trial<R>>,
-) -> ExitCode
-    requires { AllCanRun R.can_run tests.items }
-{
-    let made: Result<Vec<Trial<R>>, RunError> = Ok(tests);
-    let status = program.run_line(machine, Ok(args), Ok(Sharding::none()), made);
-    status.report(&machine.host)
 }
 
 // A line of the program's name alone.

@@ -1,6 +1,6 @@
 //! Whole programs, on a machine whose parts are known.
 use super::known_machine::{
-    NO_OPTIONS, Streams, Variables, Words, known_machine, run_line_on, run_on, run_program_on,
+    NO_OPTIONS, Streams, Variables, Words, known_machine, run_on, run_program_on,
 };
 use super::programs::{SCHEDULED, eight_tests};
 use super::runs::Host;
@@ -281,7 +281,7 @@ fn runs_in_the_threads_of_its_machine(rt: HostRuntime) -> Result<(), Fail> {
     Ok(())
 }
 
-// Tests come to workers as the program says, whether or not its line was read before.
+// Tests come to workers as the program says.
 #[test]
 fn deals_out_or_queues_on_a_machine(rt: HostRuntime) -> Result<(), Fail> {
     let alloc = rt.alloc();
@@ -292,10 +292,7 @@ fn deals_out_or_queues_on_a_machine(rt: HostRuntime) -> Result<(), Fail> {
         let streams = Streams::new(alloc)?;
         let machine = known_machine(rt, alloc, NO_OPTIONS, &streams);
         let ran = run_program_on(&machine, &program, eight_tests(alloc, *looks)?);
-        let args = Arguments::new(alloc);
-        let ran_line = run_line_on(&machine, &program, args, eight_tests(alloc, *looks)?);
-        let expected = ExitCode::from(*status);
-        assert!(rt; ran == expected && ran_line == expected, "{schedule:?}");
+        assert!(rt; ran == ExitCode::from(*status), "{schedule:?}");
     }
     Ok(())
 }

@@ -218,7 +218,7 @@ fn prints_slow_trials(rt: HostRuntime) -> Result<(), Fail> {
     Ok(())
 }
 
-// Sleeps for so many milliseconds, once so many notices were printed.
+// Sleeps, once a number of notices were printed.
 #[derive(Drop)]
 struct Sleeps<M> {
     machine: M,
