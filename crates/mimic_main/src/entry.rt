@@ -54,6 +54,9 @@ pub fn run_program<M: Machine, R: Task + Send + 'static, X: Display + Drop>(
 /// descriptor, and with it what is written to the stream. [`run_program`] begins with it, and so does a `main` that opens files
 /// itself or calls [`run_line`]. If /dev/null can't be opened, the reason is printed on standard error, and the `Err` is what `main` is
 /// to return: the status 1.
+//
+// To open a file takes a block of 4 KB, which isn't to be on the stack of `main` while trials run.
+#[inline(never)]
 pub fn hold_closed_streams<M: Machine>(machine: &M, name: &str) -> Result<(), Status>
     ensures { IfErr result (λ status. number_of status ≡ 1) }
 {
