@@ -9,12 +9,10 @@ descriptor: nothing that is printed goes into a report, and no file is read as s
   30 trials: 30 passed; 0 failed; 0 ignored; 0 measured; 0 filtered out
   $ sums >all; harness --format json >mixed; [ $? = 101 ]
   $ reports compare - all <&-
-  regressed: 2 + 2: assertion `left == right` failed
-  1 regressed; 0 missing; 0 not run; 0 new; 2 not run before; 0 newly ignored; 0 newly passing; 0 another message; 0 still failing; 0 unchanged; 0 slower; 0 faster
   2> reports: -: Bad file descriptor (os error 9)
-  [101]
+  [1]
   $ reports compare all - <&-
-  0 regressed; 0 missing; 3 not run; 0 new; 0 not run before; 0 newly ignored; 0 newly passing; 0 another message; 0 still failing; 0 unchanged; 0 slower; 0 faster
+  0 new failure; 0 regressed; 0 missing; 3 not run; 0 new; 0 not run before; 0 newly ignored; 0 newly passing; 0 another message; 0 still failing; 0 unchanged; 0 slower; 0 faster
   2> reports: -: Bad file descriptor (os error 9)
   [1]
 
@@ -43,7 +41,7 @@ Each subcommand with each stream closed.
   reports: -: Bad file descriptor (os error 9)
   1 of reports expect /dev/null -
   reports: -: Bad file descriptor (os error 9)
-  101 of reports compare - all
+  1 of reports compare - all
   reports: -: Bad file descriptor (os error 9)
   1 of reports page -
   reports: -: Bad file descriptor (os error 9)

@@ -1,5 +1,5 @@
 -- The laws of comparisons.
-use Rattle.std.proofs.Common.{◌≡◌, ◌==◌, ◌||◌, not, ℕ, zero, suc, ◌+◌, ◌<◌, Bool, true, List, [], ◌∷◌, ◌++◌, map, filter, refl, sym, ap, subst, ◌∙◌, inl, inr, arith}
+use Rattle.std.proofs.Common.{◌≡◌, ◌==◌, ◌||◌, not, ℕ, zero, suc, ◌+◌, ◌<◌, Bool, true, false, length, List, [], ◌∷◌, ◌++◌, map, filter, refl, sym, ap, subst, ◌∙◌, inl, inr, arith}
 use Rattle.std.specs.Prelude.{◌≢◌, ◌≤◌, IsPermutation, count_by, nat_lt}
 use Rattle.std.specs.List.{AllPairs, IsDistinct, list_any}
 use Rattle.std.proofs.lemmas.Bool.{cases_eq, ne_eqb}
@@ -11,18 +11,21 @@ use Rattle.std.proofs.lemmas.List.Sorted.{IsPermutation-append_right, IsPermutat
 use Rattle.std.proofs.lemmas.List.Kept.{AllPairs-cons, AllPairs-filter}
 use Rattle.std.proofs.lemmas.Map.Made.{IsDistinct-from_AllPairs}
 use Rattle.std.proofs.lemmas.Map.Views.{any-filter_same}
+use Rattle.mimic_trial.specs.Count.{is_failed}
 use Rattle.mimic_printer.specs.Json.{Entry}
 use Rattle.mimic_printer.specs.Row.{Label}
 use Rattle.mimic_events.specs.Key.{same_label}
 use Rattle.mimic_events.proofs.Keys.{same_label-decides, same_label-symm}
-use Rattle.mimic_events.specs.Readings.{InputRead}
+use Rattle.mimic_events.specs.Readings.{InputRead, is_whole}
+use Rattle.mimic_events.specs.declared.ending.Ending.{Ending}
+use Rattle.mimic_events.specs.declared.ending.Ending.TheVariants.{Whole, Cut, Failed}
 use Rattle.mimic_printer.proofs.EscapeLaws.{lines_have_no_control}
-use Rattle.mimic_compare.specs.Classes.{Compared, compared, comparisons, distinct, labels_in}
-use Rattle.mimic_compare.specs.Fates.{fates_with}
+use Rattle.mimic_compare.specs.Classes.{Compared, compared, comparisons, distinct, failures, labels_in}
+use Rattle.mimic_compare.specs.Fates.{Fate, fates_with}
 use Rattle.mimic_compare.specs.Text.{place_of, same_class}
-use Rattle.mimic_compare.specs.Written.{ArePartitioned, ComparisonLaws, SaysWorse, found_in, labels_of, stands_in}
+use Rattle.mimic_compare.specs.Written.{ArePartitioned, ComparisonLaws, NamesFailures, SaysWorse, found_in, has_title, labels_of, stands_in}
 use Rattle.mimic_compare.specs.declared.class.Class.{Class}
-use Rattle.mimic_compare.specs.declared.class.Class.TheVariants.{Regressed, Missing}
+use Rattle.mimic_compare.specs.declared.class.Class.TheVariants.{NewFailure, Regressed, Missing}
 
 -- ---- each label once
 
@@ -75,14 +78,14 @@ placed c k (suc n) found from to = elim (cases_eq (place c) k) [
       (IsPermutation-append_right (at_place k found) (c ∷ rest) (places (k + 1) n (c ∷ found)) (placed c (k + 1) n found (omega arith) (omega arith))))
 ]
 
-few : (class : Class) → place_of class < 10
+few : (class : Class) → place_of class < 11
 few class = grind arith
 
-in_places : (found : List Compared) → IsPermutation found (places 0 10 found)
+in_places : (found : List Compared) → IsPermutation found (places 0 11 found)
 in_places [] = IsPermutation-refl []
 in_places (c ∷ found) =
-    IsPermutation-trans (c ∷ found) (c ∷ places 0 10 found) (places 0 10 (c ∷ found)) (IsPermutation-cons c found (places 0 10 found) (in_places found))
-    (placed c 0 10 found (omega arith) (few c.class))
+    IsPermutation-trans (c ∷ found) (c ∷ places 0 11 found) (places 0 11 (c ∷ found)) (IsPermutation-cons c found (places 0 11 found) (in_places found))
+    (placed c 0 11 found (omega arith) (few c.class))
 
 partitioned : (judged : Bool) (old new : List Entry) → ArePartitioned judged old new
 partitioned judged old new =
@@ -96,12 +99,38 @@ partitioned judged old new =
 
 -- ---- the status
 
-some_counted : (p q : Compared → Bool) (found : List Compared) → (nat_lt 0 (count_by p found) || nat_lt 0 (count_by q found)) ≡ list_any (λ c. p c || q c) found
-some_counted p q [] = refl
-some_counted p q (c ∷ found) = grind (arith, common_steps, some_counted p q found)
+some_counted : (p q r : Compared → Bool) (found : List Compared)
+    → (nat_lt 0 (count_by p found) || nat_lt 0 (count_by q found) || nat_lt 0 (count_by r found)) ≡ list_any (λ c. p c || q c || r c) found
+some_counted p q r [] = refl
+some_counted p q r (c ∷ found) = grind (arith, common_steps, some_counted p q r found)
+
+not_whole : (ending : Ending) → has_title ending ≡ false → is_whole ending ≡ false
+not_whole (Whole filtered_out nanos) h = absurd (cc)
+not_whole (Cut stop) h = refl
+not_whole (Failed error) h = refl
 
 says_worse : (old new : InputRead) → SaysWorse old new
-says_worse old new = grind (arith, nat_tests, some_counted (λ c. same_class c.class Regressed) (λ c. same_class c.class Missing) (found_in old new))
+says_worse old new = record {
+  worse =
+      grind (arith, nat_tests, some_counted (λ c. same_class c.class NewFailure) (λ c. same_class c.class Regressed) (λ c. same_class c.class Missing) (found_in old new));
+  refused = λ nothing. grind (arith, common_steps, nothing, not_whole old.ending);
+}
+
+-- ---- failures
+
+all_failed : (fates : List Fate) → list_any (λ fate. not (is_failed fate.outcome)) fates ≡ false → failures fates ≡ length fates
+all_failed [] h = refl
+all_failed (fate ∷ fates) h = grind (arith, common_steps, all_failed fates)
+
+some_failed : (fates : List Fate) → list_any (λ fate. is_failed fate.outcome) fates ≡ true → nat_lt 0 (failures fates) ≡ true
+some_failed [] h = absurd (cc)
+some_failed (fate ∷ fates) h = grind (arith, common_steps, nat_tests, some_failed fates)
+
+names_failures : (judged : Bool) (old new : List Fate) → NamesFailures judged old new
+names_failures judged old new = record {
+  regressed = λ is. grind (arith, common_steps, nat_tests, all_failed old, is);
+  unseen = λ failed. rw (some_failed new failed) refl;
+}
 
 pub comparison_laws : ComparisonLaws
-comparison_laws = record { partition = partitioned; status = says_worse; lines = lines_have_no_control }
+comparison_laws = record { partition = partitioned; failures = names_failures; status = says_worse; lines = lines_have_no_control }

@@ -5,7 +5,7 @@ use Rattle.std.specs.List.Sorted.{IsSortedBy, IsStableBy}
 use Rattle.std.specs.Int.{abs_diff}
 use Rattle.mimic_trial.specs.declared.outcome.Outcome.{Outcome}
 use Rattle.mimic_trial.specs.declared.outcome.Outcome.TheVariants as outcome
-use Rattle.mimic_trial.specs.declared.outcome.measurement.Measurement.{Measurement}
+use Rattle.mimic_trial.specs.declared.outcome.Measurement.{Measurement}
 use Rattle.mimic_printer.specs.Row.{Label}
 use Rattle.mimic_compare.specs.Classes.{Compared}
 use Rattle.mimic_compare.specs.Fates.{Fate}

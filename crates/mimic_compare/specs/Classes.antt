@@ -9,7 +9,7 @@ use Rattle.mimic_printer.specs.Row.{Label}
 use Rattle.mimic_events.specs.Key.{same_label}
 use Rattle.mimic_compare.specs.Fates.{Fate, fates_with}
 use Rattle.mimic_compare.specs.declared.class.Class.{Class}
-use Rattle.mimic_compare.specs.declared.class.Class.TheVariants.{Regressed, Missing, NotRun, New, NotRunBefore, NewlyIgnored, NewlyPassing, AnotherMessage, StillFailing, Unchanged}
+use Rattle.mimic_compare.specs.declared.class.Class.TheVariants.{NewFailure, Regressed, Missing, NotRun, New, NotRunBefore, NewlyIgnored, NewlyPassing, AnotherMessage, StillFailing, Unchanged}
 
 -- ---- kinds and names
 
@@ -46,7 +46,7 @@ have_other_messages old new = list_any (is_other old new) (old ++ new)
 -- what became of a kind and a name with these rows: the first that fits; `judged` means that all trials are in both reports
 abbrev pub class_of : Bool → List Fate → List Fate → Class
 class_of judged old new =
-    if nat_lt (failures old) (failures new) then Regressed
+    if nat_lt (failures old) (failures new) then (if failures old == length old then NewFailure else Regressed)
     else (if nat_lt (length new) (length old) then (if judged then Missing else NotRun)
     else (if nat_lt (length old) (length new) then (if judged then New else NotRunBefore)
     else (if nat_lt (ignored old) (ignored new) then NewlyIgnored

@@ -15,13 +15,14 @@ use Rattle.mimic_printer.specs.declared.place.Place.TheVariants.{Line}
 use Rattle.mimic_compare.specs.declared.change.Quantity.{Quantity}
 use Rattle.mimic_compare.specs.declared.change.Quantity.TheVariants.{Average, Time}
 use Rattle.mimic_compare.specs.declared.class.Class.{Class}
-use Rattle.mimic_compare.specs.declared.class.Class.TheVariants.{Regressed, Missing, NotRun, New, NotRunBefore, NewlyIgnored, NewlyPassing, AnotherMessage, StillFailing, Unchanged}
+use Rattle.mimic_compare.specs.declared.class.Class.TheVariants.{NewFailure, Regressed, Missing, NotRun, New, NotRunBefore, NewlyIgnored, NewlyPassing, AnotherMessage, StillFailing, Unchanged}
 
 -- ---- classes
 
 -- all classes, in the order in which they are printed
 abbrev pub classes : List Class
-classes = Regressed ∷ Missing ∷ NotRun ∷ New ∷ NotRunBefore ∷ NewlyIgnored ∷ NewlyPassing ∷ AnotherMessage ∷ StillFailing ∷ Unchanged ∷ []
+classes = NewFailure ∷ Regressed ∷ Missing ∷ NotRun ∷ New ∷ NotRunBefore ∷ NewlyIgnored ∷ NewlyPassing ∷ AnotherMessage ∷ StillFailing
+    ∷ Unchanged ∷ []
 
 -- the kinds and names of the class have lines; those that were not run have them if it is asked
 abbrev pub is_listed : Bool → Class → Bool
@@ -32,6 +33,7 @@ is_listed missing Unchanged = false
 is_listed missing other = true
 
 abbrev pub word : Class → List ℕ
+word NewFailure = codes "new failure"
 word Regressed = codes "regressed"
 word Missing = codes "missing"
 word NotRun = codes "not run"
@@ -44,16 +46,17 @@ word StillFailing = codes "still failing"
 word Unchanged = codes "unchanged"
 
 abbrev pub place_of : Class → ℕ
-place_of Regressed = 0
-place_of Missing = 1
-place_of NotRun = 2
-place_of New = 3
-place_of NotRunBefore = 4
-place_of NewlyIgnored = 5
-place_of NewlyPassing = 6
-place_of AnotherMessage = 7
-place_of StillFailing = 8
-place_of Unchanged = 9
+place_of NewFailure = 0
+place_of Regressed = 1
+place_of Missing = 2
+place_of NotRun = 3
+place_of New = 4
+place_of NotRunBefore = 5
+place_of NewlyIgnored = 6
+place_of NewlyPassing = 7
+place_of AnotherMessage = 8
+place_of StillFailing = 9
+place_of Unchanged = 10
 
 abbrev pub same_class : Class → Class → Bool
 same_class a b = place_of a == place_of b
@@ -76,6 +79,7 @@ first_message (fate ∷ fates) = message_or (first_message fates) fate.outcome
 
 -- the message whose first line is printed behind a name: for some classes that of the first failure in the new report
 abbrev pub shown_message : Class → List Fate → List ℕ
+shown_message NewFailure new = first_message new
 shown_message Regressed new = first_message new
 shown_message AnotherMessage new = first_message new
 shown_message other new = []

@@ -10,7 +10,9 @@ use std::alloc::{AllocError, Global};
 /// What became of a kind and a name from an old report to a new one.
 #[derive(Clone, Copy, Debug, PartialEq, Eq)]
 pub enum Class {
-    /// More of its rows failed.
+    /// More of its rows failed, and the old report has no row of it that didn't fail.
+    NewFailure,
+    /// More of its rows failed, and the old report has one that didn't.
     Regressed,
     /// It has fewer rows, and all trials are in both reports.
     Missing,
@@ -41,7 +43,11 @@ impl Class {
         let (old_failed, new_failed) = (failed_in(old), failed_in(new));
         let (old_ignored, new_ignored) = (ignored_in(old), ignored_in(new));
         Ok(if old_failed < new_failed {
-            Class::Regressed
+            if old_failed == old.len() {
+                Class::NewFailure
+            } else {
+                Class::Regressed
+            }
         } else if new.len() < old.len() {
             if is_judged {
                 Class::Missing

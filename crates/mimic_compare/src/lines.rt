@@ -14,7 +14,8 @@ use mimic_printer::{Piece, Place, Sink, add_pieces};
 use std::io::Write;
 
 // All classes, in the order in which they are printed.
-const CLASSES: [Class; 10] = [
+const CLASSES: [Class; 11] = [
+    Class::NewFailure,
     Class::Regressed,
     Class::Missing,
     Class::NotRun,
@@ -31,6 +32,7 @@ fn word(class: Class) -> &'static str
     ensures { result.now ≡ word class }
 {
     match class {
+        Class::NewFailure => "new failure",
         Class::Regressed => "regressed",
         Class::Missing => "missing",
         Class::NotRun => "not run",
@@ -72,7 +74,7 @@ fn shown_message(class: Class, new: &[KeptFate]) -> &str
     ensures { result.now ≡ shown_message class new.now }
 {
     match class {
-        Class::Regressed | Class::AnotherMessage => first_message(new),
+        Class::NewFailure | Class::Regressed | Class::AnotherMessage => first_message(new),
         _ => "",
     }
 }

@@ -8,7 +8,7 @@ use mimic_printer::OutputFault;
 use std::alloc::Global;
 
 // Prints what became of each kind and name, and why an input is no whole report. Nothing is compared if a file can't be opened: all that
-// the other one has would look new, or gone.
+// the other one has would look new, or gone. Nor is it if nothing of the older report could be read.
 pub(crate) fn run(rt: &HostRuntime, alloc: Global, compare: &Compare) -> u8 {
     let old = open(rt, compare.old.as_str());
     let new = open(rt, compare.new.as_str());

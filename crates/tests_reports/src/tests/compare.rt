@@ -64,7 +64,7 @@ pub(super) const AFTER: &[&str] = &[
 const CUT: &[&str] = &[title!(1), announced!("a"), failed!("a", "x")];
 
 const OF_A_READER: &str =
-    "regressed: a: y\n1 regressed; 0 missing; 0 not run; 0 new; 0 not run before; 0 newly ignored; 0 newly passing; 0 another message; 0 still failing; 0 unchanged; 0 slower; 0 faster\n";
+    "new failure: a: y\n1 new failure; 0 regressed; 0 missing; 0 not run; 0 new; 0 not run before; 0 newly ignored; 0 newly passing; 0 another message; 0 still failing; 0 unchanged; 0 slower; 0 faster\n";
 
 // If a reader fails, the rows are compared that have ended.
 #[test]
@@ -83,5 +83,23 @@ fn compares_what_a_reader_gave(rt: HostRuntime) -> Result<(), Fail> {
     );
     assert!(rt; matches!(&verdict.old, Ending::Failed(_)), "{verdict:?}");
     assert!(rt; verdict.new.is_whole(), "{verdict:?}");
+    Ok(())
+}
+
+// Nothing is printed if the reader of the old report fails before a row has ended.
+#[test]
+fn prints_nothing_beside_a_reader_that_gave_no_row(rt: HostRuntime) -> Result<(), Fail> {
+    let alloc = rt.alloc();
+    let new = text_of(alloc, Y_AND_X)?;
+    for old in ["", title!(1), "what"] {
+        let mut failing = Slow::of(old);
+        failing.fails = Some(ErrorKind::Other);
+        let new = Slow::of(new.as_str());
+        let (bytes, compared) = compare(alloc, failing, new, &OPTIONS, Vec::new(alloc));
+        let verdict = compared?;
+        assert!(rt; verdict.status() == 1 && bytes.is_empty(), "{verdict:?}");
+        assert!(rt; matches!(&verdict.old, Ending::Failed(_)), "{verdict:?}");
+        assert!(rt; verdict.new.is_whole(), "{verdict:?}");
+    }
     Ok(())
 }

@@ -157,7 +157,7 @@ fn judges_the_same_without_times(rt: HostRuntime) -> Result<(), Fail> {
 }
 
 const UNCHANGED: &str =
-    "0 regressed; 0 missing; 0 not run; 0 new; 0 not run before; 0 newly ignored; 0 newly passing; 0 another message; 2 still failing; 6 unchanged; 0 slower; 0 faster\n";
+    "0 new failure; 0 regressed; 0 missing; 0 not run; 0 new; 0 not run before; 0 newly ignored; 0 newly passing; 0 another message; 2 still failing; 6 unchanged; 0 slower; 0 faster\n";
 
 // What takes longer has not changed by that.
 #[test]
