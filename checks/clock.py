@@ -12,9 +12,12 @@ which stands or is the machine's, and with two the machine's. So the trial takes
 or 7 ms if the readings 3 and 4 are the trial's or the run's alone.
 """
 
+import json
 import os
 import re
+import resource
 import shlex
+import shutil
 import tempfile
 import time
 
@@ -77,12 +80,13 @@ KNOWN = [
 ]
 # A program and its words, and how many threads it starts. Workers are by default four, and never more than there are selected trials.
 # A program that runs some by its line has one thread more, which looks for slow trials; bench_suite has none without slow_limit.
+# Before that it starts one in the place of each worker that the run needs: one of those that take from a queue, or all.
 THREADS = [
-    ("harness", 5),
+    ("harness", 6),
     ("harness --test-threads 1", 1),
-    ("harness --test-threads 7", 8),
-    ("harness --test-threads 99", 18),
-    ("harness --exact cat dog", 3),
+    ("harness --test-threads 7", 9),
+    ("harness --test-threads 99", 19),
+    ("harness --exact cat dog", 4),
     ("harness --list", 0),
     ("harness --list --test-threads 7", 0),
     ("harness zebra", 0),
@@ -95,6 +99,21 @@ THREADS = [
     ("bench_suite 9 json 4 dealt 1", 4),
     ("bench_suite 3 json 99 dealt 1", 3),
     ("bench_suite 0 json 4 dealt 1", 0),
+    ("bench_suite 9 json 4 slow_limit 0", 4),
+    ("bench_suite 9 json 1 slow_limit 60000", 1),
+    ("bench_suite 9 json 4 slow_limit 60000", 6),
+    ("bench_suite 3 json 99 dealt 1 slow_limit 60000", 7),
+]
+# A user of whom no other program runs. Words of bench_suite, how many threads it may have at once beside its own, and whether slow
+# trials are looked for then: only if there is room for a worker beside that, or for all if each has a share.
+USER = 65_533
+ROOM = [
+    ("json 1", 1, True),
+    ("json 4", 1, False),
+    ("json 64", 1, False),
+    ("json 4", 2, True),
+    ("json 4 dealt 1", 4, False),
+    ("json 4 dealt 1", 5, True),
 ]
 
 
@@ -120,6 +139,16 @@ def check_no_thread(shim):
     assert found == (101, report([("1 + 1",), ("2 + 2",), ("7 + 0",)], "0.001"), ""), f"{found!r}"
 
 
+def check_times(shim, threads, first):
+    """Each of many trials, of which some fail, shows its own time. They run one after another, in one thread."""
+    line = f"bench_suite 300 json {threads} report_time 1 clock real fail_every 7".split()
+    status, out, err = runner.ended(line, env={**os.environ, "LD_PRELOAD": shim, "MOST": "1"})
+    rows = [json.loads(line) for line in out.splitlines()]
+    times = {row["name"]: row["exec_time"] for row in rows if row["type"] == "test" and row["event"] != "started"}
+    wanted = {f"test_{place:06}": (first + 4 * place) / 1000 for place in range(300)}
+    assert status == 101 and times == wanted, f"{status} {err} {times}"
+
+
 def check_refused_worker(shim, words, most, status, rows, told, seconds):
     """No more workers than this can be started, and trials wait for 0.4 seconds each. The rows of one come in order."""
     begun = time.monotonic()
@@ -133,12 +162,35 @@ def check_refused_worker(shim, words, most, status, rows, told, seconds):
     assert seconds[0] < took < seconds[1], f"{took:.1f} s"
 
 
+def check_room(words, room, looks):
+    """The thread that looks for slow trials takes no place of a worker that the run needs."""
+
+    def limit():
+        resource.setrlimit(resource.RLIMIT_NPROC, (room + 1, room + 1))
+
+    # Another user can't reach each folder of this one.
+    os.chmod(".", 0o755)
+    copy = shutil.copy(runner.program("bench_suite"), "./bench_suite")
+    settings = {"executable": copy, "user": USER, "group": USER, "extra_groups": [], "preexec_fn": limit}
+    line = ["bench_suite", "100", *words.split(), "wait", "3", "slow_limit", "1"]
+    status, out, err = runner.ended(line, **settings)
+    rows = [row["name"] for row in map(json.loads, out.splitlines()) if row["type"] == "test" and row["event"] == "ok"]
+    assert (status, sorted(rows)) == (0, [f"test_{place:06}" for place in range(100)]), f"{status}, {rows}, {err}"
+    assert (" has been running for over 1 ms\n" in err) == looks, err
+
+
 def checks(shim):
     for line, *rest in KNOWN:
         yield line, lambda line=line, rest=rest: check_known(shim, shlex.split(line), *rest)
     for line, count in THREADS:
         yield f"threads of {line}", lambda line=line, count=count: check_threads(shim, line.split(), count)
+    # As in KNOWN, the first trial takes 9 ms. Between the readings before two trials are two, so each takes 4 ms more than the one before.
+    for threads in (1, 2):
+        yield f"bench_suite 300 json {threads} with times", lambda threads=threads: check_times(shim, threads, 9)
     yield "example_sums without a thread", lambda: check_no_thread(shim)
+    # Only root runs a program as another user.
+    for words, room, looks in ROOM if os.geteuid() == 0 else ():
+        yield f"bench_suite 100 {words} and room for {room}", lambda row=(words, room, looks): check_room(*row)
     # The others run all trials that are in a queue, at the same time. If they have shares they end those, and the run is refused.
     four, eight = [report([(f"test_00000{place}",) for place in range(count)], "0") for count in (4, 8)]
     title, told = four.splitlines()[0], r"n=4 format=json threads=2 .*\n"

@@ -7,6 +7,7 @@
 import json
 import os
 import pathlib
+import re
 import resource
 import signal
 import subprocess
@@ -104,6 +105,29 @@ def check_quick_end():
     assert min(times) < 0.5, f"{times}"
 
 
+def check_full_pipe():
+    """While nobody reads standard error, which is full, the run ends all the same. Then bench_suite prints its own line there, which
+    has the seconds that the run took, and waits with it."""
+    reader, writer = os.pipe()
+    os.set_blocking(writer, False)
+    try:
+        while True:
+            os.write(writer, b"x")
+    except BlockingIOError:
+        os.set_blocking(writer, True)
+    with started("bench_suite 4 json 1 wait 50 slow_limit 10".split(), stdout=subprocess.PIPE, stderr=writer) as process:
+        os.close(writer)
+        begun = time.monotonic()
+        rows = [json.loads(process.stdout.readline()) for _ in range(10)]
+        took = time.monotonic() - begun
+        time.sleep(2)
+        with os.fdopen(reader, encoding="utf-8") as printed:
+            ran = re.search(r" run=(\d+\.\d+)s ", printed.read())
+    events = [row["event"] for row in rows]
+    assert process.returncode == 0 and events == ["started", *4 * ["started", "ok"], "ok"], f"{process.returncode}, {events}"
+    assert took < 1 and ran and float(ran[1]) < 1, f"{took}, {ran}"
+
+
 def check_room(words, room, status):
     """What there is no room for isn't printed."""
     whole = runner.ended(["harness", *words])[1]
@@ -126,6 +150,7 @@ def checks():
     yield "times of trials of two threads", check_own_times
     yield "a logfile while trials run", check_logfile
     yield "the end of example_sums", check_quick_end
+    yield "a full pipe that nobody reads", check_full_pipe
     for words, room, status in ROOM:
         row = words.split(), room, status
         yield f"harness {words} and room for {room} bytes", lambda row=row: check_room(*row)

@@ -5,7 +5,7 @@ use Rattle.std.proofs.lemmas.List.Elements.{All-map}
 use Rattle.std.specs.Prelude.{All}
 use Rattle.mimic_trial.specs.Case.{AreTestsOf}
 use Rattle.libtest_mimic.specs.Prelude.{AllCanRun, runner_of, Trial}
-use Rattle.mimic_trial.specs.declared.case.Case.{Case}
+use Rattle.mimic_trial.specs.declared.task.Case.{Case}
 
 pub can_run : {N I F : Type 0} (text : N → List ℕ) (check : F) (cases : List (N × I)) (trials : List (Trial (Case I F))) (P : F → I → Type 0)
     → AreTestsOf text check cases trials → All (λ case. P check case.1) cases → AllCanRun (λ case. P case.check case.input) trials

@@ -30,8 +30,8 @@ policy_of Json in_workers on_terminal = if in_workers then OnLineEnd else OnEven
 
 -- when the output of a run with these arguments on this number of threads is written out, to a terminal or not (our own). With one
 -- thread a pretty report goes out at each flush, and JSON at the end of each second line: both come before a trial runs. With more
--- threads both go out at each text that ends a line, and a row is one. Terse goes out at the end of a line, and on a terminal at
--- each mark. A list goes out when there is no room.
+-- threads both go out at each text that ends a line, as only the last of a row does. Terse goes out at the end of a line, and on a
+-- terminal at each mark. A list goes out when there is no room.
 abbrev pub policy_for : Arguments → ℕ → Bool → FlushPolicy
 policy_for args threads on_terminal = if args.list then WhenFull else policy_of (format_of args)
     (nat_lt 1 threads) on_terminal

@@ -3,7 +3,7 @@ use Rattle.std.specs.Prelude.{◌≡◌, ℕ, ◌<◌, ◌≤◌, ◌^◌, List,
 use Rattle.std.specs.Str.Parse.{IsNumeral, digits_value}
 use Rattle.mimic_trial.specs.declared.shard.Shard.{Shard}
 use Rattle.mimic_main.specs.declared.shard_variables.ShardFault.{ShardFault}
-use Rattle.mimic_main.specs.declared.shard_variables.ShardFault.TheVariants.{NoTotal, NoIndex, OddTotal, OddIndex}
+use Rattle.mimic_main.specs.declared.shard_variables.ShardFault.TheVariants.{NoTotal, NoIndex, InvalidTotal, InvalidIndex}
 
 -- the text is decimal digits alone, and they write this number, which fits in a `usize`
 abbrev pub IsNumber : List ℕ → ℕ → Type 0
@@ -14,8 +14,8 @@ abbrev pub IsNamedBy : List ℕ → List ℕ → Result Shard ShardFault → Typ
 IsNamedBy total index (Ok shard) = IsNumber total shard.count × IsNumber index shard.index
 IsNamedBy total index (Err NoTotal) = ⊥
 IsNamedBy total index (Err NoIndex) = ⊥
-IsNamedBy total index (Err OddTotal) = (count : ℕ) → IsNumber total count → count ≡ 0
-IsNamedBy total index (Err OddIndex) =
+IsNamedBy total index (Err InvalidTotal) = (count : ℕ) → IsNumber total count → count ≡ 0
+IsNamedBy total index (Err InvalidIndex) =
     (count : ℕ) × IsNumber total count × (0 < count) × ((n : ℕ) → IsNumber index n → count ≤ n)
 
 -- what the two variables give, each of them a text if it is set

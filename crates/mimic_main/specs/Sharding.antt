@@ -41,14 +41,14 @@ IsUnreadable (NoShard fault) = ⊥
 IsUnreadable (StatusFile path cause) = ⊥
 
 -- the pair of some variables has this fault
-abbrev pub HasOddPair : ShardError → Type 0
-HasOddPair error = (total : Option (List ℕ)) × (index : Option (List ℕ)) × (fault : ShardFault)
+abbrev pub HasPairFault : ShardError → Type 0
+HasPairFault error = (total : Option (List ℕ)) × (index : Option (List ℕ)) × (fault : ShardFault)
     × (error ≡ NoShard fault) × GivesShard total index (Err fault)
 
 -- so some variables were read: they ask this, or their pair has this fault, or one of them can't be read
 abbrev pub IsReadSharding : Result Sharding ShardError → Type 0
 IsReadSharding (Ok sharding) = (variables : Variables) × Asks variables sharding
-IsReadSharding (Err error) = IsUnreadable error ⊎ HasOddPair error
+IsReadSharding (Err error) = IsUnreadable error ⊎ HasPairFault error
 
 -- the items of the shard, and without one all
 abbrev pub items_for : {A : Type 0} → Option Shard → List A → List A

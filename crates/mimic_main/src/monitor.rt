@@ -1,25 +1,32 @@
 //! Prints which trials run for too long, while they do.
 ghost use Rattle.std.specs.Prelude.{◌≡◌, ◌≢◌, ◌*◌, ◌/◌, ◌-◌, ◌^◌, ◌≤◌, IfSome, IsNone, IsSome, None, Some, false, min, nat_lt, true};
 ghost use Rattle.std.specs.Duration.{as_nanos};
+ghost use Rattle.mimic_pool.specs.declared.waiting_trials.Schedule.TheVariants.{Queue, Shares};
 
 use crate::full_names::FullNames;
 use crate::output::BLOCK;
 use arrayvec::ArrayVec;
-use libtest_mimic::{Request, RunningTrials, Sink, Spawner, Task};
+use libtest_mimic::{Request, RunningTrials, Schedule, Sink, Spawner, Task};
 use mimic_printer::{Piece, Place, add_escaped, add_pieces};
 use std::alloc::{AllocError, Global};
 use std::io::Write;
 use std::rt::Clock;
 use std::sync::atomic::{AtomicBool, Ordering};
-use std::sync::{Arc, Wait};
+use std::sync::{Arc, Mutex, Wait};
 use std::thread;
 use std::thread::{JoinHandle, Parker};
 use std::time::Duration;
 
+// For how many milliseconds a run waits at its end for a notice that is being written, as to a full pipe that nobody reads.
+const LAST_WAIT: u64 = 100;
+
+// For how many milliseconds a run waits at its start if there is no thread left, before its workers are started.
+const FIRST_WAIT: u64 = 50;
+
 // A thread that prints a notice of each trial that runs for too long.
 pub(crate) struct Monitor {
     running: Arc<RunningTrials>,
-    end: Arc<End>,
+    ends: Arc<Ends>,
     thread: JoinHandle<()>,
 }
 
@@ -45,8 +52,8 @@ struct Notifier<E> {
 }
 
 impl Monitor {
-    // Starts the thread for a run of this request. `None` if no notices are asked for, if no trial runs, if the thread can't be started,
-    // or if there is no memory for it.
+    // Starts the thread for a run of this request. `None` if no notices are asked for, if no trial runs, if the thread can't be
+    // started beside the workers that the run needs, or if there is no memory for it.
     pub(crate) fn start<T: Spawner + 'static, R: Task, E: Write + Send + Drop + 'static>(
         rt: &T,
         alloc: Global,
@@ -68,7 +75,7 @@ impl Monitor {
             return None;
         }
         let running = Arc::new(alloc, RunningTrials::new(alloc, threads).ok()?).ok()?;
-        let end = Arc::new(alloc, End::new()).ok()?;
+        let ends = Arc::new(alloc, Ends::new()).ok()?;
         let looks = first_looks(alloc, threads).ok()?;
         let notifier = Notifier {
             program: String::from_str(alloc, program).ok()?,
@@ -77,14 +84,15 @@ impl Monitor {
             err,
         };
         let (other, watched) = (*rt, Arc::try_clone(&running).ok()?);
-        let awaited = Arc::try_clone(&end).ok()?;
-        let thread = thread::spawn(rt, move || {
-            watch_over(&other, &watched, &awaited, looks, notifier)
-        });
-        let thread = thread.ok()?;
+        let awaited = Arc::try_clone(&ends).ok()?;
+        let workers = needed_workers(request.threads(), request.schedule, threads);
+        let thread = start_beside(rt, alloc, workers, move || {
+            watch_over(&other, &watched, &awaited.of_run, looks, notifier);
+            awaited.of_thread.has_come();
+        })?;
         Some(Monitor {
             running,
-            end,
+            ends,
             thread,
         })
     }
@@ -94,19 +102,95 @@ impl Monitor {
         Arc::try_clone(&self.running).ok()
     }
 
-    // Ends the thread, once it has written the notice that it is writing.
+    // Ends the thread, once it has written the notice that it is writing. If that takes longer, it is let go, and ends with the
+    // program.
     pub(crate) fn end<T: Spawner>(self, rt: &T) {
         let Monitor {
             running: _,
-            end,
+            ends,
             thread,
         } = self;
-        end.has_come();
-        thread.join(rt);
+        ends.of_run.has_come();
+        if ends.of_thread.wait(rt, Duration::from_millis(LAST_WAIT)) {
+            thread.join(rt);
+        }
     }
 }
 
-// The end of a run, which the thread waits for.
+// How many workers a run on this number of threads can't do without, if it has no more than `most`: with one thread it has none,
+// from a queue one takes all trials, and of those that have shares it needs all.
+fn needed_workers(threads: usize, schedule: Schedule, most: usize) -> usize
+    ensures none { threads ≡ 1 → result ≡ 0 }
+    ensures queue { threads ≢ 1 → schedule ≡ Queue → result ≡ 1 }
+    ensures shares { threads ≢ 1 → schedule ≡ Shares → result ≡ most }
+{
+    match (threads, schedule) {
+        (1, _) => 0,
+        (_, Schedule::Queue) => 1,
+        (_, Schedule::Shares) => most,
+    }
+}
+
+// Starts the thread, unless it would take the place of one of this number of workers: as many threads, which do nothing, are in
+// these places until it is started.
+fn start_beside<T: Spawner + 'static, F: FnOnce() + Send + Drop + 'static>(
+    rt: &T,
+    alloc: Global,
+    workers: usize,
+    watch: F,
+) -> Option<JoinHandle<()>>
+    requires { F.pre watch }
+{
+    let gate = Arc::new(alloc, Mutex::new(())).ok()?;
+    let closed = gate.lock(rt);
+    let places = hold_places(rt, alloc, workers, &gate)?;
+    let thread = thread::spawn(rt, watch).ok();
+    drop(closed);
+    for place in places {
+        place.join(rt);
+    }
+    if thread.is_none() {
+        // The system may give a place back only some time after its thread was joined.
+        End::new().wait(rt, Duration::from_millis(FIRST_WAIT));
+    }
+    thread
+}
+
+// Starts this number of threads, which end once the gate is open. `None` if one of them can't be started.
+fn hold_places<T: Spawner + 'static>(
+    rt: &T,
+    alloc: Global,
+    count: usize,
+    gate: &Arc<Mutex<()>>,
+) -> Option<Vec<JoinHandle<()>>> {
+    let mut places = Vec::with_capacity(alloc, count).ok()?;
+    for _ in 0..count {
+        let (other, gate) = (*rt, Arc::try_clone(gate).ok()?);
+        let place = thread::spawn(rt, move || drop(gate.lock(&other)));
+        places.push(place.ok()?).ok()?;
+    }
+    Some(places)
+}
+
+// The ends that threads wait for.
+#[derive(Drop)]
+struct Ends {
+    // For this one the thread waits that looks at the run.
+    of_run: End,
+    // For this one the run waits.
+    of_thread: End,
+}
+
+impl Ends {
+    fn new() -> Ends {
+        Ends {
+            of_run: End::new(),
+            of_thread: End::new(),
+        }
+    }
+}
+
+// The end of a run or of a thread, for which another thread waits.
 #[derive(Drop)]
 struct End {
     is_here: AtomicBool,
@@ -128,7 +212,7 @@ impl End {
         self.is_here.load(Ordering::SeqCst)
     }
 
-    // The run has ended. Wakes the thread that waits.
+    // It has come. Wakes the thread that waits.
     fn has_come(&self) {
         self.is_here.store(true, Ordering::SeqCst);
         self.parker.unpark();

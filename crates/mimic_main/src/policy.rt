@@ -26,7 +26,8 @@ impl FlushPolicy {
     ///
     /// With one thread an announcement goes out before its trial runs, in one write with the row before it: a pretty report is
     /// flushed there, and in JSON it is each second line, since the title comes first. With more threads the title goes out
-    /// before a worker starts, and a row, which is one text then, in one write when its trial has ended.
+    /// before a worker starts, and a row in one write when its trial has ended: of its texts only the last ends a line. What the
+    /// buffer can't hold takes more than one write.
     ///
     /// Terse has no lines but the first and the last ones, and goes out when they end, and on a terminal mark by mark. A list
     /// goes out in blocks.

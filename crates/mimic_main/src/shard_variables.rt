@@ -18,10 +18,10 @@ pub enum ShardFault {
     NoIndex,
     /// The total is no number, or 0.
     #[error("TEST_TOTAL_SHARDS is not a number of shards")]
-    OddTotal,
+    InvalidTotal,
     /// The index is no number, or not below the total.
     #[error("TEST_SHARD_INDEX is not a number below TEST_TOTAL_SHARDS")]
-    OddIndex,
+    InvalidIndex,
 }
 
 /// Reads the pair of variables by which Bazel names a shard: `TEST_TOTAL_SHARDS` and `TEST_SHARD_INDEX`, which counts
@@ -47,12 +47,12 @@ pub fn shard_from_variables(
 fn named(total: &str, index: &str) -> Result<Shard, ShardFault>
     ensures { IsNamedBy total.now index.now result }
 {
-    let count = number(total).ok_or(ShardFault::OddTotal)?;
+    let count = number(total).ok_or(ShardFault::InvalidTotal)?;
     if count == 0 {
-        return Err(ShardFault::OddTotal);
+        return Err(ShardFault::InvalidTotal);
     }
-    let index = number(index).ok_or(ShardFault::OddIndex)?;
-    Shard::new(index, count).ok_or(ShardFault::OddIndex)
+    let index = number(index).ok_or(ShardFault::InvalidIndex)?;
+    Shard::new(index, count).ok_or(ShardFault::InvalidIndex)
 }
 
 // The number that decimal digits alone write. `parse` also takes a sign.

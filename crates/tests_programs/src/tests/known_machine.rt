@@ -46,7 +46,7 @@ impl Got {
 // What standard error has got, from whatever thread.
 #[derive(Drop)]
 pub(super) struct Printed {
-    bytes: Mutex<Vec<u8>>,
+    pub(super) bytes: Mutex<Vec<u8>>,
     pub(super) writes: AtomicUsize,
 }
 

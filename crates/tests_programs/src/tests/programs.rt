@@ -7,7 +7,7 @@ use libtest_mimic::pool::{Arrival, Untold};
 use libtest_mimic::{
     Arguments, Failed, FormatSetting, Outcome, RunError, Schedule, Task, Trial, WriteFault,
 };
-use mimic_main::{FlushPolicy, Program, StillClock};
+use mimic_main::{Program, StillClock};
 use mimic_testkit::{Fault, FaultPlace, FaultyWriter};
 use std::alloc::{AllocError, Global};
 use std::fmt::Debug;

@@ -11,7 +11,7 @@ use std::sync::atomic::Ordering;
 use std::test::Fail;
 use std::thread;
 use std::thread::yield_now;
-use std::time::Duration;
+use std::time::{Duration, Instant};
 
 // A trial that runs until this number of notices was printed, and then looks for more of them for some time.
 #[derive(Drop)]
@@ -332,6 +332,31 @@ fn prints_all_of_many_threads(rt: HostRuntime) -> Result<(), Fail> {
             .split(line)
             .all(|rest| rest.is_empty())
     );
+    Ok(())
+}
+
+// While nobody takes what is printed, the run waits for the thread that prints it only a little longer.
+#[test]
+fn ends_with_a_notice_that_nobody_reads(rt: HostRuntime) -> Result<(), Fail> {
+    let alloc = rt.alloc();
+    let streams = Streams::new(alloc)?;
+    let machine = known_machine(rt, alloc, NO_OPTIONS, &streams);
+    let runner = Sleeps {
+        machine: rt,
+        printed: Arc::try_clone(&streams.err)?,
+        awaited: 0,
+        millis: 200,
+    };
+    let tests = vec![in alloc; Trial::new(String::from_str(alloc, "slow")?, runner)]?;
+    let program = Program::new("program", 1).with_slow_limit(Some(Duration::from_millis(20)));
+    let taken = streams.err.bytes.lock(&rt);
+    let start = Instant::now(&rt)?;
+    let status = run_program_on(&machine, &program, tests);
+    let took = start.elapsed(&rt)?;
+    assert!(rt; taken.is_empty() && streams.err.writes.load(Ordering::SeqCst) == 0);
+    drop(taken);
+    assert!(rt; status == ExitCode::SUCCESS);
+    assert!(rt; took.as_millis() < 2000, "{took:?}");
     Ok(())
 }
 
