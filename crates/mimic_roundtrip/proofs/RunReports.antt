@@ -3,7 +3,7 @@ use Rattle.std.proofs.Common.{◌≡◌, ℕ, ◌-◌, ◌<◌, ◌^◌, List, [
 use Rattle.std.specs.Io.KnownBytes.{Appends}
 use Rattle.mimic_args.specs.declared.Arguments.{Arguments}
 use Rattle.mimic_trial.specs.declared.formats.FormatSetting.TheVariants.{Json}
-use Rattle.mimic_trial.specs.declared.outcome.conclusion.Conclusion.{Conclusion}
+use Rattle.mimic_trial.specs.declared.outcome.Conclusion.{Conclusion}
 use Rattle.libtest_mimic.specs.Stopwatch.{Watched}
 use Rattle.mimic_trial.specs.declared.trial.Trial.{Trial}
 use Rattle.mimic_trial.specs.Promise.{Gives}
@@ -68,4 +68,21 @@ module _ {R : Type 0} (gives : Gives R) where
           elapsed = report.elapsed;
           counts = report.counts;
         };
+      }
+
+  -- what a run reports by arguments that ask for JSON and for no list, it reports by these arguments otherwise too
+  pub as_given : (args asked : Arguments) (trials : List (Trial R)) (watch : Watched) (c : Conclusion) (report : Contents) → asked ≡ record args { list = false; quiet = false; format = Some Json }
+      → ReportsRun gives asked trials watch c report → ReportsRun gives args trials watch c report
+  as_given args asked trials watch c report is reports =
+      let run = subst (λ a. ReportsRun gives a trials watch c report) is reports in
+      record {
+        selected = run.selected;
+        selection = run.selection;
+        placed = run.placed;
+        in_order = run.in_order;
+        arranged = record { places = run.arranged.places; own = run.arranged.own };
+        rows = run.rows;
+        filtered_out = run.filtered_out;
+        elapsed = run.elapsed;
+        counts = run.counts;
       }

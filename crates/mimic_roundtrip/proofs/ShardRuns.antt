@@ -19,7 +19,7 @@ use Rattle.mimic_trial.specs.Shard.{shard_from, shard_of}
 use Rattle.std.specs.Prelude.{Err, IfOk, Ok, Result}
 use Rattle.libtest_mimic.specs.Stopwatch.{Watched}
 use Rattle.libtest_mimic.specs.declared.running.RunError.{RunError}
-use Rattle.mimic_trial.specs.declared.outcome.conclusion.Conclusion.{Conclusion}
+use Rattle.mimic_trial.specs.declared.outcome.Conclusion.{Conclusion}
 use Rattle.mimic_events.specs.Contents.{contents_read}
 use Rattle.mimic_events.specs.declared.report.Report.{Report}
 use Rattle.mimic_roundtrip.specs.Run.{ReportsRun}

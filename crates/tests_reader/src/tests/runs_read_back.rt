@@ -217,10 +217,8 @@ fn returns_the_report_of_a_run(rt: HostRuntime) -> Result<(), Fail> {
     let tests = Trial::of_cases(alloc, cases, move |number| {
         Failed::unless(alloc, number < 2, &"too large")
     })?;
-    let mut args = Arguments::new(alloc);
-    args.format = Some(FormatSetting::Json);
     let mut watch = Stopwatch::new(clock);
-    let (counts, report) = run_to_report(alloc, &args, tests, &mut watch)?;
+    let (counts, report) = run_to_report(alloc, Arguments::new(alloc), tests, &mut watch)?;
     assert!(rt; report.counts() == counts);
     assert!(rt; report.rows.len() == 2);
     Ok(())

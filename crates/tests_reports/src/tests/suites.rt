@@ -1,7 +1,7 @@
 //! The 17 trials of `harness`, run in shards by one thread and a clock that never moves.
 use super::joining::join;
 use super::reading::join_into;
-use libtest_mimic::{Arguments, FormatSetting, Stopwatch, Trial, run_here};
+use libtest_mimic::{Arguments, Stopwatch, Trial, run_here};
 use mimic_events::Report;
 use mimic_printer::Sink;
 use mimic_roundtrip::run_shard;
@@ -156,12 +156,10 @@ fn lists_each_trial_once(rt: HostRuntime) -> Result<(), Fail> {
 
 // The report of a run of a shard.
 fn report_of(alloc: Global, index: usize, count: usize) -> Result<Report, Fail> {
-    let mut args = Arguments::new(alloc);
-    args.format = Some(FormatSetting::Json);
     let shard = Shard::new(index, count).ok_or("no shard")?;
     let trials = known_trials(alloc, &MIXED_BAG)?;
     let mut watch = Stopwatch::new(TwoReadings::still());
-    let (_, report) = run_shard(alloc, &args, shard, trials, &mut watch)?;
+    let (_, report) = run_shard(alloc, Arguments::new(alloc), shard, trials, &mut watch)?;
     Ok(report)
 }
 

@@ -14,7 +14,7 @@ pub returns-clause-run : goal.returns-clause-run
 returns-clause-run g c = rw c.in_ok-trials.ensures.shard at c.run_to_report.ensures
 
 pub returns-clause-trials : goal.returns-clause-trials
-returns-clause-trials g c = shard_reports g.R.Task.gives c.args.args.now c.in_ok-trials.trials.items _ c.run_to_report.new.watch c.run_to_report.result c.in_ok-trials.ensures.shard c.run_to_report.ensures
+returns-clause-trials g c = shard_reports g.R.Task.gives c.args.args c.in_ok-trials.trials.items _ c.run_to_report.new.watch c.run_to_report.result c.in_ok-trials.ensures.shard c.run_to_report.ensures
 
 pub returns-clause-laws : goal.returns-clause-laws
 returns-clause-laws g c = shard_laws g.R.Task.gives
