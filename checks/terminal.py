@@ -83,10 +83,10 @@ def on_terminal(words, settings, given):
     return process.returncode, got.decode(), said.decode()
 
 
-def check_colours(settings, shown):
+def check_colours(settings, shown, *words):
     with open("sums", "w", encoding="utf-8") as file:
         file.write(SUMS)
-    found = on_terminal(["show", "sums"], settings, lambda *_: None)
+    found = on_terminal(["show", *words, "sums"], settings, lambda *_: None)
     assert found == (101, shown, ""), f"{found!r}"
 
 
@@ -126,6 +126,9 @@ def check_gone(count):
 def checks():
     for settings, shown in SETTINGS:
         yield f"reports show on a terminal with {settings}", lambda settings=settings, shown=shown: check_colours(settings, shown)
+    for when, shown in ("always", COLOURED), ("never", SHOWN):
+        check = lambda when=when, shown=shown: check_colours({"TERM": "xterm"}, shown, "--color", when)
+        yield f"reports show --color {when} on a terminal", check
     yield "reports watch on a terminal", check_live
     yield "reports watch on a terminal without escapes", check_dumb
     for count in range(17):

@@ -69,8 +69,11 @@ A link stays one, and the file that it leads to is written.
   $ reports expect known twice
   3 known failures; 0 failed; 0 passed; 0 with another message; 0 absent
 
-A file that isn't there is made.
+A file that isn't there is made, also without a line.
 
+  $ report 'ok a' >passed; reports expect --update empty passed; wc -c <empty; rm empty passed
+  0 known failures; 0 failed; 0 passed; 0 with another message; 0 absent
+  0
   $ reports expect --update made sums
   failed: 2 + 2: assertion `left == right` failed
   0 known failures; 1 failed; 0 passed; 0 with another message; 0 absent
@@ -82,7 +85,7 @@ A file that isn't there is made.
   2> reports: no/made: No such file or directory (os error 2)
   [1]
   $ mkdir folder; reports expect --update folder sums
-  2> reports: folder: Is a directory (os error 21)
+  2> reports: folder: not a regular file
   [1]
   $ ln -s nowhere dangling; reports expect --update dangling sums
   failed: 2 + 2: assertion `left == right` failed
@@ -90,8 +93,6 @@ A file that isn't there is made.
   2> reports: dangling: No such file or directory (os error 2)
   [1]
   $ reports expect --update /dev/null sums
-  failed: 2 + 2: assertion `left == right` failed
-  0 known failures; 1 failed; 0 passed; 0 with another message; 0 absent
   2> reports: /dev/null: not a regular file
   [1]
   $ reports expect --update - sums
@@ -107,6 +108,27 @@ A file that isn't there is made.
   made
   sums
   twice
+
+If there is no room for the new file, the old one stays, and nothing is beside it.
+
+  $ mkdir full; cp sums full; { printf '#%.0s' {1..5000}; echo; } >full/known; cp full/known before; cd full
+  $ (trap '' XFSZ; ulimit -f 4; exec reports expect --update known sums)
+  failed: 2 + 2: assertion `left == right` failed
+  0 known failures; 1 failed; 0 passed; 0 with another message; 0 absent
+  2> reports: known: File too large (os error 27)
+  [1]
+  $ cmp known ../before; ls
+  known
+  sums
+  $ (trap '' XFSZ; ulimit -f 0; exec reports expect --update made sums)
+  failed: 2 + 2: assertion `left == right` failed
+  0 known failures; 1 failed; 0 passed; 0 with another message; 0 absent
+  2> reports: made: File too large (os error 27)
+  [1]
+  $ ls
+  known
+  sums
+  $ cd ..
 
 How files change. The second update changes nothing, and by the new file nothing of the same reports is unexpected.
 
@@ -170,3 +192,15 @@ What passed goes. With `--lax` it may pass, and stays, but what is absent goes.
   { "type": "test", "name": "a", "event": "failed" }
   $ failures c 'a: z' >known; update --lax known x
   { "type": "test", "name": "a", "event": "failed", "stdout": "Error: \"x\"\n" }
+
+What can't be replaced is refused before it is read, and a first line without an end while it is. The file's name may be as long as
+names can be.
+
+  $ mkfifo pipe; reports expect --update pipe sums
+  2> reports: pipe: not a regular file
+  [1]
+  $ head -c 1048577 /dev/zero | tr '\0' x >long; reports expect --update long sums
+  2> reports: long: its first line is too long for a known failure
+  [1]
+  $ name=$(printf 'k%.0s' {1..255}); : >$name; reports expect --update $name sums >/dev/null; wc -l <$name
+  1

@@ -86,3 +86,9 @@ Names that give no order.
   $ reports join --by-name --cut --shards 2 - s0 <s0
   2> reports: --by-name can't order standard input, which has no name
   [2]
+
+Reports that can't be those of shards in this order.
+
+  $ report 'ok a' >t0; report --out 1 'ok b' >t1; reports join --by-name --shards 2 t1 t0
+  2> reports: t1: its number of trials doesn't fit those of the reports before it; reports are taken in the order of the numbers in their files' names
+  [1]

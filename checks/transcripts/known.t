@@ -31,6 +31,10 @@ Of a report that is cut or absent it prints the failures that there are.
   { "type": "test", "name": "2 + 2", "event": "failed", "stdout": "Error: \"assertion `left == right` failed\n  left: 4\n right: 5\"\n" }
   2> reports: cut: the report is cut
   [1]
+  $ reports known sums cut | wc -l
+  2
+  2> reports: cut: the report is cut
+  [1]
   $ head -n 6 sums >killed
   $ reports known killed
   { "type": "test", "name": "2 + 2", "event": "failed", "stdout": "Error: \"assertion `left == right` failed\n  left: 4\n right: 5\"\n" }

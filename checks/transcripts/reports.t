@@ -68,3 +68,18 @@ A path in an error shows no control characters, so it can't act on a terminal or
   $ example_sums --logfile "$odd/log"
   2> example_sums: cannot create the logfile no\u{1b}[31m\u{a}such\u{9b}\u{5c}u{7}/log: No such file or directory (os error 2)
   [1]
+
+It has no other line end either, and is whole if it is longer than a block.
+
+  $ reports show $'a\xe2\x80\xa8b\xe2\x80\xa9c'
+  2> reports: a\u{2028}b\u{2029}c: No such file or directory (os error 2)
+  [1]
+  $ example_files $'a\xe2\x80\xa8b\xe2\x80\xa9c'
+  2> example_files: cannot read the folder a\u{2028}b\u{2029}c: No such file or directory (os error 2)
+  [1]
+  $ long=$(printf 'x%.0s' {1..5000}); reports show $long 2>&1 | sed 's/x\{5000\}/5000 x/'
+  reports: 5000 x: File name too long (os error 36)
+  [1]
+  $ example_files $long 2>&1 | sed 's/x\{5000\}/5000 x/'
+  example_files: cannot read the folder 5000 x: File name too long (os error 36)
+  [1]

@@ -156,6 +156,10 @@ Of a report that is cut, wrong or absent, the trials count that had ended.
   0.000  [k] x
   2> reports: nowhere: No such file or directory (os error 2)
   [1]
+  $ reports slowest second nowhere
+  0.000  [k] x
+  2> reports: nowhere: No such file or directory (os error 2)
+  [1]
   $ begun 3 'ok a <1>' 'running b' | reports slowest -
   1.000  a
   2> reports: -: the report is cut

@@ -13,6 +13,9 @@ use std::io::{Error, ErrorKind, Read, Write};
 use std::path::{Path, PathBuf};
 use std::{fs, io, process};
 
+// Why a file can't be replaced.
+const NOT_REGULAR: &str = "not a regular file";
+
 // Prints what is unexpected, or why that can't be judged.
 pub(crate) fn run(rt: &HostRuntime, alloc: Global, expect: &Expect) -> u8 {
     let file = expect.known.as_str();
@@ -37,10 +40,15 @@ pub(crate) fn run(rt: &HostRuntime, alloc: Global, expect: &Expect) -> u8 {
     }
 }
 
-// Returns the text of the file of known failures. One that is to be brought up to date is empty if it isn't there.
+// Returns the text of the file of known failures. One that is to be brought up to date is empty if it isn't there, and refused if it
+// can't be replaced.
 fn known_text(rt: &HostRuntime, alloc: Global, expect: &Expect) -> io::Result<Vec<u8>> {
+    let file = expect.known.as_str();
+    if expect.updates && fs::metadata(rt, file).is_ok_and(|metadata| !metadata.is_file()) {
+        return Err(Error::new(ErrorKind::InvalidInput, NOT_REGULAR));
+    }
     let mut text = Vec::new(alloc);
-    match Input::text(rt, expect.known.as_str()).read_to_end(&mut text) {
+    match Input::known(rt, file).read_to_end(&mut text) {
         Err(error) if !expect.updates || error.kind() != ErrorKind::NotFound => Err(error),
         _ => Ok(text),
     }
@@ -158,21 +166,17 @@ fn replace(rt: &HostRuntime, alloc: Global, file: &str, old: &[u8], new: &[u8]) 
     let target = target_of(rt, alloc, file)?;
     let permissions = match fs::metadata(rt, target.as_path()) {
         Ok(metadata) if !metadata.is_file() => {
-            return Err(Error::new(ErrorKind::InvalidInput, "not a regular file"));
+            return Err(Error::new(ErrorKind::InvalidInput, NOT_REGULAR));
         }
         Ok(_) if old == new => return Ok(()),
         Ok(metadata) => Some(metadata.permissions()),
         Err(error) if error.kind() == ErrorKind::NotFound => None,
         Err(error) => return Err(error),
     };
-    let path = format!(in alloc;
-        "{}.{}.new",
-        target.as_path().as_str(),
-        process::id(rt.process())
-    )?;
+    let path = path_beside(rt, alloc, target.as_path().as_str())?;
     let beside = match File::create_new(rt, &path) {
         Err(error) if error.kind() == ErrorKind::AlreadyExists => {
-            let cause = "a new file beside it, with .new behind its name, is there already";
+            let cause = "the new file beside it, .reports.PROCESS.new, is there already";
             return Err(Error::new(ErrorKind::AlreadyExists, cause));
         }
         created => created?,
@@ -182,6 +186,15 @@ fn replace(rt: &HostRuntime, alloc: Global, file: &str, old: &[u8], new: &[u8]) 
         let _ = fs::remove_file(rt, &path);
     }
     replaced
+}
+
+// Returns the path of a new file in the folder of the target. Its name is short, so the target's may be as long as names can be.
+fn path_beside(rt: &HostRuntime, alloc: Global, target: &str) -> Result<String, AllocError> {
+    let id = process::id(rt.process());
+    match target.rsplit_once('/') {
+        Some((folder, _)) => format!(in alloc; "{folder}/.reports.{id}.new"),
+        None => format!(in alloc; ".reports.{id}.new"),
+    }
 }
 
 // Returns the path of the file that a path leads to through symbolic links, or the path itself if nothing is there. A link that leads

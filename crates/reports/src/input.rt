@@ -11,8 +11,11 @@ pub(crate) const STANDARD: &str = "-";
 // The name of the program whose report is read from standard input.
 const NAMELESS: &str = "report";
 
-// How many bytes are read at most of a first line that doesn't end. A report's title has fewer than 100.
+// How many bytes a first line has at most. A report's title has fewer than 100.
 const LONGEST_TITLE: usize = 4096;
+
+// The same of known failures, whose lines have messages.
+const LONGEST_KNOWN: usize = 1 << 20;
 
 // How many bytes a report may have that is no regular file, if a call keeps its rows.
 const KEPT_BYTES: u64 = 256 << 20;
@@ -43,37 +46,44 @@ impl<'a> Source<'a> {
     }
 }
 
-/// How much was read of the first line of what is to be a report. Readers keep a line until it ends.
+/// How much was read of the first line of an input. Readers keep a line until it ends.
 #[derive(Clone, Copy, Debug)]
 pub(crate) enum FirstLine {
-    /// It has not ended, and has this many bytes so far.
-    Open(usize),
+    /// It has not ended, and may have this many more bytes, else the fault is this.
+    Open { left: usize, fault: &'static str },
     Ended,
 }
 
 impl FirstLine {
-    /// That of an input of which nothing was read.
-    pub(crate) fn new() -> FirstLine {
-        FirstLine::Open(0)
+    /// That of a report of which nothing was read.
+    pub(crate) fn of_report() -> FirstLine {
+        FirstLine::Open {
+            left: LONGEST_TITLE,
+            fault: "its first line is too long for a report",
+        }
     }
 
-    /// Takes the next piece of the input. It is refused if the line is longer than that of any report, and hasn't ended.
+    /// That of known failures of which nothing was read.
+    fn of_known() -> FirstLine {
+        FirstLine::Open {
+            left: LONGEST_KNOWN,
+            fault: "its first line is too long for a known failure",
+        }
+    }
+
+    /// Takes the next piece of the input. It is refused if the line is too long.
     pub(crate) fn read_on(&mut self, piece: &[u8]) -> io::Result<()> {
-        let FirstLine::Open(before) = *self else {
+        let FirstLine::Open { left, fault } = *self else {
             return Ok(());
         };
-        if piece.contains(&b'\n') {
-            *self = FirstLine::Ended;
-            return Ok(());
-        }
-        let count = before.saturating_add(piece.len());
-        *self = FirstLine::Open(count);
-        if count > LONGEST_TITLE {
-            return Err(io::Error::new(
-                ErrorKind::InvalidData,
-                "its first line is too long for a report",
-            ));
-        }
+        let end = piece.iter().position(|byte| *byte == b'\n');
+        let Some(left) = left.checked_sub(end.unwrap_or(piece.len())) else {
+            return Err(io::Error::new(ErrorKind::InvalidData, fault));
+        };
+        *self = match end {
+            Some(_) => FirstLine::Ended,
+            None => FirstLine::Open { left, fault },
+        };
         Ok(())
     }
 }
@@ -84,7 +94,7 @@ impl<'a> Input<'a> {
         Input {
             source: Source::new(rt, path),
             left: u64::MAX,
-            first_line: FirstLine::new(),
+            first_line: FirstLine::of_report(),
         }
     }
 
@@ -98,12 +108,12 @@ impl<'a> Input<'a> {
         input
     }
 
-    /// The text of this name, which need be no report.
-    pub(crate) fn text(rt: &'a HostRuntime, path: &'a str) -> Input<'a> {
+    /// The known failures of this name.
+    pub(crate) fn known(rt: &'a HostRuntime, path: &'a str) -> Input<'a> {
         Input {
             source: Source::new(rt, path),
             left: u64::MAX,
-            first_line: FirstLine::Ended,
+            first_line: FirstLine::of_known(),
         }
     }
 
@@ -117,7 +127,7 @@ impl<'a> Input<'a> {
         Ok(Input {
             source,
             left: u64::MAX,
-            first_line: FirstLine::new(),
+            first_line: FirstLine::of_report(),
         })
     }
 

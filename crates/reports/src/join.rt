@@ -49,7 +49,7 @@ fn refuse_fault(rt: &HostRuntime, alloc: Global, join: &Join, fault: &JoinFault)
     if let JoinFault::Write(fault) = fault {
         return refuse_write(rt, fault);
     }
-    let (named, hint) = (fault.with_names(&join.files), hint_for(fault));
+    let (named, hint) = (fault.with_names(&join.files), hint_for(fault, join.by_name));
     refuse_all(rt, &format_args!("{named}{hint}"));
     if let JoinFault::Refused(Refusal::Number { .. }) = fault
         && join.by_name
@@ -61,8 +61,11 @@ fn refuse_fault(rt: &HostRuntime, alloc: Global, join: &Join, fault: &JoinFault)
 }
 
 // What a user may have missed. Empty if nothing comes to mind.
-fn hint_for(fault: &JoinFault) -> &'static str {
+fn hint_for(fault: &JoinFault, by_name: bool) -> &'static str {
     match fault {
+        JoinFault::Refused(Refusal::Uneven { .. }) if by_name => {
+            "; reports are taken in the order of the numbers in their files' names"
+        }
         JoinFault::Refused(Refusal::Uneven { .. }) => {
             "; reports are taken in the order of their shards: 0, 1, 2, .., 10, 11; --by-name sorts them"
         }

@@ -85,7 +85,7 @@ impl Pipe {
 /// input that says that it would block, or that it timed out, is asked again after a pause.
 pub(crate) fn pump<R: Wait + Clock, I: Read>(rt: &R, input: &mut I, pipe: &Pipe) {
     let mut piece = [0; PIECE];
-    let mut first_line = FirstLine::new();
+    let mut first_line = FirstLine::of_report();
     let mut fault = None;
     for _ in 0..u64::MAX {
         match input.read(&mut piece) {
