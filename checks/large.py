@@ -6,11 +6,16 @@
 A program that says of these that there is no memory would meet its contract.
 """
 
+import fcntl
 import os
 import pathlib
 import resource
+import select
 import shlex
 import subprocess
+import termios
+import threading
+import time
 
 import runner
 
@@ -19,6 +24,8 @@ MOST_BYTES = 32 << 20
 # A second thread's stack is 8 MB, and what an allocator reserves for it 64 MB more.
 MOST_OF_TWO = 128 << 20
 MANY = 110_000
+# More than 16 bits count.
+CASES = 66_000
 
 
 def title(count):
@@ -50,6 +57,9 @@ LARGE = [
     ("reports expect /dev/null many", 101, f"failed: {MANY - 1}\n", 1),
     ("reports compare many many", 0, f" 1 still failing; {MANY - 1} unchanged; ", 1),
     ("example_sums --format json --exact '1 + 1' " + 999 * "x ", 0, '"event": "ok" }', 1),
+    ("example_files cases -- --list", 0, ": test\n", CASES),
+    ("example_files pair -- --format json", 101, f"pair.out: line {CASES} differs", 1),
+    ("conformance normalization lines -- --list", 0, ": test\n", CASES),
 ]
 # Calls of reports that read standard input as a report, of which the last one stands for itself.
 READING = ["show -", "show --failed -", "junit -", "known -", "expect /dev/null -", "compare - none", "compare none -"]
@@ -78,6 +88,50 @@ def check_endless_line(words):
     place = "" if words == "watch" else "-: "
     status, _, said = runner.ended(["reports", *words.split()], input=100_000_000 * "\0", preexec_fn=limited(MOST_OF_TWO))
     assert (status, said) == (1, f"reports: {place}its first line is too long for a report\n"), f"{status}, {said!r}"
+
+
+def check_endless_pieces(words):
+    """The same, if it comes in small pieces, each after the one before was read."""
+    place = "" if words == "watch" else "-: "
+    streams = {"stdin": subprocess.PIPE, "stdout": subprocess.DEVNULL, "stderr": subprocess.PIPE, "bufsize": 0}
+    with subprocess.Popen([runner.program("reports"), *words.split()], **streams) as process:
+        try:
+            for _ in range(60):
+                process.stdin.write(bytes(100))
+                wait_until_read(process.stdin)
+            process.stdin.close()
+        except BrokenPipeError:
+            pass
+        said = process.stderr.read().decode()
+        process.wait(timeout=60)
+    wanted = 1, f"reports: {place}its first line is too long for a report\n"
+    assert (process.returncode, said) == wanted, f"{process.returncode}, {said!r}"
+
+
+def wait_until_read(pipe):
+    """Waits until nothing is left in the pipe, or nobody reads it."""
+    left, reads = bytearray(4), select.poll()
+    reads.register(pipe, 0)
+    for _ in range(1000):
+        fcntl.ioctl(pipe, termios.FIONREAD, left)
+        if not any(left) or reads.poll(0):
+            return
+        time.sleep(0.01)
+
+
+def check_late_rest():
+    """Behind a wrong line `watch` reads what comes later, too, so that no pipe is closed on the harness."""
+    streams = {"stdin": subprocess.PIPE, "stdout": subprocess.DEVNULL, "stderr": subprocess.DEVNULL, "bufsize": 0}
+    with subprocess.Popen([runner.program("reports"), "watch"], **streams) as process:
+        watchdog = threading.Timer(60, process.kill)
+        watchdog.start()
+        process.stdin.write(b"what\n")
+        time.sleep(0.5)
+        process.stdin.write(3_000_000 * b"\n")
+        process.stdin.close()
+        process.wait()
+        watchdog.cancel()
+    assert process.returncode == 1, f"{process.returncode}"
 
 
 def check_stops_reading(words):
@@ -114,20 +168,36 @@ def check_long_input():
     os.remove("long")
 
 
+def write_cases():
+    """Makes a folder of many cases, a case of many lines, of which the last is wrong, and a suite of many lines."""
+    for folder in ("cases", "pair"):
+        os.mkdir(folder)
+    for place in range(CASES):
+        pathlib.Path("cases", f"{place}.in").touch()
+    lines = (CASES - 1) * "A\n"
+    pathlib.Path("pair", "pair.in").write_text(lines + "b\n", encoding="utf-8")
+    pathlib.Path("pair", "pair.out").write_text(lines + "A\n", encoding="utf-8")
+    pathlib.Path("lines").write_text(CASES * "0041;0041;0041;0041;0041; # A\n", encoding="utf-8")
+
+
 def checks():
     last = MANY - 1
     trials = [(place, ('"failed"' if place == last else '"ok"') + ', "exec_time": 1') for place in range(MANY)]
     pathlib.Path("many").write_text(report(trials), encoding="utf-8")
     pathlib.Path("none").write_text(report([]), encoding="utf-8")
+    write_cases()
     for line, *rest in LARGE:
         yield line[:60], lambda line=line, rest=rest: check_large(line, *rest)
     for name, text in NO_REPORTS.items():
         yield f"readreport of {name}", lambda text=text: check_no_report(text)
     for words in READING:
         yield f"reports {words} of a first line without an end", lambda words=words: check_endless_line(words)
+    for words in ("show -", "watch"):
+        yield f"reports {words} of such a line in pieces", lambda words=words: check_endless_pieces(words)
+    yield "reports watch of what comes late behind a wrong line", check_late_rest
     for words in READING[:-1]:
         yield f"reports {words} behind a wrong line", lambda words=words: check_stops_reading(words)
     yield "reports of a long report", check_long_input
 
 
-runner.run(["bench_suite", "example_sums", "readreport", "reports"], checks())
+runner.run(["bench_suite", "conformance", "example_files", "example_sums", "readreport", "reports"], checks())

@@ -133,6 +133,23 @@
   2> 
   2> For more information, try '--help'.
   [2]
+  $ example_tidy tidy --width 18446744073709551616
+  2> error: invalid value '18446744073709551616' for '--width <N>': number too large to fit in target type
+  2> 
+  2> For more information, try '--help'.
+  [2]
+  $ example_tidy tidy --width 1 --width 2
+  2> error: the argument '--width <N>' cannot be used multiple times
+  2> 
+  2> Usage: example_tidy [OPTIONS] <DIR> [FILTER]...
+  2> 
+  2> For more information, try '--help'.
+  [2]
+  $ run tidy --width 18446744073709551615 --exact '[k] d' | grep -c '"event": "ok" }'
+  1
+  $ run tidy --width=0 --exact b | grep -o 'line . has . characters'
+  line 1 has 1 characters
+  [101]
   $ example_tidy --help
   Usage: example_tidy [OPTIONS] <DIR> [FILTER]...
   

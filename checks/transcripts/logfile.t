@@ -15,7 +15,22 @@ Files that can't be made, and that take nothing. `example_sums` prints the cause
   $ harness --logfile /nowhere/to/be/found
   2> harness: cannot create the logfile
   [1]
+  $ harness --list --logfile /nowhere/to/be/found
+  2> harness: cannot create the logfile
+  [1]
+  $ harness zebra --logfile /nowhere/to/be/found
+  2> harness: cannot create the logfile
+  [1]
+  $ harness zebra --logfile /dev/full
+  2> harness: cannot write the report
+  [1]
+  $ harness --list zebra --logfile /nowhere/to/be/found
+  2> harness: cannot create the logfile
+  [1]
   $ harness --logfile /dev/full
+  2> harness: cannot write the report
+  [1]
+  $ harness --list --logfile /dev/full
   2> harness: cannot write the report
   [1]
   $ example_sums >/dev/full

@@ -20,7 +20,7 @@ pub(crate) enum SuiteError {
     #[error("{path}: line {number}: {error}")]
     Line {
         path: String,
-        number: u64,
+        number: usize,
         error: LineError,
     },
     #[error("{0}: it isn't a list")]

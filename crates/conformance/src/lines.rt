@@ -8,7 +8,7 @@ use std::alloc::{AllocError, Global};
 #[derive(Clone, Copy)]
 pub(crate) struct CaseLine<'a> {
     /// Counted from 1.
-    number: u64,
+    number: usize,
     /// What is before the comment, without blanks around it.
     pub(crate) text: &'a str,
     comment: &'a str,
@@ -17,12 +17,12 @@ pub(crate) struct CaseLine<'a> {
 /// The lines that hold cases: not those of comments, nor those that begin with `@` and name a part of the file.
 pub(crate) fn case_lines(alloc: Global, file: &str) -> Result<Vec<CaseLine<'_>>, AllocError> {
     let mut lines = Vec::new(alloc);
-    for (number, line) in (1..u64::MAX).zip(file.lines()) {
+    for (index, line) in file.lines().enumerate() {
         let (text, comment) = line.split_once('#').unwrap_or((line, ""));
         let (text, comment) = (text.trim(), comment.trim());
         if !text.is_empty() && !text.starts_with('@') {
             lines.push(CaseLine {
-                number,
+                number: index + 1,
                 text,
                 comment,
             })?;

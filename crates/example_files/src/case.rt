@@ -87,22 +87,24 @@ struct Side<'a>(Option<&'a str>);
 
 // Line ends count as well: a text whose last line has none differs from one whose last line has one.
 fn first_difference<'a>(expected: &'a str, answered: &'a str) -> Option<Difference<'a>> {
-    let mut expected = expected.split_inclusive('\n');
     let mut answered = answered.split_inclusive('\n');
-    for number in 1..u64::MAX {
-        match (expected.next(), answered.next()) {
-            (None, None) => break,
-            (expected, answered) if expected != answered => {
-                return Some(Difference {
-                    number,
-                    expected: Side(expected),
-                    answered: Side(answered),
-                });
-            }
-            _ => {}
+    let mut number = 1_u64;
+    for line in expected.split_inclusive('\n') {
+        let answer = answered.next();
+        if answer != Some(line) {
+            return Some(Difference {
+                number,
+                expected: Side(Some(line)),
+                answered: Side(answer),
+            });
         }
+        number = number.saturating_add(1);
     }
-    None
+    answered.next().map(|line| Difference {
+        number,
+        expected: Side(None),
+        answered: Side(Some(line)),
+    })
 }
 
 impl fmt::Display for Difference<'_> {

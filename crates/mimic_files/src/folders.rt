@@ -27,6 +27,9 @@ pub enum FolderError {
     /// A folder, or an entry of it, can't be read. The error says why, also if there was no memory for it.
     #[error("cannot read the folder {path}: {error}")]
     Unreadable { path: String, error: io::Error },
+    /// There are 2^64 - 1 cases and folders, or more.
+    #[error("too many cases and folders")]
+    TooMany,
 }
 
 impl From<AllocError> for FolderError {
@@ -79,10 +82,10 @@ pub fn cases_below<
         match left.pop() {
             Some(Entry::Case(found)) => cases.push(found)?,
             Some(Entry::Folder(folder)) => left.append(&mut entries(rt, folder, case_of)?)?,
-            None => break,
+            None => return Ok(cases),
         }
     }
-    Ok(cases)
+    Err(FolderError::TooMany)
 }
 
 // The folders, the first of them last.
