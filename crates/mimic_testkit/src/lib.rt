@@ -1,5 +1,5 @@
-//! What tests share: a writer that fails when a test wants it to, clocks whose readings are known, and the 17 trials of
-//! `harness`. No library lists this crate.
+//! What tests share: a writer that fails when a test wants it to, clocks whose readings are known, the 17 trials of
+//! `harness`, and a report. No library lists this crate.
 //!
 //! ```rust
 //! use mimic_testkit::{Fault, FaultPlace, FaultyWriter};
@@ -18,7 +18,9 @@
 mod clocks;
 mod faulty_writer;
 mod mixed_bag;
+mod two_tests;
 
 pub use clocks::{KnownReadings, RaisedClock, TwoReadings};
 pub use faulty_writer::{Fault, FaultPlace, FaultyWriter};
 pub use mixed_bag::{Answer, Entry, Known, MIXED_BAG, benchmark_answer, known_trials, test_answer};
+pub use two_tests::TWO_TESTS_JSON;

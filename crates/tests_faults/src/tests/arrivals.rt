@@ -7,7 +7,9 @@ ghost use Rattle.mimic_pool.specs.declared.share.Assigned.{Assigned};
 use super::runs::SCHEDULES;
 use libtest_mimic::pool::{Desk, Reports, Started, WaitingTrials, gather_rows, start_workers};
 use libtest_mimic::printer::Printer;
-use libtest_mimic::{FormatSetting, Outcome, RunError, Schedule, Sink, Spawner, Task, TestInfo};
+use libtest_mimic::{
+    Failed, FormatSetting, Outcome, RunError, Schedule, Sink, Spawner, Task, TestInfo,
+};
 use mimic_events::Feed;
 use mimic_testkit::{Fault, FaultPlace, FaultyWriter, Known};
 use std::alloc::{AllocError, Global};
@@ -145,13 +147,14 @@ fn names_the_least_place_that_differs(rt: HostRuntime) -> Result<(), Fail> {
     Ok(())
 }
 
-// Passes after some milliseconds, and once a number of rows were taken.
+// Passes or fails after some milliseconds, and once a number of rows were taken.
 #[derive(Drop)]
 struct Waits<M> {
     machine: M,
     millis: u64,
     taken: Arc<AtomicU64>,
     awaited: u64,
+    fails: bool,
 }
 
 impl<M: Clock + Drop> Task for Waits<M> {
@@ -163,12 +166,16 @@ impl<M: Clock + Drop> Task for Waits<M> {
             }
             thread::sleep(&self.machine, Duration::from_millis(1));
         }
-        Outcome::Passed
+        if self.fails {
+            Outcome::Failed(Failed::without_message())
+        } else {
+            Outcome::Passed
+        }
     }
 }
 
-// How many milliseconds each of four tasks waits, and how many rows it awaits then.
-static WAITS: [(u64, u64); 4] = [(60, 0), (30, 0), (0, 0), (0, 3)];
+// How many milliseconds each of four tasks waits, how many rows it awaits then, and whether it fails.
+static WAITS: [(u64, u64, bool); 4] = [(60, 0, true), (30, 0, false), (0, 0, false), (0, 3, false)];
 
 // The task at the place.
 fn waiting_at<M: Clock + Drop>(
@@ -176,12 +183,13 @@ fn waiting_at<M: Clock + Drop>(
     place: usize,
     taken: &Arc<AtomicU64>,
 ) -> Result<Waits<M>, AllocError> {
-    let (millis, awaited) = WAITS.get(place).copied().unwrap_or((0, 0));
+    let (millis, awaited, fails) = WAITS.get(place).copied().unwrap_or((0, 0, false));
     Ok(Waits {
         machine,
         millis,
         taken: Arc::try_clone(taken)?,
         awaited,
+        fails,
     })
 }
 

@@ -1,7 +1,7 @@
 //! Memory refused to workers. `.ci/run` refuses each request in turn, and looks for the errors that these tests
 //! return; if nothing is refused, each run is whole.
 use super::in_all_orders;
-use super::runs::{Left, SCHEDULES, Workers, asking, becoming, roomy, run_by, run_in_workers};
+use super::runs::{Left, SCHEDULES, asking, becoming, roomy, run_by};
 use super::times::{read_back, timed};
 use libtest_mimic::{FormatSetting, Outcome, RunError, Schedule, Spawner, Task, Trial};
 use mimic_testkit::FaultyWriter;
@@ -238,9 +238,8 @@ fn times_what_workers_leave(rt: HostRuntime) -> Result<(), Fail> {
         known: Arc::try_clone(&known)?,
         bytes: Vec::with_capacity(alloc, 2000)?,
     };
-    let (args, schedule) = (timed(alloc, Some(2)), Schedule::Queue);
-    let workers = Workers { schedule, count: 2 };
-    let left = run_in_workers(&rt, alloc, &args, tests, writer, workers);
+    let args = timed(alloc, Some(2));
+    let left = run_by(&rt, alloc, &args, tests, writer, Schedule::Queue);
     left.answer?;
     let report = read_back(alloc, &left.writer.bytes)?;
     assert!(rt; report.rows.len() == 8);

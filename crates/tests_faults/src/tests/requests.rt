@@ -35,74 +35,52 @@ static LIST: &[u8] = b"test_a: test\ntest_b: test\n";
 static NONE_SELECTED: &[u8] =
     b"\nrunning 0 tests\n\ntest result: ok. 0 passed; 0 failed; 0 ignored; 0 measured; 2 filtered out; finished in 0.00s\n\n";
 
-// A list by this number of threads, or by the calling thread, is whole.
-fn check_list<T: Spawner + Abort + 'static>(
-    rt: &T,
-    alloc: Global,
-    threads: Option<usize>,
-    schedule: Schedule,
-) -> Result<(), Fail> {
-    let Handed {
-        mut args,
-        tests,
-        writer,
-    } = hand_in(alloc, threads, "none")?;
-    args.list = true;
-    let left = run_by(rt, alloc, &args, tests, writer, schedule);
-    assert!(rt; left.is_stopped_by(None) && left.writer.bytes.as_slice() == LIST);
-    Ok(())
-}
+// A number of threads, to which trials come by the schedule, or the calling thread.
+const WAYS: [(Option<usize>, Schedule); 3] = [
+    (None, Schedule::Queue),
+    (Some(4), Schedule::Shares),
+    (Some(4), Schedule::Queue),
+];
 
-// And so is a run of no selected trial.
-fn check_none<T: Spawner + Abort + 'static>(
+// A list or a run that skips the names with the word writes this text, whoever runs it.
+fn check<T: Spawner + Abort + 'static>(
     rt: &T,
     alloc: Global,
-    threads: Option<usize>,
-    schedule: Schedule,
+    skipped: &str,
+    is_list: bool,
+    text: &[u8],
 ) -> Result<(), Fail> {
-    let Handed {
-        args,
-        tests,
-        writer,
-    } = hand_in(alloc, threads, "test")?;
-    let left = run_by(rt, alloc, &args, tests, writer, schedule);
-    assert!(rt; left.is_stopped_by(None) && left.writer.bytes.as_slice() == NONE_SELECTED);
+    for (threads, schedule) in WAYS {
+        let Handed {
+            mut args,
+            tests,
+            writer,
+        } = hand_in(alloc, threads, skipped)?;
+        args.list = is_list;
+        let left = run_by(rt, alloc, &args, tests, writer, schedule);
+        assert!(rt;
+            left.is_stopped_by(None) && left.writer.bytes.as_slice() == text,
+            "{threads:?} {schedule:?}"
+        );
+    }
     Ok(())
 }
 
 #[test]
 fn makes_what_is_handed_in(rt: HostRuntime) -> Result<(), Fail> {
-    let handed = hand_in(rt.alloc(), Some(4), "none")?;
-    assert!(rt; handed.tests.len() == 2 && handed.writer.bytes.is_empty());
+    for (threads, _) in WAYS {
+        let handed = hand_in(rt.alloc(), threads, "none")?;
+        assert!(rt; handed.tests.len() == 2 && handed.writer.bytes.is_empty());
+    }
     Ok(())
 }
 
 #[test]
-fn lists_in_place(rt: HostRuntime) -> Result<(), Fail> {
-    check_list(&rt, rt.alloc(), None, Schedule::Queue)
+fn lists(rt: HostRuntime) -> Result<(), Fail> {
+    check(&rt, rt.alloc(), "none", true, LIST)
 }
 
 #[test]
-fn lists_with_shares(rt: HostRuntime) -> Result<(), Fail> {
-    check_list(&rt, rt.alloc(), Some(4), Schedule::Shares)
-}
-
-#[test]
-fn lists_with_a_queue(rt: HostRuntime) -> Result<(), Fail> {
-    check_list(&rt, rt.alloc(), Some(4), Schedule::Queue)
-}
-
-#[test]
-fn runs_none_in_place(rt: HostRuntime) -> Result<(), Fail> {
-    check_none(&rt, rt.alloc(), None, Schedule::Queue)
-}
-
-#[test]
-fn runs_none_with_shares(rt: HostRuntime) -> Result<(), Fail> {
-    check_none(&rt, rt.alloc(), Some(4), Schedule::Shares)
-}
-
-#[test]
-fn runs_none_with_a_queue(rt: HostRuntime) -> Result<(), Fail> {
-    check_none(&rt, rt.alloc(), Some(4), Schedule::Queue)
+fn runs_none(rt: HostRuntime) -> Result<(), Fail> {
+    check(&rt, rt.alloc(), "test", false, NONE_SELECTED)
 }

@@ -1,5 +1,5 @@
 //! Runs of trials that are plain data, into writers that may fail.
-ghost use Rattle.std.specs.Prelude.{◌≤◌};
+ghost use Rattle.std.specs.Prelude.{◌≤◌, IfSome};
 ghost use Rattle.mimic_trial.specs.Trial.{AllCanRun};
 
 use libtest_mimic::{
@@ -112,26 +112,28 @@ pub(super) struct Workers {
     pub(super) count: usize,
 }
 
-// By workers, as many as the arguments say, or else as there are.
-pub(super) fn run_in_workers<R: Task + Send + 'static, W: Write, T: Spawner + 'static>(
+// By workers, as many as the arguments say, or else as there are; by the calling thread if there are none.
+pub(super) fn run_with<R: Task + Send + 'static, W: Write, T: Spawner + 'static>(
     rt: &T,
     alloc: Global,
     args: &Arguments,
     tests: Vec<Trial<R>>,
     writer: W,
-    workers: Workers,
+    workers: Option<Workers>,
 ) -> Left<W>
     requires runnable { AllCanRun R.can_run tests.items }
-    requires some_thread { 1 ≤ workers.count }
+    requires some_thread { IfSome workers (λ some. 1 ≤ some.count) }
 {
     let mut sink = Sink::new(writer);
     let mut watch = Stopwatch::new(TwoReadings::still());
-    let count = workers.count;
-    let answer = match workers.schedule {
-        Schedule::Shares => run(rt, alloc, args, tests, &mut sink, &mut watch, count, false),
-        Schedule::Queue => run_from_queue(
-            rt, alloc, args, tests, &mut sink, &mut watch, count, false,
-        ),
+    let answer = match workers {
+        None => run_here(alloc, args, tests, &mut sink, &mut watch, false),
+        Some(Workers { schedule, count }) => match schedule {
+            Schedule::Shares => run(rt, alloc, args, tests, &mut sink, &mut watch, count, false),
+            Schedule::Queue => run_from_queue(
+                rt, alloc, args, tests, &mut sink, &mut watch, count, false,
+            ),
+        },
     };
     Left {
         answer,
@@ -142,43 +144,22 @@ pub(super) fn run_in_workers<R: Task + Send + 'static, W: Write, T: Spawner + 's
     }
 }
 
-// By the calling thread.
-fn run_in_place<R: Task, W: Write>(
-    alloc: Global,
-    args: &Arguments,
-    tests: Vec<Trial<R>>,
-    writer: W,
-) -> Left<W>
-    requires { AllCanRun R.can_run tests.items }
-{
-    let mut sink = Sink::new(writer);
-    let mut watch = Stopwatch::new(TwoReadings::still());
-    let answer = run_here(alloc, args, tests, &mut sink, &mut watch, false);
-    Left {
-        answer,
-        faults: sink.faults(),
-        is_ended: !sink.has_fault(),
-        writer: sink.into_inner(),
-        is_running: watch.is_running(),
-    }
-}
-
 // By workers if the arguments give a number of threads, to which trials come by the schedule, else by the calling thread.
-pub(super) fn run_by<R: Task + Send + 'static, T: Spawner + 'static>(
+pub(super) fn run_by<R: Task + Send + 'static, W: Write, T: Spawner + 'static>(
     rt: &T,
     alloc: Global,
     args: &Arguments,
     tests: Vec<Trial<R>>,
-    writer: FaultyWriter,
+    writer: W,
     schedule: Schedule,
-) -> Left<FaultyWriter>
+) -> Left<W>
     requires { AllCanRun R.can_run tests.items }
 {
     if args.test_threads.is_some() {
         let workers = Workers { schedule, count: 1 };
-        run_in_workers(rt, alloc, args, tests, writer, workers)
+        run_with(rt, alloc, args, tests, writer, Some(workers))
     } else {
-        run_in_place(alloc, args, tests, writer)
+        run_with(rt, alloc, args, tests, writer, None)
     }
 }
 

@@ -1,6 +1,6 @@
 //! Runs in worker threads: that workers run at the same time, which trials wait for others, that rows come as trials end, that each
 //! of many trials runs once, and runs without a thread.
-use super::runs::{Becomes, Left, SCHEDULES, Workers, asking, outcome_with, run_in_workers};
+use super::runs::{Becomes, Left, SCHEDULES, Workers, asking, outcome_with, run_by, run_with};
 use super::writers::TWO_PASSING;
 use libtest_mimic::{
     Arguments, Failed, FormatSetting, Measurement, Outcome, RunError, Schedule, Spawner, Task,
@@ -111,8 +111,7 @@ fn run_meeting<T: Spawner + Clock + 'static>(
 ) -> Result<Left<Vec<u8>>, AllocError> {
     let args = asking(alloc, format, Some(threads));
     let tests = that_meet(*rt, alloc, meetings)?;
-    let (bytes, workers) = (Vec::new(alloc), Workers { schedule, count: 1 });
-    Ok(run_in_workers(rt, alloc, &args, tests, bytes, workers))
+    Ok(run_by(rt, alloc, &args, tests, Vec::new(alloc), schedule))
 }
 
 // Trials that all await one another, and by how many threads.
@@ -217,7 +216,7 @@ fn writes_a_row_when_its_trial_has_ended(rt: HostRuntime) -> Result<(), Fail> {
             count,
         };
         let (args, workers) = (Arguments::new(alloc), Workers { schedule, count: 2 });
-        let left = run_in_workers(&rt, alloc, &args, tests, writer, workers);
+        let left = run_with(&rt, alloc, &args, tests, writer, Some(workers));
         assert!(rt; left.counts() == Some([2, 0, 0, 0, 0]), "{schedule:?}");
     }
     Ok(())
@@ -285,7 +284,7 @@ fn writes_rows_in_the_order_of_ends(rt: HostRuntime) -> Result<(), Fail> {
         };
         let tests = that_sleep(rt, alloc)?;
         let (args, workers) = (Arguments::new(alloc), Workers { schedule, count: 4 });
-        let left = run_in_workers(&rt, alloc, &args, tests, writer, workers);
+        let left = run_with(&rt, alloc, &args, tests, writer, Some(workers));
         assert!(rt; left.counts() == Some([4, 0, 0, 0, 0]));
         let report = str::from_utf8(&left.writer.bytes)?;
         let rows = "test b ... ok\ntest d ... ok\ntest a ... ok\ntest c ... ok\n";
@@ -366,8 +365,7 @@ pub(super) fn run_many<T: Spawner + 'static>(
     let mut args = asking(alloc, FormatSetting::Json, Some(threads));
     args.report_time = report_time;
     let tests = many_trials(alloc, count)?;
-    let (bytes, workers) = (Vec::new(alloc), Workers { schedule, count: 1 });
-    Ok(run_in_workers(rt, alloc, &args, tests, bytes, workers))
+    Ok(run_by(rt, alloc, &args, tests, Vec::new(alloc), schedule))
 }
 
 // The two lines of the trial of this number.
@@ -507,8 +505,7 @@ fn run_row<T: Spawner + Clock + 'static>(
         args.filter.push(String::from_str(alloc, filter)?)?;
     }
     let tests = that_meet(*rt, alloc, row.meetings)?;
-    let (bytes, workers) = (Vec::new(alloc), Workers { schedule, count: 4 });
-    Ok(run_in_workers(rt, alloc, &args, tests, bytes, workers))
+    Ok(run_by(rt, alloc, &args, tests, Vec::new(alloc), schedule))
 }
 
 #[test]

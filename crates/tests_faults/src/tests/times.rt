@@ -1,6 +1,6 @@
 //! How long trials ran, as the rows of workers say it. With workers it is the clock of the handle that starts their threads that is
 //! read, and not the run's.
-use super::runs::{SCHEDULES, Workers, asking, becoming, outcome_with, run_by, run_in_workers};
+use super::runs::{SCHEDULES, asking, becoming, outcome_with, run_by};
 use super::threads::{Many, QUARTERS, Sleeps, has_lines_of, report_of, run_many};
 use libtest_mimic::{Arguments, FormatSetting, Outcome, Schedule, Sink, Spawner, Trial};
 use mimic_events::{Report, Row, read_report, write_report};
@@ -57,9 +57,8 @@ fn run_waiting<T: Spawner + 'static>(
 ) -> Result<(Report, u128), Fail> {
     let args = timed(alloc, Some(threads));
     let tests = that_wait(*rt, alloc, waits)?;
-    let (bytes, workers) = (Vec::new(alloc), Workers { schedule, count: 1 });
     let before = rt.monotonic()?.as_nanos();
-    let left = run_in_workers(rt, alloc, &args, tests, bytes, workers);
+    let left = run_by(rt, alloc, &args, tests, Vec::new(alloc), schedule);
     let after = rt.monotonic()?.as_nanos();
     left.answer?;
     Ok((

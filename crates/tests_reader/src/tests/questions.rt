@@ -1,6 +1,6 @@
 //! What three readers report after each byte of a report, and after lines that no report has there.
-use super::reports::TWO_TESTS;
 use mimic_events::{Feed, Follower, Label, Tally};
+use mimic_testkit::TWO_TESTS_JSON;
 use std::alloc::{AllocError, Global};
 use std::process::Abort;
 use std::test::Fail;
@@ -10,7 +10,7 @@ type Known = (Option<u64>, Option<(&'static str, &'static str)>);
 
 const NOTHING: Known = (None, None);
 
-// Before the first line of `TWO_TESTS`, and after each.
+// Before the first line of `TWO_TESTS_JSON`, and after each.
 static OF_TWO_TESTS: [Known; 7] = [
     NOTHING,
     (Some(2), None),
@@ -206,14 +206,14 @@ fn check_mistakes(rt: &impl Abort, alloc: Global, text: &str, known: &[Known]) -
 #[test]
 fn says_what_is_known_after_each_byte(rt: HostRuntime) -> Result<(), Fail> {
     let alloc = rt.alloc();
-    check_bytes(&rt, alloc, TWO_TESTS, &OF_TWO_TESTS)?;
+    check_bytes(&rt, alloc, TWO_TESTS_JSON, &OF_TWO_TESTS)?;
     check_bytes(&rt, alloc, TWO_THREADS, &OF_TWO_THREADS)
 }
 
 #[test]
 fn says_which_line_is_wrong(rt: HostRuntime) -> Result<(), Fail> {
     let alloc = rt.alloc();
-    check_mistakes(&rt, alloc, TWO_TESTS, &OF_TWO_TESTS)?;
+    check_mistakes(&rt, alloc, TWO_TESTS_JSON, &OF_TWO_TESTS)?;
     check_mistakes(&rt, alloc, TWO_THREADS, &OF_TWO_THREADS)
 }
 

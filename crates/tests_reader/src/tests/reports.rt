@@ -1,6 +1,7 @@
 //! Reports by themselves: what the definition of a report takes and refuses, at once, in pieces and in numbers alone.
 use super::feeding::{NO_ROWS, altered, fed, fed_each_byte};
 use mimic_events::{Feed, Report, Row, Tally, Totals, read_report};
+use mimic_testkit::TWO_TESTS_JSON;
 use mimic_trial::{Conclusion, Failed, Measurement, Outcome};
 use std::alloc::{AllocError, Global};
 use std::fmt::Debug;
@@ -83,21 +84,12 @@ pub(super) fn all_sorts(alloc: Global) -> Result<Report, AllocError> {
     })
 }
 
-// Two tests, one that passes and one that fails.
-pub(super) const TWO_TESTS: &str = r#"{ "type": "suite", "event": "started", "test_count": 2 }
-{ "type": "test", "event": "started", "name": "succeeding_test" }
-{ "type": "test", "name": "succeeding_test", "event": "ok" }
-{ "type": "test", "event": "started", "name": "failing_test" }
-{ "type": "test", "name": "failing_test", "event": "failed", "stdout": "Error: \"Woops\"\n" }
-{ "type": "suite", "event": "failed", "passed": 1, "failed": 1, "ignored": 0, "measured": 0, "filtered_out": 0, "exec_time": 0 }
-"#;
-
 static ROWS_OF_TWO_TESTS: [(&str, Known); 2] = [
     ("succeeding_test", Known::Passed),
     ("failing_test", Known::Failed(Some("Woops"))),
 ];
 
-// The report whose text is `TWO_TESTS`.
+// The report whose text is `TWO_TESTS_JSON`.
 pub(super) fn two_tests(alloc: Global) -> Result<Report, AllocError> {
     Ok(Report {
         rows: rows_of(alloc, &ROWS_OF_TWO_TESTS)?,
@@ -130,7 +122,7 @@ fn all_totals() -> Totals {
     }
 }
 
-// The numbers of `TWO_TESTS`.
+// The numbers of `TWO_TESTS_JSON`.
 fn two_totals() -> Totals {
     Totals {
         rows: 2,
@@ -225,7 +217,8 @@ pub(super) fn check_two_pieces(
 #[test]
 fn reads_two_pieces(rt: HostRuntime) -> Result<(), Fail> {
     let alloc = rt.alloc();
-    check_two_pieces(&rt, alloc, TWO_TESTS, &two_tests(alloc)?, &two_totals())?;
+    let two = two_tests(alloc)?;
+    check_two_pieces(&rt, alloc, TWO_TESTS_JSON, &two, &two_totals())?;
     check_two_pieces(&rt, alloc, ALL_SORTS, &all_sorts(alloc)?, &all_totals())?;
     Ok(())
 }
@@ -238,7 +231,7 @@ fn shows_rows_as_they_end(rt: HostRuntime) -> Result<(), Fail> {
     check_rows_before(
         &rt,
         alloc,
-        TWO_TESTS,
+        TWO_TESTS_JSON,
         &two,
         "\"passed\": 1",
         "\"passed\": 2",
@@ -371,7 +364,7 @@ fn check_other_pieces(rt: &impl Abort, alloc: Global, text: &str) -> Result<(), 
 #[test]
 fn refuses_other_pieces(rt: HostRuntime) -> Result<(), Fail> {
     assert!(rt; are_refused(rt.alloc(), &[b"", b""])?);
-    check_other_pieces(&rt, rt.alloc(), TWO_TESTS)?;
+    check_other_pieces(&rt, rt.alloc(), TWO_TESTS_JSON)?;
     check_other_pieces(&rt, rt.alloc(), ALL_SORTS)
 }
 

@@ -1,9 +1,9 @@
 //! Reports that are written: those that were built, those that were read, and those that a writer takes in part.
 use super::feeding::altered;
-use super::reports::{ALL_SORTS, KINDS, TWO_TESTS, all_sorts, ignored_trial, two_tests};
+use super::reports::{ALL_SORTS, KINDS, all_sorts, ignored_trial, two_tests};
 use libtest_mimic::{Sink, WriteFault};
 use mimic_events::{Report, read_report, write_report};
-use mimic_testkit::{Fault, FaultPlace, FaultyWriter};
+use mimic_testkit::{Fault, FaultPlace, FaultyWriter, TWO_TESTS_JSON};
 use std::alloc::{AllocError, Global};
 use std::process::Abort;
 use std::test::Fail;
@@ -18,7 +18,7 @@ fn is_written_as(alloc: Global, report: &Report, text: &str) -> bool {
 #[test]
 fn writes_built_reports(rt: HostRuntime) -> Result<(), Fail> {
     let alloc = rt.alloc();
-    assert!(rt; is_written_as(alloc, &two_tests(alloc)?, TWO_TESTS));
+    assert!(rt; is_written_as(alloc, &two_tests(alloc)?, TWO_TESTS_JSON));
     assert!(rt; is_written_as(alloc, &all_sorts(alloc)?, ALL_SORTS));
     Ok(())
 }

@@ -5,29 +5,21 @@ use libtest_mimic::{
     ColorSetting, Failed, FormatSetting, Outcome, RunError, Schedule, Spawner, Stopwatch, Task,
     Trial,
 };
-use mimic_testkit::{Known, MIXED_BAG, RaisedClock, TwoReadings, known_trials};
+use mimic_testkit::{Known, MIXED_BAG, RaisedClock, TWO_TESTS_JSON, TwoReadings, known_trials};
 use std::alloc::{AllocError, Global};
 use std::process::ExitCode;
 use std::sync::Arc;
 use std::sync::atomic::{AtomicU64, Ordering};
 use std::test::Fail;
 
-const TWO_TESTS: &[u8] =
-    b"\nrunning 2 tests\ntest succeeding_test ... ok\ntest failing_test    ... FAILED\n\nfailures:\n\n---- failing_test ----\nWoops\n\n\nfailures:\n    failing_test\n\ntest result: FAILED. 1 passed; 1 failed; 0 ignored; 0 measured; 0 filtered out; finished in 0.00s\n\n";
+const TWO_TESTS: &str =
+    "\nrunning 2 tests\ntest succeeding_test ... ok\ntest failing_test    ... FAILED\n\nfailures:\n\n---- failing_test ----\nWoops\n\n\nfailures:\n    failing_test\n\ntest result: FAILED. 1 passed; 1 failed; 0 ignored; 0 measured; 0 filtered out; finished in 0.00s\n\n";
 
-const TWO_TESTS_TERSE: &[u8] =
-    b"\nrunning 2 tests\n.F\nfailures:\n\n---- failing_test ----\nWoops\n\n\nfailures:\n    failing_test\n\ntest result: FAILED. 1 passed; 1 failed; 0 ignored; 0 measured; 0 filtered out; finished in 0.00s\n\n";
+const TWO_TESTS_TERSE: &str =
+    "\nrunning 2 tests\n.F\nfailures:\n\n---- failing_test ----\nWoops\n\n\nfailures:\n    failing_test\n\ntest result: FAILED. 1 passed; 1 failed; 0 ignored; 0 measured; 0 filtered out; finished in 0.00s\n\n";
 
-const TWO_TESTS_COLOURED: &[u8] =
-    b"\nrunning 2 tests\ntest succeeding_test ... \x1b[32mok\x1b[0m\ntest failing_test    ... \x1b[31mFAILED\x1b[0m\n\nfailures:\n\n---- failing_test ----\nWoops\n\n\nfailures:\n    failing_test\n\ntest result: \x1b[31mFAILED\x1b[0m. 1 passed; 1 failed; 0 ignored; 0 measured; 0 filtered out; finished in 0.00s\n\n";
-
-const TWO_TESTS_JSON: &[u8] = br#"{ "type": "suite", "event": "started", "test_count": 2 }
-{ "type": "test", "event": "started", "name": "succeeding_test" }
-{ "type": "test", "name": "succeeding_test", "event": "ok" }
-{ "type": "test", "event": "started", "name": "failing_test" }
-{ "type": "test", "name": "failing_test", "event": "failed", "stdout": "Error: \"Woops\"\n" }
-{ "type": "suite", "event": "failed", "passed": 1, "failed": 1, "ignored": 0, "measured": 0, "filtered_out": 0, "exec_time": 0 }
-"#;
+const TWO_TESTS_COLOURED: &str =
+    "\nrunning 2 tests\ntest succeeding_test ... \x1b[32mok\x1b[0m\ntest failing_test    ... \x1b[31mFAILED\x1b[0m\n\nfailures:\n\n---- failing_test ----\nWoops\n\n\nfailures:\n    failing_test\n\ntest result: \x1b[31mFAILED\x1b[0m. 1 passed; 1 failed; 0 ignored; 0 measured; 0 filtered out; finished in 0.00s\n\n";
 
 static NO_TESTS: &[u8] =
     b"\nrunning 0 tests\n\ntest result: ok. 0 passed; 0 failed; 0 ignored; 0 measured; 0 filtered out; finished in 0.00s\n\n";
@@ -40,7 +32,7 @@ static MESSAGES: &[u8] =
 struct Look {
     format: Option<FormatSetting>,
     color: Option<ColorSetting>,
-    report: &'static [u8],
+    report: &'static str,
     flushes: u64,
 }
 
@@ -98,7 +90,7 @@ fn reports_two_tests(rt: HostRuntime) -> Result<(), Fail> {
         assert!(rt; left.counts() == [1, 1, 0, 0, 0]);
         assert!(rt; left.conclusion.has_failed());
         assert!(rt; left.conclusion.exit_code() == ExitCode::from(101));
-        assert!(rt; left.bytes() == look.report);
+        assert!(rt; left.bytes() == look.report.as_bytes());
         assert!(rt; left.writer.flushes == look.flushes);
     }
     Ok(())

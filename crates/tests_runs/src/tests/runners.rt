@@ -1,10 +1,10 @@
 //! Trials over runners of one's own: plain data, closures that no box holds, and one function for all cases.
-ghost use Rattle.std.specs.Prelude.{◌≡◌, ◌+◌, ◌==◌, IfOk, None, if◌then◌else◌};
+ghost use Rattle.std.specs.Prelude.{◌≡◌, ◌+◌, ◌==◌, None, if◌then◌else◌};
 ghost use Rattle.mimic_trial.specs.declared.outcome.Outcome.TheVariants.{Failed as AFailed, Passed as APassed};
 
 use super::in_memory::{NOTHING, run_ample};
 use libtest_mimic::{Failed, Outcome, Task, Trial};
-use std::alloc::{AllocError, Global};
+use std::alloc::Global;
 use std::test::Fail;
 
 // A sum and what it is to be: plain data.
